@@ -1,0 +1,61 @@
+-- What goes over the channel, as data: what both sides know beforehand (the catalog), what the key asks, the frames
+-- that carry it, and the moves of one end with their answers.
+use Rattle.std.specs.Prelude.{◌≡◌, ℕ, Bool, List}
+use Rattle.ghost_model.specs.Schema.{Schema}
+use Rattle.ghost_model.specs.Values.{Value}
+use Rattle.ghost_model.specs.Query.{Operator}
+
+-- schema, number of rows of each table, and generation
+pub record Catalog : Type 0 where
+  pub schema : Schema
+  pub counts : List ℕ
+  pub generation : ℕ
+
+-- a condition of an ask: a visible column of its table, an operator and a literal
+pub record Test : Type 0 where
+  pub column : ℕ
+  pub operator : Operator
+  pub value : Value
+
+-- an ask: one table, the columns whose cells are wanted (ascending) and the conditions that the rows meet
+pub record Ask : Type 0 where
+  pub table : ℕ
+  pub columns : List ℕ
+  pub tests : List Test
+
+-- frames of the key (Hello to Bye) and of the host (Welcome to Sorry). Ask, Welcome and Rows carry their payload's
+-- bytes, Welcome those after its first byte, which is 1 in the last WELCOME frame
+pub data Frame : Type 0 where
+  Hello : (generation : ℕ) → Frame
+  Asking : (serial : ℕ) (payload : List ℕ) → Frame
+  More : (serial : ℕ) → Frame
+  Bye : Frame
+  Welcome : (last : ℕ) (part : List ℕ) → Frame
+  Replied : (serial : ℕ) (payload : List ℕ) → Frame
+  Done : (serial : ℕ) (total : ℕ) → Frame
+  Sorry : (serial : ℕ) (code : ℕ) → Frame
+
+-- a move on the channel, by either end
+pub data Move : Type 0 where
+  Dial : (at : List ℕ) → Move
+  Listen : (at : List ℕ) → Move
+  Accept : Move
+  Send : (bytes : List ℕ) → Move
+  Take : (most : ℕ) → Move
+  Close : Move
+
+-- what a move was answered: done, done with a port, a piece of the stream, its end, or a failure
+pub data Answer : Type 0 where
+  Made : Answer
+  Port : ℕ → Answer
+  Piece : List ℕ → Answer
+  End : Answer
+  Failed : Answer
+
+pub record Entry : Type 0 where
+  pub move : Move
+  pub answer : Answer
+
+-- the moves of one call with their answers, the oldest first
+abbrev pub Journal : Type 0
+Journal = List Entry

@@ -1,0 +1,7 @@
+pub mod Causes
+pub mod Schema
+pub mod Values
+pub mod Tokens
+pub mod Query
+pub mod Channel
+pub mod examples

@@ -1,0 +1,196 @@
+-- The tokens of a text, of schemas and of queries alike. White space (0x20, 0x09, 0x0A, 0x0D) may stand between
+-- tokens. The longest token is read: a name is a letter or `_` and then letters, digits and `_` as far as they go, a
+-- number digits as far as they go, `<=`, `>=` and `<>` come before `<` and `>`. Words are compared without case, and
+-- the reserved ones are no names. A text literal is one token: `'`, characters 0x20 to 0x7E with `''` for one `'`, and
+-- a last `'`. A byte that begins no token, and a `'` whose literal has another byte in it or no end, are a bad token,
+-- which no text of a grammar has. The list ends with the end of the text, so that each fault has its place.
+use Rattle.std.specs.Prelude.{◌≡◌, ℕ, zero, suc, ◌+◌, ◌-◌, Bool, true, false, ◌&&◌, ◌||◌, ◌==◌, nat_le, List, [], ◌∷◌, ◌++◌, length, map, take_while, if◌then◌else◌, codes, bytes_eq, Option, Some, None, slice_get, option_map}
+use Rattle.std.specs.List.{list_any}
+use Rattle.std.specs.Char.{to_ascii_lowercase}
+
+-- the reserved words that the grammars use; INT is another spelling of INTEGER
+pub data Keyword : Type 0 where
+  And : Keyword
+  Between : Keyword
+  Char : Keyword
+  Create : Keyword
+  From : Keyword
+  Hidden : Keyword
+  Integer : Keyword
+  Key : Keyword
+  Primary : Keyword
+  References : Keyword
+  Select : Keyword
+  Table : Keyword
+  Where : Keyword
+
+-- what the grammars are about: a token without its place. A name stands in lower case, a number by its digits, a
+-- text literal by its value, in which `''` is one `'`
+pub data Symbol : Type 0 where
+  Word : Keyword → Symbol
+  Reserved : Symbol
+  Name : List ℕ → Symbol
+  Digits : List ℕ → Symbol
+  Quoted : List ℕ → Symbol
+  Open : Symbol
+  Closing : Symbol
+  Comma : Symbol
+  Point : Symbol
+  Semicolon : Symbol
+  Star : Symbol
+  Plus : Symbol
+  Minus : Symbol
+  Equal : Symbol
+  Unequal : Symbol
+  Less : Symbol
+  AtMost : Symbol
+  More : Symbol
+  AtLeast : Symbol
+  Bad : Symbol
+  End : Symbol
+
+-- a token and the offset of its first byte in the text
+pub record Token : Type 0 where
+  pub symbol : Symbol
+  pub at : ℕ
+
+abbrev pub is_between : ℕ → ℕ → ℕ → Bool
+is_between low high byte = nat_le low byte && nat_le byte high
+
+abbrev pub is_space : ℕ → Bool
+is_space byte = byte == 32 || byte == 9 || byte == 10 || byte == 13
+
+abbrev pub is_digit : ℕ → Bool
+is_digit byte = is_between 48 57 byte
+
+-- a letter or `_`
+abbrev pub begins_name : ℕ → Bool
+begins_name byte = is_between 97 122 byte || is_between 65 90 byte || byte == 95
+
+abbrev pub is_name_byte : ℕ → Bool
+is_name_byte byte = begins_name byte || is_digit byte
+
+-- a character of a text: 0x20 to 0x7E
+abbrev pub is_printable : ℕ → Bool
+is_printable byte = is_between 32 126 byte
+
+abbrev pub in_lower_case : List ℕ → List ℕ
+in_lower_case bytes = map to_ascii_lowercase bytes
+
+-- the reserved words that the grammars do not use yet
+abbrev pub other_reserved : List (List ℕ)
+other_reserved =
+    codes "by" ∷ codes "count" ∷ codes "group" ∷ codes "in" ∷ codes "is" ∷ codes "max" ∷ codes "min" ∷ codes "not"
+    ∷ codes "null" ∷ codes "or" ∷ codes "sum" ∷ []
+
+-- the keyword that a word in lower case is
+abbrev pub keyword_of : List ℕ → Option Keyword
+keyword_of word =
+    if bytes_eq word (codes "and") then Some And
+    else if bytes_eq word (codes "between") then Some Between
+    else if bytes_eq word (codes "char") then Some Char
+    else if bytes_eq word (codes "create") then Some Create
+    else if bytes_eq word (codes "from") then Some From
+    else if bytes_eq word (codes "hidden") then Some Hidden
+    else if bytes_eq word (codes "int") then Some Integer
+    else if bytes_eq word (codes "integer") then Some Integer
+    else if bytes_eq word (codes "key") then Some Key
+    else if bytes_eq word (codes "primary") then Some Primary
+    else if bytes_eq word (codes "references") then Some References
+    else if bytes_eq word (codes "select") then Some Select
+    else if bytes_eq word (codes "table") then Some Table
+    else if bytes_eq word (codes "where") then Some Where
+    else None
+
+-- a word that is no keyword: a name, or one of the other reserved words
+abbrev pub name_or_reserved : List ℕ → Symbol
+name_or_reserved word = if list_any (bytes_eq word) other_reserved then Reserved else Name word
+
+abbrev pub keyword_or : Symbol → Option Keyword → Symbol
+keyword_or other None = other
+keyword_or other (Some keyword) = Word keyword
+
+-- what a word in lower case is: a keyword, another reserved word, or a name
+abbrev pub symbol_of_word : List ℕ → Symbol
+symbol_of_word word = keyword_or (name_or_reserved word) (keyword_of word)
+
+-- a symbol and how many bytes it takes
+pub record Read : Type 0 where
+  pub symbol : Symbol
+  pub bytes : ℕ
+
+abbrev pub read : Symbol → ℕ → Read
+read symbol bytes = record { symbol = symbol; bytes = bytes }
+
+-- a literal whose opening `'` was read: its value and the bytes that it takes, its last `'` among them. `ended` says
+-- that the byte before was a `'`: it ends the literal where no second one follows
+unfoldable pub quoted_from : (ended : Bool) (value : List ℕ) (count : ℕ) → List ℕ → Read
+quoted_from true value count [] = read (Quoted value) count
+quoted_from true value count (b ∷ bs) =
+    if b == 39 then quoted_from false (value ++ b ∷ []) (count + 1) bs else read (Quoted value) count
+quoted_from false value count [] = read Bad 1
+quoted_from false value count (b ∷ bs) =
+    if b == 39 then quoted_from true value (count + 1) bs
+    else if is_printable b then quoted_from false (value ++ b ∷ []) (count + 1) bs
+    else read Bad 1
+
+-- `<` and what may follow it
+abbrev pub less_and : List ℕ → Read
+less_and [] = read Less 1
+less_and (b ∷ _) = if b == 61 then read AtMost 2 else if b == 62 then read Unequal 2 else read Less 1
+
+-- `>` and what may follow it
+abbrev pub more_and : List ℕ → Read
+more_and [] = read More 1
+more_and (b ∷ _) = if b == 61 then read AtLeast 2 else read More 1
+
+-- the symbols of one byte
+abbrev pub sign_of : ℕ → Symbol
+sign_of byte =
+    if byte == 40 then Open
+    else if byte == 41 then Closing
+    else if byte == 44 then Comma
+    else if byte == 46 then Point
+    else if byte == 59 then Semicolon
+    else if byte == 42 then Star
+    else if byte == 43 then Plus
+    else if byte == 45 then Minus
+    else if byte == 61 then Equal
+    else Bad
+
+abbrev pub word_at : List ℕ → Read
+word_at word = read (symbol_of_word (in_lower_case word)) (length word)
+
+abbrev pub digits_at : List ℕ → Read
+digits_at digits = read (Digits digits) (length digits)
+
+-- the token that begins with this byte, which is no white space, before these bytes
+abbrev pub token_at : ℕ → List ℕ → Read
+token_at b bs =
+    if begins_name b then word_at (take_while is_name_byte (b ∷ bs))
+    else if is_digit b then digits_at (take_while is_digit (b ∷ bs))
+    else if b == 39 then quoted_from false [] 1 bs
+    else if b == 60 then less_and bs
+    else if b == 62 then more_and bs
+    else read (sign_of b) 1
+
+-- the tokens of a text from offset `at` on, of which the first `left` bytes belong to a token that stands before
+unfoldable pub tokens_from : (left at : ℕ) → List ℕ → List Token
+tokens_from left at [] = record { symbol = End; at = at } ∷ []
+tokens_from (suc left) at (b ∷ bs) = tokens_from left (at + 1) bs
+tokens_from zero at (b ∷ bs) =
+    if is_space b then tokens_from zero (at + 1) bs
+    else record { symbol = (token_at b bs).symbol; at = at } ∷ tokens_from ((token_at b bs).bytes - 1) (at + 1) bs
+
+abbrev pub tokens : List ℕ → List Token
+tokens text = tokens_from 0 0 text
+
+abbrev pub symbol_of : Token → Symbol
+symbol_of token = token.symbol
+
+abbrev pub symbols : List ℕ → List Symbol
+symbols text = map symbol_of (tokens text)
+
+-- the offset of the token at a place
+abbrev pub offset_of : List ℕ → ℕ → Option ℕ
+offset_of text place = option_map (λ token. token.at) (slice_get (tokens text) place)

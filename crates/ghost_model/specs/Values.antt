@@ -1,0 +1,17 @@
+-- Values, rows and databases: what the tables hold. A value is an integer or a text; a row has one value for each
+-- column, the identifier among them; a database has for each table of its schema the list of its rows.
+use Rattle.std.specs.Prelude.{◌≡◌, ℕ, ℤ, pos, List, [], ◌∷◌, Option, Some, None, slice_get, option_and_then}
+
+pub data Value : Type 0 where
+  Number : ℤ → Value
+  Text : List ℕ → Value
+
+abbrev pub Row : Type 0
+Row = List Value
+
+-- the rows of one table; the row at place i, from 1, has identifier i
+abbrev pub Rows : Type 0
+Rows = List Row
+
+abbrev pub Database : Type 0
+Database = List Rows
