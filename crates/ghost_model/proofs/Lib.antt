@@ -1,0 +1,6 @@
+mod TokenLemmas
+mod GrammarLemmas
+mod SchemaLemmas
+mod QueryLemmas
+mod ChannelLemmas
+mod MeaningLemmas

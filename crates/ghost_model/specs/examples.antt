@@ -1,1 +1,6 @@
 pub mod Tokens
+pub mod Schemas
+pub mod Queries
+pub mod Channel
+pub mod Meaning
+pub mod Databases

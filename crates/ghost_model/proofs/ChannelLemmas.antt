@@ -1,0 +1,1 @@
+-- ChannelLemmas: to be written

@@ -1,0 +1,1 @@
+-- GrammarLemmas: to be written

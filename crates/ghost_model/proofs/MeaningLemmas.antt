@@ -1,0 +1,1 @@
+-- MeaningLemmas: to be written

@@ -1,0 +1,1 @@
+-- QueryLemmas: to be written

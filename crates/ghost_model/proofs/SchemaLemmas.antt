@@ -1,0 +1,1 @@
+-- SchemaLemmas: to be written

@@ -1,0 +1,1 @@
+-- TokenLemmas: to be written

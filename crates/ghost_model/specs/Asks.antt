@@ -1,0 +1,1 @@
+-- Asks: to be written

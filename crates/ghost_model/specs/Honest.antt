@@ -1,0 +1,1 @@
+-- Honest: to be written

@@ -1,0 +1,1 @@
+-- LoadFaults: to be written

@@ -1,0 +1,1 @@
+-- NextMove: to be written

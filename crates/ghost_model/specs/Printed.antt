@@ -1,0 +1,1 @@
+-- Printed: to be written

@@ -1,0 +1,1 @@
+-- QueryGrammar: to be written

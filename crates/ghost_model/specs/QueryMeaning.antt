@@ -1,0 +1,1 @@
+-- QueryMeaning: to be written

@@ -1,0 +1,1 @@
+-- QueryPlaces: to be written

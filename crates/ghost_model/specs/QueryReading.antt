@@ -1,0 +1,1 @@
+-- QueryReading: to be written

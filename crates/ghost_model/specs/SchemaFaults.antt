@@ -1,0 +1,1 @@
+-- SchemaFaults: to be written

@@ -1,0 +1,1 @@
+-- SchemaGrammar: to be written

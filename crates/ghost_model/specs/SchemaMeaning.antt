@@ -1,0 +1,1 @@
+-- SchemaMeaning: to be written

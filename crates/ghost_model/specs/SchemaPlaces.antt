@@ -1,0 +1,1 @@
+-- SchemaPlaces: to be written

@@ -1,0 +1,1 @@
+-- Split: to be written

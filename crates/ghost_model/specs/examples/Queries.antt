@@ -1,0 +1,1 @@
+-- Queries: to be written

@@ -1,0 +1,1 @@
+//! Laws and examples, to be written.
