@@ -1,5 +1,6 @@
 //! Laws and examples of databases, of their files, of the two parts of a database and of a query's meaning.
 
+ghost use Rattle.ghost_model.specs.Split.{SplitIsRejoined};
 ghost use Rattle.ghost_model.specs.examples.Databases.{ClinicIsSpelled, IntegersOfFields, RecordsOfFiles, HeadersOfFiles, OneRuleBroken, TwoRulesBroken};
 
 /// The clinic's files spell its database.
@@ -35,5 +36,11 @@ pub fn one_rule_broken()
 /// Files that break two rules, and which one is told.
 pub fn two_rules_broken()
     ensures { TwoRulesBroken }
+{
+}
+
+/// A database is its two parts rejoined.
+pub fn split_is_rejoined()
+    ensures { SplitIsRejoined }
 {
 }
