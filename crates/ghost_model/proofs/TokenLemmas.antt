@@ -5,10 +5,11 @@ use Rattle.std.specs.List.{list_any, list_all, prefix_len}
 use Rattle.std.proofs.lemmas.List.Sums.{take_while-cons}
 use Rattle.std.proofs.lemmas.Bool.{and_parts, and_from, eqb-true, not-true}
 use Rattle.std.proofs.lemmas.Str.Ascii.{lowercase-lowercase}
+use Rattle.std.proofs.lemmas.List.Folds.{list_all-append}
 use Rattle.std.proofs.lemmas.Slice.Eq.{bytes_eq-Decides}
 use Rattle.std.specs.Char.{to_ascii_lowercase}
 use Rattle.std.proofs.lemmas.Bool.Decides.{nat_tests}
-use Rattle.ghost_model.specs.Tokens.{Keyword, And, Between, Char, Create, From, Hidden, Integer, Key, Primary, References, Select, Table, Where, Symbol, Word, Reserved, Name, Digits, Quoted, Open, Closing, Comma, Point, Semicolon, Star, Plus, Minus, Equal, Unequal, Less, AtMost, More, AtLeast, Bad, End, keyword_of, keyword_or, name_or_reserved, other_reserved, Token, symbol_of, symbols, tokens_from, quoted_from, token_at, word_at, digits_at, in_lower_case, symbol_of_word, is_space, is_digit, begins_name, is_name_byte, is_printable, sign_of, read, Read}
+use Rattle.ghost_model.specs.Tokens.{Keyword, And, Between, Char, Create, From, Hidden, Integer, Key, Primary, References, Select, Table, Where, Symbol, Word, Reserved, Name, Digits, Quoted, Open, Closing, Comma, Point, Semicolon, Star, Plus, Minus, Equal, Unequal, Less, AtMost, More, AtLeast, Bad, End, keyword_of, keyword_or, name_or_reserved, other_reserved, Token, symbol_of, symbols, tokens_from, quoted_from, token_at, word_at, digits_at, in_lower_case, symbol_of_word, is_space, is_digit, begins_name, is_name_byte, is_printable, sign_of, less_and, more_and, read, Read}
 use Rattle.ghost_model.specs.Spelled.{keyword_text, is_reserved, begins_as_name, is_name, is_number, is_spelled, symbol_text, inside_literal, text_of, IsBeforeEnd}
 
 -- the symbols of a text whose first `left` bytes belong to a token before; the offset of the text does not matter
@@ -206,10 +207,6 @@ spelled_text (x ∷ xs) e =
     ap symbols grouped ∙ (symbol_reads x (text_of xs) both.0 ∙ ap (λ (ys : List Symbol). x ∷ ys) (spelled_text xs both.1))
 
 -- every token that is read is spelled
-spelled_either : (test : Bool) (x y : Symbol) → is_spelled x ≡ true → is_spelled y ≡ true → is_spelled (if test then x else y) ≡ true
-spelled_either true x y p q = p
-spelled_either false x y p q = q
-
 sign_spelled : (b : ℕ) → is_spelled (sign_of b) ≡ true
 sign_spelled b = grind (arith, nat_tests)
 
@@ -238,3 +235,72 @@ word_at_spelled b w begins all =
     let word = in_lower_case (b ∷ w) in
     word_spelled word (keyword_of word) (list_any (bytes_eq word) other_reserved) refl refl (lower_begins b begins) (lower_all (b ∷ w) all)
       ((bytes_eq-Decides (in_lower_case word) word).1 (lower_twice (b ∷ w)))
+
+read_either : (test : Bool) (x y : Read) → (test ≡ true → is_spelled x.symbol ≡ true) → (test ≡ false → is_spelled y.symbol ≡ true)
+    → is_spelled (if test then x else y).symbol ≡ true
+read_either true x y p q = p refl
+read_either false x y p q = q refl
+
+one_printable : (b : ℕ) → (b == 39) ≡ true → is_printable b ≡ true
+one_printable b e = grind (arith, nat_tests)
+
+printable_more : (value : List ℕ) (b : ℕ) → list_all is_printable value ≡ true → is_printable b ≡ true → list_all is_printable (value ++ b ∷ []) ≡ true
+printable_more value b all one = list_all-append is_printable value (b ∷ []) ∙ and_from _ _ all (and_from _ _ one refl)
+
+quoted_spelled : (bs : List ℕ) (ended : Bool) (value : List ℕ) (count : ℕ) → list_all is_printable value ≡ true
+    → is_spelled (quoted_from ended value count bs).symbol ≡ true
+unfolding quoted_from
+quoted_spelled [] true value count all = all
+quoted_spelled [] false value count all = refl
+quoted_spelled (b ∷ bs) true value count all =
+    read_either (b == 39) _ _ (λ e. quoted_spelled bs false (value ++ b ∷ []) (count + 1) (printable_more value b all (one_printable b e))) (λ _. all)
+quoted_spelled (b ∷ bs) false value count all =
+    read_either (b == 39) _ _ (λ e. quoted_spelled bs true value (count + 1) all)
+      (λ _. read_either (is_printable b) _ _ (λ e. quoted_spelled bs false (value ++ b ∷ []) (count + 1) (printable_more value b all e)) (λ _. refl))
+
+less_spelled : (bs : List ℕ) → is_spelled (less_and bs).symbol ≡ true
+less_spelled [] = refl
+less_spelled (b ∷ bs) = read_either (b == 61) _ _ (λ _. refl) (λ _. read_either (b == 62) _ _ (λ _. refl) (λ _. refl))
+
+more_spelled : (bs : List ℕ) → is_spelled (more_and bs).symbol ≡ true
+more_spelled [] = refl
+more_spelled (b ∷ bs) = read_either (b == 61) _ _ (λ _. refl) (λ _. refl)
+
+taken_first : (p : ℕ → Bool) (b : ℕ) (bs : List ℕ) → p b ≡ true → take_while p (b ∷ bs) ≡ b ∷ take_while p bs
+taken_first p b bs e = take_while-cons p b bs ∙ ap (λ v. cond v (b ∷ take_while p bs) []) e
+
+token_spelled : (b : ℕ) (bs : List ℕ) → is_spelled (token_at b bs).symbol ≡ true
+unfolding is_number
+token_spelled b bs =
+    read_either (begins_name b) _ _
+      (λ e. let named : is_name_byte b ≡ true = ap (λ v. v || is_digit b) e in
+        ap (λ (w : List ℕ). is_spelled (word_at w).symbol) (taken_first is_name_byte b bs named)
+          ∙ word_at_spelled b (take_while is_name_byte bs) e (and_from _ _ named (take_while_passes is_name_byte bs)))
+      (λ _. read_either (is_digit b) _ _
+        (λ e. ap (λ (w : List ℕ). is_spelled (digits_at w).symbol) (taken_first is_digit b bs e) ∙ and_from _ _ e (take_while_passes is_digit bs))
+        (λ _. read_either (b == 39) _ _ (λ _. quoted_spelled bs false [] 1 refl)
+          (λ _. read_either (b == 60) _ _ (λ _. less_spelled bs)
+            (λ _. read_either (b == 62) _ _ (λ _. more_spelled bs) (λ _. sign_spelled b)))))
+
+-- spelled symbols and then the end
+record IsEnded (xs before : List Symbol) : Type 0 where
+  whole : xs ≡ before ++ End ∷ []
+  spelled : list_all is_spelled before ≡ true
+
+ended_from : (left at : ℕ) (text : List ℕ) → (before : List Symbol) × IsEnded (map symbol_of (tokens_from left at text)) before
+unfolding tokens_from
+ended_from left at [] = ([], record { whole = refl; spelled = refl })
+ended_from (suc left) at (c ∷ text) = ended_from left (at + 1) text
+ended_from zero at (c ∷ text) =
+    let later = ended_from ((token_at c text).bytes - 1) (at + 1) text in
+    let spaced = ended_from zero (at + 1) text in
+    elim (is_space c) as (λ v. (before : List Symbol) × IsEnded (map symbol_of (if v then tokens_from zero (at + 1) text else record { symbol = (token_at c text).symbol; at = at } ∷ tokens_from ((token_at c text).bytes - 1) (at + 1) text)) before)
+      [ true ↦ spaced
+      | false ↦ ((token_at c text).symbol ∷ later.0, record {
+          whole = ap (λ (xs : List Symbol). (token_at c text).symbol ∷ xs) later.1.whole;
+          spelled = and_from _ _ (token_spelled c text) later.1.spelled;
+        })
+      ]
+
+pub before_end : (text : List ℕ) → (before : List Symbol) × IsBeforeEnd text before
+before_end text = let found = ended_from 0 0 text in (found.0, record { whole = found.1.whole; spelled = found.1.spelled })
