@@ -4,13 +4,13 @@
 -- rows that an ask is to be replied with.
 use Rattle.std.specs.Prelude.{◌≡◌, ℕ, zero, suc, ◌+◌, pos, Bool, true, false, not, ◌&&◌, ◌==◌, List, [], ◌∷◌, ◌++◌, length, map, drop, filter, filter_map, flat_map, Option, Some, None, slice_get, if◌then◌else◌}
 use Rattle.std.specs.List.{list_all}
-use Rattle.std.specs.Int.{to_be_bytes, w32}
-use Rattle.ghost_model.specs.Schema.{Schema, Table, Column, Kind, columns_of, column_at, places_from}
+use Rattle.ghost_model.specs.Schema.{Schema, Table, Column, Kind, columns_of, places_from}
 use Rattle.ghost_model.specs.Values.{Value, Number, Row, Rows, Database}
 use Rattle.ghost_model.specs.Database.{rows_or_none, holds, IsDatabase}
 use Rattle.ghost_model.specs.Cells.{encode_cell}
 use Rattle.ghost_model.specs.Catalog.{catalog_bytes}
 use Rattle.ghost_model.specs.Channel.{Catalog, Ask, Test}
+use Rattle.ghost_model.specs.Asks.{ReplyRow, row_bytes, kinds_of}
 
 -- for each table its rows, of which each has the values of the visible columns in order
 pub record Public : Type 0 where
@@ -144,22 +144,17 @@ cells_of_tables (table ∷ tables) (rows ∷ visible) = flat_map (cells (visible
 abbrev pub image : Catalog → Public → List ℕ
 image cat public = catalog_bytes cat ++ cells_of_tables cat.schema public.visible
 
--- the kind of a column, where there is such a column
-abbrev pub kind_in : Option Column → Option Kind
-kind_in None = None
-kind_in (Some column) = Some column.kind
+-- the same row with the cells of its values
+abbrev pub reply_row : Schema → Ask → Replied → ReplyRow
+reply_row schema ask row = record { identifier = row.identifier; cells = cells (kinds_of schema ask) row.values }
 
--- the kinds of the asked columns
-abbrev pub asked_kinds : Schema → Ask → List Kind
-asked_kinds schema ask = filter_map (λ column. kind_in (column_at schema ask.table column)) ask.columns
-
--- the bytes of a row of a reply: the identifier in four bytes, then the cells
-abbrev pub replied_bytes : Schema → Ask → Replied → List ℕ
-replied_bytes schema ask row = to_be_bytes w32 row.identifier ++ cells (asked_kinds schema ask) row.values
+-- the rows of the reply to an ask with their cells
+abbrev pub reply_rows : Schema → Public → Ask → List ReplyRow
+reply_rows schema public ask = map (reply_row schema ask) (visible_rows schema public ask)
 
 -- the rows of the reply to an ask, each as its bytes
-abbrev pub visible_row_bytes : Schema → Public → Ask → List (List ℕ)
-visible_row_bytes schema public ask = map (replied_bytes schema ask) (visible_rows schema public ask)
+abbrev pub reply_bytes : Schema → Public → Ask → List (List ℕ)
+reply_bytes schema public ask = map row_bytes (reply_rows schema public ask)
 
 -- a database is its two parts rejoined
 abbrev pub SplitIsRejoined : Type 0

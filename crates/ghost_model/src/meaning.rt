@@ -2,6 +2,7 @@
 
 ghost use Rattle.ghost_model.specs.Split.{SplitIsRejoined};
 ghost use Rattle.ghost_model.specs.examples.Databases.{ClinicIsSpelled, IntegersOfFields, RecordsOfFiles, HeadersOfFiles, OneRuleBroken, TwoRulesBroken};
+ghost use Rattle.ghost_model.specs.examples.Meaning.{PartsOfTheClinic, AnswersOfTheClinic, RefusedTexts, LinesOfRows};
 
 /// The clinic's files spell its database.
 pub fn clinic_is_spelled()
@@ -42,5 +43,29 @@ pub fn two_rules_broken()
 /// A database is its two parts rejoined.
 pub fn split_is_rejoined()
     ensures { SplitIsRejoined }
+{
+}
+
+/// The clinic's two parts, its visible image and two replies.
+pub fn parts_of_the_clinic()
+    ensures { PartsOfTheClinic }
+{
+}
+
+/// What texts over the clinic and over the notes print.
+pub fn answers_of_the_clinic()
+    ensures { AnswersOfTheClinic }
+{
+}
+
+/// What refused texts print.
+pub fn refused_texts()
+    ensures { RefusedTexts }
+{
+}
+
+/// The lines of some rows.
+pub fn lines_of_rows()
+    ensures { LinesOfRows }
 {
 }
