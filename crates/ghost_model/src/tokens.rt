@@ -1,12 +1,19 @@
 //! Laws and examples of the tokens of a text, and of the texts of a script.
 
 ghost use Rattle.ghost_model.specs.Spelled.{TokensAreSpelled};
+ghost use Rattle.ghost_model.specs.Texts.{ScriptsAreCut};
 ghost use Rattle.ghost_model.specs.examples.Tokens.{TokensOfTexts, OffsetsOfTokens, TextsOfSymbols, TextsOfScripts};
 
 /// Bytes can spell every list of symbols whose names, digits and characters are such, and the tokens of every text are
 /// such a list and the text's end.
 pub fn tokens_are_spelled()
     ensures { TokensAreSpelled }
+{
+}
+
+/// A script is cut at each `;` with an even number of `'` before it, and nowhere else.
+pub fn scripts_are_cut()
+    ensures { ScriptsAreCut }
 {
 }
 
