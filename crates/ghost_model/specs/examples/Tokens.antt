@@ -1,6 +1,6 @@
 -- Telling texts and their tokens.
-use Rattle.std.specs.Prelude.{◌≡◌, ℕ, List, [], ◌∷◌, codes, Some}
-use Rattle.ghost_model.specs.Tokens.{Symbol, Word, Reserved, Name, Digits, Quoted, Point, Bad, End, Select, And, symbols, offset_of}
+use Rattle.std.specs.Prelude.{◌≡◌, [], ◌∷◌, codes, Some}
+use Rattle.ghost_model.specs.Tokens.{Word, Reserved, Name, Digits, Quoted, End, Select, And, symbols, offset_of}
 
 pub record TokensOfTexts : Type 0 where
   pub words_without_case : symbols (codes "Select aGe NULL") ≡ Word Select ∷ Name (codes "age") ∷ Reserved ∷ End ∷ []
