@@ -1,1 +1,284 @@
--- SchemaLemmas: to be written
+-- The places of a schema's text say what its grammar says: each step reads one symbol, the symbols of each tree lead
+-- from the start to the end, and from each place before the end some symbols complete a tree.
+use Rattle.std.proofs.Common.{◌≡◌, ℕ, ◌+◌, Bool, true, false, List, [], ◌∷◌, ◌++◌, Option, Some, None, option_map, flat_map, codes, bytes_eq, if◌then◌else◌, refl, sym, ap, ◌∙◌, append_assoc, append-nil}
+use Rattle.std.proofs.lemmas.Grind.{flat_map-append}
+use Rattle.std.proofs.lemmas.Slice.Eq.{bytes_eq-Decides}
+use Rattle.ghost_model.specs.Tokens.{Symbol, Token, Keyword, Word, Name, Digits, Open, Closing, Comma, Semicolon, End, Char, Create, Hidden, Integer, Key, Primary, References, Table}
+use Rattle.ghost_model.specs.Grammar.{separated, begun}
+use Rattle.ghost_model.specs.SchemaGrammar.{Reference, To, ColumnText, CharColumn, IntegerColumn, TableText, SchemaText, spell_hidden, spell_primary, spell_reference, spell_column, spell_heading, spell_table, spelling}
+use Rattle.ghost_model.specs.SchemaPlaces.{InColumn, Named, AfterChar, AfterOpen, AfterLength, AfterPrimary, AfterReferences, OpensId, AfterId, Whole, Place, Between, AfterCreate, AfterTable, AfterName, WantsColumn, Within, AfterColumns, Ended, before_in, before, table_from, after_integer, after_column, after_parenthesis, step_in, step_within, step}
+
+unSome : {X : Type 0} {a b : X} → Some a ≡ Some b → a ≡ b
+unSome e = cc
+
+-- each step of a column reads one symbol
+
+integer_read : (name : List ℕ) (primary : Bool) (reference : Option Reference) (s : Symbol) (q : InColumn)
+    → after_integer name primary reference s ≡ Some q → before_in q ≡ spell_column (IntegerColumn name primary reference false) ++ s ∷ []
+integer_read name true None (Word Hidden) q e = ap before_in (unSome (sym e))
+integer_read name false None (Word Hidden) q e = ap before_in (unSome (sym e))
+integer_read name true (Some (To table true)) (Word Hidden) q e = ap before_in (unSome (sym e))
+integer_read name true (Some (To table false)) (Word Hidden) q e = ap before_in (unSome (sym e))
+integer_read name false (Some (To table true)) (Word Hidden) q e = ap before_in (unSome (sym e))
+integer_read name false (Some (To table false)) (Word Hidden) q e = ap before_in (unSome (sym e))
+integer_read name true None (Word References) q e = ap before_in (unSome (sym e))
+integer_read name false None (Word References) q e = ap before_in (unSome (sym e))
+integer_read name false None (Word Primary) q e = ap before_in (unSome (sym e))
+integer_read name true (Some (To table false)) Open q e = ap before_in (unSome (sym e))
+integer_read name false (Some (To table false)) Open q e = ap before_in (unSome (sym e))
+integer_read _ _ _ _ q e = absurd (cc)
+
+column_read : (column : ColumnText) (s : Symbol) (q : InColumn)
+    → after_column column s ≡ Some q → before_in q ≡ spell_column column ++ s ∷ []
+column_read (CharColumn name digits false) (Word Hidden) q e = ap before_in (unSome (sym e))
+column_read (IntegerColumn name primary reference false) s q e = integer_read name primary reference s q e
+column_read (IntegerColumn name primary reference true) s q e = absurd (cc)
+column_read (CharColumn name digits true) s q e = absurd (cc)
+column_read (CharColumn name digits false) _ q e = absurd (cc)
+
+same_bytes : (a b : List ℕ) → bytes_eq a b ≡ true → a ≡ b
+same_bytes a b e = (bytes_eq-Decides a b).0 e
+
+-- the test of `if`, where the other branch is none
+some_if : {X : Type 0} (test : Bool) (x q : X) → (if test then Some x else None) ≡ Some q → (test ≡ true) × (x ≡ q)
+some_if true x q e = (refl, unSome e)
+some_if false x q e = absurd (cc)
+
+parenthesis_read : (name : List ℕ) (primary : Bool) (table inside : List ℕ) (q : InColumn)
+    → after_parenthesis name primary table inside ≡ Some q → before_in q ≡ before_in (OpensId name primary table) ++ Name inside ∷ []
+parenthesis_read name true table inside q e =
+    let h = some_if (bytes_eq inside (codes "id")) (AfterId name true table) q e in
+    ap before_in (sym h.1) ∙ ap (λ id. before_in (OpensId name true table) ++ Name id ∷ []) (sym (same_bytes _ _ h.0))
+parenthesis_read name false table inside q e =
+    let h = some_if (bytes_eq inside (codes "id")) (AfterId name false table) q e in
+    ap before_in (sym h.1) ∙ ap (λ id. before_in (OpensId name false table) ++ Name id ∷ []) (sym (same_bytes _ _ h.0))
+
+in_read : (p : InColumn) (s : Symbol) (q : InColumn) → step_in p s ≡ Some q → before_in q ≡ before_in p ++ s ∷ []
+in_read (Named name) (Word Char) q e = ap before_in (unSome (sym e))
+in_read (Named name) (Word Integer) q e = ap before_in (unSome (sym e))
+in_read (AfterChar name) Open q e = ap before_in (unSome (sym e))
+in_read (AfterOpen name) (Digits digits) q e = ap before_in (unSome (sym e))
+in_read (AfterLength name digits) Closing q e = ap before_in (unSome (sym e))
+in_read (AfterPrimary name) (Word Key) q e = ap before_in (unSome (sym e))
+in_read (AfterReferences name true) (Name table) q e = ap before_in (unSome (sym e))
+in_read (AfterReferences name false) (Name table) q e = ap before_in (unSome (sym e))
+in_read (OpensId name primary table) (Name inside) q e = parenthesis_read name primary table inside q e
+in_read (AfterId name true table) Closing q e = ap before_in (unSome (sym e))
+in_read (AfterId name false table) Closing q e = ap before_in (unSome (sym e))
+in_read (Whole column) s q e = column_read column s q e
+in_read _ _ q e = absurd (cc)
+
+-- each step of a text reads one symbol
+
+option_mapped : {X Y : Type 0} (f : X → Y) (o : Option X) (y : Y) → option_map f o ≡ Some y → (x : X) × (o ≡ Some x) × (f x ≡ y)
+option_mapped f None y e = absurd (cc)
+option_mapped f (Some x) y e = (x, refl, unSome e)
+
+-- one more item and the symbol after it
+more_of : {X : Type 0} (by : Symbol) (spell : X → List Symbol) (xs : List X) (x : X)
+    → begun by spell (xs ++ x ∷ []) ≡ begun by spell xs ++ (spell x ++ by ∷ [])
+more_of by spell xs x = flat_map-append (λ y. spell y ++ by ∷ []) xs (x ∷ []) ∙ ap (λ tail. begun by spell xs ++ tail) (append-nil (spell x ++ by ∷ []))
+
+regroup3 : (a b c d : List Symbol) → (a ++ (b ++ c)) ++ d ≡ a ++ (b ++ (c ++ d))
+regroup3 a b c d = simp append_assoc
+
+regroup4 : (a b c d e : List Symbol) → (a ++ (b ++ (c ++ d))) ++ e ≡ a ++ (b ++ (c ++ (d ++ e)))
+regroup4 a b c d e = simp append_assoc
+
+regroup5 : (a b c d e f : List Symbol) → (a ++ (b ++ (c ++ (d ++ e)))) ++ f ≡ a ++ (b ++ (c ++ (d ++ (e ++ f))))
+regroup5 a b c d e f = simp append_assoc
+
+within_goes_on : (tables : SchemaText) (name : List ℕ) (columns : List ColumnText) (last : InColumn) (s : Symbol) (q : Place)
+    → option_map (Within tables name columns) (step_in last s) ≡ Some q → before q ≡ before (Within tables name columns last) ++ s ∷ []
+within_goes_on tables name columns last s q e =
+    let h = option_mapped (Within tables name columns) (step_in last s) q e in
+    ap before (sym h.2)
+    ∙ (ap (λ tail. flat_map spell_table tables ++ (spell_heading name ++ (begun Comma spell_column columns ++ tail))) (in_read last s h.0 h.1)
+    ∙ sym (regroup4 (flat_map spell_table tables) (spell_heading name) (begun Comma spell_column columns) (before_in last) (s ∷ [])))
+
+within_read : (tables : SchemaText) (name : List ℕ) (columns : List ColumnText) (last : InColumn) (s : Symbol) (q : Place)
+    → step_within tables name columns last s ≡ Some q → before q ≡ before (Within tables name columns last) ++ s ∷ []
+within_read tables name columns (Whole last) Comma q e =
+    ap before (unSome (sym e))
+    ∙ (ap (λ tail. flat_map spell_table tables ++ (spell_heading name ++ tail)) (more_of Comma spell_column columns last)
+    ∙ sym (regroup4 (flat_map spell_table tables) (spell_heading name) (begun Comma spell_column columns) (spell_column last) (Comma ∷ [])))
+within_read tables name columns (Whole last) Closing q e =
+    ap before (unSome (sym e))
+    ∙ sym (regroup4 (flat_map spell_table tables) (spell_heading name) (begun Comma spell_column columns) (spell_column last) (Closing ∷ []))
+within_read tables name columns last s q e = within_goes_on tables name columns last s q e
+
+-- the columns of a table with the last one are its columns in the grammar
+columns_end : (x : ColumnText) (xs : List ColumnText) (last : ColumnText)
+    → separated Comma spell_column x (xs ++ last ∷ []) ≡ begun Comma spell_column (x ∷ xs) ++ spell_column last
+columns_end x [] last =
+    ap (λ tail. spell_column x ++ Comma ∷ tail) (append-nil (spell_column last))
+    ∙ sym (ap (λ head. head ++ spell_column last) (append-nil (spell_column x ++ Comma ∷ [])) ∙ append_assoc (spell_column x) (Comma ∷ []) (spell_column last))
+columns_end x (y ∷ ys) last =
+    ap (λ tail. spell_column x ++ Comma ∷ tail) (columns_end y ys last)
+    ∙ sym (append_assoc (spell_column x ++ Comma ∷ []) (begun Comma spell_column (y ∷ ys)) (spell_column last)
+    ∙ append_assoc (spell_column x) (Comma ∷ []) (begun Comma spell_column (y ∷ ys) ++ spell_column last))
+
+table_ends : (name : List ℕ) (columns : List ColumnText) (last : ColumnText)
+    → spell_table (table_from name columns last)
+    ≡ spell_heading name ++ (begun Comma spell_column columns ++ (spell_column last ++ Closing ∷ Semicolon ∷ []))
+table_ends name [] last = ap (λ tail. spell_heading name ++ (tail ++ Closing ∷ Semicolon ∷ [])) (append-nil (spell_column last))
+table_ends name (x ∷ xs) last =
+    ap (λ tail. spell_heading name ++ (tail ++ Closing ∷ Semicolon ∷ [])) (columns_end x xs last)
+    ∙ ap (λ tail. spell_heading name ++ tail) (append_assoc (begun Comma spell_column (x ∷ xs)) (spell_column last) (Closing ∷ Semicolon ∷ []))
+
+tables_end : (tables : SchemaText) (name : List ℕ) (columns : List ColumnText) (last : ColumnText)
+    → flat_map spell_table (tables ++ table_from name columns last ∷ [])
+    ≡ before (AfterColumns tables name columns last) ++ Semicolon ∷ []
+tables_end tables name columns last =
+    flat_map-append spell_table tables (table_from name columns last ∷ [])
+    ∙ (ap (λ tail. flat_map spell_table tables ++ tail)
+        (append-nil (spell_table (table_from name columns last)) ∙ table_ends name columns last)
+    ∙ sym (regroup5 (flat_map spell_table tables) (spell_heading name) (begun Comma spell_column columns) (spell_column last) (Closing ∷ []) (Semicolon ∷ [])))
+
+regroup_table : (a b c xs : List Symbol) → ((a ++ b) ++ c) ++ xs ≡ a ++ (b ++ (c ++ xs))
+regroup_table a b c xs = simp append_assoc
+
+pub step_read : (p : Place) (s : Symbol) (q : Place) → step p s ≡ Some q → before q ≡ before p ++ s ∷ []
+step_read (Between tables) (Word Create) q e = ap before (unSome (sym e))
+step_read (Between tables) End q e = ap before (unSome (sym e))
+step_read (AfterCreate tables) (Word Table) q e = ap before (unSome (sym e)) ∙ sym (append_assoc (flat_map spell_table tables) _ _)
+step_read (AfterTable tables) (Name name) q e = ap before (unSome (sym e)) ∙ sym (append_assoc (flat_map spell_table tables) _ _)
+step_read (AfterName tables name) Open q e = ap before (unSome (sym e)) ∙ sym (append_assoc (flat_map spell_table tables) _ _)
+step_read (WantsColumn tables name columns) (Name column) q e =
+    ap before (unSome (sym e)) ∙ sym (regroup3 (flat_map spell_table tables) (spell_heading name) (begun Comma spell_column columns) _)
+step_read (Within tables name columns last) s q e = within_read tables name columns last s q e
+step_read (AfterColumns tables name columns last) Semicolon q e =
+    ap before (unSome (sym e)) ∙ tables_end tables name columns last
+step_read _ _ q e = absurd (cc)
+
+-- the symbols of a tree lead from the start to its end
+
+pub run : Option Place → List Symbol → Option Place
+run None xs = None
+run (Some p) [] = Some p
+run (Some p) (x ∷ xs) = run (step p x) xs
+
+pub run_none : (xs : List Symbol) → run None xs ≡ None
+unfolding run
+run_none xs = refl
+
+pub run_append : (p : Option Place) (xs ys : List Symbol) → run p (xs ++ ys) ≡ run (run p xs) ys
+unfolding run
+run_append None xs ys = refl
+run_append (Some p) [] ys = refl
+run_append (Some p) (x ∷ xs) ys = run_append (step p x) xs ys
+
+-- the place after a whole column
+at_column : SchemaText → List ℕ → List ColumnText → ColumnText → Option Place
+at_column tables name columns column = Some (Within tables name columns (Whole column))
+
+column_leads : (tables : SchemaText) (name : List ℕ) (columns : List ColumnText) (column : ColumnText) (xs : List Symbol)
+    → run (Some (WantsColumn tables name columns)) (spell_column column ++ xs)
+    ≡ run (Some (Within tables name columns (Whole column))) xs
+unfolding run
+column_leads tables name columns (CharColumn n digits true) xs = refl
+column_leads tables name columns (CharColumn n digits false) xs = refl
+column_leads tables name columns (IntegerColumn n true None true) xs = refl
+column_leads tables name columns (IntegerColumn n true None false) xs = refl
+column_leads tables name columns (IntegerColumn n false None true) xs = refl
+column_leads tables name columns (IntegerColumn n false None false) xs = refl
+column_leads tables name columns (IntegerColumn n true (Some (To table true)) true) xs = refl
+column_leads tables name columns (IntegerColumn n true (Some (To table true)) false) xs = refl
+column_leads tables name columns (IntegerColumn n true (Some (To table false)) true) xs = refl
+column_leads tables name columns (IntegerColumn n true (Some (To table false)) false) xs = refl
+column_leads tables name columns (IntegerColumn n false (Some (To table true)) true) xs = refl
+column_leads tables name columns (IntegerColumn n false (Some (To table true)) false) xs = refl
+column_leads tables name columns (IntegerColumn n false (Some (To table false)) true) xs = refl
+column_leads tables name columns (IntegerColumn n false (Some (To table false)) false) xs = refl
+
+-- a table from the columns that have a comma after them, the one that is read, and those that follow
+extended : List ℕ → List ColumnText → ColumnText → List ColumnText → TableText
+extended name columns last [] = table_from name columns last
+extended name columns last (x ∷ xs) = extended name (columns ++ last ∷ []) x xs
+
+columns_lead : (tables : SchemaText) (name : List ℕ) (columns : List ColumnText) (last : ColumnText) (later : List ColumnText) (xs : List Symbol)
+    → run (Some (Within tables name columns (Whole last))) (flat_map (λ other. Comma ∷ spell_column other) later ++ Closing ∷ Semicolon ∷ xs)
+    ≡ run (Some (Between (tables ++ extended name columns last later ∷ []))) xs
+unfolding run extended
+columns_lead tables name columns last [] xs = refl
+columns_lead tables name columns last (x ∷ later) xs =
+    ap (run (Some (WantsColumn tables name (columns ++ last ∷ []))))
+        (append_assoc (spell_column x) (flat_map (λ other. Comma ∷ spell_column other) later) (Closing ∷ Semicolon ∷ xs))
+    ∙ (column_leads tables name (columns ++ last ∷ []) x (flat_map (λ other. Comma ∷ spell_column other) later ++ Closing ∷ Semicolon ∷ xs)
+    ∙ columns_lead tables name (columns ++ last ∷ []) x later xs)
+
+extended_later : (name : List ℕ) (first : ColumnText) (columns : List ColumnText) (last : ColumnText) (later : List ColumnText)
+    → extended name (first ∷ columns) last later ≡ record { name = name; first = first; others = columns ++ last ∷ later }
+unfolding extended
+extended_later name first columns last [] = refl
+extended_later name first columns last (x ∷ later) =
+    extended_later name first (columns ++ last ∷ []) x later
+    ∙ ap (λ others. record { name = name; first = first; others = others }) (append_assoc columns (last ∷ []) (x ∷ later))
+
+extended_first : (name : List ℕ) (first : ColumnText) (later : List ColumnText)
+    → extended name [] first later ≡ record { name = name; first = first; others = later }
+unfolding extended
+extended_first name first [] = refl
+extended_first name first (x ∷ later) = extended_later name first [] x later
+
+table_leads : (tables : SchemaText) (table : TableText) (xs : List Symbol)
+    → run (Some (Between tables)) (spell_table table ++ xs) ≡ run (Some (Between (tables ++ table ∷ []))) xs
+unfolding run
+table_leads tables table xs =
+    ap (run (Some (WantsColumn tables table.name [])))
+        (regroup_table (spell_column table.first) (flat_map (λ other. Comma ∷ spell_column other) table.others) (Closing ∷ Semicolon ∷ []) xs)
+    ∙ (column_leads tables table.name [] table.first (flat_map (λ other. Comma ∷ spell_column other) table.others ++ Closing ∷ Semicolon ∷ xs)
+    ∙ (columns_lead tables table.name [] table.first table.others xs
+    ∙ ap (λ last. run (Some (Between (tables ++ last ∷ []))) xs) (extended_first table.name table.first table.others)))
+
+tables_lead : (tables later : SchemaText) (xs : List Symbol)
+    → run (Some (Between tables)) (flat_map spell_table later ++ xs) ≡ run (Some (Between (tables ++ later))) xs
+tables_lead tables [] xs = ap (λ all. run (Some (Between all)) xs) (sym (append-nil tables))
+tables_lead tables (table ∷ later) xs =
+    ap (run (Some (Between tables))) (append_assoc (spell_table table) (flat_map spell_table later) xs)
+    ∙ (table_leads tables table (flat_map spell_table later ++ xs)
+    ∙ (tables_lead (tables ++ table ∷ []) later xs
+    ∙ ap (λ all. run (Some (Between all)) xs) (append_assoc tables (table ∷ []) later)))
+
+pub leads : (tables : SchemaText) → run (Some (Between [])) (spelling tables) ≡ Some (Ended tables)
+unfolding run
+leads tables = tables_lead [] tables (End ∷ [])
+
+-- from each place before the end some symbols complete a tree
+
+pub whole_of : InColumn → ColumnText
+whole_of (Named name) = IntegerColumn name false None false
+whole_of (AfterChar name) = CharColumn name (49 ∷ []) false
+whole_of (AfterOpen name) = CharColumn name (49 ∷ []) false
+whole_of (AfterLength name digits) = CharColumn name digits false
+whole_of (AfterPrimary name) = IntegerColumn name true None false
+whole_of (AfterReferences name primary) = IntegerColumn name primary (Some (To (97 ∷ []) false)) false
+whole_of (OpensId name primary table) = IntegerColumn name primary (Some (To table true)) false
+whole_of (AfterId name primary table) = IntegerColumn name primary (Some (To table true)) false
+whole_of (Whole column) = column
+
+pub rest_of_column : InColumn → List Symbol
+rest_of_column (Named name) = Word Integer ∷ []
+rest_of_column (AfterChar name) = Open ∷ Digits (49 ∷ []) ∷ Closing ∷ []
+rest_of_column (AfterOpen name) = Digits (49 ∷ []) ∷ Closing ∷ []
+rest_of_column (AfterLength name digits) = Closing ∷ []
+rest_of_column (AfterPrimary name) = Word Key ∷ []
+rest_of_column (AfterReferences name primary) = Name (97 ∷ []) ∷ []
+rest_of_column (OpensId name primary table) = Name (codes "id") ∷ Closing ∷ []
+rest_of_column (AfterId name primary table) = Closing ∷ []
+rest_of_column (Whole column) = []
+
+pub column_completed : (p : InColumn) → before_in p ++ rest_of_column p ≡ spell_column (whole_of p)
+unfolding whole_of rest_of_column
+column_completed (Named name) = refl
+column_completed (AfterChar name) = refl
+column_completed (AfterOpen name) = refl
+column_completed (AfterLength name digits) = refl
+column_completed (AfterPrimary name) = refl
+column_completed (AfterReferences name true) = refl
+column_completed (AfterReferences name false) = refl
+column_completed (OpensId name true table) = refl
+column_completed (OpensId name false table) = refl
+column_completed (AfterId name true table) = refl
+column_completed (AfterId name false table) = refl
+column_completed (Whole column) = append-nil (spell_column column)

@@ -13,3 +13,11 @@ pub fn the_clinic_is_read()
     ensures { TheClinicIsRead }
 {
 }
+
+ghost use Rattle.ghost_model.specs.SchemaPlaces.{SchemaPlacesAreExact};
+
+/// The places between the tokens say of each text what the grammar says.
+pub fn schema_places_are_exact()
+    ensures { SchemaPlacesAreExact }
+{
+}
