@@ -1,8 +1,11 @@
 -- The places of a schema's text say what its grammar says: each step reads one symbol, the symbols of each tree lead
 -- from the start to the end, and from each place before the end some symbols complete a tree.
-use Rattle.std.proofs.Common.{◌≡◌, ℕ, ◌+◌, Bool, true, false, List, [], ◌∷◌, ◌++◌, Option, Some, None, option_map, flat_map, codes, bytes_eq, if◌then◌else◌, refl, sym, ap, ◌∙◌, append_assoc, append-nil}
+use Rattle.std.proofs.Common.{◌≡◌, ℕ, ◌+◌, Bool, true, false, ◌&&◌, List, [], ◌∷◌, ◌++◌, Option, Some, None, option_map, flat_map, codes, bytes_eq, if◌then◌else◌, refl, sym, ap, ◌∙◌, append_assoc, append-nil}
 use Rattle.std.proofs.lemmas.Grind.{flat_map-append}
 use Rattle.std.proofs.lemmas.Slice.Eq.{bytes_eq-Decides}
+use Rattle.std.proofs.lemmas.List.Folds.{list_all-append}
+use Rattle.std.specs.List.{list_all}
+use Rattle.ghost_model.specs.Spelled.{is_spelled, is_name, is_number}
 use Rattle.ghost_model.specs.Tokens.{Symbol, Token, Keyword, Word, Name, Digits, Open, Closing, Comma, Semicolon, End, Char, Create, Hidden, Integer, Key, Primary, References, Table}
 use Rattle.ghost_model.specs.Grammar.{separated, begun}
 use Rattle.ghost_model.specs.SchemaGrammar.{Reference, To, ColumnText, CharColumn, IntegerColumn, TableText, SchemaText, spell_hidden, spell_primary, spell_reference, spell_column, spell_heading, spell_table, spelling}
@@ -151,6 +154,21 @@ step_read (AfterColumns tables name columns last) Semicolon q e =
     ap before (unSome (sym e)) ∙ tables_end tables name columns last
 step_read _ _ q e = absurd (cc)
 
+-- tests of all elements of a list
+
+all_more : {X : Type 0} (p : X → Bool) (x : X) (xs : List X) → p x ≡ true → list_all p xs ≡ true → list_all p (x ∷ xs) ≡ true
+all_more p x xs e f = ap (λ b. b && list_all p xs) e ∙ f
+
+both_true : (a b : Bool) → (a && b) ≡ true → (a ≡ true) × (b ≡ true)
+both_true true b e = (refl, e)
+both_true false b e = absurd (cc)
+
+all_back : {X : Type 0} (p : X → Bool) (xs ys : List X) → list_all p (xs ++ ys) ≡ true → list_all p ys ≡ true
+all_back p xs ys e = (both_true (list_all p xs) (list_all p ys) (sym (list_all-append p xs ys) ∙ e)).1
+
+all_front : {X : Type 0} (p : X → Bool) (xs ys : List X) → list_all p (xs ++ ys) ≡ true → list_all p xs ≡ true
+all_front p xs ys e = (both_true (list_all p xs) (list_all p ys) (sym (list_all-append p xs ys) ∙ e)).0
+
 -- the symbols of a tree lead from the start to its end
 
 pub run : Option Place → List Symbol → Option Place
@@ -246,39 +264,91 @@ leads tables = tables_lead [] tables (End ∷ [])
 
 -- from each place before the end some symbols complete a tree
 
-pub whole_of : InColumn → ColumnText
-whole_of (Named name) = IntegerColumn name false None false
-whole_of (AfterChar name) = CharColumn name (49 ∷ []) false
-whole_of (AfterOpen name) = CharColumn name (49 ∷ []) false
-whole_of (AfterLength name digits) = CharColumn name digits false
-whole_of (AfterPrimary name) = IntegerColumn name true None false
-whole_of (AfterReferences name primary) = IntegerColumn name primary (Some (To (97 ∷ []) false)) false
-whole_of (OpensId name primary table) = IntegerColumn name primary (Some (To table true)) false
-whole_of (AfterId name primary table) = IntegerColumn name primary (Some (To table true)) false
-whole_of (Whole column) = column
+pub record Completes (p : Place) : Type 0 where
+  pub rest : List Symbol
+  pub tables : SchemaText
+  pub spelled : list_all is_spelled rest ≡ true
+  pub whole : (before p ++ rest) ++ End ∷ [] ≡ spelling tables
 
-pub rest_of_column : InColumn → List Symbol
-rest_of_column (Named name) = Word Integer ∷ []
-rest_of_column (AfterChar name) = Open ∷ Digits (49 ∷ []) ∷ Closing ∷ []
-rest_of_column (AfterOpen name) = Digits (49 ∷ []) ∷ Closing ∷ []
-rest_of_column (AfterLength name digits) = Closing ∷ []
-rest_of_column (AfterPrimary name) = Word Key ∷ []
-rest_of_column (AfterReferences name primary) = Name (97 ∷ []) ∷ []
-rest_of_column (OpensId name primary table) = Name (codes "id") ∷ Closing ∷ []
-rest_of_column (AfterId name primary table) = Closing ∷ []
-rest_of_column (Whole column) = []
+-- by one step to a place from which some do
+on_by : (p : Place) (s : Symbol) (q : Place) → step p s ≡ Some q → is_spelled s ≡ true → Completes q → Completes p
+on_by p s q e spelled on = record {
+  rest = s ∷ on.rest;
+  tables = on.tables;
+  spelled = all_more is_spelled s on.rest spelled on.spelled;
+  whole =
+    ap (λ front. front ++ End ∷ []) (sym (append_assoc (before p) (s ∷ []) on.rest) ∙ ap (λ front. front ++ on.rest) (sym (step_read p s q e)))
+    ∙ on.whole }
 
-pub column_completed : (p : InColumn) → before_in p ++ rest_of_column p ≡ spell_column (whole_of p)
-unfolding whole_of rest_of_column
-column_completed (Named name) = refl
-column_completed (AfterChar name) = refl
-column_completed (AfterOpen name) = refl
-column_completed (AfterLength name digits) = refl
-column_completed (AfterPrimary name) = refl
-column_completed (AfterReferences name true) = refl
-column_completed (AfterReferences name false) = refl
-column_completed (OpensId name true table) = refl
-column_completed (OpensId name false table) = refl
-column_completed (AfterId name true table) = refl
-column_completed (AfterId name false table) = refl
-column_completed (Whole column) = append-nil (spell_column column)
+from_between : (tables : SchemaText) → Completes (Between tables)
+from_between tables = record { rest = []; tables = tables; spelled = refl; whole = ap (λ front. front ++ End ∷ []) (append-nil (flat_map spell_table tables)) }
+
+from_columns : (tables : SchemaText) (name : List ℕ) (columns : List ColumnText) (last : ColumnText) → Completes (AfterColumns tables name columns last)
+from_columns tables name columns last =
+    on_by (AfterColumns tables name columns last) Semicolon (Between (tables ++ table_from name columns last ∷ [])) refl refl
+        (from_between (tables ++ table_from name columns last ∷ []))
+
+module _ (tables : SchemaText) (name : List ℕ) (columns : List ColumnText) where
+  from_whole : (last : ColumnText) → Completes (Within tables name columns (Whole last))
+  from_whole last =
+      on_by (Within tables name columns (Whole last)) Closing (AfterColumns tables name columns last) refl refl
+          (from_columns tables name columns last)
+
+  on_within : (last : InColumn) (s : Symbol) (q : InColumn) → step_within tables name columns last s ≡ Some (Within tables name columns q)
+      → is_spelled s ≡ true → Completes (Within tables name columns q) → Completes (Within tables name columns last)
+  on_within last s q e spelled on = on_by (Within tables name columns last) s (Within tables name columns q) e spelled on
+
+  from_length : (column digits : List ℕ) → Completes (Within tables name columns (AfterLength column digits))
+  from_length column digits =
+      on_within (AfterLength column digits) Closing (Whole (CharColumn column digits false)) refl refl (from_whole (CharColumn column digits false))
+
+  from_open : (column : List ℕ) → Completes (Within tables name columns (AfterOpen column))
+  unfolding is_number
+  from_open column = on_within (AfterOpen column) (Digits (49 ∷ [])) (AfterLength column (49 ∷ [])) refl refl (from_length column (49 ∷ []))
+
+  from_id : (column : List ℕ) (primary : Bool) (table : List ℕ) → Completes (Within tables name columns (AfterId column primary table))
+  from_id column primary table =
+      on_within (AfterId column primary table) Closing (Whole (IntegerColumn column primary (Some (To table true)) false)) refl refl
+          (from_whole (IntegerColumn column primary (Some (To table true)) false))
+
+  from_column : (last : InColumn) → Completes (Within tables name columns last)
+  unfolding is_name
+  from_column (Named column) =
+      on_within (Named column) (Word Integer) (Whole (IntegerColumn column false None false)) refl refl (from_whole (IntegerColumn column false None false))
+  from_column (AfterChar column) = on_within (AfterChar column) Open (AfterOpen column) refl refl (from_open column)
+  from_column (AfterOpen column) = from_open column
+  from_column (AfterLength column digits) = from_length column digits
+  from_column (AfterPrimary column) =
+      on_within (AfterPrimary column) (Word Key) (Whole (IntegerColumn column true None false)) refl refl (from_whole (IntegerColumn column true None false))
+  from_column (AfterReferences column primary) =
+      on_within (AfterReferences column primary) (Name (97 ∷ [])) (Whole (IntegerColumn column primary (Some (To (97 ∷ []) false)) false)) refl refl
+          (from_whole (IntegerColumn column primary (Some (To (97 ∷ []) false)) false))
+  from_column (OpensId column primary table) =
+      on_within (OpensId column primary table) (Name (codes "id")) (AfterId column primary table) refl refl (from_id column primary table)
+  from_column (AfterId column primary table) = from_id column primary table
+  from_column (Whole column) = from_whole column
+
+from_wants : (tables : SchemaText) (name : List ℕ) (columns : List ColumnText) → Completes (WantsColumn tables name columns)
+unfolding is_name
+from_wants tables name columns =
+    on_by (WantsColumn tables name columns) (Name (97 ∷ [])) (Within tables name columns (Named (97 ∷ []))) refl refl
+        (from_column tables name columns (Named (97 ∷ [])))
+
+from_name : (tables : SchemaText) (name : List ℕ) → Completes (AfterName tables name)
+from_name tables name = on_by (AfterName tables name) Open (WantsColumn tables name []) refl refl (from_wants tables name [])
+
+from_table : (tables : SchemaText) → Completes (AfterTable tables)
+unfolding is_name
+from_table tables = on_by (AfterTable tables) (Name (97 ∷ [])) (AfterName tables (97 ∷ [])) refl refl (from_name tables (97 ∷ []))
+
+-- the end itself is no symbol that bytes spell
+pub goes_on : (p : Place) → list_all is_spelled (before p) ≡ true → Completes p
+goes_on (Between tables) e = from_between tables
+goes_on (AfterCreate tables) e = on_by (AfterCreate tables) (Word Table) (AfterTable tables) refl refl (from_table tables)
+goes_on (AfterTable tables) e = from_table tables
+goes_on (AfterName tables name) e = from_name tables name
+goes_on (WantsColumn tables name columns) e = from_wants tables name columns
+goes_on (Within tables name columns last) e = from_column tables name columns last
+goes_on (AfterColumns tables name columns last) e = from_columns tables name columns last
+goes_on (Ended tables) e =
+    let h : list_all is_spelled (End ∷ []) ≡ true = all_back is_spelled (flat_map spell_table tables) (End ∷ []) e in absurd (cc)
