@@ -1,15 +1,15 @@
 -- The places of a schema's text say what its grammar says: each step reads one symbol, the symbols of each tree lead
 -- from the start to the end, and from each place before the end some symbols complete a tree.
-use Rattle.std.proofs.Common.{◌≡◌, ℕ, ◌+◌, Bool, true, false, ◌&&◌, List, [], ◌∷◌, ◌++◌, Option, Some, None, option_map, flat_map, codes, bytes_eq, if◌then◌else◌, refl, sym, ap, ◌∙◌, append_assoc, append-nil}
+use Rattle.std.proofs.Common.{◌≡◌, ℕ, ◌+◌, Bool, true, false, ◌&&◌, List, [], ◌∷◌, ◌++◌, map, take, Option, Some, None, option_map, Result, Ok, Err, flat_map, ◌⊎◌, inl, inr, suc, slice_get, codes, bytes_eq, if◌then◌else◌, refl, sym, ap, ◌∙◌, append_assoc, append-nil}
 use Rattle.std.proofs.lemmas.Grind.{flat_map-append}
 use Rattle.std.proofs.lemmas.Slice.Eq.{bytes_eq-Decides}
 use Rattle.std.proofs.lemmas.List.Folds.{list_all-append}
 use Rattle.std.specs.List.{list_all}
 use Rattle.ghost_model.specs.Spelled.{is_spelled, is_name, is_number}
-use Rattle.ghost_model.specs.Tokens.{Symbol, Token, Keyword, Word, Name, Digits, Open, Closing, Comma, Semicolon, End, Char, Create, Hidden, Integer, Key, Primary, References, Table}
+use Rattle.ghost_model.specs.Tokens.{symbol_of, Symbol, Token, Keyword, Word, Name, Digits, Open, Closing, Comma, Semicolon, End, Char, Create, Hidden, Integer, Key, Primary, References, Table}
 use Rattle.ghost_model.specs.Grammar.{separated, begun}
 use Rattle.ghost_model.specs.SchemaGrammar.{Reference, To, ColumnText, CharColumn, IntegerColumn, TableText, SchemaText, spell_hidden, spell_primary, spell_reference, spell_column, spell_heading, spell_table, spelling}
-use Rattle.ghost_model.specs.SchemaPlaces.{InColumn, Named, AfterChar, AfterOpen, AfterLength, AfterPrimary, AfterReferences, OpensId, AfterId, Whole, Place, Between, AfterCreate, AfterTable, AfterName, WantsColumn, Within, AfterColumns, Ended, before_in, before, table_from, after_integer, after_column, after_parenthesis, step_in, step_within, step}
+use Rattle.ghost_model.specs.SchemaPlaces.{InColumn, Named, AfterChar, AfterOpen, AfterLength, AfterPrimary, AfterReferences, OpensId, AfterId, Whole, Place, Between, AfterCreate, AfterTable, AfterName, WantsColumn, Within, AfterColumns, Ended, before_in, before, table_from, after_integer, after_column, after_parenthesis, step_in, step_within, step, tree_at, syntax_from, syntax_of}
 
 unSome : {X : Type 0} {a b : X} → Some a ≡ Some b → a ≡ b
 unSome e = cc
@@ -352,3 +352,83 @@ goes_on (Within tables name columns last) e = from_column tables name columns la
 goes_on (AfterColumns tables name columns last) e = from_columns tables name columns last
 goes_on (Ended tables) e =
     let h : list_all is_spelled (End ∷ []) ≡ true = all_back is_spelled (flat_map spell_table tables) (End ∷ []) e in absurd (cc)
+
+-- what was read is what led to a place
+
+module _ (p : Place) (x : Symbol) (xs : List Symbol) (q : Place) (later : (o : Place) → run (Some o) xs ≡ Some q → before q ≡ before o ++ xs) where
+  read_by : (o : Option Place) → step p x ≡ o → run o xs ≡ Some q → before q ≡ before p ++ x ∷ xs
+  unfolding run
+  read_by None e h = absurd (cc)
+  read_by (Some o) e h = later o h ∙ (ap (λ front. front ++ xs) (step_read p x o e) ∙ append_assoc (before p) (x ∷ []) xs)
+
+pub run_read : (p : Place) (xs : List Symbol) (q : Place) → run (Some p) xs ≡ Some q → before q ≡ before p ++ xs
+unfolding run
+run_read p [] q e = ap before (unSome (sym e)) ∙ sym (append-nil (before p))
+run_read p (x ∷ xs) q e = read_by p x xs q (λ o h. run_read o xs q h) (step p x) refl e
+
+-- what the reading answers, in terms of where the symbols lead
+
+tree_at_ended : (p : Place) (at : ℕ) (tables : SchemaText) → tree_at p at ≡ Ok tables → p ≡ Ended tables
+tree_at_ended (Ended tables) at other e = let h : tables ≡ other = cc in ap Ended h
+tree_at_ended _ at other e = absurd (cc)
+
+pub tree_read : (o : Option Place) (at : ℕ) (later : List Token) (tables : SchemaText)
+    → syntax_from o at later ≡ Ok tables → run o (map symbol_of later) ≡ Some (Ended tables)
+unfolding run syntax_from
+tree_read None at later tables e = absurd (cc)
+tree_read (Some p) at [] tables e = ap Some (tree_at_ended p at tables e)
+tree_read (Some p) at (token ∷ later) tables e = tree_read (step p token.symbol) token.at later tables e
+
+-- the token at offset `at` led nowhere
+pub record Stops (p : Place) (later : List Token) (at : ℕ) : Type 0 where
+  pub count : ℕ
+  pub place : Place
+  pub token : Token
+  pub led : run (Some p) (take count (map symbol_of later)) ≡ Some place
+  pub here : slice_get later count ≡ Some token
+  pub refused : step place token.symbol ≡ None
+  pub offset : token.at ≡ at
+
+-- the tokens ended elsewhere than at the end
+pub record Exhausts (p : Place) (later : List Token) : Type 0 where
+  pub place : Place
+  pub led : run (Some p) (map symbol_of later) ≡ Some place
+  pub open_end : (tables : SchemaText) → place ≡ Ended tables → ⊥
+
+pub Stopped : Option Place → (now : ℕ) → List Token → (at : ℕ) → Type 0
+Stopped None now later at = now ≡ at
+Stopped (Some p) now later at = Stops p later at ⊎ Exhausts p later
+
+tree_at_open : (p : Place) (now at : ℕ) (tables : SchemaText) → tree_at p now ≡ Err at → p ≡ Ended tables → ⊥
+tree_at_open (Ended tables) now at other e h = absurd (cc)
+tree_at_open (Between tables) now at other e h = absurd (cc)
+tree_at_open (AfterCreate tables) now at other e h = absurd (cc)
+tree_at_open (AfterTable tables) now at other e h = absurd (cc)
+tree_at_open (AfterName tables name) now at other e h = absurd (cc)
+tree_at_open (WantsColumn tables name columns) now at other e h = absurd (cc)
+tree_at_open (Within tables name columns last) now at other e h = absurd (cc)
+tree_at_open (AfterColumns tables name columns last) now at other e h = absurd (cc)
+
+stopped_after : (p : Place) (token : Token) (later : List Token) (now at : ℕ) (o : Option Place)
+    → step p token.symbol ≡ o → Stopped o token.at later at → Stopped (Some p) now (token ∷ later) at
+unfolding run Stopped
+stopped_after p token later now at None e h =
+    inl (record { count = 0; place = p; token = token; led = refl; here = refl; refused = e; offset = h })
+stopped_after p token later now at (Some q) e (inl h) =
+    inl (record {
+      count = suc h.count;
+      place = h.place;
+      token = h.token;
+      led = ap (λ o. run o (take h.count (map symbol_of later))) e ∙ h.led;
+      here = h.here;
+      refused = h.refused;
+      offset = h.offset })
+stopped_after p token later now at (Some q) e (inr h) =
+    inr (record { place = h.place; led = ap (λ o. run o (map symbol_of later)) e ∙ h.led; open_end = h.open_end })
+
+pub fault_read : (o : Option Place) (now : ℕ) (later : List Token) (at : ℕ) → syntax_from o now later ≡ Err at → Stopped o now later at
+unfolding run syntax_from Stopped
+fault_read None now later at e = let h : now ≡ at = cc in h
+fault_read (Some p) now [] at e = inr (record { place = p; led = refl; open_end = λ tables h. tree_at_open p now at tables e h })
+fault_read (Some p) now (token ∷ later) at e =
+    stopped_after p token later now at (step p token.symbol) refl (fault_read (step p token.symbol) token.at later at e)
