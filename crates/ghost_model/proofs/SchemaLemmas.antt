@@ -1,15 +1,17 @@
 -- The places of a schema's text say what its grammar says: each step reads one symbol, the symbols of each tree lead
 -- from the start to the end, and from each place before the end some symbols complete a tree.
-use Rattle.std.proofs.Common.{◌≡◌, ℕ, ◌+◌, Bool, true, false, ◌&&◌, List, [], ◌∷◌, ◌++◌, map, take, Option, Some, None, option_map, Result, Ok, Err, flat_map, ◌⊎◌, inl, inr, suc, slice_get, codes, bytes_eq, if◌then◌else◌, refl, sym, ap, ◌∙◌, append_assoc, append-nil}
+use Rattle.std.proofs.Common.{◌≡◌, ℕ, ◌+◌, Bool, true, false, ◌&&◌, List, [], ◌∷◌, ◌++◌, map, take, drop, length, ◌<◌, ◌≤◌, zero, subst, arith, add-one, Option, Some, None, option_map, Result, Ok, Err, flat_map, ◌⊎◌, inl, inr, suc, slice_get, codes, bytes_eq, if◌then◌else◌, refl, sym, ap, ◌∙◌, append_assoc, append-nil}
 use Rattle.std.proofs.lemmas.Grind.{flat_map-append}
 use Rattle.std.proofs.lemmas.Slice.Eq.{bytes_eq-Decides}
 use Rattle.std.proofs.lemmas.List.Folds.{list_all-append}
 use Rattle.std.specs.List.{list_all}
-use Rattle.ghost_model.specs.Spelled.{is_spelled, is_name, is_number}
-use Rattle.ghost_model.specs.Tokens.{symbol_of, Symbol, Token, Keyword, Word, Name, Digits, Open, Closing, Comma, Semicolon, End, Char, Create, Hidden, Integer, Key, Primary, References, Table}
-use Rattle.ghost_model.specs.Grammar.{separated, begun}
+use Rattle.std.proofs.lemmas.Option.{slice_get_within, slice_get-map}
+use Rattle.std.proofs.lemmas.List.{take-append-drop, take-append-le, length-append}
+use Rattle.ghost_model.specs.Spelled.{IsBeforeEnd, is_spelled, is_name, is_number}
+use Rattle.ghost_model.specs.Tokens.{symbol_of, symbols, tokens, offset_of, Symbol, Token, Keyword, Word, Name, Digits, Open, Closing, Comma, Semicolon, End, Char, Create, Hidden, Integer, Key, Primary, References, Table}
+use Rattle.ghost_model.specs.Grammar.{Spells, IsViable, IsFault, IsSyntaxFault, separated, begun}
 use Rattle.ghost_model.specs.SchemaGrammar.{Reference, To, ColumnText, CharColumn, IntegerColumn, TableText, SchemaText, spell_hidden, spell_primary, spell_reference, spell_column, spell_heading, spell_table, spelling}
-use Rattle.ghost_model.specs.SchemaPlaces.{InColumn, Named, AfterChar, AfterOpen, AfterLength, AfterPrimary, AfterReferences, OpensId, AfterId, Whole, Place, Between, AfterCreate, AfterTable, AfterName, WantsColumn, Within, AfterColumns, Ended, before_in, before, table_from, after_integer, after_column, after_parenthesis, step_in, step_within, step, tree_at, syntax_from, syntax_of}
+use Rattle.ghost_model.specs.SchemaPlaces.{InColumn, Named, AfterChar, AfterOpen, AfterLength, AfterPrimary, AfterReferences, OpensId, AfterId, Whole, Place, Between, AfterCreate, AfterTable, AfterName, WantsColumn, Within, AfterColumns, Ended, before_in, before, table_from, after_integer, after_column, after_parenthesis, step_in, step_within, step, tree_at, syntax_from, syntax_of, SchemaPlacesAreExact}
 
 unSome : {X : Type 0} {a b : X} → Some a ≡ Some b → a ≡ b
 unSome e = cc
@@ -432,3 +434,85 @@ fault_read None now later at e = let h : now ≡ at = cc in h
 fault_read (Some p) now [] at e = inr (record { place = p; led = refl; open_end = λ tables h. tree_at_open p now at tables e h })
 fault_read (Some p) now (token ∷ later) at e =
     stopped_after p token later now at (step p token.symbol) refl (fault_read (step p token.symbol) token.at later at e)
+
+-- fronts of lists of symbols
+
+more_taken : {X : Type 0} (xs : List X) (k : ℕ) (x : X) → slice_get xs k ≡ Some x → take (suc k) xs ≡ take k xs ++ x ∷ []
+more_taken [] k x e = absurd (cc)
+more_taken (y ∷ ys) zero x e = ap (λ head. head ∷ []) (unSome e)
+more_taken (y ∷ ys) (suc k) x e = ap (λ tail. y ∷ tail) (more_taken ys k x e)
+
+-- a shorter front is a front of a longer one
+front_of_front : {X : Type 0} (j k : ℕ) (xs : List X) → j ≤ k → take j xs ++ drop j (take k xs) ≡ take k xs
+front_of_front zero k xs h = refl
+front_of_front (suc j) zero xs h = absurd (omega arith)
+front_of_front (suc j) (suc k) [] h = refl
+front_of_front (suc j) (suc k) (x ∷ xs) h = ap (λ tail. x ∷ tail) (front_of_front j k xs (omega arith))
+
+viable_front : {Tree : Type 0} (spell : Tree → List Symbol) (xs ys : List Symbol) → IsViable spell (xs ++ ys) → IsViable spell xs
+viable_front spell xs ys v = record {
+  text = v.text;
+  tree = v.tree;
+  spells = v.spells;
+  rest = ys ++ v.rest;
+  begins = sym (append_assoc xs ys v.rest) ∙ v.begins }
+
+-- no fault stands before another
+fault_not_before : {Tree : Type 0} (spell : Tree → List Symbol) (given : List Symbol) (j k : ℕ)
+    → IsFault spell given j → IsFault spell given k → j < k → ⊥
+fault_not_before spell given j k f g h =
+    f.dead (viable_front spell (take (j + 1) given) (drop (j + 1) (take k given))
+        (subst (IsViable spell) (sym (front_of_front (j + 1) k given (omega arith))) g.viable))
+
+one_place : {Tree : Type 0} (spell : Tree → List Symbol) (given : List Symbol) (j k : ℕ) → IsFault spell given j → IsFault spell given k → j ≡ k
+one_place spell given j k f g =
+    let a : j < k → ⊥ = fault_not_before spell given j k f g in
+    let b : k < j → ⊥ = fault_not_before spell given k j g f in
+    omega arith
+
+pub one_syntax_fault : {Tree : Type 0} (spell : Tree → List Symbol) (text : List ℕ) (a b : ℕ) → IsSyntaxFault spell text a → IsSyntaxFault spell text b → a ≡ b
+one_syntax_fault spell text a b f g =
+    let h : f.place ≡ g.place = one_place spell (symbols text) f.place g.place f.fault g.fault in
+    unSome (sym f.offset ∙ (ap (offset_of text) h ∙ g.offset))
+
+-- a text of the grammar has no fault
+pub no_syntax_fault : {Tree : Type 0} (spell : Tree → List Symbol) (text : List ℕ) (tree : Tree) (at : ℕ) → Spells spell text tree → IsSyntaxFault spell text at → ⊥
+no_syntax_fault spell text tree at e f =
+    f.fault.dead (record {
+      text = text;
+      tree = tree;
+      spells = e;
+      rest = drop (f.place + 1) (symbols text);
+      begins = take-append-drop (f.place + 1) (symbols text) })
+
+-- the law
+
+end_ends : (p q : Place) → step p End ≡ Some q → (tables : SchemaText) × (q ≡ Ended tables)
+end_ends (Between tables) q e = (tables, unSome (sym e))
+end_ends (AfterCreate tables) q e = absurd (cc)
+end_ends (AfterTable tables) q e = absurd (cc)
+end_ends (AfterName tables name) q e = absurd (cc)
+end_ends (WantsColumn tables name columns) q e = absurd (cc)
+end_ends (Within tables name columns (Whole (CharColumn _ _ true))) q e = absurd (cc)
+end_ends (Within tables name columns (Whole (CharColumn _ _ false))) q e = absurd (cc)
+end_ends (Within tables name columns (Whole (IntegerColumn _ _ _ true))) q e = absurd (cc)
+end_ends (Within tables name columns (Whole (IntegerColumn _ true None false))) q e = absurd (cc)
+end_ends (Within tables name columns (Whole (IntegerColumn _ false None false))) q e = absurd (cc)
+end_ends (Within tables name columns (Whole (IntegerColumn _ true (Some (To _ true)) false))) q e = absurd (cc)
+end_ends (Within tables name columns (Whole (IntegerColumn _ true (Some (To _ false)) false))) q e = absurd (cc)
+end_ends (Within tables name columns (Whole (IntegerColumn _ false (Some (To _ true)) false))) q e = absurd (cc)
+end_ends (Within tables name columns (Whole (IntegerColumn _ false (Some (To _ false)) false))) q e = absurd (cc)
+end_ends (Within tables name columns _) q e = absurd (cc)
+end_ends (AfterColumns tables name columns last) q e = absurd (cc)
+end_ends (Ended tables) q e = absurd (cc)
+
+-- the end of a text leads to the end or nowhere
+last_by : (p q : Place) (o : Option Place) → step p End ≡ o → run o [] ≡ Some q → (tables : SchemaText) × (q ≡ Ended tables)
+unfolding run
+last_by p q None e h = absurd (cc)
+last_by p q (Some r) e h = end_ends p q (e ∙ h)
+
+last_leads : (o : Option Place) (q : Place) → run o (End ∷ []) ≡ Some q → (tables : SchemaText) × (q ≡ Ended tables)
+unfolding run
+last_leads None q e = absurd (cc)
+last_leads (Some p) q e = last_by p q (step p End) refl e
