@@ -2,7 +2,7 @@
 
 ghost use Rattle.ghost_model.specs.Frames.{FramesArePrefixFree};
 ghost use Rattle.ghost_model.specs.NextMove.{TwoWorldsWith};
-ghost use Rattle.ghost_model.specs.examples.Channel.{SpellingsOfFrames, ReadingsOfFrames};
+ghost use Rattle.ghost_model.specs.examples.Channel.{SpellingsOfFrames, ReadingsOfFrames, JournalOfTheNotes};
 
 /// No frame's spelling is a proper prefix of another's.
 pub fn frames_are_prefix_free()
@@ -26,5 +26,11 @@ pub fn spellings_of_frames()
 /// What bytes amount to that begin with a frame: the frame, a part of one, or none.
 pub fn readings_of_frames()
     ensures { ReadingsOfFrames }
+{
+}
+
+/// The whole session of one text over the notes, and its journal's file.
+pub fn journal_of_the_notes()
+    ensures { JournalOfTheNotes }
 {
 }

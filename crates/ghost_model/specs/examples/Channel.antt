@@ -1,11 +1,16 @@
 -- Frames, asks, journals and what the host sends, for telling sessions. Bytes stand in hexadecimal.
-use Rattle.std.specs.Prelude.{◌≡◌, ℕ, pos, List, [], ◌∷◌, ◌++◌, codes, length, map, take, drop, Some, None, Result, Ok, Err}
+use Rattle.std.specs.Prelude.{◌≡◌, ℕ, ◌+◌, pos, List, [], ◌∷◌, ◌++◌, codes, length, map, take, drop, Some, None, Result, Ok, Err}
 use Rattle.hex.specs.Hex.{decode_of, encode_lower}
 use Rattle.hex.specs.declared.error.FromHexError.{FromHexError}
-use Rattle.ghost_model.specs.Channel.{Frame, Hello, Asking, More, Bye, Welcome, Replied, Done, Sorry}
+use Rattle.ghost_model.specs.Values.{Text}
+use Rattle.ghost_model.specs.Query as query
+use Rattle.ghost_model.specs.Channel.{Frame, Hello, Asking, More, Bye, Welcome, Replied, Done, Sorry, Catalog, Ask, Test, Move, Dial, Send, Take, Close, Answer, Made, Piece, Entry, Journal}
+use Rattle.ghost_model.specs.Asks.{Asked, asked, asks_of, ask_payload, ask_in, row_width, row_in, rows_in}
+use Rattle.ghost_model.specs.Moves.{lines}
+use Rattle.ghost_model.specs.NextMove.{GoesOn, IsFinished}
 use Rattle.ghost_model.specs.Frames.{frame_bytes, Got, got_of, Found, Short, Bad}
 use Rattle.ghost_model.specs.Catalog.{catalog_bytes}
-use Rattle.ghost_model.specs.examples.Clinic.{clinic_catalog}
+use Rattle.ghost_model.specs.examples.Clinic.{clinic_schema, clinic_catalog, note_schema, note_catalog}
 
 abbrev pub bytes_or_none : Result (List ℕ) FromHexError → List ℕ
 bytes_or_none (Ok bytes) = bytes
@@ -62,3 +67,63 @@ pub record ReadingsOfFrames : Type 0 where
   pub more_without_a_serial : got (codes "0301000000000000") ≡ Bad 3
   pub sorry_of_zero : got (codes "140100010000000100") ≡ Bad 20
   pub welcome_of_two : got (codes "11010002000000000241") ≡ Bad 17
+
+abbrev pub field : (table column : ℕ) → query.Field
+field table column = record { table = table; column = column }
+
+-- SELECT body FROM note WHERE topic = 'a'
+abbrev pub topic_query : query.Query
+topic_query = record {
+  from = 0 ∷ [];
+  select = field 0 2 ∷ [];
+  conditions = query.Compare (field 0 1) query.Equal (Text (codes "a")) ∷ [] }
+
+abbrev pub entry : Move → Answer → Entry
+entry move answer = record { move = move; answer = answer }
+
+-- a dial, a frame sent, and bytes taken that were asked for, given in hexadecimal
+abbrev pub dialled : List ℕ → Entry
+dialled at = entry (Dial at) Made
+
+abbrev pub sends : Frame → Entry
+sends frame = entry (Send (frame_bytes frame)) Made
+
+abbrev pub takes : ℕ → List ℕ → Entry
+takes most text = entry (Take most) (Piece (hex text))
+
+-- the payload of the one WELCOME frame of a small catalog
+abbrev pub welcomed : Catalog → Entry
+welcomed catalog = entry (Take (length (catalog_bytes catalog) + 1)) (Piece (1 ∷ catalog_bytes catalog))
+
+abbrev pub closed : Entry
+closed = entry Close Made
+
+-- the session of the text above
+abbrev pub topic_journal : Journal
+topic_journal =
+    dialled []
+    ∷ sends (Hello 1)
+    ∷ takes 8 (codes "1101006500000000")
+    ∷ welcomed note_catalog
+    ∷ sends topic_ask
+    ∷ takes 8 (codes "1201000800000001")
+    ∷ takes 8 (codes "0000000100000003")
+    ∷ sends (More 1)
+    ∷ takes 8 (codes "1301000400000001")
+    ∷ takes 4 (codes "00000002")
+    ∷ sends Bye
+    ∷ closed
+    ∷ []
+
+abbrev pub asks_of_text : List Ask → List Asked
+asks_of_text asks = map (asked 1) asks
+
+pub record JournalOfTheNotes : Type 0 where
+  pub payloads : map (ask_payload note_schema) (asks_of note_schema topic_query) ≡ hex (codes "000001010161000000") ∷ []
+  pub proper : GoesOn note_catalog [] (asks_of_text (asks_of note_schema topic_query)) [] topic_journal
+  pub finished : IsFinished topic_journal
+  pub file :
+    lines topic_journal
+    ≡ codes "dial ok\nsend 010100040000000000000001 ok\ntake 8 1101006500000000\ntake 101 01"
+      ++ (encode_lower (catalog_bytes note_catalog)
+      ++ codes "\nsend 0201000900000001000001010161000000 ok\ntake 8 1201000800000001\ntake 8 0000000100000003\nsend 0301000000000001 ok\ntake 8 1301000400000001\ntake 4 00000002\nsend 0401000000000000 ok\nclose\n")
