@@ -2,7 +2,7 @@
 
 ghost use Rattle.ghost_model.specs.Frames.{FramesArePrefixFree};
 ghost use Rattle.ghost_model.specs.NextMove.{TwoWorldsWith};
-ghost use Rattle.ghost_model.specs.examples.Channel.{SpellingsOfFrames, ReadingsOfFrames, JournalOfTheNotes};
+ghost use Rattle.ghost_model.specs.examples.Channel.{SpellingsOfFrames, ReadingsOfFrames, JournalOfTheNotes, AsksOfQueries, AsksOfBytes, JournalOfTheClinic, JournalWithoutAsks, InvalidFrames, FramesThatAreDue};
 
 /// No frame's spelling is a proper prefix of another's.
 pub fn frames_are_prefix_free()
@@ -32,5 +32,41 @@ pub fn readings_of_frames()
 /// The whole session of one text over the notes, and its journal's file.
 pub fn journal_of_the_notes()
     ensures { JournalOfTheNotes }
+{
+}
+
+/// The asks of telling queries, as bytes.
+pub fn asks_of_queries()
+    ensures { AsksOfQueries }
+{
+}
+
+/// The asks that bytes spell, and bytes that spell none.
+pub fn asks_of_bytes()
+    ensures { AsksOfBytes }
+{
+}
+
+/// The whole session of one text over the clinic.
+pub fn journal_of_the_clinic()
+    ensures { JournalOfTheClinic }
+{
+}
+
+/// The session of a script that asks for nothing.
+pub fn journal_without_asks()
+    ensures { JournalWithoutAsks }
+{
+}
+
+/// Frames that are invalid in their place, each with its kind and the bytes taken before it.
+pub fn invalid_frames()
+    ensures { InvalidFrames }
+{
+}
+
+/// The frames that received bytes make due.
+pub fn frames_that_are_due()
+    ensures { FramesThatAreDue }
 {
 }
