@@ -2,7 +2,7 @@
 
 ghost use Rattle.ghost_model.specs.Frames.{FramesArePrefixFree};
 ghost use Rattle.ghost_model.specs.NextMove.{TwoWorldsWith};
-ghost use Rattle.ghost_model.specs.examples.Channel.{SpellingsOfFrames, ReadingsOfFrames, JournalOfTheNotes, AsksOfQueries, AsksOfBytes, JournalOfTheClinic, JournalWithoutAsks, InvalidFrames, FramesThatAreDue};
+ghost use Rattle.ghost_model.specs.examples.Channel.{SpellingsOfFrames, ReadingsOfFrames, JournalOfTheNotes, AsksOfQueries, AsksOfBytes, JournalOfTheClinic, JournalWithoutAsks, InvalidFrames, FramesThatAreDue, AnswersOfTheHost};
 
 /// No frame's spelling is a proper prefix of another's.
 pub fn frames_are_prefix_free()
@@ -68,5 +68,11 @@ pub fn invalid_frames()
 /// The frames that received bytes make due.
 pub fn frames_that_are_due()
     ensures { FramesThatAreDue }
+{
+}
+
+/// What hosts say to the frames of a key, and the frames at which they stop.
+pub fn answers_of_the_host()
+    ensures { AnswersOfTheHost }
 {
 }

@@ -1,15 +1,16 @@
 -- Frames, asks, journals and what the host sends, for telling sessions. Bytes stand in hexadecimal.
-use Rattle.std.specs.Prelude.{◌≡◌, ℕ, ◌+◌, pos, negsuc, List, [], ◌∷◌, ◌++◌, codes, length, map, take, drop, Option, Some, None, Result, Ok, Err}
+use Rattle.std.specs.Prelude.{◌≡◌, ℕ, zero, suc, flat_map, ◌+◌, pos, negsuc, List, [], ◌∷◌, ◌++◌, codes, length, map, take, drop, Option, Some, None, Result, Ok, Err}
 use Rattle.hex.specs.Hex.{decode_of, encode_lower}
 use Rattle.hex.specs.declared.error.FromHexError.{FromHexError}
 use Rattle.ghost_model.specs.Values.{Number, Text}
 use Rattle.ghost_model.specs.Query as query
 use Rattle.ghost_model.specs.Channel.{Frame, Hello, Asking, More, Bye, Welcome, Replied, Done, Sorry, Catalog, Ask, Test, Move, Dial, Send, Take, Close, Answer, Made, Piece, Entry, Journal}
-use Rattle.ghost_model.specs.Asks.{Asked, asked, asks_of, ask_payload, ask_in, row_width}
+use Rattle.ghost_model.specs.Asks.{Asked, asked, asks_of, ask_payload, ask_in, row_width, ReplyRow}
 use Rattle.ghost_model.specs.Moves.{lines}
 use Rattle.ghost_model.specs.NextMove.{GoesOn, IsFinished, InvalidFrame, invalid_frame, heard, due, Answered, Refused, Ended, ended}
-use Rattle.ghost_model.specs.Frames.{frame_bytes, Got, got_of, Found, Short, Bad}
+use Rattle.ghost_model.specs.Frames.{frame_bytes, kind_of, payload_of, Got, got_of, Found, Short, Bad}
 use Rattle.ghost_model.specs.Catalog.{catalog_bytes}
+use Rattle.ghost_model.specs.Host.{Holding, host_says, bad_request}
 use Rattle.ghost_model.specs.examples.Clinic.{clinic_schema, clinic_catalog, note_schema, note_catalog}
 
 abbrev pub bytes_or_none : Result (List ℕ) FromHexError → List ℕ
@@ -309,3 +310,44 @@ pub record FramesThatAreDue : Type 0 where
   pub nothing_after_an_invalid_frame :
     due clinic_catalog cardio_asks (after_welcome (codes "130100040000000100000001130100040000000100000000"))
     ≡ Hello 1 ∷ Asking 1 cardio_payload ∷ []
+
+abbrev pub cardio_row : ℕ → ReplyRow
+cardio_row identifier = record { identifier = identifier; cells = hex (codes "63617264696f0000") }
+
+-- the clinic's host, whose cardiologists are doctors 1 and 3
+abbrev pub clinic_host : Holding
+clinic_host = record { catalog = clinic_catalog; rows = λ ask. cardio_row 1 ∷ cardio_row 3 ∷ [] }
+
+-- a host that holds so many notes of which no cell is asked for
+abbrev pub counting : (identifier : ℕ) (count : ℕ) → List ReplyRow
+counting identifier zero = []
+counting identifier (suc count) = record { identifier = identifier; cells = [] } ∷ counting (identifier + 1) count
+
+abbrev pub note_host : ℕ → Holding
+note_host count = record { catalog = note_catalog; rows = λ ask. counting 1 count }
+
+abbrev pub key_bytes : List Frame → List ℕ
+key_bytes frames = flat_map frame_bytes frames
+
+-- the kinds of frames, and the lengths of their payloads
+abbrev pub shape_of : Frame → List ℕ
+shape_of frame = kind_of frame ∷ length (payload_of frame) ∷ []
+
+pub record AnswersOfTheHost : Type 0 where
+  pub a_session :
+    host_says clinic_host (key_bytes (Hello 1 ∷ cardio_ask ∷ More 1 ∷ Bye ∷ []))
+    ≡ Welcome 1 (catalog_bytes clinic_catalog) ∷ cardio_rows ∷ Done 1 2 ∷ []
+  pub another_generation : host_says clinic_host (key_bytes (Hello 7 ∷ [])) ≡ Welcome 1 (catalog_bytes clinic_catalog) ∷ []
+  pub no_row :
+    map shape_of (host_says (note_host 0) (key_bytes (Hello 1 ∷ topic_ask ∷ Bye ∷ []))) ≡ (17 ∷ 101 ∷ []) ∷ (19 ∷ 4 ∷ []) ∷ []
+  pub as_many_rows_as_fit :
+    map shape_of (host_says (note_host 511) (key_bytes (Hello 1 ∷ topic_ask ∷ More 1 ∷ More 1 ∷ Bye ∷ [])))
+    ≡ (17 ∷ 101 ∷ []) ∷ (18 ∷ 2040 ∷ []) ∷ (18 ∷ 4 ∷ []) ∷ (19 ∷ 4 ∷ []) ∷ []
+  pub nothing_after_a_wrong_serial :
+    host_says clinic_host (key_bytes (Hello 1 ∷ Asking 2 cardio_payload ∷ Bye ∷ [])) ≡ Welcome 1 (catalog_bytes clinic_catalog) ∷ []
+  pub no_such_table : bad_request clinic_host (key_bytes (Hello 1 ∷ Asking 1 (hex (codes "030000")) ∷ [])) ≡ invalid 2 12
+  pub a_second_hello : bad_request clinic_host (key_bytes (Hello 1 ∷ Hello 1 ∷ [])) ≡ invalid 1 12
+  pub bye_within_a_reply : bad_request clinic_host (key_bytes (Hello 1 ∷ cardio_ask ∷ Bye ∷ [])) ≡ invalid 4 34
+  pub a_frame_of_a_host : bad_request clinic_host (key_bytes (Done 1 1 ∷ [])) ≡ invalid 19 0
+  pub no_such_kind : bad_request clinic_host (key_bytes (Hello 1 ∷ []) ++ hex (codes "0501000000000000")) ≡ invalid 5 12
+  pub nothing_is_read_after_bye : bad_request clinic_host (key_bytes (Hello 1 ∷ Bye ∷ Bye ∷ [])) ≡ None
