@@ -1,7 +1,7 @@
 //! Laws and examples of frames, asks, journals and of what the host sends.
 
 ghost use Rattle.ghost_model.specs.Frames.{FramesArePrefixFree};
-ghost use Rattle.ghost_model.specs.NextMove.{TwoWorldsWith};
+ghost use Rattle.ghost_model.specs.NextMove.{TwoWorlds};
 ghost use Rattle.ghost_model.specs.examples.Channel.{SpellingsOfFrames, ReadingsOfFrames, JournalOfTheNotes, AsksOfQueries, AsksOfBytes, JournalOfTheClinic, JournalWithoutAsks, InvalidFrames, FramesThatAreDue, AnswersOfTheHost};
 
 /// No frame's spelling is a proper prefix of another's.
@@ -13,7 +13,7 @@ pub fn frames_are_prefix_free()
 /// Two proper journals for the same catalog, address and texts whose first answers agree have the same moves up to and
 /// with the one after these.
 pub fn two_worlds()
-    ensures { TwoWorldsWith }
+    ensures { TwoWorlds }
 {
 }
 
