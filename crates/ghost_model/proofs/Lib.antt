@@ -2,5 +2,6 @@ mod TokenLemmas
 mod GrammarLemmas
 mod SchemaLemmas
 mod QueryLemmas
+mod QueryReadingLemmas
 mod ChannelLemmas
 mod MeaningLemmas

@@ -1,11 +1,18 @@
 //! Laws and examples of query texts.
 
 ghost use Rattle.ghost_model.specs.QueryPlaces.{QueryPlacesAreExact};
+ghost use Rattle.ghost_model.specs.QueryReading.{OneReading};
 ghost use Rattle.ghost_model.specs.examples.Queries.{RefusalsInOrder};
 
 /// Following the places of the grammar tells exactly the trees of texts, and exactly their syntax faults.
 pub fn query_places_are_exact()
     ensures { QueryPlacesAreExact }
+{
+}
+
+/// Each text has one meaning or one refusal over a schema, and the reading tells which.
+pub fn one_reading()
+    ensures { OneReading }
 {
 }
 
