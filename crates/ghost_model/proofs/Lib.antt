@@ -3,5 +3,6 @@ mod TextLemmas
 mod GrammarLemmas
 mod SchemaLemmas
 mod QueryLemmas
+mod QueryReadingLemmas
 mod ChannelLemmas
 mod MeaningLemmas
