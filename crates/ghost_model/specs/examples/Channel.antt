@@ -5,9 +5,9 @@ use Rattle.hex.specs.declared.error.FromHexError.{FromHexError}
 use Rattle.ghost_model.specs.Values.{Number, Text}
 use Rattle.ghost_model.specs.Query as query
 use Rattle.ghost_model.specs.Channel.{Frame, Hello, Asking, More, Bye, Welcome, Replied, Done, Sorry, Catalog, Ask, Test, Move, Dial, Send, Take, Close, Answer, Made, Piece, Entry, Journal}
-use Rattle.ghost_model.specs.Asks.{Asked, asked, asks_of, ask_payload, ask_in, row_width, ReplyRow}
+use Rattle.ghost_model.specs.Asks.{Asked, asked, asked_of, asks_of, ask_payload, ask_in, row_width, ReplyRow}
 use Rattle.ghost_model.specs.Moves.{lines}
-use Rattle.ghost_model.specs.NextMove.{GoesOn, IsFinished, InvalidFrame, invalid_frame, heard, due, Answered, Refused, Ended, ended}
+use Rattle.ghost_model.specs.NextMove.{IsProper, IsFinished, InvalidFrame, invalid_frame, heard, due, Answered, Refused, Ended, ended}
 use Rattle.ghost_model.specs.Frames.{frame_bytes, kind_of, payload_of, Got, got_of, Found, Short, Bad}
 use Rattle.ghost_model.specs.Catalog.{catalog_bytes}
 use Rattle.ghost_model.specs.Host.{Holding, host_says, bad_request}
@@ -72,7 +72,9 @@ pub record ReadingsOfFrames : Type 0 where
 abbrev pub field : (table column : ℕ) → query.Field
 field table column = record { table = table; column = column }
 
--- SELECT body FROM note WHERE topic = 'a'
+abbrev pub topic_text : List ℕ
+topic_text = codes "SELECT body FROM note WHERE topic = 'a'"
+
 abbrev pub topic_query : query.Query
 topic_query = record {
   from = 0 ∷ [];
@@ -121,7 +123,7 @@ asks_of_text asks = map (asked 1) asks
 
 pub record JournalOfTheNotes : Type 0 where
   pub payloads : map (ask_payload note_schema) (asks_of note_schema topic_query) ≡ hex (codes "000001010161000000") ∷ []
-  pub proper : GoesOn note_catalog [] (asks_of_text (asks_of note_schema topic_query)) [] topic_journal
+  pub proper : IsProper note_catalog [] (topic_text ∷ []) topic_journal
   pub finished : IsFinished topic_journal
   pub file :
     lines topic_journal
@@ -129,7 +131,10 @@ pub record JournalOfTheNotes : Type 0 where
       ++ (encode_lower (catalog_bytes note_catalog)
       ++ codes "\nsend 0201000900000001000001010161000000 ok\ntake 8 1201000800000001\ntake 8 0000000100000003\nsend 0301000000000001 ok\ntake 8 1301000400000001\ntake 4 00000002\nsend 0401000000000000 ok\nclose\n")
 
--- SELECT visit.id, specialty FROM visit, doctor WHERE doc = doctor.id AND specialty = 'cardio' AND purpose = 'flu'
+abbrev pub cardio_text : List ℕ
+cardio_text =
+    codes "SELECT visit.id, specialty FROM visit, doctor WHERE doc = doctor.id AND specialty = 'cardio' AND purpose = 'flu'"
+
 abbrev pub cardio_query : query.Query
 cardio_query = record {
   from = 2 ∷ 0 ∷ [];
@@ -138,7 +143,9 @@ cardio_query = record {
     query.Join (field 2 3) (field 0 0) ∷ query.Compare (field 0 1) query.Equal (Text (codes "cardio"))
     ∷ query.Compare (field 2 2) query.Equal (Text (codes "flu")) ∷ [] }
 
--- SELECT name FROM patient WHERE name = 'Ann'
+abbrev pub name_text : List ℕ
+name_text = codes " SELECT name FROM patient WHERE name = 'Ann'"
+
 abbrev pub name_query : query.Query
 name_query = record {
   from = 1 ∷ [];
@@ -149,7 +156,9 @@ name_query = record {
 abbrev pub day_query : query.Query
 day_query = record { from = 2 ∷ []; select = field 2 1 ∷ []; conditions = [] }
 
--- SELECT visit.id, day FROM visit WHERE day >= 2
+abbrev pub late_text : List ℕ
+late_text = codes " SELECT visit.id, day FROM visit WHERE day >= 2"
+
 abbrev pub late_query : query.Query
 late_query = record {
   from = 2 ∷ [];
@@ -182,6 +191,9 @@ pub record AsksOfQueries : Type 0 where
   pub a_column_alone : payloads day_query ≡ codes "02010100" ∷ []
   pub a_column_and_its_condition : payloads late_query ≡ codes "0201010101068000000000000002" ∷ []
   pub the_lowest_number : payloads any_age_query ≡ codes "01000101060000000000000000" ∷ []
+  pub of_texts :
+    asked_of clinic_schema (cardio_text ∷ name_text ∷ codes "SELECT age patient" ∷ late_text ∷ [])
+    ≡ map (asked 1) (asks_of clinic_schema cardio_query) ++ map (asked 4) (asks_of clinic_schema late_query)
   pub two_tables_in_their_own_order : payloads both_query ≡ codes "00010100" ∷ codes "020101020106800000000000000201048000000000000005" ∷ []
 
 -- the ask that bytes in hexadecimal spell over the clinic
@@ -227,7 +239,7 @@ cardio_journal =
     ∷ []
 
 pub record JournalOfTheClinic : Type 0 where
-  pub proper : GoesOn clinic_catalog [] cardio_asks [] cardio_journal
+  pub proper : IsProper clinic_catalog [] (cardio_text ∷ []) cardio_journal
   pub finished : IsFinished cardio_journal
 
 -- the session of a script without an ask
@@ -236,7 +248,8 @@ silent_journal =
     dialled [] ∷ sends (Hello 1) ∷ takes 8 (codes "1101016e00000000") ∷ welcomed clinic_catalog ∷ sends Bye ∷ closed ∷ []
 
 pub record JournalWithoutAsks : Type 0 where
-  pub proper : GoesOn clinic_catalog [] [] [] silent_journal
+  pub proper : IsProper clinic_catalog [] [] silent_journal
+  pub also_for_hidden_columns_alone : IsProper clinic_catalog [] (name_text ∷ []) silent_journal
   pub finished : IsFinished silent_journal
 
 -- the clinic's one WELCOME frame, and received bytes that follow it, in hexadecimal
