@@ -1,3 +1,5 @@
+pub mod Clinic
+pub mod Cells
 pub mod Tokens
 pub mod Schemas
 pub mod Queries
