@@ -9,9 +9,9 @@ use Rattle.ghost_model.specs.Tokens.{Token, tokens, symbol_of, symbols, offset_o
 use Rattle.ghost_model.specs.Grammar.{Spells, IsSyntaxFault, separated, begun}
 use Rattle.ghost_model.specs.Spelled.{is_spelled, is_name, is_number}
 use Rattle.ghost_model.specs.QueryGrammar.{ColumnText, Bare, Qualified, Sign, Positive, Negative, LiteralText, Unsigned, Signed, Written, ConditionText, Compares, LiesBetween, Joins, Selection, All, Columns, QueryText, spell_column, spell_sign, spell_operator, spell_literal, spell_condition, spell_table, spell_selection, spell_where, spelling}
-use Rattle.ghost_model.specs.QueryPlaces.{ColumnPart, WantsColumn, HasTablePoint, HasColumn, ConditionPart, WantsLeft, HasLeftPoint, HasLeft, HasOperator, HasSign, HasRightPoint, WantsLow, HasLowSign, HasLow, WantsHigh, HasHighSign, HasCondition, Place, Start, HasStar, InSelect, WantsTable, HasTable, InWhere, Whole, first_item, other_items, selection_of, query_text, in_column, in_condition, before, step_in_column, step_in_condition, step_in_select, step_in_where, step, whole_text, read_from, syntax_of}
+use Rattle.ghost_model.specs.QueryPlaces.{ColumnPart, WantsColumn, HasTablePoint, HasColumn, ConditionPart, WantsLeft, HasLeftPoint, HasLeft, HasOperator, HasSign, HasRightPoint, WantsLow, HasLowSign, HasLow, WantsHigh, HasHighSign, HasCondition, Place, Start, HasStar, InSelect, WantsTable, HasTable, InWhere, Whole, first_item, other_items, selection_of, query_text, in_column, in_condition, before, step_in_column, step_in_condition, step_in_select, step_in_where, step, whole_text, read_from, syntax_of, IsStuck}
 use Rattle.ghost_model.proofs.TokenLemmas.{before_end}
-use Rattle.ghost_model.proofs.GrammarLemmas.{front, final, front_final, more_begun, separated_made, spelled_parts, no_end_inside, spelled_front, viable_front, run, run-append, dead_after, fault_after, no_fault, one_fault}
+use Rattle.ghost_model.proofs.GrammarLemmas.{front, final, front_final, begun_before, more_begun, separated_made, spelled_parts, no_end_inside, spelled_front, viable_front, run, run-append, dead_after, fault_after, no_fault, one_fault}
 
 -- a step adds its symbol to what was read
 column_step : (symbol : Symbol) (part : ColumnPart)
@@ -299,6 +299,109 @@ leads tree =
     ∙ tables_run tree.selection [] tree.table tree.more_tables (spell_where tree.conditions ++ End ∷ [])
     ∙ where_run tree.selection tree.table tree.more_tables tree.conditions
 
+-- each place is reached by the symbols before it
+begun_columns_run : (done xs : List ColumnText) (rest : List Symbol)
+  → run step (InSelect done WantsColumn) (begun Comma spell_column xs ++ rest) ≡ run step (InSelect (done ++ xs) WantsColumn) rest
+begun_columns_run done [] rest = ap (λ d. run step (InSelect d WantsColumn) rest) (sym (append-nil done))
+begun_columns_run done (x ∷ xs) rest =
+    ap (run step (InSelect done WantsColumn)) (begun_before Comma spell_column x xs rest)
+    ∙ column_run done x _
+    ∙ begun_columns_run (done ++ x ∷ []) xs rest
+    ∙ ap (λ d. run step (InSelect d WantsColumn) rest) (append_assoc done (x ∷ []) xs)
+
+begun_tables_run : (selection : Selection) (done xs : List (List ℕ)) (rest : List Symbol)
+  → run step (WantsTable selection done) (begun Comma spell_table xs ++ rest) ≡ run step (WantsTable selection (done ++ xs)) rest
+begun_tables_run selection done [] rest = ap (λ d. run step (WantsTable selection d) rest) (sym (append-nil done))
+begun_tables_run selection done (x ∷ xs) rest =
+    begun_tables_run selection (done ++ x ∷ []) xs rest
+    ∙ ap (λ d. run step (WantsTable selection d) rest) (append_assoc done (x ∷ []) xs)
+
+begun_conditions_run : (selection : Selection) (table : List ℕ) (more : List (List ℕ)) (done xs : List ConditionText) (rest : List Symbol)
+  → run step (InWhere selection table more done WantsLeft) (begun (Word And) spell_condition xs ++ rest)
+    ≡ run step (InWhere selection table more (done ++ xs) WantsLeft) rest
+begun_conditions_run selection table more done [] rest =
+    ap (λ d. run step (InWhere selection table more d WantsLeft) rest) (sym (append-nil done))
+begun_conditions_run selection table more done (x ∷ xs) rest =
+    ap (run step (InWhere selection table more done WantsLeft)) (begun_before (Word And) spell_condition x xs rest)
+    ∙ condition_run selection table more done x _
+    ∙ begun_conditions_run selection table more (done ++ x ∷ []) xs rest
+    ∙ ap (λ d. run step (InWhere selection table more d WantsLeft) rest) (append_assoc done (x ∷ []) xs)
+
+column_reached : (earlier : List ColumnText) (part : ColumnPart)
+  → run step (InSelect earlier WantsColumn) (in_column part) ≡ Some (InSelect earlier part)
+column_reached earlier WantsColumn = refl
+column_reached earlier (HasTablePoint table) = refl
+column_reached earlier (HasColumn (Bare name)) = refl
+column_reached earlier (HasColumn (Qualified table name)) = refl
+
+sign_run : (selection : Selection) (table : List ℕ) (more : List (List ℕ)) (done : List ConditionText) (column : ColumnText)
+  (operator : Operator) (sign : Sign)
+  → run step (InWhere selection table more done (HasOperator column operator)) (spell_sign sign ∷ [])
+    ≡ Some (InWhere selection table more done (HasSign column operator sign))
+sign_run selection table more done column operator Positive = refl
+sign_run selection table more done column operator Negative = refl
+
+low_sign_run : (selection : Selection) (table : List ℕ) (more : List (List ℕ)) (done : List ConditionText) (column : ColumnText) (sign : Sign)
+  → run step (InWhere selection table more done (WantsLow column)) (spell_sign sign ∷ [])
+    ≡ Some (InWhere selection table more done (HasLowSign column sign))
+low_sign_run selection table more done column Positive = refl
+low_sign_run selection table more done column Negative = refl
+
+high_sign_run : (selection : Selection) (table : List ℕ) (more : List (List ℕ)) (done : List ConditionText) (column : ColumnText)
+  (low : LiteralText) (sign : Sign)
+  → run step (InWhere selection table more done (WantsHigh column low)) (spell_sign sign ∷ [])
+    ≡ Some (InWhere selection table more done (HasHighSign column low sign))
+high_sign_run selection table more done column low Positive = refl
+high_sign_run selection table more done column low Negative = refl
+
+condition_reached : (selection : Selection) (table : List ℕ) (more : List (List ℕ)) (done : List ConditionText) (part : ConditionPart)
+  → run step (InWhere selection table more done WantsLeft) (in_condition part) ≡ Some (InWhere selection table more done part)
+condition_reached selection table more done WantsLeft = refl
+condition_reached selection table more done (HasLeftPoint from) = refl
+condition_reached selection table more done (HasLeft column) =
+    ap (run step (InWhere selection table more done WantsLeft)) (sym (append-nil (spell_column column)))
+    ∙ left_run selection table more done column []
+condition_reached selection table more done (HasOperator column operator) =
+    left_run selection table more done column _ ∙ operator_run selection table more done column operator []
+condition_reached selection table more done (HasSign column operator sign) =
+    left_run selection table more done column _ ∙ operator_run selection table more done column operator (spell_sign sign ∷ [])
+    ∙ sign_run selection table more done column operator sign
+condition_reached selection table more done (HasRightPoint column from) = left_run selection table more done column _
+condition_reached selection table more done (WantsLow column) = left_run selection table more done column _
+condition_reached selection table more done (HasLowSign column sign) =
+    left_run selection table more done column _ ∙ low_sign_run selection table more done column sign
+condition_reached selection table more done (HasLow column low) =
+    left_run selection table more done column _
+    ∙ ap (run step (InWhere selection table more done (WantsLow column))) (sym (append-nil (spell_literal low)))
+    ∙ low_run selection table more done column low []
+condition_reached selection table more done (WantsHigh column low) =
+    left_run selection table more done column _ ∙ low_run selection table more done column low _
+condition_reached selection table more done (HasHighSign column low sign) =
+    left_run selection table more done column _ ∙ low_run selection table more done column low _
+    ∙ high_sign_run selection table more done column low sign
+condition_reached selection table more done (HasCondition condition) =
+    ap (run step (InWhere selection table more done WantsLeft)) (sym (append-nil (spell_condition condition)))
+    ∙ condition_run selection table more done condition []
+
+reached : (place : Place) → run step Start (before place) ≡ Some place
+unfolding with_tables
+reached Start = refl
+reached HasStar = refl
+reached (InSelect earlier part) = begun_columns_run [] earlier (in_column part) ∙ column_reached earlier part
+reached (WantsTable selection earlier) =
+    selection_run selection _
+    ∙ ap (run step (WantsTable selection [])) (sym (append-nil (begun Comma spell_table earlier)))
+    ∙ begun_tables_run selection [] earlier []
+reached (HasTable selection earlier table) = selection_run selection _ ∙ begun_tables_run selection [] earlier (spell_table table)
+reached (InWhere selection table more earlier part) =
+    selection_run selection _
+    ∙ tables_run selection [] table more _
+    ∙ ap₂ (λ first others. run step (InWhere selection first others [] WantsLeft) (begun (Word And) spell_condition earlier ++ in_condition part))
+      (first_back table more) (others_back table more)
+    ∙ begun_conditions_run selection table more [] earlier (in_condition part)
+    ∙ condition_reached selection table more earlier part
+reached (Whole tree) = leads tree
+
 -- a way to a whole text from a place, by symbols that bytes can spell
 record Completes (place : Place) : Type 0 where
   rest : List Symbol
@@ -540,3 +643,17 @@ fault_stop text at given =
         let equal : other ≡ at = cc in
         ap Err equal)
     ] refl
+
+-- a text that is stuck at a place, and its fault
+pub stuck_fault : (text : List ℕ) (at : ℕ) → IsStuck text at → IsSyntaxFault spelling text at
+stuck_fault text at stuck = stop_is_fault text at (record {
+  read = stuck.read; token = stuck.next; later = stuck.later; whole = stuck.whole; last = stuck.place;
+  reaches = ap (run step Start) stuck.before_it ∙ reached stuck.place; nowhere = stuck.nowhere; offset = stuck.offset })
+
+pub fault_stuck : (text : List ℕ) (at : ℕ) → IsSyntaxFault spelling text at → IsStuck text at
+fault_stuck text at fault = elim (read_stop Start (tokens text) at (fault_stop text at fault)) [
+    inl stop ↦ record {
+      place = stop.last; read = stop.read; next = stop.token; later = stop.later; whole = stop.whole;
+      before_it = sym (run_before Start (map symbol_of stop.read) stop.last stop.reaches); nowhere = stop.nowhere; offset = stop.offset }
+  | inr out ↦ absurd (never_runs_out text at out)
+  ]
