@@ -1,14 +1,14 @@
 -- Lemmas on frames and on the next move.
 use Rattle.std.proofs.Common.{◌≡◌, ℕ, zero, suc, ◌+◌, ◌-◌, ◌*◌, ◌<◌, ◌≤◌, ◌^◌, ◌⊎◌, ◌≢◌, inl, inr, Bool, true, false, ◌&&◌, List, [], ◌∷◌, ◌++◌, length, take, drop, slice_index, get_or, sym, ◌∙◌, ap, subst, refl, arith, length-append, lit<, w16, w32}
-use Rattle.std.specs.Prelude.{◌==◌, nat_lt, nat_le}
+use Rattle.std.specs.Prelude.{◌==◌, nat_lt, nat_le, not, if◌then◌else◌}
 use Rattle.std.specs.Int.{to_be_bytes, from_be_bytes}
 use Rattle.std.proofs.lemmas.List.{nil_from_length, length-take-le, length-drop, take-append-drop}
 use Rattle.std.proofs.lemmas.Nat.{from_be_bytes-to_be_bytes_2, from_be_bytes-to_be_bytes_4, be_bytes_2, be_bytes_4}
 use Rattle.std.proofs.lemmas.Bool.Decides.{nat_tests, eqb_tells}
-use Rattle.std.proofs.lemmas.Bool.{eqb-true}
+use Rattle.std.proofs.lemmas.Bool.{eqb-true, ltb-false, le-ltb}
 use Rattle.std.proofs.Math.Seq.{take-length, take-append_seam, drop-append_seam}
 use Rattle.ghost_model.specs.Channel.{Frame, Hello, Asking, More, Bye, Welcome, Replied, Done, Sorry}
-use Rattle.ghost_model.specs.Frames.{size_allowed, serial_allowed, payload_allowed, has_no_serial, header_allowed, IsFrame, AreBytes, frame_bytes, frame_of_parts, frame_in, size_in, serial_in, kind_in, version_in, payload_in, number_in, number_of, kind_of, serial_of, payload_of, frame_version}
+use Rattle.ghost_model.specs.Frames.{Got, Found, Short, Bad, got_of, BeginsWith, size_allowed, serial_allowed, payload_allowed, has_no_serial, header_allowed, IsFrame, AreBytes, frame_bytes, frame_of_parts, frame_in, size_in, serial_in, kind_in, version_in, payload_in, number_in, number_of, kind_of, serial_of, payload_of, frame_version}
 
 pub size_bound : (kind size : ℕ) → size_allowed kind size ≡ true → size ≤ 2040
 size_bound kind size h = grind (arith, nat_tests)
@@ -185,3 +185,115 @@ allowed_parts kind serial payload t u =
                 (λ n6. by_test kind 19 (λ e. done e (grind (arith, nat_tests)))
                   (λ n7. by_test kind 20 (λ e. sorry e (grind (arith, nat_tests)))
                     (λ n8. absurd (no_kind kind (length payload) n1 n2 n3 n4 n5 n6 n7 n8 t)))))))))
+
+-- the tests of a reading, over plain values
+abbrev picked : (short header part payload : Bool) (missing_header missing_payload kind : ℕ) → Frame → Got
+picked short header part payload missing_header missing_payload kind frame =
+    if short then Short missing_header
+    else if not header then Bad kind
+    else if part then Short missing_payload
+    else if payload then Found frame
+    else Bad kind
+
+record IsPicked (short header part payload : Bool) (frame found : Frame) : Type 0 where
+  long : short ≡ false
+  header_holds : header ≡ true
+  whole : part ≡ false
+  payload_holds : payload ≡ true
+  same : frame ≡ found
+
+not_short : (m : ℕ) (found : Frame) → Short m ≡ Found found → ⊥
+not_short m found e = cc
+
+not_bad : (kind : ℕ) (found : Frame) → Bad kind ≡ Found found → ⊥
+not_bad kind found e = cc
+
+false_is_not : false ≡ true → ⊥
+false_is_not e = cc
+
+same_found : (f g : Frame) → Found f ≡ Found g → f ≡ g
+same_found f g e = cc
+
+is_picked : (short header part payload : Bool) (m n kind : ℕ) (frame found : Frame) → picked short header part payload m n kind frame ≡ Found found → IsPicked short header part payload frame found
+is_picked true header part payload m n kind frame found e = absurd (not_short m found e)
+is_picked false false part payload m n kind frame found e = absurd (not_bad kind found e)
+is_picked false true true payload m n kind frame found e = absurd (not_short n found e)
+is_picked false true false false m n kind frame found e = absurd (not_bad kind found e)
+is_picked false true false true m n kind frame found e =
+    record { long = refl; header_holds = refl; whole = refl; payload_holds = refl; same = same_found frame found e }
+
+pub picks : (short header part payload : Bool) (m n kind : ℕ) (frame : Frame) → short ≡ false → header ≡ true → part ≡ false → payload ≡ true → picked short header part payload m n kind frame ≡ Found frame
+picks short header part payload m n kind frame a b c d = rw (a, b, c, d)
+
+record AllThree (a b c : Bool) : Type 0 where
+  first : a ≡ true
+  second : b ≡ true
+  third : c ≡ true
+
+all_three : (a b c : Bool) → (a && b && c) ≡ true → AllThree a b c
+all_three true true true e = record { first = refl; second = refl; third = refl }
+all_three true true false e = absurd (false_is_not e)
+all_three true false c e = absurd (false_is_not e)
+all_three false b c e = absurd (false_is_not e)
+
+three_hold : (a b c : Bool) → a ≡ true → b ≡ true → c ≡ true → (a && b && c) ≡ true
+three_hold a b c p q r = rw (p, q, r)
+
+serial_bound : (bytes : List ℕ) → 8 ≤ length bytes → AreBytes bytes → serial_in bytes < 2 ^ 32
+serial_bound (a ∷ b ∷ c ∷ d ∷ e ∷ f ∷ g ∷ k ∷ rest) m h = omega (arith, h 4, h 5, h 6, h 7)
+serial_bound _ m h = absurd (omega (arith, m))
+
+frame_fits : (kind serial : ℕ) (payload : List ℕ) (frame : Frame) → HasParts kind serial payload frame → serial_allowed kind serial ≡ true → size_allowed kind (length payload) ≡ true → payload_allowed kind payload ≡ true → AreBytes payload → serial < 2 ^ 32 → IsFrame frame
+frame_fits kind serial payload frame h a b c d e = record {
+  serial = rw (h.kind_is, h.serial_is) a;
+  size = rw (h.kind_is, h.payload_is) b;
+  payload = rw (h.kind_is, h.payload_is) c;
+  bytes = rw h.payload_is d;
+  serial_fits = rw h.serial_is e;
+  number_fits = h.number_fits }
+
+pub found_begins : (bytes : List ℕ) (frame : Frame) → AreBytes bytes → got_of bytes ≡ Found frame → BeginsWith bytes frame
+found_begins bytes frame h e =
+    let way : IsPicked (nat_lt (length bytes) 8) (header_allowed bytes) (nat_lt (length bytes) (8 + size_in bytes)) (payload_allowed (kind_in bytes) (payload_in bytes)) (frame_in bytes) frame =
+      is_picked _ _ _ _ (8 - length bytes) (8 + size_in bytes - length bytes) (kind_in bytes) (frame_in bytes) frame e in
+    let tests : AllThree (version_in bytes == frame_version) (size_allowed (kind_in bytes) (size_in bytes)) (serial_allowed (kind_in bytes) (serial_in bytes)) =
+      all_three _ _ _ way.header_holds in
+    let long : 8 ≤ length bytes = ltb-false (length bytes) 8 way.long in
+    let whole : 8 + size_in bytes ≤ length bytes = ltb-false (length bytes) (8 + size_in bytes) way.whole in
+    let size : length (payload_in bytes) ≡ size_in bytes = length_taken (size_in bytes) (drop 8 bytes) (omega (arith, length-drop 8 bytes)) in
+    let sized : size_allowed (kind_in bytes) (length (payload_in bytes)) ≡ true = ap (λ (n : ℕ). size_allowed (kind_in bytes) n) size ∙ tests.second in
+    let payload : AreBytes (payload_in bytes) = bytes_take (size_in bytes) (drop 8 bytes) (bytes_drop 8 bytes h) in
+    let parts : Parts (kind_in bytes) (serial_in bytes) (payload_in bytes) = allowed_parts (kind_in bytes) (serial_in bytes) (payload_in bytes) sized tests.third in
+    let has : HasParts (kind_in bytes) (serial_in bytes) (payload_in bytes) (frame_in bytes) = parts_of_frame (kind_in bytes) (serial_in bytes) (payload_in bytes) parts payload in
+    let spelled : bytes ≡ frame_bytes (frame_in bytes) ++ drop (size_in bytes) (drop 8 bytes) = frame_is_spelled bytes h whole (eqb-true (version_in bytes) frame_version tests.first) parts in
+    let fits : IsFrame (frame_in bytes) = frame_fits (kind_in bytes) (serial_in bytes) (payload_in bytes) (frame_in bytes) has tests.third sized way.payload_holds payload (serial_bound bytes long h) in
+    subst (λ (f : Frame). BeginsWith bytes f) way.same
+      (record { fits = fits; rest = drop (size_in bytes) (drop 8 bytes); begins = spelled })
+
+remade : (frame : Frame) → IsFrame frame → frame_of_parts (kind_of frame) (serial_of frame) (payload_of frame) ≡ frame
+remade (Hello generation) h = ap (λ (n : ℕ). Hello n) (from_be_bytes-to_be_bytes_4 generation h.number_fits)
+remade (Asking serial payload) h = refl
+remade (More serial) h = refl
+remade Bye h = refl
+remade (Welcome last part) h = refl
+remade (Replied serial payload) h = refl
+remade (Done serial total) h = ap (λ (n : ℕ). Done serial n) (from_be_bytes-to_be_bytes_4 total h.number_fits)
+remade (Sorry serial code) h = refl
+
+pub spelled_is_found : (frame : Frame) (rest : List ℕ) → IsFrame frame → got_of (frame_bytes frame ++ rest) ≡ Found frame
+spelled_is_found frame rest h =
+    let bytes : List ℕ = frame_bytes frame ++ rest in
+    let size : size_in bytes ≡ length (payload_of frame) = size_is_read frame rest h in
+    let serial : serial_in bytes ≡ serial_of frame = from_be_bytes-to_be_bytes_4 (serial_of frame) h.serial_fits in
+    let payload : payload_in bytes ≡ payload_of frame =
+      ap (λ (n : ℕ). take n (payload_of frame ++ rest)) size ∙ take-append_seam (payload_of frame) rest in
+    let same : frame_in bytes ≡ frame =
+      ap (λ (n : ℕ). frame_of_parts (kind_of frame) n (payload_in bytes)) serial
+      ∙ (ap (λ (p : List ℕ). frame_of_parts (kind_of frame) (serial_of frame) p) payload ∙ remade frame h) in
+    let lengths : length bytes ≡ 8 + (length (payload_of frame) + length rest) = omega (arith, length-append (payload_of frame) rest) in
+    let header : header_allowed bytes ≡ true =
+      three_hold _ _ _ refl (ap (λ (n : ℕ). size_allowed (kind_of frame) n) size ∙ h.size) (ap (λ (n : ℕ). serial_allowed (kind_of frame) n) serial ∙ h.serial) in
+    picks _ _ _ _ (8 - length bytes) (8 + size_in bytes - length bytes) (kind_of frame) (frame_in bytes)
+      (le-ltb (length bytes) 8 (omega arith)) header (le-ltb (length bytes) (8 + size_in bytes) (omega arith))
+      (ap (λ (p : List ℕ). payload_allowed (kind_of frame) p) payload ∙ h.payload)
+    ∙ ap (λ (f : Frame). Found f) same
