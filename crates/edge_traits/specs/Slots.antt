@@ -1,14 +1,14 @@
 -- The files of a depot in memory lie in slots, of which the first so many are in use.
 use Rattle.std.specs.Prelude.{ℕ, Bool, List, take, map as each}
-use Rattle.std.specs.Ordering.{nat_cmp, eq_by_cmp}
-use Rattle.std.specs.Cmp.Lexicographic.{slice_cmp}
+use Rattle.std.specs.Prelude.{nat_eq}
+use Rattle.std.specs.Cmp.Lexicographic.{pointwise}
 use Rattle.std.specs.FinMap as map
 use Rattle.edge_traits.specs.Files.{Files}
 use Rattle.edge_traits.specs.declared.slots.Slot.{Slot}
 
 -- the slot has that name
 abbrev pub is_named : List ℕ → Slot → Bool
-is_named name slot = eq_by_cmp (slice_cmp nat_cmp) name slot.name.items
+is_named name slot = pointwise nat_eq name slot.name.items
 
 -- the name and the bytes of a slot
 abbrev pub entry_of : Slot → List ℕ × List ℕ
