@@ -1,3 +1,4 @@
 pub mod Growth
 pub mod WholeFile
 pub mod Filling
+pub mod InSlots

@@ -63,3 +63,71 @@ fn fill(slot: &mut Slot, name: &[u8], bytes: &[u8]) -> bool
     room::add(&mut slot.bytes, bytes);
     true
 }
+
+/// Adds bytes at the end of a slot's file, where the slot has room for them, and else leaves the slot as it is.
+fn extend(slot: &mut Slot, bytes: &[u8]) -> bool
+    ensures name { slot.new.name ≡ slot.old.name }
+    ensures bytes { IsTrue result → slot.new.bytes.items ≡ slot.old.bytes.items ++ bytes.now }
+    ensures refused { result ≡ false → slot.new ≡ slot.old }
+{
+    let has_room = slot.bytes.len() <= slot.bytes.capacity()
+        && bytes.len() <= slot.bytes.capacity() - slot.bytes.len();
+    if !has_room {
+        return false;
+    }
+    room::add(&mut slot.bytes, bytes);
+    true
+}
+
+impl Slots {
+    /// Room for so many files, each with room for so many bytes of its name and of itself.
+    pub fn new(
+        alloc: Global,
+        files: usize,
+        name_bytes: usize,
+        file_bytes: usize,
+    ) -> Result<Slots, AllocError>
+        ensures { IfOk result (λ files. files ≡ map.empty) }
+    {
+        let mut slots = Vec::with_capacity(alloc, files)?;
+        for _ in 0..files {
+            slots.push(Slot {
+                name: Vec::with_capacity(alloc, name_bytes)?,
+                bytes: Vec::with_capacity(alloc, file_bytes)?,
+            })?;
+        }
+        Ok(Slots { slots, used: 0 })
+    }
+
+    /// The bytes of the file with that name.
+    #[tactic(auto, using(crate::proofs::InSlots::get_read, crate::proofs::InSlots::get_absent))]
+    pub fn get(&self, name: &[u8]) -> Option<&[u8]>
+        ensures { MatchOption result (map.get self.now name.now ≡ None) (λ bytes. map.get self.now name.now ≡ Some bytes.now) }
+    {
+        match place_of(&self.slots[..self.used], name) {
+            Some(place) => Some(&self.slots[place].bytes),
+            None => None,
+        }
+    }
+
+    /// Makes the bytes the whole of the file with that name, where there is room, and else changes nothing.
+    #[tactic(auto, using(crate::proofs::InSlots::put_placed, crate::proofs::InSlots::put_new))]
+    pub fn put(&mut self, name: &[u8], bytes: &[u8]) -> bool
+        ensures put { IsTrue result → self.new ≡ map.insert self.old name.now bytes.now }
+        ensures refused { result ≡ false → self.new ≡ self.old }
+    {
+        match place_of(&self.slots[..self.used], name) {
+            Some(place) => fill(&mut self.slots[place], name, bytes),
+            None => {
+                if self.used >= self.slots.len() {
+                    return false;
+                }
+                if !fill(&mut self.slots[self.used], name, bytes) {
+                    return false;
+                }
+                self.used += 1;
+                true
+            }
+        }
+    }
+}
