@@ -9,7 +9,7 @@ use Rattle.std.proofs.lemmas.Bool.{ltb-false}
 use Rattle.std.proofs.lemmas.List.Quantifiers.{position-Some}
 use Rattle.std.proofs.Math.Seq.{take-set-lt}
 use Rattle.std.proofs.lemmas.Grind.{common_steps}
-use Rattle.edge_traits.specs.Files.{Files}
+use Rattle.edge_traits.specs.Files.{or_empty}
 use Rattle.edge_traits.specs.Slots.{is_named, entry_of, files_in}
 use Rattle.edge_traits.specs.declared.slots.Slot.{Slot}
 
@@ -124,3 +124,13 @@ put_new name bytes used slots slot is room named holds =
     let entries : each entry_of (take (used + 1) (set slots used slot)) ≡ each entry_of (take used slots) ++ (name, bytes) ∷ [] =
     ap (each entry_of) more ∙ map-append entry_of (take used slots) (slot ∷ []) ∙ ap (λ n. each entry_of (take used slots) ++ (n, slot.bytes.items) ∷ []) named ∙ ap (λ b. each entry_of (take used slots) ++ (name, b) ∷ []) holds in
     ap map.from_entries entries ∙ map.from_entries_push nat_list_cmp_total names_differ (each entry_of (take used slots)) name bytes (absent name (take used slots) is)
+
+-- a write that adds bytes at the end of what the slot of a name holds
+pub put_more : (name piece : List ℕ) (used : ℕ) (slots : List Slot) (place : ℕ) (old slot : Slot) → Some place ≡ position (is_named name) (take used slots) → old ≡ get_or slots place old → slot.name.items ≡ old.name.items → slot.bytes.items ≡ old.bytes.items ++ piece → files_in used (set slots place slot) ≡ map.insert (files_in used slots) name (or_empty (map.get (files_in used slots) name) ++ piece)
+put_more name piece used slots place old slot is read kept grew =
+    let first = first_of_place name (take used slots) place old (sym is) in
+    let early : place < used = grind (arith, common_steps, first.within) in
+    let at : get_or (take used slots) place old ≡ old = get_or-take used slots place old early ∙ sym read in
+    let named : name ≡ old.name.items = same_text name old.name.items (sym (ap (is_named name) (sym at) ∙ first.named)) in
+    put_placed name (or_empty (map.get (files_in used slots) name) ++ piece) used slots place slot (sym is) (kept ∙ sym named)
+    (grew ∙ ap (λ b. or_empty b ++ piece) (sym (get_read name used slots place old is read)))

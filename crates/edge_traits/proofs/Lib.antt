@@ -2,3 +2,4 @@ pub mod Growth
 pub mod WholeFile
 pub mod Filling
 pub mod InSlots
+pub mod Inserts

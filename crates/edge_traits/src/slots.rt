@@ -130,4 +130,17 @@ impl Slots {
             }
         }
     }
+
+    /// Adds the bytes at the end of the file with that name, which begins as empty, where there is room, and else changes
+    /// nothing.
+    #[tactic(auto, using(crate::proofs::InSlots::put_more, crate::proofs::InSlots::get_absent))]
+    pub fn add(&mut self, name: &[u8], bytes: &[u8]) -> bool
+        ensures added { IsTrue result → self.new ≡ map.insert self.old name.now (or_empty (map.get self.old name.now) ++ bytes.now) }
+        ensures refused { result ≡ false → self.new ≡ self.old }
+    {
+        match place_of(&self.slots[..self.used], name) {
+            Some(place) => extend(&mut self.slots[place], bytes),
+            None => self.put(name, bytes),
+        }
+    }
 }
