@@ -101,8 +101,14 @@ fn put_padded(text: &[u8], out: &mut [u8])
 fn text_in(cell: &[u8]) -> &[u8]
     ensures { result.now ≡ cells.text_in cell.now }
 {
-    let end = cell.iter().position(|&byte| byte == 0).unwrap_or(cell.len());
-    &cell[..end]
+    &cell[..text_len(cell)]
+}
+
+/// How many bytes stand before the first zero byte.
+fn text_len(cell: &[u8]) -> usize
+    ensures { result ≡ length (cells.text_in cell.now) }
+{
+    cell.iter().take_while(|byte| **byte != 0).count()
 }
 
 /// Whether every byte is a character of a text.
