@@ -1,0 +1,4 @@
+mod IntegerCells
+mod TextCells
+mod CellSpelling
+mod CellOrders

@@ -7,6 +7,7 @@
 
 pub mod cells;
 pub mod kind;
+pub mod laws;
 pub mod limits;
 pub mod text;
 pub mod value;
