@@ -8,6 +8,7 @@ ghost use Rattle.ghost_model.specs.Tokens.{is_printable};
 ghost use Rattle.ghost_base.specs.Views.{kind_of, value_of};
 ghost use Rattle.ghost_base.specs.Ordered.{is_of_kind};
 
+use crate::text::put_padded;
 use crate::{Kind, Text64, Value};
 
 /// The number of bytes of a cell.
@@ -85,16 +86,6 @@ fn distance_of(cell: &[u8]) -> u64
     let mut bytes = [0; 8];
     bytes.copy_from_slice(cell);
     u64::from_be_bytes(bytes)
-}
-
-/// Writes a text and zero bytes after it.
-fn put_padded(text: &[u8], out: &mut [u8])
-    requires { length text.now ≤ length out.old }
-    ensures { out.new ≡ cells.padded (length out.old) text.now }
-{
-    let (front, back) = out.split_at_mut(text.len());
-    front.copy_from_slice(text);
-    back.fill(0);
 }
 
 /// The bytes before the first zero byte.

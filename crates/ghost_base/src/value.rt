@@ -8,25 +8,13 @@ use crate::Text64;
 use std::cmp::Ordering;
 
 /// A value of a column.
-#[derive(Debug, Drop)]
+#[derive(Clone, Copy, Debug)]
 pub enum Value {
     /// A 64-bit signed integer.
     Int(i64),
 
     /// A text.
     Chars(Text64),
-}
-
-impl Value {
-    /// A second value equal to this one, which takes no memory.
-    pub fn copied(&self) -> Self
-        ensures { result ≡ self.now }
-    {
-        match self {
-            Value::Int(number) => Value::Int(*number),
-            Value::Chars(text) => Value::Chars(text.copied()),
-        }
-    }
 }
 
 /// The order of two values: integers as numbers, texts by their bytes, a prefix before the longer text, and an
