@@ -82,3 +82,50 @@ pub(crate) fn put_padded(text: &[u8], out: &mut [u8])
     front.copy_from_slice(text);
     back.fill(0);
 }
+
+impl Default for Text64 {
+    ghost is_default = { λ text. text ≡ [] };
+
+    fn default() -> Self {
+        Text64::of(&[])
+    }
+}
+
+impl PartialEq for Text64 {
+    ghost eq = { pointwise nat_eq };
+
+    ghost laws = { partial_equiv_from_equiv (lists_equiv nat_eq_equiv) };
+
+    fn eq(&self, other: &Self) -> bool {
+        self.as_bytes() == other.as_bytes()
+    }
+}
+
+impl Eq for Text64 {
+    ghost laws = { lists_equiv nat_eq_equiv };
+}
+
+/// Texts are ordered by their bytes, a prefix before the longer text.
+impl PartialOrd for Text64 {
+    ghost partial_cmp = { as_partial_cmp byte_order };
+
+    ghost laws = { texts_po };
+
+    fn partial_cmp(&self, other: &Self) -> Option<Ordering> {
+        Some(self.cmp(other))
+    }
+}
+
+impl Ord for Text64 {
+    ghost cmp = { byte_order };
+
+    ghost total = { nat_list_cmp_total };
+
+    ghost matches_partial_cmp = { λ _ _. refl };
+
+    ghost matches_eq = { lists_ties nat_cmp unsigned_ties };
+
+    fn cmp(&self, other: &Self) -> Ordering {
+        self.as_bytes().cmp(&other.as_bytes())
+    }
+}
