@@ -1,4 +1,4 @@
-mod IntegerCells
-mod TextCells
-mod CellSpelling
-mod CellOrders
+pub mod IntegerCells
+pub mod TextCells
+pub mod CellSpelling
+pub mod CellOrders
