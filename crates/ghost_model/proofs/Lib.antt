@@ -1,4 +1,5 @@
 mod TokenLemmas
+mod TextLemmas
 mod GrammarLemmas
 mod SchemaLemmas
 mod QueryLemmas

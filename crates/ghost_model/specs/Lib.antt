@@ -5,6 +5,7 @@ pub mod Tokens
 pub mod Query
 pub mod Channel
 pub mod Grammar
+pub mod Spelled
 pub mod Texts
 pub mod SchemaGrammar
 pub mod SchemaPlaces
