@@ -1,7 +1,7 @@
 //! Values, and their order.
 
 ghost use Rattle.std.specs.Prelude.{◌≡◌, pos};
-ghost use Rattle.ghost_base.specs.Ordered.{value_order};
+ghost use Rattle.ghost_model.specs.Database.{order_of};
 ghost use Rattle.ghost_base.specs.Views.{value_of};
 
 use crate::Text64;
@@ -32,7 +32,7 @@ impl Default for Value {
 
 /// The order of two values, which is that of their `Ord`.
 pub fn compare(a: &Value, b: &Value) -> Ordering
-    ensures { result ≡ value_order (value_of a.now) (value_of b.now) }
+    ensures { result ≡ order_of (value_of a.now) (value_of b.now) }
 {
     a.cmp(b)
 }
