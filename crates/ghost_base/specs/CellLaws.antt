@@ -4,6 +4,8 @@ use Rattle.std.specs.Prelude.{◌≡◌, ℕ, IsTrue, nat_lt, List, Option, Some
 use Rattle.std.specs.List.{list_all}
 use Rattle.std.specs.Ordering.{nat_cmp}
 use Rattle.std.specs.declared.cmp.Ordering.{Ordering}
+use Rattle.std.specs.declared.cmp.Ordering.TheVariants.{Equal}
+use Rattle.std.specs.Cmp.{IsTotalOrder}
 use Rattle.std.specs.Cmp.Lexicographic.{slice_cmp}
 use Rattle.ghost_model.specs.Schema.{Kind}
 use Rattle.ghost_model.specs.Values.{Value}
@@ -26,3 +28,8 @@ byte_order some others = slice_cmp nat_cmp some others
 abbrev pub CellOrderIsValueOrder : Type 0
 CellOrderIsValueOrder = (kind : Kind) (a b : Value) → IsTrue (is_of_kind kind a) → IsTrue (is_of_kind kind b)
   → byte_order (encode_cell kind a) (encode_cell kind b) ≡ order_of a b
+
+-- The order of values is a total order, and values that it does not tell apart are one.
+pub record ValuesAreOrdered : Type 0 where
+  pub total : IsTotalOrder order_of
+  pub same : (a b : Value) → order_of a b ≡ Equal → a ≡ b

@@ -138,3 +138,59 @@ fn is_zero(padding: &[u8]) -> bool
 {
     padding.iter().all(|&byte| byte == 0)
 }
+
+#[cfg(test)]
+mod tests {
+    use super::*;
+
+    // Whether the value's cell is these bytes, and they spell the value.
+    fn is_cell(kind: Kind, value: Value, cell: &[u8]) -> bool {
+        let mut places = [0xFF; 255];
+        let out = &mut places[..cell_width(kind)];
+        if cell_width(kind) > MAX_CHARS || !is_of_kind(kind, &value) {
+            return false;
+        }
+        encode_cell(kind, &value, out);
+        &*out == cell && decode_cell(kind, cell) == Some(value)
+    }
+
+    // Whether the bytes spell no value.
+    fn is_no_cell(kind: Kind, bytes: &[u8]) -> bool {
+        cell_width(kind) <= MAX_CHARS && decode_cell(kind, bytes).is_none()
+    }
+
+    #[test]
+    fn numbers_have_the_cells_of_their_order(rt: HostRuntime) {
+        for (number, cell) in [
+            (5, [0x80, 0, 0, 0, 0, 0, 0, 5]),
+            (-1, [0x7F, 0xFF, 0xFF, 0xFF, 0xFF, 0xFF, 0xFF, 0xFF]),
+            (i64::MIN, [0; 8]),
+            (i64::MAX, [0xFF; 8]),
+        ] {
+            assert!(rt; is_cell(Kind::Integer, Value::Int(number), &cell), "at {number}");
+        }
+    }
+
+    #[test]
+    fn texts_end_at_the_first_zero_byte(rt: HostRuntime) {
+        let cardio = Value::Chars(Text64::of(b"cardio"));
+        let full = Value::Chars(Text64::of(b"FR"));
+        let empty = Value::Chars(Text64::of(b""));
+        assert!(rt; is_cell(Kind::Chars(8), cardio, b"cardio\0\0"));
+        assert!(rt; is_cell(Kind::Chars(2), full, b"FR"));
+        assert!(rt; is_cell(Kind::Chars(3), empty, b"\0\0\0"));
+        assert!(rt; !is_cell(Kind::Chars(5), cardio, b"cardi"));
+        assert!(rt; !is_cell(Kind::Integer, full, b"FR\0\0\0\0\0\0"));
+    }
+
+    #[test]
+    fn other_bytes_spell_no_value(rt: HostRuntime) {
+        assert!(rt; is_no_cell(Kind::Integer, b"\0\0\0\0\0\0\0"));
+        assert!(rt; is_no_cell(Kind::Integer, b"\0\0\0\0\0\0\0\0\0"));
+        assert!(rt; is_no_cell(Kind::Chars(3), b"a\0a"));
+        assert!(rt; is_no_cell(Kind::Chars(2), b"\x7F\0"));
+        assert!(rt; is_no_cell(Kind::Chars(2), b"\x1F\0"));
+        assert!(rt; is_no_cell(Kind::Chars(3), b"ab"));
+        assert!(rt; is_no_cell(Kind::Chars(3), b"ab\0\0"));
+    }
+}

@@ -36,3 +36,30 @@ pub fn compare(a: &Value, b: &Value) -> Ordering
 {
     a.cmp(b)
 }
+
+#[cfg(test)]
+mod tests {
+    use super::*;
+
+    #[test]
+    fn values_are_ordered(rt: HostRuntime) {
+        let text = |bytes: &[u8]| requires { length bytes.now ≤ 64 } { Value::Chars(Text64::of(bytes)) };
+        let ascending = [
+            Value::Int(i64::MIN),
+            Value::Int(-1),
+            Value::Int(0),
+            Value::Int(5),
+            text(b""),
+            text(b"B"),
+            text(b"a"),
+            text(b"aa"),
+            text(b"b"),
+        ];
+        for (i, a) in ascending.iter().enumerate() {
+            for (j, b) in ascending.iter().enumerate() {
+                assert!(rt; compare(a, b) == i.cmp(&j), "at {i} and {j}");
+                assert!(rt; (a == b) == (i == j), "at {i} and {j}");
+            }
+        }
+    }
+}
