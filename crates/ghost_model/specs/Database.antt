@@ -5,11 +5,11 @@
 use Rattle.std.specs.Prelude.{◌≡◌, ℕ, zero, suc, ◌+◌, ◌-◌, ◌*◌, ◌^◌, ℤ, pos, negsuc, neg_ℤ, int_le, Bool, true, false, ◌&&◌, ◌==◌, nat_lt, nat_le, List, [], ◌∷◌, length, map, drop, fold, Option, Some, None, slice_get, option_and_then, unwrap_or, IsTrue, if◌then◌else◌}
 use Rattle.std.specs.List.{list_all}
 use Rattle.std.specs.Cmp.Lexicographic.{slice_cmp}
-use Rattle.std.specs.Ordering.{nat_cmp, int_cmp, is_lt, is_eq, is_gt}
+use Rattle.std.specs.Ordering.{nat_cmp, int_cmp}
 use Rattle.std.specs.declared.cmp.Ordering.{Ordering}
 use Rattle.std.specs.declared.cmp.Ordering.TheVariants as order
 use Rattle.csv.specs.Reading.{records, default_config, strip_bom}
-use Rattle.ghost_model.specs.Schema.{Schema, Table, Column, Kind, Integer, Chars, columns_of, column_at, parent, keys_to, first_of, is_table}
+use Rattle.ghost_model.specs.Schema.{Schema, Column, Kind, Integer, Chars, columns_of, column_at, parent, keys_to, first_of}
 use Rattle.ghost_model.specs.Tokens.{is_printable, is_digit}
 use Rattle.ghost_model.specs.Values.{Value, Number, Text, Row, Rows, Database}
 use Rattle.ghost_model.specs.Query.{Operator}

@@ -1,7 +1,7 @@
 -- The printed lines of texts over a database. A line of a row begins with `> ` and has its fields with one tab between
 -- each two, an integer in decimal; after the rows of text k comes `= k n`, n being their number. A refused text has the
 -- one line `! k word`. Each line ends with a line feed, and the texts are numbered from 1.
-use Rattle.std.specs.Prelude.{◌≡◌, ℕ, ◌+◌, List, [], ◌∷◌, ◌++◌, length, map, codes, decimal, Result, Ok, Err}
+use Rattle.std.specs.Prelude.{ℕ, ◌+◌, List, [], ◌∷◌, ◌++◌, length, map, codes, decimal, Result, Ok, Err}
 use Rattle.std.specs.List.{concat, join_with_byte}
 use Rattle.std.specs.Fmt.{signed_decimal}
 use Rattle.ghost_model.specs.Schema.{Schema}

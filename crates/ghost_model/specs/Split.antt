@@ -2,7 +2,7 @@
 -- keys among them; the identifier stands in neither, since both sides know it. Each part has all rows of each table in
 -- order, so it tells their number. From the public part follow the visible image, which is the host's file, and the
 -- rows that an ask is to be replied with.
-use Rattle.std.specs.Prelude.{◌≡◌, ℕ, zero, suc, ◌+◌, pos, Bool, true, false, not, ◌&&◌, ◌==◌, List, [], ◌∷◌, ◌++◌, length, map, drop, filter, filter_map, flat_map, Option, Some, None, slice_get, if◌then◌else◌}
+use Rattle.std.specs.Prelude.{◌≡◌, ℕ, ◌+◌, pos, Bool, true, false, not, ◌==◌, List, [], ◌∷◌, ◌++◌, map, drop, filter, filter_map, flat_map, Option, Some, None, slice_get, if◌then◌else◌}
 use Rattle.std.specs.List.{list_all}
 use Rattle.ghost_model.specs.Schema.{Schema, Table, Column, Kind, columns_of, places_from}
 use Rattle.ghost_model.specs.Values.{Value, Number, Row, Rows, Database}

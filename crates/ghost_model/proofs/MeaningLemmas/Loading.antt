@@ -1,13 +1,11 @@
 -- Files that keep every rule spell a database: a faultless field is of its kind, a faultless record is a row, and
 -- faultless keys are identifiers of rows.
-use Rattle.std.proofs.Common.{◌≡◌, refl, sym, ap, ◌∙◌, subst, ℕ, zero, suc, ◌+◌, ◌-◌, ◌^◌, ◌<◌, ◌≤◌, ℤ, pos, negsuc, neg_ℤ, Bool, true, false, ◌&&◌, nat_eq, nat_lt, nat_le, List, [], ◌∷◌, ◌++◌, length, map, drop, Option, Some, None, slice_get, unwrap_or, is_some, option_and_then, IsTrue, arith, leb-true, eqb-true, le-leb, if◌then◌else◌}
+use Rattle.std.proofs.Common.{◌≡◌, refl, sym, ap, subst, ℕ, zero, suc, ◌+◌, ◌-◌, ◌^◌, ◌≤◌, ℤ, pos, neg_ℤ, Bool, true, false, ◌&&◌, nat_eq, nat_le, List, [], ◌∷◌, ◌++◌, length, map, drop, Option, Some, None, slice_get, unwrap_or, is_some, option_and_then, arith, leb-true, eqb-true, le-leb, if◌then◌else◌}
 use Rattle.std.specs.List.{list_all}
-use Rattle.std.proofs.lemmas.List.{length-map, length-drop}
 use Rattle.std.proofs.lemmas.Bool.Decides.{Decides-int_eq}
-use Rattle.std.specs.Ordering.{int_eq}
 use Rattle.ghost_model.specs.Schema.{Schema, Column, Kind, Integer, Chars, Table, columns_of, column_at}
-use Rattle.ghost_model.specs.Values.{Value, Number, Text, Row, Rows, Database}
-use Rattle.ghost_model.specs.Database.{IsDatabase, row_of, rows_of, row_count, field, fits_integer, is_text, is_of_kind, is_row_among, is_numeral, number_of, signed_within, integer_of, value_of, row_spelled, rows_spelled, records_of, database_of}
+use Rattle.ghost_model.specs.Values.{Value, Number, Row, Rows, Database}
+use Rattle.ghost_model.specs.Database.{IsDatabase, row_of, rows_of, row_count, field, fits_integer, is_text, is_of_kind, is_row_among, is_numeral, number_of, signed_within, integer_of, value_of, row_spelled, records_of, database_of}
 use Rattle.ghost_model.specs.LoadFaults
 use Rattle.ghost_model.specs.LoadFaults.{LoadFault, FileLimit, Header, RowLimit, FieldCount, BadId, BadInt, BadChars, BadReference, Place, unless, value_faults, field_faults, is_number, id_faults, fields_faults, row_faults, rows_faults, is_header, record_faults, file_faults, files_faults, key_faults, keys_faults, table_references, references_from, load_faults, is_integer, begins_with_integer, most_rows, most_bytes}
 
