@@ -2,3 +2,4 @@
 pub mod Rejoining
 pub mod Loading
 pub mod OneRow
+pub mod Identifiers

@@ -54,7 +54,8 @@ lines_of_text schema database number text = lines_of_reading schema database num
 -- the lines of the texts, of which the first has this number
 abbrev pub lines_from : Schema → Database → (number : ℕ) (texts : List (List ℕ)) → List (List ℕ)
 lines_from schema database number [] = []
-lines_from schema database number (text ∷ texts) = lines_of_text schema database number text ++ lines_from schema database (number + 1) texts
+lines_from schema database number (text ∷ texts) =
+    lines_of_text schema database number text ++ lines_from schema database (number + 1) texts
 
 abbrev pub printed_lines : Schema → (texts : List (List ℕ)) → Database → List (List ℕ)
 printed_lines schema texts database = lines_from schema database 1 texts

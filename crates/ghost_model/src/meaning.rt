@@ -1,6 +1,6 @@
 //! Laws and examples of databases, of their files, of the two parts of a database and of a query's meaning.
 
-ghost use Rattle.ghost_model.specs.LoadFaults.{FilesSpellADatabase};
+ghost use Rattle.ghost_model.specs.LoadFaults.{FilesSpellADatabase, SchemasHaveIdentifiers, LongFilesAreToldFirst};
 ghost use Rattle.ghost_model.specs.Split.{SplitIsRejoined};
 ghost use Rattle.ghost_model.specs.Meaning.{OneRowEach};
 ghost use Rattle.ghost_model.specs.examples.Databases.{ClinicIsSpelled, IntegersOfFields, RecordsOfFiles, HeadersOfFiles, OneRuleBroken, TwoRulesBroken};
@@ -81,5 +81,17 @@ pub fn files_spell_a_database()
 /// An accepted query has at most one row in its answer for each row of its top table.
 pub fn one_row_each()
     ensures { OneRowEach }
+{
+}
+
+/// The tables of an accepted schema begin with their identifiers.
+pub fn schemas_have_identifiers()
+    ensures { SchemasHaveIdentifiers }
+{
+}
+
+/// A file that is too long is told before anything else in it.
+pub fn long_files_are_told_first()
+    ensures { LongFilesAreToldFirst }
 {
 }
