@@ -1,5 +1,5 @@
 -- What telling query texts mean over the clinic's schema, and why others are refused.
-use Rattle.std.specs.Prelude.{◌≡◌, ℕ, negsuc, List, [], ◌∷◌, ◌++◌, replicate, codes, Option, Some, None, Result, Ok, Err}
+use Rattle.std.specs.Prelude.{◌≡◌, ℕ, negsuc, List, [], ◌∷◌, ◌++◌, replicate, codes, Some, None, Result, Ok, Err}
 use Rattle.ghost_model.specs.Values.{Number, Text}
 use Rattle.ghost_model.specs.Query.{Field, Condition, Query, Equal, Unequal, Less, AtMost, More, AtLeast, Compare, Join}
 use Rattle.ghost_model.specs.QueryMeaning.{Refusal, Syntax, Limit, UnknownTable, UnknownColumn, Ambiguous, KindMismatch, BadLiteral, NotLinked, field, top_of}
