@@ -87,7 +87,8 @@ abbrev pub resolved : Schema → QueryText → Query
 resolved schema tree = record {
   from = from_tables schema tree;
   select = selected schema (from_tables schema tree) tree.selection;
-  conditions = flat_map (conditions_of schema (from_tables schema tree)) tree.conditions }
+  conditions = flat_map (conditions_of schema (from_tables schema tree)) tree.conditions;
+}
 
 -- the columns of a text as they are written, and the names in it
 
