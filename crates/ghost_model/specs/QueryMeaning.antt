@@ -10,6 +10,7 @@ use Rattle.ghost_model.specs.Query.{Field, AtMost, AtLeast, Condition, Compare, 
 use Rattle.ghost_model.specs.Grammar.{Spells, IsSyntaxFault}
 use Rattle.ghost_model.specs.QueryGrammar.{ColumnText, Bare, Qualified, Sign, Positive, Negative, LiteralText, Unsigned, Signed, Written, ConditionText, Compares, LiesBetween, Joins, Selection, All, Columns, QueryText, spelling}
 
+-- why a text is refused, in the order in which the rules are tested; a syntax fault has its offset in the text
 pub data Refusal : Type 0 where
   Syntax : ℕ → Refusal
   Limit : Refusal
