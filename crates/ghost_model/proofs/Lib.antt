@@ -1,6 +1,9 @@
 mod TokenLemmas
+mod TextLemmas
 mod GrammarLemmas
 mod SchemaLemmas
+mod SchemaRuleLemmas
 mod QueryLemmas
+mod QueryReadingLemmas
 mod ChannelLemmas
 mod MeaningLemmas

@@ -1,1 +1,3 @@
--- MeaningLemmas: to be written
+-- The lemmas on databases: a database and its parts, the files that spell one, and the rows of an answer.
+pub mod Rejoining
+pub mod Loading

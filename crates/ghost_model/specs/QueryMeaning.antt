@@ -139,12 +139,12 @@ is_over_limit schema text tree =
     || nat_lt 32 (selected_count schema tree tree.selection)
 
 -- a FROM name or a qualifier is no table
-abbrev pub names_no_table : Schema → QueryText → Bool
-names_no_table schema tree = list_any (λ name. is_none (table_named schema name)) (table_names tree)
+abbrev pub has_unknown_table : Schema → QueryText → Bool
+has_unknown_table schema tree = list_any (λ name. is_none (table_named schema name)) (table_names tree)
 
 -- a column has no meaning: its table is not in FROM or lacks it, or no FROM table has a bare name
-abbrev pub names_no_column : Schema → QueryText → Bool
-names_no_column schema tree =
+abbrev pub has_unknown_column : Schema → QueryText → Bool
+has_unknown_column schema tree =
     list_any (λ column. is_empty (meanings schema (from_tables schema tree) column)) (columns_in tree)
 
 abbrev pub has_repeat : List ℕ → Bool
@@ -180,15 +180,15 @@ is_too_large (Some (Chars most)) (Text text) = nat_lt most (length text)
 is_too_large kind (Text text) = false
 
 -- a test of the kind of a condition's column and its literal
-abbrev pub fails : Schema → (Option Kind → Value → Bool) → Condition → Bool
-fails schema test (Compare column operator value) = test (kind_at schema column) value
-fails schema test (Join left right) = false
+abbrev pub literal_fails : Schema → (Option Kind → Value → Bool) → Condition → Bool
+literal_fails schema test (Compare column operator value) = test (kind_at schema column) value
+literal_fails schema test (Join left right) = false
 
-abbrev pub has_other_kind : Schema → QueryText → Bool
-has_other_kind schema tree = list_any (fails schema is_other_kind) (resolved schema tree).conditions
+abbrev pub has_kind_mismatch : Schema → QueryText → Bool
+has_kind_mismatch schema tree = list_any (literal_fails schema is_other_kind) (resolved schema tree).conditions
 
 abbrev pub has_bad_literal : Schema → QueryText → Bool
-has_bad_literal schema tree = list_any (fails schema is_too_large) (resolved schema tree).conditions
+has_bad_literal schema tree = list_any (literal_fails schema is_too_large) (resolved schema tree).conditions
 
 -- the top table and the joins
 
@@ -238,10 +238,10 @@ is_unlinked schema query =
 abbrev pub breaks : Schema → List ℕ → QueryText → Refusal → Bool
 breaks schema text tree (Syntax at) = false
 breaks schema text tree Limit = is_over_limit schema text tree
-breaks schema text tree UnknownTable = names_no_table schema tree
-breaks schema text tree UnknownColumn = names_no_column schema tree
+breaks schema text tree UnknownTable = has_unknown_table schema tree
+breaks schema text tree UnknownColumn = has_unknown_column schema tree
 breaks schema text tree Ambiguous = is_ambiguous schema tree
-breaks schema text tree KindMismatch = has_other_kind schema tree
+breaks schema text tree KindMismatch = has_kind_mismatch schema tree
 breaks schema text tree BadLiteral = has_bad_literal schema tree
 breaks schema text tree NotLinked = is_unlinked schema (resolved schema tree)
 
