@@ -2,7 +2,7 @@
 -- which the files are read: file by file, in a file record by record, in a record first its number, then the number of
 -- its fields, then field by field; the foreign keys come after all files, by table, record and column. Only the first
 -- fault is ever answered, so after a broken rule the list may say anything.
-use Rattle.std.specs.Prelude.{◌≡◌, ℕ, ◌+◌, ◌<◌, ℤ, pos, Bool, true, false, ◌==◌, nat_le, List, [], ◌∷◌, ◌++◌, length, map, Option, Some, None, bytes_eq, Result, Ok, Err, is_some, IsTrue}
+use Rattle.std.specs.Prelude.{◌≡◌, ℕ, ◌+◌, ◌<◌, ◌≤◌, ℤ, pos, Bool, true, false, ◌==◌, nat_le, List, [], ◌∷◌, ◌++◌, length, map, Option, Some, None, bytes_eq, Result, Ok, Err, is_some, IsTrue}
 use Rattle.std.specs.List.{list_all}
 use Rattle.std.specs.Cmp.Lexicographic.{pointwise}
 use Rattle.std.specs.Ordering.{int_eq}
@@ -174,6 +174,12 @@ abbrev pub FilesSpellADatabase : Type 0
 FilesSpellADatabase =
     (schema : Schema) (files : List (List ℕ)) → IsTrue (has_identifiers schema) → length files ≡ length schema
     → load_faults schema files ≡ [] → IsDatabase schema (database_of schema files)
+
+-- and each table has at most as many rows as it may have
+abbrev pub FilesKeepTheRowLimit : Type 0
+FilesKeepTheRowLimit =
+    (schema : Schema) (files : List (List ℕ)) → load_faults schema files ≡ []
+    → (table : ℕ) → row_count (database_of schema files) table ≤ most_rows
 
 -- a schema that a text means has identifiers
 abbrev pub SchemasHaveIdentifiers : Type 0

@@ -1,6 +1,6 @@
 //! Laws and examples of databases, of their files, of the two parts of a database and of a query's meaning.
 
-ghost use Rattle.ghost_model.specs.LoadFaults.{FilesSpellADatabase, SchemasHaveIdentifiers, LongFilesAreToldFirst};
+ghost use Rattle.ghost_model.specs.LoadFaults.{FilesSpellADatabase, FilesKeepTheRowLimit, SchemasHaveIdentifiers, LongFilesAreToldFirst};
 ghost use Rattle.ghost_model.specs.Split.{SplitIsRejoined};
 ghost use Rattle.ghost_model.specs.Meaning.{OneRowEach};
 ghost use Rattle.ghost_model.specs.examples.Databases.{ClinicIsSpelled, IntegersOfFields, RecordsOfFiles, HeadersOfFiles, OneRuleBroken, TwoRulesBroken};
@@ -81,6 +81,12 @@ pub fn files_spell_a_database()
 /// An accepted query has at most one row in its answer for each row of its top table.
 pub fn one_row_each()
     ensures { OneRowEach }
+{
+}
+
+/// Files that keep every rule of loading have no table with too many rows.
+pub fn files_keep_the_row_limit()
+    ensures { FilesKeepTheRowLimit }
 {
 }
 
