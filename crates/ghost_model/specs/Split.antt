@@ -2,11 +2,11 @@
 -- keys among them; the identifier stands in neither, since both sides know it. Each part has all rows of each table in
 -- order, so it tells their number. From the public part follow the visible image, which is the host's file, and the
 -- rows that an ask is to be replied with.
-use Rattle.std.specs.Prelude.{◌≡◌, ℕ, ◌+◌, pos, Bool, true, false, not, ◌==◌, List, [], ◌∷◌, ◌++◌, map, drop, filter, filter_map, flat_map, Option, Some, None, slice_get, if◌then◌else◌}
+use Rattle.std.specs.Prelude.{◌≡◌, ℕ, ◌+◌, pos, Bool, true, false, not, ◌&&◌, ◌==◌, List, [], ◌∷◌, ◌++◌, length, map, drop, filter, filter_map, flat_map, Option, Some, None, slice_get, IsTrue, if◌then◌else◌}
 use Rattle.std.specs.List.{list_all}
 use Rattle.ghost_model.specs.Schema.{Schema, Table, Column, Kind, columns_of, places_from}
 use Rattle.ghost_model.specs.Values.{Value, Number, Row, Rows, Database}
-use Rattle.ghost_model.specs.Database.{rows_or_none, holds, IsDatabase}
+use Rattle.ghost_model.specs.Database.{rows_or_none, row_counts, is_of_kind, holds, IsDatabase}
 use Rattle.ghost_model.specs.Cells.{encode_cell}
 use Rattle.ghost_model.specs.Catalog.{catalog_bytes}
 use Rattle.ghost_model.specs.Channel.{Catalog, Ask, Test}
@@ -162,6 +162,32 @@ reply_rows schema public ask = map (reply_row schema ask) (visible_rows schema p
 -- the rows of the reply to an ask, each as its bytes
 abbrev pub reply_bytes : Schema → Public → Ask → List (List ℕ)
 reply_bytes schema public ask = map row_bytes (reply_rows schema public ask)
+
+-- whether there is one value of each of these kinds
+abbrev pub are_of_kinds : List Kind → Row → Bool
+are_of_kinds [] [] = true
+are_of_kinds [] (_ ∷ _) = false
+are_of_kinds (_ ∷ _) [] = false
+are_of_kinds (kind ∷ kinds) (value ∷ values) = is_of_kind kind value && are_of_kinds kinds values
+
+-- a public part that goes with a catalog
+pub record IsPublic (cat : Catalog) (public : Public) : Type 0 where
+  -- the rows of each table are as many as the catalog says
+  pub counted : map length public.visible ≡ cat.counts
+  -- a row has one value for each visible column, of its kind
+  pub kinds : (table place : ℕ) (declared : Table) (row : Row) → slice_get cat.schema table ≡ Some declared
+      → slice_get (rows_in public table) place ≡ Some row → IsTrue (are_of_kinds (visible_kinds declared) row)
+
+-- the bytes are the visible image of such a public part
+pub record SpellsImage (cat : Catalog) (public : Public) (bytes : List ℕ) : Type 0 where
+  pub goes_with : IsPublic cat public
+  pub spelled : bytes ≡ image cat public
+
+-- the public part of a database goes with its catalog
+abbrev pub PublicPartsGoWithCatalogs : Type 0
+PublicPartsGoWithCatalogs =
+    (cat : Catalog) (database : Database) → IsDatabase cat.schema database → row_counts database ≡ cat.counts
+    → IsPublic cat (public_of cat.schema database)
 
 -- a database is its two parts rejoined
 abbrev pub SplitIsRejoined : Type 0

@@ -1,7 +1,7 @@
 //! Laws and examples of databases, of their files, of the two parts of a database and of a query's meaning.
 
 ghost use Rattle.ghost_model.specs.LoadFaults.{FilesSpellADatabase, FilesKeepTheRowLimit, SchemasHaveIdentifiers, LongFilesAreToldFirst};
-ghost use Rattle.ghost_model.specs.Split.{SplitIsRejoined};
+ghost use Rattle.ghost_model.specs.Split.{SplitIsRejoined, PublicPartsGoWithCatalogs};
 ghost use Rattle.ghost_model.specs.Meaning.{OneRowEach};
 ghost use Rattle.ghost_model.specs.examples.Databases.{ClinicIsSpelled, IntegersOfFields, RecordsOfFiles, HeadersOfFiles, OneRuleBroken, TwoRulesBroken};
 ghost use Rattle.ghost_model.specs.examples.Meaning.{PartsOfTheClinic, AnswersOfTheClinic, RefusedTexts, LinesOfRows};
@@ -99,5 +99,11 @@ pub fn schemas_have_identifiers()
 /// A file that is too long is told before anything else in it.
 pub fn long_files_are_told_first()
     ensures { LongFilesAreToldFirst }
+{
+}
+
+/// The public part of a database goes with the database's catalog.
+pub fn public_parts_go_with_catalogs()
+    ensures { PublicPartsGoWithCatalogs }
 {
 }
