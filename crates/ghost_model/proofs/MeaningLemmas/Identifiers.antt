@@ -10,7 +10,8 @@ use Rattle.ghost_model.specs.LoadFaults.{LoadFault, FileLimit, IsFirst, place, u
 use Rattle.ghost_model.specs.Database.{records_of}
 use Rattle.ghost_model.proofs.MeaningLemmas.OneRow.{no_table, neither_true, not_true}
 
-identifier_is_integer : (tables : SchemaText) (c : ColumnText) → is_identifier c ≡ true → is_integer (column_of tables c).kind ≡ true
+identifier_is_integer : (tables : SchemaText) (c : ColumnText) → is_identifier c ≡ true
+    → is_integer (column_of tables c).kind ≡ true
 identifier_is_integer tables (CharColumn name digits hidden) h = cc
 identifier_is_integer tables (IntegerColumn name primary None hidden) h = refl
 identifier_is_integer tables (IntegerColumn name primary (Some (To table says_id)) hidden) h = refl
@@ -19,7 +20,8 @@ not_false : (b : Bool) → not b ≡ false → b ≡ true
 not_false true h = refl
 not_false false h = cc
 
-begin_with_integers : (all tables : SchemaText) → ((at : ℕ) → at < length tables → table_lacks_id (slice_get tables at) ≡ false)
+begin_with_integers : (all tables : SchemaText)
+    → ((at : ℕ) → at < length tables → table_lacks_id (slice_get tables at) ≡ false)
     → list_all (λ (each : Table). begins_with_integer each.columns) (map (table_of all) tables) ≡ true
 begin_with_integers all [] f = refl
 begin_with_integers all (t ∷ ts) f =
@@ -35,7 +37,8 @@ identifiers_of text schema means =
           not_true (lacks_id tables at) (no_table (λ spot. lacks_id tables spot ≡ true) tables (λ table f. means.obeys (NoId table) f) at h) in
     subst (λ s. has_identifiers s ≡ true) means.means (begin_with_integers tables tables none)
 
-pub long_file : (table : ℕ) (columns : List Column) (file : List ℕ) → most_bytes < length file → IsFirst (FileLimit (place table 0 0)) (file_faults table columns file)
+pub long_file : (table : ℕ) (columns : List Column) (file : List ℕ) → most_bytes < length file
+    → IsFirst (FileLimit (place table 0 0)) (file_faults table columns file)
 long_file table columns file h =
     let rest = record_faults table columns (records_of file) in
     let over : nat_le (length file) most_bytes ≡ false = lt-leb (length file) most_bytes h in
