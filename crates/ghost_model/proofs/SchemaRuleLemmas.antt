@@ -9,7 +9,7 @@ use Rattle.ghost_model.specs.Grammar.{Spells, IsSyntaxFault}
 use Rattle.ghost_model.specs.SchemaGrammar.{SchemaText, spelling}
 use Rattle.ghost_model.specs.SchemaPlaces.{syntax_of}
 use Rattle.ghost_model.specs.SchemaMeaning.{schema_of}
-use Rattle.ghost_model.specs.SchemaFaults.{SchemaFault, Syntax, Limit, DuplicateName, NoId, UnknownTable, TwoParents, Cycle, NotOneRoot, is_over, is_duplicate, lacks_id, is_unknown, is_shared, ancestor, Returns, places_of, returns, roots_of, fields, NoneOf, IsFirst, Breaks, rank, MeansSchema, BreaksFirst, IsSchemaFault, duplicate_in, unknown_in, wrong_roots, or_else, fault_of, schema_or, judged, schema_reading, OneSchemaReading}
+use Rattle.ghost_model.specs.SchemaFaults.{SchemaFault, Syntax, Limit, DuplicateName, NoId, UnknownTable, TwoParents, Cycle, NotOneRoot, is_over, is_duplicate, lacks_id, is_unknown, is_shared, ancestor, Returns, places_of, returns, roots_of, fields, NoneOf, IsFirst, Breaks, rank, MeansSchema, BreaksFirst, IsSchemaFault, duplicate_in, unknown_in, wrong_roots, or_else, schema_fault, schema_or, judged, schema_reading, OneSchemaReading}
 use Rattle.ghost_model.proofs.SchemaLemmas.{schema_places}
 
 unSome : {X : Type 0} {a b : X} → Some a ≡ Some b → a ≡ b
@@ -368,14 +368,14 @@ module _ (schema : Schema) (table : ℕ) where
       (s.0, s.1, ap number_or s.1, parent_below schema p.0 s.0 p.2)
 
   -- a way back that meets a table twice can be cut short
-  cut_between : (k low high y : ℕ) → low < high → high < k → ancestor schema (suc low) table ≡ Some y → ancestor schema (suc high) table ≡ Some y
-      → ancestor schema k table ≡ Some table → (j : ℕ) × (0 < j) × (j < k) × (ancestor schema j table ≡ Some table)
-  cut_between k low high y above within a b e =
+  cut_between : (k low high y z : ℕ) → low < high → high < k → ancestor schema (suc low) table ≡ Some y → ancestor schema (suc high) table ≡ Some z
+      → z ≡ y → ancestor schema k table ≡ Some table → (j : ℕ) × (0 < j) × (j < k) × (ancestor schema j table ≡ Some table)
+  cut_between k low high y z above within a b same e =
       ((k - suc high) + suc low,
         omega arith,
         omega arith,
         further schema table y (k - suc high) (suc low) ((k - suc high) + suc low) refl a
-        ∙ (sym (further schema table y (k - suc high) (suc high) k (omega arith) b) ∙ e))
+        ∙ (sym (further schema table y (k - suc high) (suc high) k (omega arith) (b ∙ ap Some same)) ∙ e))
 
   cut_short : (k : ℕ) → length schema < k → ancestor schema k table ≡ Some table
       → (j : ℕ) × (0 < j) × (j < k) × (ancestor schema j table ≡ Some table)
@@ -385,8 +385,7 @@ module _ (schema : Schema) (table : ℕ) where
       let within : r.high ≤ length schema = r.within in
       let a = on_the_way r.low k table (omega arith) e in
       let b = on_the_way r.high k table (omega arith) e in
-      let same : b.0 ≡ a.0 = same_values (way r.low) (way r.high) a.0 b.0 r.equal a.2 b.2 in
-      cut_between k r.low r.high a.0 above (omega arith) a.1 (b.1 ∙ ap Some same) e
+      cut_between k r.low r.high a.0 b.0 above (omega arith) a.1 b.1 (same_values (way r.low) (way r.high) a.0 b.0 r.equal a.2 b.2) e
 
   short_way : (bound k : ℕ) → k ≤ bound → 0 < k → ancestor schema k table ≡ Some table → ShortWay schema table
   short_way zero k h m e = absurd (omega arith)
@@ -407,7 +406,7 @@ returns_no schema table r =
 
 -- all rules
 
-pub all_rules : (tables : SchemaText) → From tables 1 (fault_of tables)
+pub all_rules : (tables : SchemaText) → From tables 1 (schema_fault tables)
 all_rules tables =
     or_else_from tables 1 _ _ (limit_by tables (is_over tables) refl)
     (or_else_from tables 2 _ _
@@ -433,9 +432,9 @@ syntax_back : (tables : SchemaText) (f : SchemaFault) → rank f ≡ 0 → Break
 syntax_back tables (Syntax at) e broken = absurd broken
 syntax_back tables _ e broken = absurd (omega arith)
 
-every_rule : (tables : SchemaText) → From tables 0 (fault_of tables)
+every_rule : (tables : SchemaText) → From tables 0 (schema_fault tables)
 every_rule tables =
-    or_else_from tables 0 None (fault_of tables) (record { sound = λ f e. absurd (cc); complete = syntax_back tables }) (all_rules tables)
+    or_else_from tables 0 None (schema_fault tables) (record { sound = λ f e. absurd (cc); complete = syntax_back tables }) (all_rules tables)
 
 one_ok : {T E : Type 0} (r : Result T E) (a b : T) → r ≡ Ok a → r ≡ Ok b → a ≡ b
 one_ok r a b e f = cc
@@ -471,7 +470,7 @@ module _ (tables : SchemaText) where
 means_back : (text : List ℕ) (schema : Schema) → MeansSchema text schema → schema_reading text ≡ Ok schema
 means_back text schema m =
     ap judged ((schema_places.tree text m.tables).1 m.spells)
-    ∙ (obeying m.tables (fault_of m.tables) (every_rule m.tables) m.obeys ∙ ap Ok m.means)
+    ∙ (obeying m.tables (schema_fault m.tables) (every_rule m.tables) m.obeys ∙ ap Ok m.means)
 
 breaks_back : (text : List ℕ) (f : SchemaFault) → BreaksFirst text f → schema_reading text ≡ Err f
 breaks_back text f b =
@@ -489,13 +488,13 @@ as_fault text f b = b
 means_by : (text : List ℕ) (schema : Schema) (syntax : Result SchemaText ℕ) → syntax_of text ≡ syntax → judged syntax ≡ Ok schema → MeansSchema text schema
 means_by text schema (Err at) e h = absurd (cc)
 means_by text schema (Ok tables) e h =
-    let r = reads_schema tables schema (fault_of tables) (every_rule tables) h in
+    let r = reads_schema tables schema (schema_fault tables) (every_rule tables) h in
     record { tables = tables; spells = (schema_places.tree text tables).0 e; obeys = r.0; means = r.1 }
 
 fault_by : (text : List ℕ) (f : SchemaFault) (syntax : Result SchemaText ℕ) → syntax_of text ≡ syntax → judged syntax ≡ Err f → IsSchemaFault text f
 fault_by text f (Err at) e h = let g : Syntax at ≡ f = cc in subst (IsSchemaFault text) g ((schema_places.fault text at).0 e)
 fault_by text f (Ok tables) e h =
-    let r = reads_fault tables f (fault_of tables) (every_rule tables) h in
+    let r = reads_fault tables f (schema_fault tables) (every_rule tables) h in
     as_fault text f (record {
       tables = tables;
       spells = (schema_places.tree text tables).0 e;

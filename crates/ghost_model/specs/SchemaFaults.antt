@@ -200,8 +200,8 @@ abbrev pub or_else : {X : Type 0} → Option X → Option X → Option X
 or_else None other = other
 or_else (Some x) other = Some x
 
-abbrev pub fault_of : SchemaText → Option SchemaFault
-fault_of tables =
+abbrev pub schema_fault : SchemaText → Option SchemaFault
+schema_fault tables =
     or_else (if is_over tables then Some Limit else None)
         (or_else (duplicate_in tables)
             (or_else (option_map NoId (find (lacks_id tables) (places_of tables)))
@@ -216,7 +216,7 @@ schema_or schema (Some fault) = Err fault
 
 abbrev pub judged : Result SchemaText ℕ → Result Schema SchemaFault
 judged (Err at) = Err (Syntax at)
-judged (Ok tables) = schema_or (schema_of tables) (fault_of tables)
+judged (Ok tables) = schema_or (schema_of tables) (schema_fault tables)
 
 abbrev pub schema_reading : List ℕ → Result Schema SchemaFault
 schema_reading text = judged (syntax_of text)
