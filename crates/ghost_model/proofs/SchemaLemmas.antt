@@ -1,19 +1,17 @@
 -- The places of a schema's text say what its grammar says: each step reads one symbol, the symbols of each tree lead
 -- from the start to the end, and from each place before the end some symbols complete a tree.
-use Rattle.std.proofs.Common.{◌≡◌, ℕ, ◌+◌, Bool, true, false, ◌&&◌, List, [], ◌∷◌, ◌++◌, map, take, drop, length, ◌<◌, ◌≤◌, zero, subst, arith, add-one, Option, Some, None, option_map, option_and_then, Result, Ok, Err, flat_map, ◌⊎◌, inl, inr, suc, slice_get, codes, bytes_eq, if◌then◌else◌, refl, sym, ap, ◌∙◌, append_assoc, append-nil}
+use Rattle.std.proofs.Common.{◌≡◌, ℕ, Bool, true, false, List, [], ◌∷◌, ◌++◌, map, length, Option, Some, None, option_map, option_and_then, Result, Ok, Err, flat_map, ◌⊎◌, inl, inr, slice_get, codes, bytes_eq, if◌then◌else◌, refl, sym, ap, ◌∙◌, append_assoc, append-nil}
 use Rattle.std.proofs.lemmas.Grind.{flat_map-append}
 use Rattle.std.proofs.lemmas.Slice.Eq.{bytes_eq-Decides}
-use Rattle.std.proofs.lemmas.List.Folds.{list_all-append}
 use Rattle.std.specs.List.{list_all}
-use Rattle.std.proofs.lemmas.Option.{slice_get_within, slice_get-map}
 use Rattle.std.proofs.lemmas.List.{map-append, length-map}
 use Rattle.std.proofs.lemmas.Bool.{and_from}
 use Rattle.ghost_model.proofs.TokenLemmas.{before_end}
-use Rattle.ghost_model.proofs.GrammarLemmas.{more_begun, spelled_both, spelled_before, spelled_front, no_end_inside, viable_of, run, run-append, dead_after, fault_after, no_fault, one_fault}
+use Rattle.ghost_model.proofs.GrammarLemmas.{more_begun, spelled_both, spelled_front, no_end_inside, viable_of, run, run-append, dead_after, fault_after, no_fault, one_fault}
 use Rattle.ghost_model.specs.Spelled.{is_spelled, is_name, is_number}
-use Rattle.ghost_model.specs.Tokens.{symbol_of, symbols, tokens, offset_of, Symbol, Token, Keyword, Word, Name, Digits, Open, Closing, Comma, Semicolon, End, Char, Create, Hidden, Integer, Key, Primary, References, Table}
-use Rattle.ghost_model.specs.Grammar.{Spells, IsViable, IsFault, IsSyntaxFault, separated, begun}
-use Rattle.ghost_model.specs.SchemaGrammar.{Reference, To, ColumnText, CharColumn, IntegerColumn, TableText, SchemaText, spell_hidden, spell_primary, spell_reference, spell_column, spell_heading, spell_table, spelling}
+use Rattle.ghost_model.specs.Tokens.{symbol_of, symbols, tokens, offset_of, Symbol, Token, Word, Name, Digits, Open, Closing, Comma, Semicolon, End, Char, Create, Hidden, Integer, Key, Primary, References, Table}
+use Rattle.ghost_model.specs.Grammar.{Spells, IsViable, IsSyntaxFault, separated, begun}
+use Rattle.ghost_model.specs.SchemaGrammar.{Reference, To, ColumnText, CharColumn, IntegerColumn, TableText, SchemaText, spell_column, spell_heading, spell_table, spelling}
 use Rattle.ghost_model.specs.SchemaPlaces.{InColumn, Named, AfterChar, AfterOpen, AfterLength, AfterPrimary, AfterReferences, OpensId, AfterId, Whole, Place, Between, AfterCreate, AfterTable, AfterName, WantsColumn, Within, AfterColumns, Ended, before_in, before, table_from, after_integer, after_column, after_parenthesis, step_in, step_within, step, tree_at, syntax_from, syntax_of, SchemaPlacesAreExact}
 
 unSome : {X : Type 0} {a b : X} → Some a ≡ Some b → a ≡ b
@@ -135,7 +133,7 @@ tables_end : (tables : SchemaText) (name : List ℕ) (columns : List ColumnText)
 tables_end tables name columns last =
     flat_map-append spell_table tables (table_from name columns last ∷ [])
     ∙ (ap (λ tail. flat_map spell_table tables ++ tail)
-        (append-nil (spell_table (table_from name columns last)) ∙ table_ends name columns last)
+    (append-nil (spell_table (table_from name columns last)) ∙ table_ends name columns last)
     ∙ sym (regroup5 (flat_map spell_table tables) (spell_heading name) (begun Comma spell_column columns) (spell_column last) (Closing ∷ []) (Semicolon ∷ [])))
 
 regroup_table : (a b c xs : List Symbol) → ((a ++ b) ++ c) ++ xs ≡ a ++ (b ++ (c ++ xs))
@@ -186,7 +184,7 @@ unfolding extended
 columns_lead tables name columns last [] xs = refl
 columns_lead tables name columns last (x ∷ later) xs =
     ap (run step (WantsColumn tables name (columns ++ last ∷ [])))
-        (append_assoc (spell_column x) (flat_map (λ other. Comma ∷ spell_column other) later) (Closing ∷ Semicolon ∷ xs))
+    (append_assoc (spell_column x) (flat_map (λ other. Comma ∷ spell_column other) later) (Closing ∷ Semicolon ∷ xs))
     ∙ (column_leads tables name (columns ++ last ∷ []) x (flat_map (λ other. Comma ∷ spell_column other) later ++ Closing ∷ Semicolon ∷ xs)
     ∙ columns_lead tables name (columns ++ last ∷ []) x later xs)
 
@@ -208,7 +206,7 @@ table_leads : (tables : SchemaText) (table : TableText) (xs : List Symbol)
     → run step (Between tables) (spell_table table ++ xs) ≡ run step (Between (tables ++ table ∷ [])) xs
 table_leads tables table xs =
     ap (run step (WantsColumn tables table.name []))
-        (regroup_table (spell_column table.first) (flat_map (λ other. Comma ∷ spell_column other) table.others) (Closing ∷ Semicolon ∷ []) xs)
+    (regroup_table (spell_column table.first) (flat_map (λ other. Comma ∷ spell_column other) table.others) (Closing ∷ Semicolon ∷ []) xs)
     ∙ (column_leads tables table.name [] table.first (flat_map (λ other. Comma ∷ spell_column other) table.others ++ Closing ∷ Semicolon ∷ xs)
     ∙ (columns_lead tables table.name [] table.first table.others xs
     ∙ ap (λ last. run step (Between (tables ++ last ∷ [])) xs) (extended_first table.name table.first table.others)))
@@ -240,8 +238,9 @@ on_by p s q e spelled on = record {
   tables = on.tables;
   spelled = and_from _ _ spelled on.spelled;
   whole =
-    ap (λ front. front ++ End ∷ []) (sym (append_assoc (before p) (s ∷ []) on.rest) ∙ ap (λ front. front ++ on.rest) (sym (step_read p s q e)))
-    ∙ on.whole }
+      ap (λ front. front ++ End ∷ []) (sym (append_assoc (before p) (s ∷ []) on.rest) ∙ ap (λ front. front ++ on.rest) (sym (step_read p s q e)))
+      ∙ on.whole;
+}
 
 from_between : (tables : SchemaText) → Completes (Between tables)
 from_between tables = record { rest = []; tables = tables; spelled = refl; whole = ap (λ front. front ++ End ∷ []) (append-nil (flat_map spell_table tables)) }
@@ -249,13 +248,13 @@ from_between tables = record { rest = []; tables = tables; spelled = refl; whole
 from_columns : (tables : SchemaText) (name : List ℕ) (columns : List ColumnText) (last : ColumnText) → Completes (AfterColumns tables name columns last)
 from_columns tables name columns last =
     on_by (AfterColumns tables name columns last) Semicolon (Between (tables ++ table_from name columns last ∷ [])) refl refl
-        (from_between (tables ++ table_from name columns last ∷ []))
+    (from_between (tables ++ table_from name columns last ∷ []))
 
 module _ (tables : SchemaText) (name : List ℕ) (columns : List ColumnText) where
   from_whole : (last : ColumnText) → Completes (Within tables name columns (Whole last))
   from_whole last =
       on_by (Within tables name columns (Whole last)) Closing (AfterColumns tables name columns last) refl refl
-          (from_columns tables name columns last)
+      (from_columns tables name columns last)
 
   on_within : (last : InColumn) (s : Symbol) (q : InColumn) → step_within tables name columns last s ≡ Some (Within tables name columns q)
       → is_spelled s ≡ true → Completes (Within tables name columns q) → Completes (Within tables name columns last)
@@ -272,7 +271,7 @@ module _ (tables : SchemaText) (name : List ℕ) (columns : List ColumnText) whe
   from_id : (column : List ℕ) (primary : Bool) (table : List ℕ) → Completes (Within tables name columns (AfterId column primary table))
   from_id column primary table =
       on_within (AfterId column primary table) Closing (Whole (IntegerColumn column primary (Some (To table true)) false)) refl refl
-          (from_whole (IntegerColumn column primary (Some (To table true)) false))
+      (from_whole (IntegerColumn column primary (Some (To table true)) false))
 
   from_column : (last : InColumn) → Completes (Within tables name columns last)
   unfolding is_name
@@ -285,7 +284,7 @@ module _ (tables : SchemaText) (name : List ℕ) (columns : List ColumnText) whe
       on_within (AfterPrimary column) (Word Key) (Whole (IntegerColumn column true None false)) refl refl (from_whole (IntegerColumn column true None false))
   from_column (AfterReferences column primary) =
       on_within (AfterReferences column primary) (Name (97 ∷ [])) (Whole (IntegerColumn column primary (Some (To (97 ∷ []) false)) false)) refl refl
-          (from_whole (IntegerColumn column primary (Some (To (97 ∷ []) false)) false))
+      (from_whole (IntegerColumn column primary (Some (To (97 ∷ []) false)) false))
   from_column (OpensId column primary table) =
       on_within (OpensId column primary table) (Name (codes "id")) (AfterId column primary table) refl refl (from_id column primary table)
   from_column (AfterId column primary table) = from_id column primary table
@@ -295,7 +294,7 @@ from_wants : (tables : SchemaText) (name : List ℕ) (columns : List ColumnText)
 unfolding is_name
 from_wants tables name columns =
     on_by (WantsColumn tables name columns) (Name (97 ∷ [])) (Within tables name columns (Named (97 ∷ []))) refl refl
-        (from_column tables name columns (Named (97 ∷ [])))
+    (from_column tables name columns (Named (97 ∷ [])))
 
 from_name : (tables : SchemaText) (name : List ℕ) → Completes (AfterName tables name)
 from_name tables name = on_by (AfterName tables name) Open (WantsColumn tables name []) refl refl (from_wants tables name [])
@@ -378,7 +377,8 @@ stopped_after p token later now at (Some q) e (inl h) =
       place = h.place;
       led = ap (option_and_then (λ next. run step next (map symbol_of h.front))) e ∙ h.led;
       refused = h.refused;
-      offset = h.offset })
+      offset = h.offset;
+    })
 stopped_after p token later now at (Some q) e (inr h) =
     inr (record { place = h.place; led = ap (option_and_then (λ next. run step next (map symbol_of later))) e ∙ h.led; open_end = h.open_end })
 
@@ -435,7 +435,7 @@ module _ (text : List ℕ) (at : ℕ) (stops : Stops (Between []) (tokens text) 
       let spelled = spelled_front text (map symbol_of stops.front) stops.token.symbol (map symbol_of stops.later) given in
       let on = goes_on stops.place (ap (list_all is_spelled) read ∙ spelled) in
       viable_of spelling on.tables (map symbol_of stops.front) on.rest (spelled_both (map symbol_of stops.front) on.rest spelled on.spelled)
-          (ap (λ front. (front ++ on.rest) ++ End ∷ []) (sym read) ∙ on.whole)
+      (ap (λ front. (front ++ on.rest) ++ End ∷ []) (sym read) ∙ on.whole)
 
   is_syntax_fault : IsSyntaxFault spelling text at
   is_syntax_fault = record {
@@ -443,16 +443,18 @@ module _ (text : List ℕ) (at : ℕ) (stops : Stops (Between []) (tokens text) 
     fault = fault_after spelling text (map symbol_of stops.front) stops.token.symbol (map symbol_of stops.later) given front_viable
         (dead_after spelling step (Between []) stops.place (map symbol_of stops.front) stops.token.symbol (λ tree. (Ended tree, leads tree)) stops.led stops.refused);
     offset =
-      ap (option_map (λ (token : Token). token.at))
-          (ap (slice_get (tokens text)) (length-map stops.front symbol_of)
-          ∙ (ap (λ all. slice_get all (length stops.front)) stops.whole ∙ at_seam stops.front stops.token stops.later))
-      ∙ ap Some stops.offset }
+        ap (option_map (λ (token : Token). token.at))
+        (ap (slice_get (tokens text)) (length-map stops.front symbol_of)
+        ∙ (ap (λ all. slice_get all (length stops.front)) stops.whole ∙ at_seam stops.front stops.token stops.later))
+        ∙ ap Some stops.offset;
+  }
 
 fault_found : (text : List ℕ) (at : ℕ) → syntax_of text ≡ Err at → IsSyntaxFault spelling text at
 fault_found text at e =
     elim (fault_read (Some (Between [])) 0 (tokens text) at e) [
-      inl h ↦ is_syntax_fault text at h
-    | inr h ↦ absurd (never_exhausts text h) ]
+      | inl h ↦ is_syntax_fault text at h
+      | inr h ↦ absurd (never_exhausts text h)
+    ]
 
 tree_found : (text : List ℕ) (tables : SchemaText) → syntax_of text ≡ Ok tables → Spells spelling text tables
 tree_found text tables e = sym (run_read (Between []) (symbols text) (Ended tables) (tree_read (Some (Between [])) 0 (tokens text) tables e))
@@ -476,4 +478,5 @@ fault_given text at (Err other) e h =
 pub schema_places : SchemaPlacesAreExact
 schema_places = record {
   tree = λ text tables. (tree_found text tables, tree_given text tables (syntax_of text) refl);
-  fault = λ text at. (fault_found text at, fault_given text at (syntax_of text) refl) }
+  fault = λ text at. (fault_found text at, fault_given text at (syntax_of text) refl);
+}

@@ -7,7 +7,7 @@ use Rattle.ghost_model.specs.Tokens.{is_between}
 use Rattle.ghost_model.specs.Query.{Field}
 use Rattle.ghost_model.specs.Schema.{Schema, Table, places_where, is_table, keys_to, parent}
 use Rattle.ghost_model.specs.Grammar.{Spells, IsSyntaxFault}
-use Rattle.ghost_model.specs.SchemaGrammar.{Reference, To, ColumnText, CharColumn, IntegerColumn, TableText, SchemaText, spelling}
+use Rattle.ghost_model.specs.SchemaGrammar.{To, ColumnText, CharColumn, IntegerColumn, TableText, SchemaText, spelling}
 use Rattle.ghost_model.specs.SchemaPlaces.{syntax_of}
 use Rattle.ghost_model.specs.SchemaMeaning.{value_of_digits, table_named, columns_written, schema_of}
 
@@ -203,12 +203,12 @@ or_else (Some x) other = Some x
 abbrev pub schema_fault : SchemaText → Option SchemaFault
 schema_fault tables =
     or_else (if is_over tables then Some Limit else None)
-        (or_else (duplicate_in tables)
-            (or_else (option_map NoId (find (lacks_id tables) (places_of tables)))
-                (or_else (unknown_in tables)
-                    (or_else (option_map TwoParents (find (is_shared tables) (places_of tables)))
-                        (or_else (option_map Cycle (find (returns (schema_of tables)) (places_of tables)))
-                            (wrong_roots (roots_of (schema_of tables))))))))
+    (or_else (duplicate_in tables)
+    (or_else (option_map NoId (find (lacks_id tables) (places_of tables)))
+    (or_else (unknown_in tables)
+    (or_else (option_map TwoParents (find (is_shared tables) (places_of tables)))
+    (or_else (option_map Cycle (find (returns (schema_of tables)) (places_of tables)))
+    (wrong_roots (roots_of (schema_of tables))))))))
 
 abbrev pub schema_or : Schema → Option SchemaFault → Result Schema SchemaFault
 schema_or schema None = Ok schema
