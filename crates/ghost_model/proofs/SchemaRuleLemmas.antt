@@ -218,13 +218,13 @@ is_this table (Some other) e = ap Some ((Decides-eqb other table).0 e)
 this_is : (table : ℕ) → is_table table (Some table) ≡ true
 this_is table = (Decides-eqb table table).1 refl
 
-returns_yes : (schema : Schema) (table : ℕ) → returns schema table ≡ true → Returns schema table
+pub returns_yes : (schema : Schema) (table : ℕ) → returns schema table ≡ true → Returns schema table
 returns_yes schema table e =
     let h = some_passes (λ steps. is_table table (ancestor schema (suc steps) table)) (places_of schema) e in
     record { steps = suc h.0; moves = omega arith; back = is_this table (ancestor schema (suc h.0) table) h.1 }
 
 -- a place of a list passes a test
-place_passes : {X : Type 0} (test : ℕ → Bool) (xs : List X) (at k : ℕ) → k < length xs → test (at + k) ≡ true
+pub place_passes : {X : Type 0} (test : ℕ → Bool) (xs : List X) (at k : ℕ) → k < length xs → test (at + k) ≡ true
     → list_any test (places_from (λ _. true) at xs) ≡ true
 unfolding places_from
 place_passes test [] at k h e = absurd (omega arith)
@@ -244,12 +244,12 @@ unfolding places_from
 first_place test [] at p e = absurd (cc)
 first_place test (x ∷ xs) at p e = first_by test xs at p (test x) e (first_place test xs (at + 1) p)
 
-parent_below : (schema : Schema) (table p : ℕ) → parent schema table ≡ Some p → p < length schema
+pub parent_below : (schema : Schema) (table p : ℕ) → parent schema table ≡ Some p → p < length schema
 parent_below schema table p e =
     let h = first_place (λ (other : Table). not (is_empty (keys_to table other))) schema 0 p e in omega arith
 
 -- steps on the way to a table lead to tables
-one_less : (o : Option ℕ) (f : ℕ → Option ℕ) (x : ℕ) → option_and_then f o ≡ Some x → (y : ℕ) × (o ≡ Some y) × (f y ≡ Some x)
+pub one_less : (o : Option ℕ) (f : ℕ → Option ℕ) (x : ℕ) → option_and_then f o ≡ Some x → (y : ℕ) × (o ≡ Some y) × (f y ≡ Some x)
 one_less None f x e = absurd (cc)
 one_less (Some y) f x e = (y, refl, e)
 
@@ -319,7 +319,7 @@ seek_more f n v (missing none) (inr d) = missing (λ i h e. elim (cases_order i 
   | inr (inr more) ↦ absurd (omega arith)
 ])
 
-same_or_not : (a b : ℕ) → (a ≡ b) ⊎ (a ≡ b → ⊥)
+pub same_or_not : (a b : ℕ) → (a ≡ b) ⊎ (a ≡ b → ⊥)
 same_or_not a b = elim (cases_order a b) [
   | inl same ↦ inl same
   | inr (inl less) ↦ inr (λ e. omega arith)
@@ -413,7 +413,7 @@ short_returns schema table (suc k) m few e =
     place_passes (λ steps. is_table table (ancestor schema (suc steps) table)) schema 0 k (omega arith)
     (ap (λ n. is_table table (ancestor schema (suc n) table)) (zero-add k) ∙ (ap (is_table table) e ∙ this_is table))
 
-returns_no : (schema : Schema) (table : ℕ) → Returns schema table → returns schema table ≡ true
+pub returns_no : (schema : Schema) (table : ℕ) → Returns schema table → returns schema table ≡ true
 returns_no schema table r =
     let s = short_way schema table r.steps r.steps (omega arith) r.moves r.back in
     short_returns schema table s.steps s.moves s.few s.back

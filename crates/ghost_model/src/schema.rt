@@ -2,6 +2,7 @@
 
 ghost use Rattle.ghost_model.specs.SchemaPlaces.{SchemaPlacesAreExact};
 ghost use Rattle.ghost_model.specs.SchemaFaults.{OneSchemaReading};
+ghost use Rattle.ghost_model.specs.SchemaTrees.{SchemasAreTrees};
 ghost use Rattle.ghost_model.specs.examples.Schemas.{SchemasOfTexts, SyntaxFaultsOfSchemas, LimitsOfSchemas, NamesOfSchemas, TreesOfSchemas};
 
 /// The places between the tokens of a schema's text say of each text what the grammar says.
@@ -12,6 +13,11 @@ pub fn schema_places_are_exact()
 /// Each text means one schema or has one fault.
 pub fn one_schema_reading()
     ensures { OneSchemaReading }
+{}
+
+/// Each schema that a text means is a tree within the limits.
+pub fn schemas_are_trees()
+    ensures { SchemasAreTrees }
 {}
 
 /// The schemas that some texts mean.
