@@ -1,14 +1,14 @@
 -- Each schema that a text means is a tree within the limits: each rule that is not broken leaves one of its facts.
-use Rattle.std.proofs.Common.{◌≡◌, ℕ, zero, suc, ◌+◌, ◌<◌, ◌≤◌, Bool, true, false, not, ◌||◌, cond, List, [], ◌∷◌, length, map, find, position, Option, Some, None, option_map, slice_get, bytes_eq, codes, refl, sym, ap, ◌∙◌, subst, zero-add, inl, inr, arith}
+use Rattle.std.proofs.Common.{◌≡◌, ℕ, zero, suc, ◌<◌, ◌≤◌, Bool, true, false, not, ◌||◌, cond, List, [], ◌∷◌, length, find, position, Option, Some, None, option_map, slice_get, bytes_eq, codes, refl, sym, ap, ◌∙◌, subst, zero-add, inl, inr, arith}
 use Rattle.std.specs.List.{list_any, position_or_len}
 use Rattle.std.proofs.lemmas.Bool.{ltb-true, ltb-false}
 use Rattle.std.proofs.lemmas.List.{length-map}
-use Rattle.std.proofs.lemmas.Option.{slice_get_within, slice_get-map}
+use Rattle.std.proofs.lemmas.Option.{slice_get-map}
 use Rattle.std.proofs.lemmas.Slice.Eq.{bytes_eq-Decides}
-use Rattle.ghost_model.specs.Schema.{Column, Table, Schema, columns_or_none, columns_of, column_at, parent}
-use Rattle.ghost_model.specs.SchemaGrammar.{Reference, To, ColumnText, CharColumn, IntegerColumn, TableText, SchemaText}
-use Rattle.ghost_model.specs.SchemaMeaning.{table_named, columns_written, column_of, table_of, schema_of}
-use Rattle.ghost_model.specs.SchemaFaults.{SchemaFault, Limit, NoId, TwoParents, Cycle, NotOneRoot, is_over, is_table_over, is_identifier, table_lacks_id, lacks_id, is_shared, ancestor, Returns, places_of, returns, roots_of, IsFirst, Breaks, MeansSchema}
+use Rattle.ghost_model.specs.Schema.{Column, columns_or_none, columns_of, column_at, parent}
+use Rattle.ghost_model.specs.SchemaGrammar.{To, ColumnText, CharColumn, IntegerColumn, TableText, SchemaText}
+use Rattle.ghost_model.specs.SchemaMeaning.{columns_written, column_of, table_of, schema_of}
+use Rattle.ghost_model.specs.SchemaFaults.{SchemaFault, Limit, NoId, TwoParents, Cycle, NotOneRoot, is_over, is_table_over, is_identifier, table_lacks_id, lacks_id, is_shared, ancestor, Returns, places_of, returns, roots_of, IsFirst, Breaks}
 use Rattle.ghost_model.specs.SchemaTrees.{identifier, IsTree, SchemasAreTrees}
 use Rattle.ghost_model.proofs.SchemaRuleLemmas.{find_first, place_passes, returns_yes, returns_no, one_less, parent_below, same_or_not}
 
@@ -43,10 +43,10 @@ nowhere : {X : Type 0} (P : ℕ → Type 0) (test : ℕ → Bool) (yes : (x : �
     → ((x : ℕ) → IsFirst P (places_of xs) x → ⊥) → (k : ℕ) → k < length xs → test k ≡ false
 nowhere P test holds tests xs h k within =
     let none : list_any test (places_of xs) ≡ false =
-          none_found test (places_of xs) (no_first (find test (places_of xs)) (λ x e. h x (find_first P test holds tests (places_of xs) x e))) in
+    none_found test (places_of xs) (no_first (find test (places_of xs)) (λ x e. h x (find_first P test holds tests (places_of xs) x e))) in
     never_true (test k) (λ e.
-      let some : list_any test (places_of xs) ≡ true = place_passes test xs 0 k within (ap test (zero-add k) ∙ e) in
-      let clash : false ≡ true = sym none ∙ some in absurd (cc))
+    let some : list_any test (places_of xs) ≡ true = place_passes test xs 0 k within (ap test (zero-add k) ∙ e) in
+    let clash : false ≡ true = sym none ∙ some in absurd (cc))
 
 -- the place of a name is one of the list
 position_by : (at : ℕ) (size : ℕ) (b : Bool) (place : ℕ) → (b ≡ true → at < size) → cond b (Some at) None ≡ Some place → place < size
@@ -116,7 +116,7 @@ module _ (tables : SchemaText) (obeys : (fault : SchemaFault) → Breaks tables 
   begins table h =
       let t = there_is tables table h in
       let lacks : lacks_id tables table ≡ false =
-            nowhere (λ place. lacks_id tables place ≡ true) (lacks_id tables) (λ x e. e) (λ x e. e) tables (λ x. obeys (NoId x)) table h in
+      nowhere (λ place. lacks_id tables place ≡ true) (lacks_id tables) (λ x e. e) (λ x e. e) tables (λ x. obeys (NoId x)) table h in
       let first : is_identifier t.0.first ≡ true = not_false _ (neither _ _ (ap table_lacks_id (sym t.1) ∙ lacks)).0 in
       ap (λ columns. slice_get columns 0) (table_in table ∙ ap (λ o. columns_or_none (option_map (table_of tables) o)) t.1)
       ∙ ap Some (first_is_id tables t.0.first first)
@@ -132,8 +132,8 @@ module _ (tables : SchemaText) (obeys : (fault : SchemaFault) → Breaks tables 
   no_return table r =
       let within : table < length tables = return_within table r.steps r.moves r.back in
       let no : returns (schema_of tables) table ≡ false =
-            nowhere (Returns (schema_of tables)) (returns (schema_of tables)) (returns_yes (schema_of tables)) (returns_no (schema_of tables)) tables
-              (λ x. obeys (Cycle x)) table within in
+      nowhere (Returns (schema_of tables)) (returns (schema_of tables)) (returns_yes (schema_of tables)) (returns_no (schema_of tables)) tables
+      (λ x. obeys (Cycle x)) table within in
       let clash : false ≡ true = sym no ∙ returns_no (schema_of tables) table r in
       absurd (cc)
 
@@ -152,11 +152,13 @@ module _ (tables : SchemaText) (obeys : (fault : SchemaFault) → Breaks tables 
     keys_are_hidden = λ table column child held e h. (key table column child held e h).0;
     keys_name_tables = λ table column child held e h. subst (λ n. child < n) (sym size) (key table column child held e h).1;
     one_parent = λ table h.
-      ltb-false 1 _ (nowhere (λ place. is_shared tables place ≡ true) (is_shared tables) (λ x e. e) (λ x e. e) tables (λ x. obeys (TwoParents x)) table (subst (λ n. table < n) size h));
+        ltb-false 1 _ (nowhere (λ place. is_shared tables place ≡ true) (is_shared tables) (λ x e. e) (λ x e. e) tables (λ x. obeys (TwoParents x)) table (subst (λ n. table < n) size h));
     no_cycle = no_return;
     one_root = elim (same_or_not (roots_of (schema_of tables)) 1) [
-        inl e ↦ e
-      | inr d ↦ absurd (obeys (NotOneRoot (roots_of (schema_of tables))) (refl, d)) ] }
+      | inl e ↦ e
+      | inr d ↦ absurd (obeys (NotOneRoot (roots_of (schema_of tables))) (refl, d))
+    ];
+  }
 
 pub schemas_are_trees : SchemasAreTrees
 schemas_are_trees text schema means = subst IsTree means.means (tree_of means.tables means.obeys)

@@ -1,7 +1,7 @@
 -- What the rules leave: each schema that a text means is a tree of tables within the limits. Every table begins with
 -- its identifier, at most one foreign key names a table, following parents never returns, and exactly one table, the
 -- root, has no parent.
-use Rattle.std.specs.Prelude.{◌≡◌, ℕ, ◌<◌, ◌≤◌, true, false, List, length, codes, Option, Some, None}
+use Rattle.std.specs.Prelude.{◌≡◌, ℕ, ◌<◌, ◌≤◌, true, false, List, length, codes, Some, None}
 use Rattle.ghost_model.specs.Schema.{Integer, Column, Schema, columns_of, column_at}
 use Rattle.ghost_model.specs.SchemaFaults.{Returns, keys_naming, roots_of, MeansSchema}
 
