@@ -109,6 +109,7 @@ pub record Returns (schema : Schema) (table : ℕ) : Type 0 where
   pub moves : 0 < steps
   pub back : ancestor schema steps table ≡ Some table
 
+-- the place of each element of a list
 abbrev pub places_of : {X : Type 0} → List X → List ℕ
 places_of xs = places_where (λ _. true) xs
 
@@ -144,7 +145,7 @@ pub record IsFirst {X : Type 0} (P : X → Type 0) (all : List X) (x : X) : Type
   pub holds : P x
   pub none_before : NoneOf P front
 
--- the tree breaks the rule, and this is the first place where it does
+-- the tree breaks the rule, and this is the first place where it does, or for the roots their number
 abbrev pub Breaks : SchemaText → SchemaFault → Type 0
 Breaks tables (Syntax at) = ⊥
 Breaks tables Limit = is_over tables ≡ true
@@ -168,12 +169,14 @@ rank (TwoParents child) = 5
 rank (Cycle table) = 6
 rank (NotOneRoot roots) = 7
 
+-- the text spells a tree that breaks no rule, and this is the schema of that tree
 pub record MeansSchema (text : List ℕ) (schema : Schema) : Type 0 where
   pub tables : SchemaText
   pub spells : Spells spelling text tables
   pub obeys : (fault : SchemaFault) → Breaks tables fault → ⊥
   pub means : schema_of tables ≡ schema
 
+-- the tree that the text spells breaks the rule of this fault and none before it
 pub record BreaksFirst (text : List ℕ) (fault : SchemaFault) : Type 0 where
   pub tables : SchemaText
   pub spells : Spells spelling text tables
@@ -184,7 +187,7 @@ abbrev pub IsSchemaFault : List ℕ → SchemaFault → Type 0
 IsSchemaFault text (Syntax at) = IsSyntaxFault spelling text at
 IsSchemaFault text fault = BreaksFirst text fault
 
--- the same, to be computed: the fault of each rule, the first of the rules, and what a text is read as
+-- The same, to be computed: the first fault of a tree by the rules in their order, and what a text is read as.
 abbrev pub duplicate_in : SchemaText → Option SchemaFault
 duplicate_in tables =
     option_map (λ (field : Field). DuplicateName field.table field.column) (find (is_duplicate tables) (fields tables))
