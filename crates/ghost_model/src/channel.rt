@@ -1,6 +1,7 @@
 //! Laws and examples of frames, asks, journals and of what the host sends.
 
 ghost use Rattle.ghost_model.specs.Frames.{FramesArePrefixFree, FramesHaveOneSpelling};
+ghost use Rattle.ghost_model.specs.Asks.{AsksHaveOneSpelling};
 ghost use Rattle.ghost_model.specs.NextMove.{TwoWorlds, ReceivedIsSpelled};
 ghost use Rattle.ghost_model.specs.examples.Channel.{SpellingsOfFrames, ReadingsOfFrames, JournalOfTheNotes, AsksOfQueries, AsksOfBytes, JournalOfTheClinic, JournalWithoutAsks, InvalidFrames, FramesThatAreDue, AnswersOfTheHost};
 
@@ -14,6 +15,12 @@ pub fn frames_are_prefix_free()
 /// else is found.
 pub fn frames_have_one_spelling()
     ensures { FramesHaveOneSpelling }
+{
+}
+
+/// An ask that a key may send is the one that its payload spells, and no other payload spells it.
+pub fn asks_have_one_spelling()
+    ensures { AsksHaveOneSpelling }
 {
 }
 
