@@ -1,3 +1,4 @@
 -- The lemmas on databases: a database and its parts, the files that spell one, and the rows of an answer.
 pub mod Rejoining
 pub mod Loading
+pub mod OneRow

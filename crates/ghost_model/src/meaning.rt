@@ -2,6 +2,7 @@
 
 ghost use Rattle.ghost_model.specs.LoadFaults.{FilesSpellADatabase};
 ghost use Rattle.ghost_model.specs.Split.{SplitIsRejoined};
+ghost use Rattle.ghost_model.specs.Meaning.{OneRowEach};
 ghost use Rattle.ghost_model.specs.examples.Databases.{ClinicIsSpelled, IntegersOfFields, RecordsOfFiles, HeadersOfFiles, OneRuleBroken, TwoRulesBroken};
 ghost use Rattle.ghost_model.specs.examples.Meaning.{PartsOfTheClinic, AnswersOfTheClinic, RefusedTexts, LinesOfRows};
 
@@ -74,5 +75,11 @@ pub fn lines_of_rows()
 /// Files that keep every rule of loading spell a database.
 pub fn files_spell_a_database()
     ensures { FilesSpellADatabase }
+{
+}
+
+/// An accepted query has at most one row in its answer for each row of its top table.
+pub fn one_row_each()
+    ensures { OneRowEach }
 {
 }
