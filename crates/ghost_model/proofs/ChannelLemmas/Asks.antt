@@ -1,21 +1,20 @@
 -- Lemmas on the spelling of cells and of asks.
-use Rattle.std.proofs.Common.{◌≡◌, ℕ, zero, suc, ◌+◌, ◌-◌, ◌*◌, ◌<◌, ◌≤◌, ◌^◌, ◌⊎◌, ◌≢◌, inl, inr, Bool, true, false, ◌&&◌, List, [], ◌∷◌, ◌++◌, length, take, drop, slice_index, replicate, sym, ◌∙◌, ap, subst, refl, arith, length-append, append-nil, append_assoc, lit<, w16, w32, w64, Option, Some, None, pos, negsuc, ℤ}
-use Rattle.std.specs.Prelude.{◌==◌, nat_lt, nat_le, not, if◌then◌else◌, take_while, bytes_eq, flat_map}
+use Rattle.std.proofs.Common.{◌≡◌, ℕ, zero, suc, ◌+◌, ◌-◌, ◌<◌, ◌≤◌, ◌^◌, Bool, true, false, ◌&&◌, List, [], ◌∷◌, ◌++◌, length, take, drop, slice_index, replicate, sym, ◌∙◌, ap, subst, refl, arith, length-append, Option, Some, None, pos, negsuc, ℤ}
+use Rattle.std.specs.Prelude.{◌==◌, nat_le, if◌then◌else◌, bytes_eq, flat_map}
 use Rattle.std.specs.List.{list_all, prefix_len}
-use Rattle.std.specs.Int.{to_be_bytes, from_be_bytes}
-use Rattle.std.proofs.lemmas.List.{nil_from_length, length-replicate}
+use Rattle.std.proofs.lemmas.List.{length-replicate}
 use Rattle.std.proofs.lemmas.Nat.{from_be_bytes-to_be_bytes_8}
-use Rattle.std.proofs.lemmas.Bool.Decides.{nat_tests, eqb_tells, leb_tells}
-use Rattle.std.proofs.lemmas.Bool.{eqb-true, ltb-false, ltb-true, le-ltb, leb-true}
+use Rattle.std.proofs.lemmas.Bool.Decides.{nat_tests}
+use Rattle.std.proofs.lemmas.Bool.{ltb-true, leb-true}
 use Rattle.std.proofs.lemmas.Slice.Eq.{bytes_eq-Decides}
-use Rattle.std.proofs.Math.Seq.{take-length, take-append_seam, drop-append_seam}
+use Rattle.std.proofs.Math.Seq.{take-append_seam, drop-append_seam}
 use Rattle.ghost_model.specs.Schema.{Schema, Kind, Integer, Chars}
 use Rattle.ghost_model.specs.Query.{Operator, Equal, Unequal, Less, AtMost, More, AtLeast}
 use Rattle.ghost_model.specs.Channel.{Ask, Test}
 use Rattle.ghost_model.specs.Asks as asks
 use Rattle.ghost_model.specs.Values.{Value, Number, Text}
 use Rattle.ghost_model.specs.Tokens.{is_printable}
-use Rattle.ghost_model.specs.Database.{is_of_kind, is_text, fits_integer}
+use Rattle.ghost_model.specs.Database.{is_of_kind, fits_integer}
 use Rattle.ghost_model.specs.Cells.{cell_width, encode_cell, decode_cell, above_lowest, from_lowest, text_in, is_text_cell, is_not_zero, padded}
 
 record BothHold (a b : Bool) : Type 0 where
@@ -93,10 +92,10 @@ is_padded_text : (most : ℕ) (text : List ℕ) → list_all is_printable text �
 is_padded_text most text e =
     let inside : text_in (padded most text) ≡ text = text_of_padded text (most - length text) e in
     hold_both _ _
-      (ap (λ (t : List ℕ). list_all is_printable t) inside ∙ e)
-      (ap (λ (t : List ℕ). list_all (λ byte. byte == 0) (drop (length t) (padded most text))) inside
-      ∙ (ap (λ (t : List ℕ). list_all (λ byte. byte == 0) t) (drop-append_seam text (replicate (most - length text) 0))
-      ∙ all_zero (most - length text)))
+    (ap (λ (t : List ℕ). list_all is_printable t) inside ∙ e)
+    (ap (λ (t : List ℕ). list_all (λ byte. byte == 0) (drop (length t) (padded most text))) inside
+    ∙ (ap (λ (t : List ℕ). list_all (λ byte. byte == 0) t) (drop-append_seam text (replicate (most - length text) 0))
+    ∙ all_zero (most - length text)))
 
 decoded_if : (ok : Bool) (value other : Value) → ok ≡ true → value ≡ other → (if ok then Some value else None) ≡ Some other
 decoded_if ok value other e f = rw (e, f)
@@ -113,8 +112,8 @@ cell_is_read (Chars most) (Text text) e =
     let short : length text ≤ most = leb-true (length text) most both.one in
     let size : (length (padded most text) == most) ≡ true = ap (λ (n : ℕ). n == most) (padded_length most text short) ∙ same_number most in
     decoded_if (length (padded most text) == most && is_text_cell (padded most text)) (Text (text_in (padded most text))) (Text text)
-      (hold_both _ _ size (is_padded_text most text both.other))
-      (ap (λ (t : List ℕ). Text t) (text_of_padded text (most - length text) both.other))
+    (hold_both _ _ size (is_padded_text most text both.other))
+    (ap (λ (t : List ℕ). Text t) (text_of_padded text (most - length text) both.other))
 
 -- the cell of a value of its kind has its width
 pub cell_length : (kind : Kind) (value : Value) → is_of_kind kind value ≡ true → length (encode_cell kind value) ≡ cell_width kind
@@ -166,13 +165,13 @@ module _ (schema : Schema) where
       let more : List ℕ = flat_map (asks.test_bytes schema table) tests in
       let size : length cell ≡ cell_width kind = cell_length kind test.value both.one in
       let value : asks.value_or_none (decode_cell kind (take (cell_width kind) (cell ++ more))) ≡ test.value =
-        ap (λ (xs : List ℕ). asks.value_or_none (decode_cell kind xs)) (take_front (cell_width kind) cell more size)
-        ∙ ap (λ (v : Option Value). asks.value_or_none v) (cell_is_read kind test.value both.one) in
+      ap (λ (xs : List ℕ). asks.value_or_none (decode_cell kind xs)) (take_front (cell_width kind) cell more size)
+      ∙ ap (λ (v : Option Value). asks.value_or_none v) (cell_is_read kind test.value both.one) in
       let after : drop (2 + cell_width kind) (test.column ∷ asks.operator_code test.operator ∷ (cell ++ more)) ≡ more =
-        drop_two (cell_width kind) test.column (asks.operator_code test.operator) (cell ++ more) ∙ drop_front (cell_width kind) cell more size in
+      drop_two (cell_width kind) test.column (asks.operator_code test.operator) (cell ++ more) ∙ drop_front (cell_width kind) cell more size in
       cons_tests _ test _ tests
-        (same_test test _ _ (operator_back test.operator) value)
-        (ap (λ (xs : List ℕ). asks.tests_in schema table (length tests) xs) after ∙ tests_back table tests both.other)
+      (same_test test _ _ (operator_back test.operator) value)
+      (ap (λ (xs : List ℕ). asks.tests_in schema table (length tests) xs) after ∙ tests_back table tests both.other)
 
   abbrev ask_with : ℕ → List ℕ → List Test → Ask
   ask_with table columns tests = record { table = table; columns = columns; tests = tests }
@@ -192,11 +191,11 @@ module _ (schema : Schema) where
       let tests : List ℕ = flat_map (asks.test_bytes schema ask.table) ask.tests in
       let rest : List ℕ = length ask.tests ∷ tests in
       let after : drop (2 + length ask.columns) (asks.ask_payload schema ask) ≡ rest =
-        drop_two (length ask.columns) ask.table (length ask.columns) (ask.columns ++ rest) ∙ drop_front (length ask.columns) ask.columns rest refl in
+      drop_two (length ask.columns) ask.table (length ask.columns) (ask.columns ++ rest) ∙ drop_front (length ask.columns) ask.columns rest refl in
       same_ask ask _ _
-        (take_front (length ask.columns) ask.columns rest refl)
-        (ap (λ (xs : List ℕ). asks.tests_in schema ask.table (slice_index xs 0) (drop 1 xs)) after
-        ∙ tests_back ask.table ask.tests (proper_tests ask e))
+      (take_front (length ask.columns) ask.columns rest refl)
+      (ap (λ (xs : List ℕ). asks.tests_in schema ask.table (slice_index xs 0) (drop 1 xs)) after
+      ∙ tests_back ask.table ask.tests (proper_tests ask e))
 
   abbrev judged : List ℕ → Ask → Option Ask
   judged payload ask = if asks.is_proper_ask schema ask && bytes_eq (asks.ask_payload schema ask) payload then Some ask else None
@@ -237,4 +236,4 @@ module _ (schema : Schema) where
       let way : IsJudged (asks.is_proper_ask schema (asks.ask_like schema payload) && bytes_eq (asks.ask_payload schema (asks.ask_like schema payload)) payload) (asks.ask_like schema payload) ask = is_judged _ _ ask e in
       let both : BothHold (asks.is_proper_ask schema (asks.ask_like schema payload)) (bytes_eq (asks.ask_payload schema (asks.ask_like schema payload)) payload) = both_hold _ _ way.holds in
       subst (λ (a : Ask). asks.ask_payload schema a ≡ payload) way.same
-        ((bytes_eq-Decides (asks.ask_payload schema (asks.ask_like schema payload)) payload).0 both.other)
+      ((bytes_eq-Decides (asks.ask_payload schema (asks.ask_like schema payload)) payload).0 both.other)
