@@ -1,6 +1,6 @@
 //! Laws and examples of databases, of their files, of the two parts of a database and of a query's meaning.
 
-ghost use Rattle.ghost_model.specs.LoadFaults.{FilesSpellADatabase, FilesKeepTheRowLimit, SchemasHaveIdentifiers, LongFilesAreToldFirst};
+ghost use Rattle.ghost_model.specs.LoadFaults.{FilesSpellADatabase, FilesKeepTheRowLimit, LongFilesAreToldFirst};
 ghost use Rattle.ghost_model.specs.Split.{SplitIsRejoined, PublicPartsGoWithCatalogs};
 ghost use Rattle.ghost_model.specs.Meaning.{OneRowEach};
 ghost use Rattle.ghost_model.specs.examples.Databases.{ClinicIsSpelled, IntegersOfFields, RecordsOfFiles, HeadersOfFiles, OneRuleBroken, TwoRulesBroken};
@@ -87,12 +87,6 @@ pub fn one_row_each()
 /// Files that keep every rule of loading have no table with too many rows.
 pub fn files_keep_the_row_limit()
     ensures { FilesKeepTheRowLimit }
-{
-}
-
-/// The tables of an accepted schema begin with their identifiers.
-pub fn schemas_have_identifiers()
-    ensures { SchemasHaveIdentifiers }
 {
 }
 

@@ -1,14 +1,16 @@
 -- Files that keep every rule spell a database: a faultless field is of its kind, a faultless record is a row, and
 -- faultless keys are identifiers of rows.
-use Rattle.std.proofs.Common.{◌≡◌, refl, sym, ap, subst, ℕ, zero, suc, ◌+◌, ◌-◌, ◌^◌, ◌≤◌, ℤ, pos, neg_ℤ, Bool, true, false, ◌&&◌, nat_eq, nat_le, List, [], ◌∷◌, ◌++◌, length, map, drop, Option, Some, None, slice_get, unwrap_or, is_some, option_and_then, arith, leb-true, eqb-true, le-leb, if◌then◌else◌}
+use Rattle.std.proofs.Common.{◌≡◌, refl, sym, ap, subst, ℕ, zero, suc, ◌+◌, ◌-◌, ◌^◌, ◌≤◌, ◌<◌, ℤ, pos, neg_ℤ, Bool, true, false, ◌&&◌, nat_eq, nat_le, List, [], ◌∷◌, ◌++◌, length, map, drop, Option, Some, None, slice_get, unwrap_or, is_some, option_and_then, arith, leb-true, eqb-true, le-leb, if◌then◌else◌}
 use Rattle.std.proofs.lemmas.List.{length-map}
+use Rattle.std.proofs.lemmas.Bool.{lt-leb}
 use Rattle.std.specs.List.{list_all}
 use Rattle.std.proofs.lemmas.Bool.Decides.{Decides-int_eq}
 use Rattle.ghost_model.specs.Schema.{Schema, Column, Kind, Integer, Chars, Table, columns_of, column_at}
 use Rattle.ghost_model.specs.Values.{Value, Number, Row, Rows, Database}
 use Rattle.ghost_model.specs.Database.{IsDatabase, row_of, rows_of, row_count, field, fits_integer, is_text, is_of_kind, is_row_among, is_numeral, number_of, signed_within, integer_of, value_of, row_spelled, records_of, database_of}
+use Rattle.ghost_model.specs.SchemaTrees.{IsTree, identifier}
 use Rattle.ghost_model.specs.LoadFaults
-use Rattle.ghost_model.specs.LoadFaults.{LoadFault, FileLimit, Header, RowLimit, FieldCount, BadId, BadInt, BadChars, BadReference, Place, unless, value_faults, field_faults, is_number, id_faults, fields_faults, row_faults, rows_faults, is_header, record_faults, file_faults, files_faults, key_faults, keys_faults, table_references, references_from, load_faults, is_integer, begins_with_integer, most_rows, most_bytes}
+use Rattle.ghost_model.specs.LoadFaults.{IsFirst, LoadFault, FileLimit, Header, RowLimit, FieldCount, BadId, BadInt, BadChars, BadReference, Place, unless, value_faults, field_faults, is_number, id_faults, fields_faults, row_faults, rows_faults, is_header, record_faults, file_faults, files_faults, key_faults, keys_faults, table_references, references_from, load_faults, most_rows, most_bytes}
 
 -- two lists that make none
 pub both_empty : {X : Type 0} (xs ys : List X) → xs ++ ys ≡ [] → (xs ≡ []) × (ys ≡ [])
@@ -114,10 +116,6 @@ number_is : (n : ℕ) (o : Option ℤ) → is_number n o ≡ true → o ≡ Some
 number_is n None h = cc
 number_is n (Some z) h = ap Some ((Decides-int_eq z (pos n)).0 h)
 
-integer_kind : (kind : Kind) → is_integer kind ≡ true → kind ≡ Integer
-integer_kind Integer h = refl
-integer_kind (Chars most) h = cc
-
 row_kinds : (table rec : ℕ) (k : Column) (ks : List Column) (f : List ℕ) (fs : List (List ℕ))
     → is_of_kind k.kind (value_of k.kind f) ≡ true → field_faults table rec 1 ks fs ≡ []
     → (column : ℕ) (value : Value) (declared : Column) → slice_get (row_spelled (k ∷ ks) (f ∷ fs)) column ≡ Some value
@@ -129,7 +127,7 @@ row_kinds table rec k ks f fs first h zero value declared hv hd =
 row_kinds table rec k ks f fs first h (suc column) value declared hv hd =
     fields_are table rec 1 ks fs h column value declared hv hd
 
-pub row_is : (table n : ℕ) (columns : List Column) (fields : List (List ℕ)) → begins_with_integer columns ≡ true
+pub row_is : (table n : ℕ) (columns : List Column) (fields : List (List ℕ)) → slice_get columns 0 ≡ Some identifier
     → row_faults table n columns fields ≡ [] → IsRow columns n (row_spelled columns fields)
 row_is table n [] fields b h = let no : ⊥ = cc in absurd no
 row_is table n (k ∷ ks) fields b h =
@@ -143,7 +141,7 @@ row_is table n (k ∷ ks) fields b h =
     counted (f ∷ fs) same none =
         let r = both_empty (id_faults table n f) (field_faults table (n + 1) 1 ks fs) none in
         let spelled = number_is n (integer_of f) (kept (is_number n (integer_of f)) (BadId (LoadFaults.place table (n + 1) 0)) r.0) in
-        let of_integers = integer_kind k.kind b in
+        let of_integers : k.kind ≡ Integer = ap (λ o. (unwrap_or o k).kind) b in
         let first : value_of Integer f ≡ Number (pos n) = ap (λ o. Number (unwrap_or o (pos 0))) spelled in
         let first_kind : is_of_kind Integer (value_of Integer f) ≡ true = integer_is f (ap is_some spelled) in
         record {
@@ -152,7 +150,7 @@ row_is table n (k ∷ ks) fields b h =
           kinds = row_kinds table (n + 1) k ks f fs (subst (λ kind. is_of_kind kind (value_of kind f) ≡ true) (sym of_integers) first_kind) r.1 }
 
 -- the rows of a file without a fault
-rows_are : (table n : ℕ) (columns : List Column) (records : List (List (List ℕ))) → begins_with_integer columns ≡ true
+rows_are : (table n : ℕ) (columns : List Column) (records : List (List (List ℕ))) → slice_get columns 0 ≡ Some identifier
     → rows_faults table n columns records ≡ []
     → (place : ℕ) (row : Row) → slice_get (map (row_spelled columns) records) place ≡ Some row
     → IsRow columns (n + place) row
@@ -168,7 +166,7 @@ rows_are table n columns (r ∷ rs) b h (suc place) row hr =
     let e : n + 1 + place ≡ n + suc place = omega arith in
     subst (λ m. IsRow columns m row) e (rows_are table (n + 1) columns rs b p.1 place row hr)
 
-records_are : (table : ℕ) (columns : List Column) (records : List (List (List ℕ))) → begins_with_integer columns ≡ true
+records_are : (table : ℕ) (columns : List Column) (records : List (List (List ℕ))) → slice_get columns 0 ≡ Some identifier
     → record_faults table columns records ≡ []
     → (place : ℕ) (row : Row) → slice_get (map (row_spelled columns) (drop 1 records)) place ≡ Some row
     → IsRow columns (1 + place) row
@@ -179,7 +177,7 @@ records_are table columns (header ∷ rows) b h place row hr =
 
 -- the rows of all files without a fault
 tables_are : (table : ℕ) (schema : Schema) (files : List (List ℕ))
-    → list_all (λ (each : Table). begins_with_integer each.columns) schema ≡ true → files_faults table schema files ≡ []
+    → ((at : ℕ) → at < length schema → column_at schema at 0 ≡ Some identifier) → files_faults table schema files ≡ []
     → (at place : ℕ) (row : Row) → slice_get (rows_of (database_of schema files) at) place ≡ Some row
     → IsRow (columns_of schema at) (1 + place) row
 unfolding files_faults
@@ -188,12 +186,10 @@ tables_are table (d ∷ ds) [] b h at place row hr = let no : ⊥ = cc in absurd
 tables_are table (d ∷ ds) (f ∷ fs) b h zero place row hr =
     let p = both_empty (file_faults table d.columns f) (files_faults (table + 1) ds fs) h in
     let q = both_empty (unless (nat_le (length f) most_bytes) (FileLimit (LoadFaults.place table 0 0))) (record_faults table d.columns (records_of f)) p.0 in
-    let c = both_true (begins_with_integer d.columns) (list_all (λ (each : Table). begins_with_integer each.columns) ds) b in
-    records_are table d.columns (records_of f) c.0 q.1 place row hr
+    records_are table d.columns (records_of f) (b 0 (omega arith)) q.1 place row hr
 tables_are table (d ∷ ds) (f ∷ fs) b h (suc at) place row hr =
     let p = both_empty (file_faults table d.columns f) (files_faults (table + 1) ds fs) h in
-    let c = both_true (begins_with_integer d.columns) (list_all (λ (each : Table). begins_with_integer each.columns) ds) b in
-    tables_are (table + 1) ds fs c.1 p.1 at place row hr
+    tables_are (table + 1) ds fs (λ spot within. b (suc spot) (omega arith)) p.1 at place row hr
 
 pub length-database_of : (schema : Schema) (files : List (List ℕ)) → length files ≡ length schema
     → length (database_of schema files) ≡ length schema
@@ -285,12 +281,12 @@ by_identifier schema database are table (suc place) row h =
     subst (λ n. IsRow (columns_of schema table) n row) e (are table place row h)
 
 pub files_are : (schema : Schema) (files : List (List ℕ))
-    → list_all (λ (each : Table). begins_with_integer each.columns) schema ≡ true
+    → IsTree schema
     → length files ≡ length schema → load_faults schema files ≡ [] → IsDatabase schema (database_of schema files)
-files_are schema files identified many none =
+files_are schema files tree many none =
     let database = database_of schema files in
     let p = both_empty (files_faults 0 schema files) (references_from database 0 schema database) none in
-    let rows = tables_are 0 schema files identified p.0 in
+    let rows = tables_are 0 schema files tree.begins_with_id p.0 in
     let each = by_identifier schema database rows in
     record {
       tables = length-database_of schema files many;
@@ -343,3 +339,10 @@ pub files_within : (schema : Schema) (files : List (List ℕ)) → load_faults s
 files_within schema files none =
     let p = both_empty (files_faults 0 schema files) (references_from (database_of schema files) 0 schema (database_of schema files)) none in
     tables_within 0 schema files p.0
+
+pub long_file : (table : ℕ) (columns : List Column) (file : List ℕ) → most_bytes < length file
+    → IsFirst (FileLimit (LoadFaults.place table 0 0)) (file_faults table columns file)
+long_file table columns file h =
+    let rest = record_faults table columns (records_of file) in
+    let over : nat_le (length file) most_bytes ≡ false = lt-leb (length file) most_bytes h in
+    record { later = rest; first = ap (λ v. unless v (FileLimit (LoadFaults.place table 0 0)) ++ rest) over }
