@@ -2,8 +2,7 @@
 -- which the files are read: file by file, in a file record by record, in a record first its number, then the number of
 -- its fields, then field by field; the foreign keys come after all files, by table, record and column. Only the first
 -- fault is ever answered, so after a broken rule the list may say anything.
-use Rattle.std.specs.Prelude.{◌≡◌, ℕ, ◌+◌, ◌<◌, ◌≤◌, ℤ, pos, Bool, true, false, ◌==◌, nat_le, List, [], ◌∷◌, ◌++◌, length, map, Option, Some, None, bytes_eq, Result, Ok, Err, is_some, IsTrue}
-use Rattle.std.specs.List.{list_all}
+use Rattle.std.specs.Prelude.{◌≡◌, ℕ, ◌+◌, ◌<◌, ◌≤◌, ℤ, pos, Bool, true, false, ◌==◌, nat_le, List, [], ◌∷◌, ◌++◌, length, map, Option, Some, None, bytes_eq, Result, Ok, Err, is_some}
 use Rattle.std.specs.Cmp.Lexicographic.{pointwise}
 use Rattle.std.specs.Ordering.{int_eq}
 use Rattle.ghost_model.specs.Schema.{Schema, Column, Kind, Integer, Chars, first_of}

@@ -3,9 +3,8 @@
 use Rattle.std.proofs.Common.{◌≡◌, refl, sym, ap, subst, ℕ, zero, suc, ◌+◌, ◌-◌, ◌^◌, ◌≤◌, ◌<◌, ℤ, pos, neg_ℤ, Bool, true, false, ◌&&◌, nat_eq, nat_le, List, [], ◌∷◌, ◌++◌, length, map, drop, Option, Some, None, slice_get, unwrap_or, is_some, option_and_then, arith, leb-true, eqb-true, le-leb, if◌then◌else◌}
 use Rattle.std.proofs.lemmas.List.{length-map}
 use Rattle.std.proofs.lemmas.Bool.{lt-leb}
-use Rattle.std.specs.List.{list_all}
 use Rattle.std.proofs.lemmas.Bool.Decides.{Decides-int_eq}
-use Rattle.ghost_model.specs.Schema.{Schema, Column, Kind, Integer, Chars, Table, columns_of, column_at}
+use Rattle.ghost_model.specs.Schema.{Schema, Column, Kind, Integer, Chars, columns_of, column_at}
 use Rattle.ghost_model.specs.Values.{Value, Number, Row, Rows, Database}
 use Rattle.ghost_model.specs.Database.{IsDatabase, row_of, rows_of, row_count, field, fits_integer, is_text, is_of_kind, is_row_among, is_numeral, number_of, signed_within, integer_of, value_of, row_spelled, records_of, database_of}
 use Rattle.ghost_model.specs.SchemaTrees.{IsTree, identifier}

@@ -1,10 +1,10 @@
 -- The public part of a database goes with its catalog.
-use Rattle.std.proofs.Common.{◌≡◌, refl, sym, ap, ◌∙◌, subst, ℕ, zero, suc, ◌+◌, Bool, true, false, not, cond, ◌&&◌, List, [], ◌∷◌, length, map, drop, filter, Option, Some, None, slice_get, unwrap_or, option_and_then, IsTrue, arith}
+use Rattle.std.proofs.Common.{◌≡◌, refl, sym, ap, ◌∙◌, subst, ℕ, zero, suc, Bool, true, false, not, cond, ◌&&◌, List, [], ◌∷◌, length, map, drop, filter, Option, Some, None, slice_get, unwrap_or, option_and_then, arith}
 use Rattle.std.proofs.lemmas.List.{length-map, length-drop}
 use Rattle.std.proofs.lemmas.Option.{slice_get-map}
 use Rattle.std.specs.Option.{option_map}
-use Rattle.ghost_model.specs.Schema.{Schema, Column, Table, Kind, columns_of, columns_or_none}
-use Rattle.ghost_model.specs.Values.{Value, Row, Rows, Database}
+use Rattle.ghost_model.specs.Schema.{Schema, Column, Table, columns_of, columns_or_none}
+use Rattle.ghost_model.specs.Values.{Value, Row, Database}
 use Rattle.ghost_model.specs.Channel.{Catalog}
 use Rattle.ghost_model.specs.Database.{IsDatabase, is_of_kind, rows_or_none, rows_of, row_counts}
 use Rattle.ghost_model.specs.Split.{hidden_flags, visible_values, rows_by, tables_by, public_of, is_open, kind_of, visible_kinds, are_of_kinds, IsPublic}
