@@ -66,7 +66,9 @@ integer_fits (b ∷ bs) z h =
       | false ↦ λ e.
           (elim (nat_eq b 43) as (λ v. (if v then plus else plain) ≡ Some z → fits_integer z ≡ true) [
             | true ↦ λ e. plus_fits bs z e
-            | false ↦ λ e. plus_fits (b ∷ bs) z e ]) e ]) h
+            | false ↦ λ e. plus_fits (b ∷ bs) z e
+          ]) e
+    ]) h
 
 some_fits : (text : List ℕ) (o : Option ℤ) → integer_of text ≡ o → is_some o ≡ true
     → fits_integer (unwrap_or o (pos 0)) ≡ true
@@ -146,7 +148,8 @@ row_is table n (k ∷ ks) fields b h =
         record {
           width = spelled_width (k ∷ ks) (f ∷ fs) same;
           number = ap Some (subst (λ kind. value_of kind f ≡ Number (pos n)) (sym of_integers) first);
-          kinds = row_kinds table (n + 1) k ks f fs (subst (λ kind. is_of_kind kind (value_of kind f) ≡ true) (sym of_integers) first_kind) r.1 }
+          kinds = row_kinds table (n + 1) k ks f fs (subst (λ kind. is_of_kind kind (value_of kind f) ≡ true) (sym of_integers) first_kind) r.1;
+        }
 
 -- the rows of a file without a fault
 rows_are : (table n : ℕ) (columns : List Column) (records : List (List (List ℕ))) → slice_get columns 0 ≡ Some identifier
@@ -292,10 +295,11 @@ files_are schema files tree many none =
       widths = λ table identifier row h. (each table identifier row h).width;
       identifiers = λ table identifier row h. (each table identifier row h).number;
       kinds = λ table identifier column value declared h hd.
-        let f = found database table identifier column value h in (rows table f.place f.row f.stands).kinds column value declared f.holds hd;
+          let f = found database table identifier column value h in (rows table f.place f.row f.stands).kinds column value declared f.holds hd;
       references = λ table identifier column child value declared h hd hc.
-        let f = found database table identifier column value h in
-        table_keys_are database 0 schema database p.1 table f.place f.row f.stands column child value declared f.holds hd hc }
+          let f = found database table identifier column value h in
+          table_keys_are database 0 schema database p.1 table f.place f.row f.stands column child value declared f.holds hd hc;
+    }
 
 -- no table has more rows than it may have
 

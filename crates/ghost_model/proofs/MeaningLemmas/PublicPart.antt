@@ -24,7 +24,8 @@ kinds_of_visible (c ∷ cs) (v ∷ vs) same are =
     let first : is_of_kind c.kind v ≡ true = are 0 v c refl refl in
     (elim (c.hidden) as (λ h. are_of_kinds (map kind_of (cond (not h) (c ∷ filter is_open cs) (filter is_open cs))) (visible_values (h ∷ flags) (v ∷ vs)) ≡ true) [
       | true ↦ later
-      | false ↦ ap (λ b. b && are_of_kinds (map kind_of (filter is_open cs)) (visible_values flags vs)) first ∙ later ])
+      | false ↦ ap (λ b. b && are_of_kinds (map kind_of (filter is_open cs)) (visible_values flags vs)) first ∙ later
+    ])
 
 -- the kinds of a row without its identifier
 row_without : (columns : List Column) (row : Row) → length row ≡ length columns → AreOfKinds columns row
@@ -63,17 +64,18 @@ pub goes_with : (cat : Catalog) (database : Database) → IsDatabase cat.schema 
 goes_with cat database is counts = record {
   counted = counts_of_tables visible_values cat.schema database is.tables ∙ counts;
   kinds = λ table place declared row hd hr.
-    let part = λ (whole : Row). visible_values (hidden_flags declared.columns) (drop 1 whole) in
-    let rows = rows_in_tables visible_values cat.schema database table declared hd in
-    let at : slice_get (rows_by visible_values declared.columns (rows_of database table)) place ≡ Some row =
-          subst (λ w. slice_get w place ≡ Some row) rows hr in
-    let found = mapped_row part (slice_get (rows_of database table) place) row (sym (slice_get-map part (rows_of database table) place) ∙ at) in
-    let columns : columns_of cat.schema table ≡ declared.columns = ap columns_or_none hd in
-    let width : length found.0 ≡ length declared.columns =
-          is.widths table (suc place) found.0 found.1 ∙ ap length columns in
-    let kinds : AreOfKinds declared.columns found.0 = λ column value each hv hc.
-          is.kinds table (suc place) column value each (ap (λ o. option_and_then (λ w. slice_get w column) o) found.1 ∙ hv) (ap (λ w. slice_get w column) columns ∙ hc) in
-    let fewer = length-drop 1 found.0 in
-    let fewer_columns = length-drop 1 declared.columns in
-    let visible = kinds_of_visible (drop 1 declared.columns) (drop 1 found.0) (omega arith) (row_without declared.columns found.0 width kinds) in
-    subst (λ w. are_of_kinds (visible_kinds declared) w ≡ true) found.2 visible }
+      let part = λ (whole : Row). visible_values (hidden_flags declared.columns) (drop 1 whole) in
+      let rows = rows_in_tables visible_values cat.schema database table declared hd in
+      let at : slice_get (rows_by visible_values declared.columns (rows_of database table)) place ≡ Some row =
+      subst (λ w. slice_get w place ≡ Some row) rows hr in
+      let found = mapped_row part (slice_get (rows_of database table) place) row (sym (slice_get-map part (rows_of database table) place) ∙ at) in
+      let columns : columns_of cat.schema table ≡ declared.columns = ap columns_or_none hd in
+      let width : length found.0 ≡ length declared.columns =
+      is.widths table (suc place) found.0 found.1 ∙ ap length columns in
+      let kinds : AreOfKinds declared.columns found.0 = λ column value each hv hc.
+      is.kinds table (suc place) column value each (ap (λ o. option_and_then (λ w. slice_get w column) o) found.1 ∙ hv) (ap (λ w. slice_get w column) columns ∙ hc) in
+      let fewer = length-drop 1 found.0 in
+      let fewer_columns = length-drop 1 declared.columns in
+      let visible = kinds_of_visible (drop 1 declared.columns) (drop 1 found.0) (omega arith) (row_without declared.columns found.0 width kinds) in
+      subst (λ w. are_of_kinds (visible_kinds declared) w ≡ true) found.2 visible;
+}

@@ -35,7 +35,8 @@ pub later_rows : (columns : List Column) (identifier : ℕ) (row : Row) (rows : 
     → AreRows columns identifier (row ∷ rows) → AreRows columns (identifier + 1) rows
 later_rows columns identifier row rows are = record {
   width = λ place other h. are.width (suc place) other h;
-  number = λ place other h. let e : identifier + 1 + place ≡ identifier + suc place = omega arith in rw e (are.number (suc place) other h) }
+  number = λ place other h. let e : identifier + 1 + place ≡ identifier + suc place = omega arith in rw e (are.number (suc place) other h);
+}
 
 pub rows_again : (columns : List Column) (identifier : ℕ) (rows : Rows) → AreRows columns identifier rows
     → rejoined_rows identifier columns (rows_by visible_values columns rows) (rows_by hidden_values columns rows) ≡ rows
@@ -43,7 +44,7 @@ rows_again columns identifier [] are = refl
 rows_again columns identifier (row ∷ rows) are =
     let e : identifier + 0 ≡ identifier = omega arith in
     let first : slice_get row 0 ≡ Some (Number (pos identifier)) =
-          subst (λ n. slice_get row 0 ≡ Some (Number (pos n))) e (are.number 0 row refl) in
+    subst (λ n. slice_get row 0 ≡ Some (Number (pos n))) e (are.number 0 row refl) in
     let one = row_again columns identifier row (are.width 0 row refl) first in
     let others = rows_again columns (identifier + 1) rows (later_rows columns identifier row rows are) in
     λ i. one i ∷ others i
@@ -65,4 +66,5 @@ tables_again (table ∷ tables) (rows ∷ database) same are =
 pub are_tables : (schema : Schema) (database : Database) → IsDatabase schema database → AreTables schema database
 are_tables schema database is = λ table. record {
   width = λ place row h. is.widths table (suc place) row h;
-  number = λ place row h. let e : 1 + place ≡ suc place = omega arith in rw e (is.identifiers table (suc place) row h) }
+  number = λ place row h. let e : 1 + place ≡ suc place = omega arith in rw e (is.identifiers table (suc place) row h);
+}

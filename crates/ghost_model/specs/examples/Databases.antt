@@ -136,7 +136,8 @@ holder_first =
     record { name = codes "holder"; columns = id_column ∷ key_column (codes "held") 1 ∷ [] }
     ∷ record {
       name = codes "held";
-      columns = id_column ∷ text_column (codes "word") 4 ∷ number_column (codes "count") ∷ [] }
+      columns = id_column ∷ text_column (codes "word") 4 ∷ number_column (codes "count") ∷ [];
+    }
     ∷ []
 
 abbrev pub holder_fault : (holder_rows held_rows : List (List ℕ)) → Option LoadFault

@@ -20,7 +20,8 @@ specialties_of_cardio =
     record {
       table = 0;
       columns = 1 ∷ [];
-      tests = record { column = 1; operator = Equal; value = Text (codes "cardio") } ∷ [] }
+      tests = record { column = 1; operator = Equal; value = Text (codes "cardio") } ∷ [];
+    }
 
 abbrev pub late_visits : Ask
 late_visits =
