@@ -1,7 +1,7 @@
 //! Laws and examples of frames, asks, journals and of what the host sends.
 
 ghost use Rattle.ghost_model.specs.Frames.{FramesArePrefixFree, FramesHaveOneSpelling};
-ghost use Rattle.ghost_model.specs.Asks.{AsksHaveOneSpelling};
+ghost use Rattle.ghost_model.specs.Asks.{AsksHaveOneSpelling, AsksAreVisible, AsksAreProper};
 ghost use Rattle.ghost_model.specs.NextMove.{TwoWorlds, ReceivedIsSpelled};
 ghost use Rattle.ghost_model.specs.examples.Channel.{SpellingsOfFrames, ReadingsOfFrames, JournalOfTheNotes, AsksOfQueries, AsksOfBytes, JournalOfTheClinic, JournalWithoutAsks, InvalidFrames, FramesThatAreDue, AnswersOfTheHost};
 
@@ -19,6 +19,16 @@ pub fn frames_have_one_spelling()
 /// An ask that a key may send is the one that its payload spells, and no other payload spells it.
 pub fn asks_have_one_spelling()
     ensures { AsksHaveOneSpelling }
+{}
+
+/// Asks name visible columns alone: nothing of a hidden column or of an identifier is sent.
+pub fn asks_are_visible()
+    ensures { AsksAreVisible }
+{}
+
+/// The asks of an accepted text are such as a key may send.
+pub fn asks_are_proper()
+    ensures { AsksAreProper }
 {}
 
 /// Received bytes are the spellings of the frames that the key heard, joined, and the part of the frame at hand.
