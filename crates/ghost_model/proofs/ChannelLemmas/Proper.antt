@@ -1,5 +1,5 @@
 -- That the asks of queries are such as a key may send.
-use Rattle.std.proofs.Common.{◌≡◌, ℕ, zero, suc, ◌+◌, ◌-◌, ◌*◌, ◌<◌, ◌≤◌, ◌^◌, ◌⊎◌, inl, inr, Bool, true, false, ◌&&◌, List, [], ◌∷◌, ◌++◌, length, map, sym, ◌∙◌, ap, subst, refl, arith, length-append, append-nil, Option, Some, None, pos, negsuc, ℤ, Ok}
+use Rattle.std.proofs.Common.{◌≡◌, ℕ, zero, suc, ◌+◌, ◌-◌, ◌*◌, ◌<◌, ◌≤◌, ◌^◌, ◌⊎◌, inl, inr, Bool, true, false, ◌&&◌, List, [], ◌∷◌, ◌++◌, length, map, sym, ◌∙◌, ap, subst, refl, arith, length-append, append-nil, lit<, Option, Some, None, pos, negsuc, ℤ, Ok}
 use Rattle.std.specs.Prelude.{◌==◌, ◌||◌, nat_lt, nat_le, not, if◌then◌else◌, filter, flat_map}
 use Rattle.std.specs.List.{sum_by}
 use Rattle.std.specs.Option.{option_map}
@@ -8,19 +8,23 @@ use Rattle.std.proofs.lemmas.Bool.{eqb-true}
 use Rattle.std.specs.List.{list_all, list_any}
 use Rattle.std.proofs.lemmas.List.Folds.{list_all-append, list_all-map}
 use Rattle.std.proofs.lemmas.Grind.{flat_map-append}
+use Rattle.std.proofs.lemmas.List.Sums.{sum_by-cons}
 use Rattle.std.proofs.lemmas.Bool.Decides.{nat_tests}
 use Rattle.std.proofs.lemmas.Bool.{ltb-false, ltb-true, le-ltb, lt-ltb, le-leb, leb-true}
 use Rattle.ghost_model.specs.Schema.{Schema, Column, Kind, Integer, Chars, columns_of, column_at, is_visible, is_shown, places_from, places_where}
 use Rattle.ghost_model.specs.Values.{Value, Number, Text}
-use Rattle.ghost_model.specs.Query.{Query, Field, Operator, Condition, Compare, Join}
+use Rattle.ghost_model.specs.Query.{Query, Field, Operator, Condition, Compare, Join, AtLeast, AtMost}
 use Rattle.ghost_model.specs.Channel.{Ask, Test}
-use Rattle.ghost_model.specs.Tokens.{Symbol, Quoted, End, is_printable, symbols}
+use Rattle.ghost_model.specs.Tokens.{Symbol, Quoted, End, Word, And, Comma, is_printable, symbols}
 use Rattle.ghost_model.specs.Spelled.{is_spelled, IsBeforeEnd}
 use Rattle.ghost_model.specs.Database.{is_of_kind, is_text, fits_integer}
-use Rattle.ghost_model.specs.QueryGrammar.{ConditionText, Compares, LiesBetween, Joins, ColumnText, LiteralText, Unsigned, Signed, Written, QueryText, Selection, All, Columns, spelling, spell_condition, spell_literal, spell_where, spell_column}
+use Rattle.ghost_model.specs.QueryGrammar.{ConditionText, Compares, LiesBetween, Joins, ColumnText, LiteralText, Unsigned, Signed, Written, QueryText, Selection, All, Columns, spelling, spell_condition, spell_literal, spell_where, spell_column, spell_table, spell_selection}
+use Rattle.ghost_model.specs.Grammar.{separated}
 use Rattle.ghost_model.specs.QueryMeaning as meaning
 use Rattle.ghost_model.specs.Asks as asks
+use Rattle.ghost_model.specs.QueryReading.{reading}
 use Rattle.ghost_model.proofs.TokenLemmas.{before_end}
+use Rattle.ghost_model.proofs.QueryReadingLemmas.{means_of}
 
 record BothHold (a b : Bool) : Type 0 where
   one : a ≡ true
@@ -232,3 +236,160 @@ plain_literal (Unsigned digits) e = refl
 plain_literal (Signed sign digits) e = refl
 plain_literal (Written text) e = (both_hold (list_all is_printable text) true e).one
 
+
+module _ (schema : Schema) (from : List ℕ) where
+  plain_conditions : (condition : ConditionText) → list_all is_loose (spell_condition condition) ≡ true → list_all is_plain_condition (meaning.conditions_of schema from condition) ≡ true
+  plain_conditions (Compares column operator literal) e =
+      let right : BothHold _ (list_all is_loose (spell_literal literal)) = both_hold _ _ (loose_right (spell_column column) _ e) in
+      list_all-map is_plain_condition (λ meant. Compare meant operator (meaning.value_of literal)) (meaning.meanings schema from column)
+      ∙ all_each (λ meant. is_plain (meaning.value_of literal)) (meaning.meanings schema from column) (λ _. plain_literal literal right.other)
+  plain_conditions (LiesBetween column low high) e =
+      let both : list_all is_loose (spell_literal low ++ (Word And ∷ spell_literal high)) ≡ true = loose_right (spell_column column) _ e in
+      let first : is_plain (meaning.value_of low) ≡ true = plain_literal low (loose_left (spell_literal low) _ both) in
+      let second : is_plain (meaning.value_of high) ≡ true = plain_literal high (loose_right (spell_literal low) _ both) in
+      all_flat is_plain_condition (λ meant. Compare meant AtLeast (meaning.value_of low) ∷ Compare meant AtMost (meaning.value_of high) ∷ []) (meaning.meanings schema from column)
+        (all_each (λ meant. is_plain (meaning.value_of low) && (is_plain (meaning.value_of high) && true)) (meaning.meanings schema from column)
+          (λ _. hold_both _ _ first (hold_both _ _ second refl)))
+  plain_conditions (Joins left right) e =
+      all_flat is_plain_condition (λ meant. map (Join meant) (meaning.meanings schema from right)) (meaning.meanings schema from left)
+        (all_each (λ meant. list_all is_plain_condition (map (Join meant) (meaning.meanings schema from right))) (meaning.meanings schema from left)
+          (λ meant. list_all-map is_plain_condition (Join meant) (meaning.meanings schema from right) ∙ all_each (λ _. true) (meaning.meanings schema from right) (λ _. refl)))
+
+loose_where : (conditions : List ConditionText) → list_all is_loose (spell_where conditions) ≡ true → list_all (λ condition. list_all is_loose (spell_condition condition)) conditions ≡ true
+loose_where [] e = refl
+loose_where (condition ∷ more) e =
+    hold_both _ _ (loose_left (spell_condition condition) _ e)
+      (all_inside is_loose (λ other. Word And ∷ spell_condition other) more (loose_right (spell_condition condition) _ e))
+
+loose_conditions : (text : List ℕ) (tree : QueryText) → symbols text ≡ spelling tree → list_all (λ condition. list_all is_loose (spell_condition condition)) tree.conditions ≡ true
+loose_conditions text tree e =
+    let whole : list_all is_loose (spelling tree) ≡ true = ap (λ (xs : List Symbol). list_all is_loose xs) (sym e) ∙ loose_text text in
+    let tables : List Symbol = separated Comma spell_table tree.table tree.more_tables in
+    let after : list_all is_loose (tables ++ (spell_where tree.conditions ++ (End ∷ []))) ≡ true = loose_right (spell_selection tree.selection) _ whole in
+    loose_where tree.conditions (loose_left (spell_where tree.conditions) (End ∷ []) (loose_right tables _ after))
+
+-- how many conditions an ask has
+one_at_most : (b : Bool) (test : Test) (rest : List Test) → length ((if b then test ∷ [] else []) ++ rest) ≤ 1 + length rest
+one_at_most true test rest = omega arith
+one_at_most false test rest = omega arith
+
+module _ (schema : Schema) (from : List ℕ) (table : ℕ) where
+  few : (condition : Condition) (rest : List Test) → length (asks.test_of schema table condition ++ rest) ≤ 1 + length rest
+  few (Compare field operator value) rest =
+      one_at_most (field.table == table && is_visible schema table field.column) (record { column = field.column; operator = operator; value = value }) rest
+  few (Join left right) rest = omega arith
+
+  few_of_one : (f : Field → Condition) (fields : List Field) → length fields ≤ 1 → length (flat_map (asks.test_of schema table) (map f fields)) ≤ 1
+  few_of_one f [] h = omega arith
+  few_of_one f (field ∷ []) h = few (f field) []
+  few_of_one f (field ∷ other ∷ rest) h = absurd (omega (arith, h))
+
+  few_of_two : (f g : Field → Condition) (fields : List Field) → length fields ≤ 1 → length (flat_map (asks.test_of schema table) (flat_map (λ field. f field ∷ g field ∷ []) fields)) ≤ 2
+  few_of_two f g [] h = omega arith
+  few_of_two f g (field ∷ []) h =
+      let one = few (f field) (asks.test_of schema table (g field) ++ []) in
+      let two = few (g field) [] in
+      omega (arith, one, two)
+  few_of_two f g (field ∷ other ∷ rest) h = absurd (omega (arith, h))
+
+  none_of_joins : (left : Field) (fields : List Field) → flat_map (asks.test_of schema table) (map (Join left) fields) ≡ []
+  none_of_joins left [] = refl
+  none_of_joins left (field ∷ fields) = none_of_joins left fields
+
+  none_of_all_joins : (right : List Field) (fields : List Field) → flat_map (asks.test_of schema table) (flat_map (λ left. map (Join left) right) fields) ≡ []
+  none_of_all_joins right [] = refl
+  none_of_all_joins right (field ∷ fields) =
+      flat_map-append (asks.test_of schema table) (map (Join field) right) (flat_map (λ left. map (Join left) right) fields)
+      ∙ (ap (λ (xs : List Test). xs ++ flat_map (asks.test_of schema table) (flat_map (λ left. map (Join left) right) fields)) (none_of_joins field right)
+      ∙ none_of_all_joins right fields)
+
+  abbrev has_one : ColumnText → Bool
+  has_one column = not (nat_lt 1 (length (meaning.meanings schema from column)))
+
+  at_most_one : (column : ColumnText) → has_one column ≡ true → length (meaning.meanings schema from column) ≤ 1
+  at_most_one column e = ltb-false 1 (length (meaning.meanings schema from column)) (not_false _ e)
+
+  few_tests : (condition : ConditionText) → list_all has_one (meaning.condition_columns condition) ≡ true → length (flat_map (asks.test_of schema table) (meaning.conditions_of schema from condition)) ≤ meaning.literal_conditions condition
+  few_tests (Compares column operator literal) e =
+      few_of_one (λ meant. Compare meant operator (meaning.value_of literal)) (meaning.meanings schema from column) (at_most_one column (both_hold (has_one column) true e).one)
+  few_tests (LiesBetween column low high) e =
+      few_of_two (λ meant. Compare meant AtLeast (meaning.value_of low)) (λ meant. Compare meant AtMost (meaning.value_of high)) (meaning.meanings schema from column) (at_most_one column (both_hold (has_one column) true e).one)
+  few_tests (Joins left right) e =
+      let none : length (flat_map (asks.test_of schema table) (meaning.conditions_of schema from (Joins left right))) ≡ 0 =
+        ap length (none_of_all_joins (meaning.meanings schema from right) (meaning.meanings schema from left)) in
+      omega (arith, none)
+
+  few_in_all : (conditions : List ConditionText) → list_all (λ condition. list_all has_one (meaning.condition_columns condition)) conditions ≡ true → length (asks.tests_of schema table (flat_map (meaning.conditions_of schema from) conditions)) ≤ sum_by meaning.literal_conditions conditions
+  few_in_all [] e = omega arith
+  few_in_all (condition ∷ more) e =
+      let both : BothHold (list_all has_one (meaning.condition_columns condition)) (list_all (λ condition. list_all has_one (meaning.condition_columns condition)) more) = both_hold _ _ e in
+      let here : List Condition = meaning.conditions_of schema from condition in
+      let rest : List Condition = flat_map (meaning.conditions_of schema from) more in
+      let split : length (asks.tests_of schema table (flat_map (meaning.conditions_of schema from) (condition ∷ more))) ≡ length (flat_map (asks.test_of schema table) here) + length (flat_map (asks.test_of schema table) rest) =
+        ap length (flat_map-append (asks.test_of schema table) here rest) ∙ length-append (flat_map (asks.test_of schema table) here) (flat_map (asks.test_of schema table) rest) in
+      let total : sum_by meaning.literal_conditions (condition ∷ more) ≡ meaning.literal_conditions condition + sum_by meaning.literal_conditions more = sum_by-cons meaning.literal_conditions condition more in
+      omega (arith, split, total, few_tests condition both.one, few_in_all more both.other)
+
+-- the columns of asks ascend
+skipped : (kept : List ℕ) (b : Bool) → b ≡ false → asks.ascend_from 0 kept ≡ true → asks.ascend_from 0 (if b then 0 ∷ kept else kept) ≡ true
+skipped kept true e h = absurd (false_is_not (sym e))
+skipped kept false e h = h
+
+columns_ascend : {X : Type 0} (q : ℕ → Bool) (xs : List X) → q 0 ≡ false → asks.ascend_from 0 (filter q (places_from always 0 xs)) ≡ true
+unfolding places_from
+columns_ascend q [] e = refl
+columns_ascend q (x ∷ xs) e = skipped (filter q (places_from always 1 xs)) (q 0) e (ascending q 0 1 xs (lit< tt))
+
+module _ (schema : Schema) (text : List ℕ) (tree : QueryText) (spells : symbols text ≡ spelling tree) (keeps : (rule : meaning.Refusal) → meaning.breaks schema text tree rule ≡ false) where
+  abbrev tables : List ℕ
+  tables = meaning.from_tables schema tree
+
+  limited : sum_by meaning.literal_conditions tree.conditions ≤ 16
+  limited =
+      let four : ((nat_lt 4096 (length text) || list_any (λ name. nat_lt 32 (length name)) (meaning.names_in tree) || nat_lt 12 (length (meaning.from_names tree)) || nat_lt 16 (sum_by meaning.literal_conditions tree.conditions)) ≡ false) × (nat_lt 32 (meaning.selected_count schema tree tree.selection) ≡ false) = neither _ _ (keeps meaning.Limit) in
+      let three : ((nat_lt 4096 (length text) || list_any (λ name. nat_lt 32 (length name)) (meaning.names_in tree) || nat_lt 12 (length (meaning.from_names tree))) ≡ false) × (nat_lt 16 (sum_by meaning.literal_conditions tree.conditions) ≡ false) = neither _ _ four.0 in
+      ltb-false 16 (sum_by meaning.literal_conditions tree.conditions) three.1
+
+  single : list_all (λ condition. list_all (has_one schema tables 0) (meaning.condition_columns condition)) tree.conditions ≡ true
+  single =
+      let both : (meaning.has_repeat tables ≡ false) × (list_any (λ column. nat_lt 1 (length (meaning.meanings schema tables column))) (meaning.columns_in tree) ≡ false) = neither _ _ (keeps meaning.Ambiguous) in
+      let all : list_all (has_one schema tables 0) (meaning.columns_in tree) ≡ true = none_all (λ column. nat_lt 1 (length (meaning.meanings schema tables column))) (meaning.columns_in tree) both.1 in
+      let parts : BothHold (list_all (has_one schema tables 0) (meaning.selection_columns tree.selection)) (list_all (has_one schema tables 0) (flat_map meaning.condition_columns tree.conditions)) =
+        both_hold _ _ (sym (list_all-append (has_one schema tables 0) (meaning.selection_columns tree.selection) (flat_map meaning.condition_columns tree.conditions)) ∙ all) in
+      all_inside (has_one schema tables 0) meaning.condition_columns tree.conditions parts.other
+
+  plain : list_all is_plain_condition (meaning.resolved schema tree).conditions ≡ true
+  plain =
+      all_flat is_plain_condition (meaning.conditions_of schema tables) tree.conditions
+        (all_weaker (λ condition. list_all is_loose (spell_condition condition)) (λ condition. list_all is_plain_condition (meaning.conditions_of schema tables condition)) tree.conditions
+          (plain_conditions schema tables) (loose_conditions text tree spells))
+
+  proper_ask : (table : ℕ) → nat_lt table (length schema) ≡ true → asks.is_proper_ask schema (asks.ask_for schema (meaning.resolved schema tree) table) ≡ true
+  proper_ask table e =
+      let query : Query = meaning.resolved schema tree in
+      let count : length (asks.tests_of schema table query.conditions) ≤ 16 = omega (arith, few_in_all schema tables table tree.conditions single, limited) in
+      hold_both _ _
+        (hold_both _ _
+          (hold_both _ _
+            (hold_both _ _
+              (hold_both _ _ e (visible_columns schema query.select table))
+              (columns_ascend (asks.is_wanted schema query.select table) (columns_of schema table) refl))
+            (le-leb (length (asks.tests_of schema table query.conditions)) 16 count))
+          (visible_tests schema table query.conditions))
+        (sound_tests schema table query.conditions (keeps meaning.KindMismatch) (keeps meaning.BadLiteral) plain)
+
+  proper_asks : list_all (asks.is_proper_ask schema) (asks.asks_of schema (meaning.resolved schema tree)) ≡ true
+  proper_asks =
+      let query : Query = meaning.resolved schema tree in
+      let places : List ℕ = asks.places schema in
+      let below : list_all (λ place. nat_lt place (length schema)) (asks.places schema) ≡ true = places_below 0 schema (length schema) (omega arith) in
+      all_kept (asks.is_proper_ask schema) asks.is_needed (map (asks.ask_for schema query) (filter (asks.is_from query) (asks.places schema)))
+        (list_all-map (asks.is_proper_ask schema) (asks.ask_for schema query) (filter (asks.is_from query) (asks.places schema))
+        ∙ all_weaker (λ place. nat_lt place (length schema)) (λ table. asks.is_proper_ask schema (asks.ask_for schema query table)) (filter (asks.is_from query) (asks.places schema))
+            proper_ask (all_kept (λ place. nat_lt place (length schema)) (asks.is_from query) (asks.places schema) below))
+
+pub asks_are_proper : (schema : Schema) (text : List ℕ) (query : Query) → reading schema text ≡ Ok query → list_all (asks.is_proper_ask schema) (asks.asks_of schema query) ≡ true
+asks_are_proper schema text query read =
+    let means : meaning.Means schema text query = means_of schema text query read in
+    subst (λ (q : Query). list_all (asks.is_proper_ask schema) (asks.asks_of schema q) ≡ true) (sym means.means)
+      (proper_asks schema text means.tree means.spells means.keeps)
