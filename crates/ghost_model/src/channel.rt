@@ -2,6 +2,7 @@
 
 ghost use Rattle.ghost_model.specs.Frames.{FramesArePrefixFree, FramesHaveOneSpelling};
 ghost use Rattle.ghost_model.specs.Asks.{AsksHaveOneSpelling, AsksAreVisible, AsksAreProper};
+ghost use Rattle.ghost_model.specs.Host.{HostIsHonest, NothingIsLost};
 ghost use Rattle.ghost_model.specs.NextMove.{TwoWorlds, ReceivedIsSpelled};
 ghost use Rattle.ghost_model.specs.examples.Channel.{SpellingsOfFrames, ReadingsOfFrames, JournalOfTheNotes, AsksOfQueries, AsksOfBytes, JournalOfTheClinic, JournalWithoutAsks, InvalidFrames, FramesThatAreDue, AnswersOfTheHost};
 
@@ -40,6 +41,16 @@ pub fn received_bytes_are_frames()
 /// with the one after these.
 pub fn two_worlds()
     ensures { TwoWorlds }
+{}
+
+/// Whatever a key sends, this host says a front of an honest stream: its catalog, then the whole reply to each ask.
+pub fn host_is_honest()
+    ensures { HostIsHonest }
+{}
+
+/// The WELCOME frames of a host spell its catalog, and the ROWS frames of a reply its rows.
+pub fn nothing_is_lost()
+    ensures { NothingIsLost }
 {}
 
 /// The spelling of each kind of frame.
