@@ -102,8 +102,8 @@ leads_within [] schema database from identifier to = if from == to then Some ide
 leads_within (_ ∷ steps) schema database from identifier to =
     if from == to then Some identifier
     else option_and_then (λ above.
-      option_and_then (λ reached. points_to schema database above reached to)
-      (leads_within steps schema database from identifier above)) (parent schema to)
+    option_and_then (λ reached. points_to schema database above reached to)
+    (leads_within steps schema database from identifier above)) (parent schema to)
 
 -- the identifier of the row of a table, the same or one below, to which a row leads along the foreign keys. No path
 -- has more of them than there are tables
