@@ -12,7 +12,7 @@ pub fn cell_order_is_value_order()
     ensures { CellOrderIsValueOrder }
 {}
 
-/// The order of values is a total order, and tells any two values apart.
+/// The order of values is a total order, and tells any two different values apart.
 pub fn values_are_ordered()
     ensures { ValuesAreOrdered }
 {}
