@@ -2,6 +2,9 @@ mod TokenLemmas
 mod TextLemmas
 mod GrammarLemmas
 mod SchemaLemmas
+mod SchemaRuleLemmas
+mod SchemaTreeLemmas
 mod QueryLemmas
+mod QueryReadingLemmas
 mod ChannelLemmas
 mod MeaningLemmas

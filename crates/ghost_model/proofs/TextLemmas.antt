@@ -1,5 +1,5 @@
 -- Where a script is cut.
-use Rattle.std.proofs.Common.{◌≡◌, ℕ, zero, suc, ◌+◌, ◌%◌, Bool, true, false, not, ◌&&◌, ◌==◌, cond, if◌then◌else◌, List, [], ◌∷◌, ◌++◌, count_by, refl, sym, ◌∙◌, ap, arith}
+use Rattle.std.proofs.Common.{◌≡◌, ℕ, ◌+◌, ◌%◌, Bool, true, false, not, ◌&&◌, ◌==◌, cond, if◌then◌else◌, List, [], ◌∷◌, ◌++◌, refl, sym, ◌∙◌, ap, arith}
 use Rattle.std.proofs.lemmas.Bool.{and_parts, eqb-true}
 use Rattle.std.proofs.lemmas.List.Sums.{sum_by-cons}
 use Rattle.ghost_model.specs.Texts.{before_parts, parts_after, parts_of, quotes}
@@ -51,8 +51,8 @@ unfolding parts_after
 some_part even [] = refl
 some_part even (b ∷ bs) =
     either_has_part (even && b == 59) ([] ∷ parts_after even bs) _ refl
-      (either_has_part (b == 39) (before_parts b (parts_after (not even) bs)) (before_parts b (parts_after even bs))
-        (before_has_part b (parts_after (not even) bs)) (before_has_part b (parts_after even bs)))
+    (either_has_part (b == 39) (before_parts b (parts_after (not even) bs)) (before_parts b (parts_after even bs))
+    (before_has_part b (parts_after (not even) bs)) (before_has_part b (parts_after even bs)))
 
 before_first : (b : ℕ) (xs ys : List (List ℕ)) → has_part xs ≡ true → before_parts b (xs ++ ys) ≡ before_parts b xs ++ ys
 before_first b [] ys e = cc
@@ -67,8 +67,8 @@ step_on : (even : Bool) (b : ℕ) (bs : List ℕ) → (even && b == 59) ≡ fals
 unfolding parts_after
 step_on even b bs e =
     ap (λ v. if v then [] ∷ parts_after even bs else if b == 39 then before_parts b (parts_after (not even) bs) else before_parts b (parts_after even bs)) e
-      ∙ (elim (b == 39) as (λ v. (if v then before_parts b (parts_after (not even) bs) else before_parts b (parts_after even bs)) ≡ before_parts b (parts_after (if v then not even else even) bs))
-        [ true ↦ refl | false ↦ refl ])
+    ∙ (elim (b == 39) as (λ v. (if v then before_parts b (parts_after (not even) bs) else before_parts b (parts_after even bs)) ≡ before_parts b (parts_after (if v then not even else even) bs))
+    [ true ↦ refl | false ↦ refl ])
 
 semicolon_is_no_quote : (even : Bool) (b : ℕ) → (even && b == 59) ≡ true → (b == 39) ≡ false
 semicolon_is_no_quote even b e = ap (λ c. c == 39) (eqb-true b 59 ((and_parts even (b == 59) e).1))
@@ -80,14 +80,14 @@ by_step : (even : Bool) (b : ℕ) (before after : List ℕ) → even_after (if b
 by_step even b before after e rest true cuts =
     let same : (if b == 39 then not even else even) ≡ even = ap (λ v. if v then not even else even) (semicolon_is_no_quote even b cuts) in
     let here : parts_after even (before ++ 59 ∷ after) ≡ parts_after even before ++ parts_after true after =
-      ap (λ v. parts_after v (before ++ 59 ∷ after)) (sym same) ∙ (rest ∙ ap (λ v. parts_after v before ++ parts_after true after) same) in
+    ap (λ v. parts_after v (before ++ 59 ∷ after)) (sym same) ∙ (rest ∙ ap (λ v. parts_after v before ++ parts_after true after) same) in
     step_cut even b (before ++ 59 ∷ after) cuts
-      ∙ (ap (λ (ps : List (List ℕ)). [] ∷ ps) here ∙ ap (λ (ps : List (List ℕ)). ps ++ parts_after true after) (sym (step_cut even b before cuts)))
+    ∙ (ap (λ (ps : List (List ℕ)). [] ∷ ps) here ∙ ap (λ (ps : List (List ℕ)). ps ++ parts_after true after) (sym (step_cut even b before cuts)))
 by_step even b before after e rest false goes =
     step_on even b (before ++ 59 ∷ after) goes
-      ∙ (ap (before_parts b) rest
-        ∙ (before_first b (parts_after (if b == 39 then not even else even) before) (parts_after true after) (some_part (if b == 39 then not even else even) before)
-          ∙ ap (λ (ps : List (List ℕ)). ps ++ parts_after true after) (sym (step_on even b before goes))))
+    ∙ (ap (before_parts b) rest
+    ∙ (before_first b (parts_after (if b == 39 then not even else even) before) (parts_after true after) (some_part (if b == 39 then not even else even) before)
+    ∙ ap (λ (ps : List (List ℕ)). ps ++ parts_after true after) (sym (step_on even b before goes))))
 
 uncut_step : (even : Bool) (b : ℕ) (bs : List ℕ) → ((before after : List ℕ) → (b ∷ bs) ≡ before ++ 59 ∷ after → even_after even before ≡ false)
     → parts_after (if b == 39 then not even else even) bs ≡ bs ∷ []
@@ -118,10 +118,10 @@ unfolding parts_after
 uncut_from even [] none = refl
 uncut_from even (b ∷ bs) none =
     uncut_step even b bs none
-      (uncut_from (if b == 39 then not even else even) bs (λ before after e. none (b ∷ before) after (ap (λ (xs : List ℕ). b ∷ xs) e)))
-      (even && b == 59) refl
+    (uncut_from (if b == 39 then not even else even) bs (λ before after e. none (b ∷ before) after (ap (λ (xs : List ℕ). b ∷ xs) e)))
+    (even && b == 59) refl
 
 pub uncut : (script : List ℕ) → ((before after : List ℕ) → script ≡ before ++ 59 ∷ after → quotes before % 2 ≡ 1) → parts_of script ≡ script ∷ []
 uncut script none =
     uncut_from true script (λ before after e.
-      odd_from (even_after true before) (sym (counted true before) ∙ (ap (λ n. n % 2) (omega arith) ∙ none before after e)))
+    odd_from (even_after true before) (sym (counted true before) ∙ (ap (λ n. n % 2) (omega arith) ∙ none before after e)))

@@ -1,7 +1,7 @@
 -- The texts of a script, which is any list of bytes. The script is cut at each `;` that has an even number of `'`
--- before it in the whole script, so that no literal is cut. A part of white space alone is no text; each other part is
--- one as it stands, its white space included. Texts are numbered from 1.
-use Rattle.std.specs.Prelude.{◌≡◌, ℕ, zero, suc, ◌+◌, ◌%◌, Bool, true, false, not, ◌&&◌, ◌==◌, nat_le, List, [], ◌∷◌, ◌++◌, length, filter, count_by, flat_map, if◌then◌else◌, Option, None, slice_get}
+-- before it, counted from the script's start. A part of white space alone is no text; each other part is one as it
+-- stands, its white space included. Texts are numbered from 1.
+use Rattle.std.specs.Prelude.{◌≡◌, ℕ, zero, suc, ◌%◌, Bool, true, not, ◌&&◌, ◌==◌, nat_le, List, [], ◌∷◌, ◌++◌, length, filter, count_by, if◌then◌else◌, Option, None, slice_get}
 use Rattle.std.specs.List.{list_all}
 use Rattle.ghost_model.specs.Tokens.{is_space}
 

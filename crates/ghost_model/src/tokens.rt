@@ -8,35 +8,29 @@ ghost use Rattle.ghost_model.specs.examples.Tokens.{TokensOfTexts, OffsetsOfToke
 /// such a list and the text's end.
 pub fn tokens_are_spelled()
     ensures { TokensAreSpelled }
-{
-}
+{}
 
 /// A script is cut at each `;` with an even number of `'` before it, and nowhere else.
 pub fn scripts_are_cut()
     ensures { ScriptsAreCut }
-{
-}
+{}
 
 /// The tokens of some telling texts.
 pub fn tokens_of_texts()
     ensures { TokensOfTexts }
-{
-}
+{}
 
 /// The places at which tokens stand.
 pub fn offsets_of_tokens()
     ensures { OffsetsOfTokens }
-{
-}
+{}
 
 /// A text for some lists of symbols.
 pub fn texts_of_symbols()
     ensures { TextsOfSymbols }
-{
-}
+{}
 
 /// The texts of some telling scripts, and the limits of a script.
 pub fn texts_of_scripts()
     ensures { TextsOfScripts }
-{
-}
+{}

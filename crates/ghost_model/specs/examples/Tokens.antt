@@ -1,6 +1,6 @@
 -- Telling texts and their tokens, and telling scripts and their texts.
-use Rattle.std.specs.Prelude.{◌≡◌, ℕ, true, false, List, [], ◌∷◌, ◌++◌, codes, Option, Some, None, replicate, flat_map}
-use Rattle.ghost_model.specs.Tokens.{Symbol, Word, Reserved, Name, Digits, Quoted, Open, Closing, Comma, Point, Semicolon, Star, Plus, Minus, Equal, Unequal, Less, AtMost, More, AtLeast, Bad, End, Select, And, Integer, Table, symbols, offset_of}
+use Rattle.std.specs.Prelude.{◌≡◌, true, false, [], ◌∷◌, ◌++◌, codes, Some, None, replicate, flat_map}
+use Rattle.ghost_model.specs.Tokens.{Word, Reserved, Name, Digits, Quoted, Open, Closing, Comma, Point, Semicolon, Star, Plus, Minus, Equal, Unequal, Less, AtMost, More, AtLeast, Bad, End, Select, And, Integer, Table, symbols, offset_of}
 use Rattle.ghost_model.specs.Spelled.{text_of}
 use Rattle.ghost_model.specs.Texts.{texts_of, text_at, has_few_bytes, has_few_texts}
 
