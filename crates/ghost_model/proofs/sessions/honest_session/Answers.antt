@@ -18,7 +18,8 @@ use Rattle.ghost_model.proofs.sessions.honest_session.Goals as goal
 
 pub returns : goal.returns
 unfolding digits encode_with decode_pairs rows_from tests_in places_from hear_all rows_fit tokens_from quoted_from read_from combinations replies_from picks identifiers_from AreReplies groups_from said_to frames_within
-returns c = record { 
+returns c = record {
+  served = record { full = refl; rest = []; said = refl };
   honest = record {
     nothing_breaks_off = refl;
     greeting = welcomes clinic_catalog;
