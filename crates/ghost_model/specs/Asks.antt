@@ -193,3 +193,19 @@ asked_from schema number (reading ∷ later) =
 -- the asks of the accepted texts in order, with the numbers of their texts
 abbrev pub asked_of : Schema → (texts : List (List ℕ)) → List Asked
 asked_of schema texts = asked_from schema 1 (map (reading schema) texts)
+
+-- whether an ask names visible columns alone
+abbrev pub names_visible : Schema → Ask → Bool
+names_visible schema ask =
+    list_all (is_visible schema ask.table) ask.columns
+    && list_all (λ test. is_visible schema ask.table test.column) ask.tests
+
+-- nothing of a hidden column or of an identifier is in an ask
+abbrev pub AsksAreVisible : Type 0
+AsksAreVisible = (schema : Schema) (query : Query) → list_all (names_visible schema) (asks_of schema query) ≡ true
+
+-- the asks of an accepted text are such as a key may send
+abbrev pub AsksAreProper : Type 0
+AsksAreProper =
+    (schema : Schema) (text : List ℕ) (query : Query) → reading schema text ≡ Ok query
+    → list_all (is_proper_ask schema) (asks_of schema query) ≡ true

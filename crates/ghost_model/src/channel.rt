@@ -1,7 +1,8 @@
 //! Laws and examples of frames, asks, journals and of what the host sends.
 
 ghost use Rattle.ghost_model.specs.Frames.{FramesArePrefixFree, FramesHaveOneSpelling};
-ghost use Rattle.ghost_model.specs.Asks.{AsksHaveOneSpelling};
+ghost use Rattle.ghost_model.specs.Asks.{AsksHaveOneSpelling, AsksAreVisible, AsksAreProper};
+ghost use Rattle.ghost_model.specs.Host.{HostIsHonest, NothingIsLost};
 ghost use Rattle.ghost_model.specs.NextMove.{TwoWorlds, ReceivedIsSpelled};
 ghost use Rattle.ghost_model.specs.examples.Channel.{SpellingsOfFrames, ReadingsOfFrames, JournalOfTheNotes, AsksOfQueries, AsksOfBytes, JournalOfTheClinic, JournalWithoutAsks, InvalidFrames, FramesThatAreDue, AnswersOfTheHost};
 
@@ -21,6 +22,16 @@ pub fn asks_have_one_spelling()
     ensures { AsksHaveOneSpelling }
 {}
 
+/// Asks name visible columns alone: nothing of a hidden column or of an identifier is sent.
+pub fn asks_are_visible()
+    ensures { AsksAreVisible }
+{}
+
+/// The asks of an accepted text are such as a key may send.
+pub fn asks_are_proper()
+    ensures { AsksAreProper }
+{}
+
 /// Received bytes are the spellings of the frames that the key heard, joined, and the part of the frame at hand.
 pub fn received_bytes_are_frames()
     ensures { ReceivedIsSpelled }
@@ -30,6 +41,16 @@ pub fn received_bytes_are_frames()
 /// with the one after these.
 pub fn two_worlds()
     ensures { TwoWorlds }
+{}
+
+/// Whatever a key sends, this host says a front of an honest stream: its catalog, then the whole reply to each ask.
+pub fn host_is_honest()
+    ensures { HostIsHonest }
+{}
+
+/// The WELCOME frames of a host spell its catalog, and the ROWS frames of a reply its rows.
+pub fn nothing_is_lost()
+    ensures { NothingIsLost }
 {}
 
 /// The spelling of each kind of frame.
