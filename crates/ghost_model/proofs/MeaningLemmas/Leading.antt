@@ -1,12 +1,12 @@
 -- Each row leads to one row of each table below its own: a path has fewer foreign keys than there are tables, and each
 -- foreign key is the identifier of a row.
-use Rattle.std.proofs.Common.{◌≡◌, ◌≢◌, refl, sym, ap, ◌∙◌, subst, ℕ, zero, suc, ◌+◌, ◌-◌, ◌<◌, ◌≤◌, ◌⊎◌, inl, inr, ℤ, pos, negsuc, Bool, true, false, not, cond, ◌&&◌, nat_eq, nat_lt, nat_le, List, [], ◌∷◌, length, drop, filter, Option, Some, None, slice_get, unwrap_or, option_and_then, IsTrue, arith, eqb-true, eq-eqb, leb-true, if◌then◌else◌}
+use Rattle.std.proofs.Common.{◌≡◌, ◌≢◌, refl, sym, ap, ◌∙◌, subst, ℕ, zero, suc, ◌+◌, ◌<◌, ◌≤◌, ◌⊎◌, inl, inr, pos, negsuc, Bool, true, false, not, nat_eq, nat_le, List, [], ◌∷◌, length, filter, Option, Some, None, slice_get, unwrap_or, option_and_then, arith, eqb-true, eq-eqb, leb-true, if◌then◌else◌}
 use Rattle.std.specs.List.{range_with_len}
-use Rattle.ghost_model.specs.Schema.{Schema, Column, Table, columns_of, columns_or_none, column_at, parent, is_table, is_empty, keys_to, holders_of, first_of, places_from}
+use Rattle.ghost_model.specs.Schema.{Schema, Column, Table, columns_of, columns_or_none, column_at, parent, is_table, is_empty, keys_to, first_of, places_from}
 use Rattle.ghost_model.specs.Values.{Value, Number, Text, Row, Rows, Database}
-use Rattle.ghost_model.specs.SchemaFaults.{ancestor, Returns}
+use Rattle.ghost_model.specs.SchemaFaults.{ancestor}
 use Rattle.ghost_model.specs.SchemaTrees.{IsTree}
-use Rattle.ghost_model.specs.Database.{IsDatabase, rows_of, row_of, row_numbered, row_count, field, is_row_among, identifier_in, key_column, points_to, leads_within, leads, IsAtOrBelow, Lands, LeadsFollowKeys}
+use Rattle.ghost_model.specs.Database.{IsDatabase, rows_of, row_of, row_numbered, field, is_row_among, identifier_in, key_column, points_to, leads_within, leads, Lands, LeadsFollowKeys}
 use Rattle.ghost_model.proofs.MeaningLemmas.OneRow.{Among, among-filter, length-without, LeadsUp, leads_once, leads_on, both_true, not_equal, child_is}
 use Rattle.ghost_model.proofs.SchemaRuleLemmas.{parent_below}
 use Rattle.std.proofs.Math.Nat.{eq-or-lt_of_le}
@@ -52,7 +52,8 @@ short_way : (schema : Schema) → IsTree schema → (n : ℕ) (left : List ℕ) 
 short_way schema tree zero left steps from to short within cover h =
     (elim (cover to within) [
       | inl here ↦ (let fewer = length-without to left here in let bad : ⊥ = omega arith in absurd bad)
-      | inr l ↦ absurd (tree.no_cycle to (record { steps = l.0; moves = l.1; back = l.2 })) ])
+      | inr l ↦ absurd (tree.no_cycle to (record { steps = l.0; moves = l.1; back = l.2 }))
+    ])
 short_way schema tree (suc n) left zero from to short within cover h = omega arith
 short_way schema tree (suc n) left (suc steps) from to short within cover h =
     let up = first_step schema steps from to h in
@@ -60,19 +61,23 @@ short_way schema tree (suc n) left (suc steps) from to short within cover h =
       | inr l ↦ absurd (tree.no_cycle to (record { steps = l.0; moves = l.1; back = l.2 }))
       | inl here ↦ (let fewer = length-without to left here in
           let rest = short_way schema tree n (filter (λ u. not (nat_eq u to)) left) steps from up.0 (omega arith) (parent_is_table schema to up.0 up.1)
-            (λ other ho. (elim (cover other ho) [
-              | inr l ↦ inr (leads_on schema other to up.0 l up.1)
-              | inl stays ↦ (elim (nat_eq other to) as (λ v. nat_eq other to ≡ v → Among other (filter (λ u. not (nat_eq u to)) left) ⊎ LeadsUp schema other up.0) [
-                  | true ↦ λ s. inr (subst (λ w. LeadsUp schema w up.0) (sym (eqb-true other to s)) (leads_once schema to up.0 up.1))
-                  | false ↦ λ s. inl (among-filter (λ u. not (nat_eq u to)) other left stays (ap not s)) ]) refl ])) up.2 in
-          omega arith) ])
+          (λ other ho. (elim (cover other ho) [
+            | inr l ↦ inr (leads_on schema other to up.0 l up.1)
+            | inl stays ↦ (elim (nat_eq other to) as (λ v. nat_eq other to ≡ v → Among other (filter (λ u. not (nat_eq u to)) left) ⊎ LeadsUp schema other up.0) [
+              | true ↦ λ s. inr (subst (λ w. LeadsUp schema w up.0) (sym (eqb-true other to s)) (leads_once schema to up.0 up.1))
+              | false ↦ λ s. inl (among-filter (λ u. not (nat_eq u to)) other left stays (ap not s))
+            ]) refl
+          ])) up.2 in
+          omega arith)
+    ])
 
 among_range : (at count x : ℕ) → at ≤ x → x < at + count → Among x (range_with_len at count)
 among_range at zero x low high = let bad : ⊥ = omega arith in bad
 among_range at (suc count) x low high =
     (elim (eq-or-lt_of_le low) [
       | inl same ↦ inl same
-      | inr more ↦ inr (among_range (at + 1) count x (omega arith) (omega arith)) ])
+      | inr more ↦ inr (among_range (at + 1) count x (omega arith) (omega arith))
+    ])
 
 way_is_short : (schema : Schema) → IsTree schema → (steps from to : ℕ) → to < length schema
     → ancestor schema steps to ≡ Some from → steps < length schema
@@ -124,7 +129,7 @@ leads_alike schema database tree (suc steps) (x ∷ one) (y ∷ other) from iden
     let up = first_step schema steps from to h in
     let differ = different schema tree steps from to h in
     let alike =
-          leads_alike schema database tree steps one other from identifier up.0 (omega arith) (omega arith) up.2 in
+    leads_alike schema database tree steps one other from identifier up.0 (omega arith) (omega arith) up.2 in
     along_within schema database x one from identifier to up.0 differ up.1 ∙ ap (onwards schema database up.0 to) alike
     ∙ sym (along_within schema database y other from identifier to up.0 differ up.1)
 
@@ -135,9 +140,10 @@ unfolding places_from
 told_place p at [] i h = let bad : ⊥ = cc in absurd bad
 told_place {X = X} p at (y ∷ ys) i h =
     (elim (p y) as (λ v. p y ≡ v → first_of (if v then at ∷ places_from p (at + 1) ys else places_from p (at + 1) ys) ≡ Some i
-          → (k : ℕ) × (x : X) × (i ≡ at + k) × (slice_get (y ∷ ys) k ≡ Some x) × (p x ≡ true)) [
+    → (k : ℕ) × (x : X) × (i ≡ at + k) × (slice_get (y ∷ ys) k ≡ Some x) × (p x ≡ true)) [
       | true ↦ λ e g. (let it : at ≡ i = ap (λ o. unwrap_or o at) g in let same : i ≡ at + 0 = omega arith in (0, y, same, refl, e))
-      | false ↦ λ e g. (let r = told_place p (at + 1) ys i g in let further = r.2 in let same : i ≡ at + suc r.0 = omega arith in (suc r.0, r.1, same, r.3, r.4)) ]) refl h
+      | false ↦ λ e g. (let r = told_place p (at + 1) ys i g in let further = r.2 in let same : i ≡ at + suc r.0 = omega arith in (suc r.0, r.1, same, r.3, r.4))
+    ]) refl h
 
 first_some : {X : Type 0} (xs : List X) → is_empty xs ≡ false → (x : X) × (first_of xs ≡ Some x)
 first_some [] h = let bad : ⊥ = cc in absurd bad
@@ -191,14 +197,14 @@ points_somewhere schema database tree is above to identifier row up hr =
     let k = told_place (λ (column : Column). is_table to column.child) 0 f.1.columns c.0 c.1 in
     let at_column : c.0 ≡ k.0 = (let e = k.2 in omega arith) in
     let key : key_column schema above to ≡ Some k.0 =
-          ap (option_and_then (λ t. first_of (keys_to to t))) held ∙ c.1 ∙ ap Some at_column in
+    ap (option_and_then (λ t. first_of (keys_to to t))) held ∙ c.1 ∙ ap Some at_column in
     let columns : columns_of schema above ≡ f.1.columns = ap columns_or_none held in
     let declared : column_at schema above k.0 ≡ Some k.1 = ap (λ w. slice_get w k.0) columns ∙ k.3 in
     let width = is.widths above identifier row hr ∙ ap length columns in
     let within = place_within f.1.columns k.0 k.1 k.3 in
     let v = get_within row k.0 (omega arith) in
     let stands : field database above identifier k.0 ≡ Some v.0 =
-          ap (option_and_then (λ w. slice_get w k.0)) hr ∙ v.1 in
+    ap (option_and_then (λ w. slice_get w k.0)) hr ∙ v.1 in
     let good = is.references above identifier k.0 to v.0 k.1 stands declared (child_is to k.1.child k.4) in
     let r = row_among (rows_of database to) v.0 good in
     (r.0, r.1, ap (option_and_then (λ column. identifier_in (field database above identifier column))) key ∙ ap identifier_in stands ∙ r.2, r.3)
@@ -235,11 +241,13 @@ landing schema database tree is (suc steps) from to identifier row h hr =
       reached = p.0;
       row = p.1;
       led = along schema database tree steps from up.0 to identifier up.2 up.1 ∙ ap (onwards schema database up.0 to) above.led ∙ p.2;
-      stands = p.3 }
+      stands = p.3;
+    }
 
 pub rows_lead : (schema : Schema) (database : Database) → IsTree schema → IsDatabase schema database
     → LeadsFollowKeys schema database
 rows_lead schema database tree is = record {
   to_itself = λ table identifier. to_itself_within schema database schema table identifier table refl;
   along_a_key = λ from above to identifier h up. along schema database tree h.0 from above to identifier h.1 up;
-  lands = λ from to identifier row h hr. landing schema database tree is h.0 from to identifier row h.1 hr }
+  lands = λ from to identifier row h hr. landing schema database tree is h.0 from to identifier row h.1 hr;
+}
