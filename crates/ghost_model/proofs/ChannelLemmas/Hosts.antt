@@ -1,12 +1,17 @@
 -- That a host says a front of an honest stream.
-use Rattle.std.proofs.Common.{◌≡◌, ℕ, zero, suc, ◌+◌, ◌-◌, ◌*◌, ◌/◌, ◌<◌, ◌≤◌, Bool, true, false, List, [], ◌∷◌, ◌++◌, length, map, take, drop, sym, ◌∙◌, ap, subst, refl, arith, length-append, append-nil, append_assoc, Option, Some, None}
+use Rattle.std.proofs.Common.{◌≡◌, ℕ, zero, suc, ◌+◌, ◌-◌, ◌*◌, ◌/◌, ◌%◌, ◌<◌, ◌≤◌, Bool, true, false, List, [], ◌∷◌, ◌++◌, length, map, take, drop, sym, ◌∙◌, ap, subst, refl, arith, length-append, append-nil, append_assoc, Option, Some, None}
 use Rattle.std.specs.Prelude.{◌==◌, if◌then◌else◌, flat_map, option_to_list}
 use Rattle.std.proofs.lemmas.Bool.Decides.{eqb_tells}
 use Rattle.std.proofs.lemmas.Bool.{eqb-true}
+use Rattle.std.proofs.Math.Nat.{mul-suc, div-add-mod}
+use Rattle.std.proofs.lemmas.Nat.{le-div}
+use Rattle.std.proofs.lemmas.Grind.{flat_map-append}
+use Rattle.ghost_model.specs.Frames.{payload_of, most_payload}
+use Rattle.ghost_model.specs.Catalog.{catalog_bytes}
 use Rattle.std.proofs.lemmas.List.{nil_from_length, length-drop, take-append-drop}
 use Rattle.ghost_model.specs.Channel.{Catalog, Ask, Frame, Hello, Asking, More, Bye, Welcome, Replied, Done, Sorry}
 use Rattle.ghost_model.specs.Asks.{ReplyRow, row_bytes, ask_in}
-use Rattle.ghost_model.specs.Host.{Holding, Stand, Greeting, Listening, Replying, Over, Answered, welcomes, reply_to, replies_to, answer_to, answers_ask, goes_on, after_reply, said_to, said_with, ask_of_frame, IsFront, honest_stream, host_says, frames_of}
+use Rattle.ghost_model.specs.Host.{Holding, Stand, Greeting, Listening, Replying, Over, Answered, welcomes, reply_to, replies_to, answer_to, answers_ask, goes_on, after_reply, said_to, said_with, ask_of_frame, IsFront, groups_from, grouped, welcomes_of, welcome_part, rows_frame, honest_stream, host_says, frames_of}
 
 module _ (held : Holding) where
   asks_in : List Frame → List Ask
@@ -72,3 +77,45 @@ module _ (held : Holding) where
 
   pub host_is_honest : (key : List ℕ) → IsFront (host_says held key) (honest_stream held (frames_of key))
   host_is_honest key = is_front (frames_of key) Greeting
+
+-- groups, joined again
+spread :
+    {X : Type 0} (join : List X → List ℕ) → join [] ≡ [] → ((xs ys : List X) → join (xs ++ ys) ≡ join xs ++ join ys)
+    → (most count : ℕ) (xs : List X) → length xs ≤ most * count → flat_map join (groups_from most count xs) ≡ join xs
+unfolding groups_from
+spread join none both most zero xs h =
+    let empty : xs ≡ [] = nil_from_length xs (omega (arith, h)) in sym (ap join empty ∙ none)
+spread join none both most (suc count) xs h =
+    let fewer : length (drop most xs) ≤ most * count = omega (arith, h, length-drop most xs, mul-suc most count) in
+    ap (λ (ys : List ℕ). join (take most xs) ++ ys) (spread join none both most count (drop most xs) fewer)
+    ∙ (sym (both (take most xs) (drop most xs)) ∙ ap join (take-append-drop most xs))
+
+enough_groups : (most n : ℕ) → 0 < most → n ≤ most * ((n + most - 1) / most)
+enough_groups most n h =
+    let parts = div-add-mod (n + most - 1) most in
+    let below : (n + most - 1) % most < most = omega arith in
+    omega (arith, parts, below, h)
+
+welcomes_joined : (parts : List (List ℕ)) → flat_map welcome_part (welcomes_of parts) ≡ flat_map (λ part. part) parts
+welcomes_joined [] = refl
+welcomes_joined (part ∷ []) = refl
+welcomes_joined (part ∷ next ∷ later) = ap (λ (xs : List ℕ). part ++ xs) (welcomes_joined (next ∷ later))
+
+pub catalog_is_spelled : (catalog : Catalog) → flat_map welcome_part (welcomes catalog) ≡ catalog_bytes catalog
+catalog_is_spelled catalog =
+    welcomes_joined (grouped 2039 (catalog_bytes catalog))
+    ∙ spread (λ part. part) refl (λ xs ys. refl) 2039 ((length (catalog_bytes catalog) + 2039 - 1) / 2039) (catalog_bytes catalog)
+        (enough_groups 2039 (length (catalog_bytes catalog)) (omega arith))
+
+rows_joined : (serial : ℕ) (groups : List (List ReplyRow)) → flat_map payload_of (map (rows_frame serial) groups) ≡ flat_map (λ rows. flat_map row_bytes rows) groups
+rows_joined serial [] = refl
+rows_joined serial (rows ∷ groups) = ap (λ (xs : List ℕ). flat_map row_bytes rows ++ xs) (rows_joined serial groups)
+
+pub rows_are_spelled : (width serial : ℕ) (rows : List ReplyRow) → 0 < width → width ≤ most_payload → flat_map payload_of (map (rows_frame serial) (grouped (most_payload / width) rows)) ≡ flat_map row_bytes rows
+rows_are_spelled width serial rows h m =
+    let most : ℕ = most_payload / width in
+    let some : 1 ≤ most_payload / width = le-div 1 most_payload width h (omega (arith, m)) in
+    rows_joined serial (grouped (most_payload / width) rows)
+    ∙ spread (λ group. flat_map row_bytes group) refl (flat_map-append row_bytes) (most_payload / width)
+        ((length rows + most_payload / width - 1) / (most_payload / width)) rows
+        (enough_groups (most_payload / width) (length rows) some)
