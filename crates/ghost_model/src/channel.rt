@@ -2,7 +2,7 @@
 
 ghost use Rattle.ghost_model.specs.Frames.{FramesArePrefixFree, FramesHaveOneSpelling};
 ghost use Rattle.ghost_model.specs.Asks.{AsksHaveOneSpelling, AsksAreVisible, AsksAreProper};
-ghost use Rattle.ghost_model.specs.Host.{HostIsHonest, NothingIsLost};
+ghost use Rattle.ghost_model.specs.Host.{FramesAreCut, HostIsHonest, NothingIsLost};
 ghost use Rattle.ghost_model.specs.NextMove.{TwoWorlds, ReceivedIsSpelled};
 ghost use Rattle.ghost_model.specs.examples.Channel.{SpellingsOfFrames, ReadingsOfFrames, JournalOfTheNotes, AsksOfQueries, AsksOfBytes, JournalOfTheClinic, JournalWithoutAsks, InvalidFrames, FramesThatAreDue, AnswersOfTheHost};
 
@@ -20,6 +20,11 @@ pub fn frames_have_one_spelling()
 /// An ask that a key may send is the one that its payload spells, and no other payload spells it.
 pub fn asks_have_one_spelling()
     ensures { AsksHaveOneSpelling }
+{}
+
+/// Frames that are sent one after another are cut into these frames again.
+pub fn frames_are_cut()
+    ensures { FramesAreCut }
 {}
 
 /// Asks name visible columns alone: nothing of a hidden column or of an identifier is sent.

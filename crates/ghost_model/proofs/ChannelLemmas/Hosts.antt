@@ -1,17 +1,19 @@
 -- That a host says a front of an honest stream.
 use Rattle.std.proofs.Common.{◌≡◌, ℕ, zero, suc, ◌+◌, ◌-◌, ◌*◌, ◌/◌, ◌%◌, ◌<◌, ◌≤◌, Bool, true, false, List, [], ◌∷◌, ◌++◌, length, map, take, drop, sym, ◌∙◌, ap, subst, refl, arith, length-append, append-nil, append_assoc, Option, Some, None}
-use Rattle.std.specs.Prelude.{◌==◌, if◌then◌else◌, flat_map, option_to_list}
+use Rattle.std.specs.Prelude.{◌==◌, if◌then◌else◌, flat_map, option_to_list, All}
 use Rattle.std.proofs.lemmas.Bool.Decides.{eqb_tells}
 use Rattle.std.proofs.lemmas.Bool.{eqb-true}
 use Rattle.std.proofs.Math.Nat.{mul-suc, div-add-mod}
 use Rattle.std.proofs.lemmas.Nat.{le-div}
 use Rattle.std.proofs.lemmas.Grind.{flat_map-append}
-use Rattle.ghost_model.specs.Frames.{payload_of, most_payload}
+use Rattle.ghost_model.specs.Frames.{IsFrame, Got, frame_bytes, payload_of, most_payload}
 use Rattle.ghost_model.specs.Catalog.{catalog_bytes}
 use Rattle.std.proofs.lemmas.List.{nil_from_length, length-drop, take-append-drop}
+use Rattle.std.proofs.Math.Seq.{drop-append_seam}
+use Rattle.ghost_model.proofs.ChannelLemmas.{spelled_is_found}
 use Rattle.ghost_model.specs.Channel.{Catalog, Ask, Frame, Hello, Asking, More, Bye, Welcome, Replied, Done, Sorry}
 use Rattle.ghost_model.specs.Asks.{ReplyRow, row_bytes, ask_in}
-use Rattle.ghost_model.specs.Host.{Holding, Stand, Greeting, Listening, Replying, Over, Answered, welcomes, reply_to, replies_to, answer_to, answers_ask, goes_on, after_reply, said_to, said_with, ask_of_frame, IsFront, groups_from, grouped, welcomes_of, welcome_part, rows_frame, honest_stream, host_says, frames_of}
+use Rattle.ghost_model.specs.Host.{Holding, Stand, Greeting, Listening, Replying, Over, Answered, welcomes, reply_to, replies_to, answer_to, answers_ask, goes_on, after_reply, said_to, said_with, ask_of_frame, frames_within, frame_and, IsFront, groups_from, grouped, welcomes_of, welcome_part, rows_frame, honest_stream, host_says, frames_of}
 
 module _ (held : Holding) where
   asks_in : List Frame → List Ask
@@ -119,3 +121,29 @@ rows_are_spelled width serial rows h m =
     ∙ spread (λ group. flat_map row_bytes group) refl (flat_map-append row_bytes) (most_payload / width)
         ((length rows + most_payload / width - 1) / (most_payload / width)) rows
         (enough_groups (most_payload / width) (length rows) some)
+
+-- frames cut again
+at_least_one : (frame : Frame) (rest : List ℕ) → 1 + length rest ≤ length (frame_bytes frame ++ rest)
+at_least_one frame rest = omega (arith, length-append (payload_of frame) rest)
+
+enough_bytes : (frames : List Frame) → length frames ≤ length (flat_map frame_bytes frames)
+enough_bytes [] = omega arith
+enough_bytes (frame ∷ frames) =
+    let one : 1 + length (flat_map frame_bytes frames) ≤ length (flat_map frame_bytes (frame ∷ frames)) = at_least_one frame (flat_map frame_bytes frames) in
+    omega (arith, one, enough_bytes frames)
+
+cut_back : (most : ℕ) (frames : List Frame) → length frames ≤ most → All IsFrame frames → frames_within most (flat_map frame_bytes frames) ≡ frames
+unfolding frames_within
+cut_back zero [] h all = refl
+cut_back zero (frame ∷ frames) h all = absurd (omega (arith, h))
+cut_back (suc most) [] h all = refl
+cut_back (suc most) (frame ∷ frames) h all =
+    let rest : List ℕ = flat_map frame_bytes frames in
+    let later : Frame → List Frame = λ f. frames_within most (drop (length (frame_bytes f)) (frame_bytes frame ++ rest)) in
+    ap (λ (g : Got). frame_and later g) (spelled_is_found frame rest (all 0 frame (omega arith)))
+    ∙ ap (λ (fs : List Frame). frame ∷ fs)
+      (ap (λ (bs : List ℕ). frames_within most bs) (drop-append_seam (frame_bytes frame) rest)
+      ∙ cut_back most frames (omega (arith, h)) (λ k d less. all (suc k) d (omega (arith, less))))
+
+pub frames_are_cut : (frames : List Frame) → All IsFrame frames → frames_of (flat_map frame_bytes frames) ≡ frames
+frames_are_cut frames all = cut_back (length (flat_map frame_bytes frames)) frames (enough_bytes frames) all
