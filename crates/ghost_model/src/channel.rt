@@ -3,7 +3,7 @@
 ghost use Rattle.ghost_model.specs.Frames.{FramesArePrefixFree, FramesHaveOneSpelling};
 ghost use Rattle.ghost_model.specs.Asks.{AsksHaveOneSpelling, AsksAreVisible, AsksAreProper};
 ghost use Rattle.ghost_model.specs.Host.{FramesAreCut, HostIsHonest, NothingIsLost};
-ghost use Rattle.ghost_model.specs.NextMove.{TwoWorlds, ReceivedIsSpelled};
+ghost use Rattle.ghost_model.specs.NextMove.{TwoWorlds, ReceivedIsSpelled, AwaitedIsHeard};
 ghost use Rattle.ghost_model.specs.examples.Channel.{SpellingsOfFrames, ReadingsOfFrames, JournalOfTheNotes, AsksOfQueries, AsksOfBytes, JournalOfTheClinic, JournalWithoutAsks, InvalidFrames, FramesThatAreDue, AnswersOfTheHost};
 
 /// No frame's spelling is a proper prefix of another's.
@@ -40,6 +40,11 @@ pub fn asks_are_proper()
 /// Received bytes are the spellings of the frames that the key heard, joined, and the part of the frame at hand.
 pub fn received_bytes_are_frames()
     ensures { ReceivedIsSpelled }
+{}
+
+/// The bytes of a frame that may come in its place are heard as this frame.
+pub fn awaited_frames_are_heard()
+    ensures { AwaitedIsHeard }
 {}
 
 /// Two proper journals for the same catalog, address and texts whose first answers agree have the same moves up to and
