@@ -1,7 +1,7 @@
 //! Laws and examples of frames, asks, journals and of what the host sends.
 
 ghost use Rattle.ghost_model.specs.Frames.{FramesArePrefixFree, FramesHaveOneSpelling};
-ghost use Rattle.ghost_model.specs.Asks.{AsksHaveOneSpelling, AsksAreVisible, AsksAreProper};
+ghost use Rattle.ghost_model.specs.Asks.{AsksHaveOneSpelling, AsksAreVisible, AsksAreProper, RowsHaveOneSpelling};
 ghost use Rattle.ghost_model.specs.Host.{FramesAreCut, HostIsHonest, NothingIsLost};
 ghost use Rattle.ghost_model.specs.NextMove.{TwoWorlds, ReceivedIsSpelled, AwaitedIsHeard};
 ghost use Rattle.ghost_model.specs.examples.Channel.{SpellingsOfFrames, ReadingsOfFrames, JournalOfTheNotes, AsksOfQueries, AsksOfBytes, JournalOfTheClinic, JournalWithoutAsks, InvalidFrames, FramesThatAreDue, AnswersOfTheHost};
@@ -35,6 +35,11 @@ pub fn asks_are_visible()
 /// The asks of an accepted text are such as a key may send.
 pub fn asks_are_proper()
     ensures { AsksAreProper }
+{}
+
+/// Rows of a reply are the ones that their bytes spell, and bytes of whole rows are those of the rows that they spell.
+pub fn rows_have_one_spelling()
+    ensures { RowsHaveOneSpelling }
 {}
 
 /// Received bytes are the spellings of the frames that the key heard, joined, and the part of the frame at hand.
