@@ -219,8 +219,8 @@ pub record IsReplyRow (schema : Schema) (ask : Ask) (row : ReplyRow) : Type 0 wh
 -- rows are the ones that their bytes spell, and bytes of whole rows are those of the rows that they spell
 pub record RowsHaveOneSpelling : Type 0 where
   pub spelled_are_read :
-    (schema : Schema) (ask : Ask) (rows : List ReplyRow) → All (IsReplyRow schema ask) rows
-    → rows_in schema ask (flat_map row_bytes rows) ≡ rows
+      (schema : Schema) (ask : Ask) (rows : List ReplyRow) → All (IsReplyRow schema ask) rows
+      → rows_in schema ask (flat_map row_bytes rows) ≡ rows
   pub read_are_spelled :
-    (schema : Schema) (ask : Ask) (payload : List ℕ) → AreBytes payload → length payload % row_width schema ask ≡ 0
-    → flat_map row_bytes (rows_in schema ask payload) ≡ payload
+      (schema : Schema) (ask : Ask) (payload : List ℕ) → AreBytes payload → length payload % row_width schema ask ≡ 0
+      → flat_map row_bytes (rows_in schema ask payload) ≡ payload

@@ -190,8 +190,8 @@ welcome_part _ = []
 pub record NothingIsLost : Type 0 where
   pub catalog : (catalog : Catalog) → flat_map welcome_part (welcomes catalog) ≡ catalog_bytes catalog
   pub rows :
-    (width : ℕ) (serial : ℕ) (rows : List ReplyRow) → 0 < width → width ≤ most_payload
-    → flat_map payload_of (map (rows_frame serial) (grouped (most_payload / width) rows)) ≡ flat_map row_bytes rows
+      (width : ℕ) (serial : ℕ) (rows : List ReplyRow) → 0 < width → width ≤ most_payload
+      → flat_map payload_of (map (rows_frame serial) (grouped (most_payload / width) rows)) ≡ flat_map row_bytes rows
 
 -- frames that are sent one after another are cut into these frames again
 abbrev pub FramesAreCut : Type 0

@@ -1,12 +1,12 @@
 -- That the bytes of a frame that may come are heard as this frame.
-use Rattle.std.proofs.Common.{◌≡◌, ℕ, zero, suc, ◌+◌, ◌-◌, ◌<◌, ◌≤◌, ◌⊎◌, inl, inr, Bool, true, false, List, [], ◌∷◌, ◌++◌, length, sym, ◌∙◌, ap, subst, refl, arith, length-append, append-nil, append_assoc}
+use Rattle.std.proofs.Common.{◌≡◌, ℕ, ◌+◌, ◌-◌, ◌≤◌, inl, inr, Bool, true, false, List, [], ◌∷◌, ◌++◌, length, sym, ◌∙◌, ap, refl, arith, length-append, append-nil, append_assoc}
 use Rattle.std.specs.Prelude.{nat_lt, not, if◌then◌else◌}
 use Rattle.std.proofs.lemmas.Bool.Decides.{leb_tells}
 use Rattle.std.proofs.lemmas.Bool.{lt-ltb, le-ltb}
 use Rattle.ghost_model.specs.Channel.{Catalog, Frame}
 use Rattle.ghost_model.specs.Asks.{Asked}
-use Rattle.ghost_model.specs.Frames.{IsFrame, frame_bytes, frame_in, size_in, payload_of}
-use Rattle.ghost_model.specs.NextMove.{Awaits, Missing, Reply, Nothing, Verdict, Short, Whole, Invalid, verdict, header_fits, payload_fits, Heard, Ended, heard_frame, heard_as, hear, hear_all, IsAwaited}
+use Rattle.ghost_model.specs.Frames.{frame_bytes, frame_in, size_in, payload_of}
+use Rattle.ghost_model.specs.NextMove.{Awaits, Missing, Reply, Nothing, Verdict, Short, Whole, Invalid, verdict, header_fits, payload_fits, Heard, Ended, heard_frame, heard_as, hear_all, IsAwaited}
 use Rattle.ghost_model.proofs.ChannelLemmas.{size_is_read, frame_is_read}
 
 -- the tests of a verdict, over plain values
@@ -50,29 +50,32 @@ module _ (catalog : Catalog) (awaits : Awaits) (frame : Frame) (can : IsAwaited 
   whole =
       let bytes : List ℕ = frame_bytes frame in
       judged_whole (nat_lt (length bytes) 8) (header_fits catalog awaits bytes) (nat_lt (length bytes) (8 + size_in bytes)) (payload_fits catalog awaits (frame_in bytes))
-        (8 - length bytes) (8 + size_in bytes - length bytes)
-        (le-ltb (length bytes) 8 (omega arith)) can.header
-        (le-ltb (length bytes) (8 + size_in bytes) (let size : size_in bytes ≡ length (payload_of frame) = size_of_frame in omega (arith, size)))
-        (ap (λ (f : Frame). payload_fits catalog awaits f) read_again ∙ can.payload)
+      (8 - length bytes) (8 + size_in bytes - length bytes)
+      (le-ltb (length bytes) 8 (omega arith)) can.header
+      (le-ltb (length bytes) (8 + size_in bytes) (let size : size_in bytes ≡ length (payload_of frame) = size_of_frame in omega (arith, size)))
+      (ap (λ (f : Frame). payload_fits catalog awaits f) read_again ∙ can.payload)
 
   -- a part of it
   lacking : (part : List ℕ) (byte : ℕ) (more : List ℕ) → part ++ byte ∷ more ≡ frame_bytes frame → (n : ℕ) × (verdict catalog awaits part ≡ Short n)
   lacking part byte more e =
       let lengths : length part + length (byte ∷ more) ≡ length (frame_bytes frame) = sym (length-append part (byte ∷ more)) ∙ ap length e in
       elim (leb_tells 8 (length part)) [
-        inl p ↦
-          (let header : header_fits catalog awaits part ≡ true =
+        | inl p ↦
+            (let header : header_fits catalog awaits part ≡ true =
             sym (header_stays catalog awaits part (byte ∷ more) p.1) ∙ (ap (λ (bs : List ℕ). header_fits catalog awaits bs) e ∙ can.header) in
-          let size : size_in part ≡ length (payload_of frame) =
-            sym (size_stays part (byte ∷ more) p.1) ∙ (ap size_in e ∙ size_of_frame) in
-          (8 + size_in part - length part,
-            judged_part (nat_lt (length part) 8) (header_fits catalog awaits part) (nat_lt (length part) (8 + size_in part)) (payload_fits catalog awaits (frame_in part))
-              (8 - length part) (8 + size_in part - length part)
-              (le-ltb (length part) 8 p.1) header (lt-ltb (length part) (8 + size_in part) (omega (arith, size, lengths)))))
-      | inr q ↦
-          (8 - length part,
-            judged_head (nat_lt (length part) 8) (header_fits catalog awaits part) (nat_lt (length part) (8 + size_in part)) (payload_fits catalog awaits (frame_in part))
-              (8 - length part) (8 + size_in part - length part) (lt-ltb (length part) 8 q.1)) ]
+            let size : size_in part ≡ length (payload_of frame) =
+            sym (size_stays part (byte ∷ more) p.1) ∙ (ap size_in e ∙ size_of_frame) in (
+              8 + size_in part - length part,
+              judged_part (nat_lt (length part) 8) (header_fits catalog awaits part) (nat_lt (length part) (8 + size_in part)) (payload_fits catalog awaits (frame_in part))
+                  (8 - length part) (8 + size_in part - length part)
+                  (le-ltb (length part) 8 p.1) header (lt-ltb (length part) (8 + size_in part) (omega (arith, size, lengths))),
+            ))
+        | inr q ↦ (
+          8 - length part,
+          judged_head (nat_lt (length part) 8) (header_fits catalog awaits part) (nat_lt (length part) (8 + size_in part)) (payload_fits catalog awaits (frame_in part))
+              (8 - length part) (8 + size_in part - length part) (lt-ltb (length part) 8 q.1),
+        )
+      ]
 
   module _ (asks : List Asked) (frames due : List Frame) (rows : List ℕ) (ended : List Ended) where
     -- what was heard, with this part of the frame at hand

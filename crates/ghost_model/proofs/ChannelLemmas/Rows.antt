@@ -1,5 +1,5 @@
 -- Lemmas on the bytes of a reply's rows.
-use Rattle.std.proofs.Common.{◌≡◌, ℕ, zero, suc, ◌+◌, ◌-◌, ◌*◌, ◌/◌, ◌%◌, ◌<◌, ◌≤◌, ◌^◌, List, [], ◌∷◌, ◌++◌, length, take, drop, sym, ◌∙◌, ap, subst, refl, arith, length-append, append-nil, append_assoc, w32}
+use Rattle.std.proofs.Common.{◌≡◌, ℕ, zero, suc, ◌+◌, ◌*◌, ◌/◌, ◌%◌, ◌<◌, ◌≤◌, ◌^◌, List, [], ◌∷◌, ◌++◌, length, take, drop, sym, ◌∙◌, ap, refl, arith, length-append, w32}
 use Rattle.std.specs.Prelude.{flat_map, All}
 use Rattle.std.specs.Int.{to_be_bytes, from_be_bytes}
 use Rattle.std.proofs.Math.Nat.{mul-suc, suc-mul, div-add-mod}
@@ -27,7 +27,7 @@ row_is_read row h = ap (λ (n : ℕ). row_of n row.cells) (from_be_bytes-to_be_b
 row_is_spelled : (bytes : List ℕ) → 4 ≤ length bytes → AreBytes bytes → row_bytes (row_in bytes) ≡ bytes
 row_is_spelled bytes m h =
     let four : to_be_bytes w32 (from_be_bytes w32 (take 4 bytes)) ≡ take 4 bytes =
-      be_bytes_4 (take 4 bytes) (from_be_bytes w32 (take 4 bytes)) (length-take-le 4 bytes m) (bytes_take 4 bytes h) refl in
+    be_bytes_4 (take 4 bytes) (from_be_bytes w32 (take 4 bytes)) (length-take-le 4 bytes m) (bytes_take 4 bytes h) refl in
     ap (λ (xs : List ℕ). xs ++ drop 4 bytes) four ∙ take-append-drop 4 bytes
 
 cons_rows : (a b : ReplyRow) (cs ds : List ReplyRow) → a ≡ b → cs ≡ ds → a ∷ cs ≡ b ∷ ds
@@ -53,16 +53,16 @@ module _ (schema : Schema) (ask : Ask) where
       let here : IsReplyRow schema ask row = all 0 row (omega arith) in
       let size : length (row_bytes row) ≡ row_width schema ask = row_length row here in
       cons_rows _ row _ rows
-        (ap row_in (take_front (row_width schema ask) (row_bytes row) (flat_map row_bytes rows) size) ∙ row_is_read row here.identifier)
-        (ap (λ (bs : List ℕ). rows_from (row_width schema ask) (length rows) bs) (drop_front (row_width schema ask) (row_bytes row) (flat_map row_bytes rows) size)
-        ∙ rows_back rows (λ k d less. all (suc k) d (omega (arith, less))))
+      (ap row_in (take_front (row_width schema ask) (row_bytes row) (flat_map row_bytes rows) size) ∙ row_is_read row here.identifier)
+      (ap (λ (bs : List ℕ). rows_from (row_width schema ask) (length rows) bs) (drop_front (row_width schema ask) (row_bytes row) (flat_map row_bytes rows) size)
+      ∙ rows_back rows (λ k d less. all (suc k) d (omega (arith, less))))
 
   pub spelled_rows_are_read : (rows : List ReplyRow) → All (IsReplyRow schema ask) rows → rows_in schema ask (flat_map row_bytes rows) ≡ rows
   spelled_rows_are_read rows all =
       let width : ℕ = row_width schema ask in
       let size : length (flat_map row_bytes rows) ≡ length rows * row_width schema ask + 0 = omega (arith, rows_length rows all) in
       let count : length (flat_map row_bytes rows) / row_width schema ask ≡ length rows =
-        ap (λ (n : ℕ). n / row_width schema ask) size ∙ div-mul-add (length rows) (row_width schema ask) 0 (omega arith) in
+      ap (λ (n : ℕ). n / row_width schema ask) size ∙ div-mul-add (length rows) (row_width schema ask) 0 (omega arith) in
       ap (λ (n : ℕ). rows_from (row_width schema ask) n (flat_map row_bytes rows)) count ∙ rows_back rows all
 
 bytes_back : (width count : ℕ) (bytes : List ℕ) → 4 ≤ width → length bytes ≡ width * count → AreBytes bytes → flat_map row_bytes (rows_from width count bytes) ≡ bytes
@@ -73,7 +73,7 @@ bytes_back width (suc count) bytes m e h =
     let front : length (take width bytes) ≡ width = length-take-le width bytes (omega (arith, size)) in
     let back : length (drop width bytes) ≡ width * count = omega (arith, length-drop width bytes, size) in
     ap (λ (xs : List ℕ). xs ++ flat_map row_bytes (rows_from width count (drop width bytes)))
-      (row_is_spelled (take width bytes) (omega (arith, front, m)) (bytes_take width bytes h))
+    (row_is_spelled (take width bytes) (omega (arith, front, m)) (bytes_take width bytes h))
     ∙ (ap (λ (xs : List ℕ). take width bytes ++ xs) (bytes_back width count (drop width bytes) m back (bytes_drop width bytes h))
     ∙ take-append-drop width bytes)
 
