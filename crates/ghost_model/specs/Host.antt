@@ -3,11 +3,11 @@
 -- the WELCOME frames of the host's own catalog, whatever generation it names, each full but the last. ASK and MORE are
 -- answered by one frame each: first ROWS, each with as many whole rows as fit, then DONE. At the first frame that is no
 -- frame of the key in its place the host stops.
-use Rattle.std.specs.Prelude.{◌≡◌, ℕ, zero, suc, ◌+◌, ◌-◌, ◌/◌, ◌==◌, List, [], ◌∷◌, ◌++◌, length, take, drop, map, flat_map, if◌then◌else◌, Option, Some, None, option_to_list, ◌≤◌, ◌<◌}
+use Rattle.std.specs.Prelude.{◌≡◌, ℕ, zero, suc, ◌+◌, ◌-◌, ◌/◌, ◌==◌, List, [], ◌∷◌, ◌++◌, length, take, drop, map, flat_map, if◌then◌else◌, Option, Some, None, option_to_list, All, ◌≤◌, ◌<◌}
 use Rattle.ghost_model.specs.Schema.{Schema, is_empty}
 use Rattle.ghost_model.specs.Channel.{Catalog, Ask, Frame, Hello, Asking, More, Bye, Welcome, Replied, Done}
 use Rattle.ghost_model.specs.Catalog.{catalog_bytes}
-use Rattle.ghost_model.specs.Frames.{Got, Found, Short, Bad, got_of, frame_bytes, kind_of, payload_of, most_payload}
+use Rattle.ghost_model.specs.Frames.{IsFrame, Got, Found, Short, Bad, got_of, frame_bytes, kind_of, payload_of, most_payload}
 use Rattle.ghost_model.specs.Asks.{ReplyRow, row_bytes, row_width, ask_in}
 use Rattle.ghost_model.specs.Split.{Public, visible_rows, reply_row}
 use Rattle.ghost_model.specs.NextMove.{InvalidFrame}
@@ -190,5 +190,9 @@ welcome_part _ = []
 pub record NothingIsLost : Type 0 where
   pub catalog : (catalog : Catalog) → flat_map welcome_part (welcomes catalog) ≡ catalog_bytes catalog
   pub rows :
-    (width : ℕ) (serial : ℕ) (rows : List ReplyRow) → 0 < width → width ≤ most_payload
-    → flat_map payload_of (map (rows_frame serial) (grouped (most_payload / width) rows)) ≡ flat_map row_bytes rows
+      (width : ℕ) (serial : ℕ) (rows : List ReplyRow) → 0 < width → width ≤ most_payload
+      → flat_map payload_of (map (rows_frame serial) (grouped (most_payload / width) rows)) ≡ flat_map row_bytes rows
+
+-- frames that are sent one after another are cut into these frames again
+abbrev pub FramesAreCut : Type 0
+FramesAreCut = (frames : List Frame) → All IsFrame frames → frames_of (flat_map frame_bytes frames) ≡ frames

@@ -1,9 +1,9 @@
 //! Laws and examples of frames, asks, journals and of what the host sends.
 
 ghost use Rattle.ghost_model.specs.Frames.{FramesArePrefixFree, FramesHaveOneSpelling};
-ghost use Rattle.ghost_model.specs.Asks.{AsksHaveOneSpelling, AsksAreVisible, AsksAreProper};
-ghost use Rattle.ghost_model.specs.Host.{HostIsHonest, NothingIsLost};
-ghost use Rattle.ghost_model.specs.NextMove.{TwoWorlds, ReceivedIsSpelled};
+ghost use Rattle.ghost_model.specs.Asks.{AsksHaveOneSpelling, AsksAreVisible, AsksAreProper, RowsHaveOneSpelling};
+ghost use Rattle.ghost_model.specs.Host.{FramesAreCut, HostIsHonest, NothingIsLost};
+ghost use Rattle.ghost_model.specs.NextMove.{TwoWorlds, ReceivedIsSpelled, AwaitedIsHeard};
 ghost use Rattle.ghost_model.specs.examples.Channel.{SpellingsOfFrames, ReadingsOfFrames, JournalOfTheNotes, AsksOfQueries, AsksOfBytes, JournalOfTheClinic, JournalWithoutAsks, InvalidFrames, FramesThatAreDue, AnswersOfTheHost};
 
 /// No frame's spelling is a proper prefix of another's.
@@ -22,6 +22,11 @@ pub fn asks_have_one_spelling()
     ensures { AsksHaveOneSpelling }
 {}
 
+/// Frames that are sent one after another are cut into these frames again.
+pub fn frames_are_cut()
+    ensures { FramesAreCut }
+{}
+
 /// Asks name visible columns alone: nothing of a hidden column or of an identifier is sent.
 pub fn asks_are_visible()
     ensures { AsksAreVisible }
@@ -32,9 +37,19 @@ pub fn asks_are_proper()
     ensures { AsksAreProper }
 {}
 
+/// Rows of a reply are the ones that their bytes spell, and bytes of whole rows are those of the rows that they spell.
+pub fn rows_have_one_spelling()
+    ensures { RowsHaveOneSpelling }
+{}
+
 /// Received bytes are the spellings of the frames that the key heard, joined, and the part of the frame at hand.
 pub fn received_bytes_are_frames()
     ensures { ReceivedIsSpelled }
+{}
+
+/// The bytes of a frame that may come in its place are heard as this frame.
+pub fn awaited_frames_are_heard()
+    ensures { AwaitedIsHeard }
 {}
 
 /// Two proper journals for the same catalog, address and texts whose first answers agree have the same moves up to and

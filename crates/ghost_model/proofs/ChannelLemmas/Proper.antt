@@ -1,5 +1,5 @@
 -- That the asks of queries are such as a key may send.
-use Rattle.std.proofs.Common.{◌≡◌, ℕ, zero, suc, ◌+◌, ◌-◌, ◌*◌, ◌<◌, ◌≤◌, ◌^◌, ◌⊎◌, inl, inr, Bool, true, false, ◌&&◌, List, [], ◌∷◌, ◌++◌, length, map, sym, ◌∙◌, ap, subst, refl, arith, length-append, append-nil, lit<, Option, Some, None, pos, negsuc, ℤ, Ok}
+use Rattle.std.proofs.Common.{◌≡◌, ℕ, ◌+◌, ◌-◌, ◌<◌, ◌≤◌, ◌^◌, Bool, true, false, ◌&&◌, List, [], ◌∷◌, ◌++◌, length, map, sym, ◌∙◌, ap, subst, refl, arith, length-append, lit<, Option, Some, None, pos, negsuc, ℤ, Ok}
 use Rattle.std.specs.Prelude.{◌==◌, ◌||◌, nat_lt, nat_le, not, if◌then◌else◌, filter, flat_map}
 use Rattle.std.specs.List.{sum_by}
 use Rattle.std.specs.Option.{option_map}
@@ -10,15 +10,15 @@ use Rattle.std.proofs.lemmas.List.Folds.{list_all-append, list_all-map}
 use Rattle.std.proofs.lemmas.Grind.{flat_map-append}
 use Rattle.std.proofs.lemmas.List.Sums.{sum_by-cons}
 use Rattle.std.proofs.lemmas.Bool.Decides.{nat_tests}
-use Rattle.std.proofs.lemmas.Bool.{ltb-false, ltb-true, le-ltb, lt-ltb, le-leb, leb-true}
-use Rattle.ghost_model.specs.Schema.{Schema, Column, Kind, Integer, Chars, columns_of, column_at, is_visible, is_shown, places_from, places_where}
+use Rattle.std.proofs.lemmas.Bool.{ltb-false, lt-ltb, le-leb}
+use Rattle.ghost_model.specs.Schema.{Schema, Column, Kind, Integer, Chars, columns_of, column_at, is_visible, is_shown, places_from}
 use Rattle.ghost_model.specs.Values.{Value, Number, Text}
-use Rattle.ghost_model.specs.Query.{Query, Field, Operator, Condition, Compare, Join, AtLeast, AtMost}
-use Rattle.ghost_model.specs.Channel.{Ask, Test}
+use Rattle.ghost_model.specs.Query.{Query, Field, Condition, Compare, Join, AtLeast, AtMost}
+use Rattle.ghost_model.specs.Channel.{Test}
 use Rattle.ghost_model.specs.Tokens.{Symbol, Quoted, End, Word, And, Comma, is_printable, symbols}
 use Rattle.ghost_model.specs.Spelled.{is_spelled, IsBeforeEnd}
-use Rattle.ghost_model.specs.Database.{is_of_kind, is_text, fits_integer}
-use Rattle.ghost_model.specs.QueryGrammar.{ConditionText, Compares, LiesBetween, Joins, ColumnText, LiteralText, Unsigned, Signed, Written, QueryText, Selection, All, Columns, spelling, spell_condition, spell_literal, spell_where, spell_column, spell_table, spell_selection}
+use Rattle.ghost_model.specs.Database.{is_of_kind, fits_integer}
+use Rattle.ghost_model.specs.QueryGrammar.{ConditionText, Compares, LiesBetween, Joins, ColumnText, LiteralText, Unsigned, Signed, Written, QueryText, spelling, spell_condition, spell_literal, spell_where, spell_column, spell_table, spell_selection}
 use Rattle.ghost_model.specs.Grammar.{separated}
 use Rattle.ghost_model.specs.QueryMeaning as meaning
 use Rattle.ghost_model.specs.Asks as asks
@@ -103,7 +103,7 @@ module _ (schema : Schema) where
   visible_columns : (select : List Field) (table : ℕ) → list_all (is_visible schema table) (filter (asks.is_wanted schema select table) (asks.places (columns_of schema table))) ≡ true
   visible_columns select table =
       all_filter (is_visible schema table) (asks.is_wanted schema select table) (asks.places (columns_of schema table))
-        (λ column e. (both_hold (is_visible schema table column) (list_any (asks.is_field table column) select) e).one)
+      (λ column e. (both_hold (is_visible schema table column) (list_any (asks.is_field table column) select) e).one)
 
   tested : (table : ℕ) (field : Field) (test : Test) (r : Test → Bool) (b : Bool) → (b ≡ true → r test ≡ true) → list_all r (if b then test ∷ [] else []) ≡ true
   tested table field test r true h = hold_both (r test) true (h refl) refl
@@ -112,21 +112,21 @@ module _ (schema : Schema) where
   visible_test : (table : ℕ) (condition : Condition) → list_all (λ test. is_visible schema table test.column) (asks.test_of schema table condition) ≡ true
   visible_test table (Compare field operator value) =
       tested table field (record { column = field.column; operator = operator; value = value }) (λ test. is_visible schema table test.column)
-        (field.table == table && is_visible schema table field.column)
-        (λ e. (both_hold (field.table == table) (is_visible schema table field.column) e).other)
+      (field.table == table && is_visible schema table field.column)
+      (λ e. (both_hold (field.table == table) (is_visible schema table field.column) e).other)
   visible_test table (Join left right) = refl
 
   visible_tests : (table : ℕ) (conditions : List Condition) → list_all (λ test. is_visible schema table test.column) (asks.tests_of schema table conditions) ≡ true
   visible_tests table conditions =
       all_flat (λ test. is_visible schema table test.column) (asks.test_of schema table) conditions
-        (all_each (λ condition. list_all (λ test. is_visible schema table test.column) (asks.test_of schema table condition)) conditions (visible_test table))
+      (all_each (λ condition. list_all (λ test. is_visible schema table test.column) (asks.test_of schema table condition)) conditions (visible_test table))
 
   pub asks_are_visible : (query : Query) → list_all (asks.names_visible schema) (asks.asks_of schema query) ≡ true
   asks_are_visible query =
       all_kept (asks.names_visible schema) asks.is_needed (map (asks.ask_for schema query) (filter (asks.is_from query) (asks.places schema)))
-        (list_all-map (asks.names_visible schema) (asks.ask_for schema query) (filter (asks.is_from query) (asks.places schema))
-        ∙ all_each (λ table. asks.names_visible schema (asks.ask_for schema query table)) (filter (asks.is_from query) (asks.places schema))
-            (λ table. hold_both _ _ (visible_columns query.select table) (visible_tests table query.conditions)))
+      (list_all-map (asks.names_visible schema) (asks.ask_for schema query) (filter (asks.is_from query) (asks.places schema))
+      ∙ all_each (λ table. asks.names_visible schema (asks.ask_for schema query table)) (filter (asks.is_from query) (asks.places schema))
+      (λ table. hold_both _ _ (visible_columns query.select table) (visible_tests table query.conditions)))
 
 -- places are below the length, and ascend
 places_below : {X : Type 0} (at : ℕ) (xs : List X) (most : ℕ) → at + length xs ≤ most → list_all (λ place. nat_lt place most) (places_from always at xs) ≡ true
@@ -145,7 +145,7 @@ unfolding places_from
 ascending q before at [] h = refl
 ascending q before at (x ∷ xs) h =
     ascending_if before at (filter q (places_from always (at + 1) xs)) (q at) h
-      (ascending q at (at + 1) xs (omega arith)) (ascending q before (at + 1) xs (omega (arith, h)))
+    (ascending q at (at + 1) xs (omega arith)) (ascending q before (at + 1) xs (omega (arith, h)))
 
 -- a value that breaks no rule of literals is of its column's kind; `printable` says that a text is
 abbrev is_plain : Value → Bool
@@ -189,14 +189,14 @@ module _ (schema : Schema) where
   sound_test table (Join left right) a b c = refl
   sound_test table (Compare field operator value) a b c =
       tested schema table field (record { column = field.column; operator = operator; value = value }) (is_sound table)
-        (field.table == table && is_visible schema table field.column)
-        (λ e. let both : BothHold (field.table == table) (is_visible schema table field.column) = both_hold _ _ e in
-          let same : field.table ≡ table = eqb-true field.table table both.one in
-          let shown : BothHold (nat_lt 0 field.column) (is_shown (column_at schema table field.column)) = both_hold _ _ both.other in
-          by_column (column_at schema table field.column) value shown.other
-            (subst (λ (t : ℕ). meaning.is_other_kind (option_map (λ column. column.kind) (column_at schema t field.column)) value ≡ false) same a)
-            (subst (λ (t : ℕ). meaning.is_too_large (option_map (λ column. column.kind) (column_at schema t field.column)) value ≡ false) same b)
-            c)
+      (field.table == table && is_visible schema table field.column)
+      (λ e. let both : BothHold (field.table == table) (is_visible schema table field.column) = both_hold _ _ e in
+      let same : field.table ≡ table = eqb-true field.table table both.one in
+      let shown : BothHold (nat_lt 0 field.column) (is_shown (column_at schema table field.column)) = both_hold _ _ both.other in
+      by_column (column_at schema table field.column) value shown.other
+      (subst (λ (t : ℕ). meaning.is_other_kind (option_map (λ column. column.kind) (column_at schema t field.column)) value ≡ false) same a)
+      (subst (λ (t : ℕ). meaning.is_too_large (option_map (λ column. column.kind) (column_at schema t field.column)) value ≡ false) same b)
+      c)
 
   sound_tests :
       (table : ℕ) (conditions : List Condition) → list_any (meaning.literal_fails schema meaning.is_other_kind) conditions ≡ false
@@ -204,10 +204,10 @@ module _ (schema : Schema) where
       → list_all (is_sound table) (asks.tests_of schema table conditions) ≡ true
   sound_tests table conditions a b c =
       all_flat (is_sound table) (asks.test_of schema table) conditions
-        (all_from_three (λ x. not (meaning.literal_fails schema meaning.is_other_kind x)) (λ x. not (meaning.literal_fails schema meaning.is_too_large x)) is_plain_condition
-          (λ x. list_all (is_sound table) (asks.test_of schema table x)) conditions
-          (λ x p q r. sound_test table x (not_false _ p) (not_false _ q) r)
-          (none_all _ conditions a) (none_all _ conditions b) c)
+      (all_from_three (λ x. not (meaning.literal_fails schema meaning.is_other_kind x)) (λ x. not (meaning.literal_fails schema meaning.is_too_large x)) is_plain_condition
+      (λ x. list_all (is_sound table) (asks.test_of schema table x)) conditions
+      (λ x p q r. sound_test table x (not_false _ p) (not_false _ q) r)
+      (none_all _ conditions a) (none_all _ conditions b) c)
 
 -- the texts of literals have characters alone
 abbrev is_loose : Symbol → Bool
@@ -236,7 +236,6 @@ plain_literal (Unsigned digits) e = refl
 plain_literal (Signed sign digits) e = refl
 plain_literal (Written text) e = (both_hold (list_all is_printable text) true e).one
 
-
 module _ (schema : Schema) (from : List ℕ) where
   plain_conditions : (condition : ConditionText) → list_all is_loose (spell_condition condition) ≡ true → list_all is_plain_condition (meaning.conditions_of schema from condition) ≡ true
   plain_conditions (Compares column operator literal) e =
@@ -248,18 +247,18 @@ module _ (schema : Schema) (from : List ℕ) where
       let first : is_plain (meaning.value_of low) ≡ true = plain_literal low (loose_left (spell_literal low) _ both) in
       let second : is_plain (meaning.value_of high) ≡ true = plain_literal high (loose_right (spell_literal low) _ both) in
       all_flat is_plain_condition (λ meant. Compare meant AtLeast (meaning.value_of low) ∷ Compare meant AtMost (meaning.value_of high) ∷ []) (meaning.meanings schema from column)
-        (all_each (λ meant. is_plain (meaning.value_of low) && (is_plain (meaning.value_of high) && true)) (meaning.meanings schema from column)
-          (λ _. hold_both _ _ first (hold_both _ _ second refl)))
+      (all_each (λ meant. is_plain (meaning.value_of low) && (is_plain (meaning.value_of high) && true)) (meaning.meanings schema from column)
+      (λ _. hold_both _ _ first (hold_both _ _ second refl)))
   plain_conditions (Joins left right) e =
       all_flat is_plain_condition (λ meant. map (Join meant) (meaning.meanings schema from right)) (meaning.meanings schema from left)
-        (all_each (λ meant. list_all is_plain_condition (map (Join meant) (meaning.meanings schema from right))) (meaning.meanings schema from left)
-          (λ meant. list_all-map is_plain_condition (Join meant) (meaning.meanings schema from right) ∙ all_each (λ _. true) (meaning.meanings schema from right) (λ _. refl)))
+      (all_each (λ meant. list_all is_plain_condition (map (Join meant) (meaning.meanings schema from right))) (meaning.meanings schema from left)
+      (λ meant. list_all-map is_plain_condition (Join meant) (meaning.meanings schema from right) ∙ all_each (λ _. true) (meaning.meanings schema from right) (λ _. refl)))
 
 loose_where : (conditions : List ConditionText) → list_all is_loose (spell_where conditions) ≡ true → list_all (λ condition. list_all is_loose (spell_condition condition)) conditions ≡ true
 loose_where [] e = refl
 loose_where (condition ∷ more) e =
     hold_both _ _ (loose_left (spell_condition condition) _ e)
-      (all_inside is_loose (λ other. Word And ∷ spell_condition other) more (loose_right (spell_condition condition) _ e))
+    (all_inside is_loose (λ other. Word And ∷ spell_condition other) more (loose_right (spell_condition condition) _ e))
 
 loose_conditions : (text : List ℕ) (tree : QueryText) → symbols text ≡ spelling tree → list_all (λ condition. list_all is_loose (spell_condition condition)) tree.conditions ≡ true
 loose_conditions text tree e =
@@ -316,7 +315,7 @@ module _ (schema : Schema) (from : List ℕ) (table : ℕ) where
       few_of_two (λ meant. Compare meant AtLeast (meaning.value_of low)) (λ meant. Compare meant AtMost (meaning.value_of high)) (meaning.meanings schema from column) (at_most_one column (both_hold (has_one column) true e).one)
   few_tests (Joins left right) e =
       let none : length (flat_map (asks.test_of schema table) (meaning.conditions_of schema from (Joins left right))) ≡ 0 =
-        ap length (none_of_all_joins (meaning.meanings schema from right) (meaning.meanings schema from left)) in
+      ap length (none_of_all_joins (meaning.meanings schema from right) (meaning.meanings schema from left)) in
       omega (arith, none)
 
   few_in_all : (conditions : List ConditionText) → list_all (λ condition. list_all has_one (meaning.condition_columns condition)) conditions ≡ true → length (asks.tests_of schema table (flat_map (meaning.conditions_of schema from) conditions)) ≤ sum_by meaning.literal_conditions conditions
@@ -326,7 +325,7 @@ module _ (schema : Schema) (from : List ℕ) (table : ℕ) where
       let here : List Condition = meaning.conditions_of schema from condition in
       let rest : List Condition = flat_map (meaning.conditions_of schema from) more in
       let split : length (asks.tests_of schema table (flat_map (meaning.conditions_of schema from) (condition ∷ more))) ≡ length (flat_map (asks.test_of schema table) here) + length (flat_map (asks.test_of schema table) rest) =
-        ap length (flat_map-append (asks.test_of schema table) here rest) ∙ length-append (flat_map (asks.test_of schema table) here) (flat_map (asks.test_of schema table) rest) in
+      ap length (flat_map-append (asks.test_of schema table) here rest) ∙ length-append (flat_map (asks.test_of schema table) here) (flat_map (asks.test_of schema table) rest) in
       let total : sum_by meaning.literal_conditions (condition ∷ more) ≡ meaning.literal_conditions condition + sum_by meaning.literal_conditions more = sum_by-cons meaning.literal_conditions condition more in
       omega (arith, split, total, few_tests condition both.one, few_in_all more both.other)
 
@@ -355,28 +354,28 @@ module _ (schema : Schema) (text : List ℕ) (tree : QueryText) (spells : symbol
       let both : (meaning.has_repeat tables ≡ false) × (list_any (λ column. nat_lt 1 (length (meaning.meanings schema tables column))) (meaning.columns_in tree) ≡ false) = neither _ _ (keeps meaning.Ambiguous) in
       let all : list_all (has_one schema tables 0) (meaning.columns_in tree) ≡ true = none_all (λ column. nat_lt 1 (length (meaning.meanings schema tables column))) (meaning.columns_in tree) both.1 in
       let parts : BothHold (list_all (has_one schema tables 0) (meaning.selection_columns tree.selection)) (list_all (has_one schema tables 0) (flat_map meaning.condition_columns tree.conditions)) =
-        both_hold _ _ (sym (list_all-append (has_one schema tables 0) (meaning.selection_columns tree.selection) (flat_map meaning.condition_columns tree.conditions)) ∙ all) in
+      both_hold _ _ (sym (list_all-append (has_one schema tables 0) (meaning.selection_columns tree.selection) (flat_map meaning.condition_columns tree.conditions)) ∙ all) in
       all_inside (has_one schema tables 0) meaning.condition_columns tree.conditions parts.other
 
   plain : list_all is_plain_condition (meaning.resolved schema tree).conditions ≡ true
   plain =
       all_flat is_plain_condition (meaning.conditions_of schema tables) tree.conditions
-        (all_weaker (λ condition. list_all is_loose (spell_condition condition)) (λ condition. list_all is_plain_condition (meaning.conditions_of schema tables condition)) tree.conditions
-          (plain_conditions schema tables) (loose_conditions text tree spells))
+      (all_weaker (λ condition. list_all is_loose (spell_condition condition)) (λ condition. list_all is_plain_condition (meaning.conditions_of schema tables condition)) tree.conditions
+      (plain_conditions schema tables) (loose_conditions text tree spells))
 
   proper_ask : (table : ℕ) → nat_lt table (length schema) ≡ true → asks.is_proper_ask schema (asks.ask_for schema (meaning.resolved schema tree) table) ≡ true
   proper_ask table e =
       let query : Query = meaning.resolved schema tree in
       let count : length (asks.tests_of schema table query.conditions) ≤ 16 = omega (arith, few_in_all schema tables table tree.conditions single, limited) in
       hold_both _ _
-        (hold_both _ _
-          (hold_both _ _
-            (hold_both _ _
-              (hold_both _ _ e (visible_columns schema query.select table))
-              (columns_ascend (asks.is_wanted schema query.select table) (columns_of schema table) refl))
-            (le-leb (length (asks.tests_of schema table query.conditions)) 16 count))
-          (visible_tests schema table query.conditions))
-        (sound_tests schema table query.conditions (keeps meaning.KindMismatch) (keeps meaning.BadLiteral) plain)
+      (hold_both _ _
+      (hold_both _ _
+      (hold_both _ _
+      (hold_both _ _ e (visible_columns schema query.select table))
+      (columns_ascend (asks.is_wanted schema query.select table) (columns_of schema table) refl))
+      (le-leb (length (asks.tests_of schema table query.conditions)) 16 count))
+      (visible_tests schema table query.conditions))
+      (sound_tests schema table query.conditions (keeps meaning.KindMismatch) (keeps meaning.BadLiteral) plain)
 
   proper_asks : list_all (asks.is_proper_ask schema) (asks.asks_of schema (meaning.resolved schema tree)) ≡ true
   proper_asks =
@@ -384,12 +383,12 @@ module _ (schema : Schema) (text : List ℕ) (tree : QueryText) (spells : symbol
       let places : List ℕ = asks.places schema in
       let below : list_all (λ place. nat_lt place (length schema)) (asks.places schema) ≡ true = places_below 0 schema (length schema) (omega arith) in
       all_kept (asks.is_proper_ask schema) asks.is_needed (map (asks.ask_for schema query) (filter (asks.is_from query) (asks.places schema)))
-        (list_all-map (asks.is_proper_ask schema) (asks.ask_for schema query) (filter (asks.is_from query) (asks.places schema))
-        ∙ all_weaker (λ place. nat_lt place (length schema)) (λ table. asks.is_proper_ask schema (asks.ask_for schema query table)) (filter (asks.is_from query) (asks.places schema))
-            proper_ask (all_kept (λ place. nat_lt place (length schema)) (asks.is_from query) (asks.places schema) below))
+      (list_all-map (asks.is_proper_ask schema) (asks.ask_for schema query) (filter (asks.is_from query) (asks.places schema))
+      ∙ all_weaker (λ place. nat_lt place (length schema)) (λ table. asks.is_proper_ask schema (asks.ask_for schema query table)) (filter (asks.is_from query) (asks.places schema))
+      proper_ask (all_kept (λ place. nat_lt place (length schema)) (asks.is_from query) (asks.places schema) below))
 
 pub asks_are_proper : (schema : Schema) (text : List ℕ) (query : Query) → reading schema text ≡ Ok query → list_all (asks.is_proper_ask schema) (asks.asks_of schema query) ≡ true
 asks_are_proper schema text query read =
     let means : meaning.Means schema text query = means_of schema text query read in
     subst (λ (q : Query). list_all (asks.is_proper_ask schema) (asks.asks_of schema q) ≡ true) (sym means.means)
-      (proper_asks schema text means.tree means.spells means.keeps)
+    (proper_asks schema text means.tree means.spells means.keeps)
