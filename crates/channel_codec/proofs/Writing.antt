@@ -1,10 +1,24 @@
 -- What a piece written into bytes leaves before and behind it.
-use Rattle.std.proofs.Common.{◌≡◌, ℕ, ◌+◌, ◌-◌, ◌≤◌, List, [], ◌∷◌, ◌++◌, length, take, drop, refl, ap, sym, ◌∙◌, arith, append_assoc, length-append, length-take, length-drop}
+use Rattle.std.proofs.Common.{◌≡◌, ℕ, ◌+◌, ◌-◌, ◌≤◌, List, [], ◌∷◌, ◌++◌, length, take, drop, refl, ap, sym, ◌∙◌, arith, subst}
+use Rattle.std.proofs.lemmas.List.{length-take-le}
+use Rattle.std.proofs.Math.Seq.{take-append-add, take-append_seam, drop-append-add, drop-append_seam, drop-add}
 
-pub front_grows : (at : ℕ) (piece out : List ℕ) (last : List ℕ) → at + length piece ≤ length out
+pub front_grows : (at : ℕ) (piece out last : List ℕ) → at + length piece ≤ length out
     → take (at + length piece) (take at out ++ (piece ++ last)) ≡ take at out ++ piece
-front_grows at piece out last fits = ?
+front_grows at piece out last fits =
+    let front : length (take at out) ≡ at = length-take-le at out (omega arith) in
+    ap (λ (n : ℕ). take (n + length piece) (take at out ++ (piece ++ last))) (sym front)
+    ∙ (take-append-add (take at out) (piece ++ last) (length piece)
+    ∙ ap (λ (xs : List ℕ). take at out ++ xs) (take-append_seam piece last))
 
-pub rest_stays : (at : ℕ) (piece out : List ℕ) → at + length piece ≤ length out
-    → drop (at + length piece) (take at out ++ (piece ++ drop (length piece) (drop at out))) ≡ drop (at + length piece) out
-rest_stays at piece out fits = ?
+pub rest_stays : (at : ℕ) (piece out last : List ℕ) → at + length piece ≤ length out → last ≡ drop (length piece) (drop at out)
+    → drop (at + length piece) (take at out ++ (piece ++ last)) ≡ drop (at + length piece) out
+rest_stays at piece out last fits e =
+    let front : length (take at out) ≡ at = length-take-le at out (omega arith) in
+    ap (λ (n : ℕ). drop (n + length piece) (take at out ++ (piece ++ last))) (sym front)
+    ∙ (drop-append-add (take at out) (piece ++ last) (length piece)
+    ∙ (drop-append_seam piece last ∙ (e ∙ ?)))
+
+-- bytes that are the same from one place on are so from a later one on
+pub same_further : (near far : ℕ) (xs ys : List ℕ) → near ≤ far → drop near xs ≡ drop near ys → drop far xs ≡ drop far ys
+same_further near far xs ys h e = ?
