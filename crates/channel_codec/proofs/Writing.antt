@@ -1,7 +1,7 @@
 -- What a piece written into bytes leaves before and behind it.
 use Rattle.std.proofs.Common.{◌≡◌, ℕ, ◌+◌, ◌-◌, ◌≤◌, List, [], ◌∷◌, ◌++◌, length, take, drop, refl, ap, sym, ◌∙◌, arith, subst}
-use Rattle.std.proofs.lemmas.List.{length-take-le}
-use Rattle.std.proofs.Math.Seq.{take-append-add, take-append_seam, drop-append-add, drop-append_seam, drop-add}
+use Rattle.std.proofs.lemmas.List.{length-take-le, drop-drop}
+use Rattle.std.proofs.Math.Seq.{take-append-add, take-append_seam, drop-append-add, drop-append_seam}
 
 pub front_grows : (at : ℕ) (piece out last : List ℕ) → at + length piece ≤ length out
     → take (at + length piece) (take at out ++ (piece ++ last)) ≡ take at out ++ piece
@@ -17,8 +17,13 @@ rest_stays at piece out last fits e =
     let front : length (take at out) ≡ at = length-take-le at out (omega arith) in
     ap (λ (n : ℕ). drop (n + length piece) (take at out ++ (piece ++ last))) (sym front)
     ∙ (drop-append-add (take at out) (piece ++ last) (length piece)
-    ∙ (drop-append_seam piece last ∙ (e ∙ ?)))
+    ∙ (drop-append_seam piece last ∙ (e ∙ drop-drop (length piece) at out)))
 
 -- bytes that are the same from one place on are so from a later one on
-pub same_further : (near far : ℕ) (xs ys : List ℕ) → near ≤ far → drop near xs ≡ drop near ys → drop far xs ≡ drop far ys
-same_further near far xs ys h e = ?
+pub same_further : (near far : ℕ) (xs ys : List ℕ) → drop near xs ≡ drop near ys → near ≤ far → drop far xs ≡ drop far ys
+same_further near far xs ys e h =
+    let there : near + (far - near) ≡ far = omega arith in
+    ap (λ (n : ℕ). drop n xs) (sym there)
+    ∙ (sym (drop-drop (far - near) near xs)
+    ∙ (ap (λ (zs : List ℕ). drop (far - near) zs) e
+    ∙ (drop-drop (far - near) near ys ∙ ap (λ (n : ℕ). drop n ys) there)))
