@@ -18,7 +18,7 @@ pub const VERSION: u8 = 1;
 
 /// A frame of the channel. `Hello` to `Bye` are the key's, `Welcome` to `Sorry` the host's; payloads stand as they are
 /// sent.
-#[derive(Clone, Copy, Debug)]
+#[derive(Clone, Copy, Debug, PartialEq, Eq)]
 pub enum Frame<'a> {
     /// The key's greeting, with the generation of its catalog.
     Hello { generation: u32 },
@@ -104,6 +104,7 @@ pub fn put_frame(frame: &Frame, out: &mut [u8]) -> usize
     requires room { 2048 ≤ length out.old }
     ensures bytes { take result out.new ≡ frame_bytes (frame_view frame.now) }
     ensures count { result ≡ length (frame_bytes (frame_view frame.now)) }
+    ensures most { result ≤ 2048 }
     ensures rest { drop result out.new ≡ drop result out.old }
 {
     let kind = kind(frame);

@@ -8,7 +8,7 @@ ghost use Rattle.ghost_model.specs.Frames as frames;
 ghost use Rattle.channel_codec.specs.Views.{frame_view, got_view};
 
 /// A frame, or why there is none.
-#[derive(Clone, Copy, Debug)]
+#[derive(Clone, Copy, Debug, PartialEq, Eq)]
 pub enum Got<'a> {
     /// The frame at the front of the bytes.
     Frame(Frame<'a>),
@@ -148,5 +148,83 @@ pub fn frame_of<'a>(bytes: &'a [u8]) -> Got<'a>
         Got::Frame(frame_of_parts(kind, serial_in(bytes), payload))
     } else {
         Got::Bad(kind)
+    }
+}
+
+#[cfg(test)]
+mod tests {
+    use super::*;
+    use crate::frame::{FRAME_BYTES, put_frame};
+
+    ghost use Rattle.ghost_model.specs.Frames.{payload_of, most_payload};
+
+    // Whether these bytes are what is written for the frame, nothing else is written, and the frame is read from them,
+    // also where more bytes follow.
+    fn is_spelled(frame: &Frame, bytes: &[u8]) -> bool
+        requires { length (payload_of (frame_view frame.now)) ≤ most_payload }
+    {
+        let mut out = [0xEE; FRAME_BYTES];
+        let count = put_frame(frame, &mut out);
+        let (front, rest) = out.split_at(count);
+        front == bytes
+            && rest.iter().all(|byte| *byte == 0xEE)
+            && frame_of(bytes) == Got::Frame(*frame)
+            && frame_of(&out) == Got::Frame(*frame)
+    }
+
+    #[test]
+    fn frames_of_a_session_are_spelled(rt: HostRuntime) {
+        let ask = [0, 1, 1, 1, 1, 1, 0x63, 0x61, 0x72, 0x64, 0x69, 0x6F, 0, 0];
+        let rows = *b"\0\0\0\x01cardio\0\0\0\0\0\x03cardio\0\0";
+        assert!(rt; is_spelled(&Frame::Hello { generation: 1 }, &[1, 1, 0, 4, 0, 0, 0, 0, 0, 0, 0, 1]));
+        assert!(rt; is_spelled(&Frame::Ask { serial: 1, payload: &ask }, b"\x02\x01\0\x0E\0\0\0\x01\0\x01\x01\x01\x01\x01cardio\0\0"));
+        assert!(rt; is_spelled(&Frame::More { serial: 1 }, &[3, 1, 0, 0, 0, 0, 0, 1]));
+        assert!(rt; is_spelled(&Frame::Bye, &[4, 1, 0, 0, 0, 0, 0, 0]));
+        assert!(rt; is_spelled(&Frame::Welcome { last: 1, part: &[7] }, &[0x11, 1, 0, 2, 0, 0, 0, 0, 1, 7]));
+        assert!(rt; is_spelled(&Frame::Rows { serial: 1, rows: &rows }, b"\x12\x01\0\x18\0\0\0\x01\0\0\0\x01cardio\0\0\0\0\0\x03cardio\0\0"));
+        assert!(rt; is_spelled(&Frame::Done { serial: 1, total: 2 }, &[0x13, 1, 0, 4, 0, 0, 0, 1, 0, 0, 0, 2]));
+        assert!(rt; is_spelled(&Frame::Sorry { serial: 1, code: 1 }, &[0x14, 1, 0, 1, 0, 0, 0, 1, 1]));
+    }
+
+    #[test]
+    fn numbers_have_their_most_significant_byte_first(rt: HostRuntime) {
+        let rows = [0xAB; 258];
+        let mut out = [0; FRAME_BYTES];
+        let count = put_frame(&Frame::Rows { serial: 0x0102_0304, rows: &rows }, &mut out);
+        assert_eq!(rt; count, 266);
+        assert!(rt; out.starts_with(&[0x12, 1, 1, 2, 1, 2, 3, 4, 0xAB]));
+    }
+
+    #[test]
+    fn missing_bytes_are_counted(rt: HostRuntime) {
+        assert_eq!(rt; frame_of(&[]), Got::Short(8));
+        assert_eq!(rt; frame_of(&[0x12, 1, 0, 0x18, 0]), Got::Short(3));
+        assert_eq!(rt; frame_of(&[1, 1, 0, 4, 0, 0, 0, 0]), Got::Short(4));
+        assert_eq!(rt; frame_of(&[0x11, 1, 1, 0x6E, 0, 0, 0, 0]), Got::Short(366));
+        assert_eq!(rt; frame_of(&[0x13, 1, 0, 4, 0, 0, 0, 1, 0, 0, 0]), Got::Short(1));
+    }
+
+    #[test]
+    fn each_broken_rule_is_told(rt: HostRuntime) {
+        for header in [
+            [3, 2, 0, 0, 0, 0, 0, 1],
+            [0, 1, 0, 0, 0, 0, 0, 1],
+            [5, 1, 0, 0, 0, 0, 0, 1],
+            [1, 1, 0, 3, 0, 0, 0, 0],
+            [1, 1, 0, 4, 0, 0, 0, 1],
+            [2, 1, 0, 2, 0, 0, 0, 1],
+            [2, 1, 0, 14, 0, 0, 0, 0],
+            [3, 1, 0, 1, 0, 0, 0, 1],
+            [4, 1, 0, 0, 1, 0, 0, 0],
+            [0x11, 1, 0, 1, 0, 0, 0, 0],
+            [0x12, 1, 0, 3, 0, 0, 0, 1],
+            [0x12, 1, 7, 0xF9, 0, 0, 0, 1],
+            [0x13, 1, 0, 5, 0, 0, 0, 1],
+            [0x14, 1, 0, 2, 0, 0, 0, 1],
+        ] {
+            assert_eq!(rt; frame_of(&header), Got::Bad(header[0]));
+        }
+        assert_eq!(rt; frame_of(&[0x11, 1, 0, 2, 0, 0, 0, 0, 2, 0]), Got::Bad(0x11));
+        assert_eq!(rt; frame_of(&[0x14, 1, 0, 1, 0, 0, 0, 1, 0]), Got::Bad(0x14));
     }
 }
