@@ -1,5 +1,4 @@
 -- What the codec's frames are as frames of the channel, and what it got as what bytes amount to.
-use Rattle.std.specs.Prelude.{ℕ, List, Bool, true, false}
 use Rattle.ghost_model.specs.Channel as channel
 use Rattle.ghost_model.specs.Frames as frames
 use Rattle.channel_codec.specs.declared.frame.Frame.{Frame}

@@ -1,11 +1,11 @@
 //! What bytes amount to that begin with a frame.
 
-use crate::frame::{Frame, HEADER_BYTES, PAYLOAD_BYTES, VERSION};
-
 ghost use Rattle.std.specs.Prelude.{◌≡◌, ◌≤◌, ◌<◌, true, length, slice_index};
 ghost use Rattle.std.specs.Int.{from_be_bytes, w16, w32};
 ghost use Rattle.ghost_model.specs.Frames as frames;
 ghost use Rattle.channel_codec.specs.Views.{frame_view, got_view};
+
+use crate::frame::{Frame, HEADER_BYTES, PAYLOAD_BYTES, VERSION};
 
 /// A frame, or why there is none.
 #[derive(Clone, Copy, Debug, PartialEq, Eq)]
@@ -86,7 +86,11 @@ pub fn serial_allowed(kind: u8, serial: u32) -> bool
     ensures { result ≡ frames.serial_allowed kind serial }
 {
     let has_no_serial = kind == 1 || kind == 4 || kind == 17;
-    if has_no_serial { serial == 0 } else { serial != 0 }
+    if has_no_serial {
+        serial == 0
+    } else {
+        serial != 0
+    }
 }
 
 /// Whether a whole header may begin a frame, apart from its place in a session.
@@ -95,7 +99,9 @@ pub fn header_allowed(bytes: &[u8]) -> bool
     ensures { result ≡ frames.header_allowed bytes.now }
 {
     let kind = kind_in(bytes);
-    version_in(bytes) == VERSION && size_allowed(kind, size_in(bytes)) && serial_allowed(kind, serial_in(bytes))
+    version_in(bytes) == VERSION
+        && size_allowed(kind, size_in(bytes))
+        && serial_allowed(kind, serial_in(bytes))
 }
 
 /// Whether a whole payload may follow a header of this kind, apart from its place in a session.
@@ -115,14 +121,28 @@ pub fn frame_of_parts<'a>(kind: u8, serial: u32, payload: &'a [u8]) -> Frame<'a>
     ensures { frame_view result ≡ frames.frame_of_parts kind serial payload.now }
 {
     match kind {
-        1 => Frame::Hello { generation: number_in(payload) },
+        1 => Frame::Hello {
+            generation: number_in(payload),
+        },
         2 => Frame::Ask { serial, payload },
         3 => Frame::More { serial },
         4 => Frame::Bye,
-        17 => Frame::Welcome { last: first_of(payload), part: &payload[1..] },
-        18 => Frame::Rows { serial, rows: payload },
-        19 => Frame::Done { serial, total: number_in(payload) },
-        _ => Frame::Sorry { serial, code: first_of(payload) },
+        17 => Frame::Welcome {
+            last: first_of(payload),
+            part: &payload[1..],
+        },
+        18 => Frame::Rows {
+            serial,
+            rows: payload,
+        },
+        19 => Frame::Done {
+            serial,
+            total: number_in(payload),
+        },
+        _ => Frame::Sorry {
+            serial,
+            code: first_of(payload),
+        },
     }
 }
 
@@ -156,12 +176,10 @@ mod tests {
     use super::*;
     use crate::frame::{FRAME_BYTES, put_frame};
 
-    ghost use Rattle.ghost_model.specs.Frames.{payload_of, most_payload};
-
     // Whether these bytes are what is written for the frame, nothing else is written, and the frame is read from them,
     // also where more bytes follow.
     fn is_spelled(frame: &Frame, bytes: &[u8]) -> bool
-        requires { length (payload_of (frame_view frame.now)) ≤ most_payload }
+        requires { length (frames.payload_of (frame_view frame.now)) ≤ frames.most_payload }
     {
         let mut out = [0xEE; FRAME_BYTES];
         let count = put_frame(frame, &mut out);
@@ -176,21 +194,69 @@ mod tests {
     fn frames_of_a_session_are_spelled(rt: HostRuntime) {
         let ask = [0, 1, 1, 1, 1, 1, 0x63, 0x61, 0x72, 0x64, 0x69, 0x6F, 0, 0];
         let rows = *b"\0\0\0\x01cardio\0\0\0\0\0\x03cardio\0\0";
-        assert!(rt; is_spelled(&Frame::Hello { generation: 1 }, &[1, 1, 0, 4, 0, 0, 0, 0, 0, 0, 0, 1]));
-        assert!(rt; is_spelled(&Frame::Ask { serial: 1, payload: &ask }, b"\x02\x01\0\x0E\0\0\0\x01\0\x01\x01\x01\x01\x01cardio\0\0"));
+        assert!(rt;
+            is_spelled(
+                &Frame::Hello { generation: 1 },
+                &[1, 1, 0, 4, 0, 0, 0, 0, 0, 0, 0, 1]
+            )
+        );
+        assert!(rt;
+            is_spelled(
+                &Frame::Ask {
+                    serial: 1,
+                    payload: &ask
+                },
+                b"\x02\x01\0\x0E\0\0\0\x01\0\x01\x01\x01\x01\x01cardio\0\0"
+            )
+        );
         assert!(rt; is_spelled(&Frame::More { serial: 1 }, &[3, 1, 0, 0, 0, 0, 0, 1]));
         assert!(rt; is_spelled(&Frame::Bye, &[4, 1, 0, 0, 0, 0, 0, 0]));
-        assert!(rt; is_spelled(&Frame::Welcome { last: 1, part: &[7] }, &[0x11, 1, 0, 2, 0, 0, 0, 0, 1, 7]));
-        assert!(rt; is_spelled(&Frame::Rows { serial: 1, rows: &rows }, b"\x12\x01\0\x18\0\0\0\x01\0\0\0\x01cardio\0\0\0\0\0\x03cardio\0\0"));
-        assert!(rt; is_spelled(&Frame::Done { serial: 1, total: 2 }, &[0x13, 1, 0, 4, 0, 0, 0, 1, 0, 0, 0, 2]));
-        assert!(rt; is_spelled(&Frame::Sorry { serial: 1, code: 1 }, &[0x14, 1, 0, 1, 0, 0, 0, 1, 1]));
+        assert!(rt;
+            is_spelled(
+                &Frame::Welcome {
+                    last: 1,
+                    part: &[7]
+                },
+                &[0x11, 1, 0, 2, 0, 0, 0, 0, 1, 7]
+            )
+        );
+        assert!(rt;
+            is_spelled(
+                &Frame::Rows {
+                    serial: 1,
+                    rows: &rows
+                },
+                b"\x12\x01\0\x18\0\0\0\x01\0\0\0\x01cardio\0\0\0\0\0\x03cardio\0\0"
+            )
+        );
+        assert!(rt;
+            is_spelled(
+                &Frame::Done {
+                    serial: 1,
+                    total: 2
+                },
+                &[0x13, 1, 0, 4, 0, 0, 0, 1, 0, 0, 0, 2]
+            )
+        );
+        assert!(rt;
+            is_spelled(
+                &Frame::Sorry { serial: 1, code: 1 },
+                &[0x14, 1, 0, 1, 0, 0, 0, 1, 1]
+            )
+        );
     }
 
     #[test]
     fn numbers_have_their_most_significant_byte_first(rt: HostRuntime) {
         let rows = [0xAB; 258];
         let mut out = [0; FRAME_BYTES];
-        let count = put_frame(&Frame::Rows { serial: 0x0102_0304, rows: &rows }, &mut out);
+        let count = put_frame(
+            &Frame::Rows {
+                serial: 0x0102_0304,
+                rows: &rows,
+            },
+            &mut out,
+        );
         assert_eq!(rt; count, 266);
         assert!(rt; out.starts_with(&[0x12, 1, 1, 2, 1, 2, 3, 4, 0xAB]));
     }
@@ -201,7 +267,10 @@ mod tests {
         assert_eq!(rt; frame_of(&[0x12, 1, 0, 0x18, 0]), Got::Short(3));
         assert_eq!(rt; frame_of(&[1, 1, 0, 4, 0, 0, 0, 0]), Got::Short(4));
         assert_eq!(rt; frame_of(&[0x11, 1, 1, 0x6E, 0, 0, 0, 0]), Got::Short(366));
-        assert_eq!(rt; frame_of(&[0x13, 1, 0, 4, 0, 0, 0, 1, 0, 0, 0]), Got::Short(1));
+        assert_eq!(rt;
+            frame_of(&[0x13, 1, 0, 4, 0, 0, 0, 1, 0, 0, 0]),
+            Got::Short(1)
+        );
     }
 
     #[test]
@@ -224,7 +293,10 @@ mod tests {
         ] {
             assert_eq!(rt; frame_of(&header), Got::Bad(header[0]));
         }
-        assert_eq!(rt; frame_of(&[0x11, 1, 0, 2, 0, 0, 0, 0, 2, 0]), Got::Bad(0x11));
+        assert_eq!(rt;
+            frame_of(&[0x11, 1, 0, 2, 0, 0, 0, 0, 2, 0]),
+            Got::Bad(0x11)
+        );
         assert_eq!(rt; frame_of(&[0x14, 1, 0, 1, 0, 0, 0, 1, 0]), Got::Bad(0x14));
     }
 }
