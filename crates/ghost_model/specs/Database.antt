@@ -5,11 +5,11 @@
 use Rattle.std.specs.Prelude.{◌≡◌, ℕ, zero, suc, ◌+◌, ◌-◌, ◌*◌, ◌^◌, ℤ, pos, negsuc, neg_ℤ, int_le, Bool, true, false, ◌&&◌, ◌==◌, nat_lt, nat_le, List, [], ◌∷◌, length, map, drop, fold, Option, Some, None, slice_get, option_and_then, unwrap_or, IsTrue, if◌then◌else◌}
 use Rattle.std.specs.List.{list_all}
 use Rattle.std.specs.Cmp.Lexicographic.{slice_cmp}
-use Rattle.std.specs.Ordering.{nat_cmp, int_cmp, is_lt, is_eq, is_gt}
+use Rattle.std.specs.Ordering.{nat_cmp, int_cmp}
 use Rattle.std.specs.declared.cmp.Ordering.{Ordering}
 use Rattle.std.specs.declared.cmp.Ordering.TheVariants as order
 use Rattle.csv.specs.Reading.{records, default_config, strip_bom}
-use Rattle.ghost_model.specs.Schema.{Schema, Table, Column, Kind, Integer, Chars, columns_of, column_at, parent, keys_to, first_of, is_table}
+use Rattle.ghost_model.specs.Schema.{Schema, Column, Kind, Integer, Chars, columns_of, column_at, parent, keys_to, first_of}
 use Rattle.ghost_model.specs.Tokens.{is_printable, is_digit}
 use Rattle.ghost_model.specs.Values.{Value, Number, Text, Row, Rows, Database}
 use Rattle.ghost_model.specs.Query.{Operator}
@@ -54,7 +54,8 @@ row_of database table identifier = row_numbered (rows_of database table) identif
 
 -- the value in a column of a row
 abbrev pub field : Database → (table identifier column : ℕ) → Option Value
-field database table identifier column = option_and_then (λ row. slice_get row column) (row_of database table identifier)
+field database table identifier column =
+    option_and_then (λ row. slice_get row column) (row_of database table identifier)
 
 -- whether a value is the identifier of one of so many rows
 abbrev pub is_row_among : ℕ → Value → Bool
@@ -65,13 +66,19 @@ pub record IsDatabase (schema : Schema) (database : Database) : Type 0 where
   -- a list of rows for each table
   pub tables : length database ≡ length schema
   -- a value for each column
-  pub widths : (table identifier : ℕ) (row : Row) → row_of database table identifier ≡ Some row → length row ≡ length (columns_of schema table)
+  pub widths : (table identifier : ℕ) (row : Row) → row_of database table identifier ≡ Some row
+      → length row ≡ length (columns_of schema table)
   -- the rows are numbered from 1
-  pub identifiers : (table identifier : ℕ) (row : Row) → row_of database table identifier ≡ Some row → slice_get row 0 ≡ Some (Number (pos identifier))
+  pub identifiers : (table identifier : ℕ) (row : Row) → row_of database table identifier ≡ Some row
+      → slice_get row 0 ≡ Some (Number (pos identifier))
   -- each value is of its column's kind
-  pub kinds : (table identifier column : ℕ) (value : Value) (declared : Column) → field database table identifier column ≡ Some value → column_at schema table column ≡ Some declared → IsTrue (is_of_kind declared.kind value)
+  pub kinds : (table identifier column : ℕ) (value : Value) (declared : Column)
+      → field database table identifier column ≡ Some value → column_at schema table column ≡ Some declared
+      → IsTrue (is_of_kind declared.kind value)
   -- each foreign key is the identifier of a row
-  pub references : (table identifier column child : ℕ) (value : Value) (declared : Column) → field database table identifier column ≡ Some value → column_at schema table column ≡ Some declared → declared.child ≡ Some child → IsTrue (is_row_among (row_count database child) value)
+  pub references : (table identifier column child : ℕ) (value : Value) (declared : Column)
+      → field database table identifier column ≡ Some value → column_at schema table column ≡ Some declared
+      → declared.child ≡ Some child → IsTrue (is_row_among (row_count database child) value)
 
 -- the identifier that a value of a foreign key is
 abbrev pub identifier_in : Option Value → Option ℕ
@@ -94,7 +101,9 @@ unfoldable pub leads_within : Schema → Schema → Database → (from identifie
 leads_within [] schema database from identifier to = if from == to then Some identifier else None
 leads_within (_ ∷ steps) schema database from identifier to =
     if from == to then Some identifier
-    else option_and_then (λ above. option_and_then (λ reached. points_to schema database above reached to) (leads_within steps schema database from identifier above)) (parent schema to)
+    else option_and_then (λ above.
+      option_and_then (λ reached. points_to schema database above reached to)
+      (leads_within steps schema database from identifier above)) (parent schema to)
 
 -- the identifier of the row of a table, the same or one below, to which a row leads along the foreign keys. No path
 -- has more of them than there are tables
@@ -140,7 +149,8 @@ number_of digits = fold (λ number digit. number * 10 + (digit - 48)) 0 digits
 
 -- the number with these digits and this sign, where it is not above the greatest
 abbrev pub signed_within : ℕ → (ℕ → ℤ) → List ℕ → Option ℤ
-signed_within greatest sign digits = if is_numeral digits && nat_le (number_of digits) greatest then Some (sign (number_of digits)) else None
+signed_within greatest sign digits =
+    if is_numeral digits && nat_le (number_of digits) greatest then Some (sign (number_of digits)) else None
 
 -- the integer that a field spells: an optional sign and one or more digits, in 64 bits
 abbrev pub integer_of : List ℕ → Option ℤ

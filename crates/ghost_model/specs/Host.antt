@@ -3,18 +3,26 @@
 -- the WELCOME frames of the host's own catalog, whatever generation it names, each full but the last. ASK and MORE are
 -- answered by one frame each: first ROWS, each with as many whole rows as fit, then DONE. At the first frame that is no
 -- frame of the key in its place the host stops.
-use Rattle.std.specs.Prelude.{◌≡◌, ℕ, zero, suc, ◌+◌, ◌-◌, ◌/◌, Bool, true, false, ◌&&◌, ◌==◌, List, [], ◌∷◌, ◌++◌, length, take, drop, map, flat_map, if◌then◌else◌, Option, Some, None}
+use Rattle.std.specs.Prelude.{ℕ, zero, suc, ◌+◌, ◌-◌, ◌/◌, ◌==◌, List, [], ◌∷◌, ◌++◌, length, take, drop, map, flat_map, if◌then◌else◌, Option, Some, None}
 use Rattle.ghost_model.specs.Schema.{is_empty}
-use Rattle.ghost_model.specs.Channel.{Catalog, Ask, Frame, Hello, Asking, More, Bye, Welcome, Replied, Done, Sorry}
+use Rattle.ghost_model.specs.Channel.{Catalog, Ask, Frame, Hello, Asking, More, Bye, Welcome, Replied, Done}
 use Rattle.ghost_model.specs.Catalog.{catalog_bytes}
 use Rattle.ghost_model.specs.Frames.{Got, Found, Short, Bad, got_of, frame_bytes, kind_of, most_payload}
 use Rattle.ghost_model.specs.Asks.{ReplyRow, row_bytes, row_width, ask_in}
+use Rattle.ghost_model.specs.Split.{Public, visible_rows, reply_row}
 use Rattle.ghost_model.specs.NextMove.{InvalidFrame}
 
 -- what a host holds, as far as the channel goes: its catalog, and for each ask the rows that meet it, ascending
 pub record Holding : Type 0 where
   pub catalog : Catalog
   pub rows : Ask → List ReplyRow
+
+-- the host of a public part: it replies with the rows that meet an ask
+abbrev pub host_of : Catalog → Public → Holding
+host_of catalog public = record {
+  catalog = catalog;
+  rows = λ ask. map (reply_row catalog.schema ask) (visible_rows catalog.schema public ask);
+}
 
 -- so many groups of a list, each of `most` elements but the last
 unfoldable pub groups_from : {X : Type 0} → (most count : ℕ) → List X → List (List X)
@@ -144,7 +152,7 @@ unfoldable pub bad_from : Holding → (rest : List ℕ) → List Frame → (at :
 bad_from held rest [] at stand = unless_over stand (bad_rest at (got_of rest))
 bad_from held rest (frame ∷ later) at stand =
     unless_over stand
-      (refused_or frame at (bad_from held rest later (at + length (frame_bytes frame))) (answer_to held stand frame))
+    (refused_or frame at (bad_from held rest later (at + length (frame_bytes frame))) (answer_to held stand frame))
 
 -- the first frame that is no frame of the key in its place, if there is one: its first byte, and the bytes before it
 abbrev pub bad_request : Holding → (key : List ℕ) → Option InvalidFrame

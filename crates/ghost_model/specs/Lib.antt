@@ -11,6 +11,7 @@ pub mod SchemaGrammar
 pub mod SchemaPlaces
 pub mod SchemaMeaning
 pub mod SchemaFaults
+pub mod SchemaTrees
 pub mod QueryGrammar
 pub mod QueryPlaces
 pub mod QueryMeaning

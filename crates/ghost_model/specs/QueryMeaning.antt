@@ -2,14 +2,15 @@
 -- meaning. The rules are tested one after another, each over the whole text. A column may stand without its table
 -- where exactly one FROM table has it. `*` is every column of the FROM tables in the order of the text, identifiers and
 -- foreign keys among them. BETWEEN is two conditions.
-use Rattle.std.specs.Prelude.{◌≡◌, ℕ, ◌+◌, ◌-◌, ◌*◌, ◌^◌, ◌<◌, ℤ, pos, negsuc, neg_ℤ, int_le, Bool, true, false, not, ◌&&◌, ◌||◌, ◌==◌, nat_lt, List, [], ◌∷◌, ◌++◌, length, map, filter, filter_map, flat_map, fold, sum_by, Option, Some, None, is_none, option_map, option_and_then, option_to_list, bytes_eq}
+use Rattle.std.specs.Prelude.{◌≡◌, ℕ, ◌+◌, ◌-◌, ◌*◌, ◌^◌, ◌<◌, ℤ, pos, neg_ℤ, int_le, Bool, true, false, not, ◌&&◌, ◌||◌, ◌==◌, nat_lt, List, [], ◌∷◌, ◌++◌, length, map, filter, filter_map, flat_map, fold, sum_by, Option, Some, None, is_none, option_map, option_and_then, option_to_list, bytes_eq}
 use Rattle.std.specs.List.{list_any, list_all}
-use Rattle.ghost_model.specs.Schema.{Schema, Table, Kind, Integer, Chars, columns_of, column_at, places_where, first_of, is_empty, is_table, parent}
+use Rattle.ghost_model.specs.Schema.{Schema, Kind, Integer, Chars, columns_of, column_at, places_where, first_of, is_empty, is_table, parent}
 use Rattle.ghost_model.specs.Values.{Value, Number, Text}
-use Rattle.ghost_model.specs.Query.{Field, Operator, AtMost, AtLeast, Condition, Compare, Join, Query}
+use Rattle.ghost_model.specs.Query.{Field, AtMost, AtLeast, Condition, Compare, Join, Query}
 use Rattle.ghost_model.specs.Grammar.{Spells, IsSyntaxFault}
 use Rattle.ghost_model.specs.QueryGrammar.{ColumnText, Bare, Qualified, Sign, Positive, Negative, LiteralText, Unsigned, Signed, Written, ConditionText, Compares, LiesBetween, Joins, Selection, All, Columns, QueryText, spelling}
 
+-- why a text is refused, in the order in which the rules are tested; a syntax fault has its offset in the text
 pub data Refusal : Type 0 where
   Syntax : ℕ → Refusal
   Limit : Refusal
@@ -87,7 +88,8 @@ abbrev pub resolved : Schema → QueryText → Query
 resolved schema tree = record {
   from = from_tables schema tree;
   select = selected schema (from_tables schema tree) tree.selection;
-  conditions = flat_map (conditions_of schema (from_tables schema tree)) tree.conditions }
+  conditions = flat_map (conditions_of schema (from_tables schema tree)) tree.conditions;
+}
 
 -- the columns of a text as they are written, and the names in it
 

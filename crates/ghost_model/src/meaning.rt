@@ -1,7 +1,8 @@
 //! Laws and examples of databases, of their files, of the two parts of a database and of a query's meaning.
 
-ghost use Rattle.ghost_model.specs.LoadFaults.{FilesSpellADatabase};
-ghost use Rattle.ghost_model.specs.Split.{SplitIsRejoined};
+ghost use Rattle.ghost_model.specs.LoadFaults.{FilesSpellADatabase, FilesKeepTheRowLimit, SchemasHaveIdentifiers, LongFilesAreToldFirst};
+ghost use Rattle.ghost_model.specs.Split.{SplitIsRejoined, PublicPartsGoWithCatalogs};
+ghost use Rattle.ghost_model.specs.Meaning.{OneRowEach};
 ghost use Rattle.ghost_model.specs.examples.Databases.{ClinicIsSpelled, IntegersOfFields, RecordsOfFiles, HeadersOfFiles, OneRuleBroken, TwoRulesBroken};
 ghost use Rattle.ghost_model.specs.examples.Meaning.{PartsOfTheClinic, AnswersOfTheClinic, RefusedTexts, LinesOfRows};
 
@@ -74,5 +75,35 @@ pub fn lines_of_rows()
 /// Files that keep every rule of loading spell a database.
 pub fn files_spell_a_database()
     ensures { FilesSpellADatabase }
+{
+}
+
+/// An accepted query has at most one row in its answer for each row of its top table.
+pub fn one_row_each()
+    ensures { OneRowEach }
+{
+}
+
+/// Files that keep every rule of loading have no table with too many rows.
+pub fn files_keep_the_row_limit()
+    ensures { FilesKeepTheRowLimit }
+{
+}
+
+/// The tables of an accepted schema begin with their identifiers.
+pub fn schemas_have_identifiers()
+    ensures { SchemasHaveIdentifiers }
+{
+}
+
+/// A file that is too long is told before anything else in it.
+pub fn long_files_are_told_first()
+    ensures { LongFilesAreToldFirst }
+{
+}
+
+/// The public part of a database goes with the database's catalog.
+pub fn public_parts_go_with_catalogs()
+    ensures { PublicPartsGoWithCatalogs }
 {
 }

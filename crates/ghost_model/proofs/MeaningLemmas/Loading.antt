@@ -1,13 +1,12 @@
 -- Files that keep every rule spell a database: a faultless field is of its kind, a faultless record is a row, and
 -- faultless keys are identifiers of rows.
-use Rattle.std.proofs.Common.{◌≡◌, refl, sym, ap, ◌∙◌, subst, ℕ, zero, suc, ◌+◌, ◌-◌, ◌^◌, ◌<◌, ◌≤◌, ℤ, pos, negsuc, neg_ℤ, Bool, true, false, ◌&&◌, nat_eq, nat_lt, nat_le, List, [], ◌∷◌, ◌++◌, length, map, drop, Option, Some, None, slice_get, unwrap_or, is_some, option_and_then, IsTrue, arith, leb-true, eqb-true, le-leb, if◌then◌else◌}
+use Rattle.std.proofs.Common.{◌≡◌, refl, sym, ap, subst, ℕ, zero, suc, ◌+◌, ◌-◌, ◌^◌, ◌≤◌, ℤ, pos, neg_ℤ, Bool, true, false, ◌&&◌, nat_eq, nat_le, List, [], ◌∷◌, ◌++◌, length, map, drop, Option, Some, None, slice_get, unwrap_or, is_some, option_and_then, arith, leb-true, eqb-true, le-leb, if◌then◌else◌}
+use Rattle.std.proofs.lemmas.List.{length-map}
 use Rattle.std.specs.List.{list_all}
-use Rattle.std.proofs.lemmas.List.{length-map, length-drop}
 use Rattle.std.proofs.lemmas.Bool.Decides.{Decides-int_eq}
-use Rattle.std.specs.Ordering.{int_eq}
 use Rattle.ghost_model.specs.Schema.{Schema, Column, Kind, Integer, Chars, Table, columns_of, column_at}
-use Rattle.ghost_model.specs.Values.{Value, Number, Text, Row, Rows, Database}
-use Rattle.ghost_model.specs.Database.{IsDatabase, row_of, rows_of, row_count, field, fits_integer, is_text, is_of_kind, is_row_among, is_numeral, number_of, signed_within, integer_of, value_of, row_spelled, rows_spelled, records_of, database_of}
+use Rattle.ghost_model.specs.Values.{Value, Number, Row, Rows, Database}
+use Rattle.ghost_model.specs.Database.{IsDatabase, row_of, rows_of, row_count, field, fits_integer, is_text, is_of_kind, is_row_among, is_numeral, number_of, signed_within, integer_of, value_of, row_spelled, records_of, database_of}
 use Rattle.ghost_model.specs.LoadFaults
 use Rattle.ghost_model.specs.LoadFaults.{LoadFault, FileLimit, Header, RowLimit, FieldCount, BadId, BadInt, BadChars, BadReference, Place, unless, value_faults, field_faults, is_number, id_faults, fields_faults, row_faults, rows_faults, is_header, record_faults, file_faults, files_faults, key_faults, keys_faults, table_references, references_from, load_faults, is_integer, begins_with_integer, most_rows, most_bytes}
 
@@ -270,3 +269,41 @@ files_are schema files identified many none =
       references = λ table identifier column child value declared h hd hc.
         let f = found database table identifier column value h in
         table_keys_are database 0 schema database p.1 table f.place f.row f.stands column child value declared f.holds hd hc }
+
+-- no table has more rows than it may have
+
+row_count_from : (table n : ℕ) (columns : List Column) (records : List (List (List ℕ))) → n ≤ most_rows + 1 → rows_faults table n columns records ≡ [] → n + length records ≤ most_rows + 1
+unfolding rows_faults
+row_count_from table n columns [] within h = omega arith
+row_count_from table n columns (r ∷ rs) within h =
+    let p = both_empty (row_faults table n columns r) (rows_faults table (n + 1) columns rs) h in
+    let at = LoadFaults.place table (n + 1) 0 in
+    let q = both_empty (unless (nat_le n most_rows) (RowLimit at)) (unless (nat_eq (length r) (length columns)) (FieldCount at) ++ fields_faults table n columns r) p.0 in
+    let few = leb-true n most_rows (kept (nat_le n most_rows) (RowLimit at) q.0) in
+    let later = row_count_from table (n + 1) columns rs (omega arith) p.1 in
+    omega arith
+
+rows_within : (table : ℕ) (columns : List Column) (records : List (List (List ℕ))) → record_faults table columns records ≡ [] → length (map (row_spelled columns) (drop 1 records)) ≤ most_rows
+rows_within table columns [] h = omega arith
+rows_within table columns (header ∷ rows) h =
+    let p = both_empty (unless (is_header columns header) (Header (LoadFaults.place table 1 0))) (rows_faults table 1 columns rows) h in
+    let all = row_count_from table 1 columns rows (omega arith) p.1 in
+    let same = length-map rows (row_spelled columns) in
+    omega arith
+
+tables_within : (table : ℕ) (schema : Schema) (files : List (List ℕ)) → files_faults table schema files ≡ [] → (at : ℕ) → row_count (database_of schema files) at ≤ most_rows
+unfolding files_faults
+tables_within table [] files h at = omega arith
+tables_within table (d ∷ ds) [] h at = omega arith
+tables_within table (d ∷ ds) (f ∷ fs) h zero =
+    let p = both_empty (file_faults table d.columns f) (files_faults (table + 1) ds fs) h in
+    let q = both_empty (unless (nat_le (length f) most_bytes) (FileLimit (LoadFaults.place table 0 0))) (record_faults table d.columns (records_of f)) p.0 in
+    rows_within table d.columns (records_of f) q.1
+tables_within table (d ∷ ds) (f ∷ fs) h (suc at) =
+    let p = both_empty (file_faults table d.columns f) (files_faults (table + 1) ds fs) h in
+    tables_within (table + 1) ds fs p.1 at
+
+pub files_within : (schema : Schema) (files : List (List ℕ)) → load_faults schema files ≡ [] → (at : ℕ) → row_count (database_of schema files) at ≤ most_rows
+files_within schema files none =
+    let p = both_empty (files_faults 0 schema files) (references_from (database_of schema files) 0 schema (database_of schema files)) none in
+    tables_within 0 schema files p.0

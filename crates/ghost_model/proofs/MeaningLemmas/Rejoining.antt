@@ -1,10 +1,10 @@
 -- A database is its two parts rejoined: value by value, row by row and table by table.
-use Rattle.std.proofs.Common.{◌≡◌, refl, sym, ap, ◌∙◌, subst, ℕ, zero, suc, ◌+◌, ◌-◌, pos, Bool, true, false, List, [], ◌∷◌, length, map, drop, Option, Some, None, slice_get, unwrap_or, arith}
+use Rattle.std.proofs.Common.{◌≡◌, refl, sym, ap, subst, ℕ, suc, ◌+◌, pos, Bool, true, false, List, [], ◌∷◌, length, drop, Some, slice_get, unwrap_or, arith}
 use Rattle.std.proofs.lemmas.List.{length-map, length-drop}
-use Rattle.ghost_model.specs.Schema.{Schema, Column, Table, columns_of}
-use Rattle.ghost_model.specs.Values.{Value, Number, Row, Rows, Database}
-use Rattle.ghost_model.specs.Database.{IsDatabase, row_of, rows_of}
-use Rattle.ghost_model.specs.Split.{hidden_flags, visible_values, hidden_values, rows_by, tables_by, merged, rejoined_rows, rejoined_tables, rejoined, public_of, hidden_of}
+use Rattle.ghost_model.specs.Schema.{Schema, Column, columns_of}
+use Rattle.ghost_model.specs.Values.{Number, Row, Rows, Database}
+use Rattle.ghost_model.specs.Database.{IsDatabase, rows_of}
+use Rattle.ghost_model.specs.Split.{hidden_flags, visible_values, hidden_values, rows_by, tables_by, merged, rejoined_rows, rejoined_tables}
 
 pub merged-split : {X : Type 0} (flags : List Bool) (values : List X) → length values ≡ length flags → merged flags (visible_values flags values) (hidden_values flags values) ≡ values
 merged-split [] [] same = refl

@@ -1,9 +1,9 @@
 -- The clinic's files and the database that they spell, and files that break the rules of loading: each rule alone, and
 -- two rules at once, of which the earlier one is told.
-use Rattle.std.specs.Prelude.{◌≡◌, ℕ, ◌+◌, pos, negsuc, List, [], ◌∷◌, ◌++◌, flat_map, codes, Option, Some, None}
-use Rattle.ghost_model.specs.Schema.{Schema, Table}
+use Rattle.std.specs.Prelude.{◌≡◌, ℕ, pos, negsuc, List, [], ◌∷◌, ◌++◌, flat_map, codes, Option, Some, None}
+use Rattle.ghost_model.specs.Schema.{Schema}
 use Rattle.ghost_model.specs.Database.{database_of, integer_of, leads, records_of}
-use Rattle.ghost_model.specs.LoadFaults.{LoadFault, FileLimit, Header, RowLimit, FieldCount, BadId, BadInt, BadChars, BadReference, place, load_fault, load_faults, row_faults}
+use Rattle.ghost_model.specs.LoadFaults.{LoadFault, Header, RowLimit, FieldCount, BadId, BadInt, BadChars, BadReference, place, load_fault, load_faults, row_faults}
 use Rattle.ghost_model.specs.examples.Clinic.{id_column, number_column, text_column, key_column, patient_table, clinic_schema, clinic}
 
 -- lines that each end with a line feed

@@ -1,12 +1,12 @@
 -- The two parts of the clinic, what its public part makes, and what texts over the clinic and the notes print.
-use Rattle.std.specs.Prelude.{◌≡◌, ℕ, pos, negsuc, List, [], ◌∷◌, ◌++◌, length, drop, codes}
+use Rattle.std.specs.Prelude.{◌≡◌, ℕ, negsuc, List, [], ◌∷◌, ◌++◌, length, drop, codes}
 use Rattle.std.specs.List.{concat}
-use Rattle.ghost_model.specs.Values.{Value, Number, Text, Row, Rows, Database}
+use Rattle.ghost_model.specs.Values.{Value, Number, Text, Row}
 use Rattle.ghost_model.specs.Query.{Equal, AtLeast}
-use Rattle.ghost_model.specs.Channel.{Ask, Test}
-use Rattle.ghost_model.specs.Split.{Public, Hidden, Replied, public_of, hidden_of, rejoined, image, visible_rows, reply_bytes}
+use Rattle.ghost_model.specs.Channel.{Ask}
+use Rattle.ghost_model.specs.Split.{Replied, public_of, hidden_of, rejoined, image, visible_rows, reply_bytes}
 use Rattle.ghost_model.specs.Printed.{printed, row_line}
-use Rattle.ghost_model.specs.examples.Clinic.{number, clinic_schema, clinic, clinic_catalog, note_schema, notes, note_catalog}
+use Rattle.ghost_model.specs.examples.Clinic.{number, clinic_schema, clinic, clinic_catalog, note_schema, notes}
 use Rattle.ghost_model.specs.examples.Databases.{lines}
 
 abbrev pub one : Value → Row

@@ -5,4 +5,5 @@ pub returns : goal.returns
 returns c = record {
   tree = λ text tree. (tree_spells text tree, spelled_tree text tree);
   fault = λ text at. (stop_fault text at, fault_stop text at);
-  stuck = λ text at. (stuck_fault text at, fault_stuck text at) }
+  stuck = λ text at. (stuck_fault text at, fault_stuck text at);
+}
