@@ -11,7 +11,7 @@ use Rattle.ghost_model.specs.Schema.{Schema, Kind, is_empty}
 use Rattle.ghost_model.specs.Cells.{cell_width, decode_cell}
 use Rattle.ghost_model.specs.Channel.{Catalog, Ask, Frame, Hello, Asking, More, Bye, Welcome, Replied, Done, Sorry, Move, Dial, Send, Take, Close, Listen, Accept, Answer, Made, Port, Piece, End, Failed, Journal}
 use Rattle.ghost_model.specs.Catalog.{catalog_bytes}
-use Rattle.ghost_model.specs.Frames.{AreBytes, frame_bytes, frame_in, frame_version, version_in, kind_in, size_in, serial_in, most_payload}
+use Rattle.ghost_model.specs.Frames.{AreBytes, IsFrame, frame_bytes, frame_in, frame_version, version_in, kind_in, size_in, serial_in, most_payload}
 use Rattle.ghost_model.specs.Asks.{Asked, asked_of, ReplyRow, ask_payload, kinds_of, row_width, rows_in}
 use Rattle.ghost_model.specs.Moves.{taken, sent, moves, answers}
 
@@ -342,3 +342,16 @@ abbrev pub ReceivedIsSpelled : Type 0
 ReceivedIsSpelled =
     (catalog : Catalog) (asks : List Asked) (received : List ℕ) → AreBytes received
     → IsSpelled received (heard catalog asks received)
+
+-- a frame may come where this is awaited
+pub record IsAwaited (catalog : Catalog) (awaits : Awaits) (frame : Frame) : Type 0 where
+  pub fits : IsFrame frame
+  pub header : header_fits catalog awaits (frame_bytes frame) ≡ true
+  pub payload : payload_fits catalog awaits frame ≡ true
+
+-- the bytes of a frame that may come are heard as this frame
+abbrev pub AwaitedIsHeard : Type 0
+AwaitedIsHeard =
+    (catalog : Catalog) (asks : List Asked) (before : Heard) (frame : Frame) → before.part ≡ [] → before.broken ≡ false
+    → IsAwaited catalog before.awaits frame
+    → hear_all catalog asks before (frame_bytes frame) ≡ heard_frame catalog asks before frame
