@@ -1,5 +1,6 @@
 //! Laws and examples of databases, of their files, of the two parts of a database and of a query's meaning.
 
+ghost use Rattle.ghost_model.specs.Database.{RowsLeadToRows};
 ghost use Rattle.ghost_model.specs.LoadFaults.{FilesSpellADatabase, FilesKeepTheRowLimit, LongFilesAreToldFirst};
 ghost use Rattle.ghost_model.specs.Split.{SplitIsRejoined, PublicPartsGoWithCatalogs};
 ghost use Rattle.ghost_model.specs.Meaning.{OneRowEach};
@@ -84,4 +85,9 @@ pub fn long_files_are_told_first()
 /// The public part of a database goes with the database's catalog.
 pub fn public_parts_go_with_catalogs()
     ensures { PublicPartsGoWithCatalogs }
+{}
+
+/// Each row leads to one row of each table below.
+pub fn rows_lead_to_rows()
+    ensures { RowsLeadToRows }
 {}
