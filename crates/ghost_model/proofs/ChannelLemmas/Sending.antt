@@ -1,13 +1,13 @@
 -- That a proper journal sent the first of the frames that are due.
-use Rattle.std.proofs.Common.{◌≡◌, ℕ, zero, suc, ◌+◌, Bool, true, false, List, [], ◌∷◌, ◌++◌, length, map, sym, ◌∙◌, ap, subst, refl, arith, length-append, append-nil, append_assoc, Option, Some, None}
-use Rattle.std.specs.Prelude.{not, ◌||◌, if◌then◌else◌, flat_map, slice_get}
+use Rattle.std.proofs.Common.{◌≡◌, ℕ, Bool, true, false, List, [], ◌∷◌, ◌++◌, length, map, sym, ◌∙◌, ap, subst, refl, append-nil, append_assoc, Option, Some, None}
+use Rattle.std.specs.Prelude.{not, ◌||◌, if◌then◌else◌, slice_get}
 use Rattle.std.proofs.lemmas.List.{length-map, map-append}
 use Rattle.std.proofs.lemmas.Grind.{flat_map-append}
 use Rattle.ghost_model.specs.Channel.{Catalog, Frame, Move, Dial, Listen, Accept, Send, Take, Close, Answer, Entry, Journal}
 use Rattle.ghost_model.specs.Asks.{Asked}
-use Rattle.ghost_model.specs.Frames.{frame_bytes, frame_in}
+use Rattle.ghost_model.specs.Frames.{frame_bytes}
 use Rattle.ghost_model.specs.Moves.{sent, taken, sent_by, piece_of}
-use Rattle.ghost_model.specs.NextMove.{Awaits, Missing, Reply, Nothing, Verdict, Short, Whole, Invalid, verdict, Heard, heard, heard_as, hear, hear_all, at_first, due, left, Left, next_with, next_of, send_or, rest_of, GoesOn, IsDue}
+use Rattle.ghost_model.specs.NextMove.{Awaits, Missing, Reply, Nothing, Verdict, Short, Whole, Invalid, verdict, Heard, heard, heard_as, hear, hear_all, at_first, due, left, Left, next_with, send_or, rest_of, GoesOn, IsDue}
 use Rattle.ghost_model.specs.Host.{IsFront}
 
 same_front : (frames : List Frame) → IsFront frames frames
@@ -16,7 +16,8 @@ same_front frames = record { rest = []; joined = sym (append-nil frames) }
 longer_front : (a b c : List Frame) → IsFront a b → IsFront b c → IsFront a c
 longer_front a b c f g = record {
   rest = f.rest ++ g.rest;
-  joined = g.joined ∙ (ap (λ (xs : List Frame). xs ++ g.rest) f.joined ∙ append_assoc a f.rest g.rest) }
+  joined = g.joined ∙ (ap (λ (xs : List Frame). xs ++ g.rest) f.joined ∙ append_assoc a f.rest g.rest);
+}
 
 -- entries and moves
 sent_more : (before : Journal) (entry : Entry) → sent (before ++ entry ∷ []) ≡ sent before ++ sent_by entry.move
@@ -100,9 +101,9 @@ module _ (catalog : Catalog) (at : List ℕ) (asks : List Asked) where
   due_grows h [] = same_front h.due
   due_grows h (byte ∷ bytes) =
       longer_front _ _ _
-        (due_either h (heard_as catalog asks h (h.part ++ byte ∷ []) (verdict catalog h.awaits (h.part ++ byte ∷ []))) h.broken
-          (due_judged h (h.part ++ byte ∷ []) (verdict catalog h.awaits (h.part ++ byte ∷ []))))
-        (due_grows (hear catalog asks h byte) bytes)
+      (due_either h (heard_as catalog asks h (h.part ++ byte ∷ []) (verdict catalog h.awaits (h.part ++ byte ∷ []))) h.broken
+      (due_judged h (h.part ++ byte ∷ []) (verdict catalog h.awaits (h.part ++ byte ∷ []))))
+      (due_grows (hear catalog asks h byte) bytes)
 
   heard_more : (h : Heard) (xs ys : List ℕ) → hear_all catalog asks h (xs ++ ys) ≡ hear_all catalog asks (hear_all catalog asks h xs) ys
   unfolding hear_all
@@ -114,8 +115,8 @@ module _ (catalog : Catalog) (at : List ℕ) (asks : List Asked) where
   due_after before entry =
       let grown : IsFront (due catalog asks (taken before)) (hear_all catalog asks (heard catalog asks (taken before)) (piece_of entry.answer)).due = due_grows (heard catalog asks (taken before)) (piece_of entry.answer) in
       subst (λ (h : Heard). IsFront (due catalog asks (taken before)) h.due)
-        (sym (ap (λ (bytes : List ℕ). heard catalog asks bytes) (taken_more before entry) ∙ heard_more (at_first catalog) (taken before) (piece_of entry.answer)))
-        grown
+      (sym (ap (λ (bytes : List ℕ). heard catalog asks bytes) (taken_more before entry) ∙ heard_more (at_first catalog) (taken before) (piece_of entry.answer)))
+      grown
 
   -- a move that sends nothing
   quiet : (before : Journal) (entry : Entry) → IsDue catalog asks before → sent_by entry.move ≡ [] → IsDue catalog asks (before ++ entry ∷ [])
@@ -125,7 +126,8 @@ module _ (catalog : Catalog) (at : List ℕ) (asks : List Asked) where
         frames = d.frames;
         sent_are = sent_more before entry ∙ (ap (λ (xs : List (List ℕ)). sent before ++ xs) e ∙ (append-nil (sent before) ∙ d.sent_are));
         rest = d.rest ++ more.rest;
-        due_are = more.joined ∙ (ap (λ (xs : List Frame). xs ++ more.rest) d.due_are ∙ append_assoc d.frames d.rest more.rest) }
+        due_are = more.joined ∙ (ap (λ (xs : List Frame). xs ++ more.rest) d.due_are ∙ append_assoc d.frames d.rest more.rest);
+      }
 
   sending : (before : Journal) (bytes : List ℕ) (answer : Answer) → IsDue catalog asks before → next_with catalog at asks before ≡ Some (Send bytes) → IsDue catalog asks (before ++ record { move = Send bytes; answer = answer } ∷ [])
   sending before bytes answer d e =
@@ -134,21 +136,22 @@ module _ (catalog : Catalog) (at : List ℕ) (asks : List Asked) where
       let way : Sends (slice_get l.heard.due l.sent) bytes = sends catalog at l.heard l.opened l.closed (l.stopped || l.heard.broken) (slice_get l.heard.due l.sent) bytes e in
       let count : length (sent before) ≡ length d.frames = ap length d.sent_are ∙ length-map d.frames frame_bytes in
       let here : slice_get (d.frames ++ d.rest) (length d.frames) ≡ Some way.frame =
-        sym (ap (λ (n : ℕ). slice_get (d.frames ++ d.rest) n) count) ∙ (sym (ap (λ (xs : List Frame). slice_get xs (length (sent before))) d.due_are) ∙ way.is_next) in
+      sym (ap (λ (n : ℕ). slice_get (d.frames ++ d.rest) n) count) ∙ (sym (ap (λ (xs : List Frame). slice_get xs (length (sent before))) d.due_are) ∙ way.is_next) in
       let next : Begun d.rest way.frame = begun d.rest way.frame (next_after d.frames d.rest way.frame here) in
       let more : IsFront (due catalog asks (taken before)) (due catalog asks (taken (before ++ entry ∷ []))) = due_after before entry in
       record {
         frames = d.frames ++ way.frame ∷ [];
         sent_are =
-          sent_more before entry
-          ∙ (ap (λ (xs : List (List ℕ)). xs ++ bytes ∷ []) d.sent_are
-          ∙ (ap (λ (bs : List ℕ). map frame_bytes d.frames ++ bs ∷ []) way.same
-          ∙ sym (map-append frame_bytes d.frames (way.frame ∷ []))));
+            sent_more before entry
+            ∙ (ap (λ (xs : List (List ℕ)). xs ++ bytes ∷ []) d.sent_are
+            ∙ (ap (λ (bs : List ℕ). map frame_bytes d.frames ++ bs ∷ []) way.same
+            ∙ sym (map-append frame_bytes d.frames (way.frame ∷ []))));
         rest = next.later ++ more.rest;
         due_are =
-          more.joined
-          ∙ (ap (λ (xs : List Frame). xs ++ more.rest) (d.due_are ∙ ap (λ (xs : List Frame). d.frames ++ xs) next.is)
-          ∙ simp append_assoc) }
+            more.joined
+            ∙ (ap (λ (xs : List Frame). xs ++ more.rest) (d.due_are ∙ ap (λ (xs : List Frame). d.frames ++ xs) next.is)
+            ∙ simp append_assoc);
+      }
 
   one_more : (before : Journal) (move : Move) (answer : Answer) → IsDue catalog asks before → next_with catalog at asks before ≡ Some move → IsDue catalog asks (before ++ record { move = move; answer = answer } ∷ [])
   one_more before (Dial to) answer d e = quiet before (record { move = Dial to; answer = answer }) d refl
@@ -162,7 +165,7 @@ module _ (catalog : Catalog) (at : List ℕ) (asks : List Asked) where
   all_more before [] d goes = subst (λ (j : Journal). IsDue catalog asks j) (sym (append-nil before)) d
   all_more before (entry ∷ later) d goes =
       subst (λ (j : Journal). IsDue catalog asks j) (append_assoc before (entry ∷ []) later)
-        (all_more (before ++ entry ∷ []) later (one_more before entry.move entry.answer d goes.0) goes.1)
+      (all_more (before ++ entry ∷ []) later (one_more before entry.move entry.answer d goes.0) goes.1)
 
   pub sent_is_due : (journal : Journal) → GoesOn catalog at asks [] journal → IsDue catalog asks journal
   unfolding hear_all
