@@ -9,7 +9,7 @@ use Rattle.ghost_model.specs.Channel.{Catalog, Ask, Frame, Hello, Asking, More, 
 use Rattle.ghost_model.specs.Catalog.{catalog_bytes}
 use Rattle.ghost_model.specs.Frames.{IsFrame, Got, Found, Short, Bad, got_of, frame_bytes, kind_of, payload_of, most_payload}
 use Rattle.ghost_model.specs.Asks.{ReplyRow, row_bytes, row_width, ask_in}
-use Rattle.ghost_model.specs.Split.{Public, visible_rows, reply_row}
+use Rattle.ghost_model.specs.Split.{Public, reply_rows}
 use Rattle.ghost_model.specs.NextMove.{InvalidFrame}
 
 -- what a host holds, as far as the channel goes: its catalog, and for each ask the rows that meet it, ascending
@@ -19,10 +19,7 @@ pub record Holding : Type 0 where
 
 -- the host of a public part: it replies with the rows that meet an ask
 abbrev pub host_of : Catalog → Public → Holding
-host_of catalog public = record {
-  catalog = catalog;
-  rows = λ ask. map (reply_row catalog.schema ask) (visible_rows catalog.schema public ask);
-}
+host_of catalog public = record { catalog = catalog; rows = reply_rows catalog.schema public }
 
 -- so many groups of a list, each of `most` elements but the last
 unfoldable pub groups_from : {X : Type 0} → (most count : ℕ) → List X → List (List X)
@@ -160,9 +157,9 @@ bad_request held key =
     bad_from held (drop (length (flat_map frame_bytes (frames_of key))) key) (frames_of key) 0 Greeting
 
 -- the ask in a frame of a key, one or none
-abbrev pub ask_of_frame : Schema → Frame → List Ask
-ask_of_frame schema (Asking _ payload) = option_to_list (ask_in schema payload)
-ask_of_frame schema _ = []
+abbrev pub asks_in_frame : Schema → Frame → List Ask
+asks_in_frame schema (Asking _ payload) = option_to_list (ask_in schema payload)
+asks_in_frame schema _ = []
 
 -- the whole replies to some asks, the first of them having this serial
 abbrev pub replies_to : Holding → (serial : ℕ) → List Ask → List Frame
@@ -172,7 +169,7 @@ replies_to held serial (ask ∷ asks) = reply_to held serial ask ++ replies_to h
 -- the stream of an honest host for frames of a key: the catalog, and the whole reply to each ask in order
 abbrev pub honest_stream : Holding → (key : List Frame) → List Frame
 honest_stream held key =
-    welcomes held.catalog ++ replies_to held 1 (flat_map (ask_of_frame held.catalog.schema) key)
+    welcomes held.catalog ++ replies_to held 1 (flat_map (asks_in_frame held.catalog.schema) key)
 
 pub record IsFront (front whole : List Frame) : Type 0 where
   pub rest : List Frame

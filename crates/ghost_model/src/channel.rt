@@ -3,7 +3,7 @@
 ghost use Rattle.ghost_model.specs.Frames.{FramesArePrefixFree, FramesHaveOneSpelling};
 ghost use Rattle.ghost_model.specs.Asks.{AsksHaveOneSpelling, AsksAreVisible, AsksAreProper, RowsHaveOneSpelling};
 ghost use Rattle.ghost_model.specs.Host.{FramesAreCut, HostIsHonest, NothingIsLost};
-ghost use Rattle.ghost_model.specs.NextMove.{TwoWorlds, ReceivedIsSpelled, AwaitedIsHeard};
+ghost use Rattle.ghost_model.specs.NextMove.{TwoWorlds, ReceivedIsSpelled, AwaitedIsHeard, SentIsDue};
 ghost use Rattle.ghost_model.specs.examples.Channel.{SpellingsOfFrames, ReadingsOfFrames, JournalOfTheNotes, AsksOfQueries, AsksOfBytes, JournalOfTheClinic, JournalWithoutAsks, InvalidFrames, FramesThatAreDue, AnswersOfTheHost};
 
 /// No frame's spelling is a proper prefix of another's.
@@ -50,6 +50,11 @@ pub fn received_bytes_are_frames()
 /// The bytes of a frame that may come in its place are heard as this frame.
 pub fn awaited_frames_are_heard()
     ensures { AwaitedIsHeard }
+{}
+
+/// What a proper journal sent is the first of the frames that its taken bytes make due.
+pub fn sent_frames_are_due()
+    ensures { SentIsDue }
 {}
 
 /// Two proper journals for the same catalog, address and texts whose first answers agree have the same moves up to and
