@@ -1,6 +1,10 @@
 mod TokenLemmas
+mod TextLemmas
 mod GrammarLemmas
 mod SchemaLemmas
+mod SchemaRuleLemmas
+mod SchemaTreeLemmas
 mod QueryLemmas
+mod QueryReadingLemmas
 mod ChannelLemmas
 mod MeaningLemmas

@@ -5,11 +5,13 @@ pub mod Tokens
 pub mod Query
 pub mod Channel
 pub mod Grammar
+pub mod Spelled
 pub mod Texts
 pub mod SchemaGrammar
 pub mod SchemaPlaces
 pub mod SchemaMeaning
 pub mod SchemaFaults
+pub mod SchemaTrees
 pub mod QueryGrammar
 pub mod QueryPlaces
 pub mod QueryMeaning
@@ -26,6 +28,7 @@ pub mod Asks
 pub mod Moves
 pub mod NextMove
 pub mod Host
+pub mod Local
 pub mod Honest
 pub mod Replies
 pub mod Lines

@@ -1,1 +1,277 @@
--- QueryMeaning: to be written
+-- What a query text means over a schema: its names resolved, where none of the rules is broken; and why a text has no
+-- meaning. The rules are tested one after another, each over the whole text. A column may stand without its table
+-- where exactly one FROM table has it. `*` is every column of the FROM tables in the order of the text, identifiers and
+-- foreign keys among them. BETWEEN is two conditions.
+use Rattle.std.specs.Prelude.{◌≡◌, ℕ, ◌+◌, ◌-◌, ◌*◌, ◌^◌, ◌<◌, ℤ, pos, neg_ℤ, int_le, Bool, true, false, not, ◌&&◌, ◌||◌, ◌==◌, nat_lt, List, [], ◌∷◌, ◌++◌, length, map, filter, filter_map, flat_map, fold, sum_by, Option, Some, None, is_none, option_map, option_and_then, option_to_list, bytes_eq}
+use Rattle.std.specs.List.{list_any, list_all}
+use Rattle.ghost_model.specs.Schema.{Schema, Kind, Integer, Chars, columns_of, column_at, places_where, first_of, is_empty, is_table, parent}
+use Rattle.ghost_model.specs.Values.{Value, Number, Text}
+use Rattle.ghost_model.specs.Query.{Field, AtMost, AtLeast, Condition, Compare, Join, Query}
+use Rattle.ghost_model.specs.Grammar.{Spells, IsSyntaxFault}
+use Rattle.ghost_model.specs.QueryGrammar.{ColumnText, Bare, Qualified, Sign, Positive, Negative, LiteralText, Unsigned, Signed, Written, ConditionText, Compares, LiesBetween, Joins, Selection, All, Columns, QueryText, spelling}
+
+-- why a text is refused, in the order in which the rules are tested; a syntax fault has its offset in the text
+pub data Refusal : Type 0 where
+  Syntax : ℕ → Refusal
+  Limit : Refusal
+  UnknownTable : Refusal
+  UnknownColumn : Refusal
+  Ambiguous : Refusal
+  KindMismatch : Refusal
+  BadLiteral : Refusal
+  NotLinked : Refusal
+
+-- names
+
+abbrev pub field : ℕ → ℕ → Field
+field table column = record { table = table; column = column }
+
+abbrev pub table_named : Schema → List ℕ → Option ℕ
+table_named schema name = first_of (places_where (λ table. bytes_eq table.name name) schema)
+
+abbrev pub column_named : Schema → ℕ → List ℕ → Option ℕ
+column_named schema table name = first_of (places_where (λ column. bytes_eq column.name name) (columns_of schema table))
+
+-- the column of a table that has this name, if there is one
+abbrev pub fields_named : Schema → List ℕ → ℕ → List Field
+fields_named schema name table = option_to_list (option_map (field table) (column_named schema table name))
+
+abbrev pub fields_of : Schema → ℕ → List Field
+fields_of schema table = map (field table) (places_where (λ column. true) (columns_of schema table))
+
+abbrev pub is_among : List ℕ → ℕ → Bool
+is_among tables table = list_any (λ other. other == table) tables
+
+-- the FROM tables of a text, by name and by place
+abbrev pub from_names : QueryText → List (List ℕ)
+from_names tree = tree.table ∷ tree.more_tables
+
+abbrev pub from_tables : Schema → QueryText → List ℕ
+from_tables schema tree = filter_map (table_named schema) (from_names tree)
+
+-- what a column of a text may mean: the columns of this name in the FROM tables, or in the FROM table that it names
+abbrev pub meanings : Schema → List ℕ → ColumnText → List Field
+meanings schema from (Bare name) = flat_map (fields_named schema name) from
+meanings schema from (Qualified table name) =
+    flat_map (fields_named schema name) (filter (λ other. is_table other (table_named schema table)) from)
+
+-- literals
+
+abbrev pub number_of : List ℕ → ℕ
+number_of digits = fold (λ number digit. number * 10 + (digit - 48)) 0 digits
+
+abbrev pub with_sign : Sign → ℕ → ℤ
+with_sign Positive number = pos number
+with_sign Negative number = neg_ℤ (pos number)
+
+abbrev pub value_of : LiteralText → Value
+value_of (Unsigned digits) = Number (pos (number_of digits))
+value_of (Signed sign digits) = Number (with_sign sign (number_of digits))
+value_of (Written text) = Text text
+
+-- the query with its names resolved, where each column of the text has one meaning
+
+abbrev pub conditions_of : Schema → List ℕ → ConditionText → List Condition
+conditions_of schema from (Compares column operator literal) =
+    map (λ meant. Compare meant operator (value_of literal)) (meanings schema from column)
+conditions_of schema from (LiesBetween column low high) =
+    flat_map (λ meant. Compare meant AtLeast (value_of low) ∷ Compare meant AtMost (value_of high) ∷ [])
+    (meanings schema from column)
+conditions_of schema from (Joins left right) =
+    flat_map (λ meant. map (Join meant) (meanings schema from right)) (meanings schema from left)
+
+abbrev pub selected : Schema → List ℕ → Selection → List Field
+selected schema from All = flat_map (fields_of schema) from
+selected schema from (Columns column more) = flat_map (meanings schema from) (column ∷ more)
+
+abbrev pub resolved : Schema → QueryText → Query
+resolved schema tree = record {
+  from = from_tables schema tree;
+  select = selected schema (from_tables schema tree) tree.selection;
+  conditions = flat_map (conditions_of schema (from_tables schema tree)) tree.conditions;
+}
+
+-- the columns of a text as they are written, and the names in it
+
+abbrev pub selection_columns : Selection → List ColumnText
+selection_columns All = []
+selection_columns (Columns column more) = column ∷ more
+
+abbrev pub condition_columns : ConditionText → List ColumnText
+condition_columns (Compares column operator literal) = column ∷ []
+condition_columns (LiesBetween column low high) = column ∷ []
+condition_columns (Joins left right) = left ∷ right ∷ []
+
+abbrev pub columns_in : QueryText → List ColumnText
+columns_in tree = selection_columns tree.selection ++ flat_map condition_columns tree.conditions
+
+abbrev pub qualifier_of : ColumnText → List (List ℕ)
+qualifier_of (Bare name) = []
+qualifier_of (Qualified table name) = table ∷ []
+
+abbrev pub column_name : ColumnText → List ℕ
+column_name (Bare name) = name
+column_name (Qualified table name) = name
+
+-- the names that stand for tables: those of FROM and the qualifiers
+abbrev pub table_names : QueryText → List (List ℕ)
+table_names tree = from_names tree ++ flat_map qualifier_of (columns_in tree)
+
+abbrev pub names_in : QueryText → List (List ℕ)
+names_in tree = table_names tree ++ map column_name (columns_in tree)
+
+-- how many conditions with a literal a condition of a text is
+abbrev pub literal_conditions : ConditionText → ℕ
+literal_conditions (Compares column operator literal) = 1
+literal_conditions (LiesBetween column low high) = 2
+literal_conditions (Joins left right) = 0
+
+-- how many columns a text selects; `*` counts those of the FROM tables that exist
+abbrev pub selected_count : Schema → QueryText → Selection → ℕ
+selected_count schema tree All = length (selected schema (from_tables schema tree) All)
+selected_count schema tree (Columns column more) = length (column ∷ more)
+
+-- the limits of a text: 4,096 bytes, 32 bytes a name, 12 FROM tables, 16 conditions with a literal, 32 columns
+abbrev pub is_over_limit : Schema → List ℕ → QueryText → Bool
+is_over_limit schema text tree =
+    nat_lt 4096 (length text)
+    || list_any (λ name. nat_lt 32 (length name)) (names_in tree)
+    || nat_lt 12 (length (from_names tree))
+    || nat_lt 16 (sum_by literal_conditions tree.conditions)
+    || nat_lt 32 (selected_count schema tree tree.selection)
+
+-- a FROM name or a qualifier is no table
+abbrev pub has_unknown_table : Schema → QueryText → Bool
+has_unknown_table schema tree = list_any (λ name. is_none (table_named schema name)) (table_names tree)
+
+-- a column has no meaning: its table is not in FROM or lacks it, or no FROM table has a bare name
+abbrev pub has_unknown_column : Schema → QueryText → Bool
+has_unknown_column schema tree =
+    list_any (λ column. is_empty (meanings schema (from_tables schema tree) column)) (columns_in tree)
+
+abbrev pub has_repeat : List ℕ → Bool
+has_repeat [] = false
+has_repeat (x ∷ xs) = is_among xs x || has_repeat xs
+
+-- a table stands twice in FROM, or two FROM tables have a bare name
+abbrev pub is_ambiguous : Schema → QueryText → Bool
+is_ambiguous schema tree =
+    has_repeat (from_tables schema tree)
+    || list_any (λ column. nat_lt 1 (length (meanings schema (from_tables schema tree) column))) (columns_in tree)
+
+abbrev pub kind_at : Schema → Field → Option Kind
+kind_at schema place = option_map (λ column. column.kind) (column_at schema place.table place.column)
+
+-- whether a value is of another kind than a column's
+abbrev pub is_other_kind : Option Kind → Value → Bool
+is_other_kind (Some Integer) (Text text) = true
+is_other_kind (Some (Chars most)) (Number number) = true
+is_other_kind kind value = false
+
+-- the integers of 64 bits
+abbrev pub lowest_integer : ℤ
+lowest_integer = neg_ℤ (pos (2 ^ 63))
+
+abbrev pub highest_integer : ℤ
+highest_integer = pos (2 ^ 63 - 1)
+
+-- whether an integer is outside 64 bits, or a text longer than its column's texts
+abbrev pub is_too_large : Option Kind → Value → Bool
+is_too_large kind (Number number) = not (int_le lowest_integer number && int_le number highest_integer)
+is_too_large (Some (Chars most)) (Text text) = nat_lt most (length text)
+is_too_large kind (Text text) = false
+
+-- a test of the kind of a condition's column and its literal
+abbrev pub literal_fails : Schema → (Option Kind → Value → Bool) → Condition → Bool
+literal_fails schema test (Compare column operator value) = test (kind_at schema column) value
+literal_fails schema test (Join left right) = false
+
+abbrev pub has_kind_mismatch : Schema → QueryText → Bool
+has_kind_mismatch schema tree = list_any (literal_fails schema is_other_kind) (resolved schema tree).conditions
+
+abbrev pub has_bad_literal : Schema → QueryText → Bool
+has_bad_literal schema tree = list_any (literal_fails schema is_too_large) (resolved schema tree).conditions
+
+-- the top table and the joins
+
+-- whether the table, if there is one, is among these
+abbrev pub is_some_among : List ℕ → Option ℕ → Bool
+is_some_among tables None = false
+is_some_among tables (Some table) = is_among tables table
+
+abbrev pub only : {X : Type 0} → List X → Option X
+only (x ∷ []) = Some x
+only _ = None
+
+-- the one FROM table whose parent is not in FROM; the root has none
+abbrev pub top_of : Schema → Query → Option ℕ
+top_of schema query = only (filter (λ table. not (is_some_among query.from (parent schema table))) query.from)
+
+-- the first column is a foreign key and the second the identifier of its child
+abbrev pub is_key_to : Schema → Field → Field → Bool
+is_key_to schema key identifier =
+    is_table identifier.table (option_and_then (λ column. column.child) (column_at schema key.table key.column))
+    && identifier.column == 0
+
+-- a condition between two columns is a join, either side first
+abbrev pub is_proper : Schema → Condition → Bool
+is_proper schema (Compare column operator value) = true
+is_proper schema (Join left right) = is_key_to schema left right || is_key_to schema right left
+
+-- the join of a table with its parent
+abbrev pub is_join_of : Schema → ℕ → Condition → Bool
+is_join_of schema table (Compare column operator value) = false
+is_join_of schema table (Join left right) =
+    (is_key_to schema left right && right.table == table) || (is_key_to schema right left && left.table == table)
+
+-- a FROM table whose parent is in FROM is not joined with it
+abbrev pub lacks_join : Schema → Query → ℕ → Bool
+lacks_join schema query table =
+    is_some_among query.from (parent schema table) && not (list_any (is_join_of schema table) query.conditions)
+
+-- a condition between two columns is no join, there is no one top table, or another FROM table lacks its join
+abbrev pub is_unlinked : Schema → Query → Bool
+is_unlinked schema query =
+    not (list_all (is_proper schema) query.conditions)
+    || is_none (top_of schema query)
+    || list_any (lacks_join schema query) query.from
+
+-- whether a text, by its tree, breaks the rule of a refusal; a text that has a tree has no syntax fault
+abbrev pub breaks : Schema → List ℕ → QueryText → Refusal → Bool
+breaks schema text tree (Syntax at) = false
+breaks schema text tree Limit = is_over_limit schema text tree
+breaks schema text tree UnknownTable = has_unknown_table schema tree
+breaks schema text tree UnknownColumn = has_unknown_column schema tree
+breaks schema text tree Ambiguous = is_ambiguous schema tree
+breaks schema text tree KindMismatch = has_kind_mismatch schema tree
+breaks schema text tree BadLiteral = has_bad_literal schema tree
+breaks schema text tree NotLinked = is_unlinked schema (resolved schema tree)
+
+-- the order in which the rules are tested
+abbrev pub rank : Refusal → ℕ
+rank (Syntax at) = 1
+rank Limit = 2
+rank UnknownTable = 3
+rank UnknownColumn = 4
+rank Ambiguous = 5
+rank KindMismatch = 6
+rank BadLiteral = 7
+rank NotLinked = 8
+
+-- the text means this query
+pub record Means (schema : Schema) (text : List ℕ) (query : Query) : Type 0 where
+  pub tree : QueryText
+  pub spells : Spells spelling text tree
+  pub keeps : (rule : Refusal) → breaks schema text tree rule ≡ false
+  pub means : query ≡ resolved schema tree
+
+-- the text is in the grammar, breaks this rule and none before it
+pub record BreaksFirst (schema : Schema) (text : List ℕ) (rule : Refusal) : Type 0 where
+  pub tree : QueryText
+  pub spells : Spells spelling text tree
+  pub broken : breaks schema text tree rule ≡ true
+  pub keeps : (earlier : Refusal) → rank earlier < rank rule → breaks schema text tree earlier ≡ false
+
+abbrev pub IsRefused : Schema → List ℕ → Refusal → Type 0
+IsRefused schema text (Syntax at) = IsSyntaxFault spelling text at
+IsRefused schema text rule = BreaksFirst schema text rule

@@ -1,1 +1,198 @@
--- QueryPlaces: to be written
+-- The places between the symbols of a query text, each with what was read so far: the symbols before it, and where
+-- each symbol leads from it. A symbol that leads nowhere is the first one that no text has there. So following the
+-- places over the tokens of a text tells its tree, or where its fault stands.
+use Rattle.std.specs.Prelude.{◌≡◌, ℕ, List, [], ◌∷◌, ◌++◌, Option, Some, None, map, option_map, Result, Ok, Err, ◌↔◌}
+use Rattle.ghost_model.specs.Query as query
+use Rattle.ghost_model.specs.Query.{Operator}
+use Rattle.ghost_model.specs.Tokens.{Symbol, Token, tokens, symbol_of, Word, Name, Digits, Quoted, Comma, Point, Star, Plus, Minus, Equal, Unequal, Less, AtMost, More, AtLeast, End, Select, From, Where, And, Between}
+use Rattle.ghost_model.specs.Grammar.{Spells, IsSyntaxFault, separated, begun}
+use Rattle.ghost_model.specs.QueryGrammar.{ColumnText, Bare, Qualified, Sign, Positive, Negative, LiteralText, Unsigned, Signed, Written, ConditionText, Compares, LiesBetween, Joins, Selection, All, Columns, QueryText, spell_column, spell_sign, spell_operator, spell_literal, spell_condition, spell_table, spell_selection, spelling}
+
+-- in a selected column: before it, after its table and the point, and after it
+pub data ColumnPart : Type 0 where
+  WantsColumn : ColumnPart
+  HasTablePoint : List ℕ → ColumnPart
+  HasColumn : ColumnText → ColumnPart
+
+-- in a condition
+pub data ConditionPart : Type 0 where
+  WantsLeft : ConditionPart
+  HasLeftPoint : List ℕ → ConditionPart
+  HasLeft : ColumnText → ConditionPart
+  HasOperator : ColumnText → Operator → ConditionPart
+  HasSign : ColumnText → Operator → Sign → ConditionPart
+  HasRightPoint : ColumnText → List ℕ → ConditionPart
+  WantsLow : ColumnText → ConditionPart
+  HasLowSign : ColumnText → Sign → ConditionPart
+  HasLow : ColumnText → LiteralText → ConditionPart
+  WantsHigh : ColumnText → LiteralText → ConditionPart
+  HasHighSign : ColumnText → LiteralText → Sign → ConditionPart
+  HasCondition : ConditionText → ConditionPart
+
+-- in a text: lists hold the columns, tables or conditions that stand whole before the one at hand
+pub data Place : Type 0 where
+  Start : Place
+  HasStar : Place
+  InSelect : List ColumnText → ColumnPart → Place
+  WantsTable : Selection → List (List ℕ) → Place
+  HasTable : Selection → List (List ℕ) → List ℕ → Place
+  InWhere : Selection → List ℕ → List (List ℕ) → List ConditionText → ConditionPart → Place
+  Whole : QueryText → Place
+
+-- the first of some items and a last one, and the others
+abbrev pub first_item : {X : Type 0} → List X → X → X
+first_item [] last = last
+first_item (x ∷ xs) last = x
+
+abbrev pub other_items : {X : Type 0} → List X → X → List X
+other_items [] last = []
+other_items (x ∷ xs) last = xs ++ last ∷ []
+
+abbrev pub selection_of : List ColumnText → ColumnText → Selection
+selection_of earlier last = Columns (first_item earlier last) (other_items earlier last)
+
+abbrev pub query_text : Selection → List ℕ → List (List ℕ) → List ConditionText → QueryText
+query_text selection table more conditions =
+    record { selection = selection; table = table; more_tables = more; conditions = conditions }
+
+-- the symbols before a place
+abbrev pub in_column : ColumnPart → List Symbol
+in_column WantsColumn = []
+in_column (HasTablePoint table) = Name table ∷ Point ∷ []
+in_column (HasColumn column) = spell_column column
+
+abbrev pub in_condition : ConditionPart → List Symbol
+in_condition WantsLeft = []
+in_condition (HasLeftPoint table) = Name table ∷ Point ∷ []
+in_condition (HasLeft column) = spell_column column
+in_condition (HasOperator column operator) = spell_column column ++ (spell_operator operator ∷ [])
+in_condition (HasSign column operator sign) = spell_column column ++ (spell_operator operator ∷ spell_sign sign ∷ [])
+in_condition (HasRightPoint column table) = spell_column column ++ (Equal ∷ Name table ∷ Point ∷ [])
+in_condition (WantsLow column) = spell_column column ++ (Word Between ∷ [])
+in_condition (HasLowSign column sign) = spell_column column ++ (Word Between ∷ spell_sign sign ∷ [])
+in_condition (HasLow column low) = spell_column column ++ (Word Between ∷ spell_literal low)
+in_condition (WantsHigh column low) = spell_column column ++ (Word Between ∷ (spell_literal low ++ (Word And ∷ [])))
+in_condition (HasHighSign column low sign) =
+    spell_column column ++ (Word Between ∷ (spell_literal low ++ (Word And ∷ spell_sign sign ∷ [])))
+in_condition (HasCondition condition) = spell_condition condition
+
+abbrev pub before : Place → List Symbol
+before Start = []
+before HasStar = Word Select ∷ Star ∷ []
+before (InSelect earlier part) = Word Select ∷ (begun Comma spell_column earlier ++ in_column part)
+before (WantsTable selection earlier) =
+    Word Select ∷ (spell_selection selection ++ (Word From ∷ begun Comma spell_table earlier))
+before (HasTable selection earlier table) =
+    Word Select ∷ (spell_selection selection ++ (Word From ∷ (begun Comma spell_table earlier ++ spell_table table)))
+before (InWhere selection table more earlier part) =
+    Word Select
+    ∷ (spell_selection selection
+    ++ (Word From
+    ∷ (separated Comma spell_table table more
+    ++ (Word Where ∷ (begun (Word And) spell_condition earlier ++ in_condition part)))))
+before (Whole tree) = spelling tree
+
+-- where a symbol leads inside a selected column, and inside a condition
+abbrev pub step_in_column : Symbol → ColumnPart → Option ColumnPart
+step_in_column (Name name) WantsColumn = Some (HasColumn (Bare name))
+step_in_column (Name name) (HasTablePoint table) = Some (HasColumn (Qualified table name))
+step_in_column Point (HasColumn (Bare name)) = Some (HasTablePoint name)
+step_in_column _ _ = None
+
+abbrev pub step_in_condition : Symbol → ConditionPart → Option ConditionPart
+step_in_condition (Name name) WantsLeft = Some (HasLeft (Bare name))
+step_in_condition (Name name) (HasLeftPoint table) = Some (HasLeft (Qualified table name))
+step_in_condition Point (HasLeft (Bare name)) = Some (HasLeftPoint name)
+step_in_condition Equal (HasLeft column) = Some (HasOperator column query.Equal)
+step_in_condition Unequal (HasLeft column) = Some (HasOperator column query.Unequal)
+step_in_condition Less (HasLeft column) = Some (HasOperator column query.Less)
+step_in_condition AtMost (HasLeft column) = Some (HasOperator column query.AtMost)
+step_in_condition More (HasLeft column) = Some (HasOperator column query.More)
+step_in_condition AtLeast (HasLeft column) = Some (HasOperator column query.AtLeast)
+step_in_condition (Word Between) (HasLeft column) = Some (WantsLow column)
+step_in_condition Plus (HasOperator column operator) = Some (HasSign column operator Positive)
+step_in_condition Minus (HasOperator column operator) = Some (HasSign column operator Negative)
+step_in_condition (Digits digits) (HasOperator column operator) =
+    Some (HasCondition (Compares column operator (Unsigned digits)))
+step_in_condition (Quoted text) (HasOperator column operator) =
+    Some (HasCondition (Compares column operator (Written text)))
+step_in_condition (Name name) (HasOperator column query.Equal) = Some (HasCondition (Joins column (Bare name)))
+step_in_condition (Digits digits) (HasSign column operator sign) =
+    Some (HasCondition (Compares column operator (Signed sign digits)))
+step_in_condition Point (HasCondition (Joins left (Bare table))) = Some (HasRightPoint left table)
+step_in_condition (Name name) (HasRightPoint left table) = Some (HasCondition (Joins left (Qualified table name)))
+step_in_condition Plus (WantsLow column) = Some (HasLowSign column Positive)
+step_in_condition Minus (WantsLow column) = Some (HasLowSign column Negative)
+step_in_condition (Digits digits) (WantsLow column) = Some (HasLow column (Unsigned digits))
+step_in_condition (Quoted text) (WantsLow column) = Some (HasLow column (Written text))
+step_in_condition (Digits digits) (HasLowSign column sign) = Some (HasLow column (Signed sign digits))
+step_in_condition (Word And) (HasLow column low) = Some (WantsHigh column low)
+step_in_condition Plus (WantsHigh column low) = Some (HasHighSign column low Positive)
+step_in_condition Minus (WantsHigh column low) = Some (HasHighSign column low Negative)
+step_in_condition (Digits digits) (WantsHigh column low) =
+    Some (HasCondition (LiesBetween column low (Unsigned digits)))
+step_in_condition (Quoted text) (WantsHigh column low) = Some (HasCondition (LiesBetween column low (Written text)))
+step_in_condition (Digits digits) (HasHighSign column low sign) =
+    Some (HasCondition (LiesBetween column low (Signed sign digits)))
+step_in_condition _ _ = None
+
+-- where a symbol leads in the select list, and after WHERE
+abbrev pub step_in_select : Symbol → ColumnPart → List ColumnText → Option Place
+step_in_select Star WantsColumn [] = Some HasStar
+step_in_select Comma (HasColumn column) earlier = Some (InSelect (earlier ++ column ∷ []) WantsColumn)
+step_in_select (Word From) (HasColumn column) earlier = Some (WantsTable (selection_of earlier column) [])
+step_in_select symbol part earlier = option_map (InSelect earlier) (step_in_column symbol part)
+
+abbrev pub step_in_where : Symbol → ConditionPart → Selection → List ℕ → List (List ℕ) → List ConditionText → Option Place
+step_in_where (Word And) (HasCondition condition) selection table more earlier =
+    Some (InWhere selection table more (earlier ++ condition ∷ []) WantsLeft)
+step_in_where End (HasCondition condition) selection table more earlier =
+    Some (Whole (query_text selection table more (earlier ++ condition ∷ [])))
+step_in_where symbol part selection table more earlier =
+    option_map (InWhere selection table more earlier) (step_in_condition symbol part)
+
+abbrev pub step : Place → Symbol → Option Place
+step Start (Word Select) = Some (InSelect [] WantsColumn)
+step HasStar (Word From) = Some (WantsTable All [])
+step (InSelect earlier part) symbol = step_in_select symbol part earlier
+step (WantsTable selection earlier) (Name table) = Some (HasTable selection earlier table)
+step (HasTable selection earlier table) Comma = Some (WantsTable selection (earlier ++ table ∷ []))
+step (HasTable selection earlier table) (Word Where) =
+    Some (InWhere selection (first_item earlier table) (other_items earlier table) [] WantsLeft)
+step (HasTable selection earlier table) End =
+    Some (Whole (query_text selection (first_item earlier table) (other_items earlier table) []))
+step (InWhere selection table more earlier part) symbol = step_in_where symbol part selection table more earlier
+step _ _ = None
+
+-- the tree of a text that was read whole. The tokens of a text end with its end, so no other place is the last one
+abbrev pub whole_text : Place → Result QueryText ℕ
+whole_text (Whole tree) = Ok tree
+whole_text _ = Err 0
+
+-- the tree that tokens lead to from a place, or the offset of the first one that leads nowhere
+unfoldable pub read_from : Place → List Token → Result QueryText ℕ
+read_from place [] = whole_text place
+read_from place (token ∷ later) =
+    elim (step place token.symbol) [ None ↦ Err token.at | Some next ↦ read_from next later ]
+
+-- the tree of a text, or the offset of its syntax fault
+abbrev pub syntax_of : List ℕ → Result QueryText ℕ
+syntax_of text = read_from Start (tokens text)
+
+-- a text was read up to a place and its next token, at this offset, leads nowhere from there
+pub record IsStuck (text : List ℕ) (at : ℕ) : Type 0 where
+  pub place : Place
+  pub read : List Token
+  pub next : Token
+  pub later : List Token
+  pub whole : tokens text ≡ read ++ next ∷ later
+  pub before_it : map symbol_of read ≡ before place
+  pub nowhere : step place next.symbol ≡ None
+  pub offset : next.at ≡ at
+
+-- following the places tells exactly the trees that the grammar gives to texts, and exactly their faults; and wherever
+-- a text is stuck, whatever way it was read so far, there is its fault
+pub record QueryPlacesAreExact : Type 0 where
+  pub tree : (text : List ℕ) (tree : QueryText) → syntax_of text ≡ Ok tree ↔ Spells spelling text tree
+  pub fault : (text : List ℕ) (at : ℕ) → syntax_of text ≡ Err at ↔ IsSyntaxFault spelling text at
+  pub stuck : (text : List ℕ) (at : ℕ) → IsStuck text at ↔ IsSyntaxFault spelling text at

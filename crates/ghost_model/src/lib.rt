@@ -4,8 +4,10 @@
 //! so are the worked examples, which the check computes.
 #![tactic(auto)]
 
+pub mod cells;
 pub mod channel;
 pub mod meaning;
 pub mod query;
 pub mod schema;
+pub mod sessions;
 pub mod tokens;

@@ -1,1 +1,169 @@
--- Databases: to be written
+-- The clinic's files and the database that they spell, and files that break the rules of loading: each rule alone, and
+-- two rules at once, of which the earlier one is told.
+use Rattle.std.specs.Prelude.{◌≡◌, ℕ, pos, negsuc, List, [], ◌∷◌, ◌++◌, flat_map, codes, Option, Some, None}
+use Rattle.ghost_model.specs.Schema.{Schema}
+use Rattle.ghost_model.specs.Database.{database_of, integer_of, leads, records_of}
+use Rattle.ghost_model.specs.LoadFaults.{LoadFault, Header, RowLimit, FieldCount, BadId, BadInt, BadChars, BadReference, place, load_fault, load_faults, row_faults}
+use Rattle.ghost_model.specs.examples.Clinic.{id_column, number_column, text_column, key_column, patient_table, clinic_schema, clinic}
+
+-- lines that each end with a line feed
+abbrev pub lines : List (List ℕ) → List ℕ
+lines each = flat_map (λ line. line ++ 10 ∷ []) each
+
+-- the files that have these rows after their header
+abbrev pub doctors : List (List ℕ) → List ℕ
+doctors rows = lines (codes "id,specialty,country" ∷ rows)
+
+abbrev pub patients : List (List ℕ) → List ℕ
+patients rows = lines (codes "id,age,name" ∷ rows)
+
+abbrev pub visits : List (List ℕ) → List ℕ
+visits rows = lines (codes "id,day,purpose,doc,pat" ∷ rows)
+
+abbrev pub doctor_file : List ℕ
+doctor_file = doctors (codes "1,cardio,FR" ∷ codes "2,neuro,ES" ∷ codes "3,cardio,ES" ∷ [])
+
+abbrev pub patient_file : List ℕ
+patient_file = patients (codes "1,30,Ann" ∷ codes "2,41,Bob" ∷ [])
+
+abbrev pub visit_file : List ℕ
+visit_file = visits (codes "1,5,flu,1,1" ∷ codes "2,5,check,3,2" ∷ codes "3,9,flu,3,1" ∷ codes "4,2,flu,2,2" ∷ [])
+
+abbrev pub clinic_files : List (List ℕ)
+clinic_files = doctor_file ∷ patient_file ∷ visit_file ∷ []
+
+-- the clinic's files spell its database and keep every rule; a visit leads to its doctor and its patient
+pub record ClinicIsSpelled : Type 0 where
+  pub spelled : database_of clinic_schema clinic_files ≡ clinic
+  pub no_fault : load_faults clinic_schema clinic_files ≡ []
+  pub to_doctor : leads clinic_schema clinic 2 2 0 ≡ Some 3
+  pub to_patient : leads clinic_schema clinic 2 2 1 ≡ Some 2
+  pub to_itself : leads clinic_schema clinic 2 4 2 ≡ Some 4
+  pub not_upwards : leads clinic_schema clinic 0 1 2 ≡ None
+
+-- what an INTEGER field spells
+pub record IntegersOfFields : Type 0 where
+  pub plain : integer_of (codes "41") ≡ Some (pos 41)
+  pub sign_and_zeros : integer_of (codes "+0007") ≡ Some (pos 7)
+  pub minus_zero : integer_of (codes "-0") ≡ Some (pos 0)
+  pub many_digits : integer_of (codes "-00000000000000000000000000000001") ≡ Some (negsuc 0)
+  pub least : integer_of (codes "-9223372036854775808") ≡ Some (negsuc 9223372036854775807)
+  pub below_the_least : integer_of (codes "-9223372036854775809") ≡ None
+  pub greatest : integer_of (codes "9223372036854775807") ≡ Some (pos 9223372036854775807)
+  pub above_the_greatest : integer_of (codes "9223372036854775808") ≡ None
+  pub empty : integer_of [] ≡ None
+  pub a_plus_alone : integer_of (codes "+") ≡ None
+  pub a_minus_alone : integer_of (codes "-") ≡ None
+  pub two_signs : integer_of (codes "+-1") ≡ None
+  pub a_blank : integer_of (codes " 1") ≡ None
+  pub a_point : integer_of (codes "1.0") ≡ None
+
+-- what the records of a file are
+pub record RecordsOfFiles : Type 0 where
+  pub nothing : records_of [] ≡ []
+  pub no_line_end_at_the_end : records_of (codes "a,b") ≡ (codes "a" ∷ codes "b" ∷ []) ∷ []
+  pub three_line_ends : records_of (97 ∷ 13 ∷ 98 ∷ 10 ∷ 99 ∷ 13 ∷ 10 ∷ 100 ∷ [])
+      ≡ (codes "a" ∷ []) ∷ (codes "b" ∷ []) ∷ (codes "c" ∷ []) ∷ (codes "d" ∷ []) ∷ []
+  pub blank_lines : records_of (97 ∷ 10 ∷ 10 ∷ 10 ∷ 98 ∷ 10 ∷ []) ≡ (codes "a" ∷ []) ∷ (codes "b" ∷ []) ∷ []
+  pub a_byte_order_mark : records_of (0xEF ∷ 0xBB ∷ 0xBF ∷ codes "id") ≡ (codes "id" ∷ []) ∷ []
+  pub a_quote_inside : records_of (97 ∷ 34 ∷ 98 ∷ 10 ∷ []) ≡ ((97 ∷ 34 ∷ 98 ∷ []) ∷ []) ∷ []
+  pub bytes_after_a_quoted_field : records_of (34 ∷ 97 ∷ 34 ∷ 98 ∷ 10 ∷ []) ≡ (codes "ab" ∷ []) ∷ []
+  pub a_quoted_line_end : records_of (34 ∷ 97 ∷ 10 ∷ 98 ∷ 34 ∷ 10 ∷ []) ≡ ((97 ∷ 10 ∷ 98 ∷ []) ∷ []) ∷ []
+  pub no_closing_quote : records_of (34 ∷ 97 ∷ 44 ∷ 98 ∷ []) ≡ (codes "a,b" ∷ []) ∷ []
+  pub a_quoted_empty_field : records_of (34 ∷ 34 ∷ 10 ∷ []) ≡ ([] ∷ []) ∷ []
+
+-- the first fault of the clinic with other rows
+abbrev pub first_fault : (doctor_rows patient_rows visit_rows : List (List ℕ)) → Option LoadFault
+first_fault doctor_rows patient_rows visit_rows =
+    load_fault clinic_schema (doctors doctor_rows ∷ patients patient_rows ∷ visits visit_rows ∷ [])
+
+-- the first fault of the clinic with another file of doctors
+abbrev pub first_fault_of : (doctor_bytes : List ℕ) → Option LoadFault
+first_fault_of doctor_bytes = load_fault clinic_schema (doctor_bytes ∷ patient_file ∷ visit_file ∷ [])
+
+abbrev pub cardio : List ℕ
+cardio = codes "1,cardio,FR"
+
+abbrev pub ann : List ℕ
+ann = codes "1,30,Ann"
+
+-- the first record names the columns
+pub record HeadersOfFiles : Type 0 where
+  pub upper_case :
+      first_fault_of (lines (codes "ID,Specialty,COUNTRY" ∷ cardio ∷ codes "2,neuro,ES" ∷ codes "3,cardio,ES" ∷ []))
+      ≡ None
+  pub no_record : first_fault_of [] ≡ Some (Header (place 0 1 0))
+  pub blank_lines_alone : first_fault_of (10 ∷ 13 ∷ 10 ∷ []) ≡ Some (Header (place 0 1 0))
+  pub another_name : first_fault_of (lines (codes "id,speciality,country" ∷ [])) ≡ Some (Header (place 0 1 0))
+  pub another_first_name : first_fault_of (lines (codes "key,specialty,country" ∷ [])) ≡ Some (Header (place 0 1 0))
+  pub another_order : first_fault_of (lines (codes "id,country,specialty" ∷ [])) ≡ Some (Header (place 0 1 0))
+  pub too_few_names : first_fault_of (lines (codes "id,specialty" ∷ [])) ≡ Some (Header (place 0 1 0))
+  pub too_many_names : first_fault_of (lines (codes "id,specialty,country," ∷ [])) ≡ Some (Header (place 0 1 0))
+  pub no_row : first_fault [] [] [] ≡ None
+
+-- each further rule broken alone
+pub record OneRuleBroken : Type 0 where
+  pub too_few_fields : first_fault (codes "1,cardio" ∷ []) [] [] ≡ Some (FieldCount (place 0 2 0))
+  pub too_many_fields : first_fault (codes "1,cardio,FR," ∷ []) [] [] ≡ Some (FieldCount (place 0 2 0))
+  pub another_number : first_fault (codes "2,cardio,FR" ∷ []) [] [] ≡ Some (BadId (place 0 2 0))
+  pub the_number_in_other_digits : first_fault (codes "+1,cardio,FR" ∷ codes "002,neuro,ES" ∷ []) [] [] ≡ None
+  pub no_number : first_fault (codes "one,cardio,FR" ∷ []) [] [] ≡ Some (BadId (place 0 2 0))
+  pub above_the_greatest : first_fault [] (codes "1,9223372036854775808,Ann" ∷ []) [] ≡ Some (BadInt (place 1 2 1))
+  pub an_empty_integer : first_fault [] (codes "1,,Ann" ∷ []) [] ≡ Some (BadInt (place 1 2 1))
+  pub an_empty_text : first_fault [] (codes "1,30," ∷ []) [] ≡ None
+  pub too_long : first_fault (cardio ∷ codes "2,cardiolog,ES" ∷ codes "3,cardio,ES" ∷ []) [] []
+      ≡ Some (BadChars (place 0 3 1))
+  pub no_character : first_fault ((codes "1,card" ++ 0xC3 ∷ 0xA9 ∷ codes ",FR") ∷ []) [] []
+      ≡ Some (BadChars (place 0 2 1))
+  pub a_line_end_within : first_fault ((codes "1," ++ 34 ∷ 97 ∷ 10 ∷ 34 ∷ codes ",FR") ∷ []) [] []
+      ≡ Some (BadChars (place 0 2 1))
+  pub blank_lines_are_not_counted : first_fault ([] ∷ cardio ∷ [] ∷ codes "2,cardiolog,ES" ∷ []) [] []
+      ≡ Some (BadChars (place 0 3 1))
+  pub no_such_doctor : load_fault clinic_schema (doctor_file ∷ patient_file ∷ visits (codes "1,5,flu,4,1" ∷ []) ∷ [])
+      ≡ Some (BadReference (place 2 2 3))
+  pub no_doctor_zero : first_fault (cardio ∷ []) (ann ∷ []) (codes "1,5,flu,0,1" ∷ [])
+      ≡ Some (BadReference (place 2 2 3))
+  pub no_doctor_below_zero : first_fault (cardio ∷ []) (ann ∷ []) (codes "1,5,flu,-1,1" ∷ [])
+      ≡ Some (BadReference (place 2 2 3))
+  pub no_patient : first_fault (cardio ∷ []) [] (codes "1,5,flu,1,1" ∷ []) ≡ Some (BadReference (place 2 2 4))
+  pub the_last_row : row_faults 0 1000000 patient_table.columns (codes "1000000" ∷ codes "30" ∷ codes "Ann" ∷ []) ≡ []
+  pub one_row_more : row_faults 0 1000001 patient_table.columns (codes "1000001" ∷ codes "30" ∷ codes "Ann" ∷ [])
+      ≡ RowLimit (place 0 1000002 0) ∷ []
+
+-- a schema whose first table holds the foreign key
+abbrev pub holder_first : Schema
+holder_first =
+    record { name = codes "holder"; columns = id_column ∷ key_column (codes "held") 1 ∷ [] }
+    ∷ record {
+      name = codes "held";
+      columns = id_column ∷ text_column (codes "word") 4 ∷ number_column (codes "count") ∷ [];
+    }
+    ∷ []
+
+abbrev pub holder_fault : (holder_rows held_rows : List (List ℕ)) → Option LoadFault
+holder_fault holder_rows held_rows =
+    load_fault holder_first (lines (codes "id,held" ∷ holder_rows) ∷ lines (codes "id,word,count" ∷ held_rows) ∷ [])
+
+-- two rules broken at once
+pub record TwoRulesBroken : Type 0 where
+  pub header_then_fields : first_fault_of (lines (codes "id,specialty" ∷ codes "7,cardio" ∷ []))
+      ≡ Some (Header (place 0 1 0))
+  pub row_limit_then_field_count : row_faults 0 1000001 patient_table.columns (codes "7" ∷ [])
+      ≡ RowLimit (place 0 1000002 0) ∷ FieldCount (place 0 1000002 0) ∷ BadId (place 0 1000002 0) ∷ []
+  pub field_count_then_number : first_fault (codes "7,cardio" ∷ []) [] [] ≡ Some (FieldCount (place 0 2 0))
+  pub number_then_integer : first_fault [] (codes "7,old,Ann" ∷ []) [] ≡ Some (BadId (place 1 2 0))
+  pub number_then_text : first_fault (codes ",cardiolog,FR" ∷ []) [] [] ≡ Some (BadId (place 0 2 0))
+  pub integer_then_text : first_fault [] [] (codes "1,,checking up,1,1" ∷ []) ≡ Some (BadInt (place 2 2 1))
+  pub text_then_integer : first_fault [] [] (codes "1,5,checking up,,1" ∷ []) ≡ Some (BadChars (place 2 2 2))
+  pub text_then_next_record : first_fault (codes "1,cardiolog,FR" ∷ codes "2" ∷ []) [] []
+      ≡ Some (BadChars (place 0 2 1))
+  pub text_then_next_file : load_fault clinic_schema (doctors (codes "1,cardio,FRA" ∷ []) ∷ [] ∷ visit_file ∷ [])
+      ≡ Some (BadChars (place 0 2 2))
+  pub reference_after_all_files : holder_fault (codes "1,2" ∷ []) (codes "1,word,many" ∷ [])
+      ≡ Some (BadInt (place 1 2 2))
+  pub reference_alone : holder_fault (codes "1,1" ∷ codes "2,2" ∷ []) (codes "1,word,5" ∷ [])
+      ≡ Some (BadReference (place 0 3 1))
+  pub references_by_record : first_fault (cardio ∷ []) (ann ∷ []) (codes "1,5,flu,1,2" ∷ codes "2,5,flu,2,1" ∷ [])
+      ≡ Some (BadReference (place 2 2 4))
+  pub references_by_column : first_fault (cardio ∷ []) (ann ∷ []) (codes "1,5,flu,2,2" ∷ [])
+      ≡ Some (BadReference (place 2 2 3))

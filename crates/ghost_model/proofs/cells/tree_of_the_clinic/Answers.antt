@@ -1,0 +1,7 @@
+use Rattle.std.proofs.Common.{refl}
+use Rattle.ghost_model.specs.Schema.{places_from, children_from}
+use Rattle.ghost_model.proofs.cells.tree_of_the_clinic.Goals as goal
+
+pub returns : goal.returns
+unfolding places_from children_from
+returns c = record { parents = refl; children = refl }
