@@ -1,0 +1,9 @@
+//! Schemas, the texts that declare them, and catalogs.
+//!
+//! A schema lies in itself: at most 12 tables of at most 24 columns, with names of at most 32 bytes. None of the calls
+//! here takes memory.
+#![tactic(auto)]
+
+pub mod schema;
+
+pub use schema::{Column, Schema, Table};

@@ -1,0 +1,115 @@
+//! Schemas as values of a fixed size.
+
+ghost use Rattle.std.specs.Prelude.{◌≡◌, ◌≤◌, length, slice_get, option_map};
+ghost use Rattle.ghost_model.specs.Schema as schema;
+ghost use Rattle.ghost_model.specs.SchemaTrees.{IsTree};
+ghost use Rattle.tree_schema.specs.Views.{column_of, table_of};
+ghost use Rattle.tree_schema.specs.Schemas as schemas;
+ghost use Rattle.tree_schema.specs.Schemas.{DeclaredSchemasAreTrees};
+
+use arrayvec::ArrayVec;
+use ghost_base::Kind;
+use ghost_base::limits::{MAX_COLUMNS, MAX_NAME, MAX_TABLES};
+use std::marker::Model;
+
+/// A column of a table.
+#[derive(Debug, Default, Drop)]
+pub struct Column {
+    /// Its name, in lower case.
+    pub name: ArrayVec<u8, MAX_NAME>,
+
+    /// What it holds.
+    pub kind: Kind,
+
+    /// Whether only the key holds it.
+    pub hidden: bool,
+
+    /// The table that a foreign key names.
+    pub child: Option<u8>,
+}
+
+/// A table of a schema.
+#[derive(Debug, Default, Drop)]
+pub struct Table {
+    /// Its name, in lower case.
+    pub name: ArrayVec<u8, MAX_NAME>,
+
+    /// Its columns, of which the first is its identifier.
+    pub columns: ArrayVec<Column, MAX_COLUMNS>,
+}
+
+/// A schema, which some text means: a tree of tables.
+#[derive(Drop)]
+pub struct Schema {
+    tables: ArrayVec<Table, MAX_TABLES>,
+}
+
+impl Model for Schema {
+    ghost use Rattle.ghost_model.specs.Schema as schema;
+
+    ghost Value = { schema.Schema };
+
+    ghost use Rattle.tree_schema.specs.Views.{schema_of};
+    ghost use Rattle.tree_schema.specs.Schemas.{IsDeclared};
+
+    ghost view = { λ schema. schema_of schema.tables.items };
+
+    ghost invariant = { λ schema. IsDeclared (schema_of schema.tables.items) };
+}
+
+impl Schema {
+    /// The number of tables.
+    pub fn tables(&self) -> usize
+        ensures count { result ≡ length self.now }
+        ensures declared { schemas.IsDeclared self.now }
+    {
+        self.tables.len()
+    }
+
+    /// A table by its place.
+    pub fn table(&self, table: usize) -> Option<&Table>
+        ensures { option_map (λ found. table_of found.now) result ≡ slice_get self.now table }
+    {
+        self.tables.get(table)
+    }
+
+    /// The number of columns of a table, its identifier among them, and 0 where there is no such table.
+    pub fn columns(&self, table: usize) -> usize
+        ensures { result ≡ length (schema.columns_of self.now table) }
+    {
+        match self.tables.get(table) {
+            None => 0,
+            Some(found) => found.columns.len(),
+        }
+    }
+
+    /// A column by the places of its table and of itself.
+    pub fn column(&self, table: usize, column: usize) -> Option<&Column>
+        ensures { option_map (λ found. column_of found.now) result ≡ schema.column_at self.now table column }
+    {
+        match self.tables.get(table) {
+            None => None,
+            Some(found) => found.columns.get(column),
+        }
+    }
+
+    /// Whether a column is hidden; where there is no such column, it is not.
+    pub fn is_hidden(&self, table: usize, column: usize) -> bool
+        ensures { result ≡ schemas.is_hidden self.now table column }
+    {
+        match self.column(table, column) {
+            None => false,
+            Some(found) => found.hidden,
+        }
+    }
+
+    /// Whether a column is visible: neither hidden nor the identifier.
+    pub fn is_visible(&self, table: usize, column: usize) -> bool
+        ensures { result ≡ schema.is_visible self.now table column }
+    {
+        match self.column(table, column) {
+            None => false,
+            Some(found) => column > 0 && !found.hidden,
+        }
+    }
+}
