@@ -1,6 +1,7 @@
 //! Schemas as values of a fixed size.
 
-ghost use Rattle.std.specs.Prelude.{◌≡◌, ◌≤◌, length, slice_get, option_map};
+ghost use Rattle.std.specs.Prelude.{◌≡◌, ◌≤◌, not, length, slice_get, option_map, position};
+ghost use Rattle.std.specs.List.{list_any};
 ghost use Rattle.ghost_model.specs.Schema as schema;
 ghost use Rattle.ghost_model.specs.SchemaTrees.{IsTree};
 ghost use Rattle.tree_schema.specs.Views.{column_of, table_of};
@@ -57,10 +58,62 @@ impl Model for Schema {
     ghost invariant = { λ schema. IsDeclared (schema_of schema.tables.items) };
 }
 
+/// Each schema is a tree within the limits.
+pub fn schemas_are_trees()
+    ensures { DeclaredSchemasAreTrees }
+{
+    ghost_model::schema::one_schema_reading();
+    ghost_model::schema::schemas_are_trees();
+}
+
+/// Whether a place, where there is one, is this table's.
+fn is_table(place: Option<usize>, table: usize) -> bool
+    ensures { result ≡ schema.is_table table place }
+{
+    match place {
+        None => false,
+        Some(other) => other == table,
+    }
+}
+
+/// Whether a column is a foreign key to a table.
+fn is_key_to(column: &Column, child: usize) -> bool
+    ensures { result ≡ schema.is_table child column.now.child }
+{
+    match column.child {
+        None => false,
+        Some(other) => other as usize == child,
+    }
+}
+
+/// Whether one of the columns is a foreign key to a table.
+fn has_key_to(columns: &[Column], child: usize) -> bool
+    ensures { result ≡ list_any (λ column. schema.is_table child column.child) columns.now }
+{
+    columns.iter().any(|column| is_key_to(column, child))
+}
+
+/// Whether a table holds a foreign key to another.
+fn holds_key_to(table: &Table, child: usize) -> bool
+    ensures { result ≡ not (schema.is_empty (schema.keys_to child (table_of table.now))) }
+{
+    has_key_to(&table.columns, child)
+}
+
+/// The place of the first table that holds a foreign key to another.
+fn place_of_holder(tables: &[Table], child: usize) -> Option<usize>
+    ensures { result ≡ position (λ holder. not (schema.is_empty (schema.keys_to child (table_of holder)))) tables.now }
+{
+    tables
+        .iter()
+        .position(|holder| holds_key_to(holder, child))
+}
+
 impl Schema {
     /// The number of tables.
     pub fn tables(&self) -> usize
         ensures count { result ≡ length self.now }
+        ensures few { result ≤ MAX_TABLES }
         ensures declared { schemas.IsDeclared self.now }
     {
         self.tables.len()
@@ -91,6 +144,26 @@ impl Schema {
             None => None,
             Some(found) => found.columns.get(column),
         }
+    }
+
+    /// The table that holds the foreign key to this one; the root has none.
+    pub fn parent(&self, table: usize) -> Option<usize>
+        ensures { result ≡ schema.parent self.now table }
+    {
+        place_of_holder(&self.tables, table)
+    }
+
+    /// The tables that a table's foreign keys name, ascending.
+    pub fn children(&self, table: usize) -> ArrayVec<usize, MAX_TABLES>
+        ensures { result.items ≡ schema.children self.now table }
+    {
+        let mut found = ArrayVec::new();
+        for at in 0..self.tables() {
+            if is_table(self.parent(at), table) {
+                found.push(at);
+            }
+        }
+        found
     }
 
     /// Whether a column is hidden; where there is no such column, it is not.
