@@ -1,2 +1,4 @@
 pub mod Views
 pub mod Schemas
+pub mod Marks
+pub mod Catalogs

@@ -4,6 +4,10 @@
 //! here takes memory.
 #![tactic(auto)]
 
+pub mod catalog;
 pub mod schema;
+pub mod tokens;
 
+pub use catalog::Catalog;
 pub use schema::{Column, Schema, Table};
+pub use tokens::{Cursor, Keyword, Mark, Token};

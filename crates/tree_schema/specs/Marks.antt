@@ -1,0 +1,68 @@
+-- What the tokens of the code stand for. A token is given by its sort, its offset and its bytes in the text.
+use Rattle.std.specs.Prelude.{◌≡◌, ℕ, Bool, true, false, List, [], ◌∷◌, length, take, drop}
+use Rattle.ghost_model.specs.Tokens as tokens
+use Rattle.tree_schema.specs.declared.tokens.Keyword.{Keyword}
+use Rattle.tree_schema.specs.declared.tokens.Keyword.TheVariants as keyword
+use Rattle.tree_schema.specs.declared.tokens.Mark.{Mark}
+use Rattle.tree_schema.specs.declared.tokens.Mark.TheVariants as mark
+use Rattle.tree_schema.specs.declared.tokens.Token.{Token}
+
+abbrev pub keyword_of : Keyword → tokens.Keyword
+keyword_of keyword.And = tokens.And
+keyword_of keyword.Between = tokens.Between
+keyword_of keyword.Char = tokens.Char
+keyword_of keyword.Create = tokens.Create
+keyword_of keyword.From = tokens.From
+keyword_of keyword.Hidden = tokens.Hidden
+keyword_of keyword.Integer = tokens.Integer
+keyword_of keyword.Key = tokens.Key
+keyword_of keyword.Primary = tokens.Primary
+keyword_of keyword.References = tokens.References
+keyword_of keyword.Select = tokens.Select
+keyword_of keyword.Table = tokens.Table
+keyword_of keyword.Where = tokens.Where
+
+-- a text literal alone, from its first `'` to its last
+abbrev pub literal_of : List ℕ → tokens.Symbol
+literal_of bytes = (tokens.quoted_from false [] 1 (drop 1 bytes)).symbol
+
+abbrev pub symbol_of : Mark → List ℕ → tokens.Symbol
+symbol_of (mark.Word word) bytes = tokens.Word (keyword_of word)
+symbol_of mark.Reserved bytes = tokens.Reserved
+symbol_of mark.Name bytes = tokens.Name (tokens.in_lower_case bytes)
+symbol_of mark.Digits bytes = tokens.Digits bytes
+symbol_of mark.Quoted bytes = literal_of bytes
+symbol_of mark.Open bytes = tokens.Open
+symbol_of mark.Closing bytes = tokens.Closing
+symbol_of mark.Comma bytes = tokens.Comma
+symbol_of mark.Point bytes = tokens.Point
+symbol_of mark.Semicolon bytes = tokens.Semicolon
+symbol_of mark.Star bytes = tokens.Star
+symbol_of mark.Plus bytes = tokens.Plus
+symbol_of mark.Minus bytes = tokens.Minus
+symbol_of mark.Equal bytes = tokens.Equal
+symbol_of mark.Unequal bytes = tokens.Unequal
+symbol_of mark.Less bytes = tokens.Less
+symbol_of mark.AtMost bytes = tokens.AtMost
+symbol_of mark.More bytes = tokens.More
+symbol_of mark.AtLeast bytes = tokens.AtLeast
+symbol_of mark.Bad bytes = tokens.Bad
+symbol_of mark.End bytes = tokens.End
+
+abbrev pub token_of : Token → tokens.Token
+token_of token = record { symbol = symbol_of token.mark token.bytes.now; at = token.at }
+
+-- the tokens left behind an offset, none where the end was given
+abbrev pub left_from : Bool → ℕ → List ℕ → List tokens.Token
+left_from true at rest = []
+left_from false at rest = tokens.tokens_from 0 at rest
+
+-- the token that begins a text
+abbrev pub read_at : List ℕ → tokens.Read
+read_at [] = tokens.read tokens.End 0
+read_at (b ∷ bs) = tokens.token_at b bs
+
+-- a sort and a length, of which the first bytes of a text are the token
+pub record Begins (text : List ℕ) (found : Mark) (len : ℕ) : Type 0 where
+  pub symbol : symbol_of found (take len text) ≡ (read_at text).symbol
+  pub bytes : len ≡ (read_at text).bytes

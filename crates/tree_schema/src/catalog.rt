@@ -1,0 +1,69 @@
+//! Catalogs: what both sides of the channel know beforehand.
+
+ghost use Rattle.std.specs.Prelude.{◌≡◌, ◌<◌, length, slice_get, IsTrue};
+ghost use Rattle.tree_schema.specs.Catalogs.{IsCatalog, are_counts, catalog_of};
+
+use arrayvec::ArrayVec;
+use crate::Schema;
+use ghost_base::limits::MAX_TABLES;
+use std::marker::Model;
+
+/// A schema, the number of rows of each table, and a generation.
+#[derive(Drop)]
+pub struct Catalog {
+    schema: Schema,
+    counts: ArrayVec<u32, MAX_TABLES>,
+    generation: u32,
+}
+
+impl Model for Catalog {
+    ghost use Rattle.ghost_model.specs.Channel as channel;
+
+    ghost Value = { channel.Catalog };
+
+    ghost use Rattle.tree_schema.specs.Catalogs.{IsCatalog, catalog_of};
+
+    ghost view = { λ cat. catalog_of cat.schema cat.counts.items cat.generation };
+
+    ghost invariant = { λ cat. IsCatalog (catalog_of cat.schema cat.counts.items cat.generation) };
+}
+
+impl Catalog {
+    /// A catalog of a schema whose tables have so many rows, at most 1,000,000 each.
+    pub fn of(schema: Schema, counts: ArrayVec<u32, MAX_TABLES>, generation: u32) -> Catalog
+        requires counts { length counts.items ≡ length schema }
+        requires rows { IsTrue (are_counts counts.items) }
+        requires generation { 0 < generation }
+        ensures { result ≡ catalog_of schema counts.items generation }
+    {
+        let _ = schema.tables();
+        Catalog {
+            schema,
+            counts,
+            generation,
+        }
+    }
+
+    /// Its schema.
+    pub fn schema(&self) -> &Schema
+        ensures value { result.now ≡ self.now.schema }
+        ensures catalog { IsCatalog self.now }
+    {
+        &self.schema
+    }
+
+    /// The number of rows of a table.
+    pub fn rows(&self, table: usize) -> Option<u32>
+        ensures { result ≡ slice_get self.now.counts table }
+    {
+        self.counts.get(table).copied()
+    }
+
+    /// Its generation, which is not 0.
+    pub fn generation(&self) -> u32
+        ensures value { result ≡ self.now.generation }
+        ensures used { 0 < result }
+    {
+        self.generation
+    }
+}
