@@ -1,3 +1,4 @@
 pub mod FirstPlaces
 pub mod Literals
 pub mod TokenSteps
+pub mod NoStep

@@ -4,7 +4,7 @@ use Rattle.std.proofs.lemmas.Bool.{ne_eqb, le-leb}
 use Rattle.std.proofs.lemmas.List.{drop_all}
 use Rattle.ghost_model.specs.Tokens.{Read, read, Quoted, Bad, quoted_from, is_printable}
 use Rattle.tree_schema.specs.declared.tokens.Mark.TheVariants as mark
-use Rattle.tree_schema.specs.Marks.{Begins}
+use Rattle.tree_schema.specs.Marks.{value_in, Begins}
 
 pub record Stands (text : List ℕ) (ended : Bool) (at : ℕ) : Type 0 where
   pub value : List ℕ
@@ -141,7 +141,7 @@ begins_literal text rest b zero value f g e =
 begins_literal text rest b (suc k) value f g e =
     subst (λ bytes. Begins bytes mark.Quoted (suc k)) (sym (f ∙ ap (λ c. c ∷ rest) g))
       (record {
-        symbol = ap (λ (r : Read). r.symbol) (alone rest false [] 1 k (suc k) value (omega arith) e ∙ sym e);
+        symbol = ap (λ (r : Read). Quoted (value_in r.symbol)) (alone rest false [] 1 k (suc k) value (omega arith) e) ∙ ap (λ (r : Read). r.symbol) (sym e);
         bytes = ap (λ (r : Read). r.bytes) (sym e);
       })
 

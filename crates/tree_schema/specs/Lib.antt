@@ -2,3 +2,4 @@ pub mod Views
 pub mod Schemas
 pub mod Marks
 pub mod Catalogs
+pub mod Drafts

@@ -1,37 +1,36 @@
 -- What the tokens of the code stand for. A token is given by its sort, its offset and its bytes in the text.
 use Rattle.std.specs.Prelude.{◌≡◌, ℕ, Bool, true, false, List, [], ◌∷◌, length, take, drop}
 use Rattle.ghost_model.specs.Tokens as tokens
-use Rattle.tree_schema.specs.declared.tokens.Keyword.{Keyword}
-use Rattle.tree_schema.specs.declared.tokens.Keyword.TheVariants as keyword
 use Rattle.tree_schema.specs.declared.tokens.Mark.{Mark}
 use Rattle.tree_schema.specs.declared.tokens.Mark.TheVariants as mark
 use Rattle.tree_schema.specs.declared.tokens.Token.{Token}
 
-abbrev pub keyword_of : Keyword → tokens.Keyword
-keyword_of keyword.And = tokens.And
-keyword_of keyword.Between = tokens.Between
-keyword_of keyword.Char = tokens.Char
-keyword_of keyword.Create = tokens.Create
-keyword_of keyword.From = tokens.From
-keyword_of keyword.Hidden = tokens.Hidden
-keyword_of keyword.Integer = tokens.Integer
-keyword_of keyword.Key = tokens.Key
-keyword_of keyword.Primary = tokens.Primary
-keyword_of keyword.References = tokens.References
-keyword_of keyword.Select = tokens.Select
-keyword_of keyword.Table = tokens.Table
-keyword_of keyword.Where = tokens.Where
+abbrev pub value_in : tokens.Symbol → List ℕ
+value_in (tokens.Quoted value) = value
+value_in _ = []
 
--- a text literal alone, from its first `'` to its last
-abbrev pub literal_of : List ℕ → tokens.Symbol
-literal_of bytes = (tokens.quoted_from false [] 1 (drop 1 bytes)).symbol
+-- the value of a text literal, from its first `'` to its last
+abbrev pub literal_of : List ℕ → List ℕ
+literal_of bytes = value_in (tokens.quoted_from false [] 1 (drop 1 bytes)).symbol
 
 abbrev pub symbol_of : Mark → List ℕ → tokens.Symbol
-symbol_of (mark.Word word) bytes = tokens.Word (keyword_of word)
+symbol_of mark.And bytes = tokens.Word tokens.And
+symbol_of mark.Between bytes = tokens.Word tokens.Between
+symbol_of mark.Char bytes = tokens.Word tokens.Char
+symbol_of mark.Create bytes = tokens.Word tokens.Create
+symbol_of mark.From bytes = tokens.Word tokens.From
+symbol_of mark.Hidden bytes = tokens.Word tokens.Hidden
+symbol_of mark.Integer bytes = tokens.Word tokens.Integer
+symbol_of mark.Key bytes = tokens.Word tokens.Key
+symbol_of mark.Primary bytes = tokens.Word tokens.Primary
+symbol_of mark.References bytes = tokens.Word tokens.References
+symbol_of mark.Select bytes = tokens.Word tokens.Select
+symbol_of mark.Table bytes = tokens.Word tokens.Table
+symbol_of mark.Where bytes = tokens.Word tokens.Where
 symbol_of mark.Reserved bytes = tokens.Reserved
 symbol_of mark.Name bytes = tokens.Name (tokens.in_lower_case bytes)
 symbol_of mark.Digits bytes = tokens.Digits bytes
-symbol_of mark.Quoted bytes = literal_of bytes
+symbol_of mark.Quoted bytes = tokens.Quoted (literal_of bytes)
 symbol_of mark.Open bytes = tokens.Open
 symbol_of mark.Closing bytes = tokens.Closing
 symbol_of mark.Comma bytes = tokens.Comma

@@ -6,8 +6,9 @@
 
 pub mod catalog;
 pub mod schema;
+mod syntax;
 pub mod tokens;
 
 pub use catalog::Catalog;
 pub use schema::{Column, Schema, Table};
-pub use tokens::{Cursor, Keyword, Mark, Token};
+pub use tokens::{Cursor, Mark, Token};

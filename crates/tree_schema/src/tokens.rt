@@ -7,9 +7,10 @@ ghost use Rattle.tree_schema.specs.Marks.{symbol_of, token_of, Begins};
 
 use std::marker::Model;
 
-/// The reserved words that the grammars use. INT is another spelling of INTEGER.
+/// The sort of a token. INT is another spelling of INTEGER, and `Reserved` are the reserved words that the grammars do not
+/// use yet.
 #[derive(Clone, Copy, Debug, PartialEq, Eq)]
-pub enum Keyword {
+pub enum Mark {
     And,
     Between,
     Char,
@@ -23,12 +24,6 @@ pub enum Keyword {
     Select,
     Table,
     Where,
-}
-
-/// The sort of a token.
-#[derive(Clone, Copy, Debug, PartialEq, Eq)]
-pub enum Mark {
-    Word(Keyword),
     Reserved,
     Name,
     Digits,
@@ -129,7 +124,7 @@ fn digits_len(text: &[u8]) -> usize
 }
 
 /// Whether bytes are a word, without case.
-fn is_word(bytes: &[u8], word: &[u8]) -> bool
+pub(crate) fn is_word(bytes: &[u8], word: &[u8]) -> bool
     ensures { result ≡ bytes_eq (tokens.in_lower_case bytes.now) (tokens.in_lower_case word.now) }
 {
     bytes.eq_ignore_ascii_case(word)
@@ -157,33 +152,33 @@ fn mark_of_word(word: &[u8]) -> Mark
     ensures { symbol_of result word.now ≡ tokens.symbol_of_word (tokens.in_lower_case word.now) }
 {
     if is_word(word, b"and") {
-        Mark::Word(Keyword::And)
+        Mark::And
     } else if is_word(word, b"between") {
-        Mark::Word(Keyword::Between)
+        Mark::Between
     } else if is_word(word, b"char") {
-        Mark::Word(Keyword::Char)
+        Mark::Char
     } else if is_word(word, b"create") {
-        Mark::Word(Keyword::Create)
+        Mark::Create
     } else if is_word(word, b"from") {
-        Mark::Word(Keyword::From)
+        Mark::From
     } else if is_word(word, b"hidden") {
-        Mark::Word(Keyword::Hidden)
+        Mark::Hidden
     } else if is_word(word, b"int") {
-        Mark::Word(Keyword::Integer)
+        Mark::Integer
     } else if is_word(word, b"integer") {
-        Mark::Word(Keyword::Integer)
+        Mark::Integer
     } else if is_word(word, b"key") {
-        Mark::Word(Keyword::Key)
+        Mark::Key
     } else if is_word(word, b"primary") {
-        Mark::Word(Keyword::Primary)
+        Mark::Primary
     } else if is_word(word, b"references") {
-        Mark::Word(Keyword::References)
+        Mark::References
     } else if is_word(word, b"select") {
-        Mark::Word(Keyword::Select)
+        Mark::Select
     } else if is_word(word, b"table") {
-        Mark::Word(Keyword::Table)
+        Mark::Table
     } else if is_word(word, b"where") {
-        Mark::Word(Keyword::Where)
+        Mark::Where
     } else if is_reserved(word) {
         Mark::Reserved
     } else {

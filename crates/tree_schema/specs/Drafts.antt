@@ -1,0 +1,123 @@
+-- The tables of a text as the code keeps them: names and digits by their bytes in the text, and of tables and columns
+-- only as many as a schema may have. A table that has more, and a text that has more tables, is only known to break the
+-- limits.
+use Rattle.std.specs.Prelude.{◌≡◌, ℕ, Bool, true, false, List, [], ◌∷◌, ◌++◌, map, Option, Some, None, Result, Ok, Err, option_map}
+use Rattle.ghost_model.specs.Tokens as tokens
+use Rattle.ghost_model.specs.Tokens.{in_lower_case}
+use Rattle.ghost_model.specs.SchemaGrammar as grammar
+use Rattle.ghost_model.specs.SchemaPlaces as places
+use Rattle.ghost_model.specs.SchemaFaults.{is_table_over, is_over}
+use Rattle.tree_schema.specs.declared.syntax.ReferenceDraft.{ReferenceDraft}
+use Rattle.tree_schema.specs.declared.syntax.ColumnDraft.{ColumnDraft}
+use Rattle.tree_schema.specs.declared.syntax.ColumnDraft.TheVariants as column
+use Rattle.tree_schema.specs.declared.syntax.TableDraft.{TableDraft}
+use Rattle.tree_schema.specs.declared.syntax.InColumn.{InColumn}
+use Rattle.tree_schema.specs.declared.syntax.InColumn.TheVariants as within
+use Rattle.tree_schema.specs.declared.syntax.Move.{Move}
+use Rattle.tree_schema.specs.declared.syntax.Move.TheVariants as move
+use Rattle.tree_schema.specs.declared.syntax.Reader.{Reader}
+use Rattle.tree_schema.specs.declared.tokens.Token.{Token}
+use Rattle.tree_schema.specs.Marks.{token_of}
+
+abbrev pub reference_of : ReferenceDraft → grammar.Reference
+reference_of reference = grammar.To (in_lower_case reference.table.now) reference.says_id
+
+abbrev pub column_of : ColumnDraft → grammar.ColumnText
+column_of (column.Chars name digits hidden) = grammar.CharColumn (in_lower_case name.now) digits.now hidden
+column_of (column.Integer name primary reference hidden) =
+    grammar.IntegerColumn (in_lower_case name.now) primary (option_map reference_of reference) hidden
+
+abbrev pub table_of : TableDraft → grammar.TableText
+table_of table =
+    record { name = in_lower_case table.name.now; first = column_of table.first; others = map column_of table.others.items }
+
+abbrev pub in_column_of : InColumn → places.InColumn
+in_column_of (within.Named name) = places.Named (in_lower_case name.now)
+in_column_of (within.AfterChar name) = places.AfterChar (in_lower_case name.now)
+in_column_of (within.AfterOpen name) = places.AfterOpen (in_lower_case name.now)
+in_column_of (within.AfterLength name digits) = places.AfterLength (in_lower_case name.now) digits.now
+in_column_of (within.AfterPrimary name) = places.AfterPrimary (in_lower_case name.now)
+in_column_of (within.AfterReferences name primary) = places.AfterReferences (in_lower_case name.now) primary
+in_column_of (within.OpensId name primary table) =
+    places.OpensId (in_lower_case name.now) primary (in_lower_case table.now)
+in_column_of (within.AfterId name primary table) =
+    places.AfterId (in_lower_case name.now) primary (in_lower_case table.now)
+in_column_of (within.Whole column) = places.Whole (column_of column)
+
+-- where a column has ended: at a comma another one follows, else the columns are over
+abbrev pub after_column : grammar.SchemaText → List ℕ → List grammar.ColumnText → grammar.ColumnText → Bool → places.Place
+after_column tables name columns last true = places.WantsColumn tables name (columns ++ last ∷ [])
+after_column tables name columns last false = places.AfterColumns tables name columns last
+
+-- the tree that is read from a place on, or the fault
+abbrev pub read_from : places.Place → Reader → Result grammar.SchemaText ℕ
+read_from place reader = places.syntax_from (Some place) reader.at reader.cursor
+
+-- a token was taken, or there was none
+pub record Takes (before : Reader) (token : Token) (after : Reader) : Type 0 where
+  pub tokens : before.cursor ≡ token_of token ∷ after.cursor
+  pub place : after.at ≡ token.at
+
+pub record IsOut (before : Reader) (at : ℕ) : Type 0 where
+  pub none : before.cursor ≡ []
+  pub place : at ≡ before.at
+
+-- where a token leads within the columns of a table
+abbrev pub place_of : grammar.SchemaText → List ℕ → List grammar.ColumnText → Move → Option places.Place
+place_of tables name columns (move.Goes last) = Some (places.Within tables name columns (in_column_of last))
+place_of tables name columns (move.Ends column more) = Some (after_column tables name columns (column_of column) more)
+place_of tables name columns move.Stops = None
+
+abbrev pub ReadsColumn : Reader → List ℕ → Reader → ColumnDraft → Bool → Type 0
+ReadsColumn before named after column more =
+    (tables : grammar.SchemaText) (name : List ℕ) (columns : List grammar.ColumnText)
+    → read_from (places.Within tables name columns (places.Named named)) before ≡ read_from (after_column tables name columns (column_of column) more) after
+
+abbrev pub StopsColumn : Reader → List ℕ → ℕ → Type 0
+StopsColumn before named at =
+    (tables : grammar.SchemaText) (name : List ℕ) (columns : List grammar.ColumnText)
+    → read_from (places.Within tables name columns (places.Named named)) before ≡ Err at
+
+abbrev pub ReadsHeading : Reader → Reader → List ℕ → Type 0
+ReadsHeading before after name =
+    (tables : grammar.SchemaText) → read_from (places.AfterCreate tables) before ≡ read_from (places.WantsColumn tables name []) after
+
+abbrev pub StopsTable : Reader → ℕ → Type 0
+StopsTable before at = (tables : grammar.SchemaText) → read_from (places.AfterCreate tables) before ≡ Err at
+
+abbrev pub ReadsName : Reader → Reader → List ℕ → Type 0
+ReadsName before after named =
+    (tables : grammar.SchemaText) (name : List ℕ) (columns : List grammar.ColumnText)
+    → read_from (places.WantsColumn tables name columns) before ≡ read_from (places.Within tables name columns (places.Named named)) after
+
+abbrev pub StopsName : Reader → ℕ → Type 0
+StopsName before at =
+    (tables : grammar.SchemaText) (name : List ℕ) (columns : List grammar.ColumnText) → read_from (places.WantsColumn tables name columns) before ≡ Err at
+
+abbrev pub ReadsNext : Reader → Reader → ColumnDraft → Bool → Type 0
+ReadsNext before after column more =
+    (tables : grammar.SchemaText) (name : List ℕ) (columns : List grammar.ColumnText)
+    → read_from (places.WantsColumn tables name columns) before ≡ read_from (after_column tables name columns (column_of column) more) after
+
+abbrev pub ReadsEnd : Reader → Reader → Type 0
+ReadsEnd before after =
+    (tables : grammar.SchemaText) (name : List ℕ) (columns : List grammar.ColumnText) (last : grammar.ColumnText)
+    → read_from (places.AfterColumns tables name columns last) before
+        ≡ read_from (places.Between (tables ++ places.table_from name columns last ∷ [])) after
+
+abbrev pub StopsEnd : Reader → ℕ → Type 0
+StopsEnd before at =
+    (tables : grammar.SchemaText) (name : List ℕ) (columns : List grammar.ColumnText) (last : grammar.ColumnText)
+    → read_from (places.AfterColumns tables name columns last) before ≡ Err at
+
+-- a table of the text, and what is kept of it
+abbrev pub KeepsTable : Option TableDraft → grammar.TableText → Type 0
+KeepsTable None table = is_table_over table ≡ true
+KeepsTable (Some draft) table = table_of draft ≡ table
+
+pub record ReadsTable (before after : Reader) (kept : Option TableDraft) : Type 0 where
+  pub table : grammar.TableText
+  pub leads :
+      (tables : grammar.SchemaText)
+      → read_from (places.AfterCreate tables) before ≡ read_from (places.Between (tables ++ table ∷ [])) after
+  pub keeps : KeepsTable kept table

@@ -1,0 +1,260 @@
+//! The syntax of the texts that declare tables.
+
+ghost use Rattle.std.specs.Prelude.{◌≡◌, ◌≢◌, ℕ, ◌∷◌, [], Bool, true, false, List, IfOk, IfErr, OnOk, option_map};
+ghost use Rattle.ghost_model.specs.Tokens as tokens;
+ghost use Rattle.ghost_model.specs.SchemaGrammar as grammar;
+ghost use Rattle.ghost_model.specs.SchemaPlaces as places;
+ghost use Rattle.tree_schema.specs.Marks.{symbol_of, token_of};
+ghost use Rattle.tree_schema.specs.Drafts.{reference_of, column_of, in_column_of, place_of, Takes, IsOut, ReadsColumn, StopsColumn, ReadsHeading, StopsTable, ReadsName, StopsName, ReadsNext, ReadsEnd, StopsEnd, ReadsTable};
+
+use arrayvec::ArrayVec;
+use crate::tokens::{Cursor, Mark, Token, is_word};
+use ghost_base::limits::MAX_TABLES;
+
+/// REFERENCES: the name of a table, and whether `( id )` follows it.
+#[derive(Clone, Copy)]
+pub struct ReferenceDraft<'a> {
+    pub table: &'a [u8],
+    pub says_id: bool,
+}
+
+/// A column as it is written.
+#[derive(Clone, Copy)]
+pub enum ColumnDraft<'a> {
+    Chars(&'a [u8], &'a [u8], bool),
+    Integer(&'a [u8], bool, Option<ReferenceDraft<'a>>, bool),
+}
+
+/// A table as it is written.
+#[derive(Drop)]
+pub struct TableDraft<'a> {
+    pub name: &'a [u8],
+    pub first: ColumnDraft<'a>,
+    pub others: ArrayVec<ColumnDraft<'a>, 23>,
+}
+
+/// A place within a column.
+#[derive(Clone, Copy)]
+enum InColumn<'a> {
+    Named(&'a [u8]),
+    AfterChar(&'a [u8]),
+    AfterOpen(&'a [u8]),
+    AfterLength(&'a [u8], &'a [u8]),
+    AfterPrimary(&'a [u8]),
+    AfterReferences(&'a [u8], bool),
+    OpensId(&'a [u8], bool, &'a [u8]),
+    AfterId(&'a [u8], bool, &'a [u8]),
+    Whole(ColumnDraft<'a>),
+}
+
+/// What a token does within a table's columns: it goes on in a column, it ends it, or it stands in a wrong place.
+#[derive(Clone, Copy)]
+enum Move<'a> {
+    Goes(InColumn<'a>),
+    Ends(ColumnDraft<'a>, bool),
+    Stops,
+}
+
+/// The tokens left of a text, and the offset of the one before.
+struct Reader<'a> {
+    cursor: Cursor<'a>,
+    at: usize,
+}
+
+/// Where a token leads after INTEGER and what was written after it.
+fn after_integer<'a>(name: &'a [u8], primary: bool, reference: Option<ReferenceDraft<'a>>, token: Token<'a>) -> Option<InColumn<'a>>
+    ensures { option_map in_column_of result ≡ places.after_integer (tokens.in_lower_case name.now) primary (option_map reference_of reference.entry) (symbol_of token.entry.mark token.entry.bytes.now) }
+{
+    match token.mark {
+        Mark::Hidden => Some(InColumn::Whole(ColumnDraft::Integer(name, primary, reference, true))),
+        Mark::References => match reference {
+            None => Some(InColumn::AfterReferences(name, primary)),
+            Some(_) => None,
+        },
+        Mark::Primary => match reference {
+            None => if primary { None } else { Some(InColumn::AfterPrimary(name)) },
+            Some(_) => None,
+        },
+        Mark::Open => match reference {
+            Some(to) => if to.says_id { None } else { Some(InColumn::OpensId(name, primary, to.table)) },
+            None => None,
+        },
+        _ => None,
+    }
+}
+
+/// Where a token leads after what may stand as a column.
+fn after_column<'a>(column: ColumnDraft<'a>, token: Token<'a>) -> Option<InColumn<'a>>
+    ensures { option_map in_column_of result ≡ places.after_column (column_of column.entry) (symbol_of token.entry.mark token.entry.bytes.now) }
+{
+    match column {
+        ColumnDraft::Chars(name, digits, hidden) => {
+            if hidden {
+                return None;
+            }
+            match token.mark {
+                Mark::Hidden => Some(InColumn::Whole(ColumnDraft::Chars(name, digits, true))),
+                _ => None,
+            }
+        }
+        ColumnDraft::Integer(name, primary, reference, hidden) => {
+            if hidden {
+                return None;
+            }
+            after_integer(name, primary, reference, token)
+        }
+    }
+}
+
+/// Where a token leads within a column.
+fn step_in<'a>(last: InColumn<'a>, token: Token<'a>) -> Option<InColumn<'a>>
+    ensures { option_map in_column_of result ≡ places.step_in (in_column_of last.entry) (symbol_of token.entry.mark token.entry.bytes.now) }
+{
+    match last {
+        InColumn::Named(name) => match token.mark {
+            Mark::Char => Some(InColumn::AfterChar(name)),
+            Mark::Integer => Some(InColumn::Whole(ColumnDraft::Integer(name, false, None, false))),
+            _ => None,
+        },
+        InColumn::AfterChar(name) => match token.mark {
+            Mark::Open => Some(InColumn::AfterOpen(name)),
+            _ => None,
+        },
+        InColumn::AfterOpen(name) => match token.mark {
+            Mark::Digits => Some(InColumn::AfterLength(name, token.bytes)),
+            _ => None,
+        },
+        InColumn::AfterLength(name, digits) => match token.mark {
+            Mark::Closing => Some(InColumn::Whole(ColumnDraft::Chars(name, digits, false))),
+            _ => None,
+        },
+        InColumn::AfterPrimary(name) => match token.mark {
+            Mark::Key => Some(InColumn::Whole(ColumnDraft::Integer(name, true, None, false))),
+            _ => None,
+        },
+        InColumn::AfterReferences(name, primary) => match token.mark {
+            Mark::Name => Some(InColumn::Whole(ColumnDraft::Integer(name, primary, Some(ReferenceDraft { table: token.bytes, says_id: false }), false))),
+            _ => None,
+        },
+        InColumn::OpensId(name, primary, table) => match token.mark {
+            Mark::Name => if is_word(token.bytes, b"id") { Some(InColumn::AfterId(name, primary, table)) } else { None },
+            _ => None,
+        },
+        InColumn::AfterId(name, primary, table) => match token.mark {
+            Mark::Closing => Some(InColumn::Whole(ColumnDraft::Integer(name, primary, Some(ReferenceDraft { table, says_id: true }), false))),
+            _ => None,
+        },
+        InColumn::Whole(column) => after_column(column, token),
+    }
+}
+
+/// Where a token leads, or that it leads nowhere.
+fn goes<'a>(next: Option<InColumn<'a>>) -> Move<'a>
+    ensures { (tables : grammar.SchemaText) (name : List ℕ) (columns : List grammar.ColumnText) → place_of tables name columns result ≡ option_map (places.Within tables name columns) (option_map in_column_of next.entry) }
+{
+    match next {
+        Some(last) => Move::Goes(last),
+        None => Move::Stops,
+    }
+}
+
+/// What a token does within a table's columns.
+fn step_within<'a>(last: InColumn<'a>, token: Token<'a>) -> Move<'a>
+    ensures { (tables : grammar.SchemaText) (name : List ℕ) (columns : List grammar.ColumnText) → place_of tables name columns result ≡ places.step_within tables name columns (in_column_of last.entry) (symbol_of token.entry.mark token.entry.bytes.now) }
+{
+    match last {
+        InColumn::Whole(column) => match token.mark {
+            Mark::Comma => Move::Ends(column, true),
+            Mark::Closing => Move::Ends(column, false),
+            _ => goes(after_column(column, token)),
+        },
+        _ => goes(step_in(last, token)),
+    }
+}
+
+impl<'a> Reader<'a> {
+    /// The next token. Behind the end there is none, and the fault is at the end.
+    fn next(&mut self) -> Result<Token<'a>, usize>
+        ensures read { IfOk result (λ token. Takes self.old token self.new) }
+        ensures none { IfErr result (λ at. IsOut self.old at) }
+    {
+        match self.cursor.next() {
+            Some(token) => {
+                self.at = token.at;
+                Ok(token)
+            }
+            None => Err(self.at),
+        }
+    }
+
+    /// The rest of a column whose name was read, and whether a comma follows it.
+    fn column(&mut self, name: &'a [u8]) -> Result<(ColumnDraft<'a>, bool), usize>
+        ensures read { IfOk result (λ found. ReadsColumn self.old (tokens.in_lower_case name.now) self.new found.0 found.1) }
+        ensures stops { IfErr result (λ at. StopsColumn self.old (tokens.in_lower_case name.now) at) }
+    {
+        let mut last = InColumn::Named(name);
+        loop {
+            let token = self.next()?;
+            match step_within(last, token) {
+                Move::Ends(column, more) => return Ok((column, more)),
+                Move::Goes(next) => last = next,
+                Move::Stops => return Err(token.at),
+            }
+        }
+    }
+
+    /// TABLE, a name, and the parenthesis before the columns.
+    fn heading(&mut self) -> Result<&'a [u8], usize>
+        ensures read { IfOk result (λ name. ReadsHeading self.old self.new (tokens.in_lower_case name.now)) }
+        ensures stops { IfErr result (λ at. StopsTable self.old at) }
+    {
+        let word = self.next()?;
+        match word.mark {
+            Mark::Table => {}
+            _ => return Err(word.at),
+        }
+        let name = self.next()?;
+        match name.mark {
+            Mark::Name => {}
+            _ => return Err(name.at),
+        }
+        let open = self.next()?;
+        match open.mark {
+            Mark::Open => Ok(name.bytes),
+            _ => Err(open.at),
+        }
+    }
+
+    /// The name of a column.
+    fn column_name(&mut self) -> Result<&'a [u8], usize>
+        ensures read { IfOk result (λ name. ReadsName self.old self.new (tokens.in_lower_case name.now)) }
+        ensures stops { IfErr result (λ at. StopsName self.old at) }
+    {
+        let name = self.next()?;
+        match name.mark {
+            Mark::Name => Ok(name.bytes),
+            _ => Err(name.at),
+        }
+    }
+
+    /// A column, and whether a comma follows it.
+    fn next_column(&mut self) -> Result<(ColumnDraft<'a>, bool), usize>
+        ensures read { IfOk result (λ found. ReadsNext self.old self.new found.0 found.1) }
+        ensures stops { IfErr result (λ at. StopsName self.old at) }
+    {
+        let name = self.column_name()?;
+        self.column(name)
+    }
+
+    /// The semicolon behind a table.
+    fn semicolon(&mut self) -> Result<(), usize>
+        ensures read { OnOk result (ReadsEnd self.old self.new) }
+        ensures stops { IfErr result (λ at. StopsEnd self.old at) }
+    {
+        let last = self.next()?;
+        match last.mark {
+            Mark::Semicolon => Ok(()),
+            _ => Err(last.at),
+        }
+    }
+}
