@@ -2,3 +2,4 @@ pub mod FirstPlaces
 pub mod Literals
 pub mod TokenSteps
 pub mod NoStep
+pub mod ReaderSteps

@@ -58,9 +58,9 @@ pub record Takes (before : Reader) (token : Token) (after : Reader) : Type 0 whe
   pub tokens : before.cursor ≡ token_of token ∷ after.cursor
   pub place : after.at ≡ token.at
 
-pub record IsOut (before : Reader) (at : ℕ) : Type 0 where
+pub record IsOut (before after : Reader) : Type 0 where
   pub none : before.cursor ≡ []
-  pub place : at ≡ before.at
+  pub place : after.at ≡ before.at
 
 -- where a token leads within the columns of a table
 abbrev pub place_of : grammar.SchemaText → List ℕ → List grammar.ColumnText → Move → Option places.Place
@@ -78,12 +78,18 @@ StopsColumn before named at =
     (tables : grammar.SchemaText) (name : List ℕ) (columns : List grammar.ColumnText)
     → read_from (places.Within tables name columns (places.Named named)) before ≡ Err at
 
-abbrev pub ReadsHeading : Reader → Reader → List ℕ → Type 0
-ReadsHeading before after name =
-    (tables : grammar.SchemaText) → read_from (places.AfterCreate tables) before ≡ read_from (places.WantsColumn tables name []) after
+-- one place leads to another, and the text breaks the grammar behind a place
+abbrev pub Leads : (from to : grammar.SchemaText → places.Place) → Reader → Reader → Type 0
+Leads from to before after = (tables : grammar.SchemaText) → read_from (from tables) before ≡ read_from (to tables) after
 
-abbrev pub StopsTable : Reader → ℕ → Type 0
-StopsTable before at = (tables : grammar.SchemaText) → read_from (places.AfterCreate tables) before ≡ Err at
+abbrev pub Stops : (from : grammar.SchemaText → places.Place) → Reader → ℕ → Type 0
+Stops from before at = (tables : grammar.SchemaText) → read_from (from tables) before ≡ Err at
+
+abbrev pub named : List ℕ → grammar.SchemaText → places.Place
+named name tables = places.AfterName tables name
+
+abbrev pub opened : List ℕ → grammar.SchemaText → places.Place
+opened name tables = places.WantsColumn tables name []
 
 abbrev pub ReadsName : Reader → Reader → List ℕ → Type 0
 ReadsName before after named =

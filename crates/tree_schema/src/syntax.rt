@@ -1,11 +1,11 @@
 //! The syntax of the texts that declare tables.
 
-ghost use Rattle.std.specs.Prelude.{◌≡◌, ◌≢◌, ℕ, ◌∷◌, [], Bool, true, false, List, IfOk, IfErr, OnOk, option_map};
+ghost use Rattle.std.specs.Prelude.{◌≡◌, ◌≢◌, ℕ, ◌∷◌, [], Bool, true, false, List, IfOk, IfErr, OnOk, IfSome, IfNone, option_map};
 ghost use Rattle.ghost_model.specs.Tokens as tokens;
 ghost use Rattle.ghost_model.specs.SchemaGrammar as grammar;
 ghost use Rattle.ghost_model.specs.SchemaPlaces as places;
 ghost use Rattle.tree_schema.specs.Marks.{symbol_of, token_of};
-ghost use Rattle.tree_schema.specs.Drafts.{reference_of, column_of, in_column_of, place_of, Takes, IsOut, ReadsColumn, StopsColumn, ReadsHeading, StopsTable, ReadsName, StopsName, ReadsNext, ReadsEnd, StopsEnd, ReadsTable};
+ghost use Rattle.tree_schema.specs.Drafts.{reference_of, column_of, in_column_of, place_of, Takes, IsOut, ReadsColumn, StopsColumn, Leads, Stops, named, opened, ReadsName, StopsName, ReadsNext, ReadsEnd, StopsEnd, ReadsTable};
 
 use arrayvec::ArrayVec;
 use crate::tokens::{Cursor, Mark, Token, is_word};
@@ -173,17 +173,17 @@ fn step_within<'a>(last: InColumn<'a>, token: Token<'a>) -> Move<'a>
 }
 
 impl<'a> Reader<'a> {
-    /// The next token. Behind the end there is none, and the fault is at the end.
-    fn next(&mut self) -> Result<Token<'a>, usize>
-        ensures read { IfOk result (λ token. Takes self.old token self.new) }
-        ensures none { IfErr result (λ at. IsOut self.old at) }
+    /// The next token; behind the end there is none.
+    fn next(&mut self) -> Option<Token<'a>>
+        ensures read { IfSome result (λ token. Takes self.old token self.new) }
+        ensures none { IfNone result (IsOut self.old self.new) }
     {
         match self.cursor.next() {
             Some(token) => {
                 self.at = token.at;
-                Ok(token)
+                Some(token)
             }
-            None => Err(self.at),
+            None => None,
         }
     }
 
@@ -194,7 +194,9 @@ impl<'a> Reader<'a> {
     {
         let mut last = InColumn::Named(name);
         loop {
-            let token = self.next()?;
+            let Some(token) = self.next() else {
+                return Err(self.at);
+            };
             match step_within(last, token) {
                 Move::Ends(column, more) => return Ok((column, more)),
                 Move::Goes(next) => last = next,
@@ -203,25 +205,45 @@ impl<'a> Reader<'a> {
         }
     }
 
-    /// TABLE, a name, and the parenthesis before the columns.
-    fn heading(&mut self) -> Result<&'a [u8], usize>
-        ensures read { IfOk result (λ name. ReadsHeading self.old self.new (tokens.in_lower_case name.now)) }
-        ensures stops { IfErr result (λ at. StopsTable self.old at) }
+    /// TABLE, behind CREATE.
+    fn table_word(&mut self) -> Result<(), usize>
+        ensures read { OnOk result (Leads places.AfterCreate places.AfterTable self.old self.new) }
+        ensures stops { IfErr result (λ at. Stops places.AfterCreate self.old at) }
     {
-        let word = self.next()?;
-        match word.mark {
-            Mark::Table => {}
-            _ => return Err(word.at),
+        let Some(token) = self.next() else {
+            return Err(self.at);
+        };
+        match token.mark {
+            Mark::Table => Ok(()),
+            _ => Err(token.at),
         }
-        let name = self.next()?;
-        match name.mark {
-            Mark::Name => {}
-            _ => return Err(name.at),
+    }
+
+    /// The name of a table.
+    fn table_name(&mut self) -> Result<&'a [u8], usize>
+        ensures read { IfOk result (λ name. Leads places.AfterTable (named (tokens.in_lower_case name.now)) self.old self.new) }
+        ensures stops { IfErr result (λ at. Stops places.AfterTable self.old at) }
+    {
+        let Some(token) = self.next() else {
+            return Err(self.at);
+        };
+        match token.mark {
+            Mark::Name => Ok(token.bytes),
+            _ => Err(token.at),
         }
-        let open = self.next()?;
-        match open.mark {
-            Mark::Open => Ok(name.bytes),
-            _ => Err(open.at),
+    }
+
+    /// The parenthesis before the columns.
+    fn parenthesis(&mut self) -> Result<(), usize>
+        ensures read { OnOk result ((name : List ℕ) → Leads (named name) (opened name) self.old self.new) }
+        ensures stops { IfErr result (λ at. (name : List ℕ) → Stops (named name) self.old at) }
+    {
+        let Some(token) = self.next() else {
+            return Err(self.at);
+        };
+        match token.mark {
+            Mark::Open => Ok(()),
+            _ => Err(token.at),
         }
     }
 
@@ -230,20 +252,13 @@ impl<'a> Reader<'a> {
         ensures read { IfOk result (λ name. ReadsName self.old self.new (tokens.in_lower_case name.now)) }
         ensures stops { IfErr result (λ at. StopsName self.old at) }
     {
-        let name = self.next()?;
-        match name.mark {
-            Mark::Name => Ok(name.bytes),
-            _ => Err(name.at),
+        let Some(token) = self.next() else {
+            return Err(self.at);
+        };
+        match token.mark {
+            Mark::Name => Ok(token.bytes),
+            _ => Err(token.at),
         }
-    }
-
-    /// A column, and whether a comma follows it.
-    fn next_column(&mut self) -> Result<(ColumnDraft<'a>, bool), usize>
-        ensures read { IfOk result (λ found. ReadsNext self.old self.new found.0 found.1) }
-        ensures stops { IfErr result (λ at. StopsName self.old at) }
-    {
-        let name = self.column_name()?;
-        self.column(name)
     }
 
     /// The semicolon behind a table.
@@ -251,10 +266,12 @@ impl<'a> Reader<'a> {
         ensures read { OnOk result (ReadsEnd self.old self.new) }
         ensures stops { IfErr result (λ at. StopsEnd self.old at) }
     {
-        let last = self.next()?;
-        match last.mark {
+        let Some(token) = self.next() else {
+            return Err(self.at);
+        };
+        match token.mark {
             Mark::Semicolon => Ok(()),
-            _ => Err(last.at),
+            _ => Err(token.at),
         }
     }
 }

@@ -1,0 +1,16 @@
+use Rattle.std.proofs.Common.{refl}
+use Rattle.ghost_model.specs.SchemaPlaces as places
+use Rattle.tree_schema.proofs.ReaderSteps.{by_mark, stops, is_out, no_table}
+use Rattle.tree_schema.proofs.syntax.Reader.table_word.Goals as goal
+
+pub returns-in_default-clause-stops : goal.returns-in_default-clause-stops
+returns-in_default-clause-stops c = λ tables. is_out (places.AfterCreate tables) _ _ c.in_default.ensures.none refl
+
+pub returns-in-Table-clause-read : goal.returns-in-Table-clause-read
+returns-in-Table-clause-read c = λ tables. by_mark (places.AfterCreate tables) _ _ _ _ _ c.in-Some.ensures.read c.in-Table.is refl
+
+pub returns-in_default-mark : goal.returns-in_default-mark
+returns-in_default-mark c = record {
+    read = tt;
+    stops = λ tables. stops (places.AfterCreate tables) _ _ _ c.in-Some.ensures.read (no_table tables _ _ c.in_default-mark.not-Table);
+  }
