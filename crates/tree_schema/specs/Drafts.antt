@@ -1,7 +1,8 @@
 -- The tables of a text as the code keeps them: names and digits by their bytes in the text, and of tables and columns
 -- only as many as a schema may have. A table that has more, and a text that has more tables, is only known to break the
 -- limits.
-use Rattle.std.specs.Prelude.{◌≡◌, ℕ, Bool, true, false, List, [], ◌∷◌, ◌++◌, map, Option, Some, None, Result, Ok, Err, option_map}
+use Rattle.std.specs.Prelude.{◌≡◌, ℕ, ◌<◌, length, Bool, true, false, List, [], ◌∷◌, ◌++◌, map, Option, Some, None, Result, Ok, Err, option_map}
+use Rattle.arrayvec.specs.ArrayVec.{ArrayVec}
 use Rattle.ghost_model.specs.Tokens as tokens
 use Rattle.ghost_model.specs.Tokens.{in_lower_case}
 use Rattle.ghost_model.specs.SchemaGrammar as grammar
@@ -115,6 +116,36 @@ abbrev pub StopsEnd : Reader → ℕ → Type 0
 StopsEnd before at =
     (tables : grammar.SchemaText) (name : List ℕ) (columns : List grammar.ColumnText) (last : grammar.ColumnText)
     → read_from (places.AfterColumns tables name columns last) before ≡ Err at
+
+-- the columns of a table but the last, and the last
+abbrev pub before_last : grammar.ColumnText → List grammar.ColumnText → List grammar.ColumnText
+before_last first [] = []
+before_last first (second ∷ others) = first ∷ before_last second others
+
+abbrev pub last_of : grammar.ColumnText → List grammar.ColumnText → grammar.ColumnText
+last_of first [] = first
+last_of first (second ∷ others) = last_of second others
+
+-- the place behind a table's columns, of which more follow or not
+abbrev pub behind : grammar.SchemaText → List ℕ → grammar.ColumnText → List grammar.ColumnText → Bool → places.Place
+behind tables name first others true = places.WantsColumn tables name (first ∷ others)
+behind tables name first others false = places.AfterColumns tables name (before_last first others) (last_of first others)
+
+abbrev pub KeepsOthers : Option (ArrayVec ColumnDraft) → List grammar.ColumnText → Type 0
+KeepsOthers None others = 23 < length others
+KeepsOthers (Some kept) others = map column_of kept.items ≡ others
+
+-- the other columns of a table, and what is kept of them
+pub record ReadsOthers (before : Reader) (more : Bool) (after : Reader) (kept : Option (ArrayVec ColumnDraft)) : Type 0 where
+  pub others : List grammar.ColumnText
+  pub leads :
+      (tables : grammar.SchemaText) (name : List ℕ) (first : grammar.ColumnText)
+      → read_from (behind tables name first [] more) before ≡ read_from (behind tables name first others false) after
+  pub keeps : KeepsOthers kept others
+
+abbrev pub StopsOthers : Reader → Bool → ℕ → Type 0
+StopsOthers before more at =
+    (tables : grammar.SchemaText) (name : List ℕ) (first : grammar.ColumnText) → read_from (behind tables name first [] more) before ≡ Err at
 
 -- a table of the text, and what is kept of it
 abbrev pub KeepsTable : Option TableDraft → grammar.TableText → Type 0

@@ -1,11 +1,11 @@
 //! The syntax of the texts that declare tables.
 
-ghost use Rattle.std.specs.Prelude.{◌≡◌, ◌≢◌, ℕ, ◌∷◌, [], Bool, true, false, List, IfOk, IfErr, OnOk, IfSome, IfNone, option_map};
+ghost use Rattle.std.specs.Prelude.{◌≡◌, ◌≢◌, ℕ, ◌∷◌, [], Bool, true, false, List, length, ◌<◌, ◌≤◌, IfOk, IfErr, OnOk, IfSome, IfNone, option_map};
 ghost use Rattle.ghost_model.specs.Tokens as tokens;
 ghost use Rattle.ghost_model.specs.SchemaGrammar as grammar;
 ghost use Rattle.ghost_model.specs.SchemaPlaces as places;
 ghost use Rattle.tree_schema.specs.Marks.{symbol_of, token_of};
-ghost use Rattle.tree_schema.specs.Drafts.{reference_of, column_of, in_column_of, place_of, Takes, IsOut, ReadsColumn, StopsColumn, Leads, Stops, named, opened, ReadsName, StopsName, ReadsNext, ReadsEnd, StopsEnd, ReadsTable};
+ghost use Rattle.tree_schema.specs.Drafts.{reference_of, column_of, in_column_of, place_of, Takes, IsOut, ReadsColumn, StopsColumn, Leads, Stops, named, opened, ReadsName, StopsName, ReadsNext, ReadsEnd, StopsEnd, ReadsOthers, StopsOthers, ReadsTable};
 
 use arrayvec::ArrayVec;
 use crate::tokens::{Cursor, Mark, Token, is_word};
@@ -177,6 +177,7 @@ impl<'a> Reader<'a> {
     fn next(&mut self) -> Option<Token<'a>>
         ensures read { IfSome result (λ token. Takes self.old token self.new) }
         ensures none { IfNone result (IsOut self.old self.new) }
+        ensures fewer { IfSome result (λ _. length self.new.cursor < length self.old.cursor) }
     {
         match self.cursor.next() {
             Some(token) => {
@@ -191,6 +192,7 @@ impl<'a> Reader<'a> {
     fn column(&mut self, name: &'a [u8]) -> Result<(ColumnDraft<'a>, bool), usize>
         ensures read { IfOk result (λ found. ReadsColumn self.old (tokens.in_lower_case name.now) self.new found.0 found.1) }
         ensures stops { IfErr result (λ at. StopsColumn self.old (tokens.in_lower_case name.now) at) }
+        ensures fewer { OnOk result (length self.new.cursor ≤ length self.old.cursor) }
     {
         let mut last = InColumn::Named(name);
         loop {
@@ -209,6 +211,7 @@ impl<'a> Reader<'a> {
     fn table_word(&mut self) -> Result<(), usize>
         ensures read { OnOk result (Leads places.AfterCreate places.AfterTable self.old self.new) }
         ensures stops { IfErr result (λ at. Stops places.AfterCreate self.old at) }
+        ensures fewer { OnOk result (length self.new.cursor < length self.old.cursor) }
     {
         let Some(token) = self.next() else {
             return Err(self.at);
@@ -223,6 +226,7 @@ impl<'a> Reader<'a> {
     fn table_name(&mut self) -> Result<&'a [u8], usize>
         ensures read { IfOk result (λ name. Leads places.AfterTable (named (tokens.in_lower_case name.now)) self.old self.new) }
         ensures stops { IfErr result (λ at. Stops places.AfterTable self.old at) }
+        ensures fewer { OnOk result (length self.new.cursor < length self.old.cursor) }
     {
         let Some(token) = self.next() else {
             return Err(self.at);
@@ -237,6 +241,7 @@ impl<'a> Reader<'a> {
     fn parenthesis(&mut self) -> Result<(), usize>
         ensures read { OnOk result ((name : List ℕ) → Leads (named name) (opened name) self.old self.new) }
         ensures stops { IfErr result (λ at. (name : List ℕ) → Stops (named name) self.old at) }
+        ensures fewer { OnOk result (length self.new.cursor < length self.old.cursor) }
     {
         let Some(token) = self.next() else {
             return Err(self.at);
@@ -251,6 +256,7 @@ impl<'a> Reader<'a> {
     fn column_name(&mut self) -> Result<&'a [u8], usize>
         ensures read { IfOk result (λ name. ReadsName self.old self.new (tokens.in_lower_case name.now)) }
         ensures stops { IfErr result (λ at. StopsName self.old at) }
+        ensures fewer { OnOk result (length self.new.cursor < length self.old.cursor) }
     {
         let Some(token) = self.next() else {
             return Err(self.at);
@@ -265,6 +271,7 @@ impl<'a> Reader<'a> {
     fn semicolon(&mut self) -> Result<(), usize>
         ensures read { OnOk result (ReadsEnd self.old self.new) }
         ensures stops { IfErr result (λ at. StopsEnd self.old at) }
+        ensures fewer { OnOk result (length self.new.cursor < length self.old.cursor) }
     {
         let Some(token) = self.next() else {
             return Err(self.at);
@@ -273,5 +280,43 @@ impl<'a> Reader<'a> {
             Mark::Semicolon => Ok(()),
             _ => Err(token.at),
         }
+    }
+
+    /// A column, and whether a comma follows it.
+    fn next_column(&mut self) -> Result<(ColumnDraft<'a>, bool), usize>
+        ensures read { IfOk result (λ found. ReadsNext self.old self.new found.0 found.1) }
+        ensures stops { IfErr result (λ at. StopsName self.old at) }
+        ensures fewer { OnOk result (length self.new.cursor < length self.old.cursor) }
+    {
+        let name = self.column_name()?;
+        self.column(name)
+    }
+
+    /// The columns of a table behind its first, which a comma follows if there are more. Where there are more than 23,
+    /// they are not kept.
+    fn other_columns(&mut self, more: bool) -> Result<Option<ArrayVec<ColumnDraft<'a>, 23>>, usize>
+        ensures read { IfOk result (λ kept. ReadsOthers self.old more self.new kept) }
+        ensures stops { IfErr result (λ at. StopsOthers self.old more at) }
+        ensures fewer { OnOk result (length self.new.cursor ≤ length self.old.cursor) }
+    {
+        let mut others = ArrayVec::new();
+        let mut over = false;
+        let mut follows = more;
+        while follows {
+            let (column, again) = self.next_column()?;
+            if others.is_full() {
+                over = true;
+            } else {
+                others.push(column);
+            }
+            follows = again;
+        }
+        Ok(if over { None } else { Some(others) })
+    }
+}
+
+impl<'a> Default for ColumnDraft<'a> {
+    fn default() -> Self {
+        ColumnDraft::Chars(&[], &[], false)
     }
 }
