@@ -115,4 +115,4 @@ another before more now next kept new over wider follows again column h f reads 
     size = length-append h.others (column_of column ∷ [])
     longer : (t : Bool) → over ≡ t → length kept ≡ 23 → 23 < length (h.others ++ column_of column ∷ [])
     longer true e n = let m : 23 < length h.others = h.many e in omega (arith, m, size)
-    longer false e n = let same : length h.others ≡ length kept = ap length (sym (h.whole e)) ∙ length-map column_of kept in omega (arith, same, n, size)
+    longer false e n = let same : length h.others ≡ length kept = ap length (sym (h.whole e)) ∙ length-map kept column_of in omega (arith, same, n, size)

@@ -158,3 +158,13 @@ pub record ReadsTable (before after : Reader) (kept : Option TableDraft) : Type 
       (tables : grammar.SchemaText)
       → read_from (places.AfterCreate tables) before ≡ read_from (places.Between (tables ++ table ∷ [])) after
   pub keeps : KeepsTable kept table
+
+-- the tables of a text, and what is kept of them
+abbrev pub KeepsTables : Option (ArrayVec TableDraft) → grammar.SchemaText → Type 0
+KeepsTables None tables = is_over tables ≡ true
+KeepsTables (Some kept) tables = map table_of kept.items ≡ tables
+
+pub record ReadsText (text : List ℕ) (kept : Option (ArrayVec TableDraft)) : Type 0 where
+  pub tables : grammar.SchemaText
+  pub reads : places.syntax_of text ≡ Ok tables
+  pub keeps : KeepsTables kept tables

@@ -1,11 +1,12 @@
 //! The syntax of the texts that declare tables.
 
-ghost use Rattle.std.specs.Prelude.{◌≡◌, ◌≢◌, ℕ, ◌∷◌, [], Bool, true, false, List, length, ◌<◌, ◌≤◌, IfOk, IfErr, OnOk, IfSome, IfNone, option_map};
+ghost use Rattle.std.specs.Prelude.{◌≡◌, ◌≢◌, Err, ℕ, ◌∷◌, [], Bool, true, false, List, length, ◌<◌, ◌≤◌, IfOk, IfErr, OnOk, IfSome, IfNone, option_map};
 ghost use Rattle.ghost_model.specs.Tokens as tokens;
 ghost use Rattle.ghost_model.specs.SchemaGrammar as grammar;
 ghost use Rattle.ghost_model.specs.SchemaPlaces as places;
 ghost use Rattle.tree_schema.specs.Marks.{symbol_of, token_of};
-ghost use Rattle.tree_schema.specs.Drafts.{reference_of, column_of, in_column_of, place_of, Takes, IsOut, ReadsColumn, StopsColumn, Leads, Stops, named, opened, ReadsName, StopsName, ReadsNext, ReadsEnd, StopsEnd, ReadsOthers, StopsOthers, ReadsTable};
+ghost use Rattle.tree_schema.specs.Drafts.{reference_of, column_of, in_column_of, place_of, Takes, IsOut, ReadsColumn, StopsColumn, Leads, Stops, named, opened, ReadsName, StopsName, ReadsNext, ReadsEnd, StopsEnd, ReadsOthers, StopsOthers, ReadsText, ReadsTable};
+ghost use Rattle.tree_schema.specs.declared.tokens.Mark.TheVariants.{End};
 
 use arrayvec::ArrayVec;
 use crate::tokens::{Cursor, Mark, Token, is_word};
@@ -56,6 +57,7 @@ enum Move<'a> {
 }
 
 /// The tokens left of a text, and the offset of the one before.
+#[derive(Drop)]
 struct Reader<'a> {
     cursor: Cursor<'a>,
     at: usize,
@@ -177,6 +179,7 @@ impl<'a> Reader<'a> {
     fn next(&mut self) -> Option<Token<'a>>
         ensures read { IfSome result (λ token. Takes self.old token self.new) }
         ensures none { IfNone result (IsOut self.old self.new) }
+        ensures last { IfSome result (λ token. token.mark ≡ End → self.new.cursor ≡ []) }
         ensures fewer { IfSome result (λ _. length self.new.cursor < length self.old.cursor) }
     {
         match self.cursor.next() {
@@ -312,6 +315,76 @@ impl<'a> Reader<'a> {
             follows = again;
         }
         Ok(if over { None } else { Some(others) })
+    }
+
+    /// A table behind CREATE. Where it has more than 24 columns, it is not kept.
+    fn table(&mut self) -> Result<Option<TableDraft<'a>>, usize>
+        ensures read { IfOk result (λ kept. ReadsTable self.old self.new kept) }
+        ensures stops { IfErr result (λ at. Stops places.AfterCreate self.old at) }
+        ensures fewer { OnOk result (length self.new.cursor < length self.old.cursor) }
+    {
+        self.table_word()?;
+        let name = self.table_name()?;
+        self.parenthesis()?;
+        let (first, more) = self.next_column()?;
+        let kept = self.other_columns(more)?;
+        self.semicolon()?;
+        match kept {
+            Some(others) => Ok(Some(TableDraft {
+                name,
+                first,
+                others,
+            })),
+            None => Ok(None),
+        }
+    }
+}
+
+/// The tables that a text declares, and `None` where there are more tables or columns than a schema may have. A text that
+/// is not in the grammar gives the offset of its fault.
+pub fn read_tables<'a>(text: &'a [u8]) -> Result<Option<ArrayVec<TableDraft<'a>, MAX_TABLES>>, usize>
+    ensures read { IfOk result (λ kept. ReadsText text.now kept) }
+    ensures stops { IfErr result (λ at. places.syntax_of text.now ≡ Err at) }
+{
+    let mut reader = Reader {
+        cursor: Cursor::of(text),
+        at: 0,
+    };
+    let mut tables = ArrayVec::new();
+    let mut over = false;
+    loop {
+        let Some(token) = reader.next() else {
+            return Err(reader.at);
+        };
+        match token.mark {
+            Mark::End => return Ok(if over { None } else { Some(tables) }),
+            Mark::Create => {}
+            _ => return Err(token.at),
+        }
+        let kept = match reader.table() {
+            Ok(kept) => kept,
+            Err(at) => return Err(at),
+        };
+        match kept {
+            None => over = true,
+            Some(table) => {
+                if tables.is_full() {
+                    over = true;
+                } else {
+                    tables.push(table);
+                }
+            }
+        }
+    }
+}
+
+impl<'a> Default for TableDraft<'a> {
+    fn default() -> Self {
+        TableDraft {
+            name: &[],
+            first: ColumnDraft::default(),
+            others: ArrayVec::new(),
+        }
     }
 }
 

@@ -1,9 +1,10 @@
 //! The tokens of a text, one after another. No text is too long, and none takes memory.
 
-ghost use Rattle.std.specs.Prelude.{◌≡◌, ℕ, ◌+◌, ◌<◌, ◌≤◌, List, ◌∷◌, [], true, false, length, take, take_while, bytes_eq, IfSome, IfNone, MatchOption};
+ghost use Rattle.std.specs.Prelude.{◌≡◌, ◌≢◌, ℕ, ◌+◌, ◌<◌, ◌≤◌, List, ◌∷◌, [], true, false, length, take, take_while, bytes_eq, IfSome, IfNone, MatchOption};
 ghost use Rattle.std.specs.List.{list_any};
 ghost use Rattle.ghost_model.specs.Tokens as tokens;
 ghost use Rattle.tree_schema.specs.Marks.{symbol_of, token_of, Begins};
+ghost use Rattle.tree_schema.specs.declared.tokens.Mark.TheVariants.{End};
 
 use std::marker::Model;
 
@@ -55,6 +56,7 @@ pub struct Token<'a> {
 }
 
 /// The tokens of a text that were not given yet; the last is the text's end.
+#[derive(Drop)]
 pub struct Cursor<'a> {
     rest: &'a [u8],
     at: usize,
@@ -149,7 +151,8 @@ fn is_reserved(word: &[u8]) -> bool
 
 /// What a word is.
 fn mark_of_word(word: &[u8]) -> Mark
-    ensures { symbol_of result word.now ≡ tokens.symbol_of_word (tokens.in_lower_case word.now) }
+    ensures symbol { symbol_of result word.now ≡ tokens.symbol_of_word (tokens.in_lower_case word.now) }
+    ensures some { result ≢ End }
 {
     if is_word(word, b"and") {
         Mark::And
@@ -188,7 +191,8 @@ fn mark_of_word(word: &[u8]) -> Mark
 
 /// The sign that a byte is.
 fn sign(byte: u8) -> Mark
-    ensures { (bytes : List ℕ) → symbol_of result bytes ≡ tokens.sign_of byte }
+    ensures symbol { (bytes : List ℕ) → symbol_of result bytes ≡ tokens.sign_of byte }
+    ensures some { result ≢ End }
 {
     match byte {
         b'(' => Mark::Open,
@@ -229,6 +233,7 @@ fn first_token(text: &[u8]) -> (Mark, usize)
     ensures begins { Begins text.now result.0 result.1 }
     ensures within { result.1 ≤ length text.now }
     ensures some { 0 < length text.now → 0 < result.1 }
+    ensures end { result.0 ≡ End → length text.now ≡ 0 }
 {
     let Some((first, after)) = text.split_first() else {
         return (Mark::End, 0);
@@ -275,6 +280,7 @@ impl<'a> Cursor<'a> {
     /// The next token, and `None` where the end was given.
     pub fn next(&mut self) -> Option<Token<'a>>
         ensures taken { IfSome result (λ token. self.old ≡ token_of token ∷ self.new) }
+        ensures last { IfSome result (λ token. token.mark ≡ End → self.new ≡ []) }
         ensures ended { IfNone result ((self.old ≡ []) × (self.new ≡ [])) }
     {
         if self.ended {
