@@ -189,10 +189,6 @@ pub record HoldsTables (text : List ℕ) (now : Reader) (kept : List TableDraft)
   pub whole : over ≡ false → map table_of kept ≡ tables
   pub many : over ≡ true → is_over tables ≡ true
 
-no_more : (t : Bool) (x y : Bool) → t ≡ true → (t || x) ≡ (t || y)
-no_more true x y e = refl
-no_more false x y e = absurd (cc)
-
 or_first : (a b : Bool) → a ≡ true → (a || b) ≡ true
 or_first true b e = refl
 or_first false b e = absurd (cc)
@@ -201,15 +197,13 @@ or_second : (a b : Bool) → b ≡ true → (a || b) ≡ true
 or_second true b e = refl
 or_second false b e = e
 
+either : (t a b : Bool) → (a ≡ true → b ≡ true) → (t || a) ≡ true → (t || b) ≡ true
+either true a b h e = refl
+either false a b h e = h e
+
 some_before : (test : grammar.TableText → Bool) (xs ys : List grammar.TableText) → list_any test xs ≡ true → list_any test (xs ++ ys) ≡ true
 some_before test [] ys e = absurd (cc)
-some_before test (x ∷ xs) ys e = by (test x) e
-  where
-    some_after : list_any test xs ≡ true → list_any test (xs ++ ys) ≡ true
-    some_after = some_before test xs ys
-    by : (t : Bool) → (t || list_any test xs) ≡ true → (t || list_any test (xs ++ ys)) ≡ true
-    by true h = refl
-    by false h = some_after h
+some_before test (x ∷ xs) ys e = either (test x) _ _ (some_before test xs ys) e
 
 some_last : (test : grammar.TableText → Bool) (xs : List grammar.TableText) (x : grammar.TableText) → test x ≡ true → list_any test (xs ++ x ∷ []) ≡ true
 some_last test [] x e = or_first (test x) false e
