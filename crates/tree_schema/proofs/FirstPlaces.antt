@@ -1,5 +1,5 @@
 -- The first place at which a test passes, on the tables and columns of the code and on those of the definitions.
-use Rattle.std.proofs.Common.{◌≡◌, ℕ, ◌+◌, Bool, true, false, cond, not, ◌||◌, ◌<◌, List, [], ◌∷◌, ◌++◌, length, drop, map, Option, Some, None, refl, ap, sym, ◌∙◌, ◌≤◌, drop-cons, add-one, append_assoc, append-nil}
+use Rattle.std.proofs.Common.{◌≡◌, ℕ, ◌+◌, Bool, true, false, cond, not, ◌||◌, ◌<◌, List, [], ◌∷◌, ◌++◌, length, drop, map, Option, Some, refl, ap, sym, ◌∙◌, ◌≤◌, drop-cons, add-one, append_assoc, append-nil}
 use Rattle.std.specs.List.{position, position_from, list_any}
 use Rattle.std.proofs.lemmas.Iterator.Adapters.{position_from-zero}
 use Rattle.std.proofs.lemmas.List.{at_drop_all}
@@ -35,7 +35,7 @@ nowhere = record { name = []; columns = [] }
 
 pub children_next : (schema : Schema) (table at : ℕ) (xs : List Table) → at < length xs
     → children_from schema table at (drop at xs)
-        ≡ cond (is_table table (parent schema at)) (at ∷ children_from schema table (at + 1) (drop (at + 1) xs)) (children_from schema table (at + 1) (drop (at + 1) xs))
+    ≡ cond (is_table table (parent schema at)) (at ∷ children_from schema table (at + 1) (drop (at + 1) xs)) (children_from schema table (at + 1) (drop (at + 1) xs))
 unfolding children_from
 children_next schema table at xs within =
     ap (children_from schema table at) (drop-cons xs at nowhere within)

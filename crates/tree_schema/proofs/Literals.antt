@@ -26,7 +26,7 @@ opens text at s within e =
     record {
       value = s.value;
       is = now text false at s within
-        ∙ ap (λ t. cond t (quoted_from true s.value (at + 1 + 1) (drop (at + 1) text)) (cond (is_printable (get_or text at 0)) (quoted_from false (s.value ++ get_or text at 0 ∷ []) (at + 1 + 1) (drop (at + 1) text)) (read Bad 1))) (eq-eqb (get_or text at 0) 39 e);
+          ∙ ap (λ t. cond t (quoted_from true s.value (at + 1 + 1) (drop (at + 1) text)) (cond (is_printable (get_or text at 0)) (quoted_from false (s.value ++ get_or text at 0 ∷ []) (at + 1 + 1) (drop (at + 1) text)) (read Bad 1))) (eq-eqb (get_or text at 0) 39 e);
     }
 
 pub doubles : (text : List ℕ) (at : ℕ) → Stands text true at → at < length text → get_or text at 0 ≡ 39 → Stands text false (at + 1)
@@ -35,7 +35,7 @@ doubles text at s within e =
     record {
       value = s.value ++ get_or text at 0 ∷ [];
       is = now text true at s within
-        ∙ ap (λ t. cond t (quoted_from false (s.value ++ get_or text at 0 ∷ []) (at + 1 + 1) (drop (at + 1) text)) (read (Quoted s.value) (at + 1))) (eq-eqb (get_or text at 0) 39 e);
+          ∙ ap (λ t. cond t (quoted_from false (s.value ++ get_or text at 0 ∷ []) (at + 1 + 1) (drop (at + 1) text)) (read (Quoted s.value) (at + 1))) (eq-eqb (get_or text at 0) 39 e);
     }
 
 pub goes_on : (text : List ℕ) (at : ℕ) → Stands text false at → at < length text → get_or text at 0 ≢ 39 → is_printable (get_or text at 0) ≡ true → Stands text false (at + 1)
@@ -44,7 +44,7 @@ goes_on text at s within e p =
     record {
       value = s.value ++ get_or text at 0 ∷ [];
       is = now text false at s within
-        ∙ ap₂ (λ t u. cond t (quoted_from true s.value (at + 1 + 1) (drop (at + 1) text)) (cond u (quoted_from false (s.value ++ get_or text at 0 ∷ []) (at + 1 + 1) (drop (at + 1) text)) (read Bad 1))) (ne_eqb (get_or text at 0) 39 e) p;
+          ∙ ap₂ (λ t u. cond t (quoted_from true s.value (at + 1 + 1) (drop (at + 1) text)) (cond u (quoted_from false (s.value ++ get_or text at 0 ∷ []) (at + 1 + 1) (drop (at + 1) text)) (read Bad 1))) (ne_eqb (get_or text at 0) 39 e) p;
     }
 
 pub breaks : (text : List ℕ) (at : ℕ) → Stands text false at → at < length text → get_or text at 0 ≢ 39 → is_printable (get_or text at 0) ≡ false
@@ -57,10 +57,11 @@ breaks text at s within e p =
 pub ends : (text : List ℕ) (at : ℕ) → Stands text true at → at < length text → get_or text at 0 ≢ 39
     → (value : List ℕ) × (quoted_from false [] 1 text ≡ read (Quoted value) (at + 1))
 unfolding quoted_from
-ends text at s within e =
-    (s.value,
-     now text true at s within
-     ∙ ap (λ t. cond t (quoted_from false (s.value ++ get_or text at 0 ∷ []) (at + 1 + 1) (drop (at + 1) text)) (read (Quoted s.value) (at + 1))) (ne_eqb (get_or text at 0) 39 e))
+ends text at s within e = (
+  s.value,
+  now text true at s within
+      ∙ ap (λ t. cond t (quoted_from false (s.value ++ get_or text at 0 ∷ []) (at + 1 + 1) (drop (at + 1) text)) (read (Quoted s.value) (at + 1))) (ne_eqb (get_or text at 0) 39 e),
+)
 
 pub ends_last : (text : List ℕ) (at : ℕ) → Stands text true at → length text ≤ at
     → (value : List ℕ) × (quoted_from false [] 1 text ≡ read (Quoted value) (at + 1))
@@ -140,10 +141,10 @@ begins_literal text rest b zero value f g e =
     absurd (let low : 1 + 1 ≤ 0 = counts rest false [] 1 0 value e in omega (arith, low))
 begins_literal text rest b (suc k) value f g e =
     subst (λ bytes. Begins bytes mark.Quoted (suc k)) (sym (f ∙ ap (λ c. c ∷ rest) g))
-      (record {
-        symbol = ap (λ (r : Read). Quoted (value_in r.symbol)) (alone rest false [] 1 k (suc k) value (omega arith) e) ∙ ap (λ (r : Read). r.symbol) (sym e);
-        bytes = ap (λ (r : Read). r.bytes) (sym e);
-      })
+    (record {
+      symbol = ap (λ (r : Read). Quoted (value_in r.symbol)) (alone rest false [] 1 k (suc k) value (omega arith) e) ∙ ap (λ (r : Read). r.symbol) (sym e);
+      bytes = ap (λ (r : Read). r.bytes) (sym e);
+    })
 
 pub some_literal : (rest : List ℕ) (len : ℕ) (value : List ℕ) → quoted_from false [] 1 rest ≡ read (Quoted value) len → 0 < len
 some_literal rest len value e = let low : 1 + 1 ≤ len = counts rest false [] 1 len value e in omega (arith, low)

@@ -1,15 +1,14 @@
 -- The tokens that lead nowhere within a column, and those that do not end one.
-use Rattle.std.proofs.Common.{◌≡◌, ◌≢◌, ℕ, Bool, true, false, List, [], ◌∷◌, ◌++◌, Option, Some, None, option_map, refl, ap, sym, ◌∙◌, Bor}
+use Rattle.std.proofs.Common.{◌≡◌, ◌≢◌, ℕ, Bool, true, false, List, Option, Some, None, option_map, refl, ap, sym, ◌∙◌}
 use Rattle.ghost_model.specs.SchemaGrammar as grammar
 use Rattle.ghost_model.specs.SchemaPlaces as places
 use Rattle.tree_schema.specs.declared.tokens.Mark.{Mark}
 use Rattle.tree_schema.specs.declared.tokens.Mark.TheVariants as mark
 use Rattle.tree_schema.specs.declared.syntax.ColumnDraft.{ColumnDraft}
-use Rattle.tree_schema.specs.declared.syntax.ColumnDraft.TheVariants as column
 use Rattle.tree_schema.specs.declared.syntax.InColumn.{InColumn}
 use Rattle.tree_schema.specs.declared.syntax.InColumn.TheVariants as within
 use Rattle.tree_schema.specs.Marks.{symbol_of}
-use Rattle.tree_schema.specs.Drafts.{in_column_of, column_of}
+use Rattle.tree_schema.specs.Drafts.{in_column_of}
 
 pub at_place : (last here : InColumn) (m : Mark) (bytes : List ℕ) → last ≡ here → None ≡ places.step_in (in_column_of here) (symbol_of m bytes) → None ≡ places.step_in (in_column_of last) (symbol_of m bytes)
 at_place last here m bytes e h = h ∙ ap (λ l. places.step_in (in_column_of l) (symbol_of m bytes)) (sym e)

@@ -17,7 +17,7 @@ use Rattle.tree_schema.specs.declared.syntax.TableDraft.{TableDraft}
 use Rattle.tree_schema.specs.declared.syntax.InColumn.{InColumn}
 use Rattle.tree_schema.specs.declared.syntax.Reader.{Reader}
 use Rattle.tree_schema.specs.Marks.{symbol_of, token_of}
-use Rattle.tree_schema.specs.Drafts.{in_column_of, column_of, table_of, after_column, before_last, last_of, behind, named, opened, Leads, Stops, ReadsNext, ReadsEnd, StopsEnd, ReadsOthers, StopsOthers, KeepsOthers, ReadsTable, KeepsTable, ReadsText, KeepsTables, read_from, Takes, IsOut}
+use Rattle.tree_schema.specs.Drafts.{in_column_of, column_of, table_of, after_column, before_last, last_of, behind, named, opened, Leads, Stops, ReadsNext, ReadsEnd, StopsEnd, ReadsOthers, StopsOthers, KeepsOthers, ReadsTable, KeepsTable, read_from, Takes, IsOut}
 
 pub taken : (p : places.Place) (next : Option places.Place) (before after : Reader) (token : Token) → Takes before token after → places.step p (symbol_of token.mark token.bytes.now) ≡ next
     → read_from p before ≡ places.syntax_from next token.at after.cursor
@@ -102,23 +102,24 @@ another before more now next kept new over wider follows again column h f reads 
     record {
       others = h.others ++ column_of column ∷ [];
       leads = λ tables name first.
-        h.leads tables name first
-        ∙ ap (λ t. read_from (behind tables name first h.others t) now) f
-        ∙ reads tables name (first ∷ h.others)
-        ∙ ap (λ place. read_from place next) (one_more tables name first h.others (column_of column) again);
+          h.leads tables name first
+          ∙ ap (λ t. read_from (behind tables name first h.others t) now) f
+          ∙ reads tables name (first ∷ h.others)
+          ∙ ap (λ place. read_from place next) (one_more tables name first h.others (column_of column) again);
       whole = λ e. elim grown [
-        inl w ↦ absurd (let no : true ≡ false = sym w.0 ∙ e in cc)
-      | inr w ↦ ap (map column_of) w.1 ∙ map-append column_of kept (column ∷ []) ∙ ap (λ columns. columns ++ column_of column ∷ []) (h.whole (sym w.0 ∙ e))
+        | inl w ↦ absurd (let no : true ≡ false = sym w.0 ∙ e in cc)
+        | inr w ↦ ap (map column_of) w.1 ∙ map-append column_of kept (column ∷ []) ∙ ap (λ columns. columns ++ column_of column ∷ []) (h.whole (sym w.0 ∙ e))
       ];
       many = λ e. elim grown [
-        inl w ↦ longer over refl w.1
-      | inr w ↦ let m : 23 < length h.others = h.many (sym w.0 ∙ e) in omega (arith, m, size)
+        | inl w ↦ longer over refl w.1
+        | inr w ↦ let m : 23 < length h.others = h.many (sym w.0 ∙ e) in omega (arith, m, size)
       ];
       fewer = omega (arith, count, h.fewer);
     }
   where
     size : length (h.others ++ column_of column ∷ []) ≡ length h.others + 1
     size = length-append h.others (column_of column ∷ [])
+
     longer : (t : Bool) → over ≡ t → length kept ≡ 23 → 23 < length (h.others ++ column_of column ∷ [])
     longer true e n = let m : 23 < length h.others = h.many e in omega (arith, m, size)
     longer false e n = let same : length h.others ≡ length kept = ap length (sym (h.whole e)) ∙ length-map kept column_of in omega (arith, same, n, size)
@@ -215,9 +216,9 @@ split_or false b e = inr e
 
 still_over : (tables : grammar.SchemaText) (table : grammar.TableText) → is_over tables ≡ true → is_over (tables ++ table ∷ []) ≡ true
 still_over tables table e = elim (split_or (nat_lt 12 (length tables)) (list_any is_table_over tables) e) [
-    inl w ↦ or_first _ _ (let m : 12 < length tables = ltb-true 12 (length tables) w in lt-ltb 12 (length (tables ++ table ∷ [])) (omega (arith, m, length-append tables (table ∷ []))))
+  | inl w ↦ or_first _ _ (let m : 12 < length tables = ltb-true 12 (length tables) w in lt-ltb 12 (length (tables ++ table ∷ [])) (omega (arith, m, length-append tables (table ∷ []))))
   | inr w ↦ or_second (nat_lt 12 (length (tables ++ table ∷ []))) _ (some_before is_table_over tables (table ∷ []) w)
-  ]
+]
 
 over_full : (tables : grammar.SchemaText) (table : grammar.TableText) → length tables ≡ 12 → is_over (tables ++ table ∷ []) ≡ true
 over_full tables table e = or_first _ _ (lt-ltb 12 (length (tables ++ table ∷ [])) (omega (arith, e, length-append tables (table ∷ []))))
@@ -248,8 +249,8 @@ over_next text now mid next token kept new over table h t m r why =
       leads = next_leads text now mid next token kept over table h t m r;
       whole = λ e. absurd (cc);
       many = λ _. elim why [
-        inl w ↦ over_table h.tables r.table (subst (λ k. KeepsTable k r.table) w r.keeps)
-      | inr w ↦ full over refl w
+        | inl w ↦ over_table h.tables r.table (subst (λ k. KeepsTable k r.table) w r.keeps)
+        | inr w ↦ full over refl w
       ];
     }
   where

@@ -1,5 +1,5 @@
 -- A cursor's step: the white space before a token is passed over, and then the token's bytes.
-use Rattle.std.proofs.Common.{◌≡◌, ℕ, zero, suc, ◌+◌, ◌-◌, ◌<◌, ◌≤◌, Bool, true, false, cond, ◌==◌, List, [], ◌∷◌, length, take, drop, take_while, refl, ap, ap₂, sym, subst, ◌∙◌, add-zero, arith}
+use Rattle.std.proofs.Common.{◌≡◌, ℕ, zero, suc, ◌+◌, ◌-◌, ◌<◌, ◌≤◌, Bool, true, false, cond, ◌==◌, List, [], ◌∷◌, length, take, drop, take_while, ap, ap₂, sym, ◌∙◌, add-zero, arith}
 use Rattle.std.proofs.lemmas.Bool.{ne_eqb}
 use Rattle.std.proofs.lemmas.List.Sums.{take_while-cons}
 use Rattle.ghost_model.specs.Tokens.{Token, End, is_space, token_at, tokens_from}
@@ -41,7 +41,7 @@ first_step [] bytes rest at len found ended begins within some b r e =
     ap₂ (λ symbol (others : List Token). record { symbol = symbol; at = at } ∷ others) (sym begins.symbol ∙ ap (symbol_of found) (sym b)) (ap (λ t. left_from t (at + len) rest) (sym e))
 first_step (x ∷ xs) bytes rest at len found ended begins within some b r e =
     ap₂ (λ symbol (others : List Token). record { symbol = symbol; at = at } ∷ others) (sym begins.symbol ∙ ap (symbol_of found) (sym b))
-      (ap (λ n. tokens_from (n - 1) (at + 1) xs) (sym begins.bytes) ∙ later len within (some (omega arith)) ∙ sym (ap₂ (λ t (after : List ℕ). left_from t (at + len) after) (e ∙ ne_eqb (length (x ∷ xs)) 0 (λ h. let no : suc (length xs) ≡ 0 = h in omega (arith, no))) r))
+    (ap (λ n. tokens_from (n - 1) (at + 1) xs) (sym begins.bytes) ∙ later len within (some (omega arith)) ∙ sym (ap₂ (λ t (after : List ℕ). left_from t (at + len) after) (e ∙ ne_eqb (length (x ∷ xs)) 0 (λ h. let no : suc (length xs) ≡ 0 = h in omega (arith, no))) r))
   where
     later : (n : ℕ) → n ≤ length (x ∷ xs) → 0 < n → tokens_from (n - 1) (at + 1) xs ≡ tokens_from 0 (at + n) (drop n (x ∷ xs))
     later zero h p = absurd (omega (arith, p))

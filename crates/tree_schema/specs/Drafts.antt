@@ -3,7 +3,6 @@
 -- limits.
 use Rattle.std.specs.Prelude.{◌≡◌, ℕ, ◌<◌, length, Bool, true, false, List, [], ◌∷◌, ◌++◌, map, Option, Some, None, Result, Ok, Err, option_map}
 use Rattle.arrayvec.specs.ArrayVec.{ArrayVec}
-use Rattle.ghost_model.specs.Tokens as tokens
 use Rattle.ghost_model.specs.Tokens.{in_lower_case}
 use Rattle.ghost_model.specs.SchemaGrammar as grammar
 use Rattle.ghost_model.specs.SchemaPlaces as places
@@ -110,7 +109,7 @@ abbrev pub ReadsEnd : Reader → Reader → Type 0
 ReadsEnd before after =
     (tables : grammar.SchemaText) (name : List ℕ) (columns : List grammar.ColumnText) (last : grammar.ColumnText)
     → read_from (places.AfterColumns tables name columns last) before
-        ≡ read_from (places.Between (tables ++ places.table_from name columns last ∷ [])) after
+    ≡ read_from (places.Between (tables ++ places.table_from name columns last ∷ [])) after
 
 abbrev pub StopsEnd : Reader → ℕ → Type 0
 StopsEnd before at =

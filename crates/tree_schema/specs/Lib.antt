@@ -3,3 +3,4 @@ pub mod Schemas
 pub mod Marks
 pub mod Catalogs
 pub mod Drafts
+pub mod Faults

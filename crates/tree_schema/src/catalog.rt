@@ -3,8 +3,8 @@
 ghost use Rattle.std.specs.Prelude.{◌≡◌, ◌<◌, length, slice_get, IsTrue};
 ghost use Rattle.tree_schema.specs.Catalogs.{IsCatalog, are_counts, catalog_of};
 
-use arrayvec::ArrayVec;
 use crate::Schema;
+use arrayvec::ArrayVec;
 use ghost_base::limits::MAX_TABLES;
 use std::marker::Model;
 

@@ -5,10 +5,12 @@
 #![tactic(auto)]
 
 pub mod catalog;
+pub mod faults;
 pub mod schema;
 mod syntax;
 pub mod tokens;
 
 pub use catalog::Catalog;
+pub use faults::SchemaFault;
 pub use schema::{Column, Schema, Table};
 pub use tokens::{Cursor, Mark, Token};

@@ -104,9 +104,7 @@ fn holds_key_to(table: &Table, child: usize) -> bool
 fn place_of_holder(tables: &[Table], child: usize) -> Option<usize>
     ensures { result ≡ position (λ holder. not (schema.is_empty (schema.keys_to child (table_of holder)))) tables.now }
 {
-    tables
-        .iter()
-        .position(|holder| holds_key_to(holder, child))
+    tables.iter().position(|holder| holds_key_to(holder, child))
 }
 
 impl Schema {

@@ -8,8 +8,8 @@ ghost use Rattle.tree_schema.specs.Marks.{symbol_of, token_of};
 ghost use Rattle.tree_schema.specs.Drafts.{reference_of, column_of, in_column_of, place_of, Takes, IsOut, ReadsColumn, StopsColumn, Leads, Stops, named, opened, ReadsName, StopsName, ReadsNext, ReadsEnd, StopsEnd, ReadsOthers, StopsOthers, ReadsText, ReadsTable};
 ghost use Rattle.tree_schema.specs.declared.tokens.Mark.TheVariants.{End};
 
-use arrayvec::ArrayVec;
 use crate::tokens::{Cursor, Mark, Token, is_word};
+use arrayvec::ArrayVec;
 use ghost_base::limits::MAX_TABLES;
 
 /// REFERENCES: the name of a table, and whether `( id )` follows it.
@@ -64,7 +64,12 @@ struct Reader<'a> {
 }
 
 /// Where a token leads after INTEGER and what was written after it.
-fn after_integer<'a>(name: &'a [u8], primary: bool, reference: Option<ReferenceDraft<'a>>, token: Token<'a>) -> Option<InColumn<'a>>
+fn after_integer<'a>(
+    name: &'a [u8],
+    primary: bool,
+    reference: Option<ReferenceDraft<'a>>,
+    token: Token<'a>,
+) -> Option<InColumn<'a>>
     ensures { option_map in_column_of result ≡ places.after_integer (tokens.in_lower_case name.now) primary (option_map reference_of reference.entry) (symbol_of token.entry.mark token.entry.bytes.now) }
 {
     match token.mark {
@@ -74,11 +79,19 @@ fn after_integer<'a>(name: &'a [u8], primary: bool, reference: Option<ReferenceD
             Some(_) => None,
         },
         Mark::Primary => match reference {
-            None => if primary { None } else { Some(InColumn::AfterPrimary(name)) },
+            None => if primary {
+                None
+            } else {
+                Some(InColumn::AfterPrimary(name))
+            },
             Some(_) => None,
         },
         Mark::Open => match reference {
-            Some(to) => if to.says_id { None } else { Some(InColumn::OpensId(name, primary, to.table)) },
+            Some(to) => if to.says_id {
+                None
+            } else {
+                Some(InColumn::OpensId(name, primary, to.table))
+            },
             None => None,
         },
         _ => None,
@@ -135,15 +148,35 @@ fn step_in<'a>(last: InColumn<'a>, token: Token<'a>) -> Option<InColumn<'a>>
             _ => None,
         },
         InColumn::AfterReferences(name, primary) => match token.mark {
-            Mark::Name => Some(InColumn::Whole(ColumnDraft::Integer(name, primary, Some(ReferenceDraft { table: token.bytes, says_id: false }), false))),
+            Mark::Name => Some(InColumn::Whole(ColumnDraft::Integer(
+                name,
+                primary,
+                Some(ReferenceDraft {
+                    table: token.bytes,
+                    says_id: false,
+                }),
+                false,
+            ))),
             _ => None,
         },
         InColumn::OpensId(name, primary, table) => match token.mark {
-            Mark::Name => if is_word(token.bytes, b"id") { Some(InColumn::AfterId(name, primary, table)) } else { None },
+            Mark::Name => if is_word(token.bytes, b"id") {
+                Some(InColumn::AfterId(name, primary, table))
+            } else {
+                None
+            },
             _ => None,
         },
         InColumn::AfterId(name, primary, table) => match token.mark {
-            Mark::Closing => Some(InColumn::Whole(ColumnDraft::Integer(name, primary, Some(ReferenceDraft { table, says_id: true }), false))),
+            Mark::Closing => Some(InColumn::Whole(ColumnDraft::Integer(
+                name,
+                primary,
+                Some(ReferenceDraft {
+                    table,
+                    says_id: true,
+                }),
+                false,
+            ))),
             _ => None,
         },
         InColumn::Whole(column) => after_column(column, token),
@@ -342,7 +375,9 @@ impl<'a> Reader<'a> {
 
 /// The tables that a text declares, and `None` where there are more tables or columns than a schema may have. A text that
 /// is not in the grammar gives the offset of its fault.
-pub fn read_tables<'a>(text: &'a [u8]) -> Result<Option<ArrayVec<TableDraft<'a>, MAX_TABLES>>, usize>
+pub fn read_tables<'a>(
+    text: &'a [u8],
+) -> Result<Option<ArrayVec<TableDraft<'a>, MAX_TABLES>>, usize>
     ensures read { IfOk result (λ kept. ReadsText text.now kept) }
     ensures stops { IfErr result (λ at. places.syntax_of text.now ≡ Err at) }
 {
@@ -391,5 +426,54 @@ impl<'a> Default for TableDraft<'a> {
 impl<'a> Default for ColumnDraft<'a> {
     fn default() -> Self {
         ColumnDraft::Chars(&[], &[], false)
+    }
+}
+
+#[cfg(test)]
+mod tests {
+    use super::*;
+
+    #[test]
+    fn faults_are_at_the_first_wrong_token(rt: HostRuntime) {
+        for (text, fault) in [
+            (
+                b"CREATE TABLE t (id INT PRIMARY KEY, c CHAR(-1));".as_slice(),
+                43,
+            ),
+            (
+                b"CREATE TABLE t (id INTEGER PRIMARY KEY HIDDEN HIDDEN);".as_slice(),
+                46,
+            ),
+            (b"CREATE TABLE t ();".as_slice(), 16),
+            (
+                b"CREATE TABLE t (id INTEGER PRIMARY KEY) CREATE".as_slice(),
+                40,
+            ),
+            (b"CREATE TABLE select (id INTEGER);".as_slice(), 13),
+            (b"CREATE TABLE t (a INT REFERENCES u(ide));".as_slice(), 35),
+            (
+                b"CREATE TABLE t (id INTEGER PRIMARY KEY, c CHAR".as_slice(),
+                46,
+            ),
+        ] {
+            match read_tables(text) {
+                Ok(_) => assert!(rt; false, "the fault at {fault} is not found"),
+                Err(at) => assert!(rt; at == fault, "{at} and not {fault}"),
+            }
+        }
+    }
+
+    #[test]
+    fn tables_are_kept(rt: HostRuntime) {
+        match read_tables(
+            b"create table A(id int primary key, b int references B(id), c char(07) hidden); CREATE TABLE b (id INT);",
+        ) {
+            Ok(Some(tables)) => {
+                assert!(rt; tables.len() == 2);
+                assert!(rt; tables[0].name == b"A".as_slice() && tables[0].others.len() == 2);
+                assert!(rt; tables[1].name == b"b".as_slice() && tables[1].others.is_empty());
+            }
+            _ => assert!(rt; false),
+        }
     }
 }

@@ -1,4 +1,4 @@
-use Rattle.std.proofs.Common.{◌≡◌, true, false, refl, sym, subst, ◌∙◌, inl, inr, Some, None}
+use Rattle.std.proofs.Common.{sym, subst, ◌∙◌, inl, inr}
 use Rattle.std.proofs.lemmas.Bool.{eqb-true}
 use Rattle.tree_schema.specs.Drafts.{KeepsTables}
 use Rattle.tree_schema.proofs.ReaderSteps.{over_next, kept_next, text_ends, text_stops, text_out, table_stops}
@@ -14,16 +14,16 @@ returns-in-End-clause-read c =
       tables = c.loop-token.invariant.tables;
       reads = text_ends _ _ _ _ _ _ c.loop-token.invariant c.in-Some.ensures.read c.in-End.is (c.in-Some.ensures.last c.in-End.is);
       keeps = elim c.if-over.branch [
-        then-over w ↦ subst (λ kept. KeepsTables kept c.loop-token.invariant.tables) (sym w.result-is) (c.loop-token.invariant.many w.if-over.true)
-      | else-over w ↦ subst (λ kept. KeepsTables kept c.loop-token.invariant.tables) (sym w.result-is) (c.loop-token.invariant.whole w.if-over.false)
+        | then-over w ↦ subst (λ kept. KeepsTables kept c.loop-token.invariant.tables) (sym w.result-is) (c.loop-token.invariant.many w.if-over.true)
+        | else-over w ↦ subst (λ kept. KeepsTables kept c.loop-token.invariant.tables) (sym w.result-is) (c.loop-token.invariant.whole w.if-over.false)
       ];
     }
 
 pub returns-in_default-mark : goal.returns-in_default-mark
 returns-in_default-mark c = record {
-    read = tt;
-    stops = text_stops _ _ _ _ _ _ c.loop-token.invariant c.in-Some.ensures.read c.in_default-mark.not-End c.in_default-mark.not-Create;
-  }
+  read = tt;
+  stops = text_stops _ _ _ _ _ _ c.loop-token.invariant c.in-Some.ensures.read c.in_default-mark.not-End c.in_default-mark.not-Create;
+}
 
 pub returns-in-Err-clause-stops : goal.returns-in-Err-clause-stops
 returns-in-Err-clause-stops c = table_stops _ _ _ _ _ _ _ c.loop-token.invariant c.in-Some.ensures.read c.in-Create.is c.in-Err.ensures.stops

@@ -1,7 +1,7 @@
-use Rattle.std.proofs.Common.{refl, sym, ◌∙◌, ap, Some, None, arith}
+use Rattle.std.proofs.Common.{refl, sym, ◌∙◌, ap, arith}
 use Rattle.ghost_model.specs.SchemaPlaces as places
 use Rattle.tree_schema.specs.Drafts.{in_column_of, place_of}
-use Rattle.tree_schema.proofs.ReaderSteps.{leads, stops, is_out, fewer}
+use Rattle.tree_schema.proofs.ReaderSteps.{leads, stops, is_out}
 use Rattle.tree_schema.proofs.syntax.Reader.column.Goals as goal
 
 pub loop-token-init : goal.loop-token-init
@@ -16,15 +16,15 @@ pub returns-in-Ends-clause-read : goal.returns-in-Ends-clause-read
 returns-in-Ends-clause-read c = λ tables name columns.
     c.loop-token.invariant.leads tables name columns
     ∙ leads (places.Within tables name columns (in_column_of c.loop-token.last)) _ _ _ _ c.in-Some.ensures.read
-        (sym (c.step_within.ensures tables name columns) ∙ ap (place_of tables name columns) c.in-Ends.is)
+    (sym (c.step_within.ensures tables name columns) ∙ ap (place_of tables name columns) c.in-Ends.is)
 
 pub loop-token-preserved : goal.loop-token-preserved
 loop-token-preserved c =
     record {
       leads = λ tables name columns.
-        c.loop-token.invariant.leads tables name columns
-        ∙ leads (places.Within tables name columns (in_column_of c.loop-token.last)) _ _ _ _ c.in-Some.ensures.read
-            (sym (c.step_within.ensures tables name columns) ∙ ap (place_of tables name columns) c.in-Goes.is);
+          c.loop-token.invariant.leads tables name columns
+          ∙ leads (places.Within tables name columns (in_column_of c.loop-token.last)) _ _ _ _ c.in-Some.ensures.read
+          (sym (c.step_within.ensures tables name columns) ∙ ap (place_of tables name columns) c.in-Goes.is);
       fewer = omega (arith, c.loop-token.invariant.fewer, c.in-Some.ensures.fewer);
     }
 
@@ -32,4 +32,4 @@ pub returns-in-Stops-clause-stops : goal.returns-in-Stops-clause-stops
 returns-in-Stops-clause-stops c = λ tables name columns.
     c.loop-token.invariant.leads tables name columns
     ∙ stops (places.Within tables name columns (in_column_of c.loop-token.last)) _ _ _ c.in-Some.ensures.read
-        (sym (ap (place_of tables name columns) c.in-Stops.is) ∙ c.step_within.ensures tables name columns)
+    (sym (ap (place_of tables name columns) c.in-Stops.is) ∙ c.step_within.ensures tables name columns)

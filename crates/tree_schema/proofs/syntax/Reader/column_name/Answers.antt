@@ -11,7 +11,7 @@ returns-in-Name-clause-read c = λ tables name columns. by_mark (places.WantsCol
 
 pub returns-in_default-mark : goal.returns-in_default-mark
 returns-in_default-mark c = record {
-    read = tt;
-    fewer = tt;
-    stops = λ tables name columns. stops (places.WantsColumn tables name columns) _ _ _ c.in-Some.ensures.read (no_column_name tables name columns _ _ c.in_default-mark.not-Name);
-  }
+  read = tt;
+  fewer = tt;
+  stops = λ tables name columns. stops (places.WantsColumn tables name columns) _ _ _ c.in-Some.ensures.read (no_column_name tables name columns _ _ c.in_default-mark.not-Name);
+}

@@ -11,7 +11,7 @@ returns-in-Open-clause-read c = λ name tables. by_mark (places.AfterName tables
 
 pub returns-in_default-mark : goal.returns-in_default-mark
 returns-in_default-mark c = record {
-    read = tt;
-    fewer = tt;
-    stops = λ name tables. stops (places.AfterName tables name) _ _ _ c.in-Some.ensures.read (no_parenthesis tables name _ _ c.in_default-mark.not-Open);
-  }
+  read = tt;
+  fewer = tt;
+  stops = λ name tables. stops (places.AfterName tables name) _ _ _ c.in-Some.ensures.read (no_parenthesis tables name _ _ c.in_default-mark.not-Open);
+}

@@ -11,7 +11,7 @@ returns-in-Semicolon-clause-read c = λ tables name columns last. by_mark (place
 
 pub returns-in_default-mark : goal.returns-in_default-mark
 returns-in_default-mark c = record {
-    read = tt;
-    fewer = tt;
-    stops = λ tables name columns last. stops (places.AfterColumns tables name columns last) _ _ _ c.in-Some.ensures.read (no_semicolon tables name columns last _ _ c.in_default-mark.not-Semicolon);
-  }
+  read = tt;
+  fewer = tt;
+  stops = λ tables name columns last. stops (places.AfterColumns tables name columns last) _ _ _ c.in-Some.ensures.read (no_semicolon tables name columns last _ _ c.in_default-mark.not-Semicolon);
+}

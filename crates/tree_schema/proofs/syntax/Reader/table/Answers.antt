@@ -19,9 +19,9 @@ returns-in_err-semicolon-clause-stops c =
 pub returns-in-Some-clause-read : goal.returns-in-Some-clause-read
 returns-in-Some-clause-read c =
     kept_table _ _ _ _ _ _ (front _ _ _ _ _ _ _ _ c.in_ok-table_word.ensures.read c.in_ok-name.ensures.read (c.in_ok-parenthesis.ensures.read _) c.in_ok-first.ensures.read)
-      _ c.in-Some.is c.in_ok-kept.ensures.read c.in_ok-semicolon.ensures.read
+    _ c.in-Some.is c.in_ok-kept.ensures.read c.in_ok-semicolon.ensures.read
 
 pub returns-in-None-clause-read : goal.returns-in-None-clause-read
 returns-in-None-clause-read c =
     wide_table _ _ _ _ _ _ _ (front _ _ _ _ _ _ _ _ c.in_ok-table_word.ensures.read c.in_ok-name.ensures.read (c.in_ok-parenthesis.ensures.read _) c.in_ok-first.ensures.read)
-      _ c.in-None.is c.in_ok-kept.ensures.read c.in_ok-semicolon.ensures.read
+    _ c.in-None.is c.in_ok-kept.ensures.read c.in_ok-semicolon.ensures.read

@@ -11,7 +11,7 @@ returns-in-Name-clause-read c = λ tables. by_mark (places.AfterTable tables) _ 
 
 pub returns-in_default-mark : goal.returns-in_default-mark
 returns-in_default-mark c = record {
-    read = tt;
-    fewer = tt;
-    stops = λ tables. stops (places.AfterTable tables) _ _ _ c.in-Some.ensures.read (no_table_name tables _ _ c.in_default-mark.not-Name);
-  }
+  read = tt;
+  fewer = tt;
+  stops = λ tables. stops (places.AfterTable tables) _ _ _ c.in-Some.ensures.read (no_table_name tables _ _ c.in_default-mark.not-Name);
+}

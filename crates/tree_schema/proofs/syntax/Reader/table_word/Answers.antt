@@ -11,7 +11,7 @@ returns-in-Table-clause-read c = λ tables. by_mark (places.AfterCreate tables) 
 
 pub returns-in_default-mark : goal.returns-in_default-mark
 returns-in_default-mark c = record {
-    read = tt;
-    fewer = tt;
-    stops = λ tables. stops (places.AfterCreate tables) _ _ _ c.in-Some.ensures.read (no_table tables _ _ c.in_default-mark.not-Table);
-  }
+  read = tt;
+  fewer = tt;
+  stops = λ tables. stops (places.AfterCreate tables) _ _ _ c.in-Some.ensures.read (no_table tables _ _ c.in_default-mark.not-Table);
+}
