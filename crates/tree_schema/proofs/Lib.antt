@@ -3,3 +3,4 @@ pub mod Literals
 pub mod TokenSteps
 pub mod NoStep
 pub mod ReaderSteps
+pub mod Ancestors

@@ -1,9 +1,9 @@
 //! Schemas as values of a fixed size.
 
-ghost use Rattle.std.specs.Prelude.{◌≡◌, ◌≤◌, not, length, slice_get, option_map, position};
+ghost use Rattle.std.specs.Prelude.{◌≡◌, ℕ, ◌<◌, ◌≤◌, not, length, slice_get, option_map, position};
 ghost use Rattle.std.specs.List.{list_any};
 ghost use Rattle.ghost_model.specs.Schema as schema;
-ghost use Rattle.ghost_model.specs.SchemaTrees.{IsTree};
+ghost use Rattle.ghost_model.specs.SchemaFaults as faults;
 ghost use Rattle.tree_schema.specs.Views.{column_of, table_of};
 ghost use Rattle.tree_schema.specs.Schemas as schemas;
 ghost use Rattle.tree_schema.specs.Schemas.{DeclaredSchemasAreTrees};
@@ -162,6 +162,23 @@ impl Schema {
             }
         }
         found
+    }
+
+    /// The way from a table to the root: the table, its parent, and so on. At each place stands the table after so many
+    /// steps, and the way ends where there is none.
+    pub fn path_to_root(&self, table: usize) -> ArrayVec<usize, MAX_TABLES>
+        requires { table < length self.now }
+        ensures { (steps : ℕ) → slice_get result.items steps ≡ faults.ancestor self.now steps table }
+    {
+        let _ = self.tables();
+        schemas_are_trees();
+        let mut path = ArrayVec::new();
+        let mut next = Some(table);
+        while let Some(here) = next {
+            path.push(here);
+            next = self.parent(here);
+        }
+        path
     }
 
     /// Whether a column is hidden; where there is no such column, it is not.
