@@ -3,14 +3,16 @@
 -- the WELCOME frames of the host's own catalog, whatever generation it names, each full but the last. ASK and MORE are
 -- answered by one frame each: first ROWS, each with as many whole rows as fit, then DONE. At the first frame that is no
 -- frame of the key in its place the host stops.
-use Rattle.std.specs.Prelude.{◌≡◌, ℕ, zero, suc, ◌+◌, ◌-◌, ◌/◌, ◌==◌, List, [], ◌∷◌, ◌++◌, length, take, drop, map, flat_map, if◌then◌else◌, Option, Some, None, option_to_list, All, ◌≤◌, ◌<◌}
+use Rattle.std.specs.Prelude.{◌≡◌, ℕ, zero, suc, ◌+◌, ◌-◌, ◌/◌, ◌==◌, List, [], ◌∷◌, ◌++◌, length, take, drop, map, flat_map, if◌then◌else◌, Option, Some, None, option_to_list, All, nat_lt, nat_le, ◌&&◌, true, false, ◌*◌, ◌^◌, ◌≤◌, ◌<◌}
+use Rattle.std.specs.List.{list_all}
 use Rattle.ghost_model.specs.Schema.{Schema, is_empty}
 use Rattle.ghost_model.specs.Channel.{Catalog, Ask, Frame, Hello, Asking, More, Bye, Welcome, Replied, Done}
 use Rattle.ghost_model.specs.Catalog.{catalog_bytes}
-use Rattle.ghost_model.specs.Frames.{IsFrame, Got, Found, Short, Bad, got_of, frame_bytes, kind_of, payload_of, most_payload}
-use Rattle.ghost_model.specs.Asks.{ReplyRow, row_bytes, row_width, ask_in}
+use Rattle.ghost_model.specs.Frames.{IsFrame, AreBytes, Got, Found, Short, Bad, got_of, frame_bytes, kind_of, payload_of, most_payload}
+use Rattle.ghost_model.specs.Asks.{ReplyRow, row_bytes, row_width, kinds_of, ask_in, Asked, IsReplyRow}
 use Rattle.ghost_model.specs.Split.{Public, reply_rows}
 use Rattle.ghost_model.specs.NextMove.{InvalidFrame}
+use Rattle.ghost_model.specs.NextMove as next
 
 -- what a host holds, as far as the channel goes: its catalog, and for each ask the rows that meet it, ascending
 pub record Holding : Type 0 where
@@ -193,3 +195,57 @@ pub record NothingIsLost : Type 0 where
 -- frames that are sent one after another are cut into these frames again
 abbrev pub FramesAreCut : Type 0
 FramesAreCut = (frames : List Frame) → All IsFrame frames → frames_of (flat_map frame_bytes frames) ≡ frames
+
+-- a group of rows may be sent in one ROWS frame after a row with this identifier (0 before the first)
+pub record IsGroup (catalog : Catalog) (ask : Ask) (last : ℕ) (rows : List ReplyRow) : Type 0 where
+  pub some : 0 < length rows
+  pub fits : length rows * row_width catalog.schema ask ≤ most_payload
+  pub ascends : next.rows_fit (next.rows_of catalog ask.table) last (kinds_of catalog.schema ask) rows ≡ true
+  pub widths : All (IsReplyRow catalog.schema ask) rows
+  pub bytes : AreBytes (flat_map row_bytes rows)
+
+-- groups of rows that may be sent one after another
+abbrev pub AreGroups : Catalog → Ask → (last : ℕ) → List (List ReplyRow) → Type 0
+AreGroups catalog ask last [] = Unit {0}
+AreGroups catalog ask last (rows ∷ groups) =
+    IsGroup catalog ask last rows × AreGroups catalog ask (next.last_identifier last rows) groups
+
+-- the rows of some groups
+abbrev pub rows_of_groups : List (List ReplyRow) → List ReplyRow
+rows_of_groups groups = flat_map (λ group. group) groups
+
+-- the reply of these groups of rows
+abbrev pub reply_frames : (serial : ℕ) → (groups : List (List ReplyRow)) → List Frame
+reply_frames serial groups = map (rows_frame serial) groups ++ Done serial (length (rows_of_groups groups)) ∷ []
+
+-- a reply was heard whole: the ask is ended with all rows, and the next one is awaited
+pub record IsHeardWhole (catalog : Catalog) (asked : Asked) (serial : ℕ) (later : List Asked) (groups : List (List ReplyRow)) (before after : next.Heard) : Type 0 where
+  pub awaits : after.awaits ≡ (next.on_with catalog.schema (serial + 1) later).awaits
+  pub part : after.part ≡ []
+  pub valid : after.broken ≡ false
+  pub rows : after.rows ≡ []
+  pub ended : after.ended ≡ before.ended ++ record { asked = asked; ending = next.Answered (flat_map row_bytes (rows_of_groups groups)) } ∷ []
+
+-- the whole reply to an ask, in any packing, is heard whole
+abbrev pub RepliesAreHeard : Type 0
+RepliesAreHeard =
+    (catalog : Catalog) (asks : List Asked) (asked : Asked) (serial : ℕ) (later : List Asked) (groups : List (List ReplyRow)) (before : next.Heard)
+    → before.awaits ≡ next.Reply asked serial later 0 0 → before.part ≡ [] → before.rows ≡ [] → before.broken ≡ false
+    → 0 < serial → serial < 2 ^ 32 → length (rows_of_groups groups) < 2 ^ 32 → AreGroups catalog asked.ask 0 groups
+    → IsHeardWhole catalog asked serial later groups before (next.hear_all catalog asks before (flat_map frame_bytes (reply_frames serial groups)))
+
+-- the catalog was heard whole, and the first ask is the next thing, or BYE
+pub record IsGreeted (catalog : Catalog) (asks : List Asked) (after : next.Heard) : Type 0 where
+  pub awaits : after.awaits ≡ (next.on_with catalog.schema 1 asks).awaits
+  pub part : after.part ≡ []
+  pub valid : after.broken ≡ false
+  pub rows : after.rows ≡ []
+  pub ended : after.ended ≡ []
+
+-- WELCOME frames that spell the catalog, cut anywhere, are heard whole
+abbrev pub GreetingsAreHeard : Type 0
+GreetingsAreHeard =
+    (catalog : Catalog) (asks : List Asked) (parts : List (List ℕ)) → AreBytes (catalog_bytes catalog)
+    → list_all (λ part. nat_lt 0 (length part) && nat_le (length part) most_part) parts ≡ true
+    → flat_map (λ part. part) parts ≡ catalog_bytes catalog
+    → IsGreeted catalog asks (next.heard catalog asks (flat_map frame_bytes (welcomes_of parts)))

@@ -37,7 +37,7 @@ module _ (schema : Schema) (ask : Ask) where
   row_length : (row : ReplyRow) → IsReplyRow schema ask row → length (row_bytes row) ≡ row_width schema ask
   row_length row h = omega (arith, h.width)
 
-  rows_length : (rows : List ReplyRow) → All (IsReplyRow schema ask) rows → length (flat_map row_bytes rows) ≡ length rows * row_width schema ask
+  pub rows_length : (rows : List ReplyRow) → All (IsReplyRow schema ask) rows → length (flat_map row_bytes rows) ≡ length rows * row_width schema ask
   rows_length [] all = omega arith
   rows_length (row ∷ rows) all =
       let split : length (flat_map row_bytes (row ∷ rows)) ≡ length (row_bytes row) + length (flat_map row_bytes rows) = length-append (row_bytes row) (flat_map row_bytes rows) in
