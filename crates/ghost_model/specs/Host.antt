@@ -249,3 +249,43 @@ GreetingsAreHeard =
     → list_all (λ part. nat_lt 0 (length part) && nat_le (length part) most_part) parts ≡ true
     → flat_map (λ part. part) parts ≡ catalog_bytes catalog
     → IsGreeted catalog asks (next.heard catalog asks (flat_map frame_bytes (welcomes_of parts)))
+
+-- an ask, and the groups in which the rows of its reply are sent
+pub record Exchange : Type 0 where
+  pub asked : Asked
+  pub groups : List (List ReplyRow)
+
+abbrev pub asked_in : Exchange → Asked
+asked_in exchange = exchange.asked
+
+-- that the ask was ended by DONE, with all these rows
+abbrev pub ended_in : Exchange → next.Ended
+ended_in exchange =
+    record { asked = exchange.asked; ending = next.Answered (flat_map row_bytes (rows_of_groups exchange.groups)) }
+
+-- the frames of the replies, the first of them with this serial
+abbrev pub exchange_frames : (serial : ℕ) → List Exchange → List Frame
+exchange_frames serial [] = []
+exchange_frames serial (exchange ∷ later) = reply_frames serial exchange.groups ++ exchange_frames (serial + 1) later
+
+-- serials and numbers of rows fit their fields, and the rows of each reply may be sent so
+abbrev pub AreExchanges : Catalog → (serial : ℕ) → List Exchange → Type 0
+AreExchanges catalog serial [] = Unit {0}
+AreExchanges catalog serial (exchange ∷ later) =
+    (serial < 2 ^ 32) × (length (rows_of_groups exchange.groups) < 2 ^ 32)
+    × AreGroups catalog exchange.asked.ask 0 exchange.groups × AreExchanges catalog (serial + 1) later
+
+-- a session was heard to its end: every ask was ended by DONE with all its rows, and nothing more is awaited
+pub record IsHeardToTheEnd (exchanges : List Exchange) (after : next.Heard) : Type 0 where
+  pub nothing_awaited : after.awaits ≡ next.Nothing
+  pub valid : after.broken ≡ false
+  pub ended : after.ended ≡ map ended_in exchanges
+
+-- the stream of an honest host, in any packing, is heard to its end without an invalid frame
+abbrev pub HonestStreamsAreHeard : Type 0
+HonestStreamsAreHeard =
+    (catalog : Catalog) (parts : List (List ℕ)) (exchanges : List Exchange) → AreBytes (catalog_bytes catalog)
+    → list_all (λ part. nat_lt 0 (length part) && nat_le (length part) most_part) parts ≡ true
+    → flat_map (λ part. part) parts ≡ catalog_bytes catalog → AreExchanges catalog 1 exchanges
+    → IsHeardToTheEnd exchanges
+      (next.heard catalog (map asked_in exchanges) (flat_map frame_bytes (welcomes_of parts ++ exchange_frames 1 exchanges)))
