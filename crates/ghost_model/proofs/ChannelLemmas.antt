@@ -1,4 +1,5 @@
 -- Lemmas on frames and on the next move.
+pub mod Tests
 pub mod Asks
 pub mod Proper
 pub mod Hosts

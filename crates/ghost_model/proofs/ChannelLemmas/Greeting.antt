@@ -14,20 +14,9 @@ use Rattle.ghost_model.specs.NextMove.{Awaits, Missing, Turn, still, on_with, He
 use Rattle.ghost_model.specs.Host.{welcomes_of, most_part, IsGreeted}
 use Rattle.ghost_model.proofs.ChannelLemmas.{bytes_drop}
 use Rattle.ghost_model.proofs.ChannelLemmas.Hearing.{awaited_is_heard}
-use Rattle.ghost_model.proofs.ChannelLemmas.Replies.{size_read, hold_both}
+use Rattle.ghost_model.proofs.ChannelLemmas.Replies.{size_read}
 use Rattle.ghost_model.proofs.ChannelLemmas.Sending.{heard_more}
-
-record BothHold (a b : Bool) : Type 0 where
-  one : a ≡ true
-  other : b ≡ true
-
-false_is_not : false ≡ true → ⊥
-false_is_not e = cc
-
-both_hold : (a b : Bool) → (a && b) ≡ true → BothHold a b
-both_hold true true e = record { one = refl; other = refl }
-both_hold true false e = absurd (false_is_not e)
-both_hold false b e = absurd (false_is_not e)
+use Rattle.ghost_model.proofs.ChannelLemmas.Tests.{both_hold, hold_both, BothHold}
 
 abbrev fits : List ℕ → Bool
 fits part = nat_lt 0 (length part) && nat_le (length part) most_part
@@ -54,12 +43,6 @@ welcome_is_frame last part m e h =
       bytes = cons_bytes last part (omega (arith, m)) h;
       serial_fits = lit< tt;
       number_fits = lit< tt }
-
-header_holds : (size missing : ℕ) → 2 ≤ size → size ≤ 2040 → size ≤ missing + 1 → (nat_le 2 size && nat_le size 2040 && nat_le size (missing + 1)) ≡ true
-header_holds size missing a b c = hold_both _ _ (hold_both _ _ (le-leb 2 size a) (le-leb size 2040 b)) (le-leb size (missing + 1) c)
-
-welcome_header : (size missing : ℕ) → 2 ≤ size → size ≤ 2040 → size ≤ missing + 1 → (nat_le 2 size) ≡ true
-welcome_header size missing a b c = le-leb 2 size a
 
 module _ (catalog : Catalog) (asks : List Asked) where
   welcome_awaited : (last : ℕ) (part more : List ℕ) → last ≤ 1 → fits part ≡ true → AreBytes part → (last == (if length part == length (part ++ more) then 1 else 0)) ≡ true → IsAwaited catalog (Missing (part ++ more)) (Welcome last part)

@@ -15,9 +15,6 @@ use Rattle.ghost_model.specs.Asks.{ReplyRow, row_bytes, ask_in}
 use Rattle.ghost_model.specs.Host.{Holding, Stand, Greeting, Listening, Replying, Over, Answered, welcomes, reply_to, replies_to, answers_ask, goes_on, after_reply, said_to, said_with, asks_in_frame, frames_within, frame_and, IsFront, groups_from, grouped, welcomes_of, welcome_part, rows_frame, honest_stream, host_says, frames_of}
 
 module _ (held : Holding) where
-  asks_in : List Frame → List Ask
-  asks_in frames = flat_map (asks_in_frame held.catalog.schema) frames
-
   -- what an honest host would say from here on
   abbrev owed : List Frame → Stand → List Frame
   owed frames Greeting = welcomes held.catalog ++ replies_to held 1 (flat_map (asks_in_frame held.catalog.schema) frames)

@@ -16,9 +16,7 @@ use Rattle.ghost_model.proofs.ChannelLemmas.{size_is_read}
 use Rattle.ghost_model.proofs.ChannelLemmas.Hearing.{awaited_is_heard}
 use Rattle.ghost_model.proofs.ChannelLemmas.Sending.{heard_more}
 use Rattle.ghost_model.proofs.ChannelLemmas.Rows.{rows_length, spelled_rows_are_read}
-
-pub hold_both : (a b : Bool) → a ≡ true → b ≡ true → (a && b) ≡ true
-hold_both a b p q = rw (p, q)
+use Rattle.ghost_model.proofs.ChannelLemmas.Tests.{hold_both}
 
 not_zero : (n : ℕ) → 0 < n → not (n == 0) ≡ true
 not_zero n h = grind (arith, nat_tests)

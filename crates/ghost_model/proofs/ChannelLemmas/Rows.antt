@@ -11,12 +11,7 @@ use Rattle.ghost_model.specs.Channel.{Ask}
 use Rattle.ghost_model.specs.Frames.{AreBytes}
 use Rattle.ghost_model.specs.Asks.{ReplyRow, row_bytes, row_in, rows_from, rows_in, row_width, IsReplyRow}
 use Rattle.ghost_model.proofs.ChannelLemmas.{bytes_take, bytes_drop}
-
-take_front : (n : ℕ) (xs ys : List ℕ) → length xs ≡ n → take n (xs ++ ys) ≡ xs
-take_front n xs ys e = ap (λ (k : ℕ). take k (xs ++ ys)) (sym e) ∙ take-append_seam xs ys
-
-drop_front : (n : ℕ) (xs ys : List ℕ) → length xs ≡ n → drop n (xs ++ ys) ≡ ys
-drop_front n xs ys e = ap (λ (k : ℕ). drop k (xs ++ ys)) (sym e) ∙ drop-append_seam xs ys
+use Rattle.ghost_model.proofs.ChannelLemmas.Tests.{take_front, drop_front}
 
 abbrev row_of : ℕ → List ℕ → ReplyRow
 row_of identifier cells = record { identifier = identifier; cells = cells }
