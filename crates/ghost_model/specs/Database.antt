@@ -13,6 +13,7 @@ use Rattle.ghost_model.specs.Schema.{Schema, Column, Kind, Integer, Chars, colum
 use Rattle.ghost_model.specs.SchemaFaults.{ancestor}
 use Rattle.ghost_model.specs.SchemaTrees.{IsTree}
 use Rattle.ghost_model.specs.Tokens.{is_printable, is_digit}
+pub use Rattle.ghost_model.specs.Tokens.{number_of}
 use Rattle.ghost_model.specs.Values.{Value, Number, Text, Row, Rows, Database}
 use Rattle.ghost_model.specs.Query.{Operator}
 use Rattle.ghost_model.specs.Query as query
@@ -170,9 +171,6 @@ records_of file = records default_config (strip_bom file)
 abbrev pub is_numeral : List ℕ → Bool
 is_numeral [] = false
 is_numeral (digit ∷ digits) = list_all is_digit (digit ∷ digits)
-
-abbrev pub number_of : List ℕ → ℕ
-number_of digits = fold (λ number digit. number * 10 + (digit - 48)) 0 digits
 
 -- the number with these digits and this sign, where it is not above the greatest
 abbrev pub signed_within : ℕ → (ℕ → ℤ) → List ℕ → Option ℤ
