@@ -288,4 +288,4 @@ HonestStreamsAreHeard =
     → list_all (λ part. nat_lt 0 (length part) && nat_le (length part) most_part) parts ≡ true
     → flat_map (λ part. part) parts ≡ catalog_bytes catalog → AreExchanges catalog 1 exchanges
     → IsHeardToTheEnd exchanges
-      (next.heard catalog (map asked_in exchanges) (flat_map frame_bytes (welcomes_of parts ++ exchange_frames 1 exchanges)))
+    (next.heard catalog (map asked_in exchanges) (flat_map frame_bytes (welcomes_of parts ++ exchange_frames 1 exchanges)))

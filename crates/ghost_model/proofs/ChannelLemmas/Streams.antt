@@ -1,5 +1,5 @@
 -- That an honest stream is heard to its end.
-use Rattle.std.proofs.Common.{◌≡◌, ℕ, ◌+◌, ◌<◌, ◌≤◌, ◌^◌, Bool, true, false, ◌&&◌, List, [], ◌∷◌, ◌++◌, length, map, sym, ◌∙◌, ap, subst, refl, arith, append-nil, append_assoc}
+use Rattle.std.proofs.Common.{◌≡◌, ℕ, ◌+◌, ◌<◌, true, false, ◌&&◌, List, [], ◌∷◌, ◌++◌, length, map, sym, ◌∙◌, ap, subst, arith, append-nil, append_assoc}
 use Rattle.std.specs.Prelude.{nat_lt, nat_le, flat_map}
 use Rattle.std.specs.List.{list_all}
 use Rattle.std.proofs.lemmas.Grind.{flat_map-append}
@@ -33,14 +33,15 @@ module _ (catalog : Catalog) (asks : List Asked) where
   exchanges_heard (exchange ∷ later) serial before some a p r b all =
       let middle : Heard = hear_all catalog asks before (flat_map frame_bytes (reply_frames serial exchange.groups)) in
       let whole : IsHeardWhole catalog exchange.asked serial (map asked_in later) exchange.groups before (hear_all catalog asks before (flat_map frame_bytes (reply_frames serial exchange.groups))) =
-        replies_are_heard catalog asks exchange.asked serial (map asked_in later) exchange.groups before a p r b some all.0 all.1 all.2 in
+      replies_are_heard catalog asks exchange.asked serial (map asked_in later) exchange.groups before a p r b some all.0 all.1 all.2 in
       let rest : IsEnd (hear_all catalog asks before (flat_map frame_bytes (reply_frames serial exchange.groups))).ended later (hear_all catalog asks (hear_all catalog asks before (flat_map frame_bytes (reply_frames serial exchange.groups))) (flat_map frame_bytes (exchange_frames (serial + 1) later))) =
-        exchanges_heard later (serial + 1) _ (omega arith) whole.awaits whole.part whole.rows whole.valid all.3 in
+      exchanges_heard later (serial + 1) _ (omega arith) whole.awaits whole.part whole.rows whole.valid all.3 in
       subst (λ (after : Heard). IsEnd before.ended (exchange ∷ later) after) (sym (hear_two before (reply_frames serial exchange.groups) (exchange_frames (serial + 1) later)))
-        (record {
-          nothing_awaited = rest.nothing_awaited;
-          valid = rest.valid;
-          ends = rest.ends ∙ (ap (λ (xs : List Ended). xs ++ map ended_in later) whole.ended ∙ append_assoc before.ended (ended_in exchange ∷ []) (map ended_in later)) })
+      (record {
+        nothing_awaited = rest.nothing_awaited;
+        valid = rest.valid;
+        ends = rest.ends ∙ (ap (λ (xs : List Ended). xs ++ map ended_in later) whole.ended ∙ append_assoc before.ended (ended_in exchange ∷ []) (map ended_in later));
+      })
 
 pub honest_streams_are_heard :
     (catalog : Catalog) (parts : List (List ℕ)) (exchanges : List Exchange) → AreBytes (catalog_bytes catalog)
@@ -51,9 +52,10 @@ honest_streams_are_heard catalog parts exchanges h e w all =
     let asks : List Asked = map asked_in exchanges in
     let greeted : IsGreeted catalog (map asked_in exchanges) (heard catalog (map asked_in exchanges) (flat_map frame_bytes (welcomes_of parts))) = greetings_are_heard catalog (map asked_in exchanges) parts h e w in
     let end : IsEnd catalog (map asked_in exchanges) (heard catalog (map asked_in exchanges) (flat_map frame_bytes (welcomes_of parts))).ended exchanges (hear_all catalog (map asked_in exchanges) (heard catalog (map asked_in exchanges) (flat_map frame_bytes (welcomes_of parts))) (flat_map frame_bytes (exchange_frames 1 exchanges))) =
-      exchanges_heard catalog (map asked_in exchanges) exchanges 1 _ (omega arith) greeted.awaits greeted.part greeted.rows greeted.valid all in
+    exchanges_heard catalog (map asked_in exchanges) exchanges 1 _ (omega arith) greeted.awaits greeted.part greeted.rows greeted.valid all in
     subst (λ (after : Heard). IsHeardToTheEnd exchanges after) (sym (hear_two catalog (map asked_in exchanges) (at_first catalog) (welcomes_of parts) (exchange_frames 1 exchanges)))
-      (record {
-        nothing_awaited = end.nothing_awaited;
-        valid = end.valid;
-        ended = end.ends ∙ ap (λ (xs : List Ended). xs ++ map ended_in exchanges) greeted.ended })
+    (record {
+      nothing_awaited = end.nothing_awaited;
+      valid = end.valid;
+      ended = end.ends ∙ ap (λ (xs : List Ended). xs ++ map ended_in exchanges) greeted.ended;
+    })
