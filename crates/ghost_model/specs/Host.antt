@@ -63,7 +63,7 @@ pub data Stand : Type 0 where
   Over : Stand
 
 -- a frame of the key is answered by these frames, and the host stands there
-pub record Answered : Type 0 where
+pub record Response : Type 0 where
   pub says : List Frame
   pub stand : Stand
 
@@ -71,36 +71,36 @@ abbrev pub after_reply : (serial : ℕ) → (rest : List Frame) → Stand
 after_reply serial rest = if is_empty rest then Listening (serial + 1) else Replying serial rest
 
 -- the next frame of a reply is sent
-abbrev pub goes_on : (serial : ℕ) → List Frame → Option Answered
+abbrev pub goes_on : (serial : ℕ) → List Frame → Option Response
 goes_on serial [] = None
 goes_on serial (frame ∷ rest) = Some (record { says = frame ∷ []; stand = after_reply serial rest })
 
-abbrev pub answers_ask : Holding → (serial : ℕ) → Option Ask → Option Answered
+abbrev pub answers_ask : Holding → (serial : ℕ) → Option Ask → Option Response
 answers_ask held serial None = None
 answers_ask held serial (Some ask) = goes_on serial (reply_to held serial ask)
 
-abbrev pub answers_greeting : Holding → Frame → Option Answered
+abbrev pub answers_greeting : Holding → Frame → Option Response
 answers_greeting held (Hello _) = Some (record { says = welcomes held.catalog; stand = Listening 1 })
 answers_greeting held _ = None
 
-abbrev pub answers_request : Holding → (next : ℕ) → Frame → Option Answered
+abbrev pub answers_request : Holding → (next : ℕ) → Frame → Option Response
 answers_request held next (Asking serial payload) =
     if serial == next then answers_ask held serial (ask_in held.catalog.schema payload) else None
 answers_request held next Bye = Some (record { says = []; stand = Over })
 answers_request held next _ = None
 
-abbrev pub answers_more : (serial : ℕ) → (rest : List Frame) → Frame → Option Answered
+abbrev pub answers_more : (serial : ℕ) → (rest : List Frame) → Frame → Option Response
 answers_more serial rest (More other) = if other == serial then goes_on serial rest else None
 answers_more serial rest _ = None
 
 -- how a frame is answered; a frame that is no frame of the key in its place is not
-abbrev pub answer_to : Holding → Stand → Frame → Option Answered
+abbrev pub answer_to : Holding → Stand → Frame → Option Response
 answer_to held Greeting frame = answers_greeting held frame
 answer_to held (Listening next) frame = answers_request held next frame
 answer_to held (Replying serial rest) frame = answers_more serial rest frame
 answer_to held Over frame = None
 
-abbrev pub said_with : (Stand → List Frame) → Option Answered → List Frame
+abbrev pub said_with : (Stand → List Frame) → Option Response → List Frame
 said_with later None = []
 said_with later (Some answered) = answered.says ++ later answered.stand
 
@@ -136,7 +136,7 @@ bad_rest at (Found _) = None
 bad_rest at (Short _) = None
 bad_rest at (Bad kind) = Some (record { kind = kind; at = at })
 
-abbrev pub refused_or : Frame → (at : ℕ) → (Stand → Option InvalidFrame) → Option Answered → Option InvalidFrame
+abbrev pub refused_or : Frame → (at : ℕ) → (Stand → Option InvalidFrame) → Option Response → Option InvalidFrame
 refused_or frame at later None = Some (record { kind = kind_of frame; at = at })
 refused_or frame at later (Some answered) = later answered.stand
 
