@@ -1,0 +1,2 @@
+-- Lemmas on whole sessions.
+pub mod OneJournal

@@ -1,0 +1,9 @@
+//! Laws of whole sessions, each of the key and its host together.
+
+ghost use Rattle.ghost_model.specs.SessionLaws.{OneLocalJournal};
+
+/// Where the host is in the key's own process, one journal is possible: two finished proper journals for the same
+/// catalog, address and texts that the same holding served throughout are equal.
+pub fn one_local_journal()
+    ensures { OneLocalJournal }
+{}
