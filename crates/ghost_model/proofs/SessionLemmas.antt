@@ -1,2 +1,6 @@
 -- Lemmas on whole sessions.
 pub mod OneJournal
+pub mod Groups
+pub mod Limits
+pub mod SentFrames
+pub mod ThisHost

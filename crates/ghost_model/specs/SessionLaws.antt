@@ -1,9 +1,16 @@
--- Laws of whole sessions, each of the key and its host together. A host in the key's own process leaves one journal.
-use Rattle.std.specs.Prelude.{◌≡◌, ℕ, List, take}
+-- Laws of whole sessions, each of the key and its host together. A host in the key's own process leaves one journal, and
+-- what it sends is what an honest host sends.
+use Rattle.std.specs.Prelude.{◌≡◌, ℕ, ◌<◌, ◌^◌, false, List, ◌++◌, length, take}
+use Rattle.std.specs.List.{list_any, concat}
+use Rattle.ghost_model.specs.SchemaFaults.{MeansSchema}
 use Rattle.ghost_model.specs.Channel.{Catalog, Journal}
-use Rattle.ghost_model.specs.NextMove.{IsProper, IsFinished}
-use Rattle.ghost_model.specs.Host.{Holding}
+use Rattle.ghost_model.specs.Asks.{asked_of}
+use Rattle.ghost_model.specs.Moves.{answers, taken, sent}
+use Rattle.ghost_model.specs.NextMove.{IsProper, IsFinished, is_stop}
+use Rattle.ghost_model.specs.Split.{Public}
+use Rattle.ghost_model.specs.Host.{Holding, host_of, host_sends}
 use Rattle.ghost_model.specs.Local.{IsServedBy}
+use Rattle.ghost_model.specs.Honest.{IsHonest}
 
 -- at each point of the session every take was answered in full, and what was taken by then begins what the host sends
 -- for the bytes that the key had sent by then
@@ -16,3 +23,19 @@ OneLocalJournal =
     (held : Holding) (catalog : Catalog) (at : List ℕ) (texts : List (List ℕ)) (first second : Journal)
     → IsProper catalog at texts first → IsProper catalog at texts second → IsFinished first → IsFinished second
     → IsServedThroughout held first → IsServedThroughout held second → first ≡ second
+
+-- the catalog is of an accepted schema, and its generation and the serials of all asks fit 4 bytes
+pub record IsSetting (catalog : Catalog) (texts : List (List ℕ)) : Type 0 where
+  pub schema_text : List ℕ
+  pub accepted : MeansSchema schema_text catalog.schema
+  pub generation_fits : catalog.generation < 2 ^ 32
+  pub serials_fit : length (asked_of catalog.schema texts) < 2 ^ 32
+
+-- where nothing broke off and the key took the beginning of what this host sends for the key's bytes, the journal is one
+-- with an honest host
+abbrev pub ThisHostIsHonest : Type 0
+ThisHostIsHonest =
+    (catalog : Catalog) (public : Public) (at : List ℕ) (texts : List (List ℕ)) (journal : Journal) (rest : List ℕ)
+    → IsSetting catalog texts → IsProper catalog at texts journal → list_any is_stop (answers journal) ≡ false
+    → taken journal ++ rest ≡ host_sends (host_of catalog public) (concat (sent journal))
+    → IsHonest catalog public journal
