@@ -4,3 +4,7 @@ pub mod Groups
 pub mod Limits
 pub mod SentFrames
 pub mod ThisHost
+pub mod Values
+pub mod Whole
+pub mod Accepted
+pub mod Combined

@@ -1,6 +1,6 @@
 //! Laws of whole sessions, each of the key and its host together.
 
-ghost use Rattle.ghost_model.specs.SessionLaws.{OneLocalJournal, ThisHostIsHonest};
+ghost use Rattle.ghost_model.specs.SessionLaws.{OneLocalJournal, ThisHostIsHonest, WholeRepliesAnswer};
 
 /// Where the host is in the key's own process, one journal is possible: two finished proper journals for the same
 /// catalog, address and texts that the same holding served throughout are equal.
@@ -12,4 +12,10 @@ pub fn one_local_journal()
 /// with an honest host.
 pub fn this_host_is_honest()
     ensures { ThisHostIsHonest }
+{}
+
+/// From the hidden part of a database, and for each ask of an accepted text all rows of the public part that meet it,
+/// follows the text's answer.
+pub fn whole_replies_answer()
+    ensures { WholeRepliesAnswer }
 {}
