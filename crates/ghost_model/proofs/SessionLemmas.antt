@@ -8,3 +8,5 @@ pub mod Values
 pub mod Whole
 pub mod Accepted
 pub mod Combined
+pub mod Front
+pub mod Replied

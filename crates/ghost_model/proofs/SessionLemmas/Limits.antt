@@ -87,7 +87,7 @@ cons_bytes : (x : ℕ) (xs : List ℕ) → x < 256 → AreBytes xs → AreBytes 
 cons_bytes x xs m h zero = m
 cons_bytes x xs m h (suc i) = h i
 
-append_bytes : (xs ys : List ℕ) → AreBytes xs → AreBytes ys → AreBytes (xs ++ ys)
+pub append_bytes : (xs ys : List ℕ) → AreBytes xs → AreBytes ys → AreBytes (xs ++ ys)
 append_bytes [] ys h k = k
 append_bytes (x ∷ xs) ys h k = cons_bytes x (xs ++ ys) (h 0) (append_bytes xs ys (λ i. h (suc i)) k)
 
@@ -115,7 +115,7 @@ printable_bytes (byte ∷ text) e =
     let both : BothHold (is_printable byte) (list_all is_printable text) = both_hold _ _ e in
     cons_bytes byte text (printable_byte byte both.one) (printable_bytes text both.other)
 
-cell_bytes : (kind : Kind) (value : Value) → is_of_kind kind value ≡ true → AreBytes (encode_cell kind value)
+pub cell_bytes : (kind : Kind) (value : Value) → is_of_kind kind value ≡ true → AreBytes (encode_cell kind value)
 cell_bytes Integer (Number z) e = high_bytes 8 _
 cell_bytes Integer (Text _) e = absurd (false_is_not e)
 cell_bytes (Chars most) (Number _) e = absurd (false_is_not e)

@@ -29,12 +29,12 @@ place_stands at zero (x ∷ xs) h = inl (omega arith)
 place_stands at (suc place) (x ∷ xs) h =
     inr (subst (λ (n : ℕ). Among n (places_from (λ _. true) (at + 1) xs)) (omega arith) (place_stands (at + 1) place xs (omega (arith, h))))
 
-there_is : {X : Type 0} (xs : List X) (place : ℕ) → place < length xs → (x : X) × (slice_get xs place ≡ Some x)
+pub there_is : {X : Type 0} (xs : List X) (place : ℕ) → place < length xs → (x : X) × (slice_get xs place ≡ Some x)
 there_is [] place h = absurd (omega (arith, h))
 there_is (x ∷ xs) zero h = (x, refl)
 there_is (x ∷ xs) (suc place) h = there_is xs place (omega (arith, h))
 
-shown_within : (columns : List Column) (place : ℕ) → is_shown (slice_get columns place) ≡ true → place < length columns
+pub shown_within : (columns : List Column) (place : ℕ) → is_shown (slice_get columns place) ≡ true → place < length columns
 shown_within [] place e = absurd (false_is_not e)
 shown_within (column ∷ columns) zero e = omega arith
 shown_within (column ∷ columns) (suc place) e = let later : place < length columns = shown_within columns place e in omega (arith, later)
@@ -126,7 +126,7 @@ module _ (schema : Schema) (database : Database) (is : IsDatabase schema databas
   abbrev pub stands_by : (table : ℕ) → Row → Bool
   stands_by table row = list_all (λ (test : Test). meets_test test (slice_get row test.column)) (tests_of schema table asked.conditions)
 
-  abbrev shown_part : (table : ℕ) → Row → Row
+  abbrev pub shown_part : (table : ℕ) → Row → Row
   shown_part table row = visible_values (hidden_flags (columns_of schema table)) (drop 1 row)
 
   -- replies by their tables
@@ -161,7 +161,7 @@ module _ (schema : Schema) (database : Database) (is : IsDatabase schema databas
       ]) refl
 
   -- a visible value of a row
-  visible_value :
+  pub visible_value :
       (table place column : ℕ) (row : Row) → slice_get (rows_of database table) place ≡ Some row → is_visible schema table column ≡ true
       → value_at (visible_places schema table) (shown_part table row) column ≡ slice_get row column
   visible_value table place zero row h v = absurd (false_is_not v)
