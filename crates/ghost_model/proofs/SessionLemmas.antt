@@ -10,3 +10,5 @@ pub mod Accepted
 pub mod Combined
 pub mod Front
 pub mod Replied
+pub mod Honest
+pub mod Ended
