@@ -12,3 +12,4 @@ pub mod Front
 pub mod Replied
 pub mod Honest
 pub mod Ended
+pub mod Answered

@@ -196,3 +196,46 @@ module _ (catalog : Catalog) (database : Database) (is : IsDatabase catalog.sche
             let enough = enough_due catalog asks (length (payloads catalog asks done)) (length (payloads catalog asks (frame ∷ []))) (length (payloads catalog asks after.due)) (length m.one) (length asks) (1 + length ex.exchanges) m.later total sizes count (at_most_one catalog asks frame) bound in
             begins_longer _ _ _ (shorter_begins _ _ _ sent begun (omega (arith, parts, enough))) (record { rest = map (payload_of catalog asks) (still_to_come asks after.awaits); joined = sym all }))
       ]
+
+  walk :
+      (todo done : List Frame) → Begins (done ++ todo) due_now → AreReplies catalog.schema (public_of catalog.schema database) 1 (flat_map (asks_in_frame catalog.schema) (done ++ todo)) replies
+      → Begins (payloads catalog asks done) owed → Begins (payloads catalog asks (done ++ todo)) owed
+  walk [] done due replied b = subst (λ (fs : List Frame). Begins (payloads catalog asks fs) owed) (sym (append-nil done)) b
+  walk (frame ∷ todo) done due replied b =
+      let moved : (done ++ frame ∷ []) ++ todo ≡ done ++ frame ∷ todo = append_assoc done (frame ∷ []) todo in
+      let next : Begins (payloads catalog asks (done ++ frame ∷ [])) owed =
+      step done frame (flat_map (asks_in_frame catalog.schema) (frame ∷ todo)) (begins_longer _ _ _ (record { rest = todo; joined = sym moved }) due)
+      (subst (λ (names : List Ask). AreReplies catalog.schema (public_of catalog.schema database) 1 names replies) (flat_map-append (asks_in_frame catalog.schema) done (frame ∷ todo)) replied) b in
+      subst (λ (fs : List Frame). Begins (payloads catalog asks fs) owed) moved
+      (walk todo (done ++ frame ∷ []) (subst (λ (fs : List Frame). Begins fs due_now) (sym moved) due)
+      (subst (λ (fs : List Frame). AreReplies catalog.schema (public_of catalog.schema database) 1 (flat_map (asks_in_frame catalog.schema) fs) replies) (sym moved) replied) next)
+
+  -- the asks that were ended are the first ones, each with its whole reply
+  pub record AreEnded : Type 0 where
+    pub exchanges : List Exchange
+    pub later : List Asked
+    pub asked_are : asks ≡ map asked_in exchanges ++ later
+    pub whole : Each (IsWhole catalog database is asked counts few visible_in) exchanges
+    pub ended : Begins (heard catalog asks received).ended (map ended_in exchanges)
+
+  pub ended_now : (frames : List Frame) → Begins frames due_now → AreReplies catalog.schema (public_of catalog.schema database) 1 (flat_map (asks_in_frame catalog.schema) frames) replies → AreEnded
+  ended_now frames due replied =
+      let front : Begins (payloads catalog asks frames) owed = walk frames [] due replied (record { rest = owed; joined = refl }) in
+      let m : IsMapped (payload_of catalog asks) (payloads catalog asks frames) asks = mapped_front (payload_of catalog asks) (payloads catalog asks frames) asks front in
+      let good : AreProper catalog.schema m.one = front_proper catalog.schema m.one m.later (subst (λ (xs : List Asked). AreProper catalog.schema xs) m.whole proper) in
+      let names : flat_map (asks_in_frame catalog.schema) frames ≡ map ask_of m.one = asks_back catalog asks frames m.one m.front_is good in
+      let sizes : length asks ≡ length m.one + length m.later = ap length m.whole ∙ length-append m.one m.later in
+      let ex : AreExchanged catalog database is asked counts few visible_in 1 m.one replies =
+      exchanged catalog database is asked counts few visible_in 1 m.one replies good (omega (arith, sizes, serials))
+      (subst (λ (xs : List Ask). AreReplies catalog.schema (public_of catalog.schema database) 1 xs replies) names replied) in
+      let h : IsHeardSoFar catalog asks 1 [] ex.exchanges m.later (heard catalog asks (flat_map frame_bytes (greeting ++ exchange_frames 1 ex.exchanges))) =
+      stream_heard catalog asks greeting ex.exchanges m.later bytes welcomes ex.are (ap (λ (xs : List Asked). xs ++ m.later) ex.asked_are ∙ sym m.whole) in
+      let g : Grows catalog asks (heard catalog asks received) (heard catalog asks (received ++ rest)) = grown catalog asks received rest in
+      let same : received ++ rest ≡ flat_map frame_bytes (greeting ++ exchange_frames 1 ex.exchanges) = stream ∙ ap (λ (fs : List Frame). flat_map frame_bytes (greeting ++ fs)) ex.frames_are in
+      record {
+        exchanges = ex.exchanges;
+        later = m.later;
+        asked_are = m.whole ∙ ap (λ (xs : List Asked). xs ++ m.later) (sym ex.asked_are);
+        whole = ex.whole;
+        ended = subst (λ (ends : List Ended). Begins (heard catalog asks received).ended ends) (ap (λ (bs : List ℕ). (heard catalog asks bs).ended) same ∙ h.ends) g.ended;
+      }
