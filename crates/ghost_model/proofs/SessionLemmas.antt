@@ -13,3 +13,4 @@ pub mod Replied
 pub mod Honest
 pub mod Ended
 pub mod Answered
+pub mod Replies

@@ -23,7 +23,7 @@ ask_of one = one.ask
 same_number : (n : ℕ) → (n == n) ≡ true
 same_number n = grind (arith, nat_tests)
 
-filter_joined : {X : Type 0} (p : X → Bool) (xs ys : List X) → filter p (xs ++ ys) ≡ filter p xs ++ filter p ys
+pub filter_joined : {X : Type 0} (p : X → Bool) (xs ys : List X) → filter p (xs ++ ys) ≡ filter p xs ++ filter p ys
 filter_joined p [] ys = refl
 filter_joined {X} p (x ∷ xs) ys =
     (elim (p x) as (λ v. (if v then x ∷ filter p (xs ++ ys) else filter p (xs ++ ys)) ≡ (if v then x ∷ filter p xs else filter p xs) ++ filter p ys) [
@@ -86,7 +86,7 @@ module _ (schema : Schema) (public : Public) (text : ℕ) where
       ap (λ (rows : List ReplyRow). map (replied_row schema ask) rows) (spelled_rows_are_read schema ask (reply_rows schema public ask) (all_rows schema ask (reply_rows schema public ask) (all_sendable schema ask (visible_rows schema public ask) kinds)))
       ∙ rows_back schema ask (visible_rows schema public ask) kinds
 
-  abbrev IsGiven : Exchange → Type 0
+  abbrev pub IsGiven : Exchange → Type 0
   IsGiven exchange = Each (IsOfKinds schema exchange.asked.ask) (visible_rows schema public exchange.asked.ask) × (rows_of_groups exchange.groups ≡ reply_rows schema public exchange.asked.ask)
 
   one_reply : (exchange : Exchange) → IsGiven exchange → reply_for schema text (ended_in exchange) ≡ (if exchange.asked.text == text then Some (whole_reply schema public exchange.asked.ask) else None)
@@ -94,7 +94,7 @@ module _ (schema : Schema) (public : Public) (text : ℕ) where
       ap (λ (rows : List Replied). if exchange.asked.text == text then Some (record { ask = exchange.asked.ask; rows = rows }) else None)
       (ap (λ (rows : List ReplyRow). map (replied_row schema exchange.asked.ask) (rows_in schema exchange.asked.ask (flat_map row_bytes rows))) given.1 ∙ read_rows exchange.asked.ask given.0)
 
-  abbrev wanted : List Exchange → List Asked
+  abbrev pub wanted : List Exchange → List Asked
   wanted exchanges = filter (λ (one : Asked). one.text == text) (map asked_in exchanges)
 
   pub all_replies : (exchanges : List Exchange) → Each IsGiven exchanges → filter_map (reply_for schema text) (map ended_in exchanges) ≡ map (whole_reply schema public) (map ask_of (wanted exchanges))

@@ -261,3 +261,7 @@ module _ (schema : Schema) (small : IsSmall schema) where
       let parts : Parts ask = parts_of ask e in
       let columns : length ask.columns ≤ 24 = few_columns ask.table ask.columns parts.third parts.second in
       omega (arith, columns, cells_fit ask.table ask.columns)
+
+  -- its columns are visible
+  pub proper_columns : (ask : Ask) → is_proper_ask schema ask ≡ true → list_all (is_visible schema ask.table) ask.columns ≡ true
+  proper_columns ask e = let parts : Parts ask = parts_of ask e in parts.second

@@ -51,14 +51,14 @@ module _ (schema : Schema) where
   asks_of_one (Done _ _) asks = refl
   asks_of_one (Sorry _ _) asks = refl
 
-  abbrev ask_of_bytes : List ℕ → Option Ask
+  abbrev pub ask_of_bytes : List ℕ → Option Ask
   ask_of_bytes bytes = ask_of_got schema (got_of bytes)
 
   found_again : (frame : Frame) → IsFrame frame → ask_of_bytes (frame_bytes frame) ≡ ask_of_frame schema frame
   found_again frame h =
       ap ask_of_bytes (sym (append-nil (frame_bytes frame))) ∙ ap (ask_of_got schema) (spelled_is_found frame [] h)
 
-  asks_in_frames : (frames : List Frame) → AreFrames frames → filter_map ask_of_bytes (map frame_bytes frames) ≡ flat_map (asks_in_frame schema) frames
+  pub asks_in_frames : (frames : List Frame) → AreFrames frames → filter_map ask_of_bytes (map frame_bytes frames) ≡ flat_map (asks_in_frame schema) frames
   asks_in_frames [] h = refl
   asks_in_frames (frame ∷ frames) h =
       ap (λ (o : Option Ask). cons_option o (filter_map ask_of_bytes (map frame_bytes frames))) (found_again frame h.0)

@@ -1,5 +1,3 @@
-use Rattle.ghost_model.proofs.SessionLemmas.Ended as scratch
-use Rattle.ghost_model.proofs.SessionLemmas.Answered as scratch2
 use Rattle.std.proofs.Common.{[]}
 use Rattle.ghost_model.specs.Asks.{asked_of}
 use Rattle.ghost_model.proofs.SessionLemmas.OneJournal.{same_journal}
