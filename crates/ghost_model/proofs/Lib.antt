@@ -4,6 +4,7 @@ pub mod GrammarLemmas
 pub mod SchemaLemmas
 pub mod SchemaRuleLemmas
 pub mod SchemaTreeLemmas
+pub mod CatalogLemmas
 pub mod QueryLemmas
 pub mod QueryReadingLemmas
 pub mod ChannelLemmas

@@ -13,20 +13,20 @@ use Rattle.ghost_model.specs.Spelled.{is_spelled, is_name}
 use Rattle.ghost_model.specs.SchemaGrammar.{To, ColumnText, CharColumn, IntegerColumn, TableText, SchemaText, spell_column, spell_table, spelling}
 use Rattle.ghost_model.specs.SchemaMeaning.{columns_written, column_of, table_of, schema_of}
 use Rattle.ghost_model.specs.SchemaFaults as faults
-use Rattle.ghost_model.specs.SchemaFaults.{SchemaFault, Limit, DuplicateName, NoId, TwoParents, Cycle, NotOneRoot, is_over, is_table_over, is_column_over, column_name, columns_at, repeats, table_repeats, is_duplicate, fields_from, fields, is_identifier, table_lacks_id, lacks_id, is_shared, ancestor, Returns, places_of, returns, roots_of, IsFirst, Breaks, MeansSchema}
+use Rattle.ghost_model.specs.SchemaFaults.{SchemaFault, Limit, DuplicateName, NoId, UnknownTable, TwoParents, Cycle, NotOneRoot, is_over, is_table_over, is_column_over, column_name, columns_at, repeats, table_repeats, is_duplicate, fields_from, fields, is_identifier, table_lacks_id, lacks_id, is_primary, refers_nowhere, is_unknown, is_shared, ancestor, Returns, places_of, returns, roots_of, IsFirst, Breaks, MeansSchema}
 use Rattle.ghost_model.specs.SchemaTrees.{identifier, IsTree, SchemasAreTrees}
 use Rattle.ghost_model.proofs.GrammarLemmas.{spelled_parts, spelled_front}
 use Rattle.ghost_model.proofs.SchemaRuleLemmas.{find_first, place_passes, returns_yes, returns_no, one_less, parent_below, same_or_not}
 
-never_true : (b : Bool) → (b ≡ true → ⊥) → b ≡ false
+pub never_true : (b : Bool) → (b ≡ true → ⊥) → b ≡ false
 never_true true h = absurd (h refl)
 never_true false h = refl
 
-neither : (a b : Bool) → (a || b) ≡ false → (a ≡ false) × (b ≡ false)
+pub neither : (a b : Bool) → (a || b) ≡ false → (a ≡ false) × (b ≡ false)
 neither false b e = (refl, e)
 neither true b e = absurd (cc)
 
-none_at : {X : Type 0} (test : X → Bool) (xs : List X) (k : ℕ) (x : X) → list_any test xs ≡ false → slice_get xs k ≡ Some x → test x ≡ false
+pub none_at : {X : Type 0} (test : X → Bool) (xs : List X) (k : ℕ) (x : X) → list_any test xs ≡ false → slice_get xs k ≡ Some x → test x ≡ false
 none_at test [] k x e h = absurd (cc)
 none_at test (y ∷ ys) zero x e h = let same : y ≡ x = cc in ap test (sym same) ∙ (neither (test y) (list_any test ys) e).0
 none_at test (y ∷ ys) (suc k) x e h = none_at test ys k x (neither (test y) (list_any test ys) e).1 h
@@ -41,7 +41,7 @@ none_found : {X : Type 0} (test : X → Bool) (xs : List X) → find test xs ≡
 none_found test [] e = refl
 none_found test (x ∷ xs) e = none_by test x xs (test x) refl e (none_found test xs)
 
-no_first : {X : Type 0} (found : Option X) → ((x : X) → found ≡ Some x → ⊥) → found ≡ None
+pub no_first : {X : Type 0} (found : Option X) → ((x : X) → found ≡ Some x → ⊥) → found ≡ None
 no_first None h = refl
 no_first (Some x) h = absurd (h x refl)
 
@@ -67,7 +67,7 @@ first_is_id tables (IntegerColumn name true None false) e =
     ap (λ (given : List ℕ). column_of tables (IntegerColumn given true None false)) ((bytes_eq-Decides name (codes "id")).0 e)
 first_is_id tables _ e = absurd (cc)
 
-not_false : (b : Bool) → not b ≡ false → b ≡ true
+pub not_false : (b : Bool) → not b ≡ false → b ≡ true
 not_false true e = refl
 not_false false e = absurd (cc)
 
@@ -78,7 +78,7 @@ key_of tables (IntegerColumn name primary (Some (To table says_id)) hidden) chil
 key_of tables (CharColumn name digits hidden) child e = absurd (cc)
 key_of tables (IntegerColumn name primary None hidden) child e = absurd (cc)
 
-mapped : {X Y : Type 0} (f : X → Y) (o : Option X) (y : Y) → option_map f o ≡ Some y → (x : X) × (o ≡ Some x) × (f x ≡ y)
+pub mapped : {X Y : Type 0} (f : X → Y) (o : Option X) (y : Y) → option_map f o ≡ Some y → (x : X) × (o ≡ Some x) × (f x ≡ y)
 mapped f None y e = absurd (cc)
 mapped f (Some x) y e = let same : f x ≡ y = cc in (x, refl, same)
 
@@ -261,14 +261,27 @@ module _ (tables : SchemaText) (obeys : (fault : SchemaFault) → Breaks tables 
       let h : length (columns_written text) ≤ 24 = ltb-false 24 (length (columns_written text)) few in
       subst (λ n. n ≤ 24) (sym (length-map (columns_written text) (column_of tables))) h
 
+  -- each table of the text begins with its identifier, and no other column is one
+  pub identified : (table : ℕ) (text : TableText) → slice_get tables table ≡ Some text
+      → (is_identifier text.first ≡ true) × (list_any is_primary text.others ≡ false)
+  identified table text e =
+      let lacks : lacks_id tables table ≡ false =
+      nowhere (λ place. lacks_id tables place ≡ true) (lacks_id tables) (λ x e. e) (λ x e. e) tables (λ x. obeys (NoId x)) table (place_within tables table text e) in
+      let both = neither _ _ (ap table_lacks_id (sym e) ∙ lacks) in
+      (not_false _ both.0, both.1)
+
+  -- each reference of the text names a table
+  pub known : (table column : ℕ) (holder : TableText) (text : ColumnText) → slice_get tables table ≡ Some holder
+      → slice_get (columns_written holder) column ≡ Some text → refers_nowhere tables (Some text) ≡ false
+  known table column holder text e h =
+      ap (refers_nowhere tables) (sym (ap (λ o. slice_get (columns_at o) column) e ∙ h))
+      ∙ nowhere_in (is_unknown tables) tables (λ x. obeys (UnknownTable x.table x.column)) table column holder e (place_within (columns_written holder) column text h)
+
   begins : (table : ℕ) → table < length tables → column_at (schema_of tables) table 0 ≡ Some identifier
   begins table h =
       let t = there_is tables table h in
-      let lacks : lacks_id tables table ≡ false =
-      nowhere (λ place. lacks_id tables place ≡ true) (lacks_id tables) (λ x e. e) (λ x e. e) tables (λ x. obeys (NoId x)) table h in
-      let first : is_identifier t.0.first ≡ true = not_false _ (neither _ _ (ap table_lacks_id (sym t.1) ∙ lacks)).0 in
       ap (λ columns. slice_get columns 0) (table_in table ∙ ap (λ o. columns_or_none (option_map (table_of tables) o)) t.1)
-      ∙ ap Some (first_is_id tables t.0.first first)
+      ∙ ap Some (first_is_id tables t.0.first (identified table t.0 t.1).0)
 
   return_within : (table steps : ℕ) → 0 < steps → ancestor (schema_of tables) steps table ≡ Some table → table < length tables
   unfolding ancestor

@@ -1,0 +1,13 @@
+//! Laws and examples of canonical texts and catalogs.
+
+ghost use Rattle.ghost_model.specs.CatalogLaws.{CanonicalTextMeansItsSchema, ACatalogOfEachText};
+
+/// The canonical text of a schema that a text means is a text that means it too.
+pub fn canonical_text_means_its_schema()
+    ensures { CanonicalTextMeansItsSchema }
+{}
+
+/// Each text that means a schema gives a catalog.
+pub fn a_catalog_of_each_text()
+    ensures { ACatalogOfEachText }
+{}
