@@ -1,6 +1,7 @@
 //! Laws and examples of canonical texts and catalogs.
 
 ghost use Rattle.ghost_model.specs.CatalogLaws.{CanonicalTextMeansItsSchema, ACatalogOfEachText};
+ghost use Rattle.ghost_model.specs.examples.Catalogs.{CatalogsOfExamples};
 
 /// The canonical text of a schema that a text means is a text that means it too.
 pub fn canonical_text_means_its_schema()
@@ -10,4 +11,9 @@ pub fn canonical_text_means_its_schema()
 /// Each text that means a schema gives a catalog.
 pub fn a_catalog_of_each_text()
     ensures { ACatalogOfEachText }
+{}
+
+/// The catalogs of the worked databases, and what is no catalog.
+pub fn catalogs_of_examples()
+    ensures { CatalogsOfExamples }
 {}
