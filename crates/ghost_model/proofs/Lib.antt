@@ -5,6 +5,7 @@ pub mod SchemaLemmas
 pub mod SchemaRuleLemmas
 pub mod SchemaTreeLemmas
 pub mod CatalogLemmas
+pub mod CatalogLengthLemmas
 pub mod QueryLemmas
 pub mod QueryReadingLemmas
 pub mod ChannelLemmas

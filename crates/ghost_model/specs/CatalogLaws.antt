@@ -1,13 +1,13 @@
 -- What the canonical text is good for, and which catalogs there are. The canonical text of a schema that some text means
 -- is another text for it. So each text that means a schema gives a catalog, whatever the numbers of rows are, as far as
--- no table has more than a million and the generation is one that four bytes hold.
-use Rattle.std.specs.Prelude.{◌≡◌, ℕ, ◌<◌, ◌^◌, true, List, length, nat_le}
+-- no table has more than a million and the generation is one that four bytes hold. No catalog is long.
+use Rattle.std.specs.Prelude.{◌≡◌, ℕ, ◌<◌, ◌≤◌, ◌^◌, true, List, length, nat_le}
 use Rattle.std.specs.List.{list_all}
 use Rattle.ghost_model.specs.Schema.{Schema}
 use Rattle.ghost_model.specs.Channel.{Catalog}
 use Rattle.ghost_model.specs.SchemaFaults.{MeansSchema}
 use Rattle.ghost_model.specs.LoadFaults.{most_rows}
-use Rattle.ghost_model.specs.Catalog.{canonical_text, IsCatalog}
+use Rattle.ghost_model.specs.Catalog.{canonical_text, catalog_bytes, IsCatalog}
 
 abbrev pub CanonicalTextMeansItsSchema : Type 0
 CanonicalTextMeansItsSchema =
@@ -18,3 +18,6 @@ ACatalogOfEachText =
     (text : List ℕ) (cat : Catalog) → MeansSchema text cat.schema → length cat.counts ≡ length cat.schema
     → list_all (λ count. nat_le count most_rows) cat.counts ≡ true → 0 < cat.generation → cat.generation < 2 ^ 32
     → IsCatalog cat
+
+abbrev pub NoCatalogIsLong : Type 0
+NoCatalogIsLong = (cat : Catalog) → IsCatalog cat → length (catalog_bytes cat) ≤ 16640

@@ -1,6 +1,6 @@
 //! Laws and examples of canonical texts and catalogs.
 
-ghost use Rattle.ghost_model.specs.CatalogLaws.{CanonicalTextMeansItsSchema, ACatalogOfEachText};
+ghost use Rattle.ghost_model.specs.CatalogLaws.{CanonicalTextMeansItsSchema, ACatalogOfEachText, NoCatalogIsLong};
 ghost use Rattle.ghost_model.specs.examples.Catalogs.{CatalogsOfExamples};
 
 /// The canonical text of a schema that a text means is a text that means it too.
@@ -11,6 +11,11 @@ pub fn canonical_text_means_its_schema()
 /// Each text that means a schema gives a catalog.
 pub fn a_catalog_of_each_text()
     ensures { ACatalogOfEachText }
+{}
+
+/// The bytes of each catalog are at most 16,640.
+pub fn no_catalog_is_long()
+    ensures { NoCatalogIsLong }
 {}
 
 /// The catalogs of the worked databases, and what is no catalog.
