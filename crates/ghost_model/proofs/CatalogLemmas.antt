@@ -1,7 +1,7 @@
 -- The canonical text of a schema that a text means is read as the tree of that text with each part written out, which
 -- means the same schema and breaks no rule that the first tree does not break.
-use Rattle.std.proofs.Common.{◌≡◌, ℕ, zero, suc, ◌+◌, ◌-◌, ◌*◌, ◌<◌, ◌≤◌, ◌^◌, nat_lt, nat_le, Bool, true, false, not, ◌&&◌, ◌||◌, ◌==◌, cond, if◌then◌else◌, List, [], ◌∷◌, ◌++◌, length, map, take, flat_map, find, position, Option, Some, None, is_none, option_map, Ok, slice_get, bytes_eq, codes, refl, sym, ap, ◌∙◌, subst, append_assoc, append-nil, arith, rules}
-use Rattle.std.specs.Prelude.{fold, decimal, drop}
+use Rattle.std.proofs.Common.{◌≡◌, ℕ, suc, ◌+◌, ◌-◌, ◌*◌, ◌<◌, ◌≤◌, ◌^◌, nat_lt, Bool, true, false, not, ◌&&◌, ◌||◌, ◌==◌, cond, if◌then◌else◌, List, [], ◌∷◌, ◌++◌, length, map, flat_map, find, position, Option, Some, None, is_none, option_map, Ok, slice_get, bytes_eq, codes, refl, sym, ap, ◌∙◌, subst, append_assoc, arith, rules}
+use Rattle.std.specs.Prelude.{fold, decimal}
 use Rattle.std.specs.List.{list_any, list_all, position_from}
 use Rattle.std.proofs.lemmas.Bool.{and_parts, or_from, not-true}
 use Rattle.std.proofs.lemmas.Bool.Decides.{nat_tests}
@@ -16,16 +16,16 @@ use Rattle.ghost_model.specs.Schema.{Schema, Column, Chars, places_from}
 use Rattle.ghost_model.specs.Query.{Field}
 use Rattle.ghost_model.specs.Tokens.{number_of, is_between, Keyword, Symbol, Word, Reserved, Name, Digits, Open, Closing, Comma, Semicolon, End, Char, Create, Hidden, Integer, Key, Primary, References, Table, Read, read, symbol_of, symbols, tokens_from, token_at, word_at, digits_at, symbol_of_word, keyword_of, keyword_or, other_reserved, in_lower_case, begins_name, is_space, is_digit, is_name_byte}
 use Rattle.ghost_model.specs.Spelled.{is_spelled, is_reserved, is_name}
-use Rattle.ghost_model.specs.SchemaGrammar.{To, ColumnText, CharColumn, IntegerColumn, TableText, SchemaText, spell_hidden, spell_id, spell_column, spell_heading, spell_table, spelling}
+use Rattle.ghost_model.specs.SchemaGrammar.{To, ColumnText, CharColumn, IntegerColumn, TableText, SchemaText, spell_hidden, spell_id, spell_column, spell_heading, spell_table}
 use Rattle.ghost_model.specs.SchemaPlaces.{syntax_of}
 use Rattle.ghost_model.specs.SchemaMeaning.{table_named, columns_written, column_of, table_of, schema_of}
 use Rattle.ghost_model.specs.SchemaFaults.{SchemaFault, Limit, DuplicateName, NoId, TwoParents, Cycle, UnknownTable, is_long, is_over, is_table_over, is_column_over, column_name, columns_at, repeats, table_repeats, column_repeats, is_duplicate, fields_from, fields, is_identifier, is_primary, table_lacks_id, lacks_id, refers_nowhere, is_unknown, keys_naming, is_shared, returns, places_of, roots_of, duplicate_in, unknown_in, wrong_roots, or_else, schema_fault, schema_or, judged, schema_reading, Breaks, MeansSchema}
-use Rattle.ghost_model.specs.Catalog.{name_or_none, table_name, reference_text, hidden_text, column_text, table_text, canonical_text, IsCatalog}
+use Rattle.ghost_model.specs.Catalog.{name_or_none, reference_text, hidden_text, column_text, table_text, canonical_text}
 use Rattle.ghost_model.specs.CatalogLaws.{CanonicalTextMeansItsSchema, ACatalogOfEachText}
 use Rattle.ghost_model.proofs.TokenLemmas.{kinds_anywhere, kinds_after, take_while_all, one_token}
 use Rattle.ghost_model.proofs.SchemaLemmas.{schema_places}
-use Rattle.ghost_model.proofs.SchemaRuleLemmas.{From, all_rules, one_schema}
-use Rattle.ghost_model.proofs.SchemaTreeLemmas.{never_true, neither, no_first, none_at, mapped, column_spelled, column_named, length_within, column_kept, table_spelled, table_named_well, identified, known, tables_spelled}
+use Rattle.ghost_model.proofs.SchemaRuleLemmas.{all_rules, one_schema}
+use Rattle.ghost_model.proofs.SchemaTreeLemmas.{never_true, neither, no_first, none_at, column_spelled, column_named, length_within, column_kept, table_spelled, table_named_well, identified, known, tables_spelled}
 
 -- the decimal digits of a length
 
@@ -547,9 +547,12 @@ proper_column tables (IntegerColumn name primary None hidden) within spelled pla
     (column_named (IntegerColumn name primary None hidden) spelled, plain)
 proper_column tables (IntegerColumn name true (Some (To table says_id)) hidden) within spelled plain known = absurd (cc)
 proper_column tables (IntegerColumn name false (Some (To table says_id)) hidden) within spelled plain known =
-    let names = and_parts (is_name name) (list_all is_spelled (Word References ∷ Name table ∷ (spell_id says_id ++ spell_hidden hidden))) spelled in
-    (names.0, plain, (and_parts (is_name table) (list_all is_spelled (spell_id says_id ++ spell_hidden hidden)) names.1).0,
-    reference_named tables table (table_named tables table) refl known)
+    let names = and_parts (is_name name) (list_all is_spelled (Word References ∷ Name table ∷ (spell_id says_id ++ spell_hidden hidden))) spelled in (
+      names.0,
+      plain,
+      (and_parts (is_name table) (list_all is_spelled (spell_id says_id ++ spell_hidden hidden)) names.1).0,
+      reference_named tables table (table_named tables table) refl known,
+    )
 
 module _ (tables : SchemaText) (obeys : (fault : SchemaFault) → Breaks tables fault → ⊥) (spelled : list_all is_spelled (flat_map spell_table tables) ≡ true) where
   proper_table : (k : ℕ) (table : TableText) → slice_get tables k ≡ Some table → IsProperTable tables table

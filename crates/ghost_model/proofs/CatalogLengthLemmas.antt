@@ -1,19 +1,18 @@
 -- No catalog is long: each column has few bytes, and there are no more foreign keys than tables, since each names a table
 -- and no table is named twice.
-use Rattle.std.proofs.Common.{◌≡◌, ℕ, zero, suc, ◌+◌, ◌*◌, ◌<◌, ◌≤◌, ◌^◌, nat_lt, Decides, Bool, true, false, ◌==◌, cond, if◌then◌else◌, List, [], ◌∷◌, ◌++◌, length, flat_map, Option, Some, None, slice_get, codes, refl, sym, ap, ◌∙◌, subst, length-append, inl, inr, arith}
-use Rattle.std.specs.Prelude.{decimal, drop, sum_by}
+use Rattle.std.proofs.Common.{◌≡◌, ℕ, zero, suc, ◌+◌, ◌*◌, ◌<◌, ◌≤◌, nat_lt, Decides, Bool, true, false, ◌==◌, if◌then◌else◌, List, [], ◌∷◌, ◌++◌, length, flat_map, Option, Some, None, slice_get, codes, refl, ap, ◌∙◌, subst, length-append, inl, inr, arith}
+use Rattle.std.specs.Prelude.{decimal, drop}
 use Rattle.std.specs.Int.{to_be_bytes, w32}
 use Rattle.std.proofs.lemmas.Bool.{cases_order}
 use Rattle.std.proofs.lemmas.Bool.Decides.{Decides-ltb, Decides-eqb}
 use Rattle.std.proofs.lemmas.Fmt.{length-decimal-le}
 use Rattle.std.proofs.lemmas.List.Sums.{sum_by-cons}
 use Rattle.ghost_model.specs.Schema.{Kind, Integer, Chars, Column, Table, Schema, columns_or_none, is_table, keys_to, places_from}
-use Rattle.ghost_model.specs.Channel.{Catalog}
 use Rattle.ghost_model.specs.SchemaFaults.{keys_naming}
 use Rattle.ghost_model.specs.SchemaTrees.{IsTree}
-use Rattle.ghost_model.specs.Catalog.{kind_text, name_or_none, table_name, reference_text, hidden_text, column_text, table_text, canonical_text, catalog_head, counts_bytes, catalog_bytes, IsCatalog}
+use Rattle.ghost_model.specs.Catalog.{kind_text, name_or_none, table_name, reference_text, hidden_text, column_text, table_text, canonical_text, catalog_head, counts_bytes}
 use Rattle.ghost_model.specs.CatalogLaws.{NoCatalogIsLong}
-use Rattle.ghost_model.proofs.SchemaTreeLemmas.{schemas_are_trees, place_within}
+use Rattle.ghost_model.proofs.SchemaTreeLemmas.{schemas_are_trees}
 
 -- how many elements pass a test
 
@@ -262,5 +261,5 @@ no_catalog_is_long cat proper =
     let counted : length (counts_bytes cat.counts) ≡ 4 * length cat.counts = counts_length cat.counts in
     let head : length (catalog_head cat.generation (length (canonical_text cat.schema))) ≡ 16 = head_length cat.generation (length (canonical_text cat.schema)) in
     let all = parts_length (catalog_head cat.generation (length (canonical_text cat.schema))) (canonical_text cat.schema) (counts_bytes cat.counts) 16 15240 48
-        (omega (arith, head)) (canonical_length cat.schema tree) (omega (arith, counted, same, few)) in
+    (omega (arith, head)) (canonical_length cat.schema tree) (omega (arith, counted, same, few)) in
     omega (arith, all)

@@ -5,12 +5,12 @@ use Rattle.std.proofs.lemmas.Bool.{ltb-true, ltb-false, leb-true, and_parts, or_
 use Rattle.std.proofs.lemmas.List.{length-map}
 use Rattle.std.proofs.lemmas.Option.{slice_get-map}
 use Rattle.std.proofs.lemmas.Slice.Eq.{bytes_eq-Decides}
-use Rattle.ghost_model.specs.Schema.{Kind, Integer, Chars, Column, Table, Schema, columns_or_none, columns_of, column_at, parent}
+use Rattle.ghost_model.specs.Schema.{Integer, Chars, Column, Table, Schema, columns_or_none, columns_of, column_at, parent}
 use Rattle.ghost_model.specs.Query.{Field}
 use Rattle.ghost_model.specs.Tokens.{Symbol, Comma, Closing, Semicolon, End, number_of, is_between}
 use Rattle.ghost_model.specs.Grammar.{separated}
 use Rattle.ghost_model.specs.Spelled.{is_spelled, is_name}
-use Rattle.ghost_model.specs.SchemaGrammar.{To, ColumnText, CharColumn, IntegerColumn, TableText, SchemaText, spell_column, spell_table, spelling}
+use Rattle.ghost_model.specs.SchemaGrammar.{To, ColumnText, CharColumn, IntegerColumn, TableText, SchemaText, spell_column, spell_table}
 use Rattle.ghost_model.specs.SchemaMeaning.{columns_written, column_of, table_of, schema_of}
 use Rattle.ghost_model.specs.SchemaFaults as faults
 use Rattle.ghost_model.specs.SchemaFaults.{SchemaFault, Limit, DuplicateName, NoId, UnknownTable, TwoParents, Cycle, NotOneRoot, is_over, is_table_over, is_column_over, column_name, columns_at, repeats, table_repeats, is_duplicate, fields_from, fields, is_identifier, table_lacks_id, lacks_id, is_primary, refers_nowhere, is_unknown, is_shared, ancestor, Returns, places_of, returns, roots_of, IsFirst, Breaks, MeansSchema}
