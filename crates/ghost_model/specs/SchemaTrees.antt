@@ -1,8 +1,8 @@
 -- What the rules leave: each schema that a text means is a tree within the limits. It has at most 12 tables with at most
 -- 24 columns each; names are names that a text can write, of at most 32 bytes, and no two tables and no two columns of a
--- table share one; a text has at least 1 and at most 64 bytes. Every table begins with its identifier, foreign keys are
--- hidden integers, at most one of them names a table, following parents never returns, and exactly one table, the root,
--- has no parent.
+-- table share one; a column of texts holds at least 1 and at most 64 bytes. Every table begins with its identifier,
+-- foreign keys are hidden integers, at most one of them names a table, following parents never returns, and exactly one
+-- table, the root, has no parent.
 use Rattle.std.specs.Prelude.{◌≡◌, ℕ, ◌<◌, ◌≤◌, true, false, List, length, codes, Some, None, slice_get}
 use Rattle.ghost_model.specs.Schema.{Integer, Chars, Column, Table, Schema, columns_of, column_at}
 use Rattle.ghost_model.specs.Spelled.{is_name}
