@@ -239,7 +239,7 @@ module _ (schema : Schema) (tree : IsTree schema) where
 four_bytes : (n : ℕ) → length (to_be_bytes w32 n) ≡ 4
 four_bytes n = refl
 
-counts_length : (counts : List ℕ) → length (counts_bytes counts) ≡ 4 * length counts
+pub counts_length : (counts : List ℕ) → length (counts_bytes counts) ≡ 4 * length counts
 counts_length [] = refl
 counts_length (count ∷ counts) =
     let rest = counts_length counts in
