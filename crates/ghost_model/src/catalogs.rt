@@ -1,7 +1,7 @@
 //! Laws and examples of canonical texts and catalogs.
 
 ghost use Rattle.ghost_model.specs.CatalogLaws.{CanonicalTextMeansItsSchema, ACatalogOfEachText, NoCatalogIsLong, CatalogsHaveOneSpelling};
-ghost use Rattle.ghost_model.specs.examples.Catalogs.{CatalogsOfExamples};
+ghost use Rattle.ghost_model.specs.examples.Catalogs.{CatalogsOfExamples, BytesOfCatalogs};
 
 /// The canonical text of a schema that a text means is a text that means it too.
 pub fn canonical_text_means_its_schema()
@@ -26,4 +26,9 @@ pub fn catalogs_have_one_spelling()
 /// The catalogs of the worked databases, and what is no catalog.
 pub fn catalogs_of_examples()
     ensures { CatalogsOfExamples }
+{}
+
+/// The bytes of a catalog, changed so that they spell none.
+pub fn bytes_of_catalogs()
+    ensures { BytesOfCatalogs }
 {}
