@@ -1,6 +1,6 @@
 -- Bytes spell at most one catalog, and at most one catalog's bytes begin them: the head has a fixed length and says how
 -- long the text is, the text means one schema, and the schema says how many counts follow.
-use Rattle.std.proofs.Common.{◌≡◌, ℕ, zero, suc, ◌+◌, ◌*◌, ◌<◌, ◌≤◌, ◌^◌, nat_le, Bool, true, false, List, [], ◌∷◌, ◌++◌, length, take, drop, refl, sym, ap, ◌∙◌, subst, append_assoc, append-nil, arith}
+use Rattle.std.proofs.Common.{◌≡◌, ℕ, ◌*◌, ◌<◌, ◌≤◌, ◌^◌, nat_le, true, List, [], ◌∷◌, ◌++◌, length, take, drop, refl, sym, ap, ◌∙◌, subst, append_assoc, append-nil, arith}
 use Rattle.std.specs.List.{list_all}
 use Rattle.std.specs.Int.{to_be_bytes, from_be_bytes, w32}
 use Rattle.std.proofs.lemmas.Bool.{and_parts, leb-true}
@@ -9,7 +9,7 @@ use Rattle.ghost_model.specs.Schema.{Schema}
 use Rattle.ghost_model.specs.Channel.{Catalog}
 use Rattle.ghost_model.specs.LoadFaults.{most_rows}
 use Rattle.ghost_model.specs.SchemaFaults.{MeansSchema}
-use Rattle.ghost_model.specs.Catalog.{canonical_text, catalog_head, counts_bytes, catalog_bytes, IsCatalog, SpellsCatalog, BeginsWithCatalog}
+use Rattle.ghost_model.specs.Catalog.{canonical_text, catalog_head, counts_bytes, catalog_bytes, IsCatalog}
 use Rattle.ghost_model.specs.CatalogLaws.{CatalogsHaveOneSpelling}
 use Rattle.ghost_model.proofs.SchemaTreeLemmas.{schemas_are_trees}
 use Rattle.ghost_model.proofs.SchemaRuleLemmas.{one_schema}
@@ -64,7 +64,7 @@ one_front cat other rest more p q e =
     let short : length text ≤ 15240 = canonical_length cat.schema (schemas_are_trees text cat.schema p.meant) in
     let short_too : length text_too ≤ 15240 = canonical_length other.schema (schemas_are_trees text_too other.schema q.meant) in
     let heads = same_front head head_too (text ++ (counts_bytes cat.counts ++ rest)) (text_too ++ (counts_bytes other.counts ++ more)) refl
-        (sym (regrouped head text (counts_bytes cat.counts) rest) ∙ (e ∙ regrouped head_too text_too (counts_bytes other.counts) more)) in
+    (sym (regrouped head text (counts_bytes cat.counts) rest) ∙ (e ∙ regrouped head_too text_too (counts_bytes other.counts) more)) in
     let generation : cat.generation ≡ other.generation =
     sym (generation_in cat.generation (length text) p.generation_fits)
     ∙ (ap (λ (bytes : List ℕ). from_be_bytes w32 (take 4 (drop 8 bytes))) heads.0 ∙ generation_in other.generation (length text_too) q.generation_fits) in
@@ -78,11 +78,12 @@ one_front cat other rest more p q e =
     let counted : length (counts_bytes cat.counts) ≡ length (counts_bytes other.counts) =
     counts_length cat.counts ∙ (ap (λ n. 4 * n) number ∙ sym (counts_length other.counts)) in
     let counts = same_front (counts_bytes cat.counts) (counts_bytes other.counts) rest more counted texts.1 in
-    let count : cat.counts ≡ other.counts = same_counts cat.counts other.counts p.few_rows q.few_rows number counts.0 in
-    (ap (λ (s : Schema). record cat { schema = s }) schema
-    ∙ (ap (λ (c : List ℕ). record cat { schema = other.schema; counts = c }) count
-    ∙ ap (λ g. record other { generation = g }) generation),
-    counts.1)
+    let count : cat.counts ≡ other.counts = same_counts cat.counts other.counts p.few_rows q.few_rows number counts.0 in (
+      ap (λ (s : Schema). record cat { schema = s }) schema
+          ∙ (ap (λ (c : List ℕ). record cat { schema = other.schema; counts = c }) count
+          ∙ ap (λ g. record other { generation = g }) generation),
+      counts.1,
+    )
 
 pub catalogs_have_one_spelling : CatalogsHaveOneSpelling
 catalogs_have_one_spelling = record {

@@ -1,11 +1,11 @@
-use Rattle.std.proofs.Common.{◌≡◌, ℕ, Bool, true, false, List, [], ◌∷◌, ◌++◌, take, drop, get_or, length, nat_le, Ok, refl, sym, ap, ◌∙◌, append-nil, arith}
+use Rattle.std.proofs.Common.{◌≡◌, ℕ, List, [], ◌∷◌, ◌++◌, take, drop, get_or, Ok, refl, sym, ap, ◌∙◌, append-nil, arith}
 use Rattle.std.specs.Fmt.{digits}
 use Rattle.ghost_model.specs.Schema.{places_from}
 use Rattle.ghost_model.specs.Channel.{Catalog}
 use Rattle.ghost_model.specs.Tokens.{tokens_from, quoted_from}
 use Rattle.ghost_model.specs.SchemaPlaces.{syntax_from}
 use Rattle.ghost_model.specs.SchemaFaults.{ancestor, fields_from, schema_reading}
-use Rattle.ghost_model.specs.Catalog.{canonical_text, catalog_bytes, IsCatalog, SpellsCatalog, BeginsWithCatalog}
+use Rattle.ghost_model.specs.Catalog.{canonical_text, catalog_bytes, IsCatalog, SpellsCatalog}
 use Rattle.ghost_model.specs.examples.Clinic.{clinic_schema, clinic_catalog}
 use Rattle.ghost_model.specs.examples.Catalogs.{SpellsNone}
 use Rattle.ghost_model.proofs.SchemaRuleLemmas.{one_schema}
