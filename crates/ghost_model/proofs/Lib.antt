@@ -11,3 +11,4 @@ pub mod QueryLemmas
 pub mod QueryReadingLemmas
 pub mod ChannelLemmas
 pub mod MeaningLemmas
+pub mod SessionLemmas

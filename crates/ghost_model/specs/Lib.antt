@@ -33,4 +33,5 @@ pub mod Local
 pub mod Honest
 pub mod Replies
 pub mod Lines
+pub mod SessionLaws
 pub mod examples

@@ -10,5 +10,6 @@ pub mod channel;
 pub mod meaning;
 pub mod query;
 pub mod schema;
+pub mod session_laws;
 pub mod sessions;
 pub mod tokens;
