@@ -4,6 +4,7 @@
 //! so are the worked examples, which the check computes.
 #![tactic(auto)]
 
+pub mod catalogs;
 pub mod cells;
 pub mod channel;
 pub mod meaning;

@@ -9,9 +9,9 @@ use Rattle.std.proofs.lemmas.Bool.{eqb-true}
 use Rattle.ghost_model.specs.Schema.{Schema, Column, Table, columns_of, column_at, places_from, is_shown, is_visible}
 use Rattle.ghost_model.specs.Values.{Value, Row, Rows, Database}
 use Rattle.ghost_model.specs.Channel.{Ask, Test}
-use Rattle.ghost_model.specs.Database.{rows_or_none, rows_of, IsDatabase}
+use Rattle.ghost_model.specs.Database.{rows_or_none, rows_of, row_numbered, IsDatabase}
 use Rattle.ghost_model.specs.Split.{Hidden, hidden_flags, visible_values, hidden_values, rows_by, tables_by, hidden_of, public_of, value_at, is_open, visible_places, rows_in, Replied, replied, meets_tests, replies_from, visible_rows}
-use Rattle.ghost_model.specs.Replies.{hidden_places, row_at, hidden_value, row_replied}
+use Rattle.ghost_model.specs.Replies.{hidden_places, hidden_value, row_replied}
 use Rattle.ghost_model.proofs.MeaningLemmas.OneRow.{Among}
 use Rattle.ghost_model.proofs.ChannelLemmas.Tests.{false_is_not, BothHold, both_hold}
 
