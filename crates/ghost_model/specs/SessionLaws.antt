@@ -1,5 +1,5 @@
 -- Laws of whole sessions, each of the key and its host together. A host in the key's own process leaves one journal,
--- what it sends is what an honest host sends, and from whole replies follows the answer.
+-- what it sends is what an honest host sends, and what an honest host's replies answer is the meaning of a text.
 use Rattle.std.specs.Prelude.{◌≡◌, ℕ, suc, ◌<◌, ◌^◌, true, false, List, ◌++◌, length, map, take, slice_get, Some, Ok}
 use Rattle.std.specs.List.{list_any, concat}
 use Rattle.ghost_model.specs.Schema.{Schema}

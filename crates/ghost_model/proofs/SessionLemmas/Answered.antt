@@ -1,5 +1,5 @@
 -- That the replies to an accepted text whose asks an honest host ended are whole.
-use Rattle.std.proofs.Common.{◌≡◌, ℕ, zero, suc, ◌+◌, ◌<◌, ◌^◌, Bool, true, false, List, [], ◌∷◌, ◌++◌, length, map, filter, sym, ◌∙◌, ap, subst, refl, arith, append-nil, length-append, Option, Some, None, slice_get}
+use Rattle.std.proofs.Common.{◌≡◌, ℕ, zero, suc, ◌+◌, ◌<◌, Bool, true, false, List, [], ◌∷◌, ◌++◌, length, map, filter, sym, ◌∙◌, ap, subst, refl, arith, append-nil, length-append, Option, Some, None, slice_get}
 use Rattle.std.specs.Prelude.{◌==◌, filter_map, flat_map, if◌then◌else◌}
 use Rattle.std.specs.List.{cons_option}
 use Rattle.std.proofs.lemmas.List.{length-map, nil_from_length}
@@ -9,7 +9,7 @@ use Rattle.ghost_model.specs.Channel.{Ask}
 use Rattle.ghost_model.specs.Asks.{Asked, asked, asked_from, asks_of_reading, ReplyRow, row_bytes, rows_in}
 use Rattle.ghost_model.specs.QueryReading.{reading}
 use Rattle.ghost_model.specs.NextMove.{Ended}
-use Rattle.ghost_model.specs.Split.{Public, Replied, visible_rows, reply_row, reply_rows}
+use Rattle.ghost_model.specs.Split.{Public, Replied, visible_rows, reply_rows}
 use Rattle.ghost_model.specs.Host.{Exchange, asked_in, ended_in, rows_of_groups}
 use Rattle.ghost_model.specs.Replies.{Reply, replied_row, reply_for}
 use Rattle.ghost_model.specs.SessionLaws.{whole_reply}

@@ -1,7 +1,7 @@
 -- That the asks that ended with an honest host are the first of the session's asks, each with its whole reply.
-use Rattle.std.proofs.Common.{◌≡◌, ℕ, zero, suc, ◌+◌, ◌<◌, ◌≤◌, ◌^◌, inl, inr, Bool, true, false, ◌||◌, ◌&&◌, List, [], ◌∷◌, ◌++◌, length, map, sym, ◌∙◌, ap, subst, refl, arith, append-nil, append_assoc, length-append, Option, Some, None}
+use Rattle.std.proofs.Common.{◌≡◌, ℕ, ◌+◌, ◌<◌, ◌≤◌, ◌^◌, inl, inr, true, false, ◌||◌, List, [], ◌∷◌, ◌++◌, length, map, sym, ◌∙◌, ap, subst, refl, arith, append-nil, append_assoc, length-append, Option}
 use Rattle.std.specs.Prelude.{flat_map, option_to_list}
-use Rattle.std.specs.List.{list_all, list_any}
+use Rattle.std.specs.List.{list_all}
 use Rattle.std.proofs.lemmas.List.{length-map}
 use Rattle.std.proofs.lemmas.List.Folds.{list_all-append}
 use Rattle.std.proofs.lemmas.Grind.{flat_map-append}
@@ -86,9 +86,6 @@ module _ (catalog : Catalog) (asks : List Asked) where
   abbrev payloads : List Frame → List (List ℕ)
   payloads frames = flat_map (payload_in catalog asks) frames
 
-  asks_in_payload : List ℕ → List Ask
-  asks_in_payload payload = option_to_list (ask_in catalog.schema payload)
-
   asks_of_payloads : (frames : List Frame) → flat_map (asks_in_frame catalog.schema) frames ≡ flat_map (λ (payload : List ℕ). option_to_list (ask_in catalog.schema payload)) (payloads frames)
   asks_of_payloads [] = refl
   asks_of_payloads (Asking serial payload ∷ frames) = ap (λ (xs : List Ask). option_to_list (ask_in catalog.schema payload) ++ xs) (asks_of_payloads frames)
@@ -157,10 +154,8 @@ module _ (catalog : Catalog) (database : Database) (is : IsDatabase catalog.sche
       split_replies catalog.schema (public_of catalog.schema database) 1 (map ask_of m.one) others replies (subst (λ (xs : List Ask). AreReplies catalog.schema (public_of catalog.schema database) 1 (xs ++ others) replies) names replied) in
       let sizes : length asks ≡ length m.one + length m.later = ap length m.whole ∙ length-append m.one m.later in
       let ex : AreExchanged catalog database is asked counts few visible_in 1 m.one s.front = exchanged catalog database is asked counts few visible_in 1 m.one s.front good (omega (arith, sizes, serials)) s.replied in
-      let reached : List ℕ = flat_map frame_bytes (greeting ++ exchange_frames 1 ex.exchanges) in
       let h : IsHeardSoFar catalog asks 1 [] ex.exchanges m.later (heard catalog asks (flat_map frame_bytes (greeting ++ exchange_frames 1 ex.exchanges))) =
       stream_heard catalog asks greeting ex.exchanges m.later bytes welcomes ex.are (ap (λ (xs : List Asked). xs ++ m.later) ex.asked_are ∙ sym m.whole) in
-      let whole : List ℕ = flat_map frame_bytes (greeting ++ replies) in
       let first : Begins received (flat_map frame_bytes (greeting ++ replies)) = record { rest = rest; joined = sym stream } in
       let frames : greeting ++ replies ≡ (greeting ++ exchange_frames 1 ex.exchanges) ++ s.back =
       ap (λ (fs : List Frame). greeting ++ fs) (s.joined ∙ ap (λ (fs : List Frame). fs ++ s.back) ex.frames_are) ∙ sym (append_assoc greeting (exchange_frames 1 ex.exchanges) s.back) in

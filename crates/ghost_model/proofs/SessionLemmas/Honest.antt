@@ -1,33 +1,28 @@
 -- That the replies of a proper journal with an honest host are whole.
-use Rattle.std.proofs.Common.{◌≡◌, ℕ, zero, suc, ◌+◌, ◌<◌, ◌≤◌, ◌^◌, inl, inr, Bool, true, false, ◌&&◌, List, [], ◌∷◌, ◌++◌, length, map, sym, ◌∙◌, ap, subst, refl, arith, append-nil, append_assoc, length-append, Option, Some, None}
-use Rattle.std.specs.Prelude.{flat_map, option_to_list, nat_lt, nat_le}
-use Rattle.std.specs.List.{list_all, concat}
-use Rattle.std.proofs.lemmas.List.{length-map}
+use Rattle.std.proofs.Common.{◌≡◌, ℕ, suc, ◌+◌, ◌<◌, ◌≤◌, ◌^◌, true, false, List, [], ◌∷◌, ◌++◌, length, map, sym, ◌∙◌, ap, subst, refl, arith, append-nil, append_assoc}
+use Rattle.std.specs.Prelude.{flat_map}
+use Rattle.std.specs.List.{list_all}
 use Rattle.std.proofs.lemmas.Grind.{flat_map-append}
-use Rattle.std.proofs.lemmas.Bool.Decides.{leb_tells}
-use Rattle.ghost_model.specs.Schema.{Schema, is_visible}
+use Rattle.ghost_model.specs.Schema.{is_visible}
 use Rattle.ghost_model.specs.Values.{Database}
 use Rattle.ghost_model.specs.Query.{Query}
-use Rattle.ghost_model.specs.Channel.{Catalog, Ask, Frame, Hello, Asking, More, Bye, Welcome, Replied, Done, Sorry}
+use Rattle.ghost_model.specs.Channel.{Catalog, Ask, Frame, Done}
 use Rattle.ghost_model.specs.Catalog.{catalog_bytes}
 use Rattle.ghost_model.specs.Database.{rows_of, row_counts, IsDatabase}
 use Rattle.ghost_model.specs.Frames.{AreBytes, frame_bytes}
-use Rattle.ghost_model.specs.Asks.{Asked, ReplyRow, ask_in, ask_payload, is_proper_ask, kinds_of}
+use Rattle.ghost_model.specs.Asks.{Asked, ReplyRow, is_proper_ask, kinds_of}
 use Rattle.ghost_model.specs.NextMove as next
 use Rattle.ghost_model.specs.NextMove.{Heard, Ended, on_with, heard, hear_all, at_first, rows_fit}
-use Rattle.ghost_model.specs.Split.{Public, public_of, reply_rows, visible_rows, reply_row}
-use Rattle.ghost_model.specs.Host.{welcomes_of, rows_frame, reply_frames, rows_of_groups, Exchange, asked_in, ended_in, exchange_frames, AreExchanges, AreGroups, IsHeardWhole, IsGreeted, asks_in_frame}
+use Rattle.ghost_model.specs.Split.{Public, public_of, reply_rows, visible_rows}
+use Rattle.ghost_model.specs.Host.{welcomes_of, rows_frame, reply_frames, rows_of_groups, Exchange, asked_in, ended_in, exchange_frames, AreExchanges, IsHeardWhole, IsGreeted}
 use Rattle.ghost_model.specs.Honest.{AreWelcomes, IsReply, AreReplies}
-use Rattle.ghost_model.specs.Lines.{was_refused}
-use Rattle.ghost_model.proofs.ChannelLemmas.Tests.{BothHold, both_hold, hold_both}
-use Rattle.ghost_model.proofs.ChannelLemmas.Asks.{spelled_ask_is_read}
+use Rattle.ghost_model.proofs.ChannelLemmas.Tests.{BothHold, both_hold}
 use Rattle.ghost_model.proofs.ChannelLemmas.Sending.{heard_more}
 use Rattle.ghost_model.proofs.ChannelLemmas.Replies.{replies_are_heard}
 use Rattle.ghost_model.proofs.ChannelLemmas.Greeting.{greetings_are_heard}
 use Rattle.ghost_model.proofs.SessionLemmas.Accepted.{Each}
 use Rattle.ghost_model.proofs.SessionLemmas.Groups.{joined_parts}
 use Rattle.ghost_model.proofs.SessionLemmas.SentFrames.{AreProper}
-use Rattle.ghost_model.proofs.SessionLemmas.Front.{Begins, begins_longer, shorter_begins, mapped_begins, still_to_come, payload_in, payload_of, IsAccounted, accounted, Grows, grown}
 use Rattle.ghost_model.proofs.SessionLemmas.Replied.{IsSendable, all_sendable, are_groups, count_is, AreRepliable, repliable}
 
 abbrev ask_of : Asked → Ask
@@ -78,10 +73,6 @@ module _ (catalog : Catalog) (asks : List Asked) where
       subst (λ (frames : List Frame). IsHeardSoFar 1 [] exchanges later (heard catalog asks (flat_map frame_bytes (frames ++ exchange_frames 1 exchanges)))) (sym welcomes.frames_are)
       (subst (λ (after : Heard). IsHeardSoFar 1 [] exchanges later after) (sym (hear_two (at_first catalog) (welcomes_of welcomes.parts) (exchange_frames 1 exchanges)))
       (record { awaits = end.awaits; ends = end.ends ∙ ap (λ (xs : List Ended). xs ++ map ended_in exchanges) greeted.ended }))
-
-no_refusal : (exchanges : List Exchange) → was_refused (map ended_in exchanges) ≡ false
-no_refusal [] = refl
-no_refusal (exchange ∷ exchanges) = no_refusal exchanges
 
 -- the exchanges of replies
 module _ (catalog : Catalog) (database : Database) (is : IsDatabase catalog.schema database) (asked : Query)

@@ -1,23 +1,23 @@
 -- That what an honest host's replies answer is the meaning of the text.
-use Rattle.std.proofs.Common.{◌≡◌, ℕ, suc, ◌+◌, ◌<◌, ◌^◌, Bool, true, false, List, [], ◌∷◌, ◌++◌, length, map, filter, sym, ◌∙◌, ap, subst, refl, arith, append_assoc, Option, Some, slice_get, Ok}
+use Rattle.std.proofs.Common.{◌≡◌, ℕ, suc, ◌+◌, Bool, true, false, List, [], ◌∷◌, ◌++◌, length, map, filter, sym, ◌∙◌, ap, subst, refl, arith, append_assoc, Some, slice_get, Ok}
 use Rattle.std.specs.Prelude.{◌==◌, filter_map, flat_map, if◌then◌else◌, Result}
 use Rattle.std.proofs.lemmas.List.{map-append}
 use Rattle.std.proofs.lemmas.Bool.{eqb-true}
-use Rattle.ghost_model.specs.Schema.{Schema, is_visible}
+use Rattle.ghost_model.specs.Schema.{Schema}
 use Rattle.ghost_model.specs.SchemaTrees.{IsTree}
 use Rattle.ghost_model.specs.Values.{Database}
 use Rattle.ghost_model.specs.Query.{Query}
 use Rattle.ghost_model.specs.QueryMeaning.{Refusal}
 use Rattle.ghost_model.specs.QueryReading.{reading}
-use Rattle.ghost_model.specs.Channel.{Catalog, Ask, Frame, Journal}
-use Rattle.ghost_model.specs.Asks.{Asked, asked, asks_of, asks_of_reading, asked_of, is_proper_ask}
-use Rattle.ghost_model.specs.Moves.{taken, sent}
+use Rattle.ghost_model.specs.Channel.{Catalog, Ask, Journal}
+use Rattle.ghost_model.specs.Asks.{Asked, asked, asks_of, asks_of_reading, asked_of}
+use Rattle.ghost_model.specs.Moves.{taken}
 use Rattle.ghost_model.specs.NextMove.{IsProper, IsDue, Ended, heard}
 use Rattle.ghost_model.specs.Split.{Public, public_of, hidden_of}
 use Rattle.ghost_model.specs.Host.{Exchange, asked_in, ended_in, asks_in_frame}
 use Rattle.ghost_model.specs.Honest.{AreReplies, asks_sent, IsHonest}
 use Rattle.ghost_model.specs.Meaning.{answer}
-use Rattle.ghost_model.specs.Replies.{Reply, replies, reply_for, answer_from}
+use Rattle.ghost_model.specs.Replies.{replies, reply_for, answer_from}
 use Rattle.ghost_model.specs.Lines.{ended_of, was_refused, all_done}
 use Rattle.ghost_model.specs.SessionLaws.{IsSetting, IsCatalogOf, whole_reply, whole_replies}
 use Rattle.ghost_model.proofs.ChannelLemmas.Tests.{false_is_not}
