@@ -1,0 +1,15 @@
+//! The outside of the product: where files lie and where lines go.
+//!
+//! Each object of the outside counts its faults. The count never falls, and it stays at its last value, 2^64 - 1.
+//! A call answers `Failed` exactly where the count rose in that call, or stands at its last value. What an object holds
+//! is told by objects in memory alone; the real ones tell nothing, and then no clause on contents claims anything.
+#![tactic(auto)]
+
+pub mod depot;
+pub mod reading;
+pub mod sink;
+pub mod writing;
+
+/// A call on the outside failed, and the object counted it as a fault.
+#[derive(Clone, Copy, Debug, PartialEq, Eq)]
+pub struct Failed;

@@ -1,0 +1,64 @@
+//! Reading a file whole.
+
+ghost use Rattle.std.specs.Prelude.{◌≡◌, ◌≤◌, IfOk, Err, vec_len};
+ghost use Rattle.ghost_model.specs.Causes.{Rose};
+ghost use Rattle.edge_traits.specs.Files.{HasFile, HasLonger};
+ghost use Rattle.edge_traits.specs.declared.reading.ReadFault.TheVariants.{Depot as depot_failed, NoMemory as no_memory};
+
+use std::alloc::{AllocError, Global};
+
+use crate::Failed;
+use crate::depot::Depot;
+
+/// Why a file was not read.
+#[derive(Clone, Copy, Debug, PartialEq, Eq)]
+pub enum ReadFault {
+    /// The depot failed, which its count of faults shows.
+    Depot,
+    /// There was no memory for the bytes.
+    NoMemory,
+    /// The file has more bytes than the limit.
+    TooLong,
+}
+
+impl From<Failed> for ReadFault {
+    ghost from_gives = { λ _ fault. fault ≡ depot_failed };
+
+    fn from(_failed: Failed) -> ReadFault {
+        ReadFault::Depot
+    }
+}
+
+impl From<AllocError> for ReadFault {
+    ghost from_gives = { λ _ fault. fault ≡ no_memory };
+
+    fn from(_error: AllocError) -> ReadFault {
+        ReadFault::NoMemory
+    }
+}
+
+/// All bytes of the file `name`, of which there may be `limit` at most.
+#[tactic(auto, using(crate::proofs::WholeFile::goes_on, crate::proofs::WholeFile::ends, crate::proofs::WholeFile::is_longer))]
+pub fn read_file<D: Depot>(alloc: Global, depot: &mut D, name: &str, limit: usize) -> Result<Vec<u8>, ReadFault>
+    ensures file { IfOk result (λ bytes. HasFile (D.contents depot.old) name.now bytes.items) }
+    ensures within { IfOk result (λ bytes. vec_len bytes ≤ limit) }
+    ensures too_long { result ≡ Err ReadFault.TooLong → HasLonger (D.contents depot.old) name.now limit }
+    ensures never_falls { D.faults depot.old ≤ D.faults depot.new }
+    ensures failed { result ≡ Err ReadFault.Depot → Rose (D.faults depot.old) (D.faults depot.new) }
+    ensures other { (result ≡ Err ReadFault.Depot → ⊥) → D.faults depot.new ≡ D.faults depot.old }
+    ensures appends { D.append_faults depot.new ≡ D.append_faults depot.old }
+    ensures same { D.contents depot.new ≡ D.contents depot.old }
+{
+    let mut bytes = Vec::new(alloc);
+    let mut piece = [0u8; 4096];
+    loop {
+        let count = depot.read_at(name, bytes.len() as u64, &mut piece)?;
+        if count == 0 {
+            return Ok(bytes);
+        }
+        if count > limit - bytes.len() {
+            return Err(ReadFault::TooLong);
+        }
+        bytes.extend_from_slice(&piece[..count])?;
+    }
+}
