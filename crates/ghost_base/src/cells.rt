@@ -1,0 +1,126 @@
+//! Cells: the bytes of one value in a column of a kind.
+
+ghost use Rattle.std.specs.Prelude.{◌≡◌, ◌≤◌, ◌++◌, ◌-◌, ◌==◌, length, replicate, IsTrue, option_map};
+ghost use Rattle.std.specs.Int.{from_be_bytes, w64};
+ghost use Rattle.std.specs.List.{list_all};
+ghost use Rattle.ghost_model.specs.Cells as cells;
+ghost use Rattle.ghost_model.specs.Tokens.{is_printable};
+ghost use Rattle.ghost_base.specs.Views.{kind_of, value_of};
+ghost use Rattle.ghost_base.specs.Ordered.{is_of_kind};
+
+use crate::{Kind, Text64, Value};
+
+/// The number of bytes of a cell.
+pub fn cell_width(kind: Kind) -> usize
+    ensures { result ≡ cells.cell_width (kind_of kind) }
+{
+    match kind {
+        Kind::Integer => 8,
+        Kind::Chars(most) => most as usize,
+    }
+}
+
+/// Writes the cell of a value, which is of the kind.
+pub fn encode_cell(kind: Kind, value: &Value, out: &mut [u8])
+    requires kind { IsTrue (is_of_kind (kind_of kind) (value_of value.now)) }
+    requires width { length out.old ≡ cells.cell_width (kind_of kind) }
+    ensures { out.new ≡ cells.encode_cell (kind_of kind) (value_of value.now) }
+{
+    match (kind, value) {
+        (Kind::Integer, Value::Int(number)) => {
+            out.copy_from_slice(&above_lowest(*number).to_be_bytes());
+        }
+        (Kind::Chars(_), Value::Chars(text)) => put_padded(text.as_bytes(), out),
+        _ => {}
+    }
+}
+
+/// The value that bytes spell in a column of a kind, and `None` exactly where they spell none.
+pub fn decode_cell(kind: Kind, bytes: &[u8]) -> Option<Value>
+    requires { cells.cell_width (kind_of kind) ≤ 64 }
+    ensures { option_map value_of result ≡ cells.decode_cell (kind_of kind) bytes.now }
+{
+    if bytes.len() != cell_width(kind) {
+        return None;
+    }
+    match kind {
+        Kind::Integer => Some(Value::Int(from_lowest(distance_of(bytes)))),
+        Kind::Chars(_) => {
+            let text = text_in(bytes);
+            if !is_printable_text(text) || !is_zero(&bytes[text.len()..]) {
+                return None;
+            }
+            Some(Value::Chars(Text64::of(text)))
+        }
+    }
+}
+
+/// How far an integer is above the lowest of 64 bits.
+fn above_lowest(number: i64) -> u64
+    ensures { result ≡ cells.above_lowest number }
+{
+    if number >= 0 {
+        (1u64 << 63) + number as u64
+    } else {
+        (1u64 << 63) - number.unsigned_abs()
+    }
+}
+
+/// The integer that is so far above the lowest.
+fn from_lowest(distance: u64) -> i64
+    ensures { result ≡ cells.from_lowest distance }
+{
+    if distance >= 1u64 << 63 {
+        (distance - (1u64 << 63)) as i64
+    } else {
+        -1 - ((1u64 << 63) - 1 - distance) as i64
+    }
+}
+
+/// The number that eight bytes spell, the most significant first.
+fn distance_of(cell: &[u8]) -> u64
+    requires { length cell.now ≡ 8 }
+    ensures { result ≡ from_be_bytes w64 cell.now }
+{
+    let mut bytes = [0; 8];
+    bytes.copy_from_slice(cell);
+    u64::from_be_bytes(bytes)
+}
+
+/// Writes a text and zero bytes after it.
+fn put_padded(text: &[u8], out: &mut [u8])
+    requires { length text.now ≤ length out.old }
+    ensures { out.new ≡ cells.padded (length out.old) text.now }
+{
+    let (front, back) = out.split_at_mut(text.len());
+    front.copy_from_slice(text);
+    back.fill(0);
+}
+
+/// The bytes before the first zero byte.
+fn text_in(cell: &[u8]) -> &[u8]
+    ensures { result.now ≡ cells.text_in cell.now }
+{
+    &cell[..text_len(cell)]
+}
+
+/// How many bytes stand before the first zero byte.
+fn text_len(cell: &[u8]) -> usize
+    ensures { result ≡ length (cells.text_in cell.now) }
+{
+    cell.iter().take_while(|byte| **byte != 0).count()
+}
+
+/// Whether every byte is a character of a text.
+fn is_printable_text(text: &[u8]) -> bool
+    ensures { result ≡ list_all is_printable text.now }
+{
+    text.iter().all(|&byte| 0x20 <= byte && byte <= 0x7E)
+}
+
+/// Whether every byte is zero.
+fn is_zero(padding: &[u8]) -> bool
+    ensures { result ≡ list_all (λ byte. byte == 0) padding.now }
+{
+    padding.iter().all(|&byte| byte == 0)
+}
