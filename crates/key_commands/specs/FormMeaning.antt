@@ -1,0 +1,1 @@
+-- FormMeaning: to be written

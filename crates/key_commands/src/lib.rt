@@ -1,0 +1,2 @@
+//! The commands of the key: what the program does with its words, its files, its flash and its link.
+#![tactic(auto)]
