@@ -1,1 +1,518 @@
--- SchemaLemmas: to be written
+-- The places of a schema's text say what its grammar says: each step reads one symbol, the symbols of each tree lead
+-- from the start to the end, and from each place before the end some symbols complete a tree.
+use Rattle.std.proofs.Common.{◌≡◌, ℕ, ◌+◌, Bool, true, false, ◌&&◌, List, [], ◌∷◌, ◌++◌, map, take, drop, length, ◌<◌, ◌≤◌, zero, subst, arith, add-one, Option, Some, None, option_map, Result, Ok, Err, flat_map, ◌⊎◌, inl, inr, suc, slice_get, codes, bytes_eq, if◌then◌else◌, refl, sym, ap, ◌∙◌, append_assoc, append-nil}
+use Rattle.std.proofs.lemmas.Grind.{flat_map-append}
+use Rattle.std.proofs.lemmas.Slice.Eq.{bytes_eq-Decides}
+use Rattle.std.proofs.lemmas.List.Folds.{list_all-append}
+use Rattle.std.specs.List.{list_all}
+use Rattle.std.proofs.lemmas.Option.{slice_get_within, slice_get-map}
+use Rattle.std.proofs.lemmas.List.{take-append-drop, take-append-le, length-append}
+use Rattle.ghost_model.specs.Spelled.{IsBeforeEnd, is_spelled, is_name, is_number}
+use Rattle.ghost_model.specs.Tokens.{symbol_of, symbols, tokens, offset_of, Symbol, Token, Keyword, Word, Name, Digits, Open, Closing, Comma, Semicolon, End, Char, Create, Hidden, Integer, Key, Primary, References, Table}
+use Rattle.ghost_model.specs.Grammar.{Spells, IsViable, IsFault, IsSyntaxFault, separated, begun}
+use Rattle.ghost_model.specs.SchemaGrammar.{Reference, To, ColumnText, CharColumn, IntegerColumn, TableText, SchemaText, spell_hidden, spell_primary, spell_reference, spell_column, spell_heading, spell_table, spelling}
+use Rattle.ghost_model.specs.SchemaPlaces.{InColumn, Named, AfterChar, AfterOpen, AfterLength, AfterPrimary, AfterReferences, OpensId, AfterId, Whole, Place, Between, AfterCreate, AfterTable, AfterName, WantsColumn, Within, AfterColumns, Ended, before_in, before, table_from, after_integer, after_column, after_parenthesis, step_in, step_within, step, tree_at, syntax_from, syntax_of, SchemaPlacesAreExact}
+
+unSome : {X : Type 0} {a b : X} → Some a ≡ Some b → a ≡ b
+unSome e = cc
+
+-- each step of a column reads one symbol
+
+integer_read : (name : List ℕ) (primary : Bool) (reference : Option Reference) (s : Symbol) (q : InColumn)
+    → after_integer name primary reference s ≡ Some q → before_in q ≡ spell_column (IntegerColumn name primary reference false) ++ s ∷ []
+integer_read name true None (Word Hidden) q e = ap before_in (unSome (sym e))
+integer_read name false None (Word Hidden) q e = ap before_in (unSome (sym e))
+integer_read name true (Some (To table true)) (Word Hidden) q e = ap before_in (unSome (sym e))
+integer_read name true (Some (To table false)) (Word Hidden) q e = ap before_in (unSome (sym e))
+integer_read name false (Some (To table true)) (Word Hidden) q e = ap before_in (unSome (sym e))
+integer_read name false (Some (To table false)) (Word Hidden) q e = ap before_in (unSome (sym e))
+integer_read name true None (Word References) q e = ap before_in (unSome (sym e))
+integer_read name false None (Word References) q e = ap before_in (unSome (sym e))
+integer_read name false None (Word Primary) q e = ap before_in (unSome (sym e))
+integer_read name true (Some (To table false)) Open q e = ap before_in (unSome (sym e))
+integer_read name false (Some (To table false)) Open q e = ap before_in (unSome (sym e))
+integer_read _ _ _ _ q e = absurd (cc)
+
+column_read : (column : ColumnText) (s : Symbol) (q : InColumn)
+    → after_column column s ≡ Some q → before_in q ≡ spell_column column ++ s ∷ []
+column_read (CharColumn name digits false) (Word Hidden) q e = ap before_in (unSome (sym e))
+column_read (IntegerColumn name primary reference false) s q e = integer_read name primary reference s q e
+column_read (IntegerColumn name primary reference true) s q e = absurd (cc)
+column_read (CharColumn name digits true) s q e = absurd (cc)
+column_read (CharColumn name digits false) _ q e = absurd (cc)
+
+same_bytes : (a b : List ℕ) → bytes_eq a b ≡ true → a ≡ b
+same_bytes a b e = (bytes_eq-Decides a b).0 e
+
+-- the test of `if`, where the other branch is none
+some_if : {X : Type 0} (test : Bool) (x q : X) → (if test then Some x else None) ≡ Some q → (test ≡ true) × (x ≡ q)
+some_if true x q e = (refl, unSome e)
+some_if false x q e = absurd (cc)
+
+parenthesis_read : (name : List ℕ) (primary : Bool) (table inside : List ℕ) (q : InColumn)
+    → after_parenthesis name primary table inside ≡ Some q → before_in q ≡ before_in (OpensId name primary table) ++ Name inside ∷ []
+parenthesis_read name true table inside q e =
+    let h = some_if (bytes_eq inside (codes "id")) (AfterId name true table) q e in
+    ap before_in (sym h.1) ∙ ap (λ id. before_in (OpensId name true table) ++ Name id ∷ []) (sym (same_bytes _ _ h.0))
+parenthesis_read name false table inside q e =
+    let h = some_if (bytes_eq inside (codes "id")) (AfterId name false table) q e in
+    ap before_in (sym h.1) ∙ ap (λ id. before_in (OpensId name false table) ++ Name id ∷ []) (sym (same_bytes _ _ h.0))
+
+in_read : (p : InColumn) (s : Symbol) (q : InColumn) → step_in p s ≡ Some q → before_in q ≡ before_in p ++ s ∷ []
+in_read (Named name) (Word Char) q e = ap before_in (unSome (sym e))
+in_read (Named name) (Word Integer) q e = ap before_in (unSome (sym e))
+in_read (AfterChar name) Open q e = ap before_in (unSome (sym e))
+in_read (AfterOpen name) (Digits digits) q e = ap before_in (unSome (sym e))
+in_read (AfterLength name digits) Closing q e = ap before_in (unSome (sym e))
+in_read (AfterPrimary name) (Word Key) q e = ap before_in (unSome (sym e))
+in_read (AfterReferences name true) (Name table) q e = ap before_in (unSome (sym e))
+in_read (AfterReferences name false) (Name table) q e = ap before_in (unSome (sym e))
+in_read (OpensId name primary table) (Name inside) q e = parenthesis_read name primary table inside q e
+in_read (AfterId name true table) Closing q e = ap before_in (unSome (sym e))
+in_read (AfterId name false table) Closing q e = ap before_in (unSome (sym e))
+in_read (Whole column) s q e = column_read column s q e
+in_read _ _ q e = absurd (cc)
+
+-- each step of a text reads one symbol
+
+option_mapped : {X Y : Type 0} (f : X → Y) (o : Option X) (y : Y) → option_map f o ≡ Some y → (x : X) × (o ≡ Some x) × (f x ≡ y)
+option_mapped f None y e = absurd (cc)
+option_mapped f (Some x) y e = (x, refl, unSome e)
+
+-- one more item and the symbol after it
+more_of : {X : Type 0} (by : Symbol) (spell : X → List Symbol) (xs : List X) (x : X)
+    → begun by spell (xs ++ x ∷ []) ≡ begun by spell xs ++ (spell x ++ by ∷ [])
+more_of by spell xs x = flat_map-append (λ y. spell y ++ by ∷ []) xs (x ∷ []) ∙ ap (λ tail. begun by spell xs ++ tail) (append-nil (spell x ++ by ∷ []))
+
+regroup3 : (a b c d : List Symbol) → (a ++ (b ++ c)) ++ d ≡ a ++ (b ++ (c ++ d))
+regroup3 a b c d = simp append_assoc
+
+regroup4 : (a b c d e : List Symbol) → (a ++ (b ++ (c ++ d))) ++ e ≡ a ++ (b ++ (c ++ (d ++ e)))
+regroup4 a b c d e = simp append_assoc
+
+regroup5 : (a b c d e f : List Symbol) → (a ++ (b ++ (c ++ (d ++ e)))) ++ f ≡ a ++ (b ++ (c ++ (d ++ (e ++ f))))
+regroup5 a b c d e f = simp append_assoc
+
+within_goes_on : (tables : SchemaText) (name : List ℕ) (columns : List ColumnText) (last : InColumn) (s : Symbol) (q : Place)
+    → option_map (Within tables name columns) (step_in last s) ≡ Some q → before q ≡ before (Within tables name columns last) ++ s ∷ []
+within_goes_on tables name columns last s q e =
+    let h = option_mapped (Within tables name columns) (step_in last s) q e in
+    ap before (sym h.2)
+    ∙ (ap (λ tail. flat_map spell_table tables ++ (spell_heading name ++ (begun Comma spell_column columns ++ tail))) (in_read last s h.0 h.1)
+    ∙ sym (regroup4 (flat_map spell_table tables) (spell_heading name) (begun Comma spell_column columns) (before_in last) (s ∷ [])))
+
+within_read : (tables : SchemaText) (name : List ℕ) (columns : List ColumnText) (last : InColumn) (s : Symbol) (q : Place)
+    → step_within tables name columns last s ≡ Some q → before q ≡ before (Within tables name columns last) ++ s ∷ []
+within_read tables name columns (Whole last) Comma q e =
+    ap before (unSome (sym e))
+    ∙ (ap (λ tail. flat_map spell_table tables ++ (spell_heading name ++ tail)) (more_of Comma spell_column columns last)
+    ∙ sym (regroup4 (flat_map spell_table tables) (spell_heading name) (begun Comma spell_column columns) (spell_column last) (Comma ∷ [])))
+within_read tables name columns (Whole last) Closing q e =
+    ap before (unSome (sym e))
+    ∙ sym (regroup4 (flat_map spell_table tables) (spell_heading name) (begun Comma spell_column columns) (spell_column last) (Closing ∷ []))
+within_read tables name columns last s q e = within_goes_on tables name columns last s q e
+
+-- the columns of a table with the last one are its columns in the grammar
+columns_end : (x : ColumnText) (xs : List ColumnText) (last : ColumnText)
+    → separated Comma spell_column x (xs ++ last ∷ []) ≡ begun Comma spell_column (x ∷ xs) ++ spell_column last
+columns_end x [] last =
+    ap (λ tail. spell_column x ++ Comma ∷ tail) (append-nil (spell_column last))
+    ∙ sym (ap (λ head. head ++ spell_column last) (append-nil (spell_column x ++ Comma ∷ [])) ∙ append_assoc (spell_column x) (Comma ∷ []) (spell_column last))
+columns_end x (y ∷ ys) last =
+    ap (λ tail. spell_column x ++ Comma ∷ tail) (columns_end y ys last)
+    ∙ sym (append_assoc (spell_column x ++ Comma ∷ []) (begun Comma spell_column (y ∷ ys)) (spell_column last)
+    ∙ append_assoc (spell_column x) (Comma ∷ []) (begun Comma spell_column (y ∷ ys) ++ spell_column last))
+
+table_ends : (name : List ℕ) (columns : List ColumnText) (last : ColumnText)
+    → spell_table (table_from name columns last)
+    ≡ spell_heading name ++ (begun Comma spell_column columns ++ (spell_column last ++ Closing ∷ Semicolon ∷ []))
+table_ends name [] last = ap (λ tail. spell_heading name ++ (tail ++ Closing ∷ Semicolon ∷ [])) (append-nil (spell_column last))
+table_ends name (x ∷ xs) last =
+    ap (λ tail. spell_heading name ++ (tail ++ Closing ∷ Semicolon ∷ [])) (columns_end x xs last)
+    ∙ ap (λ tail. spell_heading name ++ tail) (append_assoc (begun Comma spell_column (x ∷ xs)) (spell_column last) (Closing ∷ Semicolon ∷ []))
+
+tables_end : (tables : SchemaText) (name : List ℕ) (columns : List ColumnText) (last : ColumnText)
+    → flat_map spell_table (tables ++ table_from name columns last ∷ [])
+    ≡ before (AfterColumns tables name columns last) ++ Semicolon ∷ []
+tables_end tables name columns last =
+    flat_map-append spell_table tables (table_from name columns last ∷ [])
+    ∙ (ap (λ tail. flat_map spell_table tables ++ tail)
+        (append-nil (spell_table (table_from name columns last)) ∙ table_ends name columns last)
+    ∙ sym (regroup5 (flat_map spell_table tables) (spell_heading name) (begun Comma spell_column columns) (spell_column last) (Closing ∷ []) (Semicolon ∷ [])))
+
+regroup_table : (a b c xs : List Symbol) → ((a ++ b) ++ c) ++ xs ≡ a ++ (b ++ (c ++ xs))
+regroup_table a b c xs = simp append_assoc
+
+pub step_read : (p : Place) (s : Symbol) (q : Place) → step p s ≡ Some q → before q ≡ before p ++ s ∷ []
+step_read (Between tables) (Word Create) q e = ap before (unSome (sym e))
+step_read (Between tables) End q e = ap before (unSome (sym e))
+step_read (AfterCreate tables) (Word Table) q e = ap before (unSome (sym e)) ∙ sym (append_assoc (flat_map spell_table tables) _ _)
+step_read (AfterTable tables) (Name name) q e = ap before (unSome (sym e)) ∙ sym (append_assoc (flat_map spell_table tables) _ _)
+step_read (AfterName tables name) Open q e = ap before (unSome (sym e)) ∙ sym (append_assoc (flat_map spell_table tables) _ _)
+step_read (WantsColumn tables name columns) (Name column) q e =
+    ap before (unSome (sym e)) ∙ sym (regroup3 (flat_map spell_table tables) (spell_heading name) (begun Comma spell_column columns) _)
+step_read (Within tables name columns last) s q e = within_read tables name columns last s q e
+step_read (AfterColumns tables name columns last) Semicolon q e =
+    ap before (unSome (sym e)) ∙ tables_end tables name columns last
+step_read _ _ q e = absurd (cc)
+
+-- tests of all elements of a list
+
+all_more : {X : Type 0} (p : X → Bool) (x : X) (xs : List X) → p x ≡ true → list_all p xs ≡ true → list_all p (x ∷ xs) ≡ true
+all_more p x xs e f = ap (λ b. b && list_all p xs) e ∙ f
+
+both_true : (a b : Bool) → (a && b) ≡ true → (a ≡ true) × (b ≡ true)
+both_true true b e = (refl, e)
+both_true false b e = absurd (cc)
+
+all_back : {X : Type 0} (p : X → Bool) (xs ys : List X) → list_all p (xs ++ ys) ≡ true → list_all p ys ≡ true
+all_back p xs ys e = (both_true (list_all p xs) (list_all p ys) (sym (list_all-append p xs ys) ∙ e)).1
+
+all_front : {X : Type 0} (p : X → Bool) (xs ys : List X) → list_all p (xs ++ ys) ≡ true → list_all p xs ≡ true
+all_front p xs ys e = (both_true (list_all p xs) (list_all p ys) (sym (list_all-append p xs ys) ∙ e)).0
+
+-- the symbols of a tree lead from the start to its end
+
+pub run : Option Place → List Symbol → Option Place
+run None xs = None
+run (Some p) [] = Some p
+run (Some p) (x ∷ xs) = run (step p x) xs
+
+pub run_none : (xs : List Symbol) → run None xs ≡ None
+unfolding run
+run_none xs = refl
+
+pub run_append : (p : Option Place) (xs ys : List Symbol) → run p (xs ++ ys) ≡ run (run p xs) ys
+unfolding run
+run_append None xs ys = refl
+run_append (Some p) [] ys = refl
+run_append (Some p) (x ∷ xs) ys = run_append (step p x) xs ys
+
+-- the place after a whole column
+at_column : SchemaText → List ℕ → List ColumnText → ColumnText → Option Place
+at_column tables name columns column = Some (Within tables name columns (Whole column))
+
+column_leads : (tables : SchemaText) (name : List ℕ) (columns : List ColumnText) (column : ColumnText) (xs : List Symbol)
+    → run (Some (WantsColumn tables name columns)) (spell_column column ++ xs)
+    ≡ run (Some (Within tables name columns (Whole column))) xs
+unfolding run
+column_leads tables name columns (CharColumn n digits true) xs = refl
+column_leads tables name columns (CharColumn n digits false) xs = refl
+column_leads tables name columns (IntegerColumn n true None true) xs = refl
+column_leads tables name columns (IntegerColumn n true None false) xs = refl
+column_leads tables name columns (IntegerColumn n false None true) xs = refl
+column_leads tables name columns (IntegerColumn n false None false) xs = refl
+column_leads tables name columns (IntegerColumn n true (Some (To table true)) true) xs = refl
+column_leads tables name columns (IntegerColumn n true (Some (To table true)) false) xs = refl
+column_leads tables name columns (IntegerColumn n true (Some (To table false)) true) xs = refl
+column_leads tables name columns (IntegerColumn n true (Some (To table false)) false) xs = refl
+column_leads tables name columns (IntegerColumn n false (Some (To table true)) true) xs = refl
+column_leads tables name columns (IntegerColumn n false (Some (To table true)) false) xs = refl
+column_leads tables name columns (IntegerColumn n false (Some (To table false)) true) xs = refl
+column_leads tables name columns (IntegerColumn n false (Some (To table false)) false) xs = refl
+
+-- a table from the columns that have a comma after them, the one that is read, and those that follow
+extended : List ℕ → List ColumnText → ColumnText → List ColumnText → TableText
+extended name columns last [] = table_from name columns last
+extended name columns last (x ∷ xs) = extended name (columns ++ last ∷ []) x xs
+
+columns_lead : (tables : SchemaText) (name : List ℕ) (columns : List ColumnText) (last : ColumnText) (later : List ColumnText) (xs : List Symbol)
+    → run (Some (Within tables name columns (Whole last))) (flat_map (λ other. Comma ∷ spell_column other) later ++ Closing ∷ Semicolon ∷ xs)
+    ≡ run (Some (Between (tables ++ extended name columns last later ∷ []))) xs
+unfolding run extended
+columns_lead tables name columns last [] xs = refl
+columns_lead tables name columns last (x ∷ later) xs =
+    ap (run (Some (WantsColumn tables name (columns ++ last ∷ []))))
+        (append_assoc (spell_column x) (flat_map (λ other. Comma ∷ spell_column other) later) (Closing ∷ Semicolon ∷ xs))
+    ∙ (column_leads tables name (columns ++ last ∷ []) x (flat_map (λ other. Comma ∷ spell_column other) later ++ Closing ∷ Semicolon ∷ xs)
+    ∙ columns_lead tables name (columns ++ last ∷ []) x later xs)
+
+extended_later : (name : List ℕ) (first : ColumnText) (columns : List ColumnText) (last : ColumnText) (later : List ColumnText)
+    → extended name (first ∷ columns) last later ≡ record { name = name; first = first; others = columns ++ last ∷ later }
+unfolding extended
+extended_later name first columns last [] = refl
+extended_later name first columns last (x ∷ later) =
+    extended_later name first (columns ++ last ∷ []) x later
+    ∙ ap (λ others. record { name = name; first = first; others = others }) (append_assoc columns (last ∷ []) (x ∷ later))
+
+extended_first : (name : List ℕ) (first : ColumnText) (later : List ColumnText)
+    → extended name [] first later ≡ record { name = name; first = first; others = later }
+unfolding extended
+extended_first name first [] = refl
+extended_first name first (x ∷ later) = extended_later name first [] x later
+
+table_leads : (tables : SchemaText) (table : TableText) (xs : List Symbol)
+    → run (Some (Between tables)) (spell_table table ++ xs) ≡ run (Some (Between (tables ++ table ∷ []))) xs
+unfolding run
+table_leads tables table xs =
+    ap (run (Some (WantsColumn tables table.name [])))
+        (regroup_table (spell_column table.first) (flat_map (λ other. Comma ∷ spell_column other) table.others) (Closing ∷ Semicolon ∷ []) xs)
+    ∙ (column_leads tables table.name [] table.first (flat_map (λ other. Comma ∷ spell_column other) table.others ++ Closing ∷ Semicolon ∷ xs)
+    ∙ (columns_lead tables table.name [] table.first table.others xs
+    ∙ ap (λ last. run (Some (Between (tables ++ last ∷ []))) xs) (extended_first table.name table.first table.others)))
+
+tables_lead : (tables later : SchemaText) (xs : List Symbol)
+    → run (Some (Between tables)) (flat_map spell_table later ++ xs) ≡ run (Some (Between (tables ++ later))) xs
+tables_lead tables [] xs = ap (λ all. run (Some (Between all)) xs) (sym (append-nil tables))
+tables_lead tables (table ∷ later) xs =
+    ap (run (Some (Between tables))) (append_assoc (spell_table table) (flat_map spell_table later) xs)
+    ∙ (table_leads tables table (flat_map spell_table later ++ xs)
+    ∙ (tables_lead (tables ++ table ∷ []) later xs
+    ∙ ap (λ all. run (Some (Between all)) xs) (append_assoc tables (table ∷ []) later)))
+
+pub leads : (tables : SchemaText) → run (Some (Between [])) (spelling tables) ≡ Some (Ended tables)
+unfolding run
+leads tables = tables_lead [] tables (End ∷ [])
+
+-- from each place before the end some symbols complete a tree
+
+pub record Completes (p : Place) : Type 0 where
+  pub rest : List Symbol
+  pub tables : SchemaText
+  pub spelled : list_all is_spelled rest ≡ true
+  pub whole : (before p ++ rest) ++ End ∷ [] ≡ spelling tables
+
+-- by one step to a place from which some do
+on_by : (p : Place) (s : Symbol) (q : Place) → step p s ≡ Some q → is_spelled s ≡ true → Completes q → Completes p
+on_by p s q e spelled on = record {
+  rest = s ∷ on.rest;
+  tables = on.tables;
+  spelled = all_more is_spelled s on.rest spelled on.spelled;
+  whole =
+    ap (λ front. front ++ End ∷ []) (sym (append_assoc (before p) (s ∷ []) on.rest) ∙ ap (λ front. front ++ on.rest) (sym (step_read p s q e)))
+    ∙ on.whole }
+
+from_between : (tables : SchemaText) → Completes (Between tables)
+from_between tables = record { rest = []; tables = tables; spelled = refl; whole = ap (λ front. front ++ End ∷ []) (append-nil (flat_map spell_table tables)) }
+
+from_columns : (tables : SchemaText) (name : List ℕ) (columns : List ColumnText) (last : ColumnText) → Completes (AfterColumns tables name columns last)
+from_columns tables name columns last =
+    on_by (AfterColumns tables name columns last) Semicolon (Between (tables ++ table_from name columns last ∷ [])) refl refl
+        (from_between (tables ++ table_from name columns last ∷ []))
+
+module _ (tables : SchemaText) (name : List ℕ) (columns : List ColumnText) where
+  from_whole : (last : ColumnText) → Completes (Within tables name columns (Whole last))
+  from_whole last =
+      on_by (Within tables name columns (Whole last)) Closing (AfterColumns tables name columns last) refl refl
+          (from_columns tables name columns last)
+
+  on_within : (last : InColumn) (s : Symbol) (q : InColumn) → step_within tables name columns last s ≡ Some (Within tables name columns q)
+      → is_spelled s ≡ true → Completes (Within tables name columns q) → Completes (Within tables name columns last)
+  on_within last s q e spelled on = on_by (Within tables name columns last) s (Within tables name columns q) e spelled on
+
+  from_length : (column digits : List ℕ) → Completes (Within tables name columns (AfterLength column digits))
+  from_length column digits =
+      on_within (AfterLength column digits) Closing (Whole (CharColumn column digits false)) refl refl (from_whole (CharColumn column digits false))
+
+  from_open : (column : List ℕ) → Completes (Within tables name columns (AfterOpen column))
+  unfolding is_number
+  from_open column = on_within (AfterOpen column) (Digits (49 ∷ [])) (AfterLength column (49 ∷ [])) refl refl (from_length column (49 ∷ []))
+
+  from_id : (column : List ℕ) (primary : Bool) (table : List ℕ) → Completes (Within tables name columns (AfterId column primary table))
+  from_id column primary table =
+      on_within (AfterId column primary table) Closing (Whole (IntegerColumn column primary (Some (To table true)) false)) refl refl
+          (from_whole (IntegerColumn column primary (Some (To table true)) false))
+
+  from_column : (last : InColumn) → Completes (Within tables name columns last)
+  unfolding is_name
+  from_column (Named column) =
+      on_within (Named column) (Word Integer) (Whole (IntegerColumn column false None false)) refl refl (from_whole (IntegerColumn column false None false))
+  from_column (AfterChar column) = on_within (AfterChar column) Open (AfterOpen column) refl refl (from_open column)
+  from_column (AfterOpen column) = from_open column
+  from_column (AfterLength column digits) = from_length column digits
+  from_column (AfterPrimary column) =
+      on_within (AfterPrimary column) (Word Key) (Whole (IntegerColumn column true None false)) refl refl (from_whole (IntegerColumn column true None false))
+  from_column (AfterReferences column primary) =
+      on_within (AfterReferences column primary) (Name (97 ∷ [])) (Whole (IntegerColumn column primary (Some (To (97 ∷ []) false)) false)) refl refl
+          (from_whole (IntegerColumn column primary (Some (To (97 ∷ []) false)) false))
+  from_column (OpensId column primary table) =
+      on_within (OpensId column primary table) (Name (codes "id")) (AfterId column primary table) refl refl (from_id column primary table)
+  from_column (AfterId column primary table) = from_id column primary table
+  from_column (Whole column) = from_whole column
+
+from_wants : (tables : SchemaText) (name : List ℕ) (columns : List ColumnText) → Completes (WantsColumn tables name columns)
+unfolding is_name
+from_wants tables name columns =
+    on_by (WantsColumn tables name columns) (Name (97 ∷ [])) (Within tables name columns (Named (97 ∷ []))) refl refl
+        (from_column tables name columns (Named (97 ∷ [])))
+
+from_name : (tables : SchemaText) (name : List ℕ) → Completes (AfterName tables name)
+from_name tables name = on_by (AfterName tables name) Open (WantsColumn tables name []) refl refl (from_wants tables name [])
+
+from_table : (tables : SchemaText) → Completes (AfterTable tables)
+unfolding is_name
+from_table tables = on_by (AfterTable tables) (Name (97 ∷ [])) (AfterName tables (97 ∷ [])) refl refl (from_name tables (97 ∷ []))
+
+-- the end itself is no symbol that bytes spell
+pub goes_on : (p : Place) → list_all is_spelled (before p) ≡ true → Completes p
+goes_on (Between tables) e = from_between tables
+goes_on (AfterCreate tables) e = on_by (AfterCreate tables) (Word Table) (AfterTable tables) refl refl (from_table tables)
+goes_on (AfterTable tables) e = from_table tables
+goes_on (AfterName tables name) e = from_name tables name
+goes_on (WantsColumn tables name columns) e = from_wants tables name columns
+goes_on (Within tables name columns last) e = from_column tables name columns last
+goes_on (AfterColumns tables name columns last) e = from_columns tables name columns last
+goes_on (Ended tables) e =
+    let h : list_all is_spelled (End ∷ []) ≡ true = all_back is_spelled (flat_map spell_table tables) (End ∷ []) e in absurd (cc)
+
+-- what was read is what led to a place
+
+module _ (p : Place) (x : Symbol) (xs : List Symbol) (q : Place) (later : (o : Place) → run (Some o) xs ≡ Some q → before q ≡ before o ++ xs) where
+  read_by : (o : Option Place) → step p x ≡ o → run o xs ≡ Some q → before q ≡ before p ++ x ∷ xs
+  unfolding run
+  read_by None e h = absurd (cc)
+  read_by (Some o) e h = later o h ∙ (ap (λ front. front ++ xs) (step_read p x o e) ∙ append_assoc (before p) (x ∷ []) xs)
+
+pub run_read : (p : Place) (xs : List Symbol) (q : Place) → run (Some p) xs ≡ Some q → before q ≡ before p ++ xs
+unfolding run
+run_read p [] q e = ap before (unSome (sym e)) ∙ sym (append-nil (before p))
+run_read p (x ∷ xs) q e = read_by p x xs q (λ o h. run_read o xs q h) (step p x) refl e
+
+-- what the reading answers, in terms of where the symbols lead
+
+tree_at_ended : (p : Place) (at : ℕ) (tables : SchemaText) → tree_at p at ≡ Ok tables → p ≡ Ended tables
+tree_at_ended (Ended tables) at other e = let h : tables ≡ other = cc in ap Ended h
+tree_at_ended _ at other e = absurd (cc)
+
+pub tree_read : (o : Option Place) (at : ℕ) (later : List Token) (tables : SchemaText)
+    → syntax_from o at later ≡ Ok tables → run o (map symbol_of later) ≡ Some (Ended tables)
+unfolding run syntax_from
+tree_read None at later tables e = absurd (cc)
+tree_read (Some p) at [] tables e = ap Some (tree_at_ended p at tables e)
+tree_read (Some p) at (token ∷ later) tables e = tree_read (step p token.symbol) token.at later tables e
+
+-- the token at offset `at` led nowhere
+pub record Stops (p : Place) (later : List Token) (at : ℕ) : Type 0 where
+  pub count : ℕ
+  pub place : Place
+  pub token : Token
+  pub led : run (Some p) (take count (map symbol_of later)) ≡ Some place
+  pub here : slice_get later count ≡ Some token
+  pub refused : step place token.symbol ≡ None
+  pub offset : token.at ≡ at
+
+-- the tokens ended elsewhere than at the end
+pub record Exhausts (p : Place) (later : List Token) : Type 0 where
+  pub place : Place
+  pub led : run (Some p) (map symbol_of later) ≡ Some place
+  pub open_end : (tables : SchemaText) → place ≡ Ended tables → ⊥
+
+pub Stopped : Option Place → (now : ℕ) → List Token → (at : ℕ) → Type 0
+Stopped None now later at = now ≡ at
+Stopped (Some p) now later at = Stops p later at ⊎ Exhausts p later
+
+tree_at_open : (p : Place) (now at : ℕ) (tables : SchemaText) → tree_at p now ≡ Err at → p ≡ Ended tables → ⊥
+tree_at_open (Ended tables) now at other e h = absurd (cc)
+tree_at_open (Between tables) now at other e h = absurd (cc)
+tree_at_open (AfterCreate tables) now at other e h = absurd (cc)
+tree_at_open (AfterTable tables) now at other e h = absurd (cc)
+tree_at_open (AfterName tables name) now at other e h = absurd (cc)
+tree_at_open (WantsColumn tables name columns) now at other e h = absurd (cc)
+tree_at_open (Within tables name columns last) now at other e h = absurd (cc)
+tree_at_open (AfterColumns tables name columns last) now at other e h = absurd (cc)
+
+stopped_after : (p : Place) (token : Token) (later : List Token) (now at : ℕ) (o : Option Place)
+    → step p token.symbol ≡ o → Stopped o token.at later at → Stopped (Some p) now (token ∷ later) at
+unfolding run Stopped
+stopped_after p token later now at None e h =
+    inl (record { count = 0; place = p; token = token; led = refl; here = refl; refused = e; offset = h })
+stopped_after p token later now at (Some q) e (inl h) =
+    inl (record {
+      count = suc h.count;
+      place = h.place;
+      token = h.token;
+      led = ap (λ o. run o (take h.count (map symbol_of later))) e ∙ h.led;
+      here = h.here;
+      refused = h.refused;
+      offset = h.offset })
+stopped_after p token later now at (Some q) e (inr h) =
+    inr (record { place = h.place; led = ap (λ o. run o (map symbol_of later)) e ∙ h.led; open_end = h.open_end })
+
+pub fault_read : (o : Option Place) (now : ℕ) (later : List Token) (at : ℕ) → syntax_from o now later ≡ Err at → Stopped o now later at
+unfolding run syntax_from Stopped
+fault_read None now later at e = let h : now ≡ at = cc in h
+fault_read (Some p) now [] at e = inr (record { place = p; led = refl; open_end = λ tables h. tree_at_open p now at tables e h })
+fault_read (Some p) now (token ∷ later) at e =
+    stopped_after p token later now at (step p token.symbol) refl (fault_read (step p token.symbol) token.at later at e)
+
+-- fronts of lists of symbols
+
+more_taken : {X : Type 0} (xs : List X) (k : ℕ) (x : X) → slice_get xs k ≡ Some x → take (suc k) xs ≡ take k xs ++ x ∷ []
+more_taken [] k x e = absurd (cc)
+more_taken (y ∷ ys) zero x e = ap (λ head. head ∷ []) (unSome e)
+more_taken (y ∷ ys) (suc k) x e = ap (λ tail. y ∷ tail) (more_taken ys k x e)
+
+-- a shorter front is a front of a longer one
+front_of_front : {X : Type 0} (j k : ℕ) (xs : List X) → j ≤ k → take j xs ++ drop j (take k xs) ≡ take k xs
+front_of_front zero k xs h = refl
+front_of_front (suc j) zero xs h = absurd (omega arith)
+front_of_front (suc j) (suc k) [] h = refl
+front_of_front (suc j) (suc k) (x ∷ xs) h = ap (λ tail. x ∷ tail) (front_of_front j k xs (omega arith))
+
+viable_front : {Tree : Type 0} (spell : Tree → List Symbol) (xs ys : List Symbol) → IsViable spell (xs ++ ys) → IsViable spell xs
+viable_front spell xs ys v = record {
+  text = v.text;
+  tree = v.tree;
+  spells = v.spells;
+  rest = ys ++ v.rest;
+  begins = sym (append_assoc xs ys v.rest) ∙ v.begins }
+
+-- no fault stands before another
+fault_not_before : {Tree : Type 0} (spell : Tree → List Symbol) (given : List Symbol) (j k : ℕ)
+    → IsFault spell given j → IsFault spell given k → j < k → ⊥
+fault_not_before spell given j k f g h =
+    f.dead (viable_front spell (take (j + 1) given) (drop (j + 1) (take k given))
+        (subst (IsViable spell) (sym (front_of_front (j + 1) k given (omega arith))) g.viable))
+
+one_place : {Tree : Type 0} (spell : Tree → List Symbol) (given : List Symbol) (j k : ℕ) → IsFault spell given j → IsFault spell given k → j ≡ k
+one_place spell given j k f g =
+    let a : j < k → ⊥ = fault_not_before spell given j k f g in
+    let b : k < j → ⊥ = fault_not_before spell given k j g f in
+    omega arith
+
+pub one_syntax_fault : {Tree : Type 0} (spell : Tree → List Symbol) (text : List ℕ) (a b : ℕ) → IsSyntaxFault spell text a → IsSyntaxFault spell text b → a ≡ b
+one_syntax_fault spell text a b f g =
+    let h : f.place ≡ g.place = one_place spell (symbols text) f.place g.place f.fault g.fault in
+    unSome (sym f.offset ∙ (ap (offset_of text) h ∙ g.offset))
+
+-- a text of the grammar has no fault
+pub no_syntax_fault : {Tree : Type 0} (spell : Tree → List Symbol) (text : List ℕ) (tree : Tree) (at : ℕ) → Spells spell text tree → IsSyntaxFault spell text at → ⊥
+no_syntax_fault spell text tree at e f =
+    f.fault.dead (record {
+      text = text;
+      tree = tree;
+      spells = e;
+      rest = drop (f.place + 1) (symbols text);
+      begins = take-append-drop (f.place + 1) (symbols text) })
+
+-- the law
+
+end_ends : (p q : Place) → step p End ≡ Some q → (tables : SchemaText) × (q ≡ Ended tables)
+end_ends (Between tables) q e = (tables, unSome (sym e))
+end_ends (AfterCreate tables) q e = absurd (cc)
+end_ends (AfterTable tables) q e = absurd (cc)
+end_ends (AfterName tables name) q e = absurd (cc)
+end_ends (WantsColumn tables name columns) q e = absurd (cc)
+end_ends (Within tables name columns (Whole (CharColumn _ _ true))) q e = absurd (cc)
+end_ends (Within tables name columns (Whole (CharColumn _ _ false))) q e = absurd (cc)
+end_ends (Within tables name columns (Whole (IntegerColumn _ _ _ true))) q e = absurd (cc)
+end_ends (Within tables name columns (Whole (IntegerColumn _ true None false))) q e = absurd (cc)
+end_ends (Within tables name columns (Whole (IntegerColumn _ false None false))) q e = absurd (cc)
+end_ends (Within tables name columns (Whole (IntegerColumn _ true (Some (To _ true)) false))) q e = absurd (cc)
+end_ends (Within tables name columns (Whole (IntegerColumn _ true (Some (To _ false)) false))) q e = absurd (cc)
+end_ends (Within tables name columns (Whole (IntegerColumn _ false (Some (To _ true)) false))) q e = absurd (cc)
+end_ends (Within tables name columns (Whole (IntegerColumn _ false (Some (To _ false)) false))) q e = absurd (cc)
+end_ends (Within tables name columns _) q e = absurd (cc)
+end_ends (AfterColumns tables name columns last) q e = absurd (cc)
+end_ends (Ended tables) q e = absurd (cc)
+
+-- the end of a text leads to the end or nowhere
+last_by : (p q : Place) (o : Option Place) → step p End ≡ o → run o [] ≡ Some q → (tables : SchemaText) × (q ≡ Ended tables)
+unfolding run
+last_by p q None e h = absurd (cc)
+last_by p q (Some r) e h = end_ends p q (e ∙ h)
+
+last_leads : (o : Option Place) (q : Place) → run o (End ∷ []) ≡ Some q → (tables : SchemaText) × (q ≡ Ended tables)
+unfolding run
+last_leads None q e = absurd (cc)
+last_leads (Some p) q e = last_by p q (step p End) refl e

@@ -1,7 +1,7 @@
 -- Symbols and the texts that spell them.
-use Rattle.std.proofs.Common.{◌≡◌, ℕ, zero, suc, ◌+◌, ◌-◌, Bool, true, false, not, ◌&&◌, ◌||◌, ◌==◌, cond, if◌then◌else◌, List, [], ◌∷◌, ◌++◌, length, map, take, refl, sym, ◌∙◌, ap, subst, append_assoc, append-nil, length-append, arith, codes, bytes_eq, Option, None, Some}
+use Rattle.std.proofs.Common.{◌≡◌, ℕ, zero, suc, ◌+◌, ◌-◌, Bool, true, false, not, ◌||◌, ◌==◌, cond, if◌then◌else◌, List, [], ◌∷◌, ◌++◌, length, map, refl, sym, ◌∙◌, ap, append_assoc, append-nil, length-append, arith, codes, bytes_eq, Option, None, Some}
 use Rattle.std.specs.Prelude.{take_while, flat_map, is_none}
-use Rattle.std.specs.List.{list_any, list_all, prefix_len}
+use Rattle.std.specs.List.{list_any, list_all}
 use Rattle.std.proofs.lemmas.List.Sums.{take_while-cons}
 use Rattle.std.proofs.lemmas.Bool.{and_parts, and_from, eqb-true, not-true}
 use Rattle.std.proofs.lemmas.Str.Ascii.{lowercase-lowercase}
@@ -9,7 +9,7 @@ use Rattle.std.proofs.lemmas.List.Folds.{list_all-append}
 use Rattle.std.proofs.lemmas.Slice.Eq.{bytes_eq-Decides}
 use Rattle.std.specs.Char.{to_ascii_lowercase}
 use Rattle.std.proofs.lemmas.Bool.Decides.{nat_tests}
-use Rattle.ghost_model.specs.Tokens.{Keyword, And, Between, Char, Create, From, Hidden, Integer, Key, Primary, References, Select, Table, Where, Symbol, Word, Reserved, Name, Digits, Quoted, Open, Closing, Comma, Point, Semicolon, Star, Plus, Minus, Equal, Unequal, Less, AtMost, More, AtLeast, Bad, End, keyword_of, keyword_or, name_or_reserved, other_reserved, Token, symbol_of, symbols, tokens_from, quoted_from, token_at, word_at, digits_at, in_lower_case, symbol_of_word, is_space, is_digit, begins_name, is_name_byte, is_printable, sign_of, less_and, more_and, read, Read}
+use Rattle.ghost_model.specs.Tokens.{Keyword, And, Between, Char, Create, From, Hidden, Integer, Key, Primary, References, Select, Table, Where, Symbol, Word, Reserved, Name, Digits, Quoted, Open, Closing, Comma, Point, Semicolon, Star, Plus, Minus, Equal, Unequal, Less, AtMost, More, AtLeast, Bad, End, keyword_of, keyword_or, other_reserved, symbol_of, symbols, tokens_from, quoted_from, token_at, word_at, digits_at, in_lower_case, symbol_of_word, is_space, is_digit, begins_name, is_name_byte, is_printable, sign_of, less_and, more_and, read, Read}
 use Rattle.ghost_model.specs.Spelled.{keyword_text, is_reserved, begins_as_name, is_name, is_number, is_spelled, symbol_text, inside_literal, text_of, IsBeforeEnd}
 
 -- the symbols of a text whose first `left` bytes belong to a token before; the offset of the text does not matter
@@ -24,9 +24,9 @@ kinds_anywhere zero a b (c ∷ text) =
     let inside = ap (λ (xs : List Symbol). (token_at c text).symbol ∷ xs) (kinds_anywhere ((token_at c text).bytes - 1) (a + 1) (b + 1) text) in
     let spaced = kinds_anywhere zero (a + 1) (b + 1) text in
     elim (is_space c) as (λ v.
-      map symbol_of (if v then tokens_from zero (a + 1) text else record { symbol = (token_at c text).symbol; at = a } ∷ tokens_from ((token_at c text).bytes - 1) (a + 1) text)
-      ≡ map symbol_of (if v then tokens_from zero (b + 1) text else record { symbol = (token_at c text).symbol; at = b } ∷ tokens_from ((token_at c text).bytes - 1) (b + 1) text))
-      [ true ↦ spaced | false ↦ inside ]
+    map symbol_of (if v then tokens_from zero (a + 1) text else record { symbol = (token_at c text).symbol; at = a } ∷ tokens_from ((token_at c text).bytes - 1) (a + 1) text)
+    ≡ map symbol_of (if v then tokens_from zero (b + 1) text else record { symbol = (token_at c text).symbol; at = b } ∷ tokens_from ((token_at c text).bytes - 1) (b + 1) text))
+    [ true ↦ spaced | false ↦ inside ]
 
 -- the bytes that a token takes are passed over
 pub kinds_after : (xs : List ℕ) (a b : ℕ) (text : List ℕ) → map symbol_of (tokens_from (length xs) a (xs ++ text)) ≡ map symbol_of (tokens_from 0 b text)
@@ -43,7 +43,7 @@ take_while_all p [] y ys all stops = take_while-cons p y ys ∙ ap (λ v. cond v
 take_while_all p (x ∷ xs) y ys all stops =
     let both = and_parts (p x) (list_all p xs) all in
     take_while-cons p x (xs ++ y ∷ ys)
-      ∙ (ap (λ v. cond v (x ∷ take_while p (xs ++ y ∷ ys)) []) both.0 ∙ ap (λ (zs : List ℕ). x ∷ zs) (take_while_all p xs y ys both.1 stops))
+    ∙ (ap (λ v. cond v (x ∷ take_while p (xs ++ y ∷ ys)) []) both.0 ∙ ap (λ (zs : List ℕ). x ∷ zs) (take_while_all p xs y ys both.1 stops))
 
 passes_with : (p : ℕ → Bool) (x : ℕ) (xs : List ℕ) → list_all p xs ≡ true → (v : Bool) → p x ≡ v → list_all p (cond v (x ∷ xs) []) ≡ true
 passes_with p x xs rest true e = and_from _ _ e rest
@@ -82,9 +82,9 @@ token_before_space b w rest symbol no_space token =
     let less : suc (length w) - 1 ≡ length w = omega arith in
     let bytes : (token_at b (w ++ 32 ∷ rest)).bytes - 1 ≡ length w = ap (λ (r : Read). r.bytes - 1) token ∙ less in
     one_token 0 b (w ++ 32 ∷ rest) no_space
-      ∙ (ap (λ (r : Read). r.symbol ∷ map symbol_of (tokens_from ((token_at b (w ++ 32 ∷ rest)).bytes - 1) (0 + 1) (w ++ 32 ∷ rest))) token
-        ∙ (ap (λ left. symbol ∷ map symbol_of (tokens_from left (0 + 1) (w ++ 32 ∷ rest))) bytes
-          ∙ ap (λ (xs : List Symbol). symbol ∷ xs) (kinds_after w (0 + 1) 0 (32 ∷ rest) ∙ after_space 0 rest)))
+    ∙ (ap (λ (r : Read). r.symbol ∷ map symbol_of (tokens_from ((token_at b (w ++ 32 ∷ rest)).bytes - 1) (0 + 1) (w ++ 32 ∷ rest))) token
+    ∙ (ap (λ left. symbol ∷ map symbol_of (tokens_from left (0 + 1) (w ++ 32 ∷ rest))) bytes
+    ∙ ap (λ (xs : List Symbol). symbol ∷ xs) (kinds_after w (0 + 1) 0 (32 ∷ rest) ∙ after_space 0 rest)))
 
 taken : {A : Type 0} (test : Bool) (x y z : A) → test ≡ true → x ≡ z → (if test then x else y) ≡ z
 taken test x y z e same = ap (λ v. if v then x else y) e ∙ same
@@ -104,7 +104,7 @@ digits_token b w rest goes =
 -- a literal's value and its bytes, from the places after its opening quote
 literal_step : (v : ℕ) (quote : Bool) → (v == 39) ≡ quote → is_printable v ≡ true → (value : List ℕ) (count : ℕ) (text : List ℕ)
     → quoted_from false value count ((if quote then 39 ∷ 39 ∷ [] else v ∷ []) ++ text)
-      ≡ quoted_from false (value ++ v ∷ []) (count + length (if quote then 39 ∷ 39 ∷ [] else v ∷ [])) text
+    ≡ quoted_from false (value ++ v ∷ []) (count + length (if quote then 39 ∷ 39 ∷ [] else v ∷ [])) text
 unfolding quoted_from
 literal_step v true e p value count text =
     let more : count + 1 + 1 ≡ count + 2 = omega arith in
@@ -120,12 +120,12 @@ literal_reads (v ∷ vs) value count rest all =
     let both = and_parts (is_printable v) (list_all is_printable vs) all in
     let grouped : (inside_literal v ++ flat_map inside_literal vs) ++ 39 ∷ (32 ∷ rest) ≡ inside_literal v ++ (flat_map inside_literal vs ++ 39 ∷ (32 ∷ rest)) = append_assoc (inside_literal v) (flat_map inside_literal vs) (39 ∷ (32 ∷ rest)) in
     let counted : count + length (inside_literal v) + length (flat_map inside_literal vs ++ 39 ∷ []) ≡ count + length ((inside_literal v ++ flat_map inside_literal vs) ++ 39 ∷ [])
-      = simp length-append (omega arith) in
+    = simp length-append (omega arith) in
     ap (quoted_from false value count) grouped
-      ∙ (literal_step v (v == 39) refl both.0 value count (flat_map inside_literal vs ++ 39 ∷ (32 ∷ rest))
-        ∙ (literal_reads vs (value ++ v ∷ []) (count + length (inside_literal v)) rest both.1
-          ∙ (ap (λ (xs : List ℕ). read (Quoted xs) (count + length (inside_literal v) + length (flat_map inside_literal vs ++ 39 ∷ []))) (append_assoc value (v ∷ []) vs)
-            ∙ ap (λ n. read (Quoted (value ++ v ∷ vs)) n) counted)))
+    ∙ (literal_step v (v == 39) refl both.0 value count (flat_map inside_literal vs ++ 39 ∷ (32 ∷ rest))
+    ∙ (literal_reads vs (value ++ v ∷ []) (count + length (inside_literal v)) rest both.1
+    ∙ (ap (λ (xs : List ℕ). read (Quoted xs) (count + length (inside_literal v) + length (flat_map inside_literal vs ++ 39 ∷ []))) (append_assoc value (v ∷ []) vs)
+    ∙ ap (λ n. read (Quoted (value ++ v ∷ vs)) n) counted)))
 
 literal_token : (value rest : List ℕ) → list_all is_printable value ≡ true
     → token_at 39 ((flat_map inside_literal value ++ 39 ∷ []) ++ 32 ∷ rest) ≡ read (Quoted value) (suc (length (flat_map inside_literal value ++ 39 ∷ [])))
@@ -148,9 +148,9 @@ name_reads b w rest e =
     let begins = and_parts (begins_name b) (list_all is_name_byte (b ∷ w)) lower.0 in
     let same : in_lower_case (b ∷ w) ≡ b ∷ w = (bytes_eq-Decides (in_lower_case (b ∷ w)) (b ∷ w)).0 lower.1 in
     let named : symbol_of_word (in_lower_case (b ∷ w)) ≡ Name (b ∷ w) =
-      ap symbol_of_word same ∙ symbol_if_free (b ∷ w) (keyword_of (b ∷ w)) (list_any (bytes_eq (b ∷ w)) other_reserved) (not-true _ free.1) in
+    ap symbol_of_word same ∙ symbol_if_free (b ∷ w) (keyword_of (b ∷ w)) (list_any (bytes_eq (b ∷ w)) other_reserved) (not-true _ free.1) in
     token_before_space b w rest (Name (b ∷ w)) (name_is_no_space b begins.0)
-      (word_token b w rest begins.0 begins.1 ∙ ap (λ (s : Symbol). read s (suc (length w))) named)
+    (word_token b w rest begins.0 begins.1 ∙ ap (λ (s : Symbol). read s (suc (length w))) named)
 
 number_reads : (b : ℕ) (w rest : List ℕ) → list_all is_digit (b ∷ w) ≡ true → symbols ((b ∷ w) ++ 32 ∷ rest) ≡ Digits (b ∷ w) ∷ symbols rest
 number_reads b w rest e =
@@ -234,7 +234,7 @@ word_at_spelled : (b : ℕ) (w : List ℕ) → begins_name b ≡ true → list_a
 word_at_spelled b w begins all =
     let word = in_lower_case (b ∷ w) in
     word_spelled word (keyword_of word) (list_any (bytes_eq word) other_reserved) refl refl (lower_begins b begins) (lower_all (b ∷ w) all)
-      ((bytes_eq-Decides (in_lower_case word) word).1 (lower_twice (b ∷ w)))
+    ((bytes_eq-Decides (in_lower_case word) word).1 (lower_twice (b ∷ w)))
 
 read_either : (test : Bool) (x y : Read) → (test ≡ true → is_spelled x.symbol ≡ true) → (test ≡ false → is_spelled y.symbol ≡ true)
     → is_spelled (if test then x else y).symbol ≡ true
@@ -256,7 +256,7 @@ quoted_spelled (b ∷ bs) true value count all =
     read_either (b == 39) _ _ (λ e. quoted_spelled bs false (value ++ b ∷ []) (count + 1) (printable_more value b all (one_printable b e))) (λ _. all)
 quoted_spelled (b ∷ bs) false value count all =
     read_either (b == 39) _ _ (λ e. quoted_spelled bs true value (count + 1) all)
-      (λ _. read_either (is_printable b) _ _ (λ e. quoted_spelled bs false (value ++ b ∷ []) (count + 1) (printable_more value b all e)) (λ _. refl))
+    (λ _. read_either (is_printable b) _ _ (λ e. quoted_spelled bs false (value ++ b ∷ []) (count + 1) (printable_more value b all e)) (λ _. refl))
 
 less_spelled : (bs : List ℕ) → is_spelled (less_and bs).symbol ≡ true
 less_spelled [] = refl
@@ -273,14 +273,14 @@ token_spelled : (b : ℕ) (bs : List ℕ) → is_spelled (token_at b bs).symbol 
 unfolding is_number
 token_spelled b bs =
     read_either (begins_name b) _ _
-      (λ e. let named : is_name_byte b ≡ true = ap (λ v. v || is_digit b) e in
-        ap (λ (w : List ℕ). is_spelled (word_at w).symbol) (taken_first is_name_byte b bs named)
-          ∙ word_at_spelled b (take_while is_name_byte bs) e (and_from _ _ named (take_while_passes is_name_byte bs)))
-      (λ _. read_either (is_digit b) _ _
-        (λ e. ap (λ (w : List ℕ). is_spelled (digits_at w).symbol) (taken_first is_digit b bs e) ∙ and_from _ _ e (take_while_passes is_digit bs))
-        (λ _. read_either (b == 39) _ _ (λ _. quoted_spelled bs false [] 1 refl)
-          (λ _. read_either (b == 60) _ _ (λ _. less_spelled bs)
-            (λ _. read_either (b == 62) _ _ (λ _. more_spelled bs) (λ _. sign_spelled b)))))
+    (λ e. let named : is_name_byte b ≡ true = ap (λ v. v || is_digit b) e in
+    ap (λ (w : List ℕ). is_spelled (word_at w).symbol) (taken_first is_name_byte b bs named)
+    ∙ word_at_spelled b (take_while is_name_byte bs) e (and_from _ _ named (take_while_passes is_name_byte bs)))
+    (λ _. read_either (is_digit b) _ _
+    (λ e. ap (λ (w : List ℕ). is_spelled (digits_at w).symbol) (taken_first is_digit b bs e) ∙ and_from _ _ e (take_while_passes is_digit bs))
+    (λ _. read_either (b == 39) _ _ (λ _. quoted_spelled bs false [] 1 refl)
+    (λ _. read_either (b == 60) _ _ (λ _. less_spelled bs)
+    (λ _. read_either (b == 62) _ _ (λ _. more_spelled bs) (λ _. sign_spelled b)))))
 
 -- spelled symbols and then the end
 record IsEnded (xs before : List Symbol) : Type 0 where
@@ -294,13 +294,16 @@ ended_from (suc left) at (c ∷ text) = ended_from left (at + 1) text
 ended_from zero at (c ∷ text) =
     let later = ended_from ((token_at c text).bytes - 1) (at + 1) text in
     let spaced = ended_from zero (at + 1) text in
-    elim (is_space c) as (λ v. (before : List Symbol) × IsEnded (map symbol_of (if v then tokens_from zero (at + 1) text else record { symbol = (token_at c text).symbol; at = at } ∷ tokens_from ((token_at c text).bytes - 1) (at + 1) text)) before)
-      [ true ↦ spaced
-      | false ↦ ((token_at c text).symbol ∷ later.0, record {
+    elim (is_space c) as (λ v. (before : List Symbol) × IsEnded (map symbol_of (if v then tokens_from zero (at + 1) text else record { symbol = (token_at c text).symbol; at = at } ∷ tokens_from ((token_at c text).bytes - 1) (at + 1) text)) before) [
+      | true ↦ spaced
+      | false ↦ (
+        (token_at c text).symbol ∷ later.0,
+        record {
           whole = ap (λ (xs : List Symbol). (token_at c text).symbol ∷ xs) later.1.whole;
           spelled = and_from _ _ (token_spelled c text) later.1.spelled;
-        })
-      ]
+        },
+      )
+    ]
 
 pub before_end : (text : List ℕ) → (before : List Symbol) × IsBeforeEnd text before
 before_end text = let found = ended_from 0 0 text in (found.0, record { whole = found.1.whole; spelled = found.1.spelled })

@@ -10,6 +10,7 @@ use Rattle.ghost_model.specs.Schema.{Schema, Column, Kind, Integer, Chars, colum
 use Rattle.ghost_model.specs.Values.{Value, Number, Text}
 use Rattle.ghost_model.specs.Cells.{cell_width, encode_cell, decode_cell}
 use Rattle.ghost_model.specs.Query.{Query, Field, Condition, Compare, Join, Operator, Equal, Unequal, Less, AtMost, More, AtLeast}
+use Rattle.ghost_model.specs.QueryReading.{reading}
 use Rattle.ghost_model.specs.Channel.{Test, Ask}
 
 -- the condition of an ask for this table that a condition of a query is, if its column is visible
@@ -180,3 +181,7 @@ abbrev pub asked_from : {Refusal : Type 0} → Schema → (number : ℕ) → Lis
 asked_from schema number [] = []
 asked_from schema number (reading ∷ later) =
     map (asked number) (asks_of_reading schema reading) ++ asked_from schema (number + 1) later
+
+-- the asks of the accepted texts in order, with the numbers of their texts
+abbrev pub asked_of : Schema → (texts : List (List ℕ)) → List Asked
+asked_of schema texts = asked_from schema 1 (map (reading schema) texts)

@@ -1,1 +1,152 @@
--- Host: to be written
+-- What the host sends, a function of what it holds and of the bytes that the key sent. It awaits HELLO first, once; then
+-- ASK with the next serial, 1 first, or BYE; after each ROWS it awaits MORE with the ask's serial. HELLO is answered by
+-- the WELCOME frames of the host's own catalog, whatever generation it names, each full but the last. ASK and MORE are
+-- answered by one frame each: first ROWS, each with as many whole rows as fit, then DONE. At the first frame that is no
+-- frame of the key in its place the host stops.
+use Rattle.std.specs.Prelude.{◌≡◌, ℕ, zero, suc, ◌+◌, ◌-◌, ◌/◌, Bool, true, false, ◌&&◌, ◌==◌, List, [], ◌∷◌, ◌++◌, length, take, drop, map, flat_map, if◌then◌else◌, Option, Some, None}
+use Rattle.ghost_model.specs.Schema.{is_empty}
+use Rattle.ghost_model.specs.Channel.{Catalog, Ask, Frame, Hello, Asking, More, Bye, Welcome, Replied, Done, Sorry}
+use Rattle.ghost_model.specs.Catalog.{catalog_bytes}
+use Rattle.ghost_model.specs.Frames.{Got, Found, Short, Bad, got_of, frame_bytes, kind_of, most_payload}
+use Rattle.ghost_model.specs.Asks.{ReplyRow, row_bytes, row_width, ask_in}
+use Rattle.ghost_model.specs.NextMove.{InvalidFrame}
+
+-- what a host holds, as far as the channel goes: its catalog, and for each ask the rows that meet it, ascending
+pub record Holding : Type 0 where
+  pub catalog : Catalog
+  pub rows : Ask → List ReplyRow
+
+-- so many groups of a list, each of `most` elements but the last
+unfoldable pub groups_from : {X : Type 0} → (most count : ℕ) → List X → List (List X)
+groups_from most zero xs = []
+groups_from most (suc count) xs = take most xs ∷ groups_from most count (drop most xs)
+
+-- a list cut into groups of `most` elements, the last one shorter where it does not come out even
+abbrev pub grouped : {X : Type 0} → (most : ℕ) → List X → List (List X)
+grouped most xs = groups_from most ((length xs + most - 1) / most) xs
+
+-- the WELCOME frames of these parts of a catalog: the last one begins with 1
+abbrev pub welcomes_of : List (List ℕ) → List Frame
+welcomes_of [] = []
+welcomes_of (part ∷ []) = Welcome 1 part ∷ []
+welcomes_of (part ∷ next ∷ later) = Welcome 0 part ∷ welcomes_of (next ∷ later)
+
+-- the most bytes of the catalog that one WELCOME frame has
+abbrev pub most_part : ℕ
+most_part = 2039
+
+abbrev pub welcomes : Catalog → List Frame
+welcomes catalog = welcomes_of (grouped most_part (catalog_bytes catalog))
+
+abbrev pub rows_frame : (serial : ℕ) → List ReplyRow → Frame
+rows_frame serial rows = Replied serial (flat_map row_bytes rows)
+
+-- the whole reply to an ask: ROWS frames of as many whole rows as fit, and DONE
+abbrev pub reply_to : Holding → (serial : ℕ) → Ask → List Frame
+reply_to held serial ask =
+    map (rows_frame serial) (grouped (most_payload / row_width held.catalog.schema ask) (held.rows ask))
+    ++ Done serial (length (held.rows ask)) ∷ []
+
+-- where a host stands: it awaits HELLO; ASK with this serial, or BYE; MORE with this serial, these frames of the reply
+-- being still to come; or nothing, after BYE
+pub data Stand : Type 0 where
+  Greeting : Stand
+  Listening : (next : ℕ) → Stand
+  Replying : (serial : ℕ) (rest : List Frame) → Stand
+  Over : Stand
+
+-- a frame of the key is answered by these frames, and the host stands there
+pub record Answered : Type 0 where
+  pub says : List Frame
+  pub stand : Stand
+
+abbrev pub after_reply : (serial : ℕ) → (rest : List Frame) → Stand
+after_reply serial rest = if is_empty rest then Listening (serial + 1) else Replying serial rest
+
+-- the next frame of a reply is sent
+abbrev pub goes_on : (serial : ℕ) → List Frame → Option Answered
+goes_on serial [] = None
+goes_on serial (frame ∷ rest) = Some (record { says = frame ∷ []; stand = after_reply serial rest })
+
+abbrev pub answers_ask : Holding → (serial : ℕ) → Option Ask → Option Answered
+answers_ask held serial None = None
+answers_ask held serial (Some ask) = goes_on serial (reply_to held serial ask)
+
+abbrev pub answers_greeting : Holding → Frame → Option Answered
+answers_greeting held (Hello _) = Some (record { says = welcomes held.catalog; stand = Listening 1 })
+answers_greeting held _ = None
+
+abbrev pub answers_request : Holding → (next : ℕ) → Frame → Option Answered
+answers_request held next (Asking serial payload) =
+    if serial == next then answers_ask held serial (ask_in held.catalog.schema payload) else None
+answers_request held next Bye = Some (record { says = []; stand = Over })
+answers_request held next _ = None
+
+abbrev pub answers_more : (serial : ℕ) → (rest : List Frame) → Frame → Option Answered
+answers_more serial rest (More other) = if other == serial then goes_on serial rest else None
+answers_more serial rest _ = None
+
+-- how a frame is answered; a frame that is no frame of the key in its place is not
+abbrev pub answer_to : Holding → Stand → Frame → Option Answered
+answer_to held Greeting frame = answers_greeting held frame
+answer_to held (Listening next) frame = answers_request held next frame
+answer_to held (Replying serial rest) frame = answers_more serial rest frame
+answer_to held Over frame = None
+
+abbrev pub said_with : (Stand → List Frame) → Option Answered → List Frame
+said_with later None = []
+said_with later (Some answered) = answered.says ++ later answered.stand
+
+-- what a host that stands there says to these frames
+unfoldable pub said_to : Holding → List Frame → Stand → List Frame
+said_to held [] stand = []
+said_to held (frame ∷ later) stand = said_with (said_to held later) (answer_to held stand frame)
+
+-- the frames at the front of some bytes, at most so many
+abbrev pub frame_and : (Frame → List Frame) → Got → List Frame
+frame_and later (Found frame) = frame ∷ later frame
+frame_and later (Short _) = []
+frame_and later (Bad _) = []
+
+unfoldable pub frames_within : (most : ℕ) → List ℕ → List Frame
+frames_within zero bytes = []
+frames_within (suc most) bytes = frame_and (λ frame. frames_within most (drop (length (frame_bytes frame)) bytes)) (got_of bytes)
+
+-- the frames that bytes are cut into, up to the first that is not whole or breaks a rule. Each has some bytes, so there
+-- are not more of them than bytes
+abbrev pub frames_of : List ℕ → List Frame
+frames_of bytes = frames_within (length bytes) bytes
+
+-- the frames that the host sends for the bytes of a key
+abbrev pub host_says : Holding → (key : List ℕ) → List Frame
+host_says held key = said_to held (frames_of key) Greeting
+
+abbrev pub host_sends : Holding → (key : List ℕ) → List ℕ
+host_sends held key = flat_map frame_bytes (host_says held key)
+
+abbrev pub bad_rest : (at : ℕ) → Got → Option InvalidFrame
+bad_rest at (Found _) = None
+bad_rest at (Short _) = None
+bad_rest at (Bad kind) = Some (record { kind = kind; at = at })
+
+abbrev pub refused_or : Frame → (at : ℕ) → (Stand → Option InvalidFrame) → Option Answered → Option InvalidFrame
+refused_or frame at later None = Some (record { kind = kind_of frame; at = at })
+refused_or frame at later (Some answered) = later answered.stand
+
+-- nothing is read after BYE
+abbrev pub unless_over : Stand → Option InvalidFrame → Option InvalidFrame
+unless_over Greeting bad = bad
+unless_over (Listening _) bad = bad
+unless_over (Replying _ _) bad = bad
+unless_over Over bad = None
+
+unfoldable pub bad_from : Holding → (rest : List ℕ) → List Frame → (at : ℕ) → Stand → Option InvalidFrame
+bad_from held rest [] at stand = unless_over stand (bad_rest at (got_of rest))
+bad_from held rest (frame ∷ later) at stand =
+    unless_over stand
+      (refused_or frame at (bad_from held rest later (at + length (frame_bytes frame))) (answer_to held stand frame))
+
+-- the first frame that is no frame of the key in its place, if there is one: its first byte, and the bytes before it
+abbrev pub bad_request : Holding → (key : List ℕ) → Option InvalidFrame
+bad_request held key =
+    bad_from held (drop (length (flat_map frame_bytes (frames_of key))) key) (frames_of key) 0 Greeting

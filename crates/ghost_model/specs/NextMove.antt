@@ -12,7 +12,7 @@ use Rattle.ghost_model.specs.Cells.{cell_width, decode_cell}
 use Rattle.ghost_model.specs.Channel.{Catalog, Ask, Frame, Hello, Asking, More, Bye, Welcome, Replied, Done, Sorry, Move, Dial, Send, Take, Close, Listen, Accept, Answer, Made, Port, Piece, End, Failed, Entry, Journal}
 use Rattle.ghost_model.specs.Catalog.{catalog_bytes}
 use Rattle.ghost_model.specs.Frames.{frame_bytes, frame_in, frame_version, version_in, kind_in, size_in, serial_in, most_payload}
-use Rattle.ghost_model.specs.Asks.{Asked, ReplyRow, ask_payload, kinds_of, row_width, rows_in}
+use Rattle.ghost_model.specs.Asks.{Asked, asked_of, ReplyRow, ask_payload, kinds_of, row_width, rows_in}
 use Rattle.ghost_model.specs.Moves.{taken, sent, moves, answers, piece_of, sent_by}
 
 -- what the key awaits: the bytes of the catalog that are still missing; the reply to an ask with this serial, of which so
@@ -300,11 +300,19 @@ next_of catalog at left =
 abbrev pub next_with : Catalog → (at : List ℕ) → (asks : List Asked) → Journal → Option Move
 next_with catalog at asks journal = next_of catalog at (left catalog asks journal)
 
--- each move is the next move of the entries before it, the first of these being `before`
+-- the next move of a session with these texts; none after Close
+abbrev pub next_move : Catalog → (at : List ℕ) → (texts : List (List ℕ)) → Journal → Option Move
+next_move catalog at texts journal = next_with catalog at (asked_of catalog.schema texts) journal
+
+-- each move is the next move of the entries before it, these being `before` at the first
 abbrev pub GoesOn : Catalog → (at : List ℕ) → (asks : List Asked) → (before : Journal) → Journal → Type 0
 GoesOn catalog at asks before [] = Unit {0}
 GoesOn catalog at asks before (entry ∷ later) =
     (next_with catalog at asks before ≡ Some entry.move) × GoesOn catalog at asks (before ++ entry ∷ []) later
+
+-- a journal is proper where each move is the next move of the entries before it
+abbrev pub IsProper : Catalog → (at : List ℕ) → (texts : List (List ℕ)) → Journal → Type 0
+IsProper catalog at texts journal = GoesOn catalog at (asked_of catalog.schema texts) [] journal
 
 -- a journal is finished where it ends with Close
 abbrev pub IsFinished : Journal → Type 0
@@ -312,8 +320,10 @@ IsFinished [] = ⊥
 IsFinished (entry ∷ []) = entry.move ≡ Close
 IsFinished (_ ∷ entry ∷ later) = IsFinished (entry ∷ later)
 
-abbrev pub TwoWorldsWith : Type 0
-TwoWorldsWith =
-    (catalog : Catalog) (at : List ℕ) (asks : List Asked) (first second : Journal) (i : ℕ)
-    → GoesOn catalog at asks [] first → GoesOn catalog at asks [] second → i < length first → i < length second
+-- two proper journals for the same catalog, address and texts whose first i answers agree have the same first i + 1
+-- moves, where both have so many: the key's moves tell nothing of what it keeps hidden
+abbrev pub TwoWorlds : Type 0
+TwoWorlds =
+    (catalog : Catalog) (at : List ℕ) (texts : List (List ℕ)) (first second : Journal) (i : ℕ)
+    → IsProper catalog at texts first → IsProper catalog at texts second → i < length first → i < length second
     → answers (take i first) ≡ answers (take i second) → moves (take (i + 1) first) ≡ moves (take (i + 1) second)

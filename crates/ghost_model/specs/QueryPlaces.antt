@@ -93,77 +93,75 @@ before (InWhere selection table more earlier part) =
 before (Whole tree) = spelling tree
 
 -- where a symbol leads inside a selected column, and inside a condition
-abbrev pub step_in_column : ColumnPart → Symbol → Option ColumnPart
-step_in_column WantsColumn (Name name) = Some (HasColumn (Bare name))
-step_in_column (HasTablePoint table) (Name name) = Some (HasColumn (Qualified table name))
-step_in_column (HasColumn (Bare name)) Point = Some (HasTablePoint name)
+abbrev pub step_in_column : Symbol → ColumnPart → Option ColumnPart
+step_in_column (Name name) WantsColumn = Some (HasColumn (Bare name))
+step_in_column (Name name) (HasTablePoint table) = Some (HasColumn (Qualified table name))
+step_in_column Point (HasColumn (Bare name)) = Some (HasTablePoint name)
 step_in_column _ _ = None
 
-abbrev pub step_in_condition : ConditionPart → Symbol → Option ConditionPart
-step_in_condition WantsLeft (Name name) = Some (HasLeft (Bare name))
-step_in_condition (HasLeftPoint table) (Name name) = Some (HasLeft (Qualified table name))
-step_in_condition (HasLeft (Bare name)) Point = Some (HasLeftPoint name)
-step_in_condition (HasLeft column) Equal = Some (HasOperator column query.Equal)
-step_in_condition (HasLeft column) Unequal = Some (HasOperator column query.Unequal)
-step_in_condition (HasLeft column) Less = Some (HasOperator column query.Less)
-step_in_condition (HasLeft column) AtMost = Some (HasOperator column query.AtMost)
-step_in_condition (HasLeft column) More = Some (HasOperator column query.More)
-step_in_condition (HasLeft column) AtLeast = Some (HasOperator column query.AtLeast)
-step_in_condition (HasLeft column) (Word Between) = Some (WantsLow column)
-step_in_condition (HasOperator column query.Equal) (Name name) = Some (HasCondition (Joins column (Bare name)))
-step_in_condition (HasOperator column operator) Plus = Some (HasSign column operator Positive)
-step_in_condition (HasOperator column operator) Minus = Some (HasSign column operator Negative)
-step_in_condition (HasOperator column operator) (Digits digits) =
+abbrev pub step_in_condition : Symbol → ConditionPart → Option ConditionPart
+step_in_condition (Name name) WantsLeft = Some (HasLeft (Bare name))
+step_in_condition (Name name) (HasLeftPoint table) = Some (HasLeft (Qualified table name))
+step_in_condition Point (HasLeft (Bare name)) = Some (HasLeftPoint name)
+step_in_condition Equal (HasLeft column) = Some (HasOperator column query.Equal)
+step_in_condition Unequal (HasLeft column) = Some (HasOperator column query.Unequal)
+step_in_condition Less (HasLeft column) = Some (HasOperator column query.Less)
+step_in_condition AtMost (HasLeft column) = Some (HasOperator column query.AtMost)
+step_in_condition More (HasLeft column) = Some (HasOperator column query.More)
+step_in_condition AtLeast (HasLeft column) = Some (HasOperator column query.AtLeast)
+step_in_condition (Word Between) (HasLeft column) = Some (WantsLow column)
+step_in_condition Plus (HasOperator column operator) = Some (HasSign column operator Positive)
+step_in_condition Minus (HasOperator column operator) = Some (HasSign column operator Negative)
+step_in_condition (Digits digits) (HasOperator column operator) =
     Some (HasCondition (Compares column operator (Unsigned digits)))
-step_in_condition (HasOperator column operator) (Quoted text) =
+step_in_condition (Quoted text) (HasOperator column operator) =
     Some (HasCondition (Compares column operator (Written text)))
-step_in_condition (HasSign column operator sign) (Digits digits) =
+step_in_condition (Name name) (HasOperator column query.Equal) = Some (HasCondition (Joins column (Bare name)))
+step_in_condition (Digits digits) (HasSign column operator sign) =
     Some (HasCondition (Compares column operator (Signed sign digits)))
-step_in_condition (HasRightPoint column table) (Name name) =
-    Some (HasCondition (Joins column (Qualified table name)))
-step_in_condition (WantsLow column) Plus = Some (HasLowSign column Positive)
-step_in_condition (WantsLow column) Minus = Some (HasLowSign column Negative)
-step_in_condition (WantsLow column) (Digits digits) = Some (HasLow column (Unsigned digits))
-step_in_condition (WantsLow column) (Quoted text) = Some (HasLow column (Written text))
-step_in_condition (HasLowSign column sign) (Digits digits) = Some (HasLow column (Signed sign digits))
-step_in_condition (HasLow column low) (Word And) = Some (WantsHigh column low)
-step_in_condition (WantsHigh column low) Plus = Some (HasHighSign column low Positive)
-step_in_condition (WantsHigh column low) Minus = Some (HasHighSign column low Negative)
-step_in_condition (WantsHigh column low) (Digits digits) =
+step_in_condition Point (HasCondition (Joins left (Bare table))) = Some (HasRightPoint left table)
+step_in_condition (Name name) (HasRightPoint left table) = Some (HasCondition (Joins left (Qualified table name)))
+step_in_condition Plus (WantsLow column) = Some (HasLowSign column Positive)
+step_in_condition Minus (WantsLow column) = Some (HasLowSign column Negative)
+step_in_condition (Digits digits) (WantsLow column) = Some (HasLow column (Unsigned digits))
+step_in_condition (Quoted text) (WantsLow column) = Some (HasLow column (Written text))
+step_in_condition (Digits digits) (HasLowSign column sign) = Some (HasLow column (Signed sign digits))
+step_in_condition (Word And) (HasLow column low) = Some (WantsHigh column low)
+step_in_condition Plus (WantsHigh column low) = Some (HasHighSign column low Positive)
+step_in_condition Minus (WantsHigh column low) = Some (HasHighSign column low Negative)
+step_in_condition (Digits digits) (WantsHigh column low) =
     Some (HasCondition (LiesBetween column low (Unsigned digits)))
-step_in_condition (WantsHigh column low) (Quoted text) =
-    Some (HasCondition (LiesBetween column low (Written text)))
-step_in_condition (HasHighSign column low sign) (Digits digits) =
+step_in_condition (Quoted text) (WantsHigh column low) = Some (HasCondition (LiesBetween column low (Written text)))
+step_in_condition (Digits digits) (HasHighSign column low sign) =
     Some (HasCondition (LiesBetween column low (Signed sign digits)))
-step_in_condition (HasCondition (Joins left (Bare name))) Point = Some (HasRightPoint left name)
 step_in_condition _ _ = None
 
 -- where a symbol leads in the select list, and after WHERE
-abbrev pub step_in_select : ColumnPart → Symbol → List ColumnText → Option Place
-step_in_select WantsColumn Star [] = Some HasStar
-step_in_select (HasColumn column) Comma earlier = Some (InSelect (earlier ++ column ∷ []) WantsColumn)
-step_in_select (HasColumn column) (Word From) earlier = Some (WantsTable (selection_of earlier column) [])
-step_in_select part symbol earlier = option_map (InSelect earlier) (step_in_column part symbol)
+abbrev pub step_in_select : Symbol → ColumnPart → List ColumnText → Option Place
+step_in_select Star WantsColumn [] = Some HasStar
+step_in_select Comma (HasColumn column) earlier = Some (InSelect (earlier ++ column ∷ []) WantsColumn)
+step_in_select (Word From) (HasColumn column) earlier = Some (WantsTable (selection_of earlier column) [])
+step_in_select symbol part earlier = option_map (InSelect earlier) (step_in_column symbol part)
 
-abbrev pub step_in_where : ConditionPart → Symbol → Selection → List ℕ → List (List ℕ) → List ConditionText → Option Place
-step_in_where (HasCondition condition) (Word And) selection table more earlier =
+abbrev pub step_in_where : Symbol → ConditionPart → Selection → List ℕ → List (List ℕ) → List ConditionText → Option Place
+step_in_where (Word And) (HasCondition condition) selection table more earlier =
     Some (InWhere selection table more (earlier ++ condition ∷ []) WantsLeft)
-step_in_where (HasCondition condition) End selection table more earlier =
+step_in_where End (HasCondition condition) selection table more earlier =
     Some (Whole (query_text selection table more (earlier ++ condition ∷ [])))
-step_in_where part symbol selection table more earlier =
-    option_map (InWhere selection table more earlier) (step_in_condition part symbol)
+step_in_where symbol part selection table more earlier =
+    option_map (InWhere selection table more earlier) (step_in_condition symbol part)
 
 abbrev pub step : Place → Symbol → Option Place
 step Start (Word Select) = Some (InSelect [] WantsColumn)
 step HasStar (Word From) = Some (WantsTable All [])
-step (InSelect earlier part) symbol = step_in_select part symbol earlier
+step (InSelect earlier part) symbol = step_in_select symbol part earlier
 step (WantsTable selection earlier) (Name table) = Some (HasTable selection earlier table)
 step (HasTable selection earlier table) Comma = Some (WantsTable selection (earlier ++ table ∷ []))
 step (HasTable selection earlier table) (Word Where) =
     Some (InWhere selection (first_item earlier table) (other_items earlier table) [] WantsLeft)
 step (HasTable selection earlier table) End =
     Some (Whole (query_text selection (first_item earlier table) (other_items earlier table) []))
-step (InWhere selection table more earlier part) symbol = step_in_where part symbol selection table more earlier
+step (InWhere selection table more earlier part) symbol = step_in_where symbol part selection table more earlier
 step _ _ = None
 
 -- the tree of a text that was read whole. The tokens of a text end with its end, so no other place is the last one

@@ -1,8 +1,8 @@
 //! Laws and examples of frames, asks, journals and of what the host sends.
 
 ghost use Rattle.ghost_model.specs.Frames.{FramesArePrefixFree};
-ghost use Rattle.ghost_model.specs.NextMove.{TwoWorldsWith};
-ghost use Rattle.ghost_model.specs.examples.Channel.{SpellingsOfFrames, ReadingsOfFrames};
+ghost use Rattle.ghost_model.specs.NextMove.{TwoWorlds};
+ghost use Rattle.ghost_model.specs.examples.Channel.{SpellingsOfFrames, ReadingsOfFrames, JournalOfTheNotes, AsksOfQueries, AsksOfBytes, JournalOfTheClinic, JournalWithoutAsks, InvalidFrames, FramesThatAreDue, AnswersOfTheHost};
 
 /// No frame's spelling is a proper prefix of another's.
 pub fn frames_are_prefix_free()
@@ -13,7 +13,7 @@ pub fn frames_are_prefix_free()
 /// Two proper journals for the same catalog, address and texts whose first answers agree have the same moves up to and
 /// with the one after these.
 pub fn two_worlds()
-    ensures { TwoWorldsWith }
+    ensures { TwoWorlds }
 {
 }
 
@@ -26,5 +26,53 @@ pub fn spellings_of_frames()
 /// What bytes amount to that begin with a frame: the frame, a part of one, or none.
 pub fn readings_of_frames()
     ensures { ReadingsOfFrames }
+{
+}
+
+/// The whole session of one text over the notes, and its journal's file.
+pub fn journal_of_the_notes()
+    ensures { JournalOfTheNotes }
+{
+}
+
+/// The asks of telling queries, as bytes.
+pub fn asks_of_queries()
+    ensures { AsksOfQueries }
+{
+}
+
+/// The asks that bytes spell, and bytes that spell none.
+pub fn asks_of_bytes()
+    ensures { AsksOfBytes }
+{
+}
+
+/// The whole session of one text over the clinic.
+pub fn journal_of_the_clinic()
+    ensures { JournalOfTheClinic }
+{
+}
+
+/// The session of a script that asks for nothing.
+pub fn journal_without_asks()
+    ensures { JournalWithoutAsks }
+{
+}
+
+/// Frames that are invalid in their place, each with its kind and the bytes taken before it.
+pub fn invalid_frames()
+    ensures { InvalidFrames }
+{
+}
+
+/// The frames that received bytes make due.
+pub fn frames_that_are_due()
+    ensures { FramesThatAreDue }
+{
+}
+
+/// What hosts say to the frames of a key, and the frames at which they stop.
+pub fn answers_of_the_host()
+    ensures { AnswersOfTheHost }
 {
 }

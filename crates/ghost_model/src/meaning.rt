@@ -1,6 +1,8 @@
 //! Laws and examples of databases, of their files, of the two parts of a database and of a query's meaning.
 
+ghost use Rattle.ghost_model.specs.Split.{SplitIsRejoined};
 ghost use Rattle.ghost_model.specs.examples.Databases.{ClinicIsSpelled, IntegersOfFields, RecordsOfFiles, HeadersOfFiles, OneRuleBroken, TwoRulesBroken};
+ghost use Rattle.ghost_model.specs.examples.Meaning.{PartsOfTheClinic, AnswersOfTheClinic, RefusedTexts, LinesOfRows};
 
 /// The clinic's files spell its database.
 pub fn clinic_is_spelled()
@@ -35,5 +37,35 @@ pub fn one_rule_broken()
 /// Files that break two rules, and which one is told.
 pub fn two_rules_broken()
     ensures { TwoRulesBroken }
+{
+}
+
+/// A database is its two parts rejoined.
+pub fn split_is_rejoined()
+    ensures { SplitIsRejoined }
+{
+}
+
+/// The clinic's two parts, its visible image and two replies.
+pub fn parts_of_the_clinic()
+    ensures { PartsOfTheClinic }
+{
+}
+
+/// What texts over the clinic and over the notes print.
+pub fn answers_of_the_clinic()
+    ensures { AnswersOfTheClinic }
+{
+}
+
+/// What refused texts print.
+pub fn refused_texts()
+    ensures { RefusedTexts }
+{
+}
+
+/// The lines of some rows.
+pub fn lines_of_rows()
+    ensures { LinesOfRows }
 {
 }

@@ -1,15 +1,33 @@
 //! Laws and examples of schemas and the texts that declare them.
 
-ghost use Rattle.ghost_model.specs.examples.Schemas.{TheClinicIsRead, SyntaxOfTexts};
+ghost use Rattle.ghost_model.specs.examples.Schemas.{SchemasOfTexts, SyntaxFaultsOfSchemas, LimitsOfSchemas, NamesOfSchemas, TreesOfSchemas};
 
-/// Where the texts of some schemas break the grammar.
-pub fn syntax_of_texts()
-    ensures { SyntaxOfTexts }
+/// The schemas that some texts mean.
+pub fn schemas_of_texts()
+    ensures { SchemasOfTexts }
 {
 }
 
-/// The text of the clinic means its three tables.
-pub fn the_clinic_is_read()
-    ensures { TheClinicIsRead }
+/// Where some texts leave the grammar of schemas.
+pub fn syntax_faults_of_schemas()
+    ensures { SyntaxFaultsOfSchemas }
+{
+}
+
+/// Schemas at their limits and past them.
+pub fn limits_of_schemas()
+    ensures { LimitsOfSchemas }
+{
+}
+
+/// Schemas whose names or identifiers break a rule.
+pub fn names_of_schemas()
+    ensures { NamesOfSchemas }
+{
+}
+
+/// Schemas whose tables are no tree.
+pub fn trees_of_schemas()
+    ensures { TreesOfSchemas }
 {
 }

@@ -1,11 +1,17 @@
 -- Frames, asks, journals and what the host sends, for telling sessions. Bytes stand in hexadecimal.
-use Rattle.std.specs.Prelude.{◌≡◌, ℕ, pos, List, [], ◌∷◌, ◌++◌, codes, length, map, take, drop, Some, None, Result, Ok, Err}
+use Rattle.std.specs.Prelude.{◌≡◌, ℕ, zero, suc, flat_map, ◌+◌, pos, negsuc, List, [], ◌∷◌, ◌++◌, codes, length, map, take, drop, Option, Some, None, Result, Ok, Err}
 use Rattle.hex.specs.Hex.{decode_of, encode_lower}
 use Rattle.hex.specs.declared.error.FromHexError.{FromHexError}
-use Rattle.ghost_model.specs.Channel.{Frame, Hello, Asking, More, Bye, Welcome, Replied, Done, Sorry}
-use Rattle.ghost_model.specs.Frames.{frame_bytes, Got, got_of, Found, Short, Bad}
+use Rattle.ghost_model.specs.Values.{Number, Text}
+use Rattle.ghost_model.specs.Query as query
+use Rattle.ghost_model.specs.Channel.{Frame, Hello, Asking, More, Bye, Welcome, Replied, Done, Sorry, Catalog, Ask, Test, Move, Dial, Send, Take, Close, Answer, Made, Piece, Entry, Journal}
+use Rattle.ghost_model.specs.Asks.{Asked, asked, asked_of, asks_of, ask_payload, ask_in, row_width, ReplyRow}
+use Rattle.ghost_model.specs.Moves.{lines}
+use Rattle.ghost_model.specs.NextMove.{IsProper, IsFinished, InvalidFrame, invalid_frame, heard, due, Answered, Refused, Ended, ended}
+use Rattle.ghost_model.specs.Frames.{frame_bytes, kind_of, payload_of, Got, got_of, Found, Short, Bad}
 use Rattle.ghost_model.specs.Catalog.{catalog_bytes}
-use Rattle.ghost_model.specs.examples.Clinic.{clinic_catalog}
+use Rattle.ghost_model.specs.Host.{Holding, host_says, bad_request}
+use Rattle.ghost_model.specs.examples.Clinic.{clinic_schema, clinic_catalog, note_schema, note_catalog}
 
 abbrev pub bytes_or_none : Result (List ℕ) FromHexError → List ℕ
 bytes_or_none (Ok bytes) = bytes
@@ -62,3 +68,299 @@ pub record ReadingsOfFrames : Type 0 where
   pub more_without_a_serial : got (codes "0301000000000000") ≡ Bad 3
   pub sorry_of_zero : got (codes "140100010000000100") ≡ Bad 20
   pub welcome_of_two : got (codes "11010002000000000241") ≡ Bad 17
+
+abbrev pub field : (table column : ℕ) → query.Field
+field table column = record { table = table; column = column }
+
+abbrev pub topic_text : List ℕ
+topic_text = codes "SELECT body FROM note WHERE topic = 'a'"
+
+abbrev pub topic_query : query.Query
+topic_query = record {
+  from = 0 ∷ [];
+  select = field 0 2 ∷ [];
+  conditions = query.Compare (field 0 1) query.Equal (Text (codes "a")) ∷ [] }
+
+abbrev pub entry : Move → Answer → Entry
+entry move answer = record { move = move; answer = answer }
+
+-- a dial, a frame sent, and bytes taken that were asked for, given in hexadecimal
+abbrev pub dialled : List ℕ → Entry
+dialled at = entry (Dial at) Made
+
+abbrev pub sends : Frame → Entry
+sends frame = entry (Send (frame_bytes frame)) Made
+
+abbrev pub takes : ℕ → List ℕ → Entry
+takes most text = entry (Take most) (Piece (hex text))
+
+-- the payload of the one WELCOME frame of a small catalog
+abbrev pub welcomed : Catalog → Entry
+welcomed catalog = entry (Take (length (catalog_bytes catalog) + 1)) (Piece (1 ∷ catalog_bytes catalog))
+
+abbrev pub closed : Entry
+closed = entry Close Made
+
+-- the session of the text above
+abbrev pub topic_journal : Journal
+topic_journal =
+    dialled []
+    ∷ sends (Hello 1)
+    ∷ takes 8 (codes "1101006500000000")
+    ∷ welcomed note_catalog
+    ∷ sends topic_ask
+    ∷ takes 8 (codes "1201000800000001")
+    ∷ takes 8 (codes "0000000100000003")
+    ∷ sends (More 1)
+    ∷ takes 8 (codes "1301000400000001")
+    ∷ takes 4 (codes "00000002")
+    ∷ sends Bye
+    ∷ closed
+    ∷ []
+
+abbrev pub asks_of_text : List Ask → List Asked
+asks_of_text asks = map (asked 1) asks
+
+pub record JournalOfTheNotes : Type 0 where
+  pub payloads : map (ask_payload note_schema) (asks_of note_schema topic_query) ≡ hex (codes "000001010161000000") ∷ []
+  pub proper : IsProper note_catalog [] (topic_text ∷ []) topic_journal
+  pub finished : IsFinished topic_journal
+  pub file :
+    lines topic_journal
+    ≡ codes "dial ok\nsend 010100040000000000000001 ok\ntake 8 1101006500000000\ntake 101 01"
+      ++ (encode_lower (catalog_bytes note_catalog)
+      ++ codes "\nsend 0201000900000001000001010161000000 ok\ntake 8 1201000800000001\ntake 8 0000000100000003\nsend 0301000000000001 ok\ntake 8 1301000400000001\ntake 4 00000002\nsend 0401000000000000 ok\nclose\n")
+
+abbrev pub cardio_text : List ℕ
+cardio_text =
+    codes "SELECT visit.id, specialty FROM visit, doctor WHERE doc = doctor.id AND specialty = 'cardio' AND purpose = 'flu'"
+
+abbrev pub cardio_query : query.Query
+cardio_query = record {
+  from = 2 ∷ 0 ∷ [];
+  select = field 2 0 ∷ field 0 1 ∷ [];
+  conditions =
+    query.Join (field 2 3) (field 0 0) ∷ query.Compare (field 0 1) query.Equal (Text (codes "cardio"))
+    ∷ query.Compare (field 2 2) query.Equal (Text (codes "flu")) ∷ [] }
+
+abbrev pub name_text : List ℕ
+name_text = codes " SELECT name FROM patient WHERE name = 'Ann'"
+
+abbrev pub name_query : query.Query
+name_query = record {
+  from = 1 ∷ [];
+  select = field 1 2 ∷ [];
+  conditions = query.Compare (field 1 2) query.Equal (Text (codes "Ann")) ∷ [] }
+
+-- SELECT day FROM visit
+abbrev pub day_query : query.Query
+day_query = record { from = 2 ∷ []; select = field 2 1 ∷ []; conditions = [] }
+
+abbrev pub late_text : List ℕ
+late_text = codes " SELECT visit.id, day FROM visit WHERE day >= 2"
+
+abbrev pub late_query : query.Query
+late_query = record {
+  from = 2 ∷ [];
+  select = field 2 0 ∷ field 2 1 ∷ [];
+  conditions = query.Compare (field 2 1) query.AtLeast (Number (pos 2)) ∷ [] }
+
+-- SELECT patient.id FROM patient WHERE age >= -9223372036854775808
+abbrev pub any_age_query : query.Query
+any_age_query = record {
+  from = 1 ∷ [];
+  select = field 1 0 ∷ [];
+  conditions = query.Compare (field 1 1) query.AtLeast (Number (negsuc 9223372036854775807)) ∷ [] }
+
+-- SELECT day, specialty, day FROM visit, doctor WHERE doc = doctor.id AND visit.id < 3 AND day BETWEEN 2 AND 5
+abbrev pub both_query : query.Query
+both_query = record {
+  from = 2 ∷ 0 ∷ [];
+  select = field 2 1 ∷ field 0 1 ∷ field 2 1 ∷ [];
+  conditions =
+    query.Join (field 2 3) (field 0 0) ∷ query.Compare (field 2 0) query.Less (Number (pos 3))
+    ∷ query.Compare (field 2 1) query.AtLeast (Number (pos 2)) ∷ query.Compare (field 2 1) query.AtMost (Number (pos 5)) ∷ [] }
+
+-- the payloads of the asks of a query over the clinic
+abbrev pub payloads : query.Query → List (List ℕ)
+payloads text = map (λ ask. encode_lower (ask_payload clinic_schema ask)) (asks_of clinic_schema text)
+
+pub record AsksOfQueries : Type 0 where
+  pub a_join_and_a_hidden_condition : payloads cardio_query ≡ codes "00010101010163617264696f0000" ∷ []
+  pub hidden_columns_alone : payloads name_query ≡ []
+  pub a_column_alone : payloads day_query ≡ codes "02010100" ∷ []
+  pub a_column_and_its_condition : payloads late_query ≡ codes "0201010101068000000000000002" ∷ []
+  pub the_lowest_number : payloads any_age_query ≡ codes "01000101060000000000000000" ∷ []
+  pub of_texts :
+    asked_of clinic_schema (cardio_text ∷ name_text ∷ codes "SELECT age patient" ∷ late_text ∷ [])
+    ≡ map (asked 1) (asks_of clinic_schema cardio_query) ++ map (asked 4) (asks_of clinic_schema late_query)
+  pub two_tables_in_their_own_order : payloads both_query ≡ codes "00010100" ∷ codes "020101020106800000000000000201048000000000000005" ∷ []
+
+-- the ask that bytes in hexadecimal spell over the clinic
+abbrev pub ask_read : List ℕ → Option Ask
+ask_read text = ask_in clinic_schema (hex text)
+
+abbrev pub cardio_test : Test
+cardio_test = record { column = 1; operator = query.Equal; value = Text (codes "cardio") }
+
+pub record AsksOfBytes : Type 0 where
+  pub an_ask :
+    ask_read (codes "00010101010163617264696f0000")
+    ≡ Some (record { table = 0; columns = 1 ∷ []; tests = cardio_test ∷ [] })
+  pub of_nothing : ask_read (codes "020000") ≡ Some (record { table = 2; columns = []; tests = [] })
+  pub no_such_table : ask_read (codes "030000") ≡ None
+  pub a_hidden_column : ask_read (codes "00010200") ≡ None
+  pub the_identifier : ask_read (codes "00010000") ≡ None
+  pub a_column_twice : ask_read (codes "0002010100") ≡ None
+  pub a_condition_on_the_identifier : ask_read (codes "02000100018000000000000001") ≡ None
+  pub no_such_operator : ask_read (codes "02000101078000000000000002") ≡ None
+  pub no_such_cell : ask_read (codes "00000101016300610000000000") ≡ None
+  pub a_byte_too_many : ask_read (codes "02000000") ≡ None
+  pub a_byte_too_few : ask_read (codes "0200") ≡ None
+
+abbrev pub cardio_asks : List Asked
+cardio_asks = asks_of_text (asks_of clinic_schema cardio_query)
+
+-- the session of the first text over the clinic
+abbrev pub cardio_journal : Journal
+cardio_journal =
+    dialled []
+    ∷ sends (Hello 1)
+    ∷ takes 8 (codes "1101016e00000000")
+    ∷ welcomed clinic_catalog
+    ∷ sends cardio_ask
+    ∷ takes 8 (codes "1201001800000001")
+    ∷ takes 24 (codes "0000000163617264696f00000000000363617264696f0000")
+    ∷ sends (More 1)
+    ∷ takes 8 (codes "1301000400000001")
+    ∷ takes 4 (codes "00000002")
+    ∷ sends Bye
+    ∷ closed
+    ∷ []
+
+pub record JournalOfTheClinic : Type 0 where
+  pub proper : IsProper clinic_catalog [] (cardio_text ∷ []) cardio_journal
+  pub finished : IsFinished cardio_journal
+
+-- the session of a script without an ask
+abbrev pub silent_journal : Journal
+silent_journal =
+    dialled [] ∷ sends (Hello 1) ∷ takes 8 (codes "1101016e00000000") ∷ welcomed clinic_catalog ∷ sends Bye ∷ closed ∷ []
+
+pub record JournalWithoutAsks : Type 0 where
+  pub proper : IsProper clinic_catalog [] [] silent_journal
+  pub also_for_hidden_columns_alone : IsProper clinic_catalog [] (name_text ∷ []) silent_journal
+  pub finished : IsFinished silent_journal
+
+-- the clinic's one WELCOME frame, and received bytes that follow it, in hexadecimal
+abbrev pub clinic_welcome : List ℕ
+clinic_welcome = frame_bytes (Welcome 1 (catalog_bytes clinic_catalog))
+
+abbrev pub after_welcome : List ℕ → List ℕ
+after_welcome text = clinic_welcome ++ hex text
+
+abbrev pub invalid_in : List ℕ → Option InvalidFrame
+invalid_in received = invalid_frame (heard clinic_catalog cardio_asks received)
+
+abbrev pub invalid : (kind at : ℕ) → Option InvalidFrame
+invalid kind at = Some (record { kind = kind; at = at })
+
+-- a ROWS frame of one cardiologist, its identifier in hexadecimal
+abbrev pub one_row : List ℕ → List ℕ
+one_row identifier = codes "1201000c00000001" ++ (identifier ++ codes "63617264696f0000")
+
+pub record InvalidFrames : Type 0 where
+  pub valid_so_far : invalid_in (after_welcome (one_row (codes "00000003"))) ≡ None
+  pub an_identifier_above_the_rows : invalid_in (after_welcome (one_row (codes "00000004"))) ≡ invalid 18 374
+  pub identifier_zero : invalid_in (after_welcome (one_row (codes "00000000"))) ≡ invalid 18 374
+  pub an_identifier_again : invalid_in (after_welcome (one_row (codes "00000001") ++ one_row (codes "00000001"))) ≡ invalid 18 394
+  pub a_cell_of_no_value : invalid_in (after_welcome (codes "1201000c00000001000000016300617264696f00")) ≡ invalid 18 374
+  pub another_total :
+    invalid_in (after_welcome (codes "12010018000000010000000163617264696f00000000000363617264696f0000130100040000000100000001"))
+    ≡ invalid 19 406
+  pub a_header_of_another_serial : invalid_in (after_welcome (codes "1201000c00000002")) ≡ invalid 18 374
+  pub a_header_of_half_a_row : invalid_in (after_welcome (codes "1201000600000001")) ≡ invalid 18 374
+  pub a_header_of_no_row : invalid_in (after_welcome (codes "1201000000000001")) ≡ invalid 18 374
+  pub a_header_of_the_greatest_length : invalid_in (after_welcome (codes "120107f800000001")) ≡ None
+  pub a_header_past_the_greatest_length : invalid_in (after_welcome (codes "1201080400000001")) ≡ invalid 18 374
+  pub sorry_of_zero : invalid_in (after_welcome (codes "140100010000000100")) ≡ invalid 20 374
+  pub another_byte_of_the_catalog :
+    invalid_in (frame_bytes (Welcome 1 (0 ∷ drop 1 (catalog_bytes clinic_catalog)))) ≡ invalid 17 0
+  pub another_generation :
+    invalid_in (frame_bytes (Welcome 1 (catalog_bytes (record clinic_catalog { generation = 2 })))) ≡ invalid 17 0
+  pub a_last_frame_that_is_not_marked : invalid_in (frame_bytes (Welcome 0 (catalog_bytes clinic_catalog))) ≡ invalid 17 0
+  pub a_second_hello : invalid_in (hex (codes "0101000400000000")) ≡ invalid 1 0
+  pub a_longer_catalog : invalid_in (hex (codes "1101016f00000000")) ≡ invalid 17 0
+
+-- two texts, each with the ask for cardiologists; and a text with two asks before one with a third
+abbrev pub same_twice : List Asked
+same_twice = cardio_asks ++ map (asked 2) (asks_of clinic_schema cardio_query)
+
+abbrev pub two_then_one : List Asked
+two_then_one = map (asked 1) (asks_of clinic_schema both_query) ++ map (asked 3) (asks_of clinic_schema day_query)
+
+-- the payload of the asks of these sessions
+abbrev pub cardio_payload : List ℕ
+cardio_payload = hex (codes "00010101010163617264696f0000")
+
+pub record FramesThatAreDue : Type 0 where
+  pub at_first : due clinic_catalog same_twice [] ≡ Hello 1 ∷ []
+  pub welcomed : due clinic_catalog same_twice clinic_welcome ≡ Hello 1 ∷ Asking 1 cardio_payload ∷ []
+  pub in_two_frames :
+    due clinic_catalog same_twice
+      (frame_bytes (Welcome 0 (take 300 (catalog_bytes clinic_catalog)))
+      ++ frame_bytes (Welcome 1 (drop 300 (catalog_bytes clinic_catalog))))
+    ≡ Hello 1 ∷ Asking 1 cardio_payload ∷ []
+  pub serials_go_on :
+    due clinic_catalog same_twice (after_welcome (one_row (codes "00000001") ++ codes "130100040000000100000001"))
+    ≡ Hello 1 ∷ Asking 1 cardio_payload ∷ More 1 ∷ Asking 2 cardio_payload ∷ []
+  pub sorry_ends_a_text :
+    due clinic_catalog two_then_one (after_welcome (codes "140100010000000101"))
+    ≡ Hello 1 ∷ Asking 1 (hex (codes "00010100")) ∷ Asking 2 (hex (codes "02010100")) ∷ []
+  pub nothing_is_left :
+    due clinic_catalog two_then_one (after_welcome (codes "140100010000000101130100040000000200000000"))
+    ≡ Hello 1 ∷ Asking 1 (hex (codes "00010100")) ∷ Asking 2 (hex (codes "02010100")) ∷ Bye ∷ []
+  pub nothing_after_an_invalid_frame :
+    due clinic_catalog cardio_asks (after_welcome (codes "130100040000000100000001130100040000000100000000"))
+    ≡ Hello 1 ∷ Asking 1 cardio_payload ∷ []
+
+abbrev pub cardio_row : ℕ → ReplyRow
+cardio_row identifier = record { identifier = identifier; cells = hex (codes "63617264696f0000") }
+
+-- the clinic's host, whose cardiologists are doctors 1 and 3
+abbrev pub clinic_host : Holding
+clinic_host = record { catalog = clinic_catalog; rows = λ ask. cardio_row 1 ∷ cardio_row 3 ∷ [] }
+
+-- a host that holds so many notes of which no cell is asked for
+abbrev pub counting : (identifier : ℕ) (count : ℕ) → List ReplyRow
+counting identifier zero = []
+counting identifier (suc count) = record { identifier = identifier; cells = [] } ∷ counting (identifier + 1) count
+
+abbrev pub note_host : ℕ → Holding
+note_host count = record { catalog = note_catalog; rows = λ ask. counting 1 count }
+
+abbrev pub key_bytes : List Frame → List ℕ
+key_bytes frames = flat_map frame_bytes frames
+
+-- the kinds of frames, and the lengths of their payloads
+abbrev pub shape_of : Frame → List ℕ
+shape_of frame = kind_of frame ∷ length (payload_of frame) ∷ []
+
+pub record AnswersOfTheHost : Type 0 where
+  pub a_session :
+    host_says clinic_host (key_bytes (Hello 1 ∷ cardio_ask ∷ More 1 ∷ Bye ∷ []))
+    ≡ Welcome 1 (catalog_bytes clinic_catalog) ∷ cardio_rows ∷ Done 1 2 ∷ []
+  pub another_generation : host_says clinic_host (key_bytes (Hello 7 ∷ [])) ≡ Welcome 1 (catalog_bytes clinic_catalog) ∷ []
+  pub no_row :
+    map shape_of (host_says (note_host 0) (key_bytes (Hello 1 ∷ topic_ask ∷ Bye ∷ []))) ≡ (17 ∷ 101 ∷ []) ∷ (19 ∷ 4 ∷ []) ∷ []
+  pub as_many_rows_as_fit :
+    map shape_of (host_says (note_host 511) (key_bytes (Hello 1 ∷ topic_ask ∷ More 1 ∷ More 1 ∷ Bye ∷ [])))
+    ≡ (17 ∷ 101 ∷ []) ∷ (18 ∷ 2040 ∷ []) ∷ (18 ∷ 4 ∷ []) ∷ (19 ∷ 4 ∷ []) ∷ []
+  pub nothing_after_a_wrong_serial :
+    host_says clinic_host (key_bytes (Hello 1 ∷ Asking 2 cardio_payload ∷ Bye ∷ [])) ≡ Welcome 1 (catalog_bytes clinic_catalog) ∷ []
+  pub no_such_table : bad_request clinic_host (key_bytes (Hello 1 ∷ Asking 1 (hex (codes "030000")) ∷ [])) ≡ invalid 2 12
+  pub a_second_hello : bad_request clinic_host (key_bytes (Hello 1 ∷ Hello 1 ∷ [])) ≡ invalid 1 12
+  pub bye_within_a_reply : bad_request clinic_host (key_bytes (Hello 1 ∷ cardio_ask ∷ Bye ∷ [])) ≡ invalid 4 34
+  pub a_frame_of_a_host : bad_request clinic_host (key_bytes (Done 1 1 ∷ [])) ≡ invalid 19 0
+  pub no_such_kind : bad_request clinic_host (key_bytes (Hello 1 ∷ []) ++ hex (codes "0501000000000000")) ≡ invalid 5 12
+  pub nothing_is_read_after_bye : bad_request clinic_host (key_bytes (Hello 1 ∷ Bye ∷ Bye ∷ [])) ≡ None

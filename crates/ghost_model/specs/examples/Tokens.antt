@@ -1,9 +1,70 @@
--- Telling texts and their tokens.
-use Rattle.std.specs.Prelude.{◌≡◌, ℕ, List, [], ◌∷◌, codes, Some}
-use Rattle.ghost_model.specs.Tokens.{Symbol, Word, Reserved, Name, Digits, Quoted, Point, Bad, End, Select, And, symbols, offset_of}
+-- Telling texts and their tokens, and telling scripts and their texts.
+use Rattle.std.specs.Prelude.{◌≡◌, true, false, [], ◌∷◌, ◌++◌, codes, Some, None, replicate, flat_map}
+use Rattle.ghost_model.specs.Tokens.{Word, Reserved, Name, Digits, Quoted, Open, Closing, Comma, Point, Semicolon, Star, Plus, Minus, Equal, Unequal, Less, AtMost, More, AtLeast, Bad, End, Select, And, Integer, Table, symbols, offset_of}
+use Rattle.ghost_model.specs.Spelled.{text_of}
+use Rattle.ghost_model.specs.Texts.{texts_of, text_at, has_few_bytes, has_few_texts}
 
 pub record TokensOfTexts : Type 0 where
+  pub no_bytes : symbols [] ≡ End ∷ []
   pub words_without_case : symbols (codes "Select aGe NULL") ≡ Word Select ∷ Name (codes "age") ∷ Reserved ∷ End ∷ []
+  pub int_is_integer : symbols (codes "INT integer") ≡ Word Integer ∷ Word Integer ∷ End ∷ []
+  pub words_of_later_grammars_are_no_names : symbols (codes "count by OR max") ≡ Reserved ∷ Reserved ∷ Reserved ∷ Reserved ∷ End ∷ []
+  pub other_words_are_names : symbols (codes "distinct ORDER as id") ≡ Name (codes "distinct") ∷ Name (codes "order") ∷ Name (codes "as") ∷ Name (codes "id") ∷ End ∷ []
+  pub a_name_runs_as_far_as_its_bytes : symbols (codes "_a1B_2 table2 table") ≡ Name (codes "_a1b_2") ∷ Name (codes "table2") ∷ Word Table ∷ End ∷ []
   pub a_number_ends_at_a_letter : symbols (codes "12abc 1AND") ≡ Digits (codes "12") ∷ Name (codes "abc") ∷ Digits (codes "1") ∷ Word And ∷ End ∷ []
+  pub a_number_ends_at_a_point : symbols (codes "1.5") ≡ Digits (codes "1") ∷ Point ∷ Digits (codes "5") ∷ End ∷ []
+  pub digits_stand_as_written : symbols (codes "007") ≡ Digits (codes "007") ∷ End ∷ []
+  pub a_sign_is_a_token : symbols (codes "--5 + 5") ≡ Minus ∷ Minus ∷ Digits (codes "5") ∷ Plus ∷ Digits (codes "5") ∷ End ∷ []
+  pub points_between_names : symbols (codes "a.b.c") ≡ Name (codes "a") ∷ Point ∷ Name (codes "b") ∷ Point ∷ Name (codes "c") ∷ End ∷ []
+  pub the_longest_sign : symbols (codes "<=<>>=< >=>") ≡ AtMost ∷ Unequal ∷ AtLeast ∷ Less ∷ AtLeast ∷ More ∷ End ∷ []
+  pub signs_apart : symbols (codes "< > < =") ≡ Less ∷ More ∷ Less ∷ Equal ∷ End ∷ []
+  pub signs_of_one_byte : symbols (codes "(*,);") ≡ Open ∷ Star ∷ Comma ∷ Closing ∷ Semicolon ∷ End ∷ []
+  pub no_such_sign : symbols (codes "!=") ≡ Bad ∷ Equal ∷ End ∷ []
+  pub a_literal_keeps_its_case_and_spaces : symbols (codes "' Ann; '") ≡ Quoted (codes " Ann; ") ∷ End ∷ []
   pub a_doubled_quote : symbols (codes "'it''s'") ≡ Quoted (codes "it's") ∷ End ∷ []
-  pub place : offset_of (codes "SELECT age patient") 2 ≡ Some 11
+  pub quotes_alone : symbols (codes "'' ''''") ≡ Quoted [] ∷ Quoted (codes "'") ∷ End ∷ []
+  pub literals_apart : symbols (codes "'a' 'b'") ≡ Quoted (codes "a") ∷ Quoted (codes "b") ∷ End ∷ []
+  -- a broken literal is a bad token at its first `'`, and the tokens go on after that byte
+  pub no_end_of_a_literal : symbols (codes "a = 'b") ≡ Name (codes "a") ∷ Equal ∷ Bad ∷ Name (codes "b") ∷ End ∷ []
+  pub a_doubled_quote_is_no_end : symbols (codes "'abc''") ≡ Bad ∷ Name (codes "abc") ∷ Quoted [] ∷ End ∷ []
+  pub a_new_line_in_a_literal : symbols (codes "'a" ++ (10 ∷ codes "'")) ≡ Bad ∷ Name (codes "a") ∷ Bad ∷ End ∷ []
+  pub a_byte_over_126_in_a_literal : symbols (codes "'a" ++ (127 ∷ codes "' 'b'")) ≡ Bad ∷ Name (codes "a") ∷ Bad ∷ Quoted (codes " ") ∷ Name (codes "b") ∷ Bad ∷ End ∷ []
+  pub white_space_is_four_bytes : symbols (9 ∷ 10 ∷ 13 ∷ 32 ∷ []) ≡ End ∷ []
+  pub other_bytes_begin_no_token : symbols (11 ∷ 12 ∷ 0 ∷ 128 ∷ 255 ∷ []) ≡ Bad ∷ Bad ∷ Bad ∷ Bad ∷ Bad ∷ End ∷ []
+
+-- where tokens stand
+pub record OffsetsOfTokens : Type 0 where
+  pub a_token : offset_of (codes "SELECT age patient") 2 ≡ Some 11
+  pub white_space_counts : offset_of (codes " SELECT a b") 2 ≡ Some 10
+  pub a_broken_literal : offset_of (codes "a = 'abc''") 2 ≡ Some 4
+  pub after_a_literal : offset_of (codes "'it''s' b") 1 ≡ Some 8
+  pub the_end : offset_of (codes "SELECT age") 2 ≡ Some 10
+  pub the_end_after_white_space : offset_of (codes "SELECT  ") 1 ≡ Some 8
+  pub the_end_of_no_bytes : offset_of [] 0 ≡ Some 0
+  pub none_after_the_end : offset_of (codes "SELECT") 2 ≡ None
+
+-- a text for a list of symbols
+pub record TextsOfSymbols : Type 0 where
+  pub words_and_signs : text_of (Word Select ∷ Name (codes "age") ∷ Less ∷ Equal ∷ Digits (codes "5") ∷ []) ≡ codes "SELECT age < = 5 "
+  pub a_literal : text_of (Quoted (codes "it's") ∷ Reserved ∷ Bad ∷ []) ≡ codes "'it''s' NULL ? "
+
+pub record TextsOfScripts : Type 0 where
+  pub no_bytes : texts_of [] ≡ []
+  pub one_without_a_semicolon : texts_of (codes "SELECT a") ≡ codes "SELECT a" ∷ []
+  pub one_with_a_semicolon : texts_of (codes "SELECT a;") ≡ codes "SELECT a" ∷ []
+  pub white_space_is_kept : texts_of (codes "SELECT a b; SELECT a b ;" ++ (10 ∷ [])) ≡ codes "SELECT a b" ∷ codes " SELECT a b " ∷ []
+  pub blank_parts_are_no_texts : texts_of (codes ";; ;a;" ++ (9 ∷ 10 ∷ 13 ∷ codes " ;;b")) ≡ codes "a" ∷ codes "b" ∷ []
+  pub a_byte_that_is_no_white_space : texts_of (codes "a; " ++ (11 ∷ codes ";b")) ≡ codes "a" ∷ (32 ∷ 11 ∷ []) ∷ codes "b" ∷ []
+  pub a_semicolon_in_a_literal : texts_of (codes "a ';' b;c") ≡ codes "a ';' b" ∷ codes "c" ∷ []
+  pub a_doubled_quote : texts_of (codes "'it''s;';c") ≡ codes "'it''s;'" ∷ codes "c" ∷ []
+  pub one_odd_quote_joins_all : texts_of (codes "SELECT don't; SELECT id FROM doctor;") ≡ codes "SELECT don't; SELECT id FROM doctor;" ∷ []
+  pub quotes_count_over_the_whole_script : texts_of (codes "a';b';c'd;e") ≡ codes "a';b'" ∷ codes "c'd;e" ∷ []
+  pub a_bad_byte_in_a_literal_changes_nothing : texts_of (codes "'a;" ++ (10 ∷ codes "';b")) ≡ (codes "'a;" ++ (10 ∷ codes "'")) ∷ codes "b" ∷ []
+  pub the_first : text_at (codes ";a;b") 1 ≡ Some (codes "a")
+  pub the_second : text_at (codes ";a;b") 2 ≡ Some (codes "b")
+  pub none_before_the_first : text_at (codes ";a;b") 0 ≡ None
+  pub none_after_the_last : text_at (codes ";a;b") 3 ≡ None
+  pub bytes_within : has_few_bytes (replicate 65536 32) ≡ true
+  pub one_byte_over : has_few_bytes (replicate 65537 32) ≡ false
+  pub texts_within : has_few_texts (flat_map (λ byte. byte ∷ 59 ∷ []) (replicate 64 97)) ≡ true
+  pub one_text_over : has_few_texts (flat_map (λ byte. byte ∷ 59 ∷ []) (replicate 65 97)) ≡ false

@@ -3,8 +3,12 @@ use Rattle.ghost_model.specs.Schema.{places_from}
 use Rattle.ghost_model.specs.Tokens.{tokens_from, quoted_from}
 use Rattle.ghost_model.specs.SchemaPlaces.{syntax_from}
 use Rattle.ghost_model.specs.SchemaFaults.{ancestor, fields_from}
-use Rattle.ghost_model.proofs.schema.the_clinic_is_read.Goals as goal
+use Rattle.ghost_model.proofs.schema.schemas_of_texts.Goals as goal
 
 pub returns : goal.returns
 unfolding tokens_from quoted_from syntax_from places_from ancestor fields_from
-returns c = record { clinic = refl }
+returns c = record {
+  clinic = refl;
+  small_letters_and_int = refl;
+  a_key_is_hidden_unasked = refl;
+  longest_name = refl }

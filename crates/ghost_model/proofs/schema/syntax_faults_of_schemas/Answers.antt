@@ -1,0 +1,28 @@
+use Rattle.std.proofs.Common.{refl}
+use Rattle.ghost_model.specs.Schema.{places_from}
+use Rattle.ghost_model.specs.Tokens.{tokens_from, quoted_from}
+use Rattle.ghost_model.specs.SchemaPlaces.{syntax_from}
+use Rattle.ghost_model.specs.SchemaFaults.{ancestor, fields_from}
+use Rattle.ghost_model.proofs.schema.syntax_faults_of_schemas.Goals as goal
+
+pub returns : goal.returns
+unfolding tokens_from quoted_from syntax_from places_from ancestor fields_from
+returns c = record {
+  no_column = refl;
+  the_end = refl;
+  white_space_before = refl;
+  a_reserved_word = refl;
+  digits_before_a_name = refl;
+  a_sign = refl;
+  half_a_key = refl;
+  null = refl;
+  a_key_of_text = refl;
+  a_text_that_refers = refl;
+  hidden_stands_last = refl;
+  references_stands_after = refl;
+  not_the_identifier = refl;
+  a_comma_too_many = refl;
+  no_semicolon = refl;
+  a_comment = refl;
+  an_open_literal = refl;
+  before_a_limit = refl }
