@@ -1,5 +1,5 @@
 -- What is told of a sink, through the writes of one piece: each takes the next bytes of it.
-use Rattle.std.proofs.Common.{◌≡◌, ℕ, ◌+◌, ◌-◌, ◌≤◌, List, ◌++◌, length, take, drop, Option, None, Some, refl, sym, ◌∙◌, ap, append_assoc}
+use Rattle.std.proofs.Common.{◌≡◌, ℕ, ◌+◌, ◌-◌, ◌≤◌, List, ◌++◌, length, take, drop, Option, None, Some, refl, sym, ◌∙◌, ap, append_assoc, append-nil, [], Result, Ok, Err, OnErr}
 use Rattle.std.proofs.lemmas.List.{take_rest, take-append-drop}
 use Rattle.std.proofs.Math.Seq.{take-add}
 use Rattle.edge_traits.specs.Written.{grown, Begins, GrowsByFront}
@@ -19,10 +19,10 @@ grown-grown (Some bytes) a b = ap Some (append_assoc bytes a b)
 pub grown_on : (start now later : Option (List ℕ)) (piece : List ℕ) (at count : ℕ) → now ≡ grown start (take at piece) → later ≡ grown now (take count (take (length piece - at) (drop at piece))) → later ≡ grown start (take (at + count) piece)
 grown_on start now later piece at count so_far step =
     step
-        ∙ ap (λ told. grown told (take count (take (length piece - at) (drop at piece)))) so_far
-        ∙ grown-grown start (take at piece) (take count (take (length piece - at) (drop at piece)))
-        ∙ ap (λ rest. grown start (take at piece ++ take count rest)) (take_rest piece at)
-        ∙ ap (grown start) (sym (take-add at count piece))
+    ∙ ap (λ told. grown told (take count (take (length piece - at) (drop at piece)))) so_far
+    ∙ grown-grown start (take at piece) (take count (take (length piece - at) (drop at piece)))
+    ∙ ap (λ rest. grown start (take at piece ++ take count rest)) (take_rest piece at)
+    ∙ ap (grown start) (sym (take-add at count piece))
 
 -- a failed write there
 pub front_on : (start now later : Option (List ℕ)) (piece : List ℕ) (at : ℕ) → now ≡ grown start (take at piece) → GrowsByFront now (take (length piece - at) (drop at piece)) later → GrowsByFront start piece later
@@ -36,3 +36,16 @@ front_on start now later piece at so_far step = record {
   };
   grew = step.grew ∙ ap (λ told. grown told step.front) so_far ∙ grown-grown start (take at piece) step.front;
 }
+
+-- a sink that took nothing has grown by an empty front
+pub nothing_taken : (bytes piece : List ℕ) → GrowsByFront (Some bytes) piece (Some bytes)
+nothing_taken bytes piece = record {
+  front = [];
+  begins = record { rest = piece; joined = refl };
+  grew = ap Some (sym (append-nil bytes));
+}
+
+-- whatever a call answers that took nothing
+pub took_nothing : {T E : Type 0} (result : Result T E) (bytes piece : List ℕ) → OnErr result (GrowsByFront (Some bytes) piece (Some bytes))
+took_nothing (Ok value) bytes piece = tt
+took_nothing (Err error) bytes piece = nothing_taken bytes piece

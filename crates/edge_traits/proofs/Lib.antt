@@ -1,2 +1,5 @@
 pub mod Growth
 pub mod WholeFile
+pub mod Filling
+pub mod InSlots
+pub mod Inserts

@@ -30,7 +30,7 @@ joined bytes filled file count fits start piece =
     let long : length (bytes ++ take count filled) ≡ length bytes + count = grind (arith, common_steps) in
     let whole : take (length bytes + count) file ≡ take (length bytes) file ++ take count (drop (length bytes) file) = take-add (length bytes) count file in
     let left : bytes ++ take count filled ≡ take (length bytes) file ++ take count (drop (length bytes) file) =
-        ap (λ p. bytes ++ p) piece ∙ ap (λ b. b ++ take count (drop (length bytes) file)) start in
+    ap (λ p. bytes ++ p) piece ∙ ap (λ b. b ++ take count (drop (length bytes) file)) start in
     left ∙ sym whole ∙ ap (λ n. take n file) (sym long)
 
 pub goes_on : (contents : Option Files) (name bytes buffer filled : List ℕ) (count : ℕ) → StartsFile contents name bytes → ReadsAt contents name (length bytes) buffer count filled → count ≤ length filled → StartsFile contents name (bytes ++ take count filled)
@@ -64,5 +64,5 @@ is_longer (Some files) name place buffer filled count limit read more = longer_o
 pub goes_on_along : (before now : Option Files) (name bytes next buffer filled : List ℕ) (place count : ℕ) → now ≡ before → StartsFile before name bytes → ReadsAt now name place buffer count filled → place ≡ length bytes → count ≤ length filled → next ≡ bytes ++ take count filled → StartsFile before name next
 goes_on_along before now name bytes next buffer filled place count same starts read at fits grew =
     let kept : ReadsAt before name (length bytes) buffer count filled =
-        subst (λ n. ReadsAt before name n buffer count filled) at (subst (λ c. ReadsAt c name place buffer count filled) same read) in
+    subst (λ n. ReadsAt before name n buffer count filled) at (subst (λ c. ReadsAt c name place buffer count filled) same read) in
     subst (λ b. StartsFile before name b) (sym grew) (goes_on before name bytes buffer filled count starts kept fits)

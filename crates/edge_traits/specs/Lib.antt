@@ -1,2 +1,4 @@
 pub mod Written
 pub mod Files
+pub mod Scripts
+pub mod Slots

@@ -6,8 +6,13 @@
 #![tactic(auto)]
 
 pub mod depot;
+pub mod mem_depot;
+pub mod mem_sink;
 pub mod reading;
+mod room;
+pub mod script;
 pub mod sink;
+mod slots;
 pub mod writing;
 
 /// A call on the outside failed, and the object counted it as a fault.

@@ -5,10 +5,9 @@ ghost use Rattle.ghost_model.specs.Causes.{Rose};
 ghost use Rattle.edge_traits.specs.Files.{HasFile, HasLonger};
 ghost use Rattle.edge_traits.specs.declared.reading.ReadFault.TheVariants.{Depot as depot_failed, NoMemory as no_memory};
 
-use std::alloc::{AllocError, Global};
-
 use crate::Failed;
 use crate::depot::Depot;
+use std::alloc::{AllocError, Global};
 
 /// Why a file was not read.
 #[derive(Clone, Copy, Debug, PartialEq, Eq)]
@@ -39,7 +38,12 @@ impl From<AllocError> for ReadFault {
 
 /// All bytes of the file `name`, of which there may be `limit` at most.
 #[tactic(auto, using(crate::proofs::WholeFile::goes_on, crate::proofs::WholeFile::ends, crate::proofs::WholeFile::is_longer))]
-pub fn read_file<D: Depot>(alloc: Global, depot: &mut D, name: &str, limit: usize) -> Result<Vec<u8>, ReadFault>
+pub fn read_file<D: Depot>(
+    alloc: Global,
+    depot: &mut D,
+    name: &str,
+    limit: usize,
+) -> Result<Vec<u8>, ReadFault>
     ensures file { IfOk result (λ bytes. HasFile (D.contents depot.old) name.now bytes.items) }
     ensures within { IfOk result (λ bytes. vec_len bytes ≤ limit) }
     ensures too_long { result ≡ Err ReadFault.TooLong → HasLonger (D.contents depot.old) name.now limit }

@@ -1,0 +1,146 @@
+//! Files in memory, each in a slot whose room was reserved when it was made.
+
+ghost use Rattle.std.specs.Prelude.{◌≡◌, ◌++◌, ◌+◌, ◌≤◌, ℕ, List, IfOk, IfSome, IsTrue, MatchOption, MatchBool, Some, None, false, vec_len, vec_capacity};
+ghost use Rattle.std.specs.List.{position};
+ghost use Rattle.std.specs.FinMap as map;
+ghost use Rattle.edge_traits.specs.Files.{or_empty};
+ghost use Rattle.edge_traits.specs.Slots.{is_named};
+
+use crate::room;
+use std::alloc::{AllocError, Global};
+use std::marker::Model;
+
+/// The room of one file.
+#[derive(Drop)]
+struct Slot {
+    name: Vec<u8>,
+    bytes: Vec<u8>,
+}
+
+/// Files by name. No call on them takes memory.
+#[derive(Drop)]
+pub struct Slots {
+    slots: Vec<Slot>,
+    used: usize,
+}
+
+impl Model for Slots {
+    ghost use Rattle.std.specs.Prelude.{ℕ, List, ◌≤◌, vec_len};
+    ghost use Rattle.std.specs.Coded.{coded_ℕ, coded_list};
+    ghost use Rattle.std.specs.FinMap as map;
+    ghost use Rattle.edge_traits.specs.Files.{Files};
+
+    ghost Value = { Files };
+
+    ghost coded = { map.code (coded_list coded_ℕ) (coded_list coded_ℕ) };
+
+    ghost use Rattle.edge_traits.specs.Slots.{files_in};
+
+    ghost view = { λ files. files_in files.used files.slots.items };
+
+    ghost invariant = { λ files. files.used ≤ vec_len files.slots };
+}
+
+/// The place of the first slot with that name.
+fn place_of(slots: &[Slot], name: &[u8]) -> Option<usize>
+    ensures { result ≡ position (is_named name.now) slots.now }
+{
+    slots.iter().position(|slot| name == slot.name.as_slice())
+}
+
+/// Puts a file into a slot, where the slot has room for it, and else leaves the slot as it is.
+fn fill(slot: &mut Slot, name: &[u8], bytes: &[u8]) -> bool
+    ensures name { IsTrue result → slot.new.name.items ≡ name.now }
+    ensures bytes { IsTrue result → slot.new.bytes.items ≡ bytes.now }
+    ensures refused { result ≡ false → slot.new ≡ slot.old }
+{
+    if name.len() > slot.name.capacity() || bytes.len() > slot.bytes.capacity() {
+        return false;
+    }
+    slot.name.clear();
+    room::add(&mut slot.name, name);
+    slot.bytes.clear();
+    room::add(&mut slot.bytes, bytes);
+    true
+}
+
+/// Adds bytes at the end of a slot's file, where the slot has room for them, and else leaves the slot as it is.
+fn extend(slot: &mut Slot, bytes: &[u8]) -> bool
+    ensures name { slot.new.name ≡ slot.old.name }
+    ensures bytes { IsTrue result → slot.new.bytes.items ≡ slot.old.bytes.items ++ bytes.now }
+    ensures refused { result ≡ false → slot.new ≡ slot.old }
+{
+    let has_room = slot.bytes.len() <= slot.bytes.capacity()
+        && bytes.len() <= slot.bytes.capacity() - slot.bytes.len();
+    if !has_room {
+        return false;
+    }
+    room::add(&mut slot.bytes, bytes);
+    true
+}
+
+impl Slots {
+    /// Room for so many files, each with room for so many bytes of its name and of itself.
+    pub fn new(
+        alloc: Global,
+        files: usize,
+        name_bytes: usize,
+        file_bytes: usize,
+    ) -> Result<Slots, AllocError>
+        ensures { IfOk result (λ files. files ≡ map.empty) }
+    {
+        let mut slots = Vec::with_capacity(alloc, files)?;
+        for _ in 0..files {
+            slots.push(Slot {
+                name: Vec::with_capacity(alloc, name_bytes)?,
+                bytes: Vec::with_capacity(alloc, file_bytes)?,
+            })?;
+        }
+        Ok(Slots { slots, used: 0 })
+    }
+
+    /// The bytes of the file with that name.
+    #[tactic(auto, using(crate::proofs::InSlots::get_read, crate::proofs::InSlots::get_absent))]
+    pub fn get(&self, name: &[u8]) -> Option<&[u8]>
+        ensures { MatchOption result (map.get self.now name.now ≡ None) (λ bytes. map.get self.now name.now ≡ Some bytes.now) }
+    {
+        match place_of(&self.slots[..self.used], name) {
+            Some(place) => Some(&self.slots[place].bytes),
+            None => None,
+        }
+    }
+
+    /// Makes the bytes the whole of the file with that name, where there is room, and else changes nothing.
+    #[tactic(auto, using(crate::proofs::InSlots::put_placed, crate::proofs::InSlots::put_new))]
+    pub fn put(&mut self, name: &[u8], bytes: &[u8]) -> bool
+        ensures put { IsTrue result → self.new ≡ map.insert self.old name.now bytes.now }
+        ensures refused { result ≡ false → self.new ≡ self.old }
+    {
+        match place_of(&self.slots[..self.used], name) {
+            Some(place) => fill(&mut self.slots[place], name, bytes),
+            None => {
+                if self.used >= self.slots.len() {
+                    return false;
+                }
+                if !fill(&mut self.slots[self.used], name, bytes) {
+                    return false;
+                }
+                self.used += 1;
+                true
+            }
+        }
+    }
+
+    /// Adds the bytes at the end of the file with that name, which begins as empty, where there is room, and else changes
+    /// nothing.
+    #[tactic(auto, using(crate::proofs::InSlots::put_more, crate::proofs::InSlots::get_absent))]
+    pub fn add(&mut self, name: &[u8], bytes: &[u8]) -> bool
+        ensures added { IsTrue result → self.new ≡ map.insert self.old name.now (or_empty (map.get self.old name.now) ++ bytes.now) }
+        ensures refused { result ≡ false → self.new ≡ self.old }
+    {
+        match place_of(&self.slots[..self.used], name) {
+            Some(place) => extend(&mut self.slots[place], bytes),
+            None => self.put(name, bytes),
+        }
+    }
+}
