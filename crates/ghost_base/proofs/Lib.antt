@@ -1,0 +1,4 @@
+pub mod IntegerCells
+pub mod TextCells
+pub mod CellSpelling
+pub mod CellOrders

@@ -1,13 +1,15 @@
 //! Cells: the bytes of one value in a column of a kind.
 
-ghost use Rattle.std.specs.Prelude.{◌≡◌, ◌≤◌, ◌++◌, ◌-◌, ◌==◌, length, replicate, IsTrue, option_map};
+ghost use Rattle.std.specs.Prelude.{◌≡◌, ◌≤◌, ◌++◌, ◌-◌, ◌==◌, length, replicate, IsTrue, IfSome, Some, option_map};
 ghost use Rattle.std.specs.Int.{from_be_bytes, w64};
 ghost use Rattle.std.specs.List.{list_all};
 ghost use Rattle.ghost_model.specs.Cells as cells;
 ghost use Rattle.ghost_model.specs.Tokens.{is_printable};
 ghost use Rattle.ghost_base.specs.Views.{kind_of, value_of};
-ghost use Rattle.ghost_base.specs.Ordered.{is_of_kind};
+ghost use Rattle.ghost_base.specs.Ordered as ordered;
 
+use crate::limits::MAX_CHARS;
+use crate::text::put_padded;
 use crate::{Kind, Text64, Value};
 
 /// The number of bytes of a cell.
@@ -20,11 +22,26 @@ pub fn cell_width(kind: Kind) -> usize
     }
 }
 
-/// Writes the cell of a value, which is of the kind.
+/// Whether a value is of a kind: an integer, or a text of printable bytes, at most as many as the kind says.
+pub fn is_of_kind(kind: Kind, value: &Value) -> bool
+    ensures { result ≡ ordered.is_of_kind (kind_of kind) (value_of value.now) }
+{
+    match (kind, value) {
+        (Kind::Integer, Value::Int(_)) => true,
+        (Kind::Chars(most), Value::Chars(text)) => {
+            text.len() <= most as usize && is_printable_text(text.as_bytes())
+        }
+        _ => false,
+    }
+}
+
+/// Writes the cell of a value, which is of the kind (`is_of_kind`), into as many bytes as it has.
+#[tactic(auto, using(crate::proofs::CellSpelling::reads_back))]
 pub fn encode_cell(kind: Kind, value: &Value, out: &mut [u8])
-    requires kind { IsTrue (is_of_kind (kind_of kind) (value_of value.now)) }
+    requires kind { IsTrue (ordered.is_of_kind (kind_of kind) (value_of value.now)) }
     requires width { length out.old ≡ cells.cell_width (kind_of kind) }
-    ensures { out.new ≡ cells.encode_cell (kind_of kind) (value_of value.now) }
+    ensures cell { out.new ≡ cells.encode_cell (kind_of kind) (value_of value.now) }
+    ensures spells { cells.decode_cell (kind_of kind) out.new ≡ Some (value_of value.now) }
 {
     match (kind, value) {
         (Kind::Integer, Value::Int(number)) => {
@@ -36,9 +53,12 @@ pub fn encode_cell(kind: Kind, value: &Value, out: &mut [u8])
 }
 
 /// The value that bytes spell in a column of a kind, and `None` exactly where they spell none.
+#[tactic(auto, using(crate::proofs::CellSpelling::spells_a_cell))]
 pub fn decode_cell(kind: Kind, bytes: &[u8]) -> Option<Value>
-    requires { cells.cell_width (kind_of kind) ≤ 64 }
-    ensures { option_map value_of result ≡ cells.decode_cell (kind_of kind) bytes.now }
+    requires { cells.cell_width (kind_of kind) ≤ MAX_CHARS }
+    ensures value { option_map value_of result ≡ cells.decode_cell (kind_of kind) bytes.now }
+    ensures kind { IfSome result (λ value. IsTrue (ordered.is_of_kind (kind_of kind) (value_of value))) }
+    ensures cell { IfSome result (λ value. cells.encode_cell (kind_of kind) (value_of value) ≡ bytes.now) }
 {
     if bytes.len() != cell_width(kind) {
         return None;
@@ -87,16 +107,6 @@ fn distance_of(cell: &[u8]) -> u64
     u64::from_be_bytes(bytes)
 }
 
-/// Writes a text and zero bytes after it.
-fn put_padded(text: &[u8], out: &mut [u8])
-    requires { length text.now ≤ length out.old }
-    ensures { out.new ≡ cells.padded (length out.old) text.now }
-{
-    let (front, back) = out.split_at_mut(text.len());
-    front.copy_from_slice(text);
-    back.fill(0);
-}
-
 /// The bytes before the first zero byte.
 fn text_in(cell: &[u8]) -> &[u8]
     ensures { result.now ≡ cells.text_in cell.now }
@@ -111,8 +121,8 @@ fn text_len(cell: &[u8]) -> usize
     cell.iter().take_while(|byte| **byte != 0).count()
 }
 
-/// Whether every byte is a character of a text.
-fn is_printable_text(text: &[u8]) -> bool
+/// Whether every byte is a character of a text: 0x20 to 0x7E.
+pub fn is_printable_text(text: &[u8]) -> bool
     ensures { result ≡ list_all is_printable text.now }
 {
     text.iter().all(|&byte| 0x20 <= byte && byte <= 0x7E)

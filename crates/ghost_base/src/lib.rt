@@ -7,14 +7,15 @@
 
 pub mod cells;
 pub mod kind;
+pub mod laws;
 pub mod limits;
 pub mod text;
 pub mod value;
 
-pub use cells::{cell_width, decode_cell, encode_cell};
+pub use cells::{cell_width, decode_cell, encode_cell, is_of_kind, is_printable_text};
 pub use kind::Kind;
 pub use text::Text64;
-pub use value::Value;
+pub use value::{Value, compare};
 
 /// The identifier of a row: its number in its table, from 1 to the number of the table's rows.
 pub type Id = u32;

@@ -15,8 +15,8 @@ pub const MIN_CHARS: usize = 1;
 /// The most bytes that a CHAR column can be declared to hold.
 pub const MAX_CHARS: usize = 64;
 
-/// The most rows of a table.
-pub const MAX_ROWS: usize = 1_000_000;
+/// The most rows of a table, and so the greatest identifier.
+pub const MAX_ROWS: u32 = 1_000_000;
 
 /// The most bytes of a CSV file.
 pub const MAX_CSV: usize = 67_108_864;

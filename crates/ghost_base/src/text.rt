@@ -1,24 +1,38 @@
 //! Texts of at most 64 bytes, which lie in the value itself.
 
-ghost use Rattle.std.specs.Prelude.{◌≡◌, ◌≤◌, ◌==◌, length};
+ghost use Rattle.std.specs.Prelude.{◌≡◌, ℕ, ◌≤◌, ◌==◌, List, [], length, nat_eq, ⊤};
+ghost use Rattle.std.specs.Cmp.Lexicographic.{pointwise, lists_per, lists_equiv, lists_ties, texts_po};
+ghost use Rattle.std.specs.Cmp.{nat_eq_equiv, partial_equiv_from_equiv, unsigned_ties};
+ghost use Rattle.std.specs.Ordering.{as_partial_cmp, nat_cmp};
+ghost use Rattle.std.proofs.Common.{refl};
+ghost use Rattle.std.proofs.lemmas.Cmp.{nat_list_cmp_total};
+ghost use Rattle.ghost_model.specs.Cells.{padded};
 ghost use Rattle.ghost_base.specs.Ordered.{byte_order};
 
-use arrayvec::ArrayVec;
 use std::cmp::Ordering;
 use std::marker::Model;
 
 /// A text of at most 64 bytes, which a clause sees as the list of its bytes.
-#[derive(Debug, Drop)]
+#[derive(Clone, Copy, Debug)]
 pub struct Text64 {
-    bytes: ArrayVec<u8, 64>,
+    bytes: [u8; 64],
+    len: usize,
 }
 
 impl Model for Text64 {
-    ghost use Rattle.std.specs.Prelude.{ℕ, List};
+    ghost use Rattle.std.specs.Prelude.{ℕ, List, take};
 
     ghost Value = { List ℕ };
 
-    ghost view = { λ text. text.bytes.items };
+    ghost use Rattle.ghost_base.specs.Texts.{IsPadded, fields_of, fields_are};
+
+    ghost view = { λ text. take text.len text.bytes };
+
+    ghost invariant = { IsPadded };
+
+    ghost inverse = { fields_of };
+
+    ghost inverse_ok = { fields_are };
 }
 
 impl Text64 {
@@ -27,9 +41,12 @@ impl Text64 {
         requires { length bytes.now ≤ 64 }
         ensures { result ≡ bytes.now }
     {
-        let mut text = ArrayVec::new();
-        let _ = text.try_extend_from_slice(bytes);
-        Text64 { bytes: text }
+        let mut places = [0; 64];
+        put_padded(bytes, &mut places);
+        Text64 {
+            bytes: places,
+            len: bytes.len(),
+        }
     }
 
     /// The bytes of the text.
@@ -37,7 +54,7 @@ impl Text64 {
         ensures value { result.now ≡ self.now }
         ensures short { length result.now ≤ 64 }
     {
-        self.bytes.as_slice()
+        &self.bytes[..self.len]
     }
 
     /// The number of the text's bytes.
@@ -45,20 +62,70 @@ impl Text64 {
         ensures value { result ≡ length self.now }
         ensures short { result ≤ 64 }
     {
-        self.bytes.len()
+        self.len
     }
 
     /// Whether the text has no bytes.
     pub fn is_empty(&self) -> bool
         ensures { result ≡ (length self.now == 0) }
     {
-        self.bytes.is_empty()
+        self.len == 0
     }
+}
 
-    /// A second text of the same bytes, which takes no memory.
-    pub fn copied(&self) -> Self
-        ensures { result ≡ self.now }
-    {
-        Text64::of(self.as_bytes())
+/// Writes a text and zero bytes after it.
+pub(crate) fn put_padded(text: &[u8], out: &mut [u8])
+    requires { length text.now ≤ length out.old }
+    ensures { out.new ≡ padded (length out.old) text.now }
+{
+    let (front, back) = out.split_at_mut(text.len());
+    front.copy_from_slice(text);
+    back.fill(0);
+}
+
+impl Default for Text64 {
+    ghost is_default = { λ text. text ≡ [] };
+
+    fn default() -> Self {
+        Text64::of(&[])
+    }
+}
+
+impl PartialEq for Text64 {
+    ghost eq = { pointwise nat_eq };
+
+    ghost laws = { partial_equiv_from_equiv (lists_equiv nat_eq_equiv) };
+
+    fn eq(&self, other: &Self) -> bool {
+        self.as_bytes() == other.as_bytes()
+    }
+}
+
+impl Eq for Text64 {
+    ghost laws = { lists_equiv nat_eq_equiv };
+}
+
+/// Texts are ordered by their bytes, a prefix before the longer text.
+impl PartialOrd for Text64 {
+    ghost partial_cmp = { as_partial_cmp byte_order };
+
+    ghost laws = { texts_po };
+
+    fn partial_cmp(&self, other: &Self) -> Option<Ordering> {
+        Some(self.cmp(other))
+    }
+}
+
+impl Ord for Text64 {
+    ghost cmp = { byte_order };
+
+    ghost total = { nat_list_cmp_total };
+
+    ghost matches_partial_cmp = { λ _ _. refl };
+
+    ghost matches_eq = { lists_ties nat_cmp unsigned_ties };
+
+    fn cmp(&self, other: &Self) -> Ordering {
+        self.as_bytes().cmp(&other.as_bytes())
     }
 }

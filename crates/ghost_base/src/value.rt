@@ -1,6 +1,6 @@
 //! Values, and their order.
 
-ghost use Rattle.std.specs.Prelude.{◌≡◌};
+ghost use Rattle.std.specs.Prelude.{◌≡◌, pos};
 ghost use Rattle.ghost_base.specs.Ordered.{value_order};
 ghost use Rattle.ghost_base.specs.Views.{value_of};
 
@@ -8,7 +8,10 @@ use crate::Text64;
 use std::cmp::Ordering;
 
 /// A value of a column.
-#[derive(Debug, Drop)]
+///
+/// Integers are ordered as numbers and texts by their bytes, a prefix before the longer text. An integer comes before
+/// a text, though no column holds both.
+#[derive(Clone, Copy, Debug, PartialEq, Eq, PartialOrd, Ord)]
 pub enum Value {
     /// A 64-bit signed integer.
     Int(i64),
@@ -17,27 +20,19 @@ pub enum Value {
     Chars(Text64),
 }
 
-impl Value {
-    /// A second value equal to this one, which takes no memory.
-    pub fn copied(&self) -> Self
-        ensures { result ≡ self.now }
-    {
-        match self {
-            Value::Int(number) => Value::Int(*number),
-            Value::Chars(text) => Value::Chars(text.copied()),
-        }
+impl Default for Value {
+    ghost use Rattle.ghost_base.specs.declared.value.Value.TheVariants.{Int};
+
+    ghost is_default = { λ value. value ≡ Int (pos 0) };
+
+    fn default() -> Self {
+        Value::Int(0)
     }
 }
 
-/// The order of two values: integers as numbers, texts by their bytes, a prefix before the longer text, and an
-/// integer before a text.
+/// The order of two values, which is that of their `Ord`.
 pub fn compare(a: &Value, b: &Value) -> Ordering
     ensures { result ≡ value_order (value_of a.now) (value_of b.now) }
 {
-    match (a, b) {
-        (Value::Int(a), Value::Int(b)) => a.cmp(b),
-        (Value::Int(_), Value::Chars(_)) => Ordering::Less,
-        (Value::Chars(_), Value::Int(_)) => Ordering::Greater,
-        (Value::Chars(a), Value::Chars(b)) => a.as_bytes().cmp(&b.as_bytes()),
-    }
+    a.cmp(b)
 }
