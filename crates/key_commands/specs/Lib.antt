@@ -1,2 +1,6 @@
 pub mod Form
 pub mod FormMeaning
+pub mod Words
+pub mod Numbers
+pub mod Records
+pub mod Views

@@ -1,2 +1,5 @@
 //! The commands of the key: what the program does with its words, its files, its flash and its link.
 #![tactic(auto)]
+
+pub mod fields;
+pub mod words;

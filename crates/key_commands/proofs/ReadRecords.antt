@@ -1,0 +1,73 @@
+-- What a read of a record leaves of the records of a text.
+use Rattle.std.proofs.Common.{Bor, ◌≡◌, ◌⊎◌, ◌<◌, ◌+◌, ◌∙◌, ℕ, zero, suc, Bool, true, false, List, [], ◌∷◌, length, Option, Some, None, inl, inr, refl, sym, ap, subst, arith}
+use Rattle.std.specs.Prelude.{⊤, option_map}
+use Rattle.csv.specs.Machine.{Read, ends_at_end, field_after, fields_after, is_end, next_record, step}
+use Rattle.csv.specs.Reading.{NextIs, ReadRecord, ReadsNext, ReadsOn, Ready, buffered_of, default_config, has_failed, pending_of, records_from, records_next, source_of, stops_reader, unread_of, strip_bom}
+use Rattle.csv.specs.declared.parser.Config.{Config}
+use Rattle.csv.specs.declared.parser.State.{State}
+use Rattle.csv.specs.declared.parser.State.TheVariants as st
+use Rattle.csv.specs.declared.reader.Reader.{Reader}
+use Rattle.key_commands.specs.Records.{IsReading, IsSetUp, Reads, left_of, records_left}
+
+-- a record takes a byte, or stands at the end of the text and leaves nothing
+abbrev pub Takes : ℕ → Option Read → Type 0
+Takes most None = ⊤
+Takes most (Some read) = (length read.2 < most) ⊎ ((read.1 ≡ st.StartRecord) × (read.2 ≡ []))
+
+takes_more : (most : ℕ) (o : Option Read) → Takes most o → Takes (suc most) o
+takes_more most None h = tt
+takes_more most (Some read) (inl less) = inl (omega arith)
+takes_more most (Some read) (inr ended) = inr ended
+
+pub takes : (config : Config) (state : State) (fields : List (List ℕ)) (field text : List ℕ) → Takes (length text) (next_record config state fields field text)
+unfolding next_record
+takes config state fields field [] = by (ends_at_end state)
+  where
+    by : (b : Bool) → Takes 0 (if b then Some (fields ++ (field ∷ []), st.StartRecord, []) else None)
+    by true = inr (refl, refl)
+    by false = tt
+takes config state fields field (byte ∷ rest) =
+    by (is_end (step config state byte).1) (takes config (step config state byte).0 (fields_after (step config state byte).1 fields field) (field_after (step config state byte).1 byte field) rest)
+  where
+    by : (b : Bool) → Takes (length rest) (next_record config (step config state byte).0 (fields_after (step config state byte).1 fields field) (field_after (step config state byte).1 byte field) rest)
+        → Takes (suc (length rest)) (if b then Some (fields_after (step config state byte).1 fields field, (step config state byte).0, rest) else next_record config (step config state byte).0 (fields_after (step config state byte).1 fields field) (field_after (step config state byte).1 byte field) rest)
+    by true more = inl (omega arith)
+    by false more = takes_more _ _ more
+
+pub none_left : (config : Config) (n : ℕ) → records_from config n st.StartRecord [] ≡ []
+unfolding records_from next_record
+none_left config zero = refl
+none_left config (suc n) = refl
+
+-- more steps than bytes are enough
+pub enough : (config : Config) (n m : ℕ) (state : State) (text : List ℕ) → length text < n → length text < m → records_from config n state text ≡ records_from config m state text
+unfolding records_from
+enough config zero m state text a b = absurd (omega arith)
+enough config (suc n) zero state text a b = absurd (omega arith)
+enough config (suc n) (suc m) state text a b = by (next_record config state [] [] text) (takes config state [] [] text) (enough config n m)
+  where
+    by : (o : Option Read) → Takes (length text) o
+        → ((s : State) (later : List ℕ) → length later < n → length later < m → records_from config n s later ≡ records_from config m s later)
+        → records_next (records_from config n) o ≡ records_next (records_from config m) o
+    by None t more = refl
+    by (Some read) (inl less) more = ap (λ later. read.0 ∷ later) (more read.1 read.2 (omega arith) (omega arith))
+    by (Some read) (inr ended) more =
+        ap (λ later. read.0 ∷ later)
+        (rw (ended.0, ended.1) (none_left config n ∙ sym (none_left config m)))
+
+-- the first of the records left, where a read found it
+pub took : (state after : State) (text later : List ℕ) (found : Bool) (fields : List (List ℕ))
+    → NextIs (next_record default_config state [] [] text) found fields after later
+    → Reads found (records_left (Some text) state) fields (records_left (Some later) after)
+unfolding records_from
+took state after text later found fields h = rw (one_more (length text)) (by (next_record default_config state [] [] text) (takes default_config state [] [] text) found h)
+  where
+    one_more : (n : ℕ) → n + 1 ≡ suc n
+    one_more n = omega arith
+    by : (o : Option Read) → Takes (length text) o → (b : Bool) → NextIs o b fields after later
+        → Reads b (records_next (records_from default_config (length text)) o) fields (records_from default_config (length later + 1) after later)
+    by None t true h = cc h
+    by None t false h = refl
+    by (Some read) t false h = cc h.0
+    by (Some read) (inl less) true h = rw (h.1, h.2, h.3) (ap (λ left. read.0 ∷ left) (enough default_config (length text) (length read.2 + 1) read.1 read.2 less (omega arith)))
+    by (Some read) (inr ended) true h = rw (h.1, h.2, h.3, ended.0, ended.1) (ap (λ left. read.0 ∷ left) (none_left default_config (length text) ∙ sym (none_left default_config 1)))

@@ -1,0 +1,12 @@
+-- What the values of the code stand for, in the words of the definitions.
+use Rattle.std.specs.Prelude.{ℕ, List}
+use Rattle.key_commands.specs.Words as words
+use Rattle.key_commands.specs.declared.words.Names.{Names}
+
+abbrev pub names_view : Names → words.Names
+names_view names = record {
+  schema = names.schema.now;
+  tables = names.tables.now;
+  flash = names.flash.now;
+  script = names.script.now;
+  journal = names.journal.now }
