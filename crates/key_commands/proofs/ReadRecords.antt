@@ -1,6 +1,8 @@
 -- What a read of a record leaves of the records of a text.
 use Rattle.std.proofs.Common.{Bor, ◌≡◌, ◌⊎◌, ◌<◌, ◌+◌, ◌∙◌, ℕ, zero, suc, Bool, true, false, List, [], ◌∷◌, length, Option, Some, None, inl, inr, refl, sym, ap, subst, arith}
-use Rattle.std.specs.Prelude.{⊤, option_map}
+use Rattle.std.specs.Prelude.{⊤, option_map, if◌then◌else◌, ◌++◌, not, ◌&&◌, ◌==◌, drop, take}
+use Rattle.std.specs.Io.KnownBytes.{prepend_known}
+use Rattle.csv.specs.declared.reader.Trim.TheVariants as trim
 use Rattle.csv.specs.Machine.{Read, ends_at_end, field_after, fields_after, is_end, next_record, step}
 use Rattle.csv.specs.Reading.{NextIs, ReadRecord, ReadsNext, ReadsOn, Ready, buffered_of, default_config, has_failed, pending_of, records_from, records_next, source_of, stops_reader, unread_of, strip_bom}
 use Rattle.csv.specs.declared.parser.Config.{Config}
@@ -71,3 +73,46 @@ took state after text later found fields h = rw (one_more (length text)) (by (ne
     by (Some read) t false h = cc h.0
     by (Some read) (inl less) true h = rw (h.1, h.2, h.3) (ap (λ left. read.0 ∷ left) (enough default_config (length text) (length read.2 + 1) read.1 read.2 less (omega arith)))
     by (Some read) (inr ended) true h = rw (h.1, h.2, h.3, ended.0, ended.1) (ap (λ left. read.0 ∷ left) (none_left default_config (length text) ∙ sym (none_left default_config 1)))
+
+-- the bytes that a reader over bytes has left are told, unless it failed
+pub told : (reader : Reader (Bor (List ℕ))) → has_failed reader ≡ false → (bytes : List ℕ) × (source_of (λ (s : Bor (List ℕ)). Some s.now) reader ≡ Some bytes)
+told reader going = rw going (by (not reader.bom_checked && (reader.at == 0) && (reader.filled == 0)))
+  where
+    by : (b : Bool) → (bytes : List ℕ) × ((if b then option_map strip_bom (Some reader.rdr.now) else buffered_of (Some reader.rdr.now) reader) ≡ Some bytes)
+    by true = (strip_bom reader.rdr.now, refl)
+    by false = (drop reader.at (take reader.filled reader.buffer) ++ reader.rdr.now, refl)
+
+-- a reader stays one that reads, or failed, after an error
+pub stays : {R : Type 0} (old new : Reader R) (stops : Bool) → IsReading old → (has_failed old ≡ true → ⊥) → has_failed new ≡ stops
+    → (stops ≡ false → ReadsOn old new) → IsReading new
+stays old new true reading going fails on = inl fails
+stays old new false (inl failed) going fails on = absurd (going failed)
+stays old new false (inr set) going fails on =
+    let r = on refl in
+    inr (record { going = fails; plain = r.1 ∙ set.plain; standard = r.0 ∙ set.standard; ready = (r.4 set.ready).0 })
+
+-- and after a read
+pub stays_after : {R : Type 0} (rem : R → Option (List ℕ)) (old new : Reader R) (found : Bool) (fields : List (List ℕ)) → IsReading old
+    → has_failed new ≡ has_failed old → (old.trim ≡ trim.None → new.first ≡ true)
+    → (old.trim ≡ trim.None → Ready old → ReadRecord rem old new found fields) → IsReading new
+stays_after rem old new found fields (inl failed) goes first reads = inl (goes ∙ failed)
+stays_after rem old new found fields (inr set) goes first reads =
+    let r = reads set.plain set.ready in
+    inr (record { going = goes ∙ set.going; plain = r.3 ∙ set.plain; standard = r.2 ∙ set.standard; ready = inl (first set.plain) })
+
+from_bytes : (config : Config) (state after : State) (before later : Option (List ℕ)) (bytes : List ℕ) (found : Bool) (fields : List (List ℕ))
+    → config ≡ default_config → before ≡ Some bytes → ReadsNext config state before later found fields after
+    → Reads found (records_left before state) fields (records_left later after)
+from_bytes config state after before None bytes found fields standard is h = absurd (rw is at h)
+from_bytes config state after before (Some later) bytes found fields standard is h = rw is (took state after bytes later found fields (rw (standard, is) at h))
+
+-- a read takes the first of the records left, or there was none
+pub reads : (old new : Reader (Bor (List ℕ))) (found : Bool) (fields : List (List ℕ)) → IsReading old
+    → (has_failed old ≡ true → found ≡ false)
+    → (old.trim ≡ trim.None → Ready old → ReadRecord (λ (s : Bor (List ℕ)). Some s.now) old new found fields)
+    → Reads found (left_of (λ (s : Bor (List ℕ)). Some s.now) old) fields (left_of (λ (s : Bor (List ℕ)). Some s.now) new)
+reads old new found fields (inl failed) none read = rw (none failed, failed) refl
+reads old new found fields (inr set) none read =
+    let r = read set.plain set.ready in
+    let known = told old set.going in
+    rw r.1 (from_bytes old.config old.state new.state (source_of (λ (s : Bor (List ℕ)). Some s.now) old) (pending_of (Some new.rdr.now) new) known.0 found fields set.standard known.1 r.0)

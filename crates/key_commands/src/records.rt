@@ -28,7 +28,6 @@ impl<'a> Model for Records<'a> {
 
 impl<'a> Records<'a> {
     /// All records of a text.
-    #[tactic(auto, using(crate::proofs::ReadRecords::opened, crate::proofs::ReadRecords::opened_view))]
     pub fn open(alloc: Global, text: &'a [u8]) -> Records<'a>
         ensures { result ≡ records_of text.now }
     {
@@ -41,7 +40,6 @@ impl<'a> Records<'a> {
     }
 
     /// Takes the next record, where there is one.
-    #[tactic(auto, using(crate::proofs::ReadRecords::stays, crate::proofs::ReadRecords::stays_after))]
     pub fn read(&mut self, row: &mut ByteRecord) -> Result<bool, AllocError>
         ensures { IfOk result (λ found. Reads found self.old (fields_of row.new) self.new) }
     {
