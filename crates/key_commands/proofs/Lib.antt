@@ -1,2 +1,3 @@
 mod Numerals
 mod ReadRecords
+mod KeptTexts

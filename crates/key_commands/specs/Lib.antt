@@ -3,4 +3,5 @@ pub mod FormMeaning
 pub mod Words
 pub mod Numbers
 pub mod Records
+pub mod Texts
 pub mod Views

@@ -3,4 +3,5 @@
 
 pub mod fields;
 pub mod records;
+pub mod texts;
 pub mod words;
