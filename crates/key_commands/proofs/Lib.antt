@@ -1,3 +1,5 @@
 mod Numerals
 mod ReadRecords
 mod KeptTexts
+mod ReadRows
+mod FormNames

@@ -4,4 +4,5 @@ pub mod Words
 pub mod Numbers
 pub mod Records
 pub mod Texts
+pub mod Rows
 pub mod Views

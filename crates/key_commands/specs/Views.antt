@@ -2,6 +2,8 @@
 use Rattle.std.specs.Prelude.{ℕ, List}
 use Rattle.key_commands.specs.Words as words
 use Rattle.key_commands.specs.declared.words.Names.{Names}
+use Rattle.key_commands.specs.Form as form
+use Rattle.key_commands.specs.declared.form.Form.{Form}
 
 abbrev pub names_view : Names → words.Names
 names_view names = record {
@@ -10,3 +12,11 @@ names_view names = record {
   flash = names.flash.now;
   script = names.script.now;
   journal = names.journal.now }
+
+abbrev pub form_view : Form → form.Form
+form_view made = record {
+  table = made.table;
+  shown = made.shown;
+  shown_most = made.shown_most;
+  secret = made.secret;
+  secret_most = made.secret_most }

@@ -2,6 +2,8 @@
 #![tactic(auto)]
 
 pub mod fields;
+pub mod form;
 pub mod records;
+pub mod rows;
 pub mod texts;
 pub mod words;
