@@ -3,3 +3,5 @@ mod ReadRecords
 mod KeptTexts
 mod ReadRows
 mod FormNames
+mod OneReading
+mod ReadForm

@@ -5,4 +5,5 @@ pub mod Numbers
 pub mod Records
 pub mod Texts
 pub mod Rows
+pub mod Pieces
 pub mod Views

@@ -3,6 +3,8 @@
 
 pub mod fields;
 pub mod form;
+pub mod naming;
+pub mod pieces;
 pub mod records;
 pub mod rows;
 pub mod texts;
