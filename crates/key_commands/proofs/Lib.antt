@@ -5,3 +5,4 @@ mod ReadRows
 mod FormNames
 mod OneReading
 mod ReadForm
+mod ReadScript

@@ -115,3 +115,7 @@ some_of A B (Some x) h = h
 pub none_of : {X : Type 0} (A : Type 0) (B : X → Type 0) (o : Option X) → MatchOption o A B → IfNone o A
 none_of A B None h = h
 none_of A B (Some x) h = tt
+
+pub no_bytes : (text : List ℕ) → (length text == 0) ≡ true → text ≡ []
+no_bytes [] h = refl
+no_bytes (b ∷ text) h = cc h

@@ -1,5 +1,5 @@
 -- The line of a form's schema has its pieces in one way, and the form with them.
-use Rattle.std.proofs.Common.{◌≡◌, ◌≤◌, ◌<◌, ◌+◌, ◌^◌, ◌∙◌, ℕ, Bool, true, false, not, ◌&&◌, List, [], ◌∷◌, ◌++◌, map, flat_map, codes, decimal, bytes_eq, refl, sym, ap, ap₂, subst, arith, append_assoc, nat_le, lit<}
+use Rattle.std.proofs.Common.{◌≡◌, ◌≤◌, ◌<◌, ◌+◌, ◌^◌, ◌∙◌, ℕ, Bool, true, false, not, ◌&&◌, List, [], ◌∷◌, ◌++◌, map, flat_map, codes, decimal, bytes_eq, refl, sym, ap, ap₂, subst, arith, append_assoc, nat_le, lit≤}
 use Rattle.std.proofs.lemmas.List.{append-nil, append_cancel_left}
 use Rattle.std.proofs.lemmas.Bool.Decides.{nat_tests}
 use Rattle.std.proofs.lemmas.Fmt.{decimal-digits_of}
@@ -30,7 +30,7 @@ pub record Ends (last : ℕ) (text : List ℕ) : Type 0 where
   pub start : List ℕ
   pub whole : text ≡ start ++ last ∷ []
 
-ends_after : (last : ℕ) (front text : List ℕ) → Ends last text → Ends last (front ++ text)
+pub ends_after : (last : ℕ) (front text : List ℕ) → Ends last text → Ends last (front ++ text)
 ends_after last front text ends = record {
   start = front ++ ends.start;
   whole = ap (λ t. front ++ t) ends.whole ∙ sym (append_assoc front ends.start (last ∷ [])) }
@@ -49,14 +49,19 @@ digits_are_word : (digits : List ℕ) → AllBelowBase 10 digits → is_word (ma
 digits_are_word [] h = refl
 digits_are_word (d ∷ digits) h = rw (digit_is_name_byte d h.0) (digits_are_word digits h.1)
 
+above_zero : (most : ℕ) → nat_le 1 most ≡ true → 0 < most
+above_zero most low = grind (arith, nat_tests)
+
+below_limit : (most : ℕ) → nat_le most 64 ≡ true → most < 2 ^ 64
+below_limit most high = let few : most ≤ 64 = grind (arith, nat_tests) in omega arith
+
 length_is_word : (most : ℕ) → is_length most ≡ true → is_word (decimal most) ≡ true
 length_is_word most h =
     let low : nat_le 1 most ≡ true = first_so _ _ h in
     let high : nat_le most 64 ≡ true = second_so _ _ h in
-    let some : 0 < most = grind (arith, nat_tests) in
-    let few : most ≤ 64 = grind (arith, nat_tests) in
-    let fits : most < 2 ^ 64 = omega arith in
-    rw (decimal-digits_of most some fits) (digits_are_word (digits_of 10 most) (all_below_base_digits_of 10 most (omega arith)))
+    let some : 0 < most = above_zero most low in
+    let fits : most < 2 ^ 64 = below_limit most high in
+    rw (decimal-digits_of most some fits) (digits_are_word (digits_of 10 most) (all_below_base_digits_of 10 most (lit≤ tt)))
 
 name_is_word : (name : List ℕ) → is_short_name name ≡ true → is_word name ≡ true
 unfolding is_name

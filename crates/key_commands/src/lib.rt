@@ -7,5 +7,6 @@ pub mod naming;
 pub mod pieces;
 pub mod records;
 pub mod rows;
+pub mod script;
 pub mod texts;
 pub mod words;
