@@ -1,5 +1,5 @@
 -- Words at the front of texts: there is one way to read them.
-use Rattle.std.proofs.Common.{Bor, ◌≡◌, ◌∙◌, ℕ, Bool, true, false, not, List, [], ◌∷◌, ◌++◌, drop, length, flat_map, get_or, refl, sym, ap, subst, cond, take, inl, inr, append_assoc, Option, Some, None, bytes_eq, ◌&&◌, ◌==◌}
+use Rattle.std.proofs.Common.{Bor, ◌≡◌, ◌∙◌, ℕ, Bool, true, false, not, List, [], ◌∷◌, ◌++◌, drop, length, flat_map, get_or, refl, sym, ap, subst, cond, take, inl, inr, append_assoc, Option, Some, None, bytes_eq, ◌&&◌, ◌==◌, eqb-true, arith}
 use Rattle.std.specs.Prelude.{take_while, ◌<◌, ◌+◌, MatchOption, IfSome, IfNone}
 use Rattle.std.specs.Char.{to_ascii_lowercase}
 use Rattle.std.proofs.Math.Seq.{drop-append_seam}
@@ -118,4 +118,4 @@ none_of A B (Some x) h = tt
 
 pub no_bytes : (text : List ℕ) → (length text == 0) ≡ true → text ≡ []
 no_bytes [] h = refl
-no_bytes (b ∷ text) h = cc h
+no_bytes (b ∷ text) h = let none : length (b ∷ text) ≡ 0 = eqb-true (length (b ∷ text)) 0 h in absurd (omega arith)
