@@ -9,7 +9,7 @@ pub mod depot;
 pub mod mem_depot;
 pub mod mem_sink;
 pub mod reading;
-mod room;
+pub mod room;
 pub mod script;
 pub mod sink;
 mod slots;

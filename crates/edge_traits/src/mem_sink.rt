@@ -61,9 +61,7 @@ impl Sink for MemSink {
     fn write(&mut self, bytes: &[u8]) -> Result<usize, Failed> {
         self.script.begin()?;
         let count = bytes.len().min(self.most);
-        let has_room = self.bytes.len() <= self.bytes.capacity()
-            && count <= self.bytes.capacity() - self.bytes.len();
-        if !has_room || (count == 0 && !bytes.is_empty()) {
+        if !room::has_room(&self.bytes, count) || (count == 0 && !bytes.is_empty()) {
             return Err(self.script.fault());
         }
         room::add(&mut self.bytes, &bytes[..count]);

@@ -70,9 +70,7 @@ fn extend(slot: &mut Slot, bytes: &[u8]) -> bool
     ensures bytes { IsTrue result → slot.new.bytes.items ≡ slot.old.bytes.items ++ bytes.now }
     ensures refused { result ≡ false → slot.new ≡ slot.old }
 {
-    let has_room = slot.bytes.len() <= slot.bytes.capacity()
-        && bytes.len() <= slot.bytes.capacity() - slot.bytes.len();
-    if !has_room {
+    if !room::has_room(&slot.bytes, bytes.len()) {
         return false;
     }
     room::add(&mut slot.bytes, bytes);

@@ -7,7 +7,7 @@ use Rattle.ghost_model.specs.Schema.{Kind, Integer, Chars}
 use Rattle.ghost_model.specs.Values.{Value, Number, Text}
 use Rattle.ghost_model.specs.Tokens.{is_printable}
 use Rattle.ghost_model.specs.Cells.{cell_width, encode_cell, decode_cell, padded, text_in, is_text_cell, from_lowest}
-use Rattle.ghost_base.specs.Ordered.{is_of_kind, may_hold}
+use Rattle.ghost_model.specs.Database.{is_of_kind}
 use Rattle.ghost_base.specs.CellLaws.{IsCellOf}
 use Rattle.ghost_base.proofs.IntegerCells.{integer_read_back, integer_spelled, from_above, above_fits, from_fits, spelled_fits}
 use Rattle.ghost_base.proofs.TextCells.{text_of_padded, padded_is_text_cell, text_spelled, text_is_short}
@@ -21,14 +21,13 @@ text_read_back most text short printable =
     let long : (length (padded most text) == most) ≡ true = eq-eqb _ _ (padded_length most text short) in
     rw (long, padded_is_text_cell text (most - length text) printable, text_of_padded text (most - length text) printable) refl
 
-pub reads_back : (kind : Kind) (value : Value) → IsTrue (may_hold kind value) → decode_cell kind (encode_cell kind value) ≡ Some value
+pub reads_back : (kind : Kind) (value : Value) → IsTrue (is_of_kind kind value) → decode_cell kind (encode_cell kind value) ≡ Some value
 reads_back Integer (Number z) h =
     ap (λ n. Some (Number (from_lowest n))) (integer_read_back _ (above_fits z h)) ∙ ap (λ n. Some (Number n)) (from_above z h)
 reads_back Integer (Text text) h = cc
 reads_back (Chars most) (Number z) h = cc
 reads_back (Chars most) (Text text) h =
-    let both = first_so (nat_le (length text) most && list_all is_printable text) true h in
-    text_read_back most text (leb-true _ _ (first_so _ _ both)) (second_so _ _ both)
+    text_read_back most text (leb-true _ _ (first_so _ _ h)) (second_so _ _ h)
 
 pub text_written : (kind : Kind) (value : Value) (text out : List ℕ) → value ≡ Text text → IsTrue (is_of_kind kind value)
     → out ≡ padded (cell_width kind) text → decode_cell kind out ≡ Some value

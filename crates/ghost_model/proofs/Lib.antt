@@ -2,6 +2,7 @@ mod TokenLemmas
 mod TextLemmas
 mod GrammarLemmas
 mod SchemaLemmas
+mod SchemaRuleLemmas
 mod QueryLemmas
 mod QueryReadingLemmas
 mod ChannelLemmas

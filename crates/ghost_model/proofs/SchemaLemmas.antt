@@ -7,7 +7,10 @@ use Rattle.std.proofs.lemmas.List.Folds.{list_all-append}
 use Rattle.std.specs.List.{list_all}
 use Rattle.std.proofs.lemmas.Option.{slice_get_within, slice_get-map}
 use Rattle.std.proofs.lemmas.List.{take-append-drop, take-append-le, length-append}
-use Rattle.ghost_model.specs.Spelled.{IsBeforeEnd, is_spelled, is_name, is_number}
+use Rattle.std.proofs.lemmas.Bool.{and_from}
+use Rattle.ghost_model.proofs.TokenLemmas.{before_end}
+use Rattle.ghost_model.proofs.GrammarLemmas.{more_begun, spelled_both, spelled_before, no_end_inside, viable_of, no_fault, one_fault}
+use Rattle.ghost_model.specs.Spelled.{is_spelled, is_name, is_number}
 use Rattle.ghost_model.specs.Tokens.{symbol_of, symbols, tokens, offset_of, Symbol, Token, Keyword, Word, Name, Digits, Open, Closing, Comma, Semicolon, End, Char, Create, Hidden, Integer, Key, Primary, References, Table}
 use Rattle.ghost_model.specs.Grammar.{Spells, IsViable, IsFault, IsSyntaxFault, separated, begun}
 use Rattle.ghost_model.specs.SchemaGrammar.{Reference, To, ColumnText, CharColumn, IntegerColumn, TableText, SchemaText, spell_hidden, spell_primary, spell_reference, spell_column, spell_heading, spell_table, spelling}
@@ -79,11 +82,6 @@ option_mapped : {X Y : Type 0} (f : X → Y) (o : Option X) (y : Y) → option_m
 option_mapped f None y e = absurd (cc)
 option_mapped f (Some x) y e = (x, refl, unSome e)
 
--- one more item and the symbol after it
-more_of : {X : Type 0} (by : Symbol) (spell : X → List Symbol) (xs : List X) (x : X)
-    → begun by spell (xs ++ x ∷ []) ≡ begun by spell xs ++ (spell x ++ by ∷ [])
-more_of by spell xs x = flat_map-append (λ y. spell y ++ by ∷ []) xs (x ∷ []) ∙ ap (λ tail. begun by spell xs ++ tail) (append-nil (spell x ++ by ∷ []))
-
 regroup3 : (a b c d : List Symbol) → (a ++ (b ++ c)) ++ d ≡ a ++ (b ++ (c ++ d))
 regroup3 a b c d = simp append_assoc
 
@@ -105,7 +103,7 @@ within_read : (tables : SchemaText) (name : List ℕ) (columns : List ColumnText
     → step_within tables name columns last s ≡ Some q → before q ≡ before (Within tables name columns last) ++ s ∷ []
 within_read tables name columns (Whole last) Comma q e =
     ap before (unSome (sym e))
-    ∙ (ap (λ tail. flat_map spell_table tables ++ (spell_heading name ++ tail)) (more_of Comma spell_column columns last)
+    ∙ (ap (λ tail. flat_map spell_table tables ++ (spell_heading name ++ tail)) (sym (more_begun Comma spell_column columns last))
     ∙ sym (regroup4 (flat_map spell_table tables) (spell_heading name) (begun Comma spell_column columns) (spell_column last) (Comma ∷ [])))
 within_read tables name columns (Whole last) Closing q e =
     ap before (unSome (sym e))
@@ -155,21 +153,6 @@ step_read (Within tables name columns last) s q e = within_read tables name colu
 step_read (AfterColumns tables name columns last) Semicolon q e =
     ap before (unSome (sym e)) ∙ tables_end tables name columns last
 step_read _ _ q e = absurd (cc)
-
--- tests of all elements of a list
-
-all_more : {X : Type 0} (p : X → Bool) (x : X) (xs : List X) → p x ≡ true → list_all p xs ≡ true → list_all p (x ∷ xs) ≡ true
-all_more p x xs e f = ap (λ b. b && list_all p xs) e ∙ f
-
-both_true : (a b : Bool) → (a && b) ≡ true → (a ≡ true) × (b ≡ true)
-both_true true b e = (refl, e)
-both_true false b e = absurd (cc)
-
-all_back : {X : Type 0} (p : X → Bool) (xs ys : List X) → list_all p (xs ++ ys) ≡ true → list_all p ys ≡ true
-all_back p xs ys e = (both_true (list_all p xs) (list_all p ys) (sym (list_all-append p xs ys) ∙ e)).1
-
-all_front : {X : Type 0} (p : X → Bool) (xs ys : List X) → list_all p (xs ++ ys) ≡ true → list_all p xs ≡ true
-all_front p xs ys e = (both_true (list_all p xs) (list_all p ys) (sym (list_all-append p xs ys) ∙ e)).0
 
 -- the symbols of a tree lead from the start to its end
 
@@ -277,7 +260,7 @@ on_by : (p : Place) (s : Symbol) (q : Place) → step p s ≡ Some q → is_spel
 on_by p s q e spelled on = record {
   rest = s ∷ on.rest;
   tables = on.tables;
-  spelled = all_more is_spelled s on.rest spelled on.spelled;
+  spelled = and_from _ _ spelled on.spelled;
   whole =
     ap (λ front. front ++ End ∷ []) (sym (append_assoc (before p) (s ∷ []) on.rest) ∙ ap (λ front. front ++ on.rest) (sym (step_read p s q e)))
     ∙ on.whole }
@@ -353,7 +336,7 @@ goes_on (WantsColumn tables name columns) e = from_wants tables name columns
 goes_on (Within tables name columns last) e = from_column tables name columns last
 goes_on (AfterColumns tables name columns last) e = from_columns tables name columns last
 goes_on (Ended tables) e =
-    let h : list_all is_spelled (End ∷ []) ≡ true = all_back is_spelled (flat_map spell_table tables) (End ∷ []) e in absurd (cc)
+    absurd (no_end_inside (flat_map spell_table tables) [] e)
 
 -- what was read is what led to a place
 
@@ -442,48 +425,14 @@ more_taken [] k x e = absurd (cc)
 more_taken (y ∷ ys) zero x e = ap (λ head. head ∷ []) (unSome e)
 more_taken (y ∷ ys) (suc k) x e = ap (λ tail. y ∷ tail) (more_taken ys k x e)
 
--- a shorter front is a front of a longer one
-front_of_front : {X : Type 0} (j k : ℕ) (xs : List X) → j ≤ k → take j xs ++ drop j (take k xs) ≡ take k xs
-front_of_front zero k xs h = refl
-front_of_front (suc j) zero xs h = absurd (omega arith)
-front_of_front (suc j) (suc k) [] h = refl
-front_of_front (suc j) (suc k) (x ∷ xs) h = ap (λ tail. x ∷ tail) (front_of_front j k xs (omega arith))
-
-viable_front : {Tree : Type 0} (spell : Tree → List Symbol) (xs ys : List Symbol) → IsViable spell (xs ++ ys) → IsViable spell xs
-viable_front spell xs ys v = record {
-  text = v.text;
-  tree = v.tree;
-  spells = v.spells;
-  rest = ys ++ v.rest;
-  begins = sym (append_assoc xs ys v.rest) ∙ v.begins }
-
--- no fault stands before another
-fault_not_before : {Tree : Type 0} (spell : Tree → List Symbol) (given : List Symbol) (j k : ℕ)
-    → IsFault spell given j → IsFault spell given k → j < k → ⊥
-fault_not_before spell given j k f g h =
-    f.dead (viable_front spell (take (j + 1) given) (drop (j + 1) (take k given))
-        (subst (IsViable spell) (sym (front_of_front (j + 1) k given (omega arith))) g.viable))
-
-one_place : {Tree : Type 0} (spell : Tree → List Symbol) (given : List Symbol) (j k : ℕ) → IsFault spell given j → IsFault spell given k → j ≡ k
-one_place spell given j k f g =
-    let a : j < k → ⊥ = fault_not_before spell given j k f g in
-    let b : k < j → ⊥ = fault_not_before spell given k j g f in
-    omega arith
-
 pub one_syntax_fault : {Tree : Type 0} (spell : Tree → List Symbol) (text : List ℕ) (a b : ℕ) → IsSyntaxFault spell text a → IsSyntaxFault spell text b → a ≡ b
 one_syntax_fault spell text a b f g =
-    let h : f.place ≡ g.place = one_place spell (symbols text) f.place g.place f.fault g.fault in
+    let h : f.place ≡ g.place = one_fault spell (symbols text) f.place g.place f.fault g.fault in
     unSome (sym f.offset ∙ (ap (offset_of text) h ∙ g.offset))
 
 -- a text of the grammar has no fault
 pub no_syntax_fault : {Tree : Type 0} (spell : Tree → List Symbol) (text : List ℕ) (tree : Tree) (at : ℕ) → Spells spell text tree → IsSyntaxFault spell text at → ⊥
-no_syntax_fault spell text tree at e f =
-    f.fault.dead (record {
-      text = text;
-      tree = tree;
-      spells = e;
-      rest = drop (f.place + 1) (symbols text);
-      begins = take-append-drop (f.place + 1) (symbols text) })
+no_syntax_fault spell text tree at e f = no_fault spell text tree f.place e f.fault
 
 -- the law
 
@@ -516,3 +465,81 @@ last_leads : (o : Option Place) (q : Place) → run o (End ∷ []) ≡ Some q �
 unfolding run
 last_leads None q e = absurd (cc)
 last_leads (Some p) q e = last_by p q (step p End) refl e
+
+never_exhausts : (text : List ℕ) → Exhausts (Between []) (tokens text) → ⊥
+never_exhausts text h =
+    let b = before_end text in
+    let led : run (Some (Between [])) (b.0 ++ End ∷ []) ≡ Some h.place = ap (run (Some (Between []))) (sym b.1.whole) ∙ h.led in
+    let last = last_leads (run (Some (Between [])) b.0) h.place (sym (run_append (Some (Between [])) b.0 (End ∷ [])) ∙ led) in
+    h.open_end last.0 last.1
+
+-- what was read up to the token that led nowhere, and that token
+read_to : (text : List ℕ) (at : ℕ) (h : Stops (Between []) (tokens text) at)
+    → take (h.count + 1) (symbols text) ≡ take h.count (symbols text) ++ h.token.symbol ∷ []
+read_to text at h =
+    ap (λ n. take n (symbols text)) (add-one h.count)
+    ∙ more_taken (symbols text) h.count h.token.symbol (slice_get-map symbol_of (tokens text) h.count ∙ ap (option_map symbol_of) h.here)
+
+leads_nowhere : (text : List ℕ) (at : ℕ) (h : Stops (Between []) (tokens text) at) (rest : List Symbol)
+    → run (Some (Between [])) (take (h.count + 1) (symbols text) ++ rest) ≡ None
+unfolding run
+leads_nowhere text at h rest =
+    ap (λ front. run (Some (Between [])) (front ++ rest)) (read_to text at h)
+    ∙ (ap (run (Some (Between []))) (append_assoc (take h.count (symbols text)) (h.token.symbol ∷ []) rest)
+    ∙ (run_append (Some (Between [])) (take h.count (symbols text)) (h.token.symbol ∷ rest)
+    ∙ (ap (λ o. run o (h.token.symbol ∷ rest)) h.led
+    ∙ (ap (λ o. run o rest) h.refused ∙ run_none rest))))
+
+no_tree : (tables : SchemaText) (xs : List Symbol) → run (Some (Between [])) xs ≡ None → xs ≡ spelling tables → ⊥
+no_tree tables xs e h =
+    let l : run (Some (Between [])) xs ≡ Some (Ended tables) = ap (run (Some (Between []))) h ∙ leads tables in absurd (cc)
+
+is_dead : (text : List ℕ) (at : ℕ) (h : Stops (Between []) (tokens text) at) → IsViable spelling (take (h.count + 1) (symbols text)) → ⊥
+is_dead text at h v = no_tree v.tree (take (h.count + 1) (symbols text) ++ v.rest) (leads_nowhere text at h v.rest) (v.begins ∙ v.spells)
+
+is_within : (text : List ℕ) (at : ℕ) (h : Stops (Between []) (tokens text) at) → h.count < length (symbols text)
+is_within text at h = slice_get_within (symbols text) h.count h.token.symbol (slice_get-map symbol_of (tokens text) h.count ∙ ap (option_map symbol_of) h.here)
+
+is_viable : (text : List ℕ) (at : ℕ) (h : Stops (Between []) (tokens text) at) → IsViable spelling (take h.count (symbols text))
+is_viable text at h =
+    let spelled = spelled_before text h.count (is_within text at h) in
+    let read : before h.place ≡ take h.count (symbols text) = run_read (Between []) (take h.count (symbols text)) h.place h.led in
+    let on = goes_on h.place (ap (list_all is_spelled) read ∙ spelled) in
+    subst (IsViable spelling) read
+        (viable_of spelling on.tables (before h.place) on.rest
+            (spelled_both (before h.place) on.rest (ap (list_all is_spelled) read ∙ spelled) on.spelled)
+            on.whole)
+
+is_syntax_fault : (text : List ℕ) (at : ℕ) → Stops (Between []) (tokens text) at → IsSyntaxFault spelling text at
+is_syntax_fault text at h = record {
+  place = h.count;
+  fault = record { within = is_within text at h; viable = is_viable text at h; dead = is_dead text at h };
+  offset = ap (option_map (λ (token : Token). token.at)) h.here ∙ ap Some h.offset }
+
+pub fault_found : (text : List ℕ) (at : ℕ) → syntax_of text ≡ Err at → IsSyntaxFault spelling text at
+unfolding Stopped
+fault_found text at e =
+    elim (fault_read (Some (Between [])) 0 (tokens text) at e) [
+      inl h ↦ is_syntax_fault text at h
+    | inr h ↦ absurd (never_exhausts text h) ]
+
+pub tree_found : (text : List ℕ) (tables : SchemaText) → syntax_of text ≡ Ok tables → Spells spelling text tables
+tree_found text tables e = sym (run_read (Between []) (symbols text) (Ended tables) (tree_read (Some (Between [])) 0 (tokens text) tables e))
+
+tree_given : (text : List ℕ) (tables : SchemaText) (answer : Result SchemaText ℕ) → syntax_of text ≡ answer → Spells spelling text tables → answer ≡ Ok tables
+tree_given text tables (Ok other) e h =
+    let a = tree_read (Some (Between [])) 0 (tokens text) other e in
+    let b : run (Some (Between [])) (symbols text) ≡ Some (Ended tables) = ap (run (Some (Between []))) h ∙ leads tables in
+    let c : Ended other ≡ Ended tables = unSome (sym a ∙ b) in
+    let d : other ≡ tables = cc in
+    ap Ok d
+tree_given text tables (Err at) e h = absurd (no_syntax_fault spelling text tables at h (fault_found text at e))
+
+fault_given : (text : List ℕ) (at : ℕ) (answer : Result SchemaText ℕ) → syntax_of text ≡ answer → IsSyntaxFault spelling text at → answer ≡ Err at
+fault_given text at (Ok tables) e h = absurd (no_syntax_fault spelling text tables at (tree_found text tables e) h)
+fault_given text at (Err other) e h = ap Err (one_syntax_fault spelling text other at (fault_found text other e) h)
+
+pub schema_places : SchemaPlacesAreExact
+schema_places = record {
+  tree = λ text tables. (tree_found text tables, tree_given text tables (syntax_of text) refl);
+  fault = λ text at. (fault_found text at, fault_given text at (syntax_of text) refl) }

@@ -9,12 +9,19 @@ use Rattle.ghost_model.specs.Channel.{Catalog, Ask, Frame, Hello, Asking, More, 
 use Rattle.ghost_model.specs.Catalog.{catalog_bytes}
 use Rattle.ghost_model.specs.Frames.{Got, Found, Short, Bad, got_of, frame_bytes, kind_of, most_payload}
 use Rattle.ghost_model.specs.Asks.{ReplyRow, row_bytes, row_width, ask_in}
+use Rattle.ghost_model.specs.Split.{Public, visible_rows, reply_row}
 use Rattle.ghost_model.specs.NextMove.{InvalidFrame}
 
 -- what a host holds, as far as the channel goes: its catalog, and for each ask the rows that meet it, ascending
 pub record Holding : Type 0 where
   pub catalog : Catalog
   pub rows : Ask → List ReplyRow
+
+-- the host of a public part: it replies with the rows that meet an ask
+abbrev pub host_of : Catalog → Public → Holding
+host_of catalog public = record {
+  catalog = catalog;
+  rows = λ ask. map (reply_row catalog.schema ask) (visible_rows catalog.schema public ask) }
 
 -- so many groups of a list, each of `most` elements but the last
 unfoldable pub groups_from : {X : Type 0} → (most count : ℕ) → List X → List (List X)

@@ -2,13 +2,14 @@
 -- which the files are read: file by file, in a file record by record, in a record first its number, then the number of
 -- its fields, then field by field; the foreign keys come after all files, by table, record and column. Only the first
 -- fault is ever answered, so after a broken rule the list may say anything.
-use Rattle.std.specs.Prelude.{◌≡◌, ℕ, zero, suc, ◌+◌, ℤ, pos, Bool, true, false, not, ◌==◌, nat_le, List, [], ◌∷◌, ◌++◌, length, map, Option, Some, None, bytes_eq, Result, Ok, Err, is_some}
+use Rattle.std.specs.Prelude.{◌≡◌, ℕ, zero, suc, ◌+◌, ℤ, pos, Bool, true, false, not, ◌==◌, nat_le, List, [], ◌∷◌, ◌++◌, length, map, Option, Some, None, bytes_eq, Result, Ok, Err, is_some, IsTrue}
+use Rattle.std.specs.List.{list_all}
 use Rattle.std.specs.Cmp.Lexicographic.{pointwise}
 use Rattle.std.specs.Ordering.{int_eq}
 use Rattle.ghost_model.specs.Schema.{Schema, Table, Column, Kind, Integer, Chars, first_of}
 use Rattle.ghost_model.specs.Tokens.{in_lower_case}
 use Rattle.ghost_model.specs.Values.{Value, Row, Rows, Database}
-use Rattle.ghost_model.specs.Database.{is_text, is_row_among, row_count, records_of, integer_of, database_of}
+use Rattle.ghost_model.specs.Database.{is_text, is_row_among, row_count, records_of, integer_of, database_of, IsDatabase}
 
 -- a table by its place, a record by its number in the file from 1, and a column; 0 where none applies
 pub record Place : Type 0 where
@@ -146,3 +147,17 @@ TellsFirst (Some fault) faults = IsFirst fault faults
 abbrev pub Judges : {T E : Type 0} → (told : E → Option LoadFault) → Result T E → List LoadFault → Type 0
 Judges told (Ok _) faults = faults ≡ []
 Judges told (Err error) faults = TellsFirst (told error) faults
+
+abbrev pub is_integer : Kind → Bool
+is_integer Integer = true
+is_integer (Chars _) = false
+
+abbrev pub begins_with_integer : List Column → Bool
+begins_with_integer [] = false
+begins_with_integer (column ∷ _) = is_integer column.kind
+
+-- files that keep every rule spell a database, one file for each table; the first column of a table is its identifier
+abbrev pub FilesSpellADatabase : Type 0
+FilesSpellADatabase =
+    (schema : Schema) (files : List (List ℕ)) → IsTrue (list_all (λ table. begins_with_integer table.columns) schema)
+    → length files ≡ length schema → load_faults schema files ≡ [] → IsDatabase schema (database_of schema files)

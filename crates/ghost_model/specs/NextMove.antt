@@ -11,7 +11,7 @@ use Rattle.ghost_model.specs.Schema.{Schema, Kind, is_empty}
 use Rattle.ghost_model.specs.Cells.{cell_width, decode_cell}
 use Rattle.ghost_model.specs.Channel.{Catalog, Ask, Frame, Hello, Asking, More, Bye, Welcome, Replied, Done, Sorry, Move, Dial, Send, Take, Close, Listen, Accept, Answer, Made, Port, Piece, End, Failed, Entry, Journal}
 use Rattle.ghost_model.specs.Catalog.{catalog_bytes}
-use Rattle.ghost_model.specs.Frames.{frame_bytes, frame_in, frame_version, version_in, kind_in, size_in, serial_in, most_payload}
+use Rattle.ghost_model.specs.Frames.{AreBytes, frame_bytes, frame_in, frame_version, version_in, kind_in, size_in, serial_in, most_payload}
 use Rattle.ghost_model.specs.Asks.{Asked, asked_of, ReplyRow, ask_payload, kinds_of, row_width, rows_in}
 use Rattle.ghost_model.specs.Moves.{taken, sent, moves, answers, piece_of, sent_by}
 
@@ -327,3 +327,15 @@ TwoWorlds =
     (catalog : Catalog) (at : List ℕ) (texts : List (List ℕ)) (first second : Journal) (i : ℕ)
     → IsProper catalog at texts first → IsProper catalog at texts second → i < length first → i < length second
     → answers (take i first) ≡ answers (take i second) → moves (take (i + 1) first) ≡ moves (take (i + 1) second)
+
+-- received bytes are the spellings of the valid frames, joined, and the part of the frame at hand; where that frame is
+-- invalid, bytes may follow it
+pub record IsSpelled (received : List ℕ) (heard : Heard) : Type 0 where
+  pub rest : List ℕ
+  pub spelled : received ≡ flat_map frame_bytes heard.frames ++ (heard.part ++ rest)
+  pub nothing_more : heard.broken ≡ false → rest ≡ []
+
+abbrev pub ReceivedIsSpelled : Type 0
+ReceivedIsSpelled =
+    (catalog : Catalog) (asks : List Asked) (received : List ℕ) → AreBytes received
+    → IsSpelled received (heard catalog asks received)

@@ -1,12 +1,25 @@
 //! Laws and examples of frames, asks, journals and of what the host sends.
 
-ghost use Rattle.ghost_model.specs.Frames.{FramesArePrefixFree};
-ghost use Rattle.ghost_model.specs.NextMove.{TwoWorlds};
+ghost use Rattle.ghost_model.specs.Frames.{FramesArePrefixFree, FramesHaveOneSpelling};
+ghost use Rattle.ghost_model.specs.NextMove.{TwoWorlds, ReceivedIsSpelled};
 ghost use Rattle.ghost_model.specs.examples.Channel.{SpellingsOfFrames, ReadingsOfFrames, JournalOfTheNotes, AsksOfQueries, AsksOfBytes, JournalOfTheClinic, JournalWithoutAsks, InvalidFrames, FramesThatAreDue, AnswersOfTheHost};
 
 /// No frame's spelling is a proper prefix of another's.
 pub fn frames_are_prefix_free()
     ensures { FramesArePrefixFree }
+{
+}
+
+/// Reading and spelling are inverse: a frame is found where bytes begin with its spelling, whatever follows, and nothing
+/// else is found.
+pub fn frames_have_one_spelling()
+    ensures { FramesHaveOneSpelling }
+{
+}
+
+/// Received bytes are the spellings of the frames that the key heard, joined, and the part of the frame at hand.
+pub fn received_bytes_are_frames()
+    ensures { ReceivedIsSpelled }
 {
 }
 

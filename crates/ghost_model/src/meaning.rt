@@ -1,6 +1,8 @@
 //! Laws and examples of databases, of their files, of the two parts of a database and of a query's meaning.
 
+ghost use Rattle.ghost_model.specs.LoadFaults.{FilesSpellADatabase};
 ghost use Rattle.ghost_model.specs.Split.{SplitIsRejoined};
+ghost use Rattle.ghost_model.specs.Meaning.{OneRowEach};
 ghost use Rattle.ghost_model.specs.examples.Databases.{ClinicIsSpelled, IntegersOfFields, RecordsOfFiles, HeadersOfFiles, OneRuleBroken, TwoRulesBroken};
 ghost use Rattle.ghost_model.specs.examples.Meaning.{PartsOfTheClinic, AnswersOfTheClinic, RefusedTexts, LinesOfRows};
 
@@ -67,5 +69,17 @@ pub fn refused_texts()
 /// The lines of some rows.
 pub fn lines_of_rows()
     ensures { LinesOfRows }
+{
+}
+
+/// Files that keep every rule of loading spell a database.
+pub fn files_spell_a_database()
+    ensures { FilesSpellADatabase }
+{
+}
+
+/// An accepted query has at most one row in its answer for each row of its top table.
+pub fn one_row_each()
+    ensures { OneRowEach }
 {
 }

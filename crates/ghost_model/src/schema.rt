@@ -1,6 +1,20 @@
 //! Laws and examples of schemas and the texts that declare them.
 
+ghost use Rattle.ghost_model.specs.SchemaPlaces.{SchemaPlacesAreExact};
+ghost use Rattle.ghost_model.specs.SchemaFaults.{OneSchemaReading};
 ghost use Rattle.ghost_model.specs.examples.Schemas.{SchemasOfTexts, SyntaxFaultsOfSchemas, LimitsOfSchemas, NamesOfSchemas, TreesOfSchemas};
+
+/// The places between the tokens of a schema's text say of each text what the grammar says.
+pub fn schema_places_are_exact()
+    ensures { SchemaPlacesAreExact }
+{
+}
+
+/// Each text means one schema or has one fault.
+pub fn one_schema_reading()
+    ensures { OneSchemaReading }
+{
+}
 
 /// The schemas that some texts mean.
 pub fn schemas_of_texts()

@@ -10,8 +10,9 @@ use Rattle.ghost_model.specs.Moves.{lines}
 use Rattle.ghost_model.specs.NextMove.{IsProper, IsFinished, InvalidFrame, invalid_frame, heard, due, Answered, Refused, Ended, ended}
 use Rattle.ghost_model.specs.Frames.{frame_bytes, kind_of, payload_of, Got, got_of, Found, Short, Bad}
 use Rattle.ghost_model.specs.Catalog.{catalog_bytes}
-use Rattle.ghost_model.specs.Host.{Holding, host_says, bad_request}
-use Rattle.ghost_model.specs.examples.Clinic.{clinic_schema, clinic_catalog, note_schema, note_catalog}
+use Rattle.ghost_model.specs.Host.{Holding, host_of, host_says, bad_request}
+use Rattle.ghost_model.specs.Split.{public_of}
+use Rattle.ghost_model.specs.examples.Clinic.{clinic, clinic_schema, clinic_catalog, note_schema, note_catalog}
 
 abbrev pub bytes_or_none : Result (List ℕ) FromHexError → List ℕ
 bytes_or_none (Ok bytes) = bytes
@@ -44,6 +45,10 @@ pub record SpellingsOfFrames : Type 0 where
   pub done : spelled (Done 1 2) ≡ codes "130100040000000100000002"
   pub sorry : spelled (Sorry 1 1) ≡ codes "140100010000000101"
   pub short_ask : spelled topic_ask ≡ codes "0201000900000001000001010161000000"
+  pub ask_of_a_column : spelled (Asking 1 (hex (codes "02010100"))) ≡ codes "020100040000000102010100"
+  pub ask_of_a_column_and_a_condition :
+    spelled (Asking 1 (hex (codes "0201010101068000000000000002"))) ≡ codes "0201000e000000010201010101068000000000000002"
+  pub done_of_no_row : spelled (Done 1 0) ≡ codes "130100040000000100000000"
   pub welcome : encode_lower (take 9 (frame_bytes (Welcome 1 (catalog_bytes clinic_catalog)))) ≡ codes "1101016e0000000001"
 
 -- what bytes in hexadecimal amount to that begin with a frame
@@ -324,12 +329,8 @@ pub record FramesThatAreDue : Type 0 where
     due clinic_catalog cardio_asks (after_welcome (codes "130100040000000100000001130100040000000100000000"))
     ≡ Hello 1 ∷ Asking 1 cardio_payload ∷ []
 
-abbrev pub cardio_row : ℕ → ReplyRow
-cardio_row identifier = record { identifier = identifier; cells = hex (codes "63617264696f0000") }
-
--- the clinic's host, whose cardiologists are doctors 1 and 3
 abbrev pub clinic_host : Holding
-clinic_host = record { catalog = clinic_catalog; rows = λ ask. cardio_row 1 ∷ cardio_row 3 ∷ [] }
+clinic_host = host_of clinic_catalog (public_of clinic_schema clinic)
 
 -- a host that holds so many notes of which no cell is asked for
 abbrev pub counting : (identifier : ℕ) (count : ℕ) → List ReplyRow
@@ -350,6 +351,9 @@ pub record AnswersOfTheHost : Type 0 where
   pub a_session :
     host_says clinic_host (key_bytes (Hello 1 ∷ cardio_ask ∷ More 1 ∷ Bye ∷ []))
     ≡ Welcome 1 (catalog_bytes clinic_catalog) ∷ cardio_rows ∷ Done 1 2 ∷ []
+  pub conditions_are_met :
+    host_says clinic_host (key_bytes (Hello 1 ∷ Asking 1 (hex (codes "0201010101068000000000000006")) ∷ More 1 ∷ Bye ∷ []))
+    ≡ Welcome 1 (catalog_bytes clinic_catalog) ∷ Replied 1 (hex (codes "000000038000000000000009")) ∷ Done 1 1 ∷ []
   pub another_generation : host_says clinic_host (key_bytes (Hello 7 ∷ [])) ≡ Welcome 1 (catalog_bytes clinic_catalog) ∷ []
   pub no_row :
     map shape_of (host_says (note_host 0) (key_bytes (Hello 1 ∷ topic_ask ∷ Bye ∷ []))) ≡ (17 ∷ 101 ∷ []) ∷ (19 ∷ 4 ∷ []) ∷ []
