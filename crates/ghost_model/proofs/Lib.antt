@@ -3,6 +3,7 @@ mod TextLemmas
 mod GrammarLemmas
 mod SchemaLemmas
 mod SchemaRuleLemmas
+mod SchemaTreeLemmas
 mod QueryLemmas
 mod QueryReadingLemmas
 mod ChannelLemmas
