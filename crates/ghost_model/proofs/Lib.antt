@@ -1,9 +1,9 @@
-mod TokenLemmas
+pub mod TokenLemmas
 mod TextLemmas
 mod GrammarLemmas
 mod SchemaLemmas
-mod SchemaRuleLemmas
+pub mod SchemaRuleLemmas
 mod QueryLemmas
-mod QueryReadingLemmas
+pub mod QueryReadingLemmas
 mod ChannelLemmas
 mod MeaningLemmas
