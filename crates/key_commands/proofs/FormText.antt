@@ -166,3 +166,82 @@ of_line form text wanted p plain (inr lacks) =
 pub one_text : (form : Form) (text wanted : List ℕ) → is_form form ≡ true → SpellsScript form text wanted → texts_of text ≡ query_text form wanted ∷ []
 one_text form text wanted e spells =
     of_line form text wanted (proper form e) ((and_parts _ (list_all is_plain wanted) spells.proper).1) spells.line
+
+-- a space at the end of a text changes none of its tokens
+
+while_same : (p : ℕ → Bool) (bs : List ℕ) → p 32 ≡ false → take_while p (bs ++ 32 ∷ []) ≡ take_while p bs
+while_same p [] stops = take_while-cons p 32 [] ∙ ap (λ v. cond v (32 ∷ take_while p []) []) stops
+while_same p (b ∷ bs) stops =
+    take_while-cons p b (bs ++ 32 ∷ [])
+    ∙ (ap (λ (xs : List ℕ). cond (p b) (b ∷ xs) []) (while_same p bs stops) ∙ sym (take_while-cons p b bs))
+
+either : {A : Type 0} (test : Bool) (x y z w : A) → x ≡ z → y ≡ w → (if test then x else y) ≡ (if test then z else w)
+either true x y z w p q = p
+either false x y z w p q = q
+
+quoted_same : (ended : Bool) (value : List ℕ) (count : ℕ) (bs : List ℕ) → quoted_from ended value count (bs ++ 32 ∷ []) ≡ quoted_from ended value count bs
+unfolding quoted_from
+quoted_same true value count [] = refl
+quoted_same false value count [] = refl
+quoted_same true value count (b ∷ bs) = either (b == 39) _ _ _ _ (quoted_same false (value ++ b ∷ []) (count + 1) bs) refl
+quoted_same false value count (b ∷ bs) =
+    either (b == 39) _ _ _ _ (quoted_same true value (count + 1) bs)
+    (either (is_printable b) _ _ _ _ (quoted_same false (value ++ b ∷ []) (count + 1) bs) refl)
+
+less_same : (bs : List ℕ) → less_and (bs ++ 32 ∷ []) ≡ less_and bs
+less_same [] = refl
+less_same (b ∷ bs) = refl
+
+more_same : (bs : List ℕ) → more_and (bs ++ 32 ∷ []) ≡ more_and bs
+more_same [] = refl
+more_same (b ∷ bs) = refl
+
+token_same : (b : ℕ) (bs : List ℕ) → token_at b (bs ++ 32 ∷ []) ≡ token_at b bs
+token_same b bs =
+    either (begins_name b) _ _ _ _ (ap word_at (while_same is_name_byte (b ∷ bs) refl))
+    (either (is_digit b) _ _ _ _ (ap digits_at (while_same is_digit (b ∷ bs) refl))
+    (either (b == 39) _ _ _ _ (quoted_same false [] 1 bs)
+    (either (b == 60) _ _ _ _ (less_same bs) (either (b == 62) _ _ _ _ (more_same bs) refl))))
+
+space_at_end : (left at : ℕ) (bs : List ℕ) → map symbol_of (tokens_from left at (bs ++ 32 ∷ [])) ≡ map symbol_of (tokens_from left at bs)
+unfolding tokens_from
+space_at_end zero at [] = refl
+space_at_end (suc left) at [] = refl
+space_at_end (suc left) at (b ∷ bs) = space_at_end left (at + 1) bs
+space_at_end zero at (b ∷ bs) =
+    let spaced = space_at_end zero (at + 1) bs in
+    let token =
+    ap (λ (r : Read). r.symbol ∷ map symbol_of (tokens_from (r.bytes - 1) (at + 1) (bs ++ 32 ∷ []))) (token_same b bs)
+    ∙ ap (λ (xs : List Symbol). (token_at b bs).symbol ∷ xs) (space_at_end ((token_at b bs).bytes - 1) (at + 1) bs) in
+    elim (is_space b) as (λ v.
+    map symbol_of (if v then tokens_from zero (at + 1) (bs ++ 32 ∷ [])
+    else record { symbol = (token_at b (bs ++ 32 ∷ [])).symbol; at = at } ∷ tokens_from ((token_at b (bs ++ 32 ∷ [])).bytes - 1) (at + 1) (bs ++ 32 ∷ []))
+    ≡ map symbol_of (if v then tokens_from zero (at + 1) bs else record { symbol = (token_at b bs).symbol; at = at } ∷ tokens_from ((token_at b bs).bytes - 1) (at + 1) bs))
+    [ true ↦ spaced | false ↦ token ]
+
+-- a text that is spelled but for the space at its end
+pub spelled_but_space : (xs : List Symbol) (text : List ℕ) → list_all is_spelled xs ≡ true → text ++ 32 ∷ [] ≡ text_of xs → symbols text ≡ xs ++ End ∷ []
+spelled_but_space xs text e same = sym (space_at_end 0 0 text) ∙ (ap symbols same ∙ spelled_text xs e)
+
+-- what stands in a literal without a `'` stands there as it is
+as_it_is : (value : List ℕ) → list_all is_no_quote value ≡ true → flat_map inside_literal value ≡ value
+as_it_is [] e = refl
+as_it_is (b ∷ bs) e =
+    let both = and_parts (is_no_quote b) (list_all is_no_quote bs) e in
+    ap (λ v. (if v then 39 ∷ 39 ∷ [] else b ∷ []) ++ flat_map inside_literal bs) (not-true _ both.0) ∙ ap (λ (xs : List ℕ). b ∷ xs) (as_it_is bs both.1)
+
+abbrev query_symbols : Form → List ℕ → List Symbol
+query_symbols form wanted =
+    Word Select ∷ Name form.secret ∷ Word From ∷ Name form.table ∷ Word Where ∷ Name form.shown ∷ Equal ∷ Quoted wanted ∷ []
+
+written : (form : Form) (wanted : List ℕ) → list_all is_no_quote wanted ≡ true → query_text form wanted ++ 32 ∷ [] ≡ text_of (query_symbols form wanted)
+written form wanted e = simp (as_it_is wanted e, append_assoc)
+
+pub query_spelled : (form : Form) (wanted : List ℕ) → is_form form ≡ true → is_wanted form wanted ≡ true → symbols (query_text form wanted) ≡ query_symbols form wanted ++ End ∷ []
+query_spelled form wanted e w =
+    let p = proper form e in
+    let plain = (and_parts _ (list_all is_plain wanted) w).1 in
+    spelled_but_space (query_symbols form wanted) (query_text form wanted)
+    (and_from _ _ refl (and_from _ _ p.secret_name (and_from _ _ refl (and_from _ _ p.table_name (and_from _ _ refl (and_from _ _ p.shown_name
+    (and_from _ _ refl (and_from _ _ (all_weaker is_plain is_printable plain_is_printable wanted plain) refl))))))))
+    (written form wanted (all_weaker is_plain is_no_quote plain_is_no_quote wanted plain))
