@@ -1,1 +1,2 @@
 mod FormText
+mod FormLemmas
