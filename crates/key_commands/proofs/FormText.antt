@@ -79,6 +79,9 @@ plain_is_no_quote b e = (and_parts (is_printable b) (not (b == 39)) e).1
 plain_is_printable : (b : ℕ) → is_plain b ≡ true → is_printable b ≡ true
 plain_is_printable b e = (and_parts (is_printable b) (not (b == 39)) e).0
 
+pub plain_printable : (wanted : List ℕ) → list_all is_plain wanted ≡ true → list_all is_printable wanted ≡ true
+plain_printable wanted e = all_weaker is_plain is_printable plain_is_printable wanted e
+
 -- the facts that a form has
 pub record Proper (form : Form) : Type 0 where
   pub table_name : is_name form.table ≡ true
@@ -243,5 +246,5 @@ query_spelled form wanted e w =
     let plain = (and_parts _ (list_all is_plain wanted) w).1 in
     spelled_but_space (query_symbols form wanted) (query_text form wanted)
     (and_from _ _ refl (and_from _ _ p.secret_name (and_from _ _ refl (and_from _ _ p.table_name (and_from _ _ refl (and_from _ _ p.shown_name
-    (and_from _ _ refl (and_from _ _ (all_weaker is_plain is_printable plain_is_printable wanted plain) refl))))))))
+    (and_from _ _ refl (and_from _ _ (plain_printable wanted plain) refl))))))))
     (written form wanted (all_weaker is_plain is_no_quote plain_is_no_quote wanted plain))

@@ -1,2 +1,3 @@
 mod FormText
 mod FormLemmas
+mod FormAnswers

@@ -9,9 +9,9 @@ use Rattle.ghost_model.specs.Cells.{padded}
 use Rattle.ghost_model.specs.Channel.{Ask}
 use Rattle.ghost_model.specs.Texts.{texts_of}
 use Rattle.ghost_model.specs.QueryReading.{reading}
-use Rattle.ghost_model.specs.Asks.{asked_of, asked, ask_payload, row_width, kinds_of}
+use Rattle.ghost_model.specs.Asks.{asked_of, asked, ask_payload, row_width, kinds_of, is_proper_ask}
 use Rattle.ghost_model.specs.Meaning.{answer, compares}
-use Rattle.ghost_model.specs.Printed.{printed, count_line}
+use Rattle.ghost_model.specs.Printed.{printed, row_line, count_line}
 use Rattle.ghost_model.specs.Split.{Replied, public_of, visible_rows}
 use Rattle.key_commands.specs.Form.{Form, is_form, is_wanted, form_schema, form_query, query_text, SpellsScript}
 
@@ -26,3 +26,56 @@ abbrev pub OneMeaning : Type 0
 OneMeaning =
     (form : Form) (wanted : List ℕ) → is_form form ≡ true → is_wanted form wanted ≡ true
     → reading (form_schema form) (query_text form wanted) ≡ Ok (form_query wanted)
+
+-- the ask of the query: the wanted text in the visible column, and no cells
+abbrev pub form_ask : List ℕ → Ask
+form_ask wanted = record {
+  table = 0;
+  columns = [];
+  tests = record { column = 1; operator = query.Equal; value = Text wanted } ∷ [] }
+
+abbrev pub form_payload : Form → List ℕ → List ℕ
+form_payload form wanted = 0 ∷ 0 ∷ 1 ∷ 1 ∷ 1 ∷ padded form.shown_most wanted
+
+-- a session with the text has one ask, of its text 1; its reply has identifiers alone
+pub record OneAsk : Type 0 where
+  pub one : (form : Form) (wanted : List ℕ) → is_form form ≡ true → is_wanted form wanted ≡ true → asked_of (form_schema form) (query_text form wanted ∷ []) ≡ asked 1 (form_ask wanted) ∷ []
+  pub payload : (form : Form) (wanted : List ℕ) → ask_payload (form_schema form) (form_ask wanted) ≡ form_payload form wanted
+  pub width : (form : Form) (wanted : List ℕ) → row_width (form_schema form) (form_ask wanted) ≡ 4
+  pub kinds : (form : Form) (wanted : List ℕ) → kinds_of (form_schema form) (form_ask wanted) ≡ []
+  pub proper : (form : Form) (wanted : List ℕ) → is_form form ≡ true → is_wanted form wanted ≡ true → is_proper_ask (form_schema form) (form_ask wanted) ≡ true
+
+-- whether a row's second value is the wanted text
+abbrev pub is_match : List ℕ → Row → Bool
+is_match wanted row = compares query.Equal (slice_get row 1) (Some (Text wanted))
+
+-- the third value of a row, as a row of one value
+abbrev pub secret_of : Row → Row
+secret_of row = option_to_list (slice_get row 2)
+
+-- the rows of the answer, for rows of the form's table
+abbrev pub answer_rows : List ℕ → Rows → Rows
+answer_rows wanted rows = map secret_of (filter (is_match wanted) rows)
+
+abbrev pub OneAnswer : Type 0
+OneAnswer =
+    (form : Form) (wanted : List ℕ) (rows : Rows)
+    → answer (form_schema form) (rows ∷ []) (form_query wanted) ≡ answer_rows wanted rows
+
+-- a line for each of these rows, and their number
+abbrev pub PrintedLines : Type 0
+PrintedLines =
+    (form : Form) (wanted : List ℕ) (rows : Rows) → is_form form ≡ true → is_wanted form wanted ≡ true
+    → printed (form_schema form) (query_text form wanted ∷ []) (rows ∷ [])
+    ≡ flat_map row_line (answer_rows wanted rows) ++ count_line 1 (length (answer_rows wanted rows))
+
+-- a row of a reply without cells
+abbrev pub bare_reply : ℕ → Replied
+bare_reply identifier = record { identifier = identifier; values = [] }
+
+-- the places of the same rows, from 1, are the identifiers that the ask is replied with
+abbrev pub IdentifiersReplied : Type 0
+IdentifiersReplied =
+    (form : Form) (wanted : List ℕ) (rows : Rows)
+    → visible_rows (form_schema form) (public_of (form_schema form) (rows ∷ [])) (form_ask wanted)
+    ≡ map bare_reply (places_from (is_match wanted) 1 rows)

@@ -1,6 +1,6 @@
 //! Laws of the one form of input: what the definitions give for it.
 
-ghost use Rattle.key_commands.specs.FormMeaning.{OneText, OneMeaning};
+ghost use Rattle.key_commands.specs.FormMeaning.{OneText, OneMeaning, OneAsk, OneAnswer, PrintedLines, IdentifiersReplied};
 
 /// A script of the form has one text, that of its query.
 pub fn one_text()
@@ -10,4 +10,24 @@ pub fn one_text()
 /// This text means the query of the form.
 pub fn one_meaning()
     ensures { OneMeaning }
+{}
+
+/// It makes one ask.
+pub fn one_ask()
+    ensures { OneAsk }
+{}
+
+/// Its answer has the third value of each row whose second value is the wanted text.
+pub fn one_answer()
+    ensures { OneAnswer }
+{}
+
+/// The printed lines are those of these rows and their number.
+pub fn printed_lines()
+    ensures { PrintedLines }
+{}
+
+/// The ask is replied with the identifiers of the same rows.
+pub fn identifiers_replied()
+    ensures { IdentifiersReplied }
 {}
