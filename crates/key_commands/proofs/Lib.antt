@@ -1,3 +1,4 @@
 mod FormText
 mod FormLemmas
 mod FormAnswers
+mod FormRows

@@ -1,7 +1,7 @@
 -- What the definitions of texts, meanings, asks and printed lines give for the one form of input. A script of the form
 -- has one text; this text means the query of the form and makes one ask; and the answer, the rows that the ask is
 -- replied with and the printed lines are those of the rows whose visible text is the wanted one, in their order.
-use Rattle.std.specs.Prelude.{◌≡◌, ℕ, ◌+◌, pos, Bool, true, List, [], ◌∷◌, ◌++◌, length, map, filter, flat_map, codes, bytes_eq, Option, Some, None, slice_get, option_to_list, Result, Ok, Err}
+use Rattle.std.specs.Prelude.{◌≡◌, ℕ, ◌+◌, pos, Bool, true, List, [], ◌∷◌, ◌++◌, length, map, filter, flat_map, codes, bytes_eq, Option, Some, None, slice_get, option_to_list, unwrap_or, ◌-◌, Result, Ok, Err}
 use Rattle.ghost_model.specs.Query as query
 use Rattle.ghost_model.specs.Values.{Number, Text, Row, Rows}
 use Rattle.ghost_model.specs.Schema.{places_from}
@@ -79,3 +79,37 @@ IdentifiersReplied =
     (form : Form) (wanted : List ℕ) (rows : Rows)
     → visible_rows (form_schema form) (public_of (form_schema form) (rows ∷ [])) (form_ask wanted)
     ≡ map bare_reply (places_from (is_match wanted) 1 rows)
+
+-- a row's second and third value are these texts
+pub record HasTexts (row : Row) (shown secret : List ℕ) : Type 0 where
+  pub second : slice_get row 1 ≡ Some (Text shown)
+  pub third : slice_get row 2 ≡ Some (Text secret)
+
+-- the rows have these texts, row by row
+unfoldable pub HaveTexts : Rows → (shown secret : List (List ℕ)) → Type 0
+HaveTexts [] [] [] = Unit {0}
+HaveTexts (row ∷ rows) (one ∷ shown) (other ∷ secret) = HasTexts row one other × HaveTexts rows shown secret
+HaveTexts _ _ _ = ⊥
+
+-- the rows, from 1, whose visible text is the wanted one
+abbrev pub matches : List ℕ → (shown : List (List ℕ)) → List ℕ
+matches wanted shown = places_from (λ text. bytes_eq text wanted) 1 shown
+
+-- the printed line of a hidden text, and that of the row with an identifier
+abbrev pub secret_line : List ℕ → List ℕ
+secret_line text = codes "> " ++ (text ++ 10 ∷ [])
+
+abbrev pub line_at : (secret : List (List ℕ)) → ℕ → List ℕ
+line_at secret identifier = secret_line (unwrap_or (slice_get secret (identifier - 1)) [])
+
+-- where the rows' texts are known, the ask is replied with the matches, and the printed lines are those of the matches
+pub record TextsOfRows : Type 0 where
+  pub replied :
+      (form : Form) (wanted : List ℕ) (rows : Rows) (shown secret : List (List ℕ)) → HaveTexts rows shown secret
+      → visible_rows (form_schema form) (public_of (form_schema form) (rows ∷ [])) (form_ask wanted)
+      ≡ map bare_reply (matches wanted shown)
+  pub printed_bytes :
+      (form : Form) (wanted : List ℕ) (rows : Rows) (shown secret : List (List ℕ)) → is_form form ≡ true
+      → is_wanted form wanted ≡ true → HaveTexts rows shown secret
+      → printed (form_schema form) (query_text form wanted ∷ []) (rows ∷ [])
+      ≡ flat_map (line_at secret) (matches wanted shown) ++ count_line 1 (length (matches wanted shown))

@@ -1,6 +1,6 @@
 //! Laws of the one form of input: what the definitions give for it.
 
-ghost use Rattle.key_commands.specs.FormMeaning.{OneText, OneMeaning, OneAsk, OneAnswer, PrintedLines, IdentifiersReplied};
+ghost use Rattle.key_commands.specs.FormMeaning.{OneText, OneMeaning, OneAsk, OneAnswer, PrintedLines, IdentifiersReplied, TextsOfRows};
 
 /// A script of the form has one text, that of its query.
 pub fn one_text()
@@ -30,4 +30,9 @@ pub fn printed_lines()
 /// The ask is replied with the identifiers of the same rows.
 pub fn identifiers_replied()
     ensures { IdentifiersReplied }
+{}
+
+/// Where the rows' texts are known, the ask is replied with the rows that match, and their lines are printed.
+pub fn texts_of_rows()
+    ensures { TextsOfRows }
 {}
