@@ -1,7 +1,7 @@
 pub mod TokenLemmas
 mod TextLemmas
 mod GrammarLemmas
-mod SchemaLemmas
+pub mod SchemaLemmas
 pub mod SchemaRuleLemmas
 mod QueryLemmas
 pub mod QueryReadingLemmas

@@ -1,10 +1,12 @@
 -- What the query of the form asks, answers and prints.
-use Rattle.std.proofs.Common.{◌≡◌, ℕ, ◌+◌, ◌-◌, Bool, true, false, not, ◌&&◌, ◌||◌, ◌==◌, cond, if◌then◌else◌, nat_le, List, [], ◌∷◌, ◌++◌, length, map, filter, Option, Some, None, Result, Ok, Err, refl, sym, ◌∙◌, ap, append-nil, append_assoc, length-append, arith, codes, bytes_eq, slice_get, drop, ◌≤◌, eq-eqb, is_some}
+use Rattle.std.proofs.Common.{◌≡◌, ℕ, ◌+◌, ◌-◌, Bool, true, false, not, ◌&&◌, ◌||◌, ◌==◌, cond, if◌then◌else◌, nat_le, List, [], ◌∷◌, ◌++◌, length, map, filter, Option, Some, None, Result, Ok, Err, refl, sym, ◌∙◌, ap, append-nil, append_assoc, length-append, arith, codes, bytes_eq, slice_get, take, drop, ◌≤◌, eq-eqb, is_some}
 use Rattle.std.specs.Prelude.{flat_map, filter_map, option_to_list, replicate}
 use Rattle.std.specs.List.{list_all, concat}
 use Rattle.std.proofs.lemmas.Bool.{and_parts, and_from, not-true, leb-true, le-leb}
 use Rattle.std.proofs.lemmas.List.{length-replicate}
 use Rattle.std.proofs.Math.Bool.{and-true}
+use Rattle.std.proofs.Math.Seq.{take-length}
+use Rattle.std.proofs.lemmas.Slice.Eq.{bytes_eq-Decides}
 use Rattle.ghost_model.specs.Schema.{Chars, places_from}
 use Rattle.ghost_model.specs.Tokens.{is_printable}
 use Rattle.ghost_base.proofs.TextCells.{padded_is_text_cell, text_of_padded}
@@ -15,7 +17,7 @@ use Rattle.ghost_model.specs.Cells.{padded, encode_cell, decode_cell, text_in, i
 use Rattle.ghost_model.specs.Channel.{Ask}
 use Rattle.ghost_model.specs.QueryMeaning.{Refusal}
 use Rattle.ghost_model.specs.QueryReading.{reading}
-use Rattle.ghost_model.specs.Asks.{Asked, asked_of, asked, asked_from, asks_of, ask_payload, row_width, kinds_of, is_proper_ask}
+use Rattle.ghost_model.specs.Asks.{Asked, asked_of, asked, asked_from, asks_of, ask_payload, row_width, kinds_of, is_proper_ask, ask_like, ask_in, tests_in, value_or_none}
 use Rattle.ghost_model.specs.Meaning.{Combination, choice, combinations, value_in, passes, projection, answer, answer_of_row, compares}
 use Rattle.ghost_model.specs.Printed.{printed, row_line, count_line, lines_of_reading}
 use Rattle.ghost_model.specs.Split.{Replied, Public, public_of, visible_rows, replies_from, visible_values, meets_tests}
@@ -51,6 +53,25 @@ pub form_ask_is_proper : (form : Form) (wanted : List ℕ) → is_wanted form wa
 form_ask_is_proper form wanted w =
     let both = and_parts (nat_le (length wanted) form.shown_most) (list_all is_plain wanted) w in
     ap (λ o. is_some o && true) (text_is_cell form.shown_most wanted (leb-true _ _ both.0) (plain_printable wanted both.1))
+
+-- its bytes are read as this ask
+as_read : (form : Form) (wanted : List ℕ) → is_wanted form wanted ≡ true → ask_like (form_schema form) (form_payload form wanted) ≡ form_ask wanted
+unfolding tests_in
+as_read form wanted w =
+    let both = and_parts (nat_le (length wanted) form.shown_most) (list_all is_plain wanted) w in
+    let short = leb-true (length wanted) form.shown_most both.0 in
+    let whole : take form.shown_most (padded form.shown_most wanted) ≡ padded form.shown_most wanted =
+    ap (λ n. take n (padded form.shown_most wanted)) (sym (padded_width form.shown_most wanted short)) ∙ take-length (padded form.shown_most wanted) in
+    let cell : decode_cell (Chars form.shown_most) (take form.shown_most (padded form.shown_most wanted)) ≡ Some (Text wanted) =
+    ap (decode_cell (Chars form.shown_most)) whole ∙ text_is_cell form.shown_most wanted short (plain_printable wanted both.1) in
+    ap (λ (o : Option Value). let a : Ask = record { table = 0; columns = []; tests = record { column = 1; operator = query.Equal; value = value_or_none o } ∷ [] } in a) cell
+
+pub form_ask_in : (form : Form) (wanted : List ℕ) → is_wanted form wanted ≡ true → ask_in (form_schema form) (form_payload form wanted) ≡ Some (form_ask wanted)
+form_ask_in form wanted w =
+    let payload = form_payload form wanted in
+    ap (λ (a : Ask). if is_proper_ask (form_schema form) a && bytes_eq (ask_payload (form_schema form) a) payload then Some a else None) (as_read form wanted w)
+    ∙ ap (λ v. if v then Some (form_ask wanted) else None)
+    (and_from _ _ (form_ask_is_proper form wanted w) ((bytes_eq-Decides _ _).1 (payload_of_form form wanted)))
 
 -- one row
 only_value : (o : Option Value) → filter_map (λ (x : Option Value). x) (o ∷ []) ≡ option_to_list o

@@ -2,3 +2,4 @@ mod FormText
 mod FormLemmas
 mod FormAnswers
 mod FormRows
+mod FormSchema

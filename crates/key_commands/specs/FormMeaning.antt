@@ -9,7 +9,9 @@ use Rattle.ghost_model.specs.Cells.{padded}
 use Rattle.ghost_model.specs.Channel.{Ask}
 use Rattle.ghost_model.specs.Texts.{texts_of}
 use Rattle.ghost_model.specs.QueryReading.{reading}
-use Rattle.ghost_model.specs.Asks.{asked_of, asked, ask_payload, row_width, kinds_of, is_proper_ask}
+use Rattle.ghost_model.specs.Asks.{asked_of, asked, ask_payload, row_width, kinds_of, is_proper_ask, ask_in}
+use Rattle.ghost_model.specs.Catalog.{canonical_text}
+use Rattle.ghost_model.specs.SchemaFaults.{MeansSchema}
 use Rattle.ghost_model.specs.Meaning.{answer, compares}
 use Rattle.ghost_model.specs.Printed.{printed, row_line, count_line}
 use Rattle.ghost_model.specs.Split.{Replied, public_of, visible_rows}
@@ -37,13 +39,15 @@ form_ask wanted = record {
 abbrev pub form_payload : Form → List ℕ → List ℕ
 form_payload form wanted = 0 ∷ 0 ∷ 1 ∷ 1 ∷ 1 ∷ padded form.shown_most wanted
 
--- a session with the text has one ask, of its text 1; its reply has identifiers alone
+-- a session with the text has one ask, of its text 1, which a key may send; its bytes are read as this ask, and its
+-- reply has identifiers alone
 pub record OneAsk : Type 0 where
   pub one : (form : Form) (wanted : List ℕ) → is_form form ≡ true → is_wanted form wanted ≡ true → asked_of (form_schema form) (query_text form wanted ∷ []) ≡ asked 1 (form_ask wanted) ∷ []
   pub payload : (form : Form) (wanted : List ℕ) → ask_payload (form_schema form) (form_ask wanted) ≡ form_payload form wanted
   pub width : (form : Form) (wanted : List ℕ) → row_width (form_schema form) (form_ask wanted) ≡ 4
   pub kinds : (form : Form) (wanted : List ℕ) → kinds_of (form_schema form) (form_ask wanted) ≡ []
   pub proper : (form : Form) (wanted : List ℕ) → is_form form ≡ true → is_wanted form wanted ≡ true → is_proper_ask (form_schema form) (form_ask wanted) ≡ true
+  pub taken : (form : Form) (wanted : List ℕ) → is_form form ≡ true → is_wanted form wanted ≡ true → ask_in (form_schema form) (form_payload form wanted) ≡ Some (form_ask wanted)
 
 -- whether a row's second value is the wanted text
 abbrev pub is_match : List ℕ → Row → Bool
@@ -113,3 +117,7 @@ pub record TextsOfRows : Type 0 where
       → is_wanted form wanted ≡ true → HaveTexts rows shown secret
       → printed (form_schema form) (query_text form wanted ∷ []) (rows ∷ [])
       ≡ flat_map (line_at secret) (matches wanted shown) ++ count_line 1 (length (matches wanted shown))
+
+-- the canonical text of a form's schema means this schema
+abbrev pub CanonicalText : Type 0
+CanonicalText = (form : Form) → is_form form ≡ true → MeansSchema (canonical_text (form_schema form)) (form_schema form)

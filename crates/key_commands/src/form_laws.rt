@@ -1,6 +1,6 @@
 //! Laws of the one form of input: what the definitions give for it.
 
-ghost use Rattle.key_commands.specs.FormMeaning.{OneText, OneMeaning, OneAsk, OneAnswer, PrintedLines, IdentifiersReplied, TextsOfRows};
+ghost use Rattle.key_commands.specs.FormMeaning.{OneText, OneMeaning, OneAsk, OneAnswer, PrintedLines, IdentifiersReplied, TextsOfRows, CanonicalText};
 
 /// A script of the form has one text, that of its query.
 pub fn one_text()
@@ -35,4 +35,9 @@ pub fn identifiers_replied()
 /// Where the rows' texts are known, the ask is replied with the rows that match, and their lines are printed.
 pub fn texts_of_rows()
     ensures { TextsOfRows }
+{}
+
+/// The canonical text of a form's schema means this schema.
+pub fn canonical_text_means_it()
+    ensures { CanonicalText }
 {}

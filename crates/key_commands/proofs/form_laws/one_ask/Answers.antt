@@ -1,5 +1,5 @@
 use Rattle.std.proofs.Common.{refl}
-use Rattle.key_commands.proofs.FormAnswers.{one_asked, payload_of_form, form_ask_is_proper}
+use Rattle.key_commands.proofs.FormAnswers.{one_asked, payload_of_form, form_ask_is_proper, form_ask_in}
 use Rattle.key_commands.proofs.form_laws.one_ask.Goals as goal
 
 pub returns : goal.returns
@@ -9,4 +9,5 @@ returns c = record {
   width = λ form wanted. refl;
   kinds = λ form wanted. refl;
   proper = λ form wanted e w. form_ask_is_proper form wanted w;
+  taken = λ form wanted e w. form_ask_in form wanted w;
 }
