@@ -15,7 +15,7 @@ use Rattle.ghost_model.specs.Spelled.{begins_as_name, is_reserved, is_name}
 use Rattle.ghost_model.specs.SchemaGrammar.{ColumnText, CharColumn, IntegerColumn, TableText, SchemaText, spelling}
 use Rattle.ghost_model.specs.SchemaPlaces.{syntax_of}
 use Rattle.ghost_model.specs.SchemaMeaning.{value_of_digits, schema_of}
-use Rattle.ghost_model.specs.SchemaFaults.{SchemaFault, is_over, duplicate_in, lacks_id, unknown_in, is_duplicate, is_unknown, is_shared, returns, ancestor, fields_from, fields, places_of, roots_of, wrong_roots, or_else, fault_of, judged, schema_reading, MeansSchema}
+use Rattle.ghost_model.specs.SchemaFaults.{SchemaFault, Limit, DuplicateName, NoId, TwoParents, Cycle, schema_or, is_over, duplicate_in, lacks_id, unknown_in, is_duplicate, is_unknown, is_shared, returns, ancestor, fields_from, fields, places_of, roots_of, wrong_roots, or_else, fault_of, judged, schema_reading, MeansSchema}
 use Rattle.ghost_model.specs.Catalog.{canonical_text}
 use Rattle.ghost_model.proofs.TokenLemmas.{kinds_anywhere, kinds_after, take_while_all, one_token}
 use Rattle.ghost_model.proofs.SchemaLemmas.{schema_places}
@@ -164,3 +164,77 @@ tables_mean : (form : Form) → Proper form → schema_of (form_tables form) ≡
 tables_mean form p =
     ap (λ n. form_schema (record form { shown_most = n; secret_most = value_of_digits (decimal form.secret_most) })) (value_right form.shown_most (few _ p.shown_greatest))
     ∙ ap (λ n. form_schema (record form { secret_most = n })) (value_right form.secret_most (few _ p.secret_greatest))
+
+-- the tree breaks no rule
+
+short_name : (name : List ℕ) → nat_le (length name) 32 ≡ true → nat_lt 32 (length name) ≡ false
+short_name name e = le-ltb 32 (length name) (leb-true (length name) 32 e)
+
+short_column : (name : List ℕ) (most : ℕ) (hidden : Bool) → nat_le (length name) 32 ≡ true → nat_le 1 most ≡ true → nat_le most 64 ≡ true
+    → (nat_lt 32 (length name) || not (is_between 1 64 (value_of_digits (decimal most)))) ≡ false
+short_column name most hidden short least greatest =
+    or_from _ _ (short_name name short)
+    (ap (λ n. not (is_between 1 64 n)) (value_right most (few most greatest)) ∙ ap not (and_from _ _ least greatest))
+
+not_over : (form : Form) → Proper form → is_over (form_tables form) ≡ false
+not_over form p =
+    or_from _ _ refl
+    (or_from _ _
+    (or_from _ _ (or_from _ _ (short_name form.table p.table_short) refl)
+    (or_from _ _ refl
+    (or_from _ _ (short_column form.shown form.shown_most false p.shown_short p.shown_least p.shown_greatest)
+    (or_from _ _ (short_column form.secret form.secret_most true p.secret_short p.secret_least p.secret_greatest) refl))))
+    refl)
+
+none_of_three : {X : Type 0} (test : X → Bool) (a b c : X) → test a ≡ false → test b ≡ false → test c ≡ false → find test (a ∷ b ∷ c ∷ []) ≡ None
+none_of_three test a b c p q r =
+    ap (λ v. cond v (Some a) (find test (b ∷ c ∷ []))) p ∙ (ap (λ v. cond v (Some b) (find test (c ∷ []))) q ∙ ap (λ v. cond v (Some c) None) r)
+
+abbrev at : ℕ → Field
+at column = record { table = 0; column = column }
+
+no_duplicate : (form : Form) → Proper form → duplicate_in (form_tables form) ≡ None
+unfolding fields_from places_from
+no_duplicate form p =
+    ap (λ (o : Option Field). option_map (λ (found : Field). DuplicateName found.table found.column) o)
+    (none_of_three (is_duplicate (form_tables form)) (at 0) (at 1) (at 2) refl (or_from _ _ refl (or_from _ _ p.shown_no_id refl))
+    (or_from _ _ refl (or_from _ _ p.secret_no_id (or_from _ _ p.secret_not_shown refl))))
+
+has_id : (form : Form) → option_map NoId (find (lacks_id (form_tables form)) (places_of (form_tables form))) ≡ None
+unfolding places_from
+has_id form = refl
+
+none_unknown : (form : Form) → unknown_in (form_tables form) ≡ None
+unfolding fields_from places_from
+none_unknown form = refl
+
+none_shared : (form : Form) → option_map TwoParents (find (is_shared (form_tables form)) (places_of (form_tables form))) ≡ None
+unfolding places_from
+none_shared form = refl
+
+no_cycle : (form : Form) → option_map Cycle (find (returns (schema_of (form_tables form))) (places_of (form_tables form))) ≡ None
+unfolding places_from ancestor
+no_cycle form = refl
+
+one_root : (form : Form) → wrong_roots (roots_of (schema_of (form_tables form))) ≡ None
+unfolding places_from
+one_root form = refl
+
+none_both : {X : Type 0} (a b : Option X) → a ≡ None → b ≡ None → or_else a b ≡ None
+none_both {X = X} a b e f = ap (λ (x : Option X). or_else x b) e ∙ f
+
+fault_free : (form : Form) → Proper form → fault_of (form_tables form) ≡ None
+fault_free form p =
+    none_both _ _ (ap (λ v. if v then Some Limit else None) (not_over form p))
+    (none_both _ _ (no_duplicate form p)
+    (none_both _ _ (has_id form) (none_both _ _ (none_unknown form) (none_both _ _ (none_shared form) (none_both _ _ (no_cycle form) (one_root form))))))
+
+pub canonical_text_means_it : (form : Form) → is_form form ≡ true → MeansSchema (canonical_text (form_schema form)) (form_schema form)
+canonical_text_means_it form e =
+    let p = proper form e in
+    let text = canonical_text (form_schema form) in
+    let spells : symbols text ≡ spelling (form_tables form) = ap symbols (one_line form) ∙ line_spelled form p in
+    let tree : syntax_of text ≡ Ok (form_tables form) = (schema_places.tree text (form_tables form)).1 spells in
+    let told : schema_reading text ≡ Ok (form_schema form) =
+    ap judged tree ∙ (ap (schema_or (schema_of (form_tables form))) (fault_free form p) ∙ ap (λ (schema : Schema). Ok schema) (tables_mean form p)) in
+    (one_schema.read text (form_schema form)).0 told
