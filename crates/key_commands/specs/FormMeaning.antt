@@ -15,7 +15,7 @@ use Rattle.ghost_model.specs.SchemaFaults.{MeansSchema}
 use Rattle.ghost_model.specs.Meaning.{answer, compares}
 use Rattle.ghost_model.specs.Printed.{printed, row_line, count_line}
 use Rattle.ghost_model.specs.Split.{Replied, public_of, visible_rows}
-use Rattle.key_commands.specs.Form.{Form, is_form, is_wanted, form_schema, form_query, query_text, SpellsScript}
+use Rattle.key_commands.specs.Form.{Form, is_form, is_wanted, form_schema, form_query, query_text, SpellsForm, SpellsScript}
 
 -- a script of the form has one text, that of its query
 abbrev pub OneText : Type 0
@@ -118,6 +118,7 @@ pub record TextsOfRows : Type 0 where
       → printed (form_schema form) (query_text form wanted ∷ []) (rows ∷ [])
       ≡ flat_map (line_at secret) (matches wanted shown) ++ count_line 1 (length (matches wanted shown))
 
--- the canonical text of a form's schema means this schema
-abbrev pub CanonicalText : Type 0
-CanonicalText = (form : Form) → is_form form ≡ true → MeansSchema (canonical_text (form_schema form)) (form_schema form)
+-- a schema's text of the form means the form's schema, and so does its canonical text
+pub record SchemaOfForm : Type 0 where
+  pub text : (form : Form) (text : List ℕ) → SpellsForm text form → MeansSchema text (form_schema form)
+  pub canonical : (form : Form) → is_form form ≡ true → MeansSchema (canonical_text (form_schema form)) (form_schema form)

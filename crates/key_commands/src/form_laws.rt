@@ -1,6 +1,6 @@
 //! Laws of the one form of input: what the definitions give for it.
 
-ghost use Rattle.key_commands.specs.FormMeaning.{OneText, OneMeaning, OneAsk, OneAnswer, PrintedLines, IdentifiersReplied, TextsOfRows, CanonicalText};
+ghost use Rattle.key_commands.specs.FormMeaning.{OneText, OneMeaning, OneAsk, OneAnswer, PrintedLines, IdentifiersReplied, TextsOfRows, SchemaOfForm};
 
 /// A script of the form has one text, that of its query.
 pub fn one_text()
@@ -37,7 +37,7 @@ pub fn texts_of_rows()
     ensures { TextsOfRows }
 {}
 
-/// The canonical text of a form's schema means this schema.
-pub fn canonical_text_means_it()
-    ensures { CanonicalText }
+/// A text of the form means the form's schema.
+pub fn schema_of_form()
+    ensures { SchemaOfForm }
 {}
