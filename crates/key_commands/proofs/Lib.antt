@@ -3,3 +3,4 @@ mod FormLemmas
 mod FormAnswers
 mod FormRows
 mod FormSchema
+mod FormReplies

@@ -1,6 +1,6 @@
 //! Laws of the one form of input: what the definitions give for it.
 
-ghost use Rattle.key_commands.specs.FormMeaning.{OneText, OneMeaning, OneAsk, OneAnswer, PrintedLines, IdentifiersReplied, TextsOfRows, SchemaOfForm};
+ghost use Rattle.key_commands.specs.FormMeaning.{OneText, OneMeaning, OneAsk, OneAnswer, PrintedLines, IdentifiersReplied, TextsOfRows, SchemaOfForm, RepliesOfForm, MatchesOfForm};
 
 /// A script of the form has one text, that of its query.
 pub fn one_text()
@@ -40,4 +40,14 @@ pub fn texts_of_rows()
 /// A text of the form means the form's schema.
 pub fn schema_of_form()
     ensures { SchemaOfForm }
+{}
+
+/// The reply has a row for each match, in 4 bytes, and such bytes are read as these rows.
+pub fn replies_of_form()
+    ensures { RepliesOfForm }
+{}
+
+/// The matches are identifiers of rows, ascending.
+pub fn matches_of_form()
+    ensures { MatchesOfForm }
 {}
