@@ -1,7 +1,7 @@
 //! The file system as a depot.
 
 ghost use Rattle.std.specs.Prelude.{◌≡◌, ◌≤◌, ℕ, None, length, IfOk, OnOk};
-ghost use Rattle.ghost_model.specs.Causes.{HasCause};
+ghost use Rattle.ghost_model.specs.Causes.{HasCause, Rose};
 ghost use Rattle.edge_traits.specs.Files.{Files, file_of, with_file, or_empty, SameBut, ReadsAt};
 
 use edge_traits::Failed;
@@ -30,6 +30,16 @@ impl<R: Files + Drop> DirDepot<R> {
             faults: 0,
             append_faults: 0,
         }
+    }
+
+    /// Counts a fault.
+    fn fault(&mut self) -> Failed
+        ensures rose { Rose self.old.faults self.new.faults }
+        ensures never_falls { self.old.faults ≤ self.new.faults }
+        ensures append_faults { self.new.append_faults ≡ self.old.append_faults }
+    {
+        self.faults = self.faults.saturating_add(1);
+        Failed
     }
 }
 
@@ -67,26 +77,21 @@ impl<R: Files + Drop> Depot for DirDepot<R> {
     fn read_at(&mut self, name: &str, at: u64, buf: &mut [u8]) -> Result<usize, Failed> {
         match read_from(&self.files, name, at, buf) {
             Ok(count) => Ok(count),
-            Err(_) => {
-                self.faults = self.faults.saturating_add(1);
-                Err(Failed)
-            }
+            Err(_) => Err(self.fault()),
         }
     }
 
     fn replace(&mut self, name: &str, bytes: &[u8]) -> Result<(), Failed> {
-        if write_new(&self.files, name, bytes).is_err() {
-            self.faults = self.faults.saturating_add(1);
-            return Err(Failed);
+        match write_new(&self.files, name, bytes) {
+            Ok(()) => Ok(()),
+            Err(_) => Err(self.fault()),
         }
-        Ok(())
     }
 
     fn append(&mut self, name: &str, bytes: &[u8]) -> Result<(), Failed> {
         if write_more(&self.files, name, bytes).is_err() {
-            self.faults = self.faults.saturating_add(1);
             self.append_faults = self.append_faults.saturating_add(1);
-            return Err(Failed);
+            return Err(self.fault());
         }
         Ok(())
     }

@@ -5,3 +5,5 @@
 
 pub mod dir_depot;
 pub mod std_sink;
+#[cfg(test)]
+mod tests;

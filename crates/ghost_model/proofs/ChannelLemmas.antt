@@ -1,4 +1,9 @@
 -- Lemmas on frames and on the next move.
+pub mod Asks
+pub mod Proper
+pub mod Hosts
+pub mod Hearing
+pub mod Rows
 use Rattle.std.proofs.Common.{◌≡◌, ℕ, zero, suc, ◌+◌, ◌-◌, ◌*◌, ◌<◌, ◌≤◌, ◌^◌, ◌⊎◌, ◌≢◌, inl, inr, Bool, true, false, ◌&&◌, List, [], ◌∷◌, ◌++◌, length, take, drop, slice_index, get_or, sym, ◌∙◌, ap, subst, refl, arith, length-append, append-nil, append_assoc, lit<, w16, w32}
 use Rattle.std.specs.Prelude.{◌==◌, nat_lt, nat_le, not, if◌then◌else◌}
 use Rattle.std.specs.Int.{to_be_bytes, from_be_bytes}
@@ -161,8 +166,8 @@ frame_is_spelled bytes h m v parts =
     let spelled = spelled_parts (kind_in bytes) (serial_in bytes) (payload_in bytes) (frame_in bytes) has in
     let size : length (payload_in bytes) ≡ size_in bytes = length_taken (size_in bytes) (drop 8 bytes) (omega (arith, length-drop 8 bytes)) in
     rejoined (kind_in bytes) (version_in bytes) (size_in bytes) (serial_in bytes) (payload_in bytes)
-      (drop (size_in bytes) (drop 8 bytes)) (drop 8 bytes) bytes (frame_bytes (frame_in bytes))
-      (header_is_spelled bytes (omega arith) h) v size (take-append-drop (size_in bytes) (drop 8 bytes)) spelled
+    (drop (size_in bytes) (drop 8 bytes)) (drop 8 bytes) bytes (frame_bytes (frame_in bytes))
+    (header_is_spelled bytes (omega arith) h) v size (take-append-drop (size_in bytes) (drop 8 bytes)) spelled
 
 -- a test of a number, by its two cases
 by_test : {P : Type 0} (k n : ℕ) → (k ≡ n → P) → ((k == n) ≡ false → P) → P
@@ -180,15 +185,15 @@ pub allowed_parts :
     → Parts kind serial payload
 allowed_parts kind serial payload t u =
     by_test kind 1
-      (λ e. hello e (grind (arith, nat_tests)) (grind (arith, nat_tests)))
-      (λ n1. by_test kind 2 (λ e. asking e)
-        (λ n2. by_test kind 3 (λ e. more e (grind (arith, nat_tests)))
-          (λ n3. by_test kind 4 (λ e. bye e (grind (arith, nat_tests)) (grind (arith, nat_tests)))
-            (λ n4. by_test kind 17 (λ e. welcome e (grind (arith, nat_tests)) (grind (arith, nat_tests)))
-              (λ n5. by_test kind 18 (λ e. replied e)
-                (λ n6. by_test kind 19 (λ e. done e (grind (arith, nat_tests)))
-                  (λ n7. by_test kind 20 (λ e. sorry e (grind (arith, nat_tests)))
-                    (λ n8. absurd (no_kind kind (length payload) n1 n2 n3 n4 n5 n6 n7 n8 t)))))))))
+    (λ e. hello e (grind (arith, nat_tests)) (grind (arith, nat_tests)))
+    (λ n1. by_test kind 2 (λ e. asking e)
+    (λ n2. by_test kind 3 (λ e. more e (grind (arith, nat_tests)))
+    (λ n3. by_test kind 4 (λ e. bye e (grind (arith, nat_tests)) (grind (arith, nat_tests)))
+    (λ n4. by_test kind 17 (λ e. welcome e (grind (arith, nat_tests)) (grind (arith, nat_tests)))
+    (λ n5. by_test kind 18 (λ e. replied e)
+    (λ n6. by_test kind 19 (λ e. done e (grind (arith, nat_tests)))
+    (λ n7. by_test kind 20 (λ e. sorry e (grind (arith, nat_tests)))
+    (λ n8. absurd (no_kind kind (length payload) n1 n2 n3 n4 n5 n6 n7 n8 t)))))))))
 
 -- the tests of a reading, over plain values
 abbrev picked : (short header part payload : Bool) (missing_header missing_payload kind : ℕ) → Frame → Got
@@ -254,14 +259,15 @@ frame_fits kind serial payload frame h a b c d e = record {
   payload = rw (h.kind_is, h.payload_is) c;
   bytes = rw h.payload_is d;
   serial_fits = rw h.serial_is e;
-  number_fits = h.number_fits }
+  number_fits = h.number_fits;
+}
 
 pub found_begins : (bytes : List ℕ) (frame : Frame) → AreBytes bytes → got_of bytes ≡ Found frame → BeginsWith bytes frame
 found_begins bytes frame h e =
     let way : IsPicked (nat_lt (length bytes) 8) (header_allowed bytes) (nat_lt (length bytes) (8 + size_in bytes)) (payload_allowed (kind_in bytes) (payload_in bytes)) (frame_in bytes) frame =
-      is_picked _ _ _ _ (8 - length bytes) (8 + size_in bytes - length bytes) (kind_in bytes) (frame_in bytes) frame e in
+    is_picked _ _ _ _ (8 - length bytes) (8 + size_in bytes - length bytes) (kind_in bytes) (frame_in bytes) frame e in
     let tests : AllThree (version_in bytes == frame_version) (size_allowed (kind_in bytes) (size_in bytes)) (serial_allowed (kind_in bytes) (serial_in bytes)) =
-      all_three _ _ _ way.header_holds in
+    all_three _ _ _ way.header_holds in
     let long : 8 ≤ length bytes = ltb-false (length bytes) 8 way.long in
     let whole : 8 + size_in bytes ≤ length bytes = ltb-false (length bytes) (8 + size_in bytes) way.whole in
     let size : length (payload_in bytes) ≡ size_in bytes = length_taken (size_in bytes) (drop 8 bytes) (omega (arith, length-drop 8 bytes)) in
@@ -272,7 +278,7 @@ found_begins bytes frame h e =
     let spelled : bytes ≡ frame_bytes (frame_in bytes) ++ drop (size_in bytes) (drop 8 bytes) = frame_is_spelled bytes h whole (eqb-true (version_in bytes) frame_version tests.first) parts in
     let fits : IsFrame (frame_in bytes) = frame_fits (kind_in bytes) (serial_in bytes) (payload_in bytes) (frame_in bytes) has tests.third sized way.payload_holds payload (serial_bound bytes long h) in
     subst (λ (f : Frame). BeginsWith bytes f) way.same
-      (record { fits = fits; rest = drop (size_in bytes) (drop 8 bytes); begins = spelled })
+    (record { fits = fits; rest = drop (size_in bytes) (drop 8 bytes); begins = spelled })
 
 remade : (frame : Frame) → IsFrame frame → frame_of_parts (kind_of frame) (serial_of frame) (payload_of frame) ≡ frame
 remade (Hello generation) h = ap (λ (n : ℕ). Hello n) (from_be_bytes-to_be_bytes_4 generation h.number_fits)
@@ -284,22 +290,30 @@ remade (Replied serial payload) h = refl
 remade (Done serial total) h = ap (λ (n : ℕ). Done serial n) (from_be_bytes-to_be_bytes_4 total h.number_fits)
 remade (Sorry serial code) h = refl
 
+pub payload_is_read : (frame : Frame) (rest : List ℕ) → IsFrame frame → payload_in (frame_bytes frame ++ rest) ≡ payload_of frame
+payload_is_read frame rest h =
+    ap (λ (n : ℕ). take n (payload_of frame ++ rest)) (size_is_read frame rest h) ∙ take-append_seam (payload_of frame) rest
+
+pub frame_is_read : (frame : Frame) (rest : List ℕ) → IsFrame frame → frame_in (frame_bytes frame ++ rest) ≡ frame
+frame_is_read frame rest h =
+    let bytes : List ℕ = frame_bytes frame ++ rest in
+    let serial : serial_in bytes ≡ serial_of frame = from_be_bytes-to_be_bytes_4 (serial_of frame) h.serial_fits in
+    ap (λ (n : ℕ). frame_of_parts (kind_of frame) n (payload_in bytes)) serial
+    ∙ (ap (λ (p : List ℕ). frame_of_parts (kind_of frame) (serial_of frame) p) (payload_is_read frame rest h) ∙ remade frame h)
+
 pub spelled_is_found : (frame : Frame) (rest : List ℕ) → IsFrame frame → got_of (frame_bytes frame ++ rest) ≡ Found frame
 spelled_is_found frame rest h =
     let bytes : List ℕ = frame_bytes frame ++ rest in
     let size : size_in bytes ≡ length (payload_of frame) = size_is_read frame rest h in
     let serial : serial_in bytes ≡ serial_of frame = from_be_bytes-to_be_bytes_4 (serial_of frame) h.serial_fits in
-    let payload : payload_in bytes ≡ payload_of frame =
-      ap (λ (n : ℕ). take n (payload_of frame ++ rest)) size ∙ take-append_seam (payload_of frame) rest in
-    let same : frame_in bytes ≡ frame =
-      ap (λ (n : ℕ). frame_of_parts (kind_of frame) n (payload_in bytes)) serial
-      ∙ (ap (λ (p : List ℕ). frame_of_parts (kind_of frame) (serial_of frame) p) payload ∙ remade frame h) in
+    let payload : payload_in bytes ≡ payload_of frame = payload_is_read frame rest h in
+    let same : frame_in bytes ≡ frame = frame_is_read frame rest h in
     let lengths : length bytes ≡ 8 + (length (payload_of frame) + length rest) = omega (arith, length-append (payload_of frame) rest) in
     let header : header_allowed bytes ≡ true =
-      three_hold _ _ _ refl (ap (λ (n : ℕ). size_allowed (kind_of frame) n) size ∙ h.size) (ap (λ (n : ℕ). serial_allowed (kind_of frame) n) serial ∙ h.serial) in
+    three_hold _ _ _ refl (ap (λ (n : ℕ). size_allowed (kind_of frame) n) size ∙ h.size) (ap (λ (n : ℕ). serial_allowed (kind_of frame) n) serial ∙ h.serial) in
     picks _ _ _ _ (8 - length bytes) (8 + size_in bytes - length bytes) (kind_of frame) (frame_in bytes)
-      (le-ltb (length bytes) 8 (omega arith)) header (le-ltb (length bytes) (8 + size_in bytes) (omega arith))
-      (ap (λ (p : List ℕ). payload_allowed (kind_of frame) p) payload ∙ h.payload)
+    (le-ltb (length bytes) 8 (omega arith)) header (le-ltb (length bytes) (8 + size_in bytes) (omega arith))
+    (ap (λ (p : List ℕ). payload_allowed (kind_of frame) p) payload ∙ h.payload)
     ∙ ap (λ (f : Frame). Found f) same
 
 -- the tests of a verdict, over plain values
@@ -354,7 +368,8 @@ greets version kind serial size missing e = record {
   version_is = grind (arith, nat_tests);
   kind_is = grind (arith, nat_tests);
   serial_is = grind (arith, nat_tests);
-  some = grind (arith, nat_tests) }
+  some = grind (arith, nat_tests);
+}
 
 no_reply : (width kind size : ℕ) → (kind == 18) ≡ false → (kind == 19) ≡ false → next.reply_size_fits width kind size ≡ true → (kind ≡ 20) × (size ≡ 1)
 no_reply width kind size a b t = (grind (arith, nat_tests), grind (arith, nat_tests))
@@ -362,8 +377,8 @@ no_reply width kind size a b t = (grind (arith, nat_tests), grind (arith, nat_te
 reply_parts : (width kind serial : ℕ) (payload : List ℕ) → next.reply_size_fits width kind (length payload) ≡ true → Parts kind serial payload
 reply_parts width kind serial payload t =
     by_test kind 18 (λ e. replied e)
-      (λ n. by_test kind 19 (λ e. done e (grind (arith, nat_tests)))
-        (λ m. let last : (kind ≡ 20) × (length payload ≡ 1) = no_reply width kind (length payload) n m t in sorry last.0 last.1))
+    (λ n. by_test kind 19 (λ e. done e (grind (arith, nat_tests)))
+    (λ m. let last : (kind ≡ 20) × (length payload ≡ 1) = no_reply width kind (length payload) n m t in sorry last.0 last.1))
 
 record Fits (bytes : List ℕ) : Type 0 where
   version_is : version_in bytes ≡ frame_version
@@ -379,7 +394,8 @@ fitting_parts catalog (next.Reply asked serial later count last) bytes n t =
     record {
       version_is = eqb-true (version_in bytes) frame_version all.first;
       parts = reply_parts (row_width catalog.schema asked.ask) (kind_in bytes) (serial_in bytes) (payload_in bytes)
-        (ap (λ (k : ℕ). next.reply_size_fits (row_width catalog.schema asked.ask) (kind_in bytes) k) n ∙ all.third) }
+          (ap (λ (k : ℕ). next.reply_size_fits (row_width catalog.schema asked.ask) (kind_in bytes) k) n ∙ all.third);
+    }
 fitting_parts catalog next.Nothing bytes n t = absurd (false_is_not t)
 
 -- one more byte after a header leaves what the header says
@@ -397,16 +413,17 @@ one_more part byte = omega (arith, length-append part (byte ∷ []))
 exact_length : (part : List ℕ) (byte : ℕ) → IsLacking part → 8 + size_in (part ++ byte ∷ []) ≤ length (part ++ byte ∷ []) → length (part ++ byte ∷ []) ≡ 8 + size_in (part ++ byte ∷ [])
 exact_length part byte lacking m =
     elim (leb_tells 8 (length part)) [
-      inl p ↦ (let less : length part < 8 + size_in part = lacking p.1 in let kept : size_in (part ++ byte ∷ []) ≡ size_in part = size_kept part byte p.1 in
-        omega (arith, less, kept, m, one_more part byte))
-    | inr q ↦ omega (arith, q.1, m, one_more part byte) ]
+      | inl p ↦ (let less : length part < 8 + size_in part = lacking p.1 in let kept : size_in (part ++ byte ∷ []) ≡ size_in part = size_kept part byte p.1 in
+          omega (arith, less, kept, m, one_more part byte))
+      | inr q ↦ omega (arith, q.1, m, one_more part byte)
+    ]
 
 -- a frame that is whole and valid is spelled by the bytes at hand
 whole_is_spelled : (catalog : Catalog) (awaits : next.Awaits) (part : List ℕ) (byte : ℕ) → IsLacking part → AreBytes (part ++ byte ∷ []) → next.verdict catalog awaits (part ++ byte ∷ []) ≡ next.Whole → frame_bytes (frame_in (part ++ byte ∷ [])) ≡ part ++ byte ∷ []
 whole_is_spelled catalog awaits part byte lacking h e =
     let bytes : List ℕ = part ++ byte ∷ [] in
     let way : IsWhole (nat_lt (length bytes) 8) (next.header_fits catalog awaits bytes) (nat_lt (length bytes) (8 + size_in bytes)) =
-      is_whole _ _ _ (next.payload_fits catalog awaits (frame_in bytes)) (8 - length bytes) (8 + size_in bytes - length bytes) e in
+    is_whole _ _ _ (next.payload_fits catalog awaits (frame_in bytes)) (8 - length bytes) (8 + size_in bytes - length bytes) e in
     let whole : 8 + size_in bytes ≤ length bytes = ltb-false (length bytes) (8 + size_in bytes) way.whole in
     let size : length (payload_in bytes) ≡ size_in bytes = length_taken (size_in bytes) (drop 8 bytes) (omega (arith, length-drop 8 bytes, whole)) in
     let fits : Fits bytes = fitting_parts catalog awaits bytes size way.header_holds in
@@ -438,7 +455,7 @@ more_frames before part rest frames frame byte e n s =
     ∙ (ap (λ (x : List ℕ). flat_map frame_bytes frames ++ (x ++ [])) (sym s)
     ∙ (sym (append_assoc (flat_map frame_bytes frames) (frame_bytes frame) [])
     ∙ ap (λ (x : List ℕ). x ++ []) (sym (flat_map-append frame_bytes frames (frame ∷ [])
-        ∙ ap (λ (x : List ℕ). flat_map frame_bytes frames ++ x) (append-nil (frame_bytes frame))))))
+    ∙ ap (λ (x : List ℕ). flat_map frame_bytes frames ++ x) (append-nil (frame_bytes frame))))))
 
 module _ (catalog : Catalog) (asks : List Asked) where
   step_judged :
@@ -451,45 +468,53 @@ module _ (catalog : Catalog) (asks : List Asked) where
         follows = record {
           rest = [];
           spelled = more_part before (flat_map frame_bytes h.frames) h.part f.follows.rest byte f.follows.spelled none;
-          nothing_more = λ _. refl };
+          nothing_more = λ _. refl;
+        };
         bytes = bytes_snoc h.part byte f.bytes b;
         lacking = λ _. λ long.
-          let bytes : List ℕ = h.part ++ byte ∷ [] in
-          ltb-true (length bytes) (8 + size_in bytes)
+            let bytes : List ℕ = h.part ++ byte ∷ [] in
+            ltb-true (length bytes) (8 + size_in bytes)
             (is_short (nat_lt (length bytes) 8) (next.header_fits catalog h.awaits bytes) (nat_lt (length bytes) (8 + size_in bytes))
-              (next.payload_fits catalog h.awaits (frame_in bytes)) (8 - length bytes) (8 + size_in bytes - length bytes) m j
-              (le-ltb (length bytes) 8 long)) }
+            (next.payload_fits catalog h.awaits (frame_in bytes)) (8 - length bytes) (8 + size_in bytes - length bytes) m j
+            (le-ltb (length bytes) 8 long));
+      }
   step_judged before h byte next.Invalid f b e j =
       let none : f.follows.rest ≡ [] = f.follows.nothing_more e in
       record {
         follows = record {
           rest = [];
           spelled = more_part before (flat_map frame_bytes h.frames) h.part f.follows.rest byte f.follows.spelled none;
-          nothing_more = λ _. refl };
+          nothing_more = λ _. refl;
+        };
         bytes = bytes_snoc h.part byte f.bytes b;
-        lacking = λ broken. absurd (false_is_not (sym broken)) }
+        lacking = λ broken. absurd (false_is_not (sym broken));
+      }
   step_judged before h byte next.Whole f b e j =
       let none : f.follows.rest ≡ [] = f.follows.nothing_more e in
       record {
         follows = record {
           rest = [];
           spelled = more_frames before h.part f.follows.rest h.frames (frame_in (h.part ++ byte ∷ [])) byte f.follows.spelled none
-            (whole_is_spelled catalog h.awaits h.part byte (f.lacking e) (bytes_snoc h.part byte f.bytes b) j);
-          nothing_more = λ _. refl };
+              (whole_is_spelled catalog h.awaits h.part byte (f.lacking e) (bytes_snoc h.part byte f.bytes b) j);
+          nothing_more = λ _. refl;
+        };
         bytes = λ i. lit< tt;
-        lacking = λ _. λ long. absurd (omega (arith, long)) }
+        lacking = λ _. λ long. absurd (omega (arith, long));
+      }
 
   step_either :
       (before : List ℕ) (h : next.Heard) (byte : ℕ) (broken : Bool) → Follows before h → byte < 256 → h.broken ≡ broken
       → Follows (before ++ byte ∷ [])
-        (if broken then h else next.heard_as catalog asks h (h.part ++ byte ∷ []) (next.verdict catalog h.awaits (h.part ++ byte ∷ [])))
+      (if broken then h else next.heard_as catalog asks h (h.part ++ byte ∷ []) (next.verdict catalog h.awaits (h.part ++ byte ∷ [])))
   step_either before h byte true f b e = record {
     follows = record {
       rest = f.follows.rest ++ byte ∷ [];
       spelled = regroup before (flat_map frame_bytes h.frames) h.part f.follows.rest byte f.follows.spelled;
-      nothing_more = λ other. absurd (true_is_not e other) };
+      nothing_more = λ other. absurd (true_is_not e other);
+    };
     bytes = f.bytes;
-    lacking = λ other. absurd (true_is_not e other) }
+    lacking = λ other. absurd (true_is_not e other);
+  }
   step_either before h byte false f b e =
       step_judged before h byte (next.verdict catalog h.awaits (h.part ++ byte ∷ [])) f b e refl
 
@@ -498,12 +523,13 @@ module _ (catalog : Catalog) (asks : List Asked) where
   step_all before h [] f b = subst (λ (x : List ℕ). Follows x h) (sym (append-nil before)) f
   step_all before h (byte ∷ bytes) f b =
       subst (λ (x : List ℕ). Follows x (next.hear_all catalog asks (next.hear catalog asks h byte) bytes)) (append_assoc before (byte ∷ []) bytes)
-        (step_all (before ++ byte ∷ []) (next.hear catalog asks h byte) bytes (step_either before h byte h.broken f (b 0) refl) (λ i. b (suc i)))
+      (step_all (before ++ byte ∷ []) (next.hear catalog asks h byte) bytes (step_either before h byte h.broken f (b 0) refl) (λ i. b (suc i)))
 
   pub received_is_spelled : (received : List ℕ) → AreBytes received → next.IsSpelled received (next.heard catalog asks received)
   received_is_spelled received b =
       let start : Follows [] (next.at_first catalog) = record {
         follows = record { rest = []; spelled = refl; nothing_more = λ _. refl };
         bytes = λ i. lit< tt;
-        lacking = λ _. λ long. absurd (omega (arith, long)) } in
+        lacking = λ _. λ long. absurd (omega (arith, long));
+      } in
       (step_all [] (next.at_first catalog) received start b).follows

@@ -1,15 +1,15 @@
 -- One schema or one fault for each text: the tests of the rules find what the rules say, and the first of them decides.
-use Rattle.std.proofs.Common.{◌≡◌, ◌≢◌, ◌⊎◌, ◌↔◌, inl, inr, ℕ, zero, suc, ◌+◌, ◌-◌, ◌<◌, ◌≤◌, nat_lt, Bool, true, false, cond, ◌||◌, ◌==◌, List, [], ◌∷◌, ◌++◌, length, find, not, Option, Some, None, option_map, option_and_then, Result, Ok, Err, if◌then◌else◌, Decides, add-zero, zero-add, refl, sym, ap, ◌∙◌, subst, arith}
+use Rattle.std.proofs.Common.{◌≡◌, ◌≢◌, ◌⊎◌, inl, inr, ℕ, zero, suc, ◌+◌, ◌-◌, ◌<◌, ◌≤◌, nat_lt, Bool, true, false, cond, ◌||◌, ◌==◌, List, [], ◌∷◌, ◌++◌, length, find, not, Option, Some, None, option_map, option_and_then, Result, Ok, Err, if◌then◌else◌, Decides, add-zero, zero-add, refl, sym, ap, ◌∙◌, subst, arith}
 use Rattle.std.specs.List.{list_any}
 use Rattle.std.proofs.lemmas.Bool.Decides.{Decides-eqb, Decides-ltb}
 use Rattle.std.proofs.lemmas.Bool.{cases_order, cases_lt, or_right}
 use Rattle.ghost_model.specs.Query.{Field}
-use Rattle.ghost_model.specs.Schema.{Schema, Table, places_from, places_where, first_of, is_table, parent, keys_to, is_empty}
-use Rattle.ghost_model.specs.Grammar.{Spells, IsSyntaxFault}
+use Rattle.ghost_model.specs.Schema.{Schema, Table, places_from, first_of, is_table, parent, keys_to, is_empty}
+use Rattle.ghost_model.specs.Grammar.{Spells}
 use Rattle.ghost_model.specs.SchemaGrammar.{SchemaText, spelling}
 use Rattle.ghost_model.specs.SchemaPlaces.{syntax_of}
 use Rattle.ghost_model.specs.SchemaMeaning.{schema_of}
-use Rattle.ghost_model.specs.SchemaFaults.{SchemaFault, Syntax, Limit, DuplicateName, NoId, UnknownTable, TwoParents, Cycle, NotOneRoot, is_over, is_duplicate, lacks_id, is_unknown, is_shared, ancestor, Returns, places_of, returns, roots_of, fields, NoneOf, IsFirst, Breaks, rank, MeansSchema, BreaksFirst, IsSchemaFault, duplicate_in, unknown_in, wrong_roots, or_else, fault_of, schema_or, judged, schema_reading, OneSchemaReading}
+use Rattle.ghost_model.specs.SchemaFaults.{SchemaFault, Syntax, Limit, DuplicateName, NoId, UnknownTable, TwoParents, Cycle, NotOneRoot, is_over, is_duplicate, lacks_id, is_unknown, is_shared, ancestor, Returns, places_of, returns, roots_of, fields, NoneOf, IsFirst, Breaks, rank, MeansSchema, BreaksFirst, IsSchemaFault, wrong_roots, or_else, schema_fault, schema_or, judged, schema_reading, OneSchemaReading}
 use Rattle.ghost_model.proofs.SchemaLemmas.{schema_places}
 
 unSome : {X : Type 0} {a b : X} → Some a ≡ Some b → a ≡ b
@@ -28,7 +28,8 @@ module _ {X : Type 0} (P : X → Type 0) (test : X → Bool) (yes : (x : X) → 
     back = f.back;
     whole = ap (λ tail. y ∷ tail) f.whole;
     holds = f.holds;
-    none_before = (h, f.none_before) }
+    none_before = (h, f.none_before);
+  }
 
   find_by : (y : X) (ys : List X) (x : X) (b : Bool) → test y ≡ b → cond b (Some y) (find test ys) ≡ Some x
       → (find test ys ≡ Some x → IsFirst P ys x) → IsFirst P (y ∷ ys) x
@@ -84,7 +85,8 @@ past_all tables = record {
   breaks = λ f e. absurd (cc);
   first = λ f e. absurd (cc);
   none = λ e f h b. let r : rank f < 8 = rank_below f in absurd (omega arith);
-  complete = λ f h b n. let r : rank f < 8 = rank_below f in absurd (omega arith) }
+  complete = λ f h b n. let r : rank f < 8 = rank_below f in absurd (omega arith);
+}
 
 not_broken : (tables : SchemaText) (k : ℕ) → Rule tables k None → (f : SchemaFault) → Breaks tables f → rank f ≡ k → ⊥
 not_broken tables k rule f broken e = let h : None ≡ Some f = rule.complete f e broken in absurd (cc)
@@ -95,14 +97,15 @@ skip tables k b rule on = record {
   above = λ f e. let h : k + 1 ≤ rank f = on.above f e in omega arith;
   breaks = on.breaks;
   first = λ f e other low below broken.
-    let n : rank other ≡ k → ⊥ = not_broken tables k rule other broken in
-    on.first f e other (omega arith) below broken;
+      let n : rank other ≡ k → ⊥ = not_broken tables k rule other broken in
+      on.first f e other (omega arith) below broken;
   none = λ e f low broken.
-    let n : rank f ≡ k → ⊥ = not_broken tables k rule f broken in
-    on.none e f (omega arith) broken;
+      let n : rank f ≡ k → ⊥ = not_broken tables k rule f broken in
+      on.none e f (omega arith) broken;
   complete = λ f low broken before.
-    let n : rank f ≡ k → ⊥ = not_broken tables k rule f broken in
-    on.complete f (omega arith) broken (λ other above below. before other (omega arith) below) }
+      let n : rank f ≡ k → ⊥ = not_broken tables k rule f broken in
+      on.complete f (omega arith) broken (λ other above below. before other (omega arith) below);
+}
 
 -- a rule that is broken is the first
 stop : (tables : SchemaText) (k : ℕ) (x : SchemaFault) → Rule tables k (Some x) → From tables k (Some x)
@@ -112,9 +115,10 @@ stop tables k x rule = record {
   first = λ f e other low below broken. let h : rank f ≡ k = (rule.sound f e).0 in absurd (omega arith);
   none = λ e. absurd (cc);
   complete = λ f low broken before.
-    let h : rank x ≡ k = (rule.sound x refl).0 in
-    let n : rank x < rank f → ⊥ = λ less. before x (omega arith) less (rule.sound x refl).1 in
-    rule.complete f (omega arith) broken }
+      let h : rank x ≡ k = (rule.sound x refl).0 in
+      let n : rank x < rank f → ⊥ = λ less. before x (omega arith) less (rule.sound x refl).1 in
+      rule.complete f (omega arith) broken;
+}
 
 or_else_from : (tables : SchemaText) (k : ℕ) (a b : Option SchemaFault) → Rule tables k a → From tables (k + 1) b → From tables k (or_else a b)
 or_else_from tables k None b rule on = skip tables k b rule on
@@ -132,11 +136,12 @@ module _ (tables : SchemaText) (k : ℕ) {X : Type 0} (make : X → SchemaFault)
       → Rule tables k (option_map make (find test places))
   rule_of ranked to from = record {
     sound = λ f e.
-      let h = option_mapped make (find test places) f e in
-      subst (λ g. (rank g ≡ k) × Breaks tables g) h.2 (ranked h.0, to h.0 (find_first P test yes no places h.0 h.1));
+        let h = option_mapped make (find test places) f e in
+        subst (λ g. (rank g ≡ k) × Breaks tables g) h.2 (ranked h.0, to h.0 (find_first P test yes no places h.0 h.1));
     complete = λ f e broken.
-      let h = from f e broken in
-      ap (option_map make) (first_found P test yes no places h.0 h.2) ∙ ap Some h.1 }
+        let h = from f e broken in
+        ap (option_map make) (first_found P test yes no places h.0 h.2) ∙ ap Some h.1;
+  }
 
 duplicate_back : (tables : SchemaText) (f : SchemaFault) → rank f ≡ 2 → Breaks tables f
     → (x : Field) × (DuplicateName x.table x.column ≡ f) × IsFirst (λ field. is_duplicate tables field ≡ true) (fields tables) x
@@ -175,21 +180,25 @@ roots_back tables _ e broken = absurd (omega arith)
 limit_by : (tables : SchemaText) (b : Bool) → is_over tables ≡ b → Rule tables 1 (if b then Some Limit else None)
 limit_by tables true e = record {
   sound = λ f h. subst (λ g. (rank g ≡ 1) × Breaks tables g) (unSome h) (refl, e);
-  complete = λ f r broken. ap Some (limit_back tables f r broken).0 }
+  complete = λ f r broken. ap Some (limit_back tables f r broken).0;
+}
 limit_by tables false e = record {
   sound = λ f h. absurd (cc);
-  complete = λ f r broken. let h : is_over tables ≡ true = (limit_back tables f r broken).1 in absurd (cc) }
+  complete = λ f r broken. let h : is_over tables ≡ true = (limit_back tables f r broken).1 in absurd (cc);
+}
 
 roots_by : (tables : SchemaText) (b : Bool) → (roots_of (schema_of tables) == 1) ≡ b
     → Rule tables 7 (if b then None else Some (NotOneRoot (roots_of (schema_of tables))))
 roots_by tables true e = record {
   sound = λ f h. absurd (cc);
-  complete = λ f r broken. absurd ((roots_back tables f r broken).1 ((Decides-eqb (roots_of (schema_of tables)) 1).0 e)) }
+  complete = λ f r broken. absurd ((roots_back tables f r broken).1 ((Decides-eqb (roots_of (schema_of tables)) 1).0 e));
+}
 roots_by tables false e = record {
   sound = λ f h.
-    subst (λ g. (rank g ≡ 7) × Breaks tables g) (unSome h)
-        (refl, (refl, λ one. let t : false ≡ true = sym e ∙ (Decides-eqb (roots_of (schema_of tables)) 1).1 one in absurd (cc)));
-  complete = λ f r broken. ap Some (roots_back tables f r broken).0 }
+      subst (λ g. (rank g ≡ 7) × Breaks tables g) (unSome h)
+      (refl, (refl, λ one. let t : false ≡ true = sym e ∙ (Decides-eqb (roots_of (schema_of tables)) 1).1 one in absurd (cc)));
+  complete = λ f r broken. ap Some (roots_back tables f r broken).0;
+}
 
 -- what returns does so in as many steps as there are tables
 
@@ -209,13 +218,13 @@ is_this table (Some other) e = ap Some ((Decides-eqb other table).0 e)
 this_is : (table : ℕ) → is_table table (Some table) ≡ true
 this_is table = (Decides-eqb table table).1 refl
 
-returns_yes : (schema : Schema) (table : ℕ) → returns schema table ≡ true → Returns schema table
+pub returns_yes : (schema : Schema) (table : ℕ) → returns schema table ≡ true → Returns schema table
 returns_yes schema table e =
     let h = some_passes (λ steps. is_table table (ancestor schema (suc steps) table)) (places_of schema) e in
     record { steps = suc h.0; moves = omega arith; back = is_this table (ancestor schema (suc h.0) table) h.1 }
 
 -- a place of a list passes a test
-place_passes : {X : Type 0} (test : ℕ → Bool) (xs : List X) (at k : ℕ) → k < length xs → test (at + k) ≡ true
+pub place_passes : {X : Type 0} (test : ℕ → Bool) (xs : List X) (at k : ℕ) → k < length xs → test (at + k) ≡ true
     → list_any test (places_from (λ _. true) at xs) ≡ true
 unfolding places_from
 place_passes test [] at k h e = absurd (omega arith)
@@ -235,12 +244,12 @@ unfolding places_from
 first_place test [] at p e = absurd (cc)
 first_place test (x ∷ xs) at p e = first_by test xs at p (test x) e (first_place test xs (at + 1) p)
 
-parent_below : (schema : Schema) (table p : ℕ) → parent schema table ≡ Some p → p < length schema
+pub parent_below : (schema : Schema) (table p : ℕ) → parent schema table ≡ Some p → p < length schema
 parent_below schema table p e =
     let h = first_place (λ (other : Table). not (is_empty (keys_to table other))) schema 0 p e in omega arith
 
 -- steps on the way to a table lead to tables
-one_less : (o : Option ℕ) (f : ℕ → Option ℕ) (x : ℕ) → option_and_then f o ≡ Some x → (y : ℕ) × (o ≡ Some y) × (f y ≡ Some x)
+pub one_less : (o : Option ℕ) (f : ℕ → Option ℕ) (x : ℕ) → option_and_then f o ≡ Some x → (y : ℕ) × (o ≡ Some y) × (f y ≡ Some x)
 one_less None f x e = absurd (cc)
 one_less (Some y) f x e = (y, refl, e)
 
@@ -305,15 +314,17 @@ seek_more : (f : ℕ → ℕ) (n v : ℕ) → Sought f n v → (f (suc n) ≡ v)
 seek_more f n v (found i h e) d = found i (omega arith) e
 seek_more f n v (missing none) (inl e) = found (suc n) (omega arith) e
 seek_more f n v (missing none) (inr d) = missing (λ i h e. elim (cases_order i (suc n)) [
-    inl same ↦ d (ap f (sym same) ∙ e)
+  | inl same ↦ d (ap f (sym same) ∙ e)
   | inr (inl less) ↦ none i (omega arith) e
-  | inr (inr more) ↦ absurd (omega arith) ])
+  | inr (inr more) ↦ absurd (omega arith)
+])
 
-same_or_not : (a b : ℕ) → (a ≡ b) ⊎ (a ≡ b → ⊥)
+pub same_or_not : (a b : ℕ) → (a ≡ b) ⊎ (a ≡ b → ⊥)
 same_or_not a b = elim (cases_order a b) [
-    inl same ↦ inl same
+  | inl same ↦ inl same
   | inr (inl less) ↦ inr (λ e. omega arith)
-  | inr (inr more) ↦ inr (λ e. omega arith) ]
+  | inr (inr more) ↦ inr (λ e. omega arith)
+]
 
 seek_first : (f : ℕ → ℕ) (v : ℕ) → (f 0 ≡ v) ⊎ (f 0 ≡ v → ⊥) → Sought f 0 v
 seek_first f v (inl e) = found 0 (omega arith) e
@@ -334,7 +345,8 @@ pigeon_more n f below (missing none) later =
       above = r.above;
       within = let w : r.high ≤ n = r.within in omega arith;
       equal = lowered_same (f (suc n)) (f r.low) (f r.high)
-          (none r.low (let a : r.low < r.high = r.above in let w : r.high ≤ n = r.within in omega arith)) (none r.high r.within) r.equal }
+          (none r.low (let a : r.low < r.high = r.above in let w : r.high ≤ n = r.within in omega arith)) (none r.high r.within) r.equal;
+    }
 
 pigeon : (n : ℕ) (f : ℕ → ℕ) → ((i : ℕ) → i ≤ n → f i < n) → Repeats f n
 pigeon zero f below = let h : f 0 < 0 = below 0 (omega arith) in absurd (omega arith)
@@ -368,14 +380,15 @@ module _ (schema : Schema) (table : ℕ) where
       (s.0, s.1, ap number_or s.1, parent_below schema p.0 s.0 p.2)
 
   -- a way back that meets a table twice can be cut short
-  cut_between : (k low high y : ℕ) → low < high → high < k → ancestor schema (suc low) table ≡ Some y → ancestor schema (suc high) table ≡ Some y
-      → ancestor schema k table ≡ Some table → (j : ℕ) × (0 < j) × (j < k) × (ancestor schema j table ≡ Some table)
-  cut_between k low high y above within a b e =
-      ((k - suc high) + suc low,
-        omega arith,
-        omega arith,
-        further schema table y (k - suc high) (suc low) ((k - suc high) + suc low) refl a
-        ∙ (sym (further schema table y (k - suc high) (suc high) k (omega arith) b) ∙ e))
+  cut_between : (k low high y z : ℕ) → low < high → high < k → ancestor schema (suc low) table ≡ Some y → ancestor schema (suc high) table ≡ Some z
+      → z ≡ y → ancestor schema k table ≡ Some table → (j : ℕ) × (0 < j) × (j < k) × (ancestor schema j table ≡ Some table)
+  cut_between k low high y z above within a b same e = (
+    (k - suc high) + suc low,
+    omega arith,
+    omega arith,
+    further schema table y (k - suc high) (suc low) ((k - suc high) + suc low) refl a
+        ∙ (sym (further schema table y (k - suc high) (suc high) k (omega arith) (b ∙ ap Some same)) ∙ e),
+  )
 
   cut_short : (k : ℕ) → length schema < k → ancestor schema k table ≡ Some table
       → (j : ℕ) × (0 < j) × (j < k) × (ancestor schema j table ≡ Some table)
@@ -385,46 +398,46 @@ module _ (schema : Schema) (table : ℕ) where
       let within : r.high ≤ length schema = r.within in
       let a = on_the_way r.low k table (omega arith) e in
       let b = on_the_way r.high k table (omega arith) e in
-      let same : b.0 ≡ a.0 = same_values (way r.low) (way r.high) a.0 b.0 r.equal a.2 b.2 in
-      cut_between k r.low r.high a.0 above (omega arith) a.1 (b.1 ∙ ap Some same) e
+      cut_between k r.low r.high a.0 b.0 above (omega arith) a.1 b.1 (same_values (way r.low) (way r.high) a.0 b.0 r.equal a.2 b.2) e
 
   short_way : (bound k : ℕ) → k ≤ bound → 0 < k → ancestor schema k table ≡ Some table → ShortWay schema table
   short_way zero k h m e = absurd (omega arith)
   short_way (suc bound) k h m e = elim (cases_lt (length schema) k) [
-      inl long ↦ (let c = cut_short k long e in let less : c.0 < k = c.2 in short_way bound c.0 (omega arith) c.1 c.3)
-    | inr few ↦ record { steps = k; moves = m; few = few; back = e } ]
+    | inl long ↦ (let c = cut_short k long e in let less : c.0 < k = c.2 in short_way bound c.0 (omega arith) c.1 c.3)
+    | inr few ↦ record { steps = k; moves = m; few = few; back = e }
+  ]
 
 short_returns : (schema : Schema) (table steps : ℕ) → 0 < steps → steps ≤ length schema → ancestor schema steps table ≡ Some table → returns schema table ≡ true
 short_returns schema table zero m few e = absurd (omega arith)
 short_returns schema table (suc k) m few e =
     place_passes (λ steps. is_table table (ancestor schema (suc steps) table)) schema 0 k (omega arith)
-        (ap (λ n. is_table table (ancestor schema (suc n) table)) (zero-add k) ∙ (ap (is_table table) e ∙ this_is table))
+    (ap (λ n. is_table table (ancestor schema (suc n) table)) (zero-add k) ∙ (ap (is_table table) e ∙ this_is table))
 
-returns_no : (schema : Schema) (table : ℕ) → Returns schema table → returns schema table ≡ true
+pub returns_no : (schema : Schema) (table : ℕ) → Returns schema table → returns schema table ≡ true
 returns_no schema table r =
     let s = short_way schema table r.steps r.steps (omega arith) r.moves r.back in
     short_returns schema table s.steps s.moves s.few s.back
 
 -- all rules
 
-pub all_rules : (tables : SchemaText) → From tables 1 (fault_of tables)
+pub all_rules : (tables : SchemaText) → From tables 1 (schema_fault tables)
 all_rules tables =
     or_else_from tables 1 _ _ (limit_by tables (is_over tables) refl)
     (or_else_from tables 2 _ _
-        (rule_of tables 2 (λ (x : Field). DuplicateName x.table x.column) (λ field. is_duplicate tables field ≡ true) (is_duplicate tables) (fields tables)
-            (λ x e. e) (λ x e. e) (λ x. refl) (λ x h. h) (duplicate_back tables))
+    (rule_of tables 2 (λ (x : Field). DuplicateName x.table x.column) (λ field. is_duplicate tables field ≡ true) (is_duplicate tables) (fields tables)
+    (λ x e. e) (λ x e. e) (λ x. refl) (λ x h. h) (duplicate_back tables))
     (or_else_from tables 3 _ _
-        (rule_of tables 3 NoId (λ place. lacks_id tables place ≡ true) (lacks_id tables) (places_of tables)
-            (λ x e. e) (λ x e. e) (λ x. refl) (λ x h. h) (no_id_back tables))
+    (rule_of tables 3 NoId (λ place. lacks_id tables place ≡ true) (lacks_id tables) (places_of tables)
+    (λ x e. e) (λ x e. e) (λ x. refl) (λ x h. h) (no_id_back tables))
     (or_else_from tables 4 _ _
-        (rule_of tables 4 (λ (x : Field). UnknownTable x.table x.column) (λ field. is_unknown tables field ≡ true) (is_unknown tables) (fields tables)
-            (λ x e. e) (λ x e. e) (λ x. refl) (λ x h. h) (unknown_back tables))
+    (rule_of tables 4 (λ (x : Field). UnknownTable x.table x.column) (λ field. is_unknown tables field ≡ true) (is_unknown tables) (fields tables)
+    (λ x e. e) (λ x e. e) (λ x. refl) (λ x h. h) (unknown_back tables))
     (or_else_from tables 5 _ _
-        (rule_of tables 5 TwoParents (λ place. is_shared tables place ≡ true) (is_shared tables) (places_of tables)
-            (λ x e. e) (λ x e. e) (λ x. refl) (λ x h. h) (shared_back tables))
+    (rule_of tables 5 TwoParents (λ place. is_shared tables place ≡ true) (is_shared tables) (places_of tables)
+    (λ x e. e) (λ x e. e) (λ x. refl) (λ x h. h) (shared_back tables))
     (or_else_from tables 6 _ _
-        (rule_of tables 6 Cycle (Returns (schema_of tables)) (returns (schema_of tables)) (places_of tables)
-            (returns_yes (schema_of tables)) (returns_no (schema_of tables)) (λ x. refl) (λ x h. h) (cycle_back tables))
+    (rule_of tables 6 Cycle (Returns (schema_of tables)) (returns (schema_of tables)) (places_of tables)
+    (returns_yes (schema_of tables)) (returns_no (schema_of tables)) (λ x. refl) (λ x h. h) (cycle_back tables))
     (last_from tables (wrong_roots (roots_of (schema_of tables))) (roots_by tables (roots_of (schema_of tables) == 1) refl)))))))
 
 -- with the grammar as the first rule
@@ -433,9 +446,9 @@ syntax_back : (tables : SchemaText) (f : SchemaFault) → rank f ≡ 0 → Break
 syntax_back tables (Syntax at) e broken = absurd broken
 syntax_back tables _ e broken = absurd (omega arith)
 
-every_rule : (tables : SchemaText) → From tables 0 (fault_of tables)
+every_rule : (tables : SchemaText) → From tables 0 (schema_fault tables)
 every_rule tables =
-    or_else_from tables 0 None (fault_of tables) (record { sound = λ f e. absurd (cc); complete = syntax_back tables }) (all_rules tables)
+    or_else_from tables 0 None (schema_fault tables) (record { sound = λ f e. absurd (cc); complete = syntax_back tables }) (all_rules tables)
 
 one_ok : {T E : Type 0} (r : Result T E) (a b : T) → r ≡ Ok a → r ≡ Ok b → a ≡ b
 one_ok r a b e f = cc
@@ -471,7 +484,7 @@ module _ (tables : SchemaText) where
 means_back : (text : List ℕ) (schema : Schema) → MeansSchema text schema → schema_reading text ≡ Ok schema
 means_back text schema m =
     ap judged ((schema_places.tree text m.tables).1 m.spells)
-    ∙ (obeying m.tables (fault_of m.tables) (every_rule m.tables) m.obeys ∙ ap Ok m.means)
+    ∙ (obeying m.tables (schema_fault m.tables) (every_rule m.tables) m.obeys ∙ ap Ok m.means)
 
 breaks_back : (text : List ℕ) (f : SchemaFault) → BreaksFirst text f → schema_reading text ≡ Err f
 breaks_back text f b =
@@ -489,18 +502,19 @@ as_fault text f b = b
 means_by : (text : List ℕ) (schema : Schema) (syntax : Result SchemaText ℕ) → syntax_of text ≡ syntax → judged syntax ≡ Ok schema → MeansSchema text schema
 means_by text schema (Err at) e h = absurd (cc)
 means_by text schema (Ok tables) e h =
-    let r = reads_schema tables schema (fault_of tables) (every_rule tables) h in
+    let r = reads_schema tables schema (schema_fault tables) (every_rule tables) h in
     record { tables = tables; spells = (schema_places.tree text tables).0 e; obeys = r.0; means = r.1 }
 
 fault_by : (text : List ℕ) (f : SchemaFault) (syntax : Result SchemaText ℕ) → syntax_of text ≡ syntax → judged syntax ≡ Err f → IsSchemaFault text f
 fault_by text f (Err at) e h = let g : Syntax at ≡ f = cc in subst (IsSchemaFault text) g ((schema_places.fault text at).0 e)
 fault_by text f (Ok tables) e h =
-    let r = reads_fault tables f (fault_of tables) (every_rule tables) h in
+    let r = reads_fault tables f (schema_fault tables) (every_rule tables) h in
     as_fault text f (record {
       tables = tables;
       spells = (schema_places.tree text tables).0 e;
       breaks = r.0;
-      none_earlier = λ earlier less broken. r.1 earlier (omega arith) less broken })
+      none_earlier = λ earlier less broken. r.1 earlier (omega arith) less broken;
+    })
 
 some_answer : (text : List ℕ) (answer : Result Schema SchemaFault) → schema_reading text ≡ answer
     → ((schema : Schema) × MeansSchema text schema) ⊎ ((fault : SchemaFault) × IsSchemaFault text fault)
@@ -514,4 +528,5 @@ one_schema = record {
   one_schema = λ text schema other a b. one_ok (schema_reading text) schema other (means_back text schema a) (means_back text other b);
   one_fault = λ text fault other a b. one_err (schema_reading text) fault other (fault_back text fault a) (fault_back text other b);
   not_both = λ text schema fault a b. ok_or_err (schema_reading text) schema fault (means_back text schema a) (fault_back text fault b);
-  some = λ text. some_answer text (schema_reading text) refl }
+  some = λ text. some_answer text (schema_reading text) refl;
+}

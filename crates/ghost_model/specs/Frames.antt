@@ -171,4 +171,4 @@ pub record BeginsWith (bytes : List ℕ) (frame : Frame) : Type 0 where
 pub record FramesHaveOneSpelling : Type 0 where
   pub spelled_is_found : (frame : Frame) (rest : List ℕ) → IsFrame frame → got_of (frame_bytes frame ++ rest) ≡ Found frame
   pub found_is_spelled :
-    (bytes : List ℕ) (frame : Frame) → AreBytes bytes → got_of bytes ≡ Found frame → BeginsWith bytes frame
+      (bytes : List ℕ) (frame : Frame) → AreBytes bytes → got_of bytes ≡ Found frame → BeginsWith bytes frame

@@ -3,11 +3,11 @@
 -- the WELCOME frames of the host's own catalog, whatever generation it names, each full but the last. ASK and MORE are
 -- answered by one frame each: first ROWS, each with as many whole rows as fit, then DONE. At the first frame that is no
 -- frame of the key in its place the host stops.
-use Rattle.std.specs.Prelude.{◌≡◌, ℕ, zero, suc, ◌+◌, ◌-◌, ◌/◌, Bool, true, false, ◌&&◌, ◌==◌, List, [], ◌∷◌, ◌++◌, length, take, drop, map, flat_map, if◌then◌else◌, Option, Some, None}
-use Rattle.ghost_model.specs.Schema.{is_empty}
-use Rattle.ghost_model.specs.Channel.{Catalog, Ask, Frame, Hello, Asking, More, Bye, Welcome, Replied, Done, Sorry}
+use Rattle.std.specs.Prelude.{◌≡◌, ℕ, zero, suc, ◌+◌, ◌-◌, ◌/◌, ◌==◌, List, [], ◌∷◌, ◌++◌, length, take, drop, map, flat_map, if◌then◌else◌, Option, Some, None, option_to_list, All, ◌≤◌, ◌<◌}
+use Rattle.ghost_model.specs.Schema.{Schema, is_empty}
+use Rattle.ghost_model.specs.Channel.{Catalog, Ask, Frame, Hello, Asking, More, Bye, Welcome, Replied, Done}
 use Rattle.ghost_model.specs.Catalog.{catalog_bytes}
-use Rattle.ghost_model.specs.Frames.{Got, Found, Short, Bad, got_of, frame_bytes, kind_of, most_payload}
+use Rattle.ghost_model.specs.Frames.{IsFrame, Got, Found, Short, Bad, got_of, frame_bytes, kind_of, payload_of, most_payload}
 use Rattle.ghost_model.specs.Asks.{ReplyRow, row_bytes, row_width, ask_in}
 use Rattle.ghost_model.specs.Split.{Public, visible_rows, reply_row}
 use Rattle.ghost_model.specs.NextMove.{InvalidFrame}
@@ -21,7 +21,8 @@ pub record Holding : Type 0 where
 abbrev pub host_of : Catalog → Public → Holding
 host_of catalog public = record {
   catalog = catalog;
-  rows = λ ask. map (reply_row catalog.schema ask) (visible_rows catalog.schema public ask) }
+  rows = λ ask. map (reply_row catalog.schema ask) (visible_rows catalog.schema public ask);
+}
 
 -- so many groups of a list, each of `most` elements but the last
 unfoldable pub groups_from : {X : Type 0} → (most count : ℕ) → List X → List (List X)
@@ -151,9 +152,47 @@ unfoldable pub bad_from : Holding → (rest : List ℕ) → List Frame → (at :
 bad_from held rest [] at stand = unless_over stand (bad_rest at (got_of rest))
 bad_from held rest (frame ∷ later) at stand =
     unless_over stand
-      (refused_or frame at (bad_from held rest later (at + length (frame_bytes frame))) (answer_to held stand frame))
+    (refused_or frame at (bad_from held rest later (at + length (frame_bytes frame))) (answer_to held stand frame))
 
 -- the first frame that is no frame of the key in its place, if there is one: its first byte, and the bytes before it
 abbrev pub bad_request : Holding → (key : List ℕ) → Option InvalidFrame
 bad_request held key =
     bad_from held (drop (length (flat_map frame_bytes (frames_of key))) key) (frames_of key) 0 Greeting
+
+-- the ask in a frame of a key, one or none
+abbrev pub ask_of_frame : Schema → Frame → List Ask
+ask_of_frame schema (Asking _ payload) = option_to_list (ask_in schema payload)
+ask_of_frame schema _ = []
+
+-- the whole replies to some asks, the first of them having this serial
+abbrev pub replies_to : Holding → (serial : ℕ) → List Ask → List Frame
+replies_to held serial [] = []
+replies_to held serial (ask ∷ asks) = reply_to held serial ask ++ replies_to held (serial + 1) asks
+
+-- the stream of an honest host for frames of a key: the catalog, and the whole reply to each ask in order
+abbrev pub honest_stream : Holding → (key : List Frame) → List Frame
+honest_stream held key =
+    welcomes held.catalog ++ replies_to held 1 (flat_map (ask_of_frame held.catalog.schema) key)
+
+pub record IsFront (front whole : List Frame) : Type 0 where
+  pub rest : List Frame
+  pub joined : whole ≡ front ++ rest
+
+-- whatever a key sends, this host says a front of the honest stream
+abbrev pub HostIsHonest : Type 0
+HostIsHonest = (held : Holding) (key : List ℕ) → IsFront (host_says held key) (honest_stream held (frames_of key))
+
+abbrev pub welcome_part : Frame → List ℕ
+welcome_part (Welcome _ part) = part
+welcome_part _ = []
+
+-- the WELCOME frames spell the catalog, and the ROWS frames of a reply the rows
+pub record NothingIsLost : Type 0 where
+  pub catalog : (catalog : Catalog) → flat_map welcome_part (welcomes catalog) ≡ catalog_bytes catalog
+  pub rows :
+      (width : ℕ) (serial : ℕ) (rows : List ReplyRow) → 0 < width → width ≤ most_payload
+      → flat_map payload_of (map (rows_frame serial) (grouped (most_payload / width) rows)) ≡ flat_map row_bytes rows
+
+-- frames that are sent one after another are cut into these frames again
+abbrev pub FramesAreCut : Type 0
+FramesAreCut = (frames : List Frame) → All IsFrame frames → frames_of (flat_map frame_bytes frames) ≡ frames
