@@ -1,3 +1,10 @@
+mod Numerals
+mod ReadRecords
+mod KeptTexts
+mod ReadRows
+mod FormNames
+mod OneReading
+mod ReadForm
 mod FormText
 mod FormLemmas
 mod FormAnswers
