@@ -52,7 +52,7 @@ text_is_cell most text short printable =
 pub form_ask_is_proper : (form : Form) (wanted : List ℕ) → is_wanted form wanted ≡ true → is_proper_ask (form_schema form) (form_ask wanted) ≡ true
 form_ask_is_proper form wanted w =
     let both = and_parts (nat_le (length wanted) form.shown_most) (list_all is_plain wanted) w in
-    ap (λ o. is_some o && true) (text_is_cell form.shown_most wanted (leb-true _ _ both.0) (plain_printable wanted both.1))
+    and_from _ _ (and_from _ _ both.0 (plain_printable wanted both.1)) refl
 
 -- its bytes are read as this ask
 as_read : (form : Form) (wanted : List ℕ) → is_wanted form wanted ≡ true → ask_like (form_schema form) (form_payload form wanted) ≡ form_ask wanted

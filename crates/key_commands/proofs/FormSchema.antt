@@ -16,7 +16,7 @@ use Rattle.ghost_model.specs.Spelled.{begins_as_name, is_reserved, is_name}
 use Rattle.ghost_model.specs.SchemaGrammar.{ColumnText, CharColumn, IntegerColumn, TableText, SchemaText, spelling}
 use Rattle.ghost_model.specs.SchemaPlaces.{syntax_of}
 use Rattle.ghost_model.specs.SchemaMeaning.{value_of_digits, schema_of}
-use Rattle.ghost_model.specs.SchemaFaults.{SchemaFault, Limit, DuplicateName, NoId, TwoParents, Cycle, schema_or, is_over, duplicate_in, lacks_id, unknown_in, is_duplicate, is_unknown, is_shared, returns, ancestor, fields_from, fields, places_of, roots_of, wrong_roots, or_else, fault_of, judged, schema_reading, MeansSchema}
+use Rattle.ghost_model.specs.SchemaFaults.{SchemaFault, Limit, DuplicateName, NoId, TwoParents, Cycle, schema_or, is_over, duplicate_in, lacks_id, unknown_in, is_duplicate, is_unknown, is_shared, returns, ancestor, fields_from, fields, places_of, roots_of, wrong_roots, or_else, schema_fault, judged, schema_reading, MeansSchema}
 use Rattle.ghost_model.specs.Catalog.{canonical_text}
 use Rattle.ghost_model.proofs.TokenLemmas.{kinds_anywhere, kinds_after, take_while_all, one_token}
 use Rattle.ghost_model.proofs.SchemaLemmas.{schema_places}
@@ -233,7 +233,7 @@ one_root form = refl
 none_both : {X : Type 0} (a b : Option X) → a ≡ None → b ≡ None → or_else a b ≡ None
 none_both {X = X} a b e f = ap (λ (x : Option X). or_else x b) e ∙ f
 
-fault_free : (form : Form) → Proper form → fault_of (form_tables form) ≡ None
+fault_free : (form : Form) → Proper form → schema_fault (form_tables form) ≡ None
 fault_free form p =
     none_both _ _ (ap (λ v. if v then Some Limit else None) (not_over form p))
     (none_both _ _ (no_duplicate form p)
