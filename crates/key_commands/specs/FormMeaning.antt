@@ -49,8 +49,8 @@ pub record OneAsk : Type 0 where
   pub payload : (form : Form) (wanted : List ℕ) → ask_payload (form_schema form) (form_ask wanted) ≡ form_payload form wanted
   pub width : (form : Form) (wanted : List ℕ) → row_width (form_schema form) (form_ask wanted) ≡ 4
   pub kinds : (form : Form) (wanted : List ℕ) → kinds_of (form_schema form) (form_ask wanted) ≡ []
-  pub proper : (form : Form) (wanted : List ℕ) → is_form form ≡ true → is_wanted form wanted ≡ true → is_proper_ask (form_schema form) (form_ask wanted) ≡ true
-  pub taken : (form : Form) (wanted : List ℕ) → is_form form ≡ true → is_wanted form wanted ≡ true → ask_in (form_schema form) (form_payload form wanted) ≡ Some (form_ask wanted)
+  pub proper : (form : Form) (wanted : List ℕ) → is_wanted form wanted ≡ true → is_proper_ask (form_schema form) (form_ask wanted) ≡ true
+  pub taken : (form : Form) (wanted : List ℕ) → is_wanted form wanted ≡ true → ask_in (form_schema form) (form_payload form wanted) ≡ Some (form_ask wanted)
 
 -- whether a row's second value is the wanted text
 abbrev pub is_match : List ℕ → Row → Bool
