@@ -1,14 +1,14 @@
 -- The reply to the form's ask, in bytes.
-use Rattle.std.proofs.Common.{◌≡◌, ℕ, zero, suc, ◌+◌, ◌-◌, ◌*◌, ◌/◌, ◌^◌, ◌<◌, ◌≤◌, Bool, true, false, ◌&&◌, if◌then◌else◌, nat_le, nat_lt, List, [], ◌∷◌, ◌++◌, length, map, take, drop, refl, sym, ◌∙◌, ap, append-nil, arith, bytes_eq}
+use Rattle.std.proofs.Common.{◌≡◌, ℕ, ◌+◌, ◌*◌, ◌/◌, ◌^◌, ◌<◌, ◌≤◌, Bool, true, false, if◌then◌else◌, nat_le, List, [], ◌∷◌, ◌++◌, length, map, refl, ◌∙◌, ap, arith, bytes_eq}
 use Rattle.std.specs.Prelude.{flat_map}
 use Rattle.std.specs.List.{list_all}
-use Rattle.std.specs.Int.{to_be_bytes, from_be_bytes, w32}
-use Rattle.std.proofs.lemmas.Bool.{and_parts, and_from, ltb-true, lt-ltb, le-leb, leb-true}
+use Rattle.std.specs.Int.{to_be_bytes, w32}
+use Rattle.std.proofs.lemmas.Bool.{and_parts, and_from, ltb-true, lt-ltb, le-leb}
 use Rattle.std.proofs.lemmas.Nat.{from_be_bytes-to_be_bytes_4}
 use Rattle.ghost_model.specs.Schema.{places_from}
 use Rattle.ghost_model.specs.Values.{Rows}
-use Rattle.ghost_model.specs.Asks.{ReplyRow, row_bytes, row_in, rows_from, rows_in, ascend_from}
-use Rattle.ghost_model.specs.Split.{Replied, public_of, reply_row, reply_rows}
+use Rattle.ghost_model.specs.Asks.{ReplyRow, row_bytes, rows_from, rows_in, ascend_from}
+use Rattle.ghost_model.specs.Split.{public_of, reply_row, reply_rows}
 use Rattle.key_commands.specs.Form.{Form, form_schema}
 use Rattle.key_commands.specs.FormMeaning.{form_ask, bare_reply, HaveTexts, matches, bare_row, identifier_bytes, fits_identifier}
 use Rattle.key_commands.proofs.FormRows.{replied_texts}

@@ -1,11 +1,11 @@
 -- What the definitions of texts, meanings, asks and printed lines give for the one form of input. A script of the form
 -- has one text; this text means the query of the form and makes one ask; and the answer, the rows that the ask is
 -- replied with and the printed lines are those of the rows whose visible text is the wanted one, in their order.
-use Rattle.std.specs.Prelude.{◌≡◌, ℕ, ◌+◌, pos, Bool, true, List, [], ◌∷◌, ◌++◌, nat_le, nat_lt, ◌^◌, length, map, filter, flat_map, codes, bytes_eq, Option, Some, None, slice_get, option_to_list, unwrap_or, ◌-◌, Result, Ok, Err}
+use Rattle.std.specs.Prelude.{◌≡◌, ℕ, Bool, true, List, [], ◌∷◌, ◌++◌, nat_le, nat_lt, ◌^◌, length, map, filter, flat_map, codes, bytes_eq, Some, slice_get, option_to_list, unwrap_or, ◌-◌, Ok}
 use Rattle.std.specs.List.{list_all}
 use Rattle.std.specs.Int.{to_be_bytes, w32}
 use Rattle.ghost_model.specs.Query as query
-use Rattle.ghost_model.specs.Values.{Number, Text, Row, Rows}
+use Rattle.ghost_model.specs.Values.{Text, Row, Rows}
 use Rattle.ghost_model.specs.Schema.{places_from}
 use Rattle.ghost_model.specs.Cells.{padded}
 use Rattle.ghost_model.specs.Channel.{Ask}
@@ -36,7 +36,8 @@ abbrev pub form_ask : List ℕ → Ask
 form_ask wanted = record {
   table = 0;
   columns = [];
-  tests = record { column = 1; operator = query.Equal; value = Text wanted } ∷ [] }
+  tests = record { column = 1; operator = query.Equal; value = Text wanted } ∷ [];
+}
 
 abbrev pub form_payload : Form → List ℕ → List ℕ
 form_payload form wanted = 0 ∷ 0 ∷ 1 ∷ 1 ∷ 1 ∷ padded form.shown_most wanted
@@ -48,8 +49,8 @@ pub record OneAsk : Type 0 where
   pub payload : (form : Form) (wanted : List ℕ) → ask_payload (form_schema form) (form_ask wanted) ≡ form_payload form wanted
   pub width : (form : Form) (wanted : List ℕ) → row_width (form_schema form) (form_ask wanted) ≡ 4
   pub kinds : (form : Form) (wanted : List ℕ) → kinds_of (form_schema form) (form_ask wanted) ≡ []
-  pub proper : (form : Form) (wanted : List ℕ) → is_form form ≡ true → is_wanted form wanted ≡ true → is_proper_ask (form_schema form) (form_ask wanted) ≡ true
-  pub taken : (form : Form) (wanted : List ℕ) → is_form form ≡ true → is_wanted form wanted ≡ true → ask_in (form_schema form) (form_payload form wanted) ≡ Some (form_ask wanted)
+  pub proper : (form : Form) (wanted : List ℕ) → is_wanted form wanted ≡ true → is_proper_ask (form_schema form) (form_ask wanted) ≡ true
+  pub taken : (form : Form) (wanted : List ℕ) → is_wanted form wanted ≡ true → ask_in (form_schema form) (form_payload form wanted) ≡ Some (form_ask wanted)
 
 -- whether a row's second value is the wanted text
 abbrev pub is_match : List ℕ → Row → Bool
