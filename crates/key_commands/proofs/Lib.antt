@@ -5,9 +5,11 @@ mod ReadRows
 mod FormNames
 mod OneReading
 mod ReadForm
+mod ReadScript
 mod FormText
 mod FormLemmas
 mod FormAnswers
 mod FormRows
 mod FormSchema
 mod FormReplies
+mod FormFile

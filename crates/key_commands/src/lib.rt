@@ -8,5 +8,8 @@ pub mod naming;
 pub mod pieces;
 pub mod records;
 pub mod rows;
+pub mod script;
+#[cfg(test)]
+mod tests;
 pub mod texts;
 pub mod words;
