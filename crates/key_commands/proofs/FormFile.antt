@@ -1,5 +1,5 @@
 -- The answers over the database that a table's file spells.
-use Rattle.std.proofs.Common.{◌≡◌, ℕ, suc, ◌+◌, true, List, [], ◌∷◌, ◌++◌, length, map, refl, sym, ◌∙◌, ap, arith}
+use Rattle.std.proofs.Common.{◌≡◌, ℕ, ◌+◌, true, List, [], ◌∷◌, ◌++◌, length, map, refl, sym, ◌∙◌, ap, arith}
 use Rattle.std.specs.Prelude.{flat_map}
 use Rattle.ghost_model.specs.Values.{Database}
 use Rattle.ghost_model.specs.Database.{database_of}
