@@ -1,0 +1,15 @@
+mod Numerals
+mod ReadRecords
+mod KeptTexts
+mod ReadRows
+mod FormNames
+mod OneReading
+mod ReadForm
+mod ReadScript
+mod FormText
+mod FormLemmas
+mod FormAnswers
+mod FormRows
+mod FormSchema
+mod FormReplies
+mod FormFile
