@@ -1,13 +1,9 @@
-// A library with one function.
+//! The outside as it is: files in the file system and lines on the standard output.
+//!
+//! These objects tell nothing of what they hold. What is proved of them is how they count their faults.
 #![tactic(auto)]
 
-ghost use Rattle.std.specs.Prelude.{◌≡◌};
-ghost use Rattle.edge_real.specs.Echo.{echo_of};
-
-// The `ensures` clause is the contract: what `echo` returns is `echo_of` of its argument, a definition
-// in `specs/Echo.antt`, which a caller's clause can cite too.
-pub fn echo(x: usize) -> usize
-    ensures { result ≡ echo_of x }
-{
-    x
-}
+pub mod dir_depot;
+pub mod std_sink;
+#[cfg(test)]
+mod tests;

@@ -9,7 +9,7 @@ pub mod depot;
 pub mod mem_depot;
 pub mod mem_sink;
 pub mod reading;
-mod room;
+pub mod room;
 pub mod script;
 pub mod sink;
 mod slots;
@@ -18,3 +18,6 @@ pub mod writing;
 /// A call on the outside failed, and the object counted it as a fault.
 #[derive(Clone, Copy, Debug, PartialEq, Eq)]
 pub struct Failed;
+
+#[cfg(test)]
+mod tests;

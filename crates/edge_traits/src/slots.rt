@@ -1,6 +1,6 @@
 //! Files in memory, each in a slot whose room was reserved when it was made.
 
-ghost use Rattle.std.specs.Prelude.{◌≡◌, ◌++◌, ◌+◌, ◌≤◌, ℕ, List, IfOk, IfSome, IsTrue, MatchOption, MatchBool, Some, None, false, vec_len, vec_capacity};
+ghost use Rattle.std.specs.Prelude.{◌≡◌, ◌++◌, ◌+◌, ◌≤◌, IfOk, IsTrue, MatchOption, Some, None, false, vec_len};
 ghost use Rattle.std.specs.List.{position};
 ghost use Rattle.std.specs.FinMap as map;
 ghost use Rattle.edge_traits.specs.Files.{or_empty};
@@ -70,9 +70,7 @@ fn extend(slot: &mut Slot, bytes: &[u8]) -> bool
     ensures bytes { IsTrue result → slot.new.bytes.items ≡ slot.old.bytes.items ++ bytes.now }
     ensures refused { result ≡ false → slot.new ≡ slot.old }
 {
-    let has_room = slot.bytes.len() <= slot.bytes.capacity()
-        && bytes.len() <= slot.bytes.capacity() - slot.bytes.len();
-    if !has_room {
+    if !room::has_room(&slot.bytes, bytes.len()) {
         return false;
     }
     room::add(&mut slot.bytes, bytes);

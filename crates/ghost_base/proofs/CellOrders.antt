@@ -1,9 +1,8 @@
 -- The byte order of cells is the order of their values, kind by kind.
-use Rattle.std.proofs.Common.{◌≡◌, ℕ, suc, zero, ◌+◌, ◌-◌, ◌*◌, ◌/◌, ◌%◌, ◌^◌, ◌<◌, ◌≤◌, true, ◌&&◌, nat_le, ℤ, pos, negsuc, List, [], ◌∷◌, ◌++◌, length, length-append, replicate, IsTrue, refl, sym, ap, ap₂, ◌∙◌, arith, nat_cmp, int_cmp, Ordering, Less, Equal, Greater, mod-lt, mod-eq_of_lt, div-one, suc-mul, mul-le-mul_right, leb-true, ltb-true, w64}
+use Rattle.std.proofs.Common.{◌≡◌, ℕ, suc, zero, ◌+◌, ◌-◌, ◌*◌, ◌/◌, ◌%◌, ◌^◌, ◌<◌, ◌≤◌, true, ℤ, pos, negsuc, List, [], ◌∷◌, ◌++◌, length, replicate, IsTrue, refl, sym, ap, ap₂, ◌∙◌, arith, nat_cmp, int_cmp, Ordering, Less, Equal, Greater, mod-lt, mod-eq_of_lt, div-one, suc-mul, mul-le-mul_right, leb-true, w64}
 use Rattle.std.proofs.Math.Nat.{mod-one, pow-succ'}
 use Rattle.std.proofs.Math.Arith.{mod-mul}
 use Rattle.std.proofs.lemmas.Bool.Decides.{nat_tests}
-use Rattle.std.proofs.lemmas.List.{length-replicate}
 use Rattle.std.specs.Ordering.{ordering_then, MatchOrdering}
 use Rattle.std.specs.Cmp.{nat_cmp_is, first_so, second_so}
 use Rattle.std.specs.Cmp.Lexicographic.{slice_cmp}
@@ -13,7 +12,8 @@ use Rattle.ghost_model.specs.Schema.{Kind, Integer, Chars}
 use Rattle.ghost_model.specs.Values.{Value, Number, Text}
 use Rattle.ghost_model.specs.Tokens.{is_printable}
 use Rattle.ghost_model.specs.Cells.{encode_cell, above_lowest}
-use Rattle.ghost_base.specs.Ordered.{may_hold, fits_64_bits, byte_order, value_order}
+use Rattle.ghost_model.specs.Database.{is_of_kind, fits_integer, order_of}
+use Rattle.ghost_base.specs.CellLaws.{byte_order}
 use Rattle.ghost_base.proofs.IntegerCells.{above_fits}
 
 -- ---- numbers and their digits
@@ -59,13 +59,13 @@ byte_order_of_digits (suc k) m n =
 
 -- ---- integers
 
-above_order : (a b : ℤ) → IsTrue (fits_64_bits (Number a)) → IsTrue (fits_64_bits (Number b)) → nat_cmp (above_lowest a) (above_lowest b) ≡ int_cmp a b
+above_order : (a b : ℤ) → IsTrue (fits_integer a) → IsTrue (fits_integer b) → nat_cmp (above_lowest a) (above_lowest b) ≡ int_cmp a b
 above_order (pos a) (pos b) h k = grind (arith, nat_tests)
 above_order (pos a) (negsuc b) h k = grind (arith, nat_tests)
 above_order (negsuc a) (pos b) h k = grind (arith, nat_tests)
 above_order (negsuc a) (negsuc b) h k = grind (arith, nat_tests)
 
-integer_order : (a b : ℤ) → IsTrue (fits_64_bits (Number a)) → IsTrue (fits_64_bits (Number b))
+integer_order : (a b : ℤ) → IsTrue (fits_integer a) → IsTrue (fits_integer b)
     → byte_order (to_be_bytes w64 (above_lowest a)) (to_be_bytes w64 (above_lowest b)) ≡ int_cmp a b
 integer_order a b h k =
     byte_order_of_digits 8 (above_lowest a) (above_lowest b)
@@ -94,16 +94,14 @@ padded_order (x ∷ xs) [] n (suc m) e h k = rw (zero_last x (first_so _ _ h)) r
 padded_order (x ∷ xs) (y ∷ ys) n m e h k =
     ap (ordering_then (nat_cmp x y)) (padded_order xs ys n m (omega arith) (second_so _ _ h) (second_so _ _ k))
 
-pub cell_order : (kind : Kind) (a b : Value) → IsTrue (may_hold kind a) → IsTrue (may_hold kind b)
-    → byte_order (encode_cell kind a) (encode_cell kind b) ≡ value_order a b
+pub cell_order : (kind : Kind) (a b : Value) → IsTrue (is_of_kind kind a) → IsTrue (is_of_kind kind b)
+    → byte_order (encode_cell kind a) (encode_cell kind b) ≡ order_of a b
 cell_order Integer (Number a) (Number b) h k = integer_order a b h k
 cell_order Integer (Number a) (Text b) h k = cc
 cell_order Integer (Text a) b h k = cc
 cell_order (Chars most) (Number a) b h k = cc
 cell_order (Chars most) (Text a) (Number b) h k = cc
 cell_order (Chars most) (Text a) (Text b) h k =
-    let p = first_so (nat_le (length a) most && list_all is_printable a) true h in
-    let q = first_so (nat_le (length b) most && list_all is_printable b) true k in
-    let short_a : length a ≤ most = leb-true _ _ (first_so _ _ p) in
-    let short_b : length b ≤ most = leb-true _ _ (first_so _ _ q) in
-    padded_order a b (most - length a) (most - length b) (omega arith) (second_so _ _ p) (second_so _ _ q)
+    let short_a : length a ≤ most = leb-true _ _ (first_so _ _ h) in
+    let short_b : length b ≤ most = leb-true _ _ (first_so _ _ k) in
+    padded_order a b (most - length a) (most - length b) (omega arith) (second_so _ _ h) (second_so _ _ k)

@@ -1,25 +1,24 @@
 -- An integer and its distance to the lowest give each other, and a distance and its eight bytes do.
-use Rattle.std.proofs.Common.{◌≡◌, ℕ, zero, suc, ◌+◌, ◌-◌, ◌^◌, ◌<◌, ◌≤◌, Bool, true, false, ◌&&◌, ℤ, pos, negsuc, List, [], ◌∷◌, length, get_or, nat_lt, IsTrue, refl, sym, ap, ◌∙◌, arith, w64, ltb-true, le-leb, leb-true}
+use Rattle.std.proofs.Common.{◌≡◌, ℕ, zero, suc, ◌^◌, ◌<◌, ℤ, pos, negsuc, List, [], ◌∷◌, length, get_or, nat_lt, IsTrue, refl, sym, ap, ◌∙◌, arith, w64, ltb-true}
 use Rattle.std.specs.List.{list_all}
 use Rattle.std.specs.Int.{to_be_bytes, from_be_bytes}
 use Rattle.std.proofs.lemmas.Nat.{from_be_bytes-to_be_bytes_8, be_bytes_8}
 use Rattle.std.specs.Cmp.{first_so, second_so}
-use Rattle.ghost_model.specs.Values.{Number}
 use Rattle.ghost_model.specs.Cells.{above_lowest, from_lowest}
-use Rattle.ghost_base.specs.Ordered.{fits_64_bits}
+use Rattle.ghost_model.specs.Database.{fits_integer}
 
-pub above_fits : (z : ℤ) → IsTrue (fits_64_bits (Number z)) → above_lowest z < 2 ^ 64
+pub above_fits : (z : ℤ) → IsTrue (fits_integer z) → above_lowest z < 2 ^ 64
 above_fits (pos n) h = let f : n < 2 ^ 63 = ltb-true n (2 ^ 63) h in omega arith
 above_fits (negsuc n) h = omega arith
 
-pub from_above : (z : ℤ) → IsTrue (fits_64_bits (Number z)) → from_lowest (above_lowest z) ≡ z
+pub from_above : (z : ℤ) → IsTrue (fits_integer z) → from_lowest (above_lowest z) ≡ z
 from_above (pos n) h = let f : n < 2 ^ 63 = ltb-true n (2 ^ 63) h in grind arith
 from_above (negsuc n) h = let f : n < 2 ^ 63 = ltb-true n (2 ^ 63) h in grind arith
 
 pub above_from : (n : ℕ) → n < 2 ^ 64 → above_lowest (from_lowest n) ≡ n
 above_from n h = grind arith
 
-pub from_fits : (n : ℕ) → n < 2 ^ 64 → IsTrue (fits_64_bits (Number (from_lowest n)))
+pub from_fits : (n : ℕ) → n < 2 ^ 64 → IsTrue (fits_integer (from_lowest n))
 from_fits n h = grind arith
 
 pub byte_at_place : (bytes : List ℕ) → IsTrue (list_all (λ byte. nat_lt byte 256) bytes) → (i : ℕ) → get_or bytes i 0 < 256

@@ -2,3 +2,4 @@ pub mod IntegerCells
 pub mod TextCells
 pub mod CellSpelling
 pub mod CellOrders
+pub mod ValueOrder

@@ -1,4 +1,3 @@
 pub mod Texts
 pub mod Views
-pub mod Ordered
 pub mod CellLaws

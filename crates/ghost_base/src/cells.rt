@@ -6,7 +6,7 @@ ghost use Rattle.std.specs.List.{list_all};
 ghost use Rattle.ghost_model.specs.Cells as cells;
 ghost use Rattle.ghost_model.specs.Tokens.{is_printable};
 ghost use Rattle.ghost_base.specs.Views.{kind_of, value_of};
-ghost use Rattle.ghost_base.specs.Ordered as ordered;
+ghost use Rattle.ghost_model.specs.Database as database;
 
 use crate::limits::MAX_CHARS;
 use crate::text::put_padded;
@@ -24,10 +24,14 @@ pub fn cell_width(kind: Kind) -> usize
 
 /// Whether a value is of a kind: an integer, or a text of printable bytes, at most as many as the kind says.
 pub fn is_of_kind(kind: Kind, value: &Value) -> bool
-    ensures { result ≡ ordered.is_of_kind (kind_of kind) (value_of value.now) }
+    ensures { result ≡ database.is_of_kind (kind_of kind) (value_of value.now) }
 {
     match (kind, value) {
-        (Kind::Integer, Value::Int(_)) => true,
+        (Kind::Integer, Value::Int(number)) => {
+            // Read, so that the proof knows it as a number of 64 bits.
+            let _number = *number;
+            true
+        }
         (Kind::Chars(most), Value::Chars(text)) => {
             text.len() <= most as usize && is_printable_text(text.as_bytes())
         }
@@ -38,7 +42,7 @@ pub fn is_of_kind(kind: Kind, value: &Value) -> bool
 /// Writes the cell of a value, which is of the kind (`is_of_kind`), into as many bytes as it has.
 #[tactic(auto, using(crate::proofs::CellSpelling::reads_back))]
 pub fn encode_cell(kind: Kind, value: &Value, out: &mut [u8])
-    requires kind { IsTrue (ordered.is_of_kind (kind_of kind) (value_of value.now)) }
+    requires kind { IsTrue (database.is_of_kind (kind_of kind) (value_of value.now)) }
     requires width { length out.old ≡ cells.cell_width (kind_of kind) }
     ensures cell { out.new ≡ cells.encode_cell (kind_of kind) (value_of value.now) }
     ensures spells { cells.decode_cell (kind_of kind) out.new ≡ Some (value_of value.now) }
@@ -57,7 +61,7 @@ pub fn encode_cell(kind: Kind, value: &Value, out: &mut [u8])
 pub fn decode_cell(kind: Kind, bytes: &[u8]) -> Option<Value>
     requires { cells.cell_width (kind_of kind) ≤ MAX_CHARS }
     ensures value { option_map value_of result ≡ cells.decode_cell (kind_of kind) bytes.now }
-    ensures kind { IfSome result (λ value. IsTrue (ordered.is_of_kind (kind_of kind) (value_of value))) }
+    ensures kind { IfSome result (λ value. IsTrue (database.is_of_kind (kind_of kind) (value_of value))) }
     ensures cell { IfSome result (λ value. cells.encode_cell (kind_of kind) (value_of value) ≡ bytes.now) }
 {
     if bytes.len() != cell_width(kind) {
@@ -133,4 +137,68 @@ fn is_zero(padding: &[u8]) -> bool
     ensures { result ≡ list_all (λ byte. byte == 0) padding.now }
 {
     padding.iter().all(|&byte| byte == 0)
+}
+
+#[cfg(test)]
+mod tests {
+    use super::*;
+
+    // Whether the value's cell is these bytes, and they spell the value.
+    fn is_cell(kind: Kind, value: Value, cell: &[u8]) -> bool {
+        let mut places = [0xFF; 255];
+        let out = &mut places[..cell_width(kind)];
+        if cell_width(kind) > MAX_CHARS || !is_of_kind(kind, &value) {
+            return false;
+        }
+        encode_cell(kind, &value, out);
+        &*out == cell && decode_cell(kind, cell) == Some(value)
+    }
+
+    // Whether the bytes spell no value.
+    fn is_no_cell(kind: Kind, bytes: &[u8]) -> bool {
+        cell_width(kind) <= MAX_CHARS && decode_cell(kind, bytes).is_none()
+    }
+
+    #[test]
+    fn numbers_have_the_cells_of_their_order(rt: HostRuntime) {
+        for (number, cell) in [
+            (5, [0x80, 0, 0, 0, 0, 0, 0, 5]),
+            (-1, [0x7F, 0xFF, 0xFF, 0xFF, 0xFF, 0xFF, 0xFF, 0xFF]),
+            (i64::MIN, [0; 8]),
+            (i64::MAX, [0xFF; 8]),
+        ] {
+            assert!(rt;
+                is_cell(Kind::Integer, Value::Int(number), &cell),
+                "at {number}"
+            );
+        }
+    }
+
+    #[test]
+    fn texts_end_at_the_first_zero_byte(rt: HostRuntime) {
+        for (most, text, cell) in [
+            (8, Text64::of(b"cardio"), b"cardio\0\0".as_slice()),
+            (2, Text64::of(b"FR"), b"FR".as_slice()),
+            (3, Text64::of(b""), b"\0\0\0".as_slice()),
+        ] {
+            assert!(rt;
+                is_cell(Kind::Chars(most), Value::Chars(text), cell),
+                "at {most}"
+            );
+        }
+        let cardio = Value::Chars(Text64::of(b"cardio"));
+        assert!(rt; !is_of_kind(Kind::Chars(5), &cardio));
+        assert!(rt; !is_of_kind(Kind::Integer, &cardio));
+    }
+
+    #[test]
+    fn other_bytes_spell_no_value(rt: HostRuntime) {
+        assert!(rt; is_no_cell(Kind::Integer, b"\0\0\0\0\0\0\0"));
+        assert!(rt; is_no_cell(Kind::Integer, b"\0\0\0\0\0\0\0\0\0"));
+        assert!(rt; is_no_cell(Kind::Chars(3), b"a\0a"));
+        assert!(rt; is_no_cell(Kind::Chars(2), b"\x7F\0"));
+        assert!(rt; is_no_cell(Kind::Chars(2), b"\x1F\0"));
+        assert!(rt; is_no_cell(Kind::Chars(3), b"ab"));
+        assert!(rt; is_no_cell(Kind::Chars(3), b"ab\0\0"));
+    }
 }

@@ -1,7 +1,7 @@
 //! Values, and their order.
 
 ghost use Rattle.std.specs.Prelude.{◌≡◌, pos};
-ghost use Rattle.ghost_base.specs.Ordered.{value_order};
+ghost use Rattle.ghost_model.specs.Database.{order_of};
 ghost use Rattle.ghost_base.specs.Views.{value_of};
 
 use crate::Text64;
@@ -32,7 +32,33 @@ impl Default for Value {
 
 /// The order of two values, which is that of their `Ord`.
 pub fn compare(a: &Value, b: &Value) -> Ordering
-    ensures { result ≡ value_order (value_of a.now) (value_of b.now) }
+    ensures { result ≡ order_of (value_of a.now) (value_of b.now) }
 {
     a.cmp(b)
+}
+
+#[cfg(test)]
+mod tests {
+    use super::*;
+
+    #[test]
+    fn values_are_ordered(rt: HostRuntime) {
+        let ascending = [
+            Value::Int(i64::MIN),
+            Value::Int(-1),
+            Value::Int(0),
+            Value::Int(5),
+            Value::Chars(Text64::of(b"")),
+            Value::Chars(Text64::of(b"B")),
+            Value::Chars(Text64::of(b"a")),
+            Value::Chars(Text64::of(b"aa")),
+            Value::Chars(Text64::of(b"b")),
+        ];
+        for (i, a) in ascending.iter().enumerate() {
+            for (j, b) in ascending.iter().enumerate() {
+                assert!(rt; compare(a, b) == i.cmp(&j), "at {i} and {j}");
+                assert!(rt; (a == b) == (i == j), "at {i} and {j}");
+            }
+        }
+    }
 }

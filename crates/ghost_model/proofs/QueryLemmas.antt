@@ -9,20 +9,20 @@ use Rattle.ghost_model.specs.Tokens.{Token, tokens, symbol_of, symbols, offset_o
 use Rattle.ghost_model.specs.Grammar.{Spells, IsSyntaxFault, separated, begun}
 use Rattle.ghost_model.specs.Spelled.{is_spelled, is_name, is_number}
 use Rattle.ghost_model.specs.QueryGrammar.{ColumnText, Bare, Qualified, Sign, Positive, Negative, LiteralText, Unsigned, Signed, Written, ConditionText, Compares, LiesBetween, Joins, Selection, All, Columns, QueryText, spell_column, spell_sign, spell_operator, spell_literal, spell_condition, spell_table, spell_selection, spell_where, spelling}
-use Rattle.ghost_model.specs.QueryPlaces.{ColumnPart, WantsColumn, HasTablePoint, HasColumn, ConditionPart, WantsLeft, HasLeftPoint, HasLeft, HasOperator, HasSign, HasRightPoint, WantsLow, HasLowSign, HasLow, WantsHigh, HasHighSign, HasCondition, Place, Start, HasStar, InSelect, WantsTable, HasTable, InWhere, Whole, first_item, other_items, selection_of, query_text, in_column, in_condition, before, step_in_column, step_in_condition, step_in_select, step_in_where, step, whole_text, read_from, syntax_of}
+use Rattle.ghost_model.specs.QueryPlaces.{ColumnPart, WantsColumn, HasTablePoint, HasColumn, ConditionPart, WantsLeft, HasLeftPoint, HasLeft, HasOperator, HasSign, HasRightPoint, WantsLow, HasLowSign, HasLow, WantsHigh, HasHighSign, HasCondition, Place, Start, HasStar, InSelect, WantsTable, HasTable, InWhere, Whole, first_item, other_items, selection_of, query_text, in_column, in_condition, before, step_in_column, step_in_condition, step_in_select, step_in_where, step, whole_text, read_from, syntax_of, IsStuck}
 use Rattle.ghost_model.proofs.TokenLemmas.{before_end}
-use Rattle.ghost_model.proofs.GrammarLemmas.{front, final, front_final, more_begun, separated_made, spelled_parts, no_end_inside, spelled_front, viable_front, run, run-append, dead_after, fault_after, no_fault, one_fault}
+use Rattle.ghost_model.proofs.GrammarLemmas.{front, final, front_final, begun_before, more_begun, separated_made, spelled_parts, no_end_inside, spelled_front, viable_front, run, run-append, dead_after, fault_after, no_fault, one_fault}
 
 -- a step adds its symbol to what was read
 column_step : (symbol : Symbol) (part : ColumnPart)
-  → IfSome (step_in_column symbol part) (λ next. in_column next ≡ in_column part ++ symbol ∷ [])
+    → IfSome (step_in_column symbol part) (λ next. in_column next ≡ in_column part ++ symbol ∷ [])
 column_step (Name name) WantsColumn = refl
 column_step (Name name) (HasTablePoint table) = refl
 column_step Point (HasColumn (Bare name)) = refl
 column_step _ _ = tt
 
 condition_step : (symbol : Symbol) (part : ConditionPart)
-  → IfSome (step_in_condition symbol part) (λ next. in_condition next ≡ in_condition part ++ symbol ∷ [])
+    → IfSome (step_in_condition symbol part) (λ next. in_condition next ≡ in_condition part ++ symbol ∷ [])
 condition_step (Name name) WantsLeft = refl
 condition_step (Name name) (HasLeftPoint table) = refl
 condition_step Point (HasLeft (Bare name)) = refl
@@ -60,15 +60,15 @@ from_some P (Some y) x holds is = let same : y ≡ x = cc in subst P same holds
 
 -- inside the select list and after WHERE the symbols before the part at hand stay as they are
 in_select : (earlier : List ColumnText) (symbol : Symbol) (part : ColumnPart) (o : Option ColumnPart)
-  → IfSome o (λ next. in_column next ≡ in_column part ++ symbol ∷ [])
-  → IfSome (option_map (InSelect earlier) o) (λ next. before next ≡ before (InSelect earlier part) ++ symbol ∷ [])
+    → IfSome o (λ next. in_column next ≡ in_column part ++ symbol ∷ [])
+    → IfSome (option_map (InSelect earlier) o) (λ next. before next ≡ before (InSelect earlier part) ++ symbol ∷ [])
 in_select earlier symbol part None adds = tt
 in_select earlier symbol part (Some next) adds =
     ap (λ rest. Word Select ∷ (begun Comma spell_column earlier ++ rest)) adds
     ∙ ap (λ rest. Word Select ∷ rest) (sym (append_assoc (begun Comma spell_column earlier) _ _))
 
 select_step : (symbol : Symbol) (part : ColumnPart) (earlier : List ColumnText)
-  → IfSome (step_in_select symbol part earlier) (λ next. before next ≡ before (InSelect earlier part) ++ symbol ∷ [])
+    → IfSome (step_in_select symbol part earlier) (λ next. before next ≡ before (InSelect earlier part) ++ symbol ∷ [])
 select_step Star WantsColumn [] = refl
 select_step Comma (HasColumn column) earlier =
     ap (λ rest. Word Select ∷ rest)
@@ -83,14 +83,14 @@ with_conditions selection table more rest =
     Word Select ∷ (spell_selection selection ++ (Word From ∷ (separated Comma spell_table table more ++ rest)))
 
 with_conditions_more : (selection : Selection) (table : List ℕ) (more : List (List ℕ)) (rest last : List Symbol)
-  → with_conditions selection table more (rest ++ last) ≡ with_conditions selection table more rest ++ last
+    → with_conditions selection table more (rest ++ last) ≡ with_conditions selection table more rest ++ last
 unfolding with_conditions
 with_conditions_more selection table more rest last = simp append_assoc
 
 in_where : (selection : Selection) (table : List ℕ) (more : List (List ℕ)) (earlier : List ConditionText) (symbol : Symbol)
-  (part : ConditionPart) (o : Option ConditionPart)
-  → IfSome o (λ next. in_condition next ≡ in_condition part ++ symbol ∷ [])
-  → IfSome (option_map (InWhere selection table more earlier) o)
+    (part : ConditionPart) (o : Option ConditionPart)
+    → IfSome o (λ next. in_condition next ≡ in_condition part ++ symbol ∷ [])
+    → IfSome (option_map (InWhere selection table more earlier) o)
     (λ next. before next ≡ before (InWhere selection table more earlier part) ++ symbol ∷ [])
 unfolding with_conditions
 in_where selection table more earlier symbol part None adds = tt
@@ -100,13 +100,13 @@ in_where selection table more earlier symbol part (Some next) adds =
     ∙ with_conditions_more selection table more (Word Where ∷ (begun (Word And) spell_condition earlier ++ in_condition part)) (symbol ∷ [])
 
 where_made : (earlier : List ConditionText) (last : ConditionText)
-  → Word Where ∷ (begun (Word And) spell_condition earlier ++ spell_condition last) ≡ spell_where (earlier ++ last ∷ [])
+    → Word Where ∷ (begun (Word And) spell_condition earlier ++ spell_condition last) ≡ spell_where (earlier ++ last ∷ [])
 where_made [] last = ap (λ rest. Word Where ∷ rest) (separated_made (Word And) spell_condition [] last)
 where_made (first ∷ earlier) last = ap (λ rest. Word Where ∷ rest) (separated_made (Word And) spell_condition (first ∷ earlier) last)
 
 where_step : (symbol : Symbol) (part : ConditionPart) (selection : Selection) (table : List ℕ) (more : List (List ℕ))
-  (earlier : List ConditionText)
-  → IfSome (step_in_where symbol part selection table more earlier)
+    (earlier : List ConditionText)
+    → IfSome (step_in_where symbol part selection table more earlier)
     (λ next. before next ≡ before (InWhere selection table more earlier part) ++ symbol ∷ [])
 unfolding with_conditions
 where_step (Word And) (HasCondition condition) selection table more earlier =
@@ -125,7 +125,7 @@ with_tables : Selection → List Symbol → List Symbol
 with_tables selection rest = Word Select ∷ (spell_selection selection ++ (Word From ∷ rest))
 
 with_tables_more : (selection : Selection) (rest last : List Symbol)
-  → with_tables selection (rest ++ last) ≡ with_tables selection rest ++ last
+    → with_tables selection (rest ++ last) ≡ with_tables selection rest ++ last
 unfolding with_tables
 with_tables_more selection rest last = simp append_assoc
 
@@ -155,10 +155,10 @@ step_before place symbol next leads =
 pub run_before : (place : Place) (xs : List Symbol) (last : Place) → run step place xs ≡ Some last → before last ≡ before place ++ xs
 run_before place [] last leads = let same : place ≡ last = cc in sym (ap before same) ∙ sym (append-nil (before place))
 run_before place (symbol ∷ xs) last leads = elim (step place symbol) as (λ o. step place symbol ≡ o → option_and_then (λ next. run step next xs) o ≡ Some last → before last ≡ before place ++ (symbol ∷ xs)) [
-      None ↦ (λ is leads. absurd (cc))
-    | Some next ↦ (λ is leads.
-        run_before next xs last leads ∙ ap (λ read. read ++ xs) (step_before place symbol next is) ∙ append_assoc (before place) (symbol ∷ []) xs)
-    ] refl leads
+  | None ↦ (λ is leads. absurd (cc))
+  | Some next ↦ (λ is leads.
+      run_before next xs last leads ∙ ap (λ read. read ++ xs) (step_before place symbol next is) ∙ append_assoc (before place) (symbol ∷ []) xs)
+] refl leads
 
 -- the first of one or more items and the others, from those before the last one and the last one
 first_back : {X : Type 0} (x : X) (xs : List X) → first_item (front x xs) (final x xs) ≡ x
@@ -171,12 +171,12 @@ others_back x (y ∷ ys) = front_final y ys
 
 -- the places lead along what each part of a tree is spelled by
 column_run : (done : List ColumnText) (column : ColumnText) (rest : List Symbol)
-  → run step (InSelect done WantsColumn) (spell_column column ++ rest) ≡ run step (InSelect done (HasColumn column)) rest
+    → run step (InSelect done WantsColumn) (spell_column column ++ rest) ≡ run step (InSelect done (HasColumn column)) rest
 column_run done (Bare name) rest = refl
 column_run done (Qualified table name) rest = refl
 
 columns_run : (done : List ColumnText) (x : ColumnText) (xs : List ColumnText) (rest : List Symbol)
-  → run step (InSelect done (HasColumn x)) (flat_map (λ other. Comma ∷ spell_column other) xs ++ rest)
+    → run step (InSelect done (HasColumn x)) (flat_map (λ other. Comma ∷ spell_column other) xs ++ rest)
     ≡ run step (InSelect (done ++ front x xs) (HasColumn (final x xs))) rest
 columns_run done x [] rest = ap (λ d. run step (InSelect d (HasColumn x)) rest) (sym (append-nil done))
 columns_run done x (y ∷ ys) rest =
@@ -186,7 +186,7 @@ columns_run done x (y ∷ ys) rest =
     ∙ ap (λ d. run step (InSelect d (HasColumn (final y ys))) rest) (append_assoc done (x ∷ []) _)
 
 selection_run : (selection : Selection) (rest : List Symbol)
-  → run step Start (with_tables selection rest) ≡ run step (WantsTable selection []) rest
+    → run step Start (with_tables selection rest) ≡ run step (WantsTable selection []) rest
 unfolding with_tables
 selection_run All rest = refl
 selection_run (Columns x xs) rest =
@@ -196,7 +196,7 @@ selection_run (Columns x xs) rest =
     ∙ ap₂ (λ first others. run step (WantsTable (Columns first others) []) rest) (first_back x xs) (others_back x xs)
 
 tables_run : (selection : Selection) (done : List (List ℕ)) (x : List ℕ) (xs : List (List ℕ)) (rest : List Symbol)
-  → run step (HasTable selection done x) (flat_map (λ other. Comma ∷ spell_table other) xs ++ rest)
+    → run step (HasTable selection done x) (flat_map (λ other. Comma ∷ spell_table other) xs ++ rest)
     ≡ run step (HasTable selection (done ++ front x xs) (final x xs)) rest
 tables_run selection done x [] rest = ap (λ d. run step (HasTable selection d x) rest) (sym (append-nil done))
 tables_run selection done x (y ∷ ys) rest =
@@ -205,13 +205,13 @@ tables_run selection done x (y ∷ ys) rest =
 
 module _ (selection : Selection) (table : List ℕ) (more : List (List ℕ)) where
   left_run : (done : List ConditionText) (column : ColumnText) (rest : List Symbol)
-    → run step (InWhere selection table more done WantsLeft) (spell_column column ++ rest)
+      → run step (InWhere selection table more done WantsLeft) (spell_column column ++ rest)
       ≡ run step (InWhere selection table more done (HasLeft column)) rest
   left_run done (Bare name) rest = refl
   left_run done (Qualified from name) rest = refl
 
   operator_run : (done : List ConditionText) (column : ColumnText) (operator : Operator) (rest : List Symbol)
-    → run step (InWhere selection table more done (HasLeft column)) (spell_operator operator ∷ rest)
+      → run step (InWhere selection table more done (HasLeft column)) (spell_operator operator ∷ rest)
       ≡ run step (InWhere selection table more done (HasOperator column operator)) rest
   operator_run done column query.Equal rest = refl
   operator_run done column query.Unequal rest = refl
@@ -221,7 +221,7 @@ module _ (selection : Selection) (table : List ℕ) (more : List (List ℕ)) whe
   operator_run done column query.AtLeast rest = refl
 
   literal_run : (done : List ConditionText) (column : ColumnText) (operator : Operator) (literal : LiteralText) (rest : List Symbol)
-    → run step (InWhere selection table more done (HasOperator column operator)) (spell_literal literal ++ rest)
+      → run step (InWhere selection table more done (HasOperator column operator)) (spell_literal literal ++ rest)
       ≡ run step (InWhere selection table more done (HasCondition (Compares column operator literal))) rest
   literal_run done column operator (Unsigned digits) rest = refl
   literal_run done column operator (Signed Positive digits) rest = refl
@@ -229,7 +229,7 @@ module _ (selection : Selection) (table : List ℕ) (more : List (List ℕ)) whe
   literal_run done column operator (Written text) rest = refl
 
   low_run : (done : List ConditionText) (column : ColumnText) (low : LiteralText) (rest : List Symbol)
-    → run step (InWhere selection table more done (WantsLow column)) (spell_literal low ++ rest)
+      → run step (InWhere selection table more done (WantsLow column)) (spell_literal low ++ rest)
       ≡ run step (InWhere selection table more done (HasLow column low)) rest
   low_run done column (Unsigned digits) rest = refl
   low_run done column (Signed Positive digits) rest = refl
@@ -237,7 +237,7 @@ module _ (selection : Selection) (table : List ℕ) (more : List (List ℕ)) whe
   low_run done column (Written text) rest = refl
 
   high_run : (done : List ConditionText) (column : ColumnText) (low high : LiteralText) (rest : List Symbol)
-    → run step (InWhere selection table more done (WantsHigh column low)) (spell_literal high ++ rest)
+      → run step (InWhere selection table more done (WantsHigh column low)) (spell_literal high ++ rest)
       ≡ run step (InWhere selection table more done (HasCondition (LiesBetween column low high))) rest
   high_run done column low (Unsigned digits) rest = refl
   high_run done column low (Signed Positive digits) rest = refl
@@ -245,13 +245,13 @@ module _ (selection : Selection) (table : List ℕ) (more : List (List ℕ)) whe
   high_run done column low (Written text) rest = refl
 
   right_run : (done : List ConditionText) (left right : ColumnText) (rest : List Symbol)
-    → run step (InWhere selection table more done (HasOperator left query.Equal)) (spell_column right ++ rest)
+      → run step (InWhere selection table more done (HasOperator left query.Equal)) (spell_column right ++ rest)
       ≡ run step (InWhere selection table more done (HasCondition (Joins left right))) rest
   right_run done left (Bare name) rest = refl
   right_run done left (Qualified from name) rest = refl
 
   condition_run : (done : List ConditionText) (condition : ConditionText) (rest : List Symbol)
-    → run step (InWhere selection table more done WantsLeft) (spell_condition condition ++ rest)
+      → run step (InWhere selection table more done WantsLeft) (spell_condition condition ++ rest)
       ≡ run step (InWhere selection table more done (HasCondition condition)) rest
   condition_run done (Compares column operator literal) rest =
       ap (run step (InWhere selection table more done WantsLeft)) (append_assoc (spell_column column) _ rest)
@@ -270,7 +270,7 @@ module _ (selection : Selection) (table : List ℕ) (more : List (List ℕ)) whe
       ∙ right_run done left right rest
 
   conditions_run : (done : List ConditionText) (x : ConditionText) (xs : List ConditionText)
-    → run step (InWhere selection table more done (HasCondition x)) (flat_map (λ other. Word And ∷ spell_condition other) xs ++ End ∷ [])
+      → run step (InWhere selection table more done (HasCondition x)) (flat_map (λ other. Word And ∷ spell_condition other) xs ++ End ∷ [])
       ≡ Some (Whole (query_text selection table more (done ++ x ∷ xs)))
   conditions_run done x [] = refl
   conditions_run done x (y ∷ ys) =
@@ -280,7 +280,7 @@ module _ (selection : Selection) (table : List ℕ) (more : List (List ℕ)) whe
       ∙ ap (λ all. Some (Whole (query_text selection table more all))) (append_assoc done (x ∷ []) _)
 
   where_run : (conditions : List ConditionText)
-    → run step (HasTable selection (front table more) (final table more)) (spell_where conditions ++ End ∷ [])
+      → run step (HasTable selection (front table more) (final table more)) (spell_where conditions ++ End ∷ [])
       ≡ Some (Whole (query_text selection table more conditions))
   where_run [] =
       ap₂ (λ first others. Some (Whole (query_text selection first others []))) (first_back table more) (others_back table more)
@@ -298,6 +298,109 @@ leads tree =
     selection_run tree.selection _
     ∙ tables_run tree.selection [] tree.table tree.more_tables (spell_where tree.conditions ++ End ∷ [])
     ∙ where_run tree.selection tree.table tree.more_tables tree.conditions
+
+-- each place is reached by the symbols before it
+begun_columns_run : (done xs : List ColumnText) (rest : List Symbol)
+    → run step (InSelect done WantsColumn) (begun Comma spell_column xs ++ rest) ≡ run step (InSelect (done ++ xs) WantsColumn) rest
+begun_columns_run done [] rest = ap (λ d. run step (InSelect d WantsColumn) rest) (sym (append-nil done))
+begun_columns_run done (x ∷ xs) rest =
+    ap (run step (InSelect done WantsColumn)) (begun_before Comma spell_column x xs rest)
+    ∙ column_run done x _
+    ∙ begun_columns_run (done ++ x ∷ []) xs rest
+    ∙ ap (λ d. run step (InSelect d WantsColumn) rest) (append_assoc done (x ∷ []) xs)
+
+begun_tables_run : (selection : Selection) (done xs : List (List ℕ)) (rest : List Symbol)
+    → run step (WantsTable selection done) (begun Comma spell_table xs ++ rest) ≡ run step (WantsTable selection (done ++ xs)) rest
+begun_tables_run selection done [] rest = ap (λ d. run step (WantsTable selection d) rest) (sym (append-nil done))
+begun_tables_run selection done (x ∷ xs) rest =
+    begun_tables_run selection (done ++ x ∷ []) xs rest
+    ∙ ap (λ d. run step (WantsTable selection d) rest) (append_assoc done (x ∷ []) xs)
+
+begun_conditions_run : (selection : Selection) (table : List ℕ) (more : List (List ℕ)) (done xs : List ConditionText) (rest : List Symbol)
+    → run step (InWhere selection table more done WantsLeft) (begun (Word And) spell_condition xs ++ rest)
+    ≡ run step (InWhere selection table more (done ++ xs) WantsLeft) rest
+begun_conditions_run selection table more done [] rest =
+    ap (λ d. run step (InWhere selection table more d WantsLeft) rest) (sym (append-nil done))
+begun_conditions_run selection table more done (x ∷ xs) rest =
+    ap (run step (InWhere selection table more done WantsLeft)) (begun_before (Word And) spell_condition x xs rest)
+    ∙ condition_run selection table more done x _
+    ∙ begun_conditions_run selection table more (done ++ x ∷ []) xs rest
+    ∙ ap (λ d. run step (InWhere selection table more d WantsLeft) rest) (append_assoc done (x ∷ []) xs)
+
+column_reached : (earlier : List ColumnText) (part : ColumnPart)
+    → run step (InSelect earlier WantsColumn) (in_column part) ≡ Some (InSelect earlier part)
+column_reached earlier WantsColumn = refl
+column_reached earlier (HasTablePoint table) = refl
+column_reached earlier (HasColumn (Bare name)) = refl
+column_reached earlier (HasColumn (Qualified table name)) = refl
+
+sign_run : (selection : Selection) (table : List ℕ) (more : List (List ℕ)) (done : List ConditionText) (column : ColumnText)
+    (operator : Operator) (sign : Sign)
+    → run step (InWhere selection table more done (HasOperator column operator)) (spell_sign sign ∷ [])
+    ≡ Some (InWhere selection table more done (HasSign column operator sign))
+sign_run selection table more done column operator Positive = refl
+sign_run selection table more done column operator Negative = refl
+
+low_sign_run : (selection : Selection) (table : List ℕ) (more : List (List ℕ)) (done : List ConditionText) (column : ColumnText) (sign : Sign)
+    → run step (InWhere selection table more done (WantsLow column)) (spell_sign sign ∷ [])
+    ≡ Some (InWhere selection table more done (HasLowSign column sign))
+low_sign_run selection table more done column Positive = refl
+low_sign_run selection table more done column Negative = refl
+
+high_sign_run : (selection : Selection) (table : List ℕ) (more : List (List ℕ)) (done : List ConditionText) (column : ColumnText)
+    (low : LiteralText) (sign : Sign)
+    → run step (InWhere selection table more done (WantsHigh column low)) (spell_sign sign ∷ [])
+    ≡ Some (InWhere selection table more done (HasHighSign column low sign))
+high_sign_run selection table more done column low Positive = refl
+high_sign_run selection table more done column low Negative = refl
+
+condition_reached : (selection : Selection) (table : List ℕ) (more : List (List ℕ)) (done : List ConditionText) (part : ConditionPart)
+    → run step (InWhere selection table more done WantsLeft) (in_condition part) ≡ Some (InWhere selection table more done part)
+condition_reached selection table more done WantsLeft = refl
+condition_reached selection table more done (HasLeftPoint from) = refl
+condition_reached selection table more done (HasLeft column) =
+    ap (run step (InWhere selection table more done WantsLeft)) (sym (append-nil (spell_column column)))
+    ∙ left_run selection table more done column []
+condition_reached selection table more done (HasOperator column operator) =
+    left_run selection table more done column _ ∙ operator_run selection table more done column operator []
+condition_reached selection table more done (HasSign column operator sign) =
+    left_run selection table more done column _ ∙ operator_run selection table more done column operator (spell_sign sign ∷ [])
+    ∙ sign_run selection table more done column operator sign
+condition_reached selection table more done (HasRightPoint column from) = left_run selection table more done column _
+condition_reached selection table more done (WantsLow column) = left_run selection table more done column _
+condition_reached selection table more done (HasLowSign column sign) =
+    left_run selection table more done column _ ∙ low_sign_run selection table more done column sign
+condition_reached selection table more done (HasLow column low) =
+    left_run selection table more done column _
+    ∙ ap (run step (InWhere selection table more done (WantsLow column))) (sym (append-nil (spell_literal low)))
+    ∙ low_run selection table more done column low []
+condition_reached selection table more done (WantsHigh column low) =
+    left_run selection table more done column _ ∙ low_run selection table more done column low _
+condition_reached selection table more done (HasHighSign column low sign) =
+    left_run selection table more done column _ ∙ low_run selection table more done column low _
+    ∙ high_sign_run selection table more done column low sign
+condition_reached selection table more done (HasCondition condition) =
+    ap (run step (InWhere selection table more done WantsLeft)) (sym (append-nil (spell_condition condition)))
+    ∙ condition_run selection table more done condition []
+
+reached : (place : Place) → run step Start (before place) ≡ Some place
+unfolding with_tables
+reached Start = refl
+reached HasStar = refl
+reached (InSelect earlier part) = begun_columns_run [] earlier (in_column part) ∙ column_reached earlier part
+reached (WantsTable selection earlier) =
+    selection_run selection _
+    ∙ ap (run step (WantsTable selection [])) (sym (append-nil (begun Comma spell_table earlier)))
+    ∙ begun_tables_run selection [] earlier []
+reached (HasTable selection earlier table) = selection_run selection _ ∙ begun_tables_run selection [] earlier (spell_table table)
+reached (InWhere selection table more earlier part) =
+    selection_run selection _
+    ∙ tables_run selection [] table more _
+    ∙ ap₂ (λ first others. run step (InWhere selection first others [] WantsLeft) (begun (Word And) spell_condition earlier ++ in_condition part))
+    (first_back table more) (others_back table more)
+    ∙ begun_conditions_run selection table more [] earlier (in_condition part)
+    ∙ condition_reached selection table more earlier part
+reached (Whole tree) = leads tree
 
 -- a way to a whole text from a place, by symbols that bytes can spell
 record Completes (place : Place) : Type 0 where
@@ -357,7 +460,7 @@ ending_spelled (HasHighSign column low sign) = refl
 ending_spelled (HasCondition condition) = refl
 
 ending_run : (selection : Selection) (table : List ℕ) (more : List (List ℕ)) (earlier : List ConditionText) (part : ConditionPart)
-  → run step (InWhere selection table more earlier part) (ending part ++ End ∷ [])
+    → run step (InWhere selection table more earlier part) (ending part ++ End ∷ [])
     ≡ Some (Whole (query_text selection table more (earlier ++ ended part ∷ [])))
 unfolding ending ended
 ending_run selection table more earlier WantsLeft = refl
@@ -376,23 +479,48 @@ ending_run selection table more earlier (HasCondition condition) = refl
 completes : (place : Place) → ((tree : QueryText) → place ≡ Whole tree → ⊥) → Completes place
 unfolding a is_name
 completes Start unwhole = record {
-  rest = Word Select ∷ Star ∷ Word From ∷ Name a ∷ []; spelled = refl; tree = query_text All a [] []; ends = refl }
+  rest = Word Select ∷ Star ∷ Word From ∷ Name a ∷ [];
+  spelled = refl;
+  tree = query_text All a [] [];
+  ends = refl;
+}
 completes HasStar unwhole = record { rest = Word From ∷ Name a ∷ []; spelled = refl; tree = query_text All a [] []; ends = refl }
 completes (InSelect earlier WantsColumn) unwhole = record {
-  rest = Name a ∷ Word From ∷ Name a ∷ []; spelled = refl; tree = query_text (selection_of earlier (Bare a)) a [] []; ends = refl }
+  rest = Name a ∷ Word From ∷ Name a ∷ [];
+  spelled = refl;
+  tree = query_text (selection_of earlier (Bare a)) a [] [];
+  ends = refl;
+}
 completes (InSelect earlier (HasTablePoint table)) unwhole = record {
-  rest = Name a ∷ Word From ∷ Name a ∷ []; spelled = refl; tree = query_text (selection_of earlier (Qualified table a)) a [] []; ends = refl }
+  rest = Name a ∷ Word From ∷ Name a ∷ [];
+  spelled = refl;
+  tree = query_text (selection_of earlier (Qualified table a)) a [] [];
+  ends = refl;
+}
 completes (InSelect earlier (HasColumn column)) unwhole = record {
-  rest = Word From ∷ Name a ∷ []; spelled = refl; tree = query_text (selection_of earlier column) a [] []; ends = refl }
+  rest = Word From ∷ Name a ∷ [];
+  spelled = refl;
+  tree = query_text (selection_of earlier column) a [] [];
+  ends = refl;
+}
 completes (WantsTable selection earlier) unwhole = record {
-  rest = Name a ∷ []; spelled = refl; tree = query_text selection (first_item earlier a) (other_items earlier a) []; ends = refl }
+  rest = Name a ∷ [];
+  spelled = refl;
+  tree = query_text selection (first_item earlier a) (other_items earlier a) [];
+  ends = refl;
+}
 completes (HasTable selection earlier table) unwhole = record {
-  rest = []; spelled = refl; tree = query_text selection (first_item earlier table) (other_items earlier table) []; ends = refl }
+  rest = [];
+  spelled = refl;
+  tree = query_text selection (first_item earlier table) (other_items earlier table) [];
+  ends = refl;
+}
 completes (InWhere selection table more earlier part) unwhole = record {
   rest = ending part;
   spelled = ending_spelled part;
   tree = query_text selection table more (earlier ++ ended part ∷ []);
-  ends = ending_run selection table more earlier part }
+  ends = ending_run selection table more earlier part;
+}
 completes (Whole tree) unwhole = absurd (unwhole tree refl)
 
 -- a whole text has its end in it
@@ -408,13 +536,13 @@ after later at None = Err at
 after later at (Some next) = read_from next later
 
 read_run : (place : Place) (given : List Token) (last : Place)
-  → run step place (map symbol_of given) ≡ Some last → read_from place given ≡ whole_text last
+    → run step place (map symbol_of given) ≡ Some last → read_from place given ≡ whole_text last
 unfolding read_from after
 read_run place [] last leads = let same : place ≡ last = cc in ap whole_text same
 read_run place (token ∷ later) last leads =
     elim (step place token.symbol) as (λ o. option_and_then (λ next. run step next (map symbol_of later)) o ≡ Some last → after later token.at o ≡ whole_text last) [
-      None ↦ (λ leads. absurd (cc))
-    | Some next ↦ (λ leads. read_run next later last leads)
+      | None ↦ (λ leads. absurd (cc))
+      | Some next ↦ (λ leads. read_run next later last leads)
     ] leads
 
 whole_back : (place : Place) (tree : QueryText) → whole_text place ≡ Ok tree → place ≡ Whole tree
@@ -422,13 +550,13 @@ whole_back (Whole other) tree is = let same : other ≡ tree = cc in ap Whole sa
 whole_back _ tree is = absurd (cc)
 
 read_ok : (place : Place) (given : List Token) (tree : QueryText)
-  → read_from place given ≡ Ok tree → run step place (map symbol_of given) ≡ Some (Whole tree)
+    → read_from place given ≡ Ok tree → run step place (map symbol_of given) ≡ Some (Whole tree)
 unfolding read_from after
 read_ok place [] tree is = ap Some (whole_back place tree is)
 read_ok place (token ∷ later) tree is =
     elim (step place token.symbol) as (λ o. after later token.at o ≡ Ok tree → option_and_then (λ next. run step next (map symbol_of later)) o ≡ Some (Whole tree)) [
-      None ↦ (λ is. absurd (cc))
-    | Some next ↦ (λ is. read_ok next later tree is)
+      | None ↦ (λ is. absurd (cc))
+      | Some next ↦ (λ is. read_ok next later tree is)
     ] is
 
 -- a token that leads nowhere from the place that the tokens before it led to
@@ -452,13 +580,23 @@ unfolding read_from after
 read_stop place [] at is = inr (record { last = place; reaches = refl; unfinished = is })
 read_stop place (token ∷ later) at is =
     elim (step place token.symbol) as (λ o. step place token.symbol ≡ o → after later token.at o ≡ Err at → Stops place (token ∷ later) at ⊎ RunsOut place (token ∷ later) at) [
-      None ↦ (λ goes is. inl (record { read = []; token = token; later = later; whole = refl; last = place; reaches = refl; nowhere = goes; offset = cc }))
-    | Some next ↦ (λ goes is. elim (read_stop next later at is) [
-        inl s ↦ inl (record {
-          read = token ∷ s.read; token = s.token; later = s.later; whole = ap (λ rest. token ∷ rest) s.whole; last = s.last;
-          reaches = ap (option_and_then (λ next. run step next (map symbol_of s.read))) goes ∙ s.reaches; nowhere = s.nowhere; offset = s.offset })
-      | inr s ↦ inr (record {
-          last = s.last; reaches = ap (option_and_then (λ next. run step next (map symbol_of later))) goes ∙ s.reaches; unfinished = s.unfinished })
+      | None ↦ (λ goes is. inl (record { read = []; token = token; later = later; whole = refl; last = place; reaches = refl; nowhere = goes; offset = cc }))
+      | Some next ↦ (λ goes is. elim (read_stop next later at is) [
+        | inl s ↦ inl (record {
+          read = token ∷ s.read;
+          token = s.token;
+          later = s.later;
+          whole = ap (λ rest. token ∷ rest) s.whole;
+          last = s.last;
+          reaches = ap (option_and_then (λ next. run step next (map symbol_of s.read))) goes ∙ s.reaches;
+          nowhere = s.nowhere;
+          offset = s.offset;
+        })
+        | inr s ↦ inr (record {
+          last = s.last;
+          reaches = ap (option_and_then (λ next. run step next (map symbol_of later))) goes ∙ s.reaches;
+          unfinished = s.unfinished;
+        })
       ])
     ] refl is
 
@@ -500,21 +638,22 @@ stop_is_fault : (text : List ℕ) (at : ℕ) → Stops Start (tokens text) at �
 stop_is_fault text at stop =
     let read = map symbol_of stop.read in
     let given : symbols text ≡ read ++ stop.token.symbol ∷ map symbol_of stop.later =
-      ap (map symbol_of) stop.whole ∙ map-append symbol_of stop.read (stop.token ∷ stop.later) in
+    ap (map symbol_of) stop.whole ∙ map-append symbol_of stop.read (stop.token ∷ stop.later) in
     let is_read : before stop.last ≡ read = run_before Start read stop.last stop.reaches in
     let unwhole = λ (tree : QueryText) (is : stop.last ≡ Whole tree).
-      whole_not_spelled tree (ap (list_all is_spelled) (ap before (sym is) ∙ is_read) ∙ spelled_front text read stop.token.symbol (map symbol_of stop.later) given) in
+    whole_not_spelled tree (ap (list_all is_spelled) (ap before (sym is) ∙ is_read) ∙ spelled_front text read stop.token.symbol (map symbol_of stop.later) given) in
     let way = completes stop.last unwhole in
     let viable = viable_front spelling way.tree text read stop.token.symbol (map symbol_of stop.later) way.rest given way.spelled
-      (append_assoc read way.rest (End ∷ []) ∙ ap (λ front. front ++ (way.rest ++ End ∷ [])) (sym is_read)
-      ∙ sym (run_before stop.last (way.rest ++ End ∷ []) (Whole way.tree) way.ends)) in
+    (append_assoc read way.rest (End ∷ []) ∙ ap (λ front. front ++ (way.rest ++ End ∷ [])) (sym is_read)
+    ∙ sym (run_before stop.last (way.rest ++ End ∷ []) (Whole way.tree) way.ends)) in
     record {
       place = length read;
       fault = fault_after spelling text read stop.token.symbol (map symbol_of stop.later) given viable
-        (dead_after spelling step Start stop.last read stop.token.symbol (λ tree. (Whole tree, leads tree)) stop.reaches stop.nowhere);
+          (dead_after spelling step Start stop.last read stop.token.symbol (λ tree. (Whole tree, leads tree)) stop.reaches stop.nowhere);
       offset = ap (λ all. option_map (λ token. token.at) (slice_get all (length read))) stop.whole
-        ∙ ap (option_map (λ token. token.at)) (slice_at stop.read stop.token stop.later)
-        ∙ ap Some stop.offset }
+          ∙ ap (option_map (λ token. token.at)) (slice_at stop.read stop.token stop.later)
+          ∙ ap Some stop.offset;
+    }
 
 -- the computing reading and the grammar
 pub tree_spells : (text : List ℕ) (tree : QueryText) → syntax_of text ≡ Ok tree → Spells spelling text tree
@@ -525,18 +664,46 @@ spelled_tree text tree spells = read_run Start (tokens text) (Whole tree) (ap (r
 
 pub stop_fault : (text : List ℕ) (at : ℕ) → syntax_of text ≡ Err at → IsSyntaxFault spelling text at
 stop_fault text at is = elim (read_stop Start (tokens text) at is) [
-    inl stop ↦ stop_is_fault text at stop
+  | inl stop ↦ stop_is_fault text at stop
   | inr out ↦ absurd (never_runs_out text at out)
-  ]
+]
 
 pub fault_stop : (text : List ℕ) (at : ℕ) → IsSyntaxFault spelling text at → syntax_of text ≡ Err at
 fault_stop text at given =
     elim (syntax_of text) as (λ r. syntax_of text ≡ r → r ≡ Err at) [
-      Ok tree ↦ (λ is. absurd (no_fault spelling text tree given.place (tree_spells text tree is) given.fault))
-    | Err other ↦ (λ is.
-        let found = stop_fault text other is in
-        let place : found.place ≡ given.place = one_fault spelling (symbols text) found.place given.place found.fault given.fault in
-        let same : Some other ≡ Some at = sym found.offset ∙ ap (offset_of text) place ∙ given.offset in
-        let equal : other ≡ at = cc in
-        ap Err equal)
+      | Ok tree ↦ (λ is. absurd (no_fault spelling text tree given.place (tree_spells text tree is) given.fault))
+      | Err other ↦ (λ is.
+          let found = stop_fault text other is in
+          let place : found.place ≡ given.place = one_fault spelling (symbols text) found.place given.place found.fault given.fault in
+          let same : Some other ≡ Some at = sym found.offset ∙ ap (offset_of text) place ∙ given.offset in
+          let equal : other ≡ at = cc in
+          ap Err equal)
     ] refl
+
+-- a text that is stuck at a place, and its fault
+pub stuck_fault : (text : List ℕ) (at : ℕ) → IsStuck text at → IsSyntaxFault spelling text at
+stuck_fault text at stuck = stop_is_fault text at (record {
+  read = stuck.read;
+  token = stuck.next;
+  later = stuck.later;
+  whole = stuck.whole;
+  last = stuck.place;
+  reaches = ap (run step Start) stuck.before_it ∙ reached stuck.place;
+  nowhere = stuck.nowhere;
+  offset = stuck.offset;
+})
+
+pub fault_stuck : (text : List ℕ) (at : ℕ) → IsSyntaxFault spelling text at → IsStuck text at
+fault_stuck text at fault = elim (read_stop Start (tokens text) at (fault_stop text at fault)) [
+  | inl stop ↦ record {
+    place = stop.last;
+    read = stop.read;
+    next = stop.token;
+    later = stop.later;
+    whole = stop.whole;
+    before_it = sym (run_before Start (map symbol_of stop.read) stop.last stop.reaches);
+    nowhere = stop.nowhere;
+    offset = stop.offset;
+  }
+  | inr out ↦ absurd (never_runs_out text at out)
+]

@@ -1,6 +1,6 @@
 -- That each query text has one meaning or one refusal, and that the reading tells it: the first broken rule of a list
 -- in the order of the rules is the one that breaks with none before it.
-use Rattle.std.proofs.Common.{◌≡◌, ℕ, suc, ◌<◌, ◌≤◌, Bool, true, false, cond, List, [], ◌∷◌, Option, Some, None, find, Result, Ok, Err, ◌⊎◌, inl, inr, refl, sym, ap, subst, ◌∙◌, arith}
+use Rattle.std.proofs.Common.{◌≡◌, ℕ, suc, ◌<◌, Bool, true, false, cond, List, [], ◌∷◌, Option, Some, None, find, Result, Ok, Err, ◌⊎◌, inl, inr, refl, sym, ap, subst, ◌∙◌, arith}
 use Rattle.std.proofs.lemmas.Bool.{cases_order}
 use Rattle.ghost_model.specs.Schema.{Schema}
 use Rattle.ghost_model.specs.Query.{Query}
@@ -70,20 +70,20 @@ module _ (test : Refusal → Bool) (clean : (at : ℕ) → test (Syntax at) ≡ 
   Says (Some rule) = IsFirst rule
 
   kept_more : (n : ℕ) (x : Refusal) → ((r : Refusal) → rank r ≡ n → r ≡ x) → test x ≡ false
-    → ((r : Refusal) → rank r < n → test r ≡ false) → (r : Refusal) → rank r < suc n → test r ≡ false
+      → ((r : Refusal) → rank r < n → test r ≡ false) → (r : Refusal) → rank r < suc n → test r ≡ false
   kept_more n x alone not kept r below = elim (cases_order (rank r) n) [
-      inl same ↦ ap test (alone r same) ∙ not
+    | inl same ↦ ap test (alone r same) ∙ not
     | inr (inl less) ↦ kept r less
     | inr (inr more) ↦ absurd (omega arith)
-    ]
+  ]
 
   found : {n : ℕ} {xs : List Refusal} → IsRun n xs → ((r : Refusal) → rank r < n → test r ≡ false) → Says (find test xs)
   unfolding Says
   found ends kept = λ r. kept r (last_rank r)
   found (goes {n} {x} {xs} here alone later) kept =
       elim (test x) as (λ b. test x ≡ b → Says (cond b (Some x) (find test xs))) [
-        true ↦ (λ is. record { broken = is; keeps = λ r below. kept r (let less : rank r < n = omega (arith, here) in less) })
-      | false ↦ (λ is. found later (kept_more n x alone is kept))
+        | true ↦ (λ is. record { broken = is; keeps = λ r below. kept r (let less : rank r < n = omega (arith, here) in less) })
+        | false ↦ (λ is. found later (kept_more n x alone is kept))
       ] refl
 
   before_all : (r : Refusal) → rank r < 2 → test r ≡ false
@@ -105,24 +105,24 @@ module _ (test : Refusal → Bool) (clean : (at : ℕ) → test (Syntax at) ≡ 
 
   one_first : (rule other : Refusal) → IsFirst rule → IsFirst other → rule ≡ other
   one_first rule other p q = elim (cases_order (rank rule) (rank other)) [
-      inl same ↦ same_rank rule other q.broken same
+    | inl same ↦ same_rank rule other q.broken same
     | inr (inl less) ↦ let no = q.keeps rule less in let yes = p.broken in absurd (cc)
     | inr (inr more) ↦ let no = p.keeps other more in let yes = q.broken in absurd (cc)
-    ]
+  ]
 
   find_none : ((rule : Refusal) → test rule ≡ false) → find test rules ≡ None
   unfolding Says
   find_none kept = elim (find test rules) as (λ o. Says o → o ≡ None) [
-      None ↦ (λ said. refl)
+    | None ↦ (λ said. refl)
     | Some rule ↦ (λ said. let yes = said.broken in let no = kept rule in absurd (cc))
-    ] says
+  ] says
 
   find_some : (rule : Refusal) → IsFirst rule → find test rules ≡ Some rule
   unfolding Says
   find_some rule first = elim (find test rules) as (λ o. Says o → o ≡ Some rule) [
-      None ↦ (λ said. let yes = first.broken in let no = said rule in absurd (cc))
+    | None ↦ (λ said. let yes = first.broken in let no = said rule in absurd (cc))
     | Some other ↦ (λ said. ap Some (one_first other rule said first))
-    ] says
+  ] says
 
 module _ (schema : Schema) (text : List ℕ) where
   clean : (tree : QueryText) (at : ℕ) → breaks schema text tree (Syntax at) ≡ false
@@ -144,7 +144,7 @@ module _ (schema : Schema) (text : List ℕ) where
   Holds (Err refusal) = IsRefused schema text refusal
 
   judged_holds : (tree : QueryText) → syntax_of text ≡ Ok tree → (o : Option Refusal) → Says (breaks schema text tree) (clean tree) o
-    → Holds (query_unless (resolved schema tree) o)
+      → Holds (query_unless (resolved schema tree) o)
   unfolding Says Holds
   judged_holds tree is None said = record { tree = tree; spells = tree_spells text tree is; keeps = said; means = refl }
   judged_holds tree is (Some rule) said =
@@ -153,9 +153,9 @@ module _ (schema : Schema) (text : List ℕ) where
   reading_holds : Holds (reading schema text)
   unfolding Holds
   reading_holds = elim (syntax_of text) as (λ r. syntax_of text ≡ r → Holds (judged schema text r)) [
-      Ok tree ↦ (λ is. judged_holds tree is (find (breaks schema text tree) rules) (says (breaks schema text tree) (clean tree)))
+    | Ok tree ↦ (λ is. judged_holds tree is (find (breaks schema text tree) rules) (says (breaks schema text tree) (clean tree)))
     | Err at ↦ (λ is. stop_fault text at is)
-    ] refl
+  ] refl
 
   pub means_of : (query : Query) → reading schema text ≡ Ok query → Means schema text query
   unfolding Holds
@@ -166,7 +166,7 @@ module _ (schema : Schema) (text : List ℕ) where
   refused_of refusal is = subst Holds is reading_holds
 
   judged_as : (tree : QueryText) (o : Option Refusal) → syntax_of text ≡ Ok tree → find (breaks schema text tree) rules ≡ o
-    → reading schema text ≡ query_unless (resolved schema tree) o
+      → reading schema text ≡ query_unless (resolved schema tree) o
   judged_as tree o is found = ap (judged schema text) is ∙ ap (query_unless (resolved schema tree)) found
 
   pub reading_of_means : (query : Query) → Means schema text query → reading schema text ≡ Ok query
@@ -191,14 +191,16 @@ module _ (schema : Schema) (text : List ℕ) where
 
   pub one_or_other : HasOneMeaning schema text ⊎ HasOneRefusal schema text
   one_or_other = elim (reading schema text) as (λ r. reading schema text ≡ r → HasOneMeaning schema text ⊎ HasOneRefusal schema text) [
-      Ok query ↦ (λ is. inl (record {
-        query = query;
-        means = means_of query is;
-        no_other = λ other m. (let so = reading_of_means other m in cc);
-        not_refused = λ refusal r. (let so = reading_of_refused refusal r in cc) }))
+    | Ok query ↦ (λ is. inl (record {
+      query = query;
+      means = means_of query is;
+      no_other = λ other m. (let so = reading_of_means other m in cc);
+      not_refused = λ refusal r. (let so = reading_of_refused refusal r in cc);
+    }))
     | Err refusal ↦ (λ is. inr (record {
-        refusal = refusal;
-        refused = refused_of refusal is;
-        no_other = λ other r. (let so = reading_of_refused other r in cc);
-        no_meaning = λ query m. (let so = reading_of_means query m in cc) }))
-    ] refl
+      refusal = refusal;
+      refused = refused_of refusal is;
+      no_other = λ other r. (let so = reading_of_refused other r in cc);
+      no_meaning = λ query m. (let so = reading_of_means query m in cc);
+    }))
+  ] refl

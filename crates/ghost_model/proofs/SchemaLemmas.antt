@@ -1,16 +1,17 @@
 -- The places of a schema's text say what its grammar says: each step reads one symbol, the symbols of each tree lead
 -- from the start to the end, and from each place before the end some symbols complete a tree.
-use Rattle.std.proofs.Common.{◌≡◌, ℕ, ◌+◌, Bool, true, false, ◌&&◌, List, [], ◌∷◌, ◌++◌, map, take, drop, length, ◌<◌, ◌≤◌, zero, subst, arith, add-one, Option, Some, None, option_map, Result, Ok, Err, flat_map, ◌⊎◌, inl, inr, suc, slice_get, codes, bytes_eq, if◌then◌else◌, refl, sym, ap, ◌∙◌, append_assoc, append-nil}
+use Rattle.std.proofs.Common.{◌≡◌, ℕ, Bool, true, false, List, [], ◌∷◌, ◌++◌, map, length, Option, Some, None, option_map, option_and_then, Result, Ok, Err, flat_map, ◌⊎◌, inl, inr, slice_get, codes, bytes_eq, if◌then◌else◌, refl, sym, ap, ◌∙◌, append_assoc, append-nil}
 use Rattle.std.proofs.lemmas.Grind.{flat_map-append}
 use Rattle.std.proofs.lemmas.Slice.Eq.{bytes_eq-Decides}
-use Rattle.std.proofs.lemmas.List.Folds.{list_all-append}
 use Rattle.std.specs.List.{list_all}
-use Rattle.std.proofs.lemmas.Option.{slice_get_within, slice_get-map}
-use Rattle.std.proofs.lemmas.List.{take-append-drop, take-append-le, length-append}
-use Rattle.ghost_model.specs.Spelled.{IsBeforeEnd, is_spelled, is_name, is_number}
-use Rattle.ghost_model.specs.Tokens.{symbol_of, symbols, tokens, offset_of, Symbol, Token, Keyword, Word, Name, Digits, Open, Closing, Comma, Semicolon, End, Char, Create, Hidden, Integer, Key, Primary, References, Table}
-use Rattle.ghost_model.specs.Grammar.{Spells, IsViable, IsFault, IsSyntaxFault, separated, begun}
-use Rattle.ghost_model.specs.SchemaGrammar.{Reference, To, ColumnText, CharColumn, IntegerColumn, TableText, SchemaText, spell_hidden, spell_primary, spell_reference, spell_column, spell_heading, spell_table, spelling}
+use Rattle.std.proofs.lemmas.List.{map-append, length-map}
+use Rattle.std.proofs.lemmas.Bool.{and_from}
+use Rattle.ghost_model.proofs.TokenLemmas.{before_end}
+use Rattle.ghost_model.proofs.GrammarLemmas.{more_begun, spelled_both, spelled_front, no_end_inside, viable_of, run, run-append, dead_after, fault_after, no_fault, one_fault}
+use Rattle.ghost_model.specs.Spelled.{is_spelled, is_name, is_number}
+use Rattle.ghost_model.specs.Tokens.{symbol_of, symbols, tokens, offset_of, Symbol, Token, Word, Name, Digits, Open, Closing, Comma, Semicolon, End, Char, Create, Hidden, Integer, Key, Primary, References, Table}
+use Rattle.ghost_model.specs.Grammar.{Spells, IsViable, IsSyntaxFault, separated, begun}
+use Rattle.ghost_model.specs.SchemaGrammar.{Reference, To, ColumnText, CharColumn, IntegerColumn, TableText, SchemaText, spell_column, spell_heading, spell_table, spelling}
 use Rattle.ghost_model.specs.SchemaPlaces.{InColumn, Named, AfterChar, AfterOpen, AfterLength, AfterPrimary, AfterReferences, OpensId, AfterId, Whole, Place, Between, AfterCreate, AfterTable, AfterName, WantsColumn, Within, AfterColumns, Ended, before_in, before, table_from, after_integer, after_column, after_parenthesis, step_in, step_within, step, tree_at, syntax_from, syntax_of, SchemaPlacesAreExact}
 
 unSome : {X : Type 0} {a b : X} → Some a ≡ Some b → a ≡ b
@@ -79,11 +80,6 @@ option_mapped : {X Y : Type 0} (f : X → Y) (o : Option X) (y : Y) → option_m
 option_mapped f None y e = absurd (cc)
 option_mapped f (Some x) y e = (x, refl, unSome e)
 
--- one more item and the symbol after it
-more_of : {X : Type 0} (by : Symbol) (spell : X → List Symbol) (xs : List X) (x : X)
-    → begun by spell (xs ++ x ∷ []) ≡ begun by spell xs ++ (spell x ++ by ∷ [])
-more_of by spell xs x = flat_map-append (λ y. spell y ++ by ∷ []) xs (x ∷ []) ∙ ap (λ tail. begun by spell xs ++ tail) (append-nil (spell x ++ by ∷ []))
-
 regroup3 : (a b c d : List Symbol) → (a ++ (b ++ c)) ++ d ≡ a ++ (b ++ (c ++ d))
 regroup3 a b c d = simp append_assoc
 
@@ -105,7 +101,7 @@ within_read : (tables : SchemaText) (name : List ℕ) (columns : List ColumnText
     → step_within tables name columns last s ≡ Some q → before q ≡ before (Within tables name columns last) ++ s ∷ []
 within_read tables name columns (Whole last) Comma q e =
     ap before (unSome (sym e))
-    ∙ (ap (λ tail. flat_map spell_table tables ++ (spell_heading name ++ tail)) (more_of Comma spell_column columns last)
+    ∙ (ap (λ tail. flat_map spell_table tables ++ (spell_heading name ++ tail)) (sym (more_begun Comma spell_column columns last))
     ∙ sym (regroup4 (flat_map spell_table tables) (spell_heading name) (begun Comma spell_column columns) (spell_column last) (Comma ∷ [])))
 within_read tables name columns (Whole last) Closing q e =
     ap before (unSome (sym e))
@@ -137,7 +133,7 @@ tables_end : (tables : SchemaText) (name : List ℕ) (columns : List ColumnText)
 tables_end tables name columns last =
     flat_map-append spell_table tables (table_from name columns last ∷ [])
     ∙ (ap (λ tail. flat_map spell_table tables ++ tail)
-        (append-nil (spell_table (table_from name columns last)) ∙ table_ends name columns last)
+    (append-nil (spell_table (table_from name columns last)) ∙ table_ends name columns last)
     ∙ sym (regroup5 (flat_map spell_table tables) (spell_heading name) (begun Comma spell_column columns) (spell_column last) (Closing ∷ []) (Semicolon ∷ [])))
 
 regroup_table : (a b c xs : List Symbol) → ((a ++ b) ++ c) ++ xs ≡ a ++ (b ++ (c ++ xs))
@@ -156,46 +152,11 @@ step_read (AfterColumns tables name columns last) Semicolon q e =
     ap before (unSome (sym e)) ∙ tables_end tables name columns last
 step_read _ _ q e = absurd (cc)
 
--- tests of all elements of a list
-
-all_more : {X : Type 0} (p : X → Bool) (x : X) (xs : List X) → p x ≡ true → list_all p xs ≡ true → list_all p (x ∷ xs) ≡ true
-all_more p x xs e f = ap (λ b. b && list_all p xs) e ∙ f
-
-both_true : (a b : Bool) → (a && b) ≡ true → (a ≡ true) × (b ≡ true)
-both_true true b e = (refl, e)
-both_true false b e = absurd (cc)
-
-all_back : {X : Type 0} (p : X → Bool) (xs ys : List X) → list_all p (xs ++ ys) ≡ true → list_all p ys ≡ true
-all_back p xs ys e = (both_true (list_all p xs) (list_all p ys) (sym (list_all-append p xs ys) ∙ e)).1
-
-all_front : {X : Type 0} (p : X → Bool) (xs ys : List X) → list_all p (xs ++ ys) ≡ true → list_all p xs ≡ true
-all_front p xs ys e = (both_true (list_all p xs) (list_all p ys) (sym (list_all-append p xs ys) ∙ e)).0
-
 -- the symbols of a tree lead from the start to its end
 
-pub run : Option Place → List Symbol → Option Place
-run None xs = None
-run (Some p) [] = Some p
-run (Some p) (x ∷ xs) = run (step p x) xs
-
-pub run_none : (xs : List Symbol) → run None xs ≡ None
-unfolding run
-run_none xs = refl
-
-pub run_append : (p : Option Place) (xs ys : List Symbol) → run p (xs ++ ys) ≡ run (run p xs) ys
-unfolding run
-run_append None xs ys = refl
-run_append (Some p) [] ys = refl
-run_append (Some p) (x ∷ xs) ys = run_append (step p x) xs ys
-
--- the place after a whole column
-at_column : SchemaText → List ℕ → List ColumnText → ColumnText → Option Place
-at_column tables name columns column = Some (Within tables name columns (Whole column))
-
 column_leads : (tables : SchemaText) (name : List ℕ) (columns : List ColumnText) (column : ColumnText) (xs : List Symbol)
-    → run (Some (WantsColumn tables name columns)) (spell_column column ++ xs)
-    ≡ run (Some (Within tables name columns (Whole column))) xs
-unfolding run
+    → run step (WantsColumn tables name columns) (spell_column column ++ xs)
+    ≡ run step (Within tables name columns (Whole column)) xs
 column_leads tables name columns (CharColumn n digits true) xs = refl
 column_leads tables name columns (CharColumn n digits false) xs = refl
 column_leads tables name columns (IntegerColumn n true None true) xs = refl
@@ -217,13 +178,13 @@ extended name columns last [] = table_from name columns last
 extended name columns last (x ∷ xs) = extended name (columns ++ last ∷ []) x xs
 
 columns_lead : (tables : SchemaText) (name : List ℕ) (columns : List ColumnText) (last : ColumnText) (later : List ColumnText) (xs : List Symbol)
-    → run (Some (Within tables name columns (Whole last))) (flat_map (λ other. Comma ∷ spell_column other) later ++ Closing ∷ Semicolon ∷ xs)
-    ≡ run (Some (Between (tables ++ extended name columns last later ∷ []))) xs
-unfolding run extended
+    → run step (Within tables name columns (Whole last)) (flat_map (λ other. Comma ∷ spell_column other) later ++ Closing ∷ Semicolon ∷ xs)
+    ≡ run step (Between (tables ++ extended name columns last later ∷ [])) xs
+unfolding extended
 columns_lead tables name columns last [] xs = refl
 columns_lead tables name columns last (x ∷ later) xs =
-    ap (run (Some (WantsColumn tables name (columns ++ last ∷ []))))
-        (append_assoc (spell_column x) (flat_map (λ other. Comma ∷ spell_column other) later) (Closing ∷ Semicolon ∷ xs))
+    ap (run step (WantsColumn tables name (columns ++ last ∷ [])))
+    (append_assoc (spell_column x) (flat_map (λ other. Comma ∷ spell_column other) later) (Closing ∷ Semicolon ∷ xs))
     ∙ (column_leads tables name (columns ++ last ∷ []) x (flat_map (λ other. Comma ∷ spell_column other) later ++ Closing ∷ Semicolon ∷ xs)
     ∙ columns_lead tables name (columns ++ last ∷ []) x later xs)
 
@@ -242,26 +203,24 @@ extended_first name first [] = refl
 extended_first name first (x ∷ later) = extended_later name first [] x later
 
 table_leads : (tables : SchemaText) (table : TableText) (xs : List Symbol)
-    → run (Some (Between tables)) (spell_table table ++ xs) ≡ run (Some (Between (tables ++ table ∷ []))) xs
-unfolding run
+    → run step (Between tables) (spell_table table ++ xs) ≡ run step (Between (tables ++ table ∷ [])) xs
 table_leads tables table xs =
-    ap (run (Some (WantsColumn tables table.name [])))
-        (regroup_table (spell_column table.first) (flat_map (λ other. Comma ∷ spell_column other) table.others) (Closing ∷ Semicolon ∷ []) xs)
+    ap (run step (WantsColumn tables table.name []))
+    (regroup_table (spell_column table.first) (flat_map (λ other. Comma ∷ spell_column other) table.others) (Closing ∷ Semicolon ∷ []) xs)
     ∙ (column_leads tables table.name [] table.first (flat_map (λ other. Comma ∷ spell_column other) table.others ++ Closing ∷ Semicolon ∷ xs)
     ∙ (columns_lead tables table.name [] table.first table.others xs
-    ∙ ap (λ last. run (Some (Between (tables ++ last ∷ []))) xs) (extended_first table.name table.first table.others)))
+    ∙ ap (λ last. run step (Between (tables ++ last ∷ [])) xs) (extended_first table.name table.first table.others)))
 
 tables_lead : (tables later : SchemaText) (xs : List Symbol)
-    → run (Some (Between tables)) (flat_map spell_table later ++ xs) ≡ run (Some (Between (tables ++ later))) xs
-tables_lead tables [] xs = ap (λ all. run (Some (Between all)) xs) (sym (append-nil tables))
+    → run step (Between tables) (flat_map spell_table later ++ xs) ≡ run step (Between (tables ++ later)) xs
+tables_lead tables [] xs = ap (λ all. run step (Between all) xs) (sym (append-nil tables))
 tables_lead tables (table ∷ later) xs =
-    ap (run (Some (Between tables))) (append_assoc (spell_table table) (flat_map spell_table later) xs)
+    ap (run step (Between tables)) (append_assoc (spell_table table) (flat_map spell_table later) xs)
     ∙ (table_leads tables table (flat_map spell_table later ++ xs)
     ∙ (tables_lead (tables ++ table ∷ []) later xs
-    ∙ ap (λ all. run (Some (Between all)) xs) (append_assoc tables (table ∷ []) later)))
+    ∙ ap (λ all. run step (Between all) xs) (append_assoc tables (table ∷ []) later)))
 
-pub leads : (tables : SchemaText) → run (Some (Between [])) (spelling tables) ≡ Some (Ended tables)
-unfolding run
+pub leads : (tables : SchemaText) → run step (Between []) (spelling tables) ≡ Some (Ended tables)
 leads tables = tables_lead [] tables (End ∷ [])
 
 -- from each place before the end some symbols complete a tree
@@ -277,10 +236,11 @@ on_by : (p : Place) (s : Symbol) (q : Place) → step p s ≡ Some q → is_spel
 on_by p s q e spelled on = record {
   rest = s ∷ on.rest;
   tables = on.tables;
-  spelled = all_more is_spelled s on.rest spelled on.spelled;
+  spelled = and_from _ _ spelled on.spelled;
   whole =
-    ap (λ front. front ++ End ∷ []) (sym (append_assoc (before p) (s ∷ []) on.rest) ∙ ap (λ front. front ++ on.rest) (sym (step_read p s q e)))
-    ∙ on.whole }
+      ap (λ front. front ++ End ∷ []) (sym (append_assoc (before p) (s ∷ []) on.rest) ∙ ap (λ front. front ++ on.rest) (sym (step_read p s q e)))
+      ∙ on.whole;
+}
 
 from_between : (tables : SchemaText) → Completes (Between tables)
 from_between tables = record { rest = []; tables = tables; spelled = refl; whole = ap (λ front. front ++ End ∷ []) (append-nil (flat_map spell_table tables)) }
@@ -288,13 +248,13 @@ from_between tables = record { rest = []; tables = tables; spelled = refl; whole
 from_columns : (tables : SchemaText) (name : List ℕ) (columns : List ColumnText) (last : ColumnText) → Completes (AfterColumns tables name columns last)
 from_columns tables name columns last =
     on_by (AfterColumns tables name columns last) Semicolon (Between (tables ++ table_from name columns last ∷ [])) refl refl
-        (from_between (tables ++ table_from name columns last ∷ []))
+    (from_between (tables ++ table_from name columns last ∷ []))
 
 module _ (tables : SchemaText) (name : List ℕ) (columns : List ColumnText) where
   from_whole : (last : ColumnText) → Completes (Within tables name columns (Whole last))
   from_whole last =
       on_by (Within tables name columns (Whole last)) Closing (AfterColumns tables name columns last) refl refl
-          (from_columns tables name columns last)
+      (from_columns tables name columns last)
 
   on_within : (last : InColumn) (s : Symbol) (q : InColumn) → step_within tables name columns last s ≡ Some (Within tables name columns q)
       → is_spelled s ≡ true → Completes (Within tables name columns q) → Completes (Within tables name columns last)
@@ -311,7 +271,7 @@ module _ (tables : SchemaText) (name : List ℕ) (columns : List ColumnText) whe
   from_id : (column : List ℕ) (primary : Bool) (table : List ℕ) → Completes (Within tables name columns (AfterId column primary table))
   from_id column primary table =
       on_within (AfterId column primary table) Closing (Whole (IntegerColumn column primary (Some (To table true)) false)) refl refl
-          (from_whole (IntegerColumn column primary (Some (To table true)) false))
+      (from_whole (IntegerColumn column primary (Some (To table true)) false))
 
   from_column : (last : InColumn) → Completes (Within tables name columns last)
   unfolding is_name
@@ -324,7 +284,7 @@ module _ (tables : SchemaText) (name : List ℕ) (columns : List ColumnText) whe
       on_within (AfterPrimary column) (Word Key) (Whole (IntegerColumn column true None false)) refl refl (from_whole (IntegerColumn column true None false))
   from_column (AfterReferences column primary) =
       on_within (AfterReferences column primary) (Name (97 ∷ [])) (Whole (IntegerColumn column primary (Some (To (97 ∷ []) false)) false)) refl refl
-          (from_whole (IntegerColumn column primary (Some (To (97 ∷ []) false)) false))
+      (from_whole (IntegerColumn column primary (Some (To (97 ∷ []) false)) false))
   from_column (OpensId column primary table) =
       on_within (OpensId column primary table) (Name (codes "id")) (AfterId column primary table) refl refl (from_id column primary table)
   from_column (AfterId column primary table) = from_id column primary table
@@ -334,7 +294,7 @@ from_wants : (tables : SchemaText) (name : List ℕ) (columns : List ColumnText)
 unfolding is_name
 from_wants tables name columns =
     on_by (WantsColumn tables name columns) (Name (97 ∷ [])) (Within tables name columns (Named (97 ∷ []))) refl refl
-        (from_column tables name columns (Named (97 ∷ [])))
+    (from_column tables name columns (Named (97 ∷ [])))
 
 from_name : (tables : SchemaText) (name : List ℕ) → Completes (AfterName tables name)
 from_name tables name = on_by (AfterName tables name) Open (WantsColumn tables name []) refl refl (from_wants tables name [])
@@ -353,18 +313,16 @@ goes_on (WantsColumn tables name columns) e = from_wants tables name columns
 goes_on (Within tables name columns last) e = from_column tables name columns last
 goes_on (AfterColumns tables name columns last) e = from_columns tables name columns last
 goes_on (Ended tables) e =
-    let h : list_all is_spelled (End ∷ []) ≡ true = all_back is_spelled (flat_map spell_table tables) (End ∷ []) e in absurd (cc)
+    absurd (no_end_inside (flat_map spell_table tables) [] e)
 
 -- what was read is what led to a place
 
-module _ (p : Place) (x : Symbol) (xs : List Symbol) (q : Place) (later : (o : Place) → run (Some o) xs ≡ Some q → before q ≡ before o ++ xs) where
-  read_by : (o : Option Place) → step p x ≡ o → run o xs ≡ Some q → before q ≡ before p ++ x ∷ xs
-  unfolding run
+module _ (p : Place) (x : Symbol) (xs : List Symbol) (q : Place) (later : (o : Place) → run step o xs ≡ Some q → before q ≡ before o ++ xs) where
+  read_by : (o : Option Place) → step p x ≡ o → option_and_then (λ next. run step next xs) o ≡ Some q → before q ≡ before p ++ x ∷ xs
   read_by None e h = absurd (cc)
   read_by (Some o) e h = later o h ∙ (ap (λ front. front ++ xs) (step_read p x o e) ∙ append_assoc (before p) (x ∷ []) xs)
 
-pub run_read : (p : Place) (xs : List Symbol) (q : Place) → run (Some p) xs ≡ Some q → before q ≡ before p ++ xs
-unfolding run
+run_read : (p : Place) (xs : List Symbol) (q : Place) → run step p xs ≡ Some q → before q ≡ before p ++ xs
 run_read p [] q e = ap before (unSome (sym e)) ∙ sym (append-nil (before p))
 run_read p (x ∷ xs) q e = read_by p x xs q (λ o h. run_read o xs q h) (step p x) refl e
 
@@ -374,125 +332,67 @@ tree_at_ended : (p : Place) (at : ℕ) (tables : SchemaText) → tree_at p at �
 tree_at_ended (Ended tables) at other e = let h : tables ≡ other = cc in ap Ended h
 tree_at_ended _ at other e = absurd (cc)
 
-pub tree_read : (o : Option Place) (at : ℕ) (later : List Token) (tables : SchemaText)
-    → syntax_from o at later ≡ Ok tables → run o (map symbol_of later) ≡ Some (Ended tables)
-unfolding run syntax_from
+tree_read : (o : Option Place) (at : ℕ) (later : List Token) (tables : SchemaText)
+    → syntax_from o at later ≡ Ok tables → option_and_then (λ p. run step p (map symbol_of later)) o ≡ Some (Ended tables)
+unfolding syntax_from
 tree_read None at later tables e = absurd (cc)
 tree_read (Some p) at [] tables e = ap Some (tree_at_ended p at tables e)
 tree_read (Some p) at (token ∷ later) tables e = tree_read (step p token.symbol) token.at later tables e
 
 -- the token at offset `at` led nowhere
-pub record Stops (p : Place) (later : List Token) (at : ℕ) : Type 0 where
-  pub count : ℕ
-  pub place : Place
-  pub token : Token
-  pub led : run (Some p) (take count (map symbol_of later)) ≡ Some place
-  pub here : slice_get later count ≡ Some token
-  pub refused : step place token.symbol ≡ None
-  pub offset : token.at ≡ at
+record Stops (p : Place) (given : List Token) (at : ℕ) : Type 0 where
+  front : List Token
+  token : Token
+  later : List Token
+  whole : given ≡ front ++ token ∷ later
+  place : Place
+  led : run step p (map symbol_of front) ≡ Some place
+  refused : step place token.symbol ≡ None
+  offset : token.at ≡ at
 
 -- the tokens ended elsewhere than at the end
-pub record Exhausts (p : Place) (later : List Token) : Type 0 where
-  pub place : Place
-  pub led : run (Some p) (map symbol_of later) ≡ Some place
-  pub open_end : (tables : SchemaText) → place ≡ Ended tables → ⊥
+record Exhausts (p : Place) (given : List Token) : Type 0 where
+  place : Place
+  led : run step p (map symbol_of given) ≡ Some place
+  open_end : (tables : SchemaText) → place ≡ Ended tables → ⊥
 
-pub Stopped : Option Place → (now : ℕ) → List Token → (at : ℕ) → Type 0
-Stopped None now later at = now ≡ at
-Stopped (Some p) now later at = Stops p later at ⊎ Exhausts p later
+abbrev Stopped : Option Place → (now : ℕ) → List Token → (at : ℕ) → Type 0
+Stopped None now given at = now ≡ at
+Stopped (Some p) now given at = Stops p given at ⊎ Exhausts p given
 
 tree_at_open : (p : Place) (now at : ℕ) (tables : SchemaText) → tree_at p now ≡ Err at → p ≡ Ended tables → ⊥
 tree_at_open (Ended tables) now at other e h = absurd (cc)
-tree_at_open (Between tables) now at other e h = absurd (cc)
-tree_at_open (AfterCreate tables) now at other e h = absurd (cc)
-tree_at_open (AfterTable tables) now at other e h = absurd (cc)
-tree_at_open (AfterName tables name) now at other e h = absurd (cc)
-tree_at_open (WantsColumn tables name columns) now at other e h = absurd (cc)
-tree_at_open (Within tables name columns last) now at other e h = absurd (cc)
-tree_at_open (AfterColumns tables name columns last) now at other e h = absurd (cc)
+tree_at_open _ now at other e h = absurd (cc)
 
 stopped_after : (p : Place) (token : Token) (later : List Token) (now at : ℕ) (o : Option Place)
     → step p token.symbol ≡ o → Stopped o token.at later at → Stopped (Some p) now (token ∷ later) at
-unfolding run Stopped
 stopped_after p token later now at None e h =
-    inl (record { count = 0; place = p; token = token; led = refl; here = refl; refused = e; offset = h })
+    inl (record { front = []; token = token; later = later; whole = refl; place = p; led = refl; refused = e; offset = h })
 stopped_after p token later now at (Some q) e (inl h) =
     inl (record {
-      count = suc h.count;
-      place = h.place;
+      front = token ∷ h.front;
       token = h.token;
-      led = ap (λ o. run o (take h.count (map symbol_of later))) e ∙ h.led;
-      here = h.here;
+      later = h.later;
+      whole = ap (λ tail. token ∷ tail) h.whole;
+      place = h.place;
+      led = ap (option_and_then (λ next. run step next (map symbol_of h.front))) e ∙ h.led;
       refused = h.refused;
-      offset = h.offset })
+      offset = h.offset;
+    })
 stopped_after p token later now at (Some q) e (inr h) =
-    inr (record { place = h.place; led = ap (λ o. run o (map symbol_of later)) e ∙ h.led; open_end = h.open_end })
+    inr (record { place = h.place; led = ap (option_and_then (λ next. run step next (map symbol_of later))) e ∙ h.led; open_end = h.open_end })
 
-pub fault_read : (o : Option Place) (now : ℕ) (later : List Token) (at : ℕ) → syntax_from o now later ≡ Err at → Stopped o now later at
-unfolding run syntax_from Stopped
+fault_read : (o : Option Place) (now : ℕ) (later : List Token) (at : ℕ) → syntax_from o now later ≡ Err at → Stopped o now later at
+unfolding syntax_from
 fault_read None now later at e = let h : now ≡ at = cc in h
 fault_read (Some p) now [] at e = inr (record { place = p; led = refl; open_end = λ tables h. tree_at_open p now at tables e h })
 fault_read (Some p) now (token ∷ later) at e =
     stopped_after p token later now at (step p token.symbol) refl (fault_read (step p token.symbol) token.at later at e)
 
--- fronts of lists of symbols
-
-more_taken : {X : Type 0} (xs : List X) (k : ℕ) (x : X) → slice_get xs k ≡ Some x → take (suc k) xs ≡ take k xs ++ x ∷ []
-more_taken [] k x e = absurd (cc)
-more_taken (y ∷ ys) zero x e = ap (λ head. head ∷ []) (unSome e)
-more_taken (y ∷ ys) (suc k) x e = ap (λ tail. y ∷ tail) (more_taken ys k x e)
-
--- a shorter front is a front of a longer one
-front_of_front : {X : Type 0} (j k : ℕ) (xs : List X) → j ≤ k → take j xs ++ drop j (take k xs) ≡ take k xs
-front_of_front zero k xs h = refl
-front_of_front (suc j) zero xs h = absurd (omega arith)
-front_of_front (suc j) (suc k) [] h = refl
-front_of_front (suc j) (suc k) (x ∷ xs) h = ap (λ tail. x ∷ tail) (front_of_front j k xs (omega arith))
-
-viable_front : {Tree : Type 0} (spell : Tree → List Symbol) (xs ys : List Symbol) → IsViable spell (xs ++ ys) → IsViable spell xs
-viable_front spell xs ys v = record {
-  text = v.text;
-  tree = v.tree;
-  spells = v.spells;
-  rest = ys ++ v.rest;
-  begins = sym (append_assoc xs ys v.rest) ∙ v.begins }
-
--- no fault stands before another
-fault_not_before : {Tree : Type 0} (spell : Tree → List Symbol) (given : List Symbol) (j k : ℕ)
-    → IsFault spell given j → IsFault spell given k → j < k → ⊥
-fault_not_before spell given j k f g h =
-    f.dead (viable_front spell (take (j + 1) given) (drop (j + 1) (take k given))
-        (subst (IsViable spell) (sym (front_of_front (j + 1) k given (omega arith))) g.viable))
-
-one_place : {Tree : Type 0} (spell : Tree → List Symbol) (given : List Symbol) (j k : ℕ) → IsFault spell given j → IsFault spell given k → j ≡ k
-one_place spell given j k f g =
-    let a : j < k → ⊥ = fault_not_before spell given j k f g in
-    let b : k < j → ⊥ = fault_not_before spell given k j g f in
-    omega arith
-
-pub one_syntax_fault : {Tree : Type 0} (spell : Tree → List Symbol) (text : List ℕ) (a b : ℕ) → IsSyntaxFault spell text a → IsSyntaxFault spell text b → a ≡ b
-one_syntax_fault spell text a b f g =
-    let h : f.place ≡ g.place = one_place spell (symbols text) f.place g.place f.fault g.fault in
-    unSome (sym f.offset ∙ (ap (offset_of text) h ∙ g.offset))
-
--- a text of the grammar has no fault
-pub no_syntax_fault : {Tree : Type 0} (spell : Tree → List Symbol) (text : List ℕ) (tree : Tree) (at : ℕ) → Spells spell text tree → IsSyntaxFault spell text at → ⊥
-no_syntax_fault spell text tree at e f =
-    f.fault.dead (record {
-      text = text;
-      tree = tree;
-      spells = e;
-      rest = drop (f.place + 1) (symbols text);
-      begins = take-append-drop (f.place + 1) (symbols text) })
-
--- the law
+-- the end of a text leads to the end or nowhere
 
 end_ends : (p q : Place) → step p End ≡ Some q → (tables : SchemaText) × (q ≡ Ended tables)
 end_ends (Between tables) q e = (tables, unSome (sym e))
-end_ends (AfterCreate tables) q e = absurd (cc)
-end_ends (AfterTable tables) q e = absurd (cc)
-end_ends (AfterName tables name) q e = absurd (cc)
-end_ends (WantsColumn tables name columns) q e = absurd (cc)
 end_ends (Within tables name columns (Whole (CharColumn _ _ true))) q e = absurd (cc)
 end_ends (Within tables name columns (Whole (CharColumn _ _ false))) q e = absurd (cc)
 end_ends (Within tables name columns (Whole (IntegerColumn _ _ _ true))) q e = absurd (cc)
@@ -502,17 +402,81 @@ end_ends (Within tables name columns (Whole (IntegerColumn _ true (Some (To _ tr
 end_ends (Within tables name columns (Whole (IntegerColumn _ true (Some (To _ false)) false))) q e = absurd (cc)
 end_ends (Within tables name columns (Whole (IntegerColumn _ false (Some (To _ true)) false))) q e = absurd (cc)
 end_ends (Within tables name columns (Whole (IntegerColumn _ false (Some (To _ false)) false))) q e = absurd (cc)
-end_ends (Within tables name columns _) q e = absurd (cc)
-end_ends (AfterColumns tables name columns last) q e = absurd (cc)
-end_ends (Ended tables) q e = absurd (cc)
+end_ends _ q e = absurd (cc)
 
--- the end of a text leads to the end or nowhere
-last_by : (p q : Place) (o : Option Place) → step p End ≡ o → run o [] ≡ Some q → (tables : SchemaText) × (q ≡ Ended tables)
-unfolding run
+last_by : (p q : Place) (o : Option Place) → step p End ≡ o → option_and_then (λ next. Some next) o ≡ Some q → (tables : SchemaText) × (q ≡ Ended tables)
 last_by p q None e h = absurd (cc)
 last_by p q (Some r) e h = end_ends p q (e ∙ h)
 
-last_leads : (o : Option Place) (q : Place) → run o (End ∷ []) ≡ Some q → (tables : SchemaText) × (q ≡ Ended tables)
-unfolding run
+last_leads : (o : Option Place) (q : Place) → option_and_then (λ p. run step p (End ∷ [])) o ≡ Some q → (tables : SchemaText) × (q ≡ Ended tables)
 last_leads None q e = absurd (cc)
 last_leads (Some p) q e = last_by p q (step p End) refl e
+
+never_exhausts : (text : List ℕ) → Exhausts (Between []) (tokens text) → ⊥
+never_exhausts text h =
+    let b = before_end text in
+    let led : run step (Between []) (b.0 ++ End ∷ []) ≡ Some h.place = ap (run step (Between [])) (sym b.1.whole) ∙ h.led in
+    let last = last_leads (run step (Between []) b.0) h.place (sym (run-append step (Between []) b.0 (End ∷ [])) ∙ led) in
+    h.open_end last.0 last.1
+
+-- the law
+
+at_seam : {X : Type 0} (xs : List X) (y : X) (ys : List X) → slice_get (xs ++ y ∷ ys) (length xs) ≡ Some y
+at_seam [] y ys = refl
+at_seam (x ∷ xs) y ys = at_seam xs y ys
+
+module _ (text : List ℕ) (at : ℕ) (stops : Stops (Between []) (tokens text) at) where
+  given : symbols text ≡ map symbol_of stops.front ++ stops.token.symbol ∷ map symbol_of stops.later
+  given = ap (map symbol_of) stops.whole ∙ map-append symbol_of stops.front (stops.token ∷ stops.later)
+
+  front_viable : IsViable spelling (map symbol_of stops.front)
+  front_viable =
+      let read = run_read (Between []) (map symbol_of stops.front) stops.place stops.led in
+      let spelled = spelled_front text (map symbol_of stops.front) stops.token.symbol (map symbol_of stops.later) given in
+      let on = goes_on stops.place (ap (list_all is_spelled) read ∙ spelled) in
+      viable_of spelling on.tables (map symbol_of stops.front) on.rest (spelled_both (map symbol_of stops.front) on.rest spelled on.spelled)
+      (ap (λ front. (front ++ on.rest) ++ End ∷ []) (sym read) ∙ on.whole)
+
+  is_syntax_fault : IsSyntaxFault spelling text at
+  is_syntax_fault = record {
+    place = length (map symbol_of stops.front);
+    fault = fault_after spelling text (map symbol_of stops.front) stops.token.symbol (map symbol_of stops.later) given front_viable
+        (dead_after spelling step (Between []) stops.place (map symbol_of stops.front) stops.token.symbol (λ tree. (Ended tree, leads tree)) stops.led stops.refused);
+    offset =
+        ap (option_map (λ (token : Token). token.at))
+        (ap (slice_get (tokens text)) (length-map stops.front symbol_of)
+        ∙ (ap (λ all. slice_get all (length stops.front)) stops.whole ∙ at_seam stops.front stops.token stops.later))
+        ∙ ap Some stops.offset;
+  }
+
+fault_found : (text : List ℕ) (at : ℕ) → syntax_of text ≡ Err at → IsSyntaxFault spelling text at
+fault_found text at e =
+    elim (fault_read (Some (Between [])) 0 (tokens text) at e) [
+      | inl h ↦ is_syntax_fault text at h
+      | inr h ↦ absurd (never_exhausts text h)
+    ]
+
+tree_found : (text : List ℕ) (tables : SchemaText) → syntax_of text ≡ Ok tables → Spells spelling text tables
+tree_found text tables e = sym (run_read (Between []) (symbols text) (Ended tables) (tree_read (Some (Between [])) 0 (tokens text) tables e))
+
+tree_given : (text : List ℕ) (tables : SchemaText) (answer : Result SchemaText ℕ) → syntax_of text ≡ answer → Spells spelling text tables → answer ≡ Ok tables
+tree_given text tables (Ok other) e h =
+    let a = tree_read (Some (Between [])) 0 (tokens text) other e in
+    let b : run step (Between []) (symbols text) ≡ Some (Ended tables) = ap (run step (Between [])) h ∙ leads tables in
+    let c : Ended other ≡ Ended tables = unSome (sym a ∙ b) in
+    let d : other ≡ tables = cc in
+    ap Ok d
+tree_given text tables (Err at) e h = let f = fault_found text at e in absurd (no_fault spelling text tables f.place h f.fault)
+
+fault_given : (text : List ℕ) (at : ℕ) (answer : Result SchemaText ℕ) → syntax_of text ≡ answer → IsSyntaxFault spelling text at → answer ≡ Err at
+fault_given text at (Ok tables) e h = absurd (no_fault spelling text tables h.place (tree_found text tables e) h.fault)
+fault_given text at (Err other) e h =
+    let f = fault_found text other e in
+    let same = one_fault spelling (symbols text) f.place h.place f.fault h.fault in
+    ap Err (unSome (sym f.offset ∙ (ap (offset_of text) same ∙ h.offset)))
+
+pub schema_places : SchemaPlacesAreExact
+schema_places = record {
+  tree = λ text tables. (tree_found text tables, tree_given text tables (syntax_of text) refl);
+  fault = λ text at. (fault_found text at, fault_given text at (syntax_of text) refl);
+}

@@ -1,7 +1,7 @@
 -- What both sides of the channel know beforehand, as bytes. The canonical text of a schema has one line a table, names
 -- in lower case, one space between words and HIDDEN at each hidden column. The catalog's bytes are `GHOSTDB`, the
 -- version of the format, the generation, the length of the canonical text, that text, and each table's number of rows.
-use Rattle.std.specs.Prelude.{◌≡◌, ℕ, Bool, true, false, List, [], ◌∷◌, ◌++◌, length, drop, flat_map, codes, decimal, Option, Some, None, slice_get}
+use Rattle.std.specs.Prelude.{ℕ, Bool, true, false, List, [], ◌∷◌, ◌++◌, length, drop, flat_map, codes, decimal, Option, Some, None, slice_get}
 use Rattle.std.specs.Int.{to_be_bytes, w32}
 use Rattle.ghost_model.specs.Schema.{Schema, Table, Column, Kind, Integer, Chars}
 use Rattle.ghost_model.specs.Channel.{Catalog}

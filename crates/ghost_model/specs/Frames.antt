@@ -3,7 +3,6 @@
 -- place in a session, a header may have one of eight kinds, serial 0 exactly for HELLO, BYE and WELCOME, and a length
 -- that its kind has; a payload of WELCOME begins with 0 or 1, and one of SORRY is not 0.
 use Rattle.std.specs.Prelude.{◌≡◌, ℕ, ◌+◌, ◌-◌, ◌^◌, ◌<◌, Bool, true, false, not, ◌&&◌, ◌||◌, ◌==◌, nat_lt, nat_le, List, [], ◌∷◌, ◌++◌, length, take, drop, if◌then◌else◌, slice_index}
-use Rattle.std.specs.List.{list_all}
 use Rattle.std.specs.Int.{to_be_bytes, from_be_bytes, w16, w32}
 use Rattle.ghost_model.specs.Channel.{Frame, Hello, Asking, More, Bye, Welcome, Replied, Done, Sorry}
 
@@ -132,8 +131,8 @@ got_of bytes =
     else if payload_allowed (kind_in bytes) (payload_in bytes) then Found (frame_in bytes)
     else Bad (kind_in bytes)
 
-abbrev pub is_byte : ℕ → Bool
-is_byte byte = nat_lt byte 256
+abbrev pub AreBytes : List ℕ → Type 0
+AreBytes bytes = (i : ℕ) → slice_index bytes i < 256
 
 -- a number of a frame that stands in its payload in 4 bytes
 abbrev pub number_of : Frame → ℕ
@@ -152,7 +151,7 @@ pub record IsFrame (frame : Frame) : Type 0 where
   pub serial : serial_allowed (kind_of frame) (serial_of frame) ≡ true
   pub size : size_allowed (kind_of frame) (length (payload_of frame)) ≡ true
   pub payload : payload_allowed (kind_of frame) (payload_of frame) ≡ true
-  pub bytes : list_all is_byte (payload_of frame) ≡ true
+  pub bytes : AreBytes (payload_of frame)
   pub serial_fits : serial_of frame < 2 ^ 32
   pub number_fits : number_of frame < 2 ^ 32
 
@@ -162,9 +161,14 @@ FramesArePrefixFree =
     (one other : Frame) (rest : List ℕ) → IsFrame one → IsFrame other → frame_bytes one ++ rest ≡ frame_bytes other
     → rest ≡ []
 
--- a frame is found where bytes begin with its spelling, and nothing else is found
+-- bytes that begin with the spelling of a frame, and what follows it
+pub record BeginsWith (bytes : List ℕ) (frame : Frame) : Type 0 where
+  pub fits : IsFrame frame
+  pub rest : List ℕ
+  pub begins : bytes ≡ frame_bytes frame ++ rest
+
+-- a frame is found where bytes begin with its spelling, and only there: reading and spelling are inverse
 pub record FramesHaveOneSpelling : Type 0 where
   pub spelled_is_found : (frame : Frame) (rest : List ℕ) → IsFrame frame → got_of (frame_bytes frame ++ rest) ≡ Found frame
   pub found_is_spelled :
-    (bytes : List ℕ) (frame : Frame) → list_all is_byte bytes ≡ true → got_of bytes ≡ Found frame
-    → IsFrame frame × ((rest : List ℕ) × (bytes ≡ frame_bytes frame ++ rest))
+      (bytes : List ℕ) (frame : Frame) → AreBytes bytes → got_of bytes ≡ Found frame → BeginsWith bytes frame

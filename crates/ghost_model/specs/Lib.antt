@@ -11,6 +11,7 @@ pub mod SchemaGrammar
 pub mod SchemaPlaces
 pub mod SchemaMeaning
 pub mod SchemaFaults
+pub mod SchemaTrees
 pub mod QueryGrammar
 pub mod QueryPlaces
 pub mod QueryMeaning
@@ -27,6 +28,7 @@ pub mod Asks
 pub mod Moves
 pub mod NextMove
 pub mod Host
+pub mod Local
 pub mod Honest
 pub mod Replies
 pub mod Lines

@@ -2,13 +2,14 @@
 -- which the files are read: file by file, in a file record by record, in a record first its number, then the number of
 -- its fields, then field by field; the foreign keys come after all files, by table, record and column. Only the first
 -- fault is ever answered, so after a broken rule the list may say anything.
-use Rattle.std.specs.Prelude.{◌≡◌, ℕ, zero, suc, ◌+◌, ℤ, pos, Bool, true, false, not, ◌==◌, nat_le, List, [], ◌∷◌, ◌++◌, length, map, Option, Some, None, bytes_eq, Result, Ok, Err, is_some}
+use Rattle.std.specs.Prelude.{◌≡◌, ℕ, ◌+◌, ◌<◌, ◌≤◌, ℤ, pos, Bool, true, false, ◌==◌, nat_le, List, [], ◌∷◌, ◌++◌, length, map, Option, Some, None, bytes_eq, Result, Ok, Err, is_some}
 use Rattle.std.specs.Cmp.Lexicographic.{pointwise}
 use Rattle.std.specs.Ordering.{int_eq}
-use Rattle.ghost_model.specs.Schema.{Schema, Table, Column, Kind, Integer, Chars, first_of}
+use Rattle.ghost_model.specs.Schema.{Schema, Column, Kind, Integer, Chars, first_of}
+use Rattle.ghost_model.specs.SchemaTrees.{IsTree}
 use Rattle.ghost_model.specs.Tokens.{in_lower_case}
 use Rattle.ghost_model.specs.Values.{Value, Row, Rows, Database}
-use Rattle.ghost_model.specs.Database.{is_text, is_row_among, row_count, records_of, integer_of, database_of}
+use Rattle.ghost_model.specs.Database.{is_text, is_row_among, row_count, records_of, integer_of, database_of, IsDatabase}
 
 -- a table by its place, a record by its number in the file from 1, and a column; 0 where none applies
 pub record Place : Type 0 where
@@ -65,17 +66,20 @@ id_faults table row text = unless (is_number row (integer_of text)) (BadId (plac
 abbrev pub fields_faults : (table row : ℕ) → List Column → List (List ℕ) → List LoadFault
 fields_faults table row [] fields = []
 fields_faults table row (_ ∷ _) [] = []
-fields_faults table row (_ ∷ columns) (text ∷ fields) = id_faults table row text ++ field_faults table (row + 1) 1 columns fields
+fields_faults table row (_ ∷ columns) (text ∷ fields) =
+    id_faults table row text ++ field_faults table (row + 1) 1 columns fields
 
 -- row number `row` is the record after it, since the header is the first
 abbrev pub row_faults : (table row : ℕ) → List Column → List (List ℕ) → List LoadFault
 row_faults table row columns fields =
     unless (nat_le row most_rows) (RowLimit (place table (row + 1) 0))
-    ++ (unless (length fields == length columns) (FieldCount (place table (row + 1) 0)) ++ fields_faults table row columns fields)
+    ++ (unless (length fields == length columns) (FieldCount (place table (row + 1) 0))
+    ++ fields_faults table row columns fields)
 
 unfoldable pub rows_faults : (table row : ℕ) → List Column → List (List (List ℕ)) → List LoadFault
 rows_faults table row columns [] = []
-rows_faults table row columns (fields ∷ later) = row_faults table row columns fields ++ rows_faults table (row + 1) columns later
+rows_faults table row columns (fields ∷ later) =
+    row_faults table row columns fields ++ rows_faults table (row + 1) columns later
 
 abbrev pub name_of : Column → List ℕ
 name_of column = column.name
@@ -87,16 +91,20 @@ is_header columns fields = pointwise bytes_eq (map in_lower_case fields) (map na
 -- the first record is the header
 abbrev pub record_faults : (table : ℕ) → List Column → List (List (List ℕ)) → List LoadFault
 record_faults table columns [] = Header (place table 1 0) ∷ []
-record_faults table columns (header ∷ rows) = unless (is_header columns header) (Header (place table 1 0)) ++ rows_faults table 1 columns rows
+record_faults table columns (header ∷ rows) =
+    unless (is_header columns header) (Header (place table 1 0)) ++ rows_faults table 1 columns rows
 
 -- the faults of one file, apart from its foreign keys
 abbrev pub file_faults : (table : ℕ) → List Column → (file : List ℕ) → List LoadFault
-file_faults table columns file = unless (nat_le (length file) most_bytes) (FileLimit (place table 0 0)) ++ record_faults table columns (records_of file)
+file_faults table columns file =
+    unless (nat_le (length file) most_bytes) (FileLimit (place table 0 0))
+    ++ record_faults table columns (records_of file)
 
 unfoldable pub files_faults : (table : ℕ) → Schema → (files : List (List ℕ)) → List LoadFault
 files_faults table [] files = []
 files_faults table (_ ∷ _) [] = []
-files_faults table (declared ∷ tables) (file ∷ files) = file_faults table declared.columns file ++ files_faults (table + 1) tables files
+files_faults table (declared ∷ tables) (file ∷ files) =
+    file_faults table declared.columns file ++ files_faults (table + 1) tables files
 
 -- a foreign key is the identifier of a row of its child table
 abbrev pub key_faults : Database → Place → (child : Option ℕ) → Value → List LoadFault
@@ -107,7 +115,8 @@ unfoldable pub keys_faults : Database → (table rec column : ℕ) → List Colu
 keys_faults database table rec column [] values = []
 keys_faults database table rec column (_ ∷ _) [] = []
 keys_faults database table rec column (declared ∷ columns) (value ∷ values) =
-    key_faults database (place table rec column) declared.child value ++ keys_faults database table rec (column + 1) columns values
+    key_faults database (place table rec column) declared.child value
+    ++ keys_faults database table rec (column + 1) columns values
 
 unfoldable pub table_references : Database → (table rec : ℕ) → List Column → Rows → List LoadFault
 table_references database table rec columns [] = []
@@ -146,3 +155,21 @@ TellsFirst (Some fault) faults = IsFirst fault faults
 abbrev pub Judges : {T E : Type 0} → (told : E → Option LoadFault) → Result T E → List LoadFault → Type 0
 Judges told (Ok _) faults = faults ≡ []
 Judges told (Err error) faults = TellsFirst (told error) faults
+
+-- files that keep every rule spell a database, one file for each table
+abbrev pub FilesSpellADatabase : Type 0
+FilesSpellADatabase =
+    (schema : Schema) (files : List (List ℕ)) → IsTree schema → length files ≡ length schema
+    → load_faults schema files ≡ [] → IsDatabase schema (database_of schema files)
+
+-- and each table has at most as many rows as it may have
+abbrev pub FilesKeepTheRowLimit : Type 0
+FilesKeepTheRowLimit =
+    (schema : Schema) (files : List (List ℕ)) → load_faults schema files ≡ []
+    → (table : ℕ) → row_count (database_of schema files) table ≤ most_rows
+
+-- a file that is too long has that fault first, whatever else is in it
+abbrev pub LongFilesAreToldFirst : Type 0
+LongFilesAreToldFirst =
+    (table : ℕ) (columns : List Column) (file : List ℕ) → most_bytes < length file
+    → IsFirst (FileLimit (place table 0 0)) (file_faults table columns file)

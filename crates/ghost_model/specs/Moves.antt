@@ -3,7 +3,7 @@
 -- `dial failed`, `send HEX ok`, `send HEX failed`, `take N HEX`, `take N end`, `take N failed`, `close`. N is what was
 -- asked for in decimal, HEX is in lower case without spaces. Only the key keeps such a file, so the host's own moves
 -- have no line.
-use Rattle.std.specs.Prelude.{◌≡◌, ℕ, Bool, true, false, List, [], ◌∷◌, ◌++◌, flat_map, map, codes, decimal}
+use Rattle.std.specs.Prelude.{ℕ, List, [], ◌∷◌, ◌++◌, flat_map, map, codes, decimal}
 use Rattle.hex.specs.Hex.{encode_lower}
 use Rattle.ghost_model.specs.Channel.{Move, Dial, Listen, Accept, Send, Take, Close, Answer, Made, Port, Piece, End, Failed, Entry, Journal}
 

@@ -1,7 +1,7 @@
 -- The printed lines of texts over a database. A line of a row begins with `> ` and has its fields with one tab between
 -- each two, an integer in decimal; after the rows of text k comes `= k n`, n being their number. A refused text has the
 -- one line `! k word`. Each line ends with a line feed, and the texts are numbered from 1.
-use Rattle.std.specs.Prelude.{◌≡◌, ℕ, ◌+◌, List, [], ◌∷◌, ◌++◌, length, map, codes, decimal, Result, Ok, Err}
+use Rattle.std.specs.Prelude.{ℕ, ◌+◌, List, [], ◌∷◌, ◌++◌, length, map, codes, decimal, Result, Ok, Err}
 use Rattle.std.specs.List.{concat, join_with_byte}
 use Rattle.std.specs.Fmt.{signed_decimal}
 use Rattle.ghost_model.specs.Schema.{Schema}
@@ -54,7 +54,8 @@ lines_of_text schema database number text = lines_of_reading schema database num
 -- the lines of the texts, of which the first has this number
 abbrev pub lines_from : Schema → Database → (number : ℕ) (texts : List (List ℕ)) → List (List ℕ)
 lines_from schema database number [] = []
-lines_from schema database number (text ∷ texts) = lines_of_text schema database number text ++ lines_from schema database (number + 1) texts
+lines_from schema database number (text ∷ texts) =
+    lines_of_text schema database number text ++ lines_from schema database (number + 1) texts
 
 abbrev pub printed_lines : Schema → (texts : List (List ℕ)) → Database → List (List ℕ)
 printed_lines schema texts database = lines_from schema database 1 texts

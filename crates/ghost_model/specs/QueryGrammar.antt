@@ -1,7 +1,7 @@
 -- The grammar of a query text: the tree of a text, and the symbols that spell it, with one equation for each
 -- alternative. A text selects all columns or names some, names its tables, and may have conditions joined by AND. A
 -- sign is a symbol of its own and stands before digits alone. Names stand in lower case, as symbols have them.
-use Rattle.std.specs.Prelude.{◌≡◌, ℕ, List, [], ◌∷◌, ◌++◌}
+use Rattle.std.specs.Prelude.{ℕ, List, [], ◌∷◌, ◌++◌}
 use Rattle.ghost_model.specs.Query as query
 use Rattle.ghost_model.specs.Query.{Operator}
 use Rattle.ghost_model.specs.Tokens.{Symbol, Word, Name, Digits, Quoted, Comma, Point, Star, Plus, Minus, Equal, Unequal, Less, AtMost, More, AtLeast, End, Select, From, Where, And, Between}

@@ -2,14 +2,16 @@
 -- meaning. The rules are tested one after another, each over the whole text. A column may stand without its table
 -- where exactly one FROM table has it. `*` is every column of the FROM tables in the order of the text, identifiers and
 -- foreign keys among them. BETWEEN is two conditions.
-use Rattle.std.specs.Prelude.{◌≡◌, ℕ, ◌+◌, ◌-◌, ◌*◌, ◌^◌, ◌<◌, ℤ, pos, negsuc, neg_ℤ, int_le, Bool, true, false, not, ◌&&◌, ◌||◌, ◌==◌, nat_lt, List, [], ◌∷◌, ◌++◌, length, map, filter, filter_map, flat_map, fold, sum_by, Option, Some, None, is_none, option_map, option_and_then, option_to_list, bytes_eq}
+use Rattle.std.specs.Prelude.{◌≡◌, ℕ, ◌-◌, ◌^◌, ◌<◌, ℤ, pos, neg_ℤ, int_le, Bool, true, false, not, ◌&&◌, ◌||◌, ◌==◌, nat_lt, List, [], ◌∷◌, ◌++◌, length, map, filter, filter_map, flat_map, sum_by, Option, Some, None, is_none, option_map, option_and_then, option_to_list, bytes_eq}
 use Rattle.std.specs.List.{list_any, list_all}
-use Rattle.ghost_model.specs.Schema.{Schema, Table, Kind, Integer, Chars, columns_of, column_at, places_where, first_of, is_empty, is_table, parent}
+use Rattle.ghost_model.specs.Schema.{Schema, Kind, Integer, Chars, columns_of, column_at, places_where, first_of, is_empty, is_table, parent}
+use Rattle.ghost_model.specs.Tokens.{number_of}
 use Rattle.ghost_model.specs.Values.{Value, Number, Text}
-use Rattle.ghost_model.specs.Query.{Field, Operator, AtMost, AtLeast, Condition, Compare, Join, Query}
+use Rattle.ghost_model.specs.Query.{Field, AtMost, AtLeast, Condition, Compare, Join, Query}
 use Rattle.ghost_model.specs.Grammar.{Spells, IsSyntaxFault}
 use Rattle.ghost_model.specs.QueryGrammar.{ColumnText, Bare, Qualified, Sign, Positive, Negative, LiteralText, Unsigned, Signed, Written, ConditionText, Compares, LiesBetween, Joins, Selection, All, Columns, QueryText, spelling}
 
+-- why a text is refused, in the order in which the rules are tested; a syntax fault has its offset in the text
 pub data Refusal : Type 0 where
   Syntax : ℕ → Refusal
   Limit : Refusal
@@ -56,9 +58,6 @@ meanings schema from (Qualified table name) =
 
 -- literals
 
-abbrev pub number_of : List ℕ → ℕ
-number_of digits = fold (λ number digit. number * 10 + (digit - 48)) 0 digits
-
 abbrev pub with_sign : Sign → ℕ → ℤ
 with_sign Positive number = pos number
 with_sign Negative number = neg_ℤ (pos number)
@@ -87,7 +86,8 @@ abbrev pub resolved : Schema → QueryText → Query
 resolved schema tree = record {
   from = from_tables schema tree;
   select = selected schema (from_tables schema tree) tree.selection;
-  conditions = flat_map (conditions_of schema (from_tables schema tree)) tree.conditions }
+  conditions = flat_map (conditions_of schema (from_tables schema tree)) tree.conditions;
+}
 
 -- the columns of a text as they are written, and the names in it
 
@@ -139,12 +139,12 @@ is_over_limit schema text tree =
     || nat_lt 32 (selected_count schema tree tree.selection)
 
 -- a FROM name or a qualifier is no table
-abbrev pub names_no_table : Schema → QueryText → Bool
-names_no_table schema tree = list_any (λ name. is_none (table_named schema name)) (table_names tree)
+abbrev pub has_unknown_table : Schema → QueryText → Bool
+has_unknown_table schema tree = list_any (λ name. is_none (table_named schema name)) (table_names tree)
 
 -- a column has no meaning: its table is not in FROM or lacks it, or no FROM table has a bare name
-abbrev pub names_no_column : Schema → QueryText → Bool
-names_no_column schema tree =
+abbrev pub has_unknown_column : Schema → QueryText → Bool
+has_unknown_column schema tree =
     list_any (λ column. is_empty (meanings schema (from_tables schema tree) column)) (columns_in tree)
 
 abbrev pub has_repeat : List ℕ → Bool
@@ -180,15 +180,15 @@ is_too_large (Some (Chars most)) (Text text) = nat_lt most (length text)
 is_too_large kind (Text text) = false
 
 -- a test of the kind of a condition's column and its literal
-abbrev pub fails : Schema → (Option Kind → Value → Bool) → Condition → Bool
-fails schema test (Compare column operator value) = test (kind_at schema column) value
-fails schema test (Join left right) = false
+abbrev pub literal_fails : Schema → (Option Kind → Value → Bool) → Condition → Bool
+literal_fails schema test (Compare column operator value) = test (kind_at schema column) value
+literal_fails schema test (Join left right) = false
 
-abbrev pub has_other_kind : Schema → QueryText → Bool
-has_other_kind schema tree = list_any (fails schema is_other_kind) (resolved schema tree).conditions
+abbrev pub has_kind_mismatch : Schema → QueryText → Bool
+has_kind_mismatch schema tree = list_any (literal_fails schema is_other_kind) (resolved schema tree).conditions
 
 abbrev pub has_bad_literal : Schema → QueryText → Bool
-has_bad_literal schema tree = list_any (fails schema is_too_large) (resolved schema tree).conditions
+has_bad_literal schema tree = list_any (literal_fails schema is_too_large) (resolved schema tree).conditions
 
 -- the top table and the joins
 
@@ -238,10 +238,10 @@ is_unlinked schema query =
 abbrev pub breaks : Schema → List ℕ → QueryText → Refusal → Bool
 breaks schema text tree (Syntax at) = false
 breaks schema text tree Limit = is_over_limit schema text tree
-breaks schema text tree UnknownTable = names_no_table schema tree
-breaks schema text tree UnknownColumn = names_no_column schema tree
+breaks schema text tree UnknownTable = has_unknown_table schema tree
+breaks schema text tree UnknownColumn = has_unknown_column schema tree
 breaks schema text tree Ambiguous = is_ambiguous schema tree
-breaks schema text tree KindMismatch = has_other_kind schema tree
+breaks schema text tree KindMismatch = has_kind_mismatch schema tree
 breaks schema text tree BadLiteral = has_bad_literal schema tree
 breaks schema text tree NotLinked = is_unlinked schema (resolved schema tree)
 

@@ -3,13 +3,13 @@
 -- of the tree that the text spells. A text that breaks none means the schema of its tree.
 use Rattle.std.specs.Prelude.{◌≡◌, ◌≢◌, ◌⊎◌, ◌↔◌, ℕ, zero, suc, ◌+◌, ◌<◌, nat_lt, Bool, true, false, not, ◌&&◌, ◌||◌, ◌==◌, List, [], ◌∷◌, ◌++◌, length, map, take, find, sum_by, count_by, slice_get, codes, bytes_eq, Option, Some, None, is_none, option_map, option_and_then, Result, Ok, Err, if◌then◌else◌}
 use Rattle.std.specs.List.{list_any}
-use Rattle.ghost_model.specs.Tokens.{is_between}
+use Rattle.ghost_model.specs.Tokens.{is_between, number_of}
 use Rattle.ghost_model.specs.Query.{Field}
 use Rattle.ghost_model.specs.Schema.{Schema, Table, places_where, is_table, keys_to, parent}
 use Rattle.ghost_model.specs.Grammar.{Spells, IsSyntaxFault}
-use Rattle.ghost_model.specs.SchemaGrammar.{Reference, To, ColumnText, CharColumn, IntegerColumn, TableText, SchemaText, spelling}
+use Rattle.ghost_model.specs.SchemaGrammar.{To, ColumnText, CharColumn, IntegerColumn, TableText, SchemaText, spelling}
 use Rattle.ghost_model.specs.SchemaPlaces.{syntax_of}
-use Rattle.ghost_model.specs.SchemaMeaning.{value_of_digits, table_named, columns_written, schema_of}
+use Rattle.ghost_model.specs.SchemaMeaning.{table_named, columns_written, schema_of}
 
 -- tables and columns by their places. The fault of a table's name has column 0
 pub data SchemaFault : Type 0 where
@@ -28,7 +28,7 @@ abbrev pub is_long : List ℕ → Bool
 is_long name = nat_lt 32 (length name)
 
 abbrev pub is_column_over : ColumnText → Bool
-is_column_over (CharColumn name digits hidden) = is_long name || not (is_between 1 64 (value_of_digits digits))
+is_column_over (CharColumn name digits hidden) = is_long name || not (is_between 1 64 (number_of digits))
 is_column_over (IntegerColumn name primary None hidden) = is_long name
 is_column_over (IntegerColumn name primary (Some (To table says_id)) hidden) = is_long name || is_long table
 
@@ -109,6 +109,7 @@ pub record Returns (schema : Schema) (table : ℕ) : Type 0 where
   pub moves : 0 < steps
   pub back : ancestor schema steps table ≡ Some table
 
+-- the place of each element of a list
 abbrev pub places_of : {X : Type 0} → List X → List ℕ
 places_of xs = places_where (λ _. true) xs
 
@@ -144,7 +145,7 @@ pub record IsFirst {X : Type 0} (P : X → Type 0) (all : List X) (x : X) : Type
   pub holds : P x
   pub none_before : NoneOf P front
 
--- the tree breaks the rule, and this is the first place where it does
+-- the tree breaks the rule, and this is the first place where it does, or for the roots their number
 abbrev pub Breaks : SchemaText → SchemaFault → Type 0
 Breaks tables (Syntax at) = ⊥
 Breaks tables Limit = is_over tables ≡ true
@@ -168,12 +169,14 @@ rank (TwoParents child) = 5
 rank (Cycle table) = 6
 rank (NotOneRoot roots) = 7
 
+-- the text spells a tree that breaks no rule, and this is the schema of that tree
 pub record MeansSchema (text : List ℕ) (schema : Schema) : Type 0 where
   pub tables : SchemaText
   pub spells : Spells spelling text tables
   pub obeys : (fault : SchemaFault) → Breaks tables fault → ⊥
   pub means : schema_of tables ≡ schema
 
+-- the tree that the text spells breaks the rule of this fault and none before it
 pub record BreaksFirst (text : List ℕ) (fault : SchemaFault) : Type 0 where
   pub tables : SchemaText
   pub spells : Spells spelling text tables
@@ -184,7 +187,7 @@ abbrev pub IsSchemaFault : List ℕ → SchemaFault → Type 0
 IsSchemaFault text (Syntax at) = IsSyntaxFault spelling text at
 IsSchemaFault text fault = BreaksFirst text fault
 
--- the same, to be computed: the fault of each rule, the first of the rules, and what a text is read as
+-- The same, to be computed: the first fault of a tree by the rules in their order, and what a text is read as.
 abbrev pub duplicate_in : SchemaText → Option SchemaFault
 duplicate_in tables =
     option_map (λ (field : Field). DuplicateName field.table field.column) (find (is_duplicate tables) (fields tables))
@@ -200,15 +203,15 @@ abbrev pub or_else : {X : Type 0} → Option X → Option X → Option X
 or_else None other = other
 or_else (Some x) other = Some x
 
-abbrev pub fault_of : SchemaText → Option SchemaFault
-fault_of tables =
+abbrev pub schema_fault : SchemaText → Option SchemaFault
+schema_fault tables =
     or_else (if is_over tables then Some Limit else None)
-        (or_else (duplicate_in tables)
-            (or_else (option_map NoId (find (lacks_id tables) (places_of tables)))
-                (or_else (unknown_in tables)
-                    (or_else (option_map TwoParents (find (is_shared tables) (places_of tables)))
-                        (or_else (option_map Cycle (find (returns (schema_of tables)) (places_of tables)))
-                            (wrong_roots (roots_of (schema_of tables))))))))
+    (or_else (duplicate_in tables)
+    (or_else (option_map NoId (find (lacks_id tables) (places_of tables)))
+    (or_else (unknown_in tables)
+    (or_else (option_map TwoParents (find (is_shared tables) (places_of tables)))
+    (or_else (option_map Cycle (find (returns (schema_of tables)) (places_of tables)))
+    (wrong_roots (roots_of (schema_of tables))))))))
 
 abbrev pub schema_or : Schema → Option SchemaFault → Result Schema SchemaFault
 schema_or schema None = Ok schema
@@ -216,7 +219,7 @@ schema_or schema (Some fault) = Err fault
 
 abbrev pub judged : Result SchemaText ℕ → Result Schema SchemaFault
 judged (Err at) = Err (Syntax at)
-judged (Ok tables) = schema_or (schema_of tables) (fault_of tables)
+judged (Ok tables) = schema_or (schema_of tables) (schema_fault tables)
 
 abbrev pub schema_reading : List ℕ → Result Schema SchemaFault
 schema_reading text = judged (syntax_of text)

@@ -3,7 +3,7 @@
 -- length in parentheses. After INTEGER may follow, in this order, PRIMARY KEY, then REFERENCES with a table's name and
 -- perhaps `( id )`, then HIDDEN; after CHAR and its length may follow HIDDEN. What a text declares is a tree, with
 -- whatever may be left out among it, and each tree is spelled in one way.
-use Rattle.std.specs.Prelude.{◌≡◌, ℕ, Bool, true, false, List, [], ◌∷◌, ◌++◌, flat_map, codes, Option, Some, None}
+use Rattle.std.specs.Prelude.{ℕ, Bool, true, false, List, [], ◌∷◌, ◌++◌, flat_map, codes, Option, Some, None}
 use Rattle.ghost_model.specs.Tokens.{Symbol, Word, Name, Digits, Open, Closing, Comma, Semicolon, End, Char, Create, Hidden, Integer, Key, Primary, References, Table}
 use Rattle.ghost_model.specs.Grammar.{separated}
 

@@ -2,11 +2,11 @@
 -- keys among them; the identifier stands in neither, since both sides know it. Each part has all rows of each table in
 -- order, so it tells their number. From the public part follow the visible image, which is the host's file, and the
 -- rows that an ask is to be replied with.
-use Rattle.std.specs.Prelude.{◌≡◌, ℕ, zero, suc, ◌+◌, pos, Bool, true, false, not, ◌&&◌, ◌==◌, List, [], ◌∷◌, ◌++◌, length, map, drop, filter, filter_map, flat_map, Option, Some, None, slice_get, if◌then◌else◌}
+use Rattle.std.specs.Prelude.{◌≡◌, ℕ, ◌+◌, pos, Bool, true, false, not, ◌&&◌, ◌==◌, List, [], ◌∷◌, ◌++◌, length, map, drop, filter, filter_map, flat_map, Option, Some, None, slice_get, IsTrue, if◌then◌else◌}
 use Rattle.std.specs.List.{list_all}
 use Rattle.ghost_model.specs.Schema.{Schema, Table, Column, Kind, columns_of, places_from}
 use Rattle.ghost_model.specs.Values.{Value, Number, Row, Rows, Database}
-use Rattle.ghost_model.specs.Database.{rows_or_none, holds, IsDatabase}
+use Rattle.ghost_model.specs.Database.{rows_or_none, row_counts, is_of_kind, holds, IsDatabase}
 use Rattle.ghost_model.specs.Cells.{encode_cell}
 use Rattle.ghost_model.specs.Catalog.{catalog_bytes}
 use Rattle.ghost_model.specs.Channel.{Catalog, Ask, Test}
@@ -45,7 +45,8 @@ rows_by part columns rows = map (λ row. part (hidden_flags columns) (drop 1 row
 abbrev pub tables_by : (List Bool → Row → Row) → Schema → Database → List Rows
 tables_by part [] database = []
 tables_by part (_ ∷ _) [] = []
-tables_by part (table ∷ tables) (rows ∷ database) = rows_by part table.columns rows ∷ tables_by part tables database
+tables_by part (table ∷ tables) (rows ∷ database) =
+    rows_by part table.columns rows ∷ tables_by part tables database
 
 abbrev pub public_of : Schema → Database → Public
 public_of schema database = record { visible = tables_by visible_values schema database }
@@ -66,13 +67,15 @@ abbrev pub rejoined_rows : (identifier : ℕ) → List Column → (visible kept 
 rejoined_rows identifier columns [] kept = []
 rejoined_rows identifier columns (_ ∷ _) [] = []
 rejoined_rows identifier columns (one ∷ visible) (other ∷ kept) =
-    (Number (pos identifier) ∷ merged (hidden_flags columns) one other) ∷ rejoined_rows (identifier + 1) columns visible kept
+    (Number (pos identifier) ∷ merged (hidden_flags columns) one other)
+    ∷ rejoined_rows (identifier + 1) columns visible kept
 
 abbrev pub rejoined_tables : Schema → (visible kept : List Rows) → Database
 rejoined_tables [] visible kept = []
 rejoined_tables (_ ∷ _) [] kept = []
 rejoined_tables (_ ∷ _) (_ ∷ _) [] = []
-rejoined_tables (table ∷ tables) (one ∷ visible) (other ∷ kept) = rejoined_rows 1 table.columns one other ∷ rejoined_tables tables visible kept
+rejoined_tables (table ∷ tables) (one ∷ visible) (other ∷ kept) =
+    rejoined_rows 1 table.columns one other ∷ rejoined_tables tables visible kept
 
 -- the database whose two parts these are
 abbrev pub rejoined : Schema → Public → Hidden → Database
@@ -89,7 +92,8 @@ visible_places schema table = places_from is_open 1 (drop 1 (columns_of schema t
 abbrev pub value_at : (places : List ℕ) → Row → (column : ℕ) → Option Value
 value_at [] values column = None
 value_at (_ ∷ _) [] column = None
-value_at (place ∷ places) (value ∷ values) column = if place == column then Some value else value_at places values column
+value_at (place ∷ places) (value ∷ values) column =
+    if place == column then Some value else value_at places values column
 
 -- the visible rows of a table
 abbrev pub rows_in : Public → (table : ℕ) → Rows
@@ -109,13 +113,15 @@ pub record Replied : Type 0 where
   pub values : Row
 
 abbrev pub replied : (places : List ℕ) → Ask → (identifier : ℕ) → Row → Replied
-replied places ask identifier row = record { identifier = identifier; values = filter_map (value_at places row) ask.columns }
+replied places ask identifier row =
+    record { identifier = identifier; values = filter_map (value_at places row) ask.columns }
 
 -- the rows that meet an ask's conditions, ascending, the first row having identifier `identifier`
 unfoldable pub replies_from : (identifier : ℕ) → (places : List ℕ) → Ask → Rows → List Replied
 replies_from identifier places ask [] = []
 replies_from identifier places ask (row ∷ rows) =
-    if meets_tests places ask.tests row then replied places ask identifier row ∷ replies_from (identifier + 1) places ask rows
+    if meets_tests places ask.tests row
+    then replied places ask identifier row ∷ replies_from (identifier + 1) places ask rows
     else replies_from (identifier + 1) places ask rows
 
 -- the reply to an ask: the rows of its table that meet its conditions
@@ -138,7 +144,8 @@ visible_kinds table = map kind_of (filter is_open (drop 1 table.columns))
 abbrev pub cells_of_tables : Schema → List Rows → List ℕ
 cells_of_tables [] visible = []
 cells_of_tables (_ ∷ _) [] = []
-cells_of_tables (table ∷ tables) (rows ∷ visible) = flat_map (cells (visible_kinds table)) rows ++ cells_of_tables tables visible
+cells_of_tables (table ∷ tables) (rows ∷ visible) =
+    flat_map (cells (visible_kinds table)) rows ++ cells_of_tables tables visible
 
 -- the visible image: the catalog, then for each table and each row the cells of the visible columns
 abbrev pub image : Catalog → Public → List ℕ
@@ -156,6 +163,34 @@ reply_rows schema public ask = map (reply_row schema ask) (visible_rows schema p
 abbrev pub reply_bytes : Schema → Public → Ask → List (List ℕ)
 reply_bytes schema public ask = map row_bytes (reply_rows schema public ask)
 
+-- whether there is one value of each of these kinds
+abbrev pub are_of_kinds : List Kind → Row → Bool
+are_of_kinds [] [] = true
+are_of_kinds [] (_ ∷ _) = false
+are_of_kinds (_ ∷ _) [] = false
+are_of_kinds (kind ∷ kinds) (value ∷ values) = is_of_kind kind value && are_of_kinds kinds values
+
+-- a public part that goes with a catalog
+pub record IsPublic (cat : Catalog) (public : Public) : Type 0 where
+  -- the rows of each table are as many as the catalog says
+  pub counted : map length public.visible ≡ cat.counts
+  -- a row has one value for each visible column, of its kind
+  pub kinds : (table place : ℕ) (declared : Table) (row : Row) → slice_get cat.schema table ≡ Some declared
+      → slice_get (rows_in public table) place ≡ Some row → IsTrue (are_of_kinds (visible_kinds declared) row)
+
+-- the bytes are the visible image of such a public part
+pub record SpellsImage (cat : Catalog) (public : Public) (bytes : List ℕ) : Type 0 where
+  pub goes_with : IsPublic cat public
+  pub spelled : bytes ≡ image cat public
+
+-- the public part of a database goes with its catalog
+abbrev pub PublicPartsGoWithCatalogs : Type 0
+PublicPartsGoWithCatalogs =
+    (cat : Catalog) (database : Database) → IsDatabase cat.schema database → row_counts database ≡ cat.counts
+    → IsPublic cat (public_of cat.schema database)
+
 -- a database is its two parts rejoined
 abbrev pub SplitIsRejoined : Type 0
-SplitIsRejoined = (schema : Schema) (database : Database) → IsDatabase schema database → rejoined schema (public_of schema database) (hidden_of schema database) ≡ database
+SplitIsRejoined =
+    (schema : Schema) (database : Database) → IsDatabase schema database
+    → rejoined schema (public_of schema database) (hidden_of schema database) ≡ database

@@ -7,47 +7,39 @@ ghost use Rattle.ghost_model.specs.examples.Queries.{ClinicQueries, LimitsOfQuer
 /// Following the places of the grammar tells exactly the trees of texts, and exactly their syntax faults.
 pub fn query_places_are_exact()
     ensures { QueryPlacesAreExact }
-{
-}
+{}
 
 /// Each text has one meaning or one refusal over a schema, and the reading tells which.
 pub fn one_reading()
     ensures { OneReading }
-{
-}
+{}
 
 /// A script of six texts, one refused by each of six rules.
 pub fn one_refusal_each()
     ensures { OneRefusalEach }
-{
-}
+{}
 
 /// What telling texts mean over the clinic and the notes.
 pub fn clinic_queries()
     ensures { ClinicQueries }
-{
-}
+{}
 
 /// The ways in which one query may be written.
 pub fn query_spellings()
     ensures { QuerySpellings }
-{
-}
+{}
 
 /// Where the syntax faults of texts stand.
 pub fn query_syntax_faults()
     ensures { QuerySyntaxFaults }
-{
-}
+{}
 
 /// What the limits count.
 pub fn limits_of_queries()
     ensures { LimitsOfQueries }
-{
-}
+{}
 
 /// Which of two broken rules a text is refused by.
 pub fn query_rules_in_order()
     ensures { QueryRulesInOrder }
-{
-}
+{}

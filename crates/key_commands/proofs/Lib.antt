@@ -6,3 +6,10 @@ mod FormNames
 mod OneReading
 mod ReadForm
 mod ReadScript
+mod FormText
+mod FormLemmas
+mod FormAnswers
+mod FormRows
+mod FormSchema
+mod FormReplies
+mod FormFile

@@ -7,3 +7,4 @@ pub mod Texts
 pub mod Rows
 pub mod Pieces
 pub mod Views
+pub mod FormFile

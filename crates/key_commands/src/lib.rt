@@ -3,6 +3,7 @@
 
 pub mod fields;
 pub mod form;
+mod form_laws;
 pub mod naming;
 pub mod pieces;
 pub mod records;

@@ -5,13 +5,14 @@ use Rattle.hex.specs.declared.error.FromHexError.{FromHexError}
 use Rattle.ghost_model.specs.Values.{Number, Text}
 use Rattle.ghost_model.specs.Query as query
 use Rattle.ghost_model.specs.Channel.{Frame, Hello, Asking, More, Bye, Welcome, Replied, Done, Sorry, Catalog, Ask, Test, Move, Dial, Send, Take, Close, Answer, Made, Piece, Entry, Journal}
-use Rattle.ghost_model.specs.Asks.{Asked, asked, asked_of, asks_of, ask_payload, ask_in, row_width, ReplyRow}
+use Rattle.ghost_model.specs.Asks.{Asked, asked, asked_of, asks_of, ask_payload, ask_in, ReplyRow}
 use Rattle.ghost_model.specs.Moves.{lines}
-use Rattle.ghost_model.specs.NextMove.{IsProper, IsFinished, InvalidFrame, invalid_frame, heard, due, Answered, Refused, Ended, ended}
+use Rattle.ghost_model.specs.NextMove.{IsProper, IsFinished, InvalidFrame, invalid_frame, heard, due}
 use Rattle.ghost_model.specs.Frames.{frame_bytes, kind_of, payload_of, Got, got_of, Found, Short, Bad}
 use Rattle.ghost_model.specs.Catalog.{catalog_bytes}
-use Rattle.ghost_model.specs.Host.{Holding, host_says, bad_request}
-use Rattle.ghost_model.specs.examples.Clinic.{clinic_schema, clinic_catalog, note_schema, note_catalog}
+use Rattle.ghost_model.specs.Host.{Holding, host_of, host_says, bad_request}
+use Rattle.ghost_model.specs.Split.{public_of}
+use Rattle.ghost_model.specs.examples.Clinic.{clinic, clinic_schema, clinic_catalog, note_schema, note_catalog}
 
 abbrev pub bytes_or_none : Result (List ℕ) FromHexError → List ℕ
 bytes_or_none (Ok bytes) = bytes
@@ -44,6 +45,10 @@ pub record SpellingsOfFrames : Type 0 where
   pub done : spelled (Done 1 2) ≡ codes "130100040000000100000002"
   pub sorry : spelled (Sorry 1 1) ≡ codes "140100010000000101"
   pub short_ask : spelled topic_ask ≡ codes "0201000900000001000001010161000000"
+  pub ask_of_a_column : spelled (Asking 1 (hex (codes "02010100"))) ≡ codes "020100040000000102010100"
+  pub ask_of_a_column_and_a_condition :
+      spelled (Asking 1 (hex (codes "0201010101068000000000000002"))) ≡ codes "0201000e000000010201010101068000000000000002"
+  pub done_of_no_row : spelled (Done 1 0) ≡ codes "130100040000000100000000"
   pub welcome : encode_lower (take 9 (frame_bytes (Welcome 1 (catalog_bytes clinic_catalog)))) ≡ codes "1101016e0000000001"
 
 -- what bytes in hexadecimal amount to that begin with a frame
@@ -79,7 +84,8 @@ abbrev pub topic_query : query.Query
 topic_query = record {
   from = 0 ∷ [];
   select = field 0 2 ∷ [];
-  conditions = query.Compare (field 0 1) query.Equal (Text (codes "a")) ∷ [] }
+  conditions = query.Compare (field 0 1) query.Equal (Text (codes "a")) ∷ [];
+}
 
 abbrev pub entry : Move → Answer → Entry
 entry move answer = record { move = move; answer = answer }
@@ -126,8 +132,8 @@ pub record JournalOfTheNotes : Type 0 where
   pub proper : IsProper note_catalog [] (topic_text ∷ []) topic_journal
   pub finished : IsFinished topic_journal
   pub file :
-    lines topic_journal
-    ≡ codes "dial ok\nsend 010100040000000000000001 ok\ntake 8 1101006500000000\ntake 101 01"
+      lines topic_journal
+      ≡ codes "dial ok\nsend 010100040000000000000001 ok\ntake 8 1101006500000000\ntake 101 01"
       ++ (encode_lower (catalog_bytes note_catalog)
       ++ codes "\nsend 0201000900000001000001010161000000 ok\ntake 8 1201000800000001\ntake 8 0000000100000003\nsend 0301000000000001 ok\ntake 8 1301000400000001\ntake 4 00000002\nsend 0401000000000000 ok\nclose\n")
 
@@ -140,8 +146,9 @@ cardio_query = record {
   from = 2 ∷ 0 ∷ [];
   select = field 2 0 ∷ field 0 1 ∷ [];
   conditions =
-    query.Join (field 2 3) (field 0 0) ∷ query.Compare (field 0 1) query.Equal (Text (codes "cardio"))
-    ∷ query.Compare (field 2 2) query.Equal (Text (codes "flu")) ∷ [] }
+      query.Join (field 2 3) (field 0 0) ∷ query.Compare (field 0 1) query.Equal (Text (codes "cardio"))
+      ∷ query.Compare (field 2 2) query.Equal (Text (codes "flu")) ∷ [];
+}
 
 abbrev pub name_text : List ℕ
 name_text = codes " SELECT name FROM patient WHERE name = 'Ann'"
@@ -150,7 +157,8 @@ abbrev pub name_query : query.Query
 name_query = record {
   from = 1 ∷ [];
   select = field 1 2 ∷ [];
-  conditions = query.Compare (field 1 2) query.Equal (Text (codes "Ann")) ∷ [] }
+  conditions = query.Compare (field 1 2) query.Equal (Text (codes "Ann")) ∷ [];
+}
 
 -- SELECT day FROM visit
 abbrev pub day_query : query.Query
@@ -163,14 +171,16 @@ abbrev pub late_query : query.Query
 late_query = record {
   from = 2 ∷ [];
   select = field 2 0 ∷ field 2 1 ∷ [];
-  conditions = query.Compare (field 2 1) query.AtLeast (Number (pos 2)) ∷ [] }
+  conditions = query.Compare (field 2 1) query.AtLeast (Number (pos 2)) ∷ [];
+}
 
 -- SELECT patient.id FROM patient WHERE age >= -9223372036854775808
 abbrev pub any_age_query : query.Query
 any_age_query = record {
   from = 1 ∷ [];
   select = field 1 0 ∷ [];
-  conditions = query.Compare (field 1 1) query.AtLeast (Number (negsuc 9223372036854775807)) ∷ [] }
+  conditions = query.Compare (field 1 1) query.AtLeast (Number (negsuc 9223372036854775807)) ∷ [];
+}
 
 -- SELECT day, specialty, day FROM visit, doctor WHERE doc = doctor.id AND visit.id < 3 AND day BETWEEN 2 AND 5
 abbrev pub both_query : query.Query
@@ -178,8 +188,9 @@ both_query = record {
   from = 2 ∷ 0 ∷ [];
   select = field 2 1 ∷ field 0 1 ∷ field 2 1 ∷ [];
   conditions =
-    query.Join (field 2 3) (field 0 0) ∷ query.Compare (field 2 0) query.Less (Number (pos 3))
-    ∷ query.Compare (field 2 1) query.AtLeast (Number (pos 2)) ∷ query.Compare (field 2 1) query.AtMost (Number (pos 5)) ∷ [] }
+      query.Join (field 2 3) (field 0 0) ∷ query.Compare (field 2 0) query.Less (Number (pos 3))
+      ∷ query.Compare (field 2 1) query.AtLeast (Number (pos 2)) ∷ query.Compare (field 2 1) query.AtMost (Number (pos 5)) ∷ [];
+}
 
 -- the payloads of the asks of a query over the clinic
 abbrev pub payloads : query.Query → List (List ℕ)
@@ -192,8 +203,8 @@ pub record AsksOfQueries : Type 0 where
   pub a_column_and_its_condition : payloads late_query ≡ codes "0201010101068000000000000002" ∷ []
   pub the_lowest_number : payloads any_age_query ≡ codes "01000101060000000000000000" ∷ []
   pub of_texts :
-    asked_of clinic_schema (cardio_text ∷ name_text ∷ codes "SELECT age patient" ∷ late_text ∷ [])
-    ≡ map (asked 1) (asks_of clinic_schema cardio_query) ++ map (asked 4) (asks_of clinic_schema late_query)
+      asked_of clinic_schema (cardio_text ∷ name_text ∷ codes "SELECT age patient" ∷ late_text ∷ [])
+      ≡ map (asked 1) (asks_of clinic_schema cardio_query) ++ map (asked 4) (asks_of clinic_schema late_query)
   pub two_tables_in_their_own_order : payloads both_query ≡ codes "00010100" ∷ codes "020101020106800000000000000201048000000000000005" ∷ []
 
 -- the ask that bytes in hexadecimal spell over the clinic
@@ -205,8 +216,8 @@ cardio_test = record { column = 1; operator = query.Equal; value = Text (codes "
 
 pub record AsksOfBytes : Type 0 where
   pub an_ask :
-    ask_read (codes "00010101010163617264696f0000")
-    ≡ Some (record { table = 0; columns = 1 ∷ []; tests = cardio_test ∷ [] })
+      ask_read (codes "00010101010163617264696f0000")
+      ≡ Some (record { table = 0; columns = 1 ∷ []; tests = cardio_test ∷ [] })
   pub of_nothing : ask_read (codes "020000") ≡ Some (record { table = 2; columns = []; tests = [] })
   pub no_such_table : ask_read (codes "030000") ≡ None
   pub a_hidden_column : ask_read (codes "00010200") ≡ None
@@ -276,8 +287,8 @@ pub record InvalidFrames : Type 0 where
   pub an_identifier_again : invalid_in (after_welcome (one_row (codes "00000001") ++ one_row (codes "00000001"))) ≡ invalid 18 394
   pub a_cell_of_no_value : invalid_in (after_welcome (codes "1201000c00000001000000016300617264696f00")) ≡ invalid 18 374
   pub another_total :
-    invalid_in (after_welcome (codes "12010018000000010000000163617264696f00000000000363617264696f0000130100040000000100000001"))
-    ≡ invalid 19 406
+      invalid_in (after_welcome (codes "12010018000000010000000163617264696f00000000000363617264696f0000130100040000000100000001"))
+      ≡ invalid 19 406
   pub a_header_of_another_serial : invalid_in (after_welcome (codes "1201000c00000002")) ≡ invalid 18 374
   pub a_header_of_half_a_row : invalid_in (after_welcome (codes "1201000600000001")) ≡ invalid 18 374
   pub a_header_of_no_row : invalid_in (after_welcome (codes "1201000000000001")) ≡ invalid 18 374
@@ -285,9 +296,9 @@ pub record InvalidFrames : Type 0 where
   pub a_header_past_the_greatest_length : invalid_in (after_welcome (codes "1201080400000001")) ≡ invalid 18 374
   pub sorry_of_zero : invalid_in (after_welcome (codes "140100010000000100")) ≡ invalid 20 374
   pub another_byte_of_the_catalog :
-    invalid_in (frame_bytes (Welcome 1 (0 ∷ drop 1 (catalog_bytes clinic_catalog)))) ≡ invalid 17 0
+      invalid_in (frame_bytes (Welcome 1 (0 ∷ drop 1 (catalog_bytes clinic_catalog)))) ≡ invalid 17 0
   pub another_generation :
-    invalid_in (frame_bytes (Welcome 1 (catalog_bytes (record clinic_catalog { generation = 2 })))) ≡ invalid 17 0
+      invalid_in (frame_bytes (Welcome 1 (catalog_bytes (record clinic_catalog { generation = 2 })))) ≡ invalid 17 0
   pub a_last_frame_that_is_not_marked : invalid_in (frame_bytes (Welcome 0 (catalog_bytes clinic_catalog))) ≡ invalid 17 0
   pub a_second_hello : invalid_in (hex (codes "0101000400000000")) ≡ invalid 1 0
   pub a_longer_catalog : invalid_in (hex (codes "1101016f00000000")) ≡ invalid 17 0
@@ -307,29 +318,25 @@ pub record FramesThatAreDue : Type 0 where
   pub at_first : due clinic_catalog same_twice [] ≡ Hello 1 ∷ []
   pub welcomed : due clinic_catalog same_twice clinic_welcome ≡ Hello 1 ∷ Asking 1 cardio_payload ∷ []
   pub in_two_frames :
-    due clinic_catalog same_twice
+      due clinic_catalog same_twice
       (frame_bytes (Welcome 0 (take 300 (catalog_bytes clinic_catalog)))
       ++ frame_bytes (Welcome 1 (drop 300 (catalog_bytes clinic_catalog))))
-    ≡ Hello 1 ∷ Asking 1 cardio_payload ∷ []
+      ≡ Hello 1 ∷ Asking 1 cardio_payload ∷ []
   pub serials_go_on :
-    due clinic_catalog same_twice (after_welcome (one_row (codes "00000001") ++ codes "130100040000000100000001"))
-    ≡ Hello 1 ∷ Asking 1 cardio_payload ∷ More 1 ∷ Asking 2 cardio_payload ∷ []
+      due clinic_catalog same_twice (after_welcome (one_row (codes "00000001") ++ codes "130100040000000100000001"))
+      ≡ Hello 1 ∷ Asking 1 cardio_payload ∷ More 1 ∷ Asking 2 cardio_payload ∷ []
   pub sorry_ends_a_text :
-    due clinic_catalog two_then_one (after_welcome (codes "140100010000000101"))
-    ≡ Hello 1 ∷ Asking 1 (hex (codes "00010100")) ∷ Asking 2 (hex (codes "02010100")) ∷ []
+      due clinic_catalog two_then_one (after_welcome (codes "140100010000000101"))
+      ≡ Hello 1 ∷ Asking 1 (hex (codes "00010100")) ∷ Asking 2 (hex (codes "02010100")) ∷ []
   pub nothing_is_left :
-    due clinic_catalog two_then_one (after_welcome (codes "140100010000000101130100040000000200000000"))
-    ≡ Hello 1 ∷ Asking 1 (hex (codes "00010100")) ∷ Asking 2 (hex (codes "02010100")) ∷ Bye ∷ []
+      due clinic_catalog two_then_one (after_welcome (codes "140100010000000101130100040000000200000000"))
+      ≡ Hello 1 ∷ Asking 1 (hex (codes "00010100")) ∷ Asking 2 (hex (codes "02010100")) ∷ Bye ∷ []
   pub nothing_after_an_invalid_frame :
-    due clinic_catalog cardio_asks (after_welcome (codes "130100040000000100000001130100040000000100000000"))
-    ≡ Hello 1 ∷ Asking 1 cardio_payload ∷ []
+      due clinic_catalog cardio_asks (after_welcome (codes "130100040000000100000001130100040000000100000000"))
+      ≡ Hello 1 ∷ Asking 1 cardio_payload ∷ []
 
-abbrev pub cardio_row : ℕ → ReplyRow
-cardio_row identifier = record { identifier = identifier; cells = hex (codes "63617264696f0000") }
-
--- the clinic's host, whose cardiologists are doctors 1 and 3
 abbrev pub clinic_host : Holding
-clinic_host = record { catalog = clinic_catalog; rows = λ ask. cardio_row 1 ∷ cardio_row 3 ∷ [] }
+clinic_host = host_of clinic_catalog (public_of clinic_schema clinic)
 
 -- a host that holds so many notes of which no cell is asked for
 abbrev pub counting : (identifier : ℕ) (count : ℕ) → List ReplyRow
@@ -348,16 +355,19 @@ shape_of frame = kind_of frame ∷ length (payload_of frame) ∷ []
 
 pub record AnswersOfTheHost : Type 0 where
   pub a_session :
-    host_says clinic_host (key_bytes (Hello 1 ∷ cardio_ask ∷ More 1 ∷ Bye ∷ []))
-    ≡ Welcome 1 (catalog_bytes clinic_catalog) ∷ cardio_rows ∷ Done 1 2 ∷ []
+      host_says clinic_host (key_bytes (Hello 1 ∷ cardio_ask ∷ More 1 ∷ Bye ∷ []))
+      ≡ Welcome 1 (catalog_bytes clinic_catalog) ∷ cardio_rows ∷ Done 1 2 ∷ []
+  pub conditions_are_met :
+      host_says clinic_host (key_bytes (Hello 1 ∷ Asking 1 (hex (codes "0201010101068000000000000006")) ∷ More 1 ∷ Bye ∷ []))
+      ≡ Welcome 1 (catalog_bytes clinic_catalog) ∷ Replied 1 (hex (codes "000000038000000000000009")) ∷ Done 1 1 ∷ []
   pub another_generation : host_says clinic_host (key_bytes (Hello 7 ∷ [])) ≡ Welcome 1 (catalog_bytes clinic_catalog) ∷ []
   pub no_row :
-    map shape_of (host_says (note_host 0) (key_bytes (Hello 1 ∷ topic_ask ∷ Bye ∷ []))) ≡ (17 ∷ 101 ∷ []) ∷ (19 ∷ 4 ∷ []) ∷ []
+      map shape_of (host_says (note_host 0) (key_bytes (Hello 1 ∷ topic_ask ∷ Bye ∷ []))) ≡ (17 ∷ 101 ∷ []) ∷ (19 ∷ 4 ∷ []) ∷ []
   pub as_many_rows_as_fit :
-    map shape_of (host_says (note_host 511) (key_bytes (Hello 1 ∷ topic_ask ∷ More 1 ∷ More 1 ∷ Bye ∷ [])))
-    ≡ (17 ∷ 101 ∷ []) ∷ (18 ∷ 2040 ∷ []) ∷ (18 ∷ 4 ∷ []) ∷ (19 ∷ 4 ∷ []) ∷ []
+      map shape_of (host_says (note_host 511) (key_bytes (Hello 1 ∷ topic_ask ∷ More 1 ∷ More 1 ∷ Bye ∷ [])))
+      ≡ (17 ∷ 101 ∷ []) ∷ (18 ∷ 2040 ∷ []) ∷ (18 ∷ 4 ∷ []) ∷ (19 ∷ 4 ∷ []) ∷ []
   pub nothing_after_a_wrong_serial :
-    host_says clinic_host (key_bytes (Hello 1 ∷ Asking 2 cardio_payload ∷ Bye ∷ [])) ≡ Welcome 1 (catalog_bytes clinic_catalog) ∷ []
+      host_says clinic_host (key_bytes (Hello 1 ∷ Asking 2 cardio_payload ∷ Bye ∷ [])) ≡ Welcome 1 (catalog_bytes clinic_catalog) ∷ []
   pub no_such_table : bad_request clinic_host (key_bytes (Hello 1 ∷ Asking 1 (hex (codes "030000")) ∷ [])) ≡ invalid 2 12
   pub a_second_hello : bad_request clinic_host (key_bytes (Hello 1 ∷ Hello 1 ∷ [])) ≡ invalid 1 12
   pub bye_within_a_reply : bad_request clinic_host (key_bytes (Hello 1 ∷ cardio_ask ∷ Bye ∷ [])) ≡ invalid 4 34

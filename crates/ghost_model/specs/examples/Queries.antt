@@ -1,5 +1,5 @@
 -- What telling query texts mean over the clinic's schema, and why others are refused.
-use Rattle.std.specs.Prelude.{◌≡◌, ℕ, negsuc, List, [], ◌∷◌, ◌++◌, replicate, codes, Option, Some, None, Result, Ok, Err}
+use Rattle.std.specs.Prelude.{◌≡◌, ℕ, negsuc, List, [], ◌∷◌, ◌++◌, replicate, codes, Some, None, Result, Ok, Err}
 use Rattle.ghost_model.specs.Values.{Number, Text}
 use Rattle.ghost_model.specs.Query.{Field, Condition, Query, Equal, Unequal, Less, AtMost, More, AtLeast, Compare, Join}
 use Rattle.ghost_model.specs.QueryMeaning.{Refusal, Syntax, Limit, UnknownTable, UnknownColumn, Ambiguous, KindMismatch, BadLiteral, NotLinked, field, top_of}
@@ -23,81 +23,63 @@ pub record OneRefusalEach : Type 0 where
 
 -- what the texts mean that the clinic is asked most
 pub record ClinicQueries : Type 0 where
-  pub visible_and_hidden_over_a_join : reads (codes "SELECT visit.id, specialty FROM visit, doctor WHERE doc = doctor.id AND specialty = 'cardio' AND purpose = 'flu'") ≡ Ok (query (2 ∷ 0 ∷ [])
-    (field 2 0 ∷ field 0 1 ∷ [])
-    (Join (field 2 3) (field 0 0) ∷ Compare (field 0 1) Equal (Text (codes "cardio")) ∷ Compare (field 2 2) Equal (Text (codes "flu")) ∷ []))
-  pub hidden_alone : reads (codes "SELECT name FROM patient WHERE name = 'Ann'") ≡ Ok (query (1 ∷ [])
-    (field 1 2 ∷ [])
-    (Compare (field 1 2) Equal (Text (codes "Ann")) ∷ []))
-  pub visible_alone : reads (codes "SELECT visit.id, day FROM visit WHERE day >= 2") ≡ Ok (query (2 ∷ [])
-    (field 2 0 ∷ field 2 1 ∷ [])
-    (Compare (field 2 1) AtLeast (number 2) ∷ []))
-  pub below_the_root : reads (codes "SELECT doctor.id FROM doctor WHERE country = 'ES'") ≡ Ok (query (0 ∷ [])
-    (field 0 0 ∷ [])
-    (Compare (field 0 2) Equal (Text (codes "ES")) ∷ []))
-  pub identifiers_alone : reads (codes " SELECT patient.id FROM patient") ≡ Ok (query (1 ∷ [])
-    (field 1 0 ∷ [])
-    [])
-  pub lowest_integer : reads (codes "SELECT patient.id FROM patient WHERE age >= -9223372036854775808") ≡ Ok (query (1 ∷ [])
-    (field 1 0 ∷ [])
-    (Compare (field 1 1) AtLeast (Number (negsuc 9223372036854775807)) ∷ []))
-  pub hidden_over_a_join : reads (codes "SELECT visit.id FROM visit, doctor WHERE doc = doctor.id AND country = 'ES'") ≡ Ok (query (2 ∷ 0 ∷ [])
-    (field 2 0 ∷ [])
-    (Join (field 2 3) (field 0 0) ∷ Compare (field 0 2) Equal (Text (codes "ES")) ∷ []))
-  pub of_the_notes : reading note_schema (codes "SELECT body FROM note WHERE topic = 'a'") ≡ Ok (query (0 ∷ [])
-    (field 0 2 ∷ [])
-    (Compare (field 0 1) Equal (Text (codes "a")) ∷ []))
-  pub top_is_the_root : top_of clinic_schema (query (0 ∷ 2 ∷ 1 ∷ [])
-    []
-    []) ≡ Some 2
-  pub top_is_below_the_root : top_of clinic_schema (query (1 ∷ [])
-    []
-    []) ≡ Some 1
-  pub no_top_of_two : top_of clinic_schema (query (0 ∷ 1 ∷ [])
-    []
-    []) ≡ None
+  pub visible_and_hidden_over_a_join : reads (codes "SELECT visit.id, specialty FROM visit, doctor WHERE doc = doctor.id AND specialty = 'cardio' AND purpose = 'flu'")
+      ≡ Ok (query (2 ∷ 0 ∷ []) (field 2 0 ∷ field 0 1 ∷ [])
+      (Join (field 2 3) (field 0 0) ∷ Compare (field 0 1) Equal (Text (codes "cardio")) ∷ Compare (field 2 2) Equal (Text (codes "flu")) ∷ []))
+  pub hidden_alone : reads (codes "SELECT name FROM patient WHERE name = 'Ann'")
+      ≡ Ok (query (1 ∷ []) (field 1 2 ∷ []) (Compare (field 1 2) Equal (Text (codes "Ann")) ∷ []))
+  pub visible_alone : reads (codes "SELECT visit.id, day FROM visit WHERE day >= 2")
+      ≡ Ok (query (2 ∷ []) (field 2 0 ∷ field 2 1 ∷ []) (Compare (field 2 1) AtLeast (number 2) ∷ []))
+  pub below_the_root : reads (codes "SELECT doctor.id FROM doctor WHERE country = 'ES'")
+      ≡ Ok (query (0 ∷ []) (field 0 0 ∷ []) (Compare (field 0 2) Equal (Text (codes "ES")) ∷ []))
+  pub identifiers_alone : reads (codes " SELECT patient.id FROM patient") ≡ Ok (query (1 ∷ []) (field 1 0 ∷ []) [])
+  pub lowest_integer : reads (codes "SELECT patient.id FROM patient WHERE age >= -9223372036854775808")
+      ≡ Ok (query (1 ∷ []) (field 1 0 ∷ [])
+      (Compare (field 1 1) AtLeast (Number (negsuc 9223372036854775807)) ∷ []))
+  pub hidden_over_a_join : reads (codes "SELECT visit.id FROM visit, doctor WHERE doc = doctor.id AND country = 'ES'")
+      ≡ Ok (query (2 ∷ 0 ∷ []) (field 2 0 ∷ [])
+      (Join (field 2 3) (field 0 0) ∷ Compare (field 0 2) Equal (Text (codes "ES")) ∷ []))
+  pub of_the_notes : reading note_schema (codes "SELECT body FROM note WHERE topic = 'a'")
+      ≡ Ok (query (0 ∷ []) (field 0 2 ∷ []) (Compare (field 0 1) Equal (Text (codes "a")) ∷ []))
+  pub top_is_the_root : top_of clinic_schema (query (0 ∷ 2 ∷ 1 ∷ []) [] []) ≡ Some 2
+  pub top_is_below_the_root : top_of clinic_schema (query (1 ∷ []) [] []) ≡ Some 1
+  pub no_top_of_two : top_of clinic_schema (query (0 ∷ 1 ∷ []) [] []) ≡ None
 
 -- one meaning may be spelled in several ways
 pub record QuerySpellings : Type 0 where
-  pub star_takes_the_tables_as_they_stand : reads (codes "SELECT * FROM patient, visit WHERE patient.id = pat") ≡ Ok (query (1 ∷ 2 ∷ [])
-    (field 1 0 ∷ field 1 1 ∷ field 1 2 ∷ field 2 0 ∷ field 2 1 ∷ field 2 2 ∷ field 2 3 ∷ field 2 4 ∷ [])
-    (Join (field 1 0) (field 2 4) ∷ []))
-  pub words_without_case : reads (codes "select Patient.AGE from PATIENT wHere Name <> 'Ann'") ≡ Ok (query (1 ∷ [])
-    (field 1 1 ∷ [])
-    (Compare (field 1 2) Unequal (Text (codes "Ann")) ∷ []))
-  pub between_is_two_conditions : reads (codes "SELECT id FROM visit WHERE day BETWEEN -3 AND +4 AND day < 5") ≡ Ok (query (2 ∷ [])
-    (field 2 0 ∷ [])
-    (Compare (field 2 1) AtLeast (Number (negsuc 2)) ∷ Compare (field 2 1) AtMost (number 4) ∷ Compare (field 2 1) Less (number 5) ∷ []))
-  pub between_texts : reads (codes "SELECT id FROM patient WHERE name BETWEEN 'A' AND 'C'") ≡ Ok (query (1 ∷ [])
-    (field 1 0 ∷ [])
-    (Compare (field 1 2) AtLeast (Text (codes "A")) ∷ Compare (field 1 2) AtMost (Text (codes "C")) ∷ []))
-  pub no_space_where_none_is_needed : reads (codes "SELECT age,id FROM patient WHERE age<=1AND age>0002") ≡ Ok (query (1 ∷ [])
-    (field 1 1 ∷ field 1 0 ∷ [])
-    (Compare (field 1 1) AtMost (number 1) ∷ Compare (field 1 1) More (number 2) ∷ []))
-  pub a_sign_is_a_token : reads (codes "SELECT age FROM patient WHERE age = - 5 AND age = -0") ≡ Ok (query (1 ∷ [])
-    (field 1 1 ∷ [])
-    (Compare (field 1 1) Equal (Number (negsuc 4)) ∷ Compare (field 1 1) Equal (number 0) ∷ []))
-  pub points_are_tokens : reads (codes "SELECT visit . id FROM visit") ≡ Ok (query (2 ∷ [])
-    (field 2 0 ∷ [])
-    [])
-  pub a_quote_stands_twice : reads (codes "SELECT age FROM patient WHERE name = 'it''s'") ≡ Ok (query (1 ∷ [])
-    (field 1 1 ∷ [])
-    (Compare (field 1 2) Equal (Text (codes "it's")) ∷ []))
-  pub a_quote_counts_once : reads (codes "SELECT age FROM patient WHERE name = ''''''''''''''''''") ≡ Ok (query (1 ∷ [])
-    (field 1 1 ∷ [])
-    (Compare (field 1 2) Equal (Text (codes "''''''''")) ∷ []))
-  pub a_join_may_be_repeated : reads (codes "SELECT day FROM visit, doctor WHERE doctor.id = doc AND visit.doc = doctor.id") ≡ Ok (query (2 ∷ 0 ∷ [])
-    (field 2 1 ∷ [])
-    (Join (field 0 0) (field 2 3) ∷ Join (field 2 3) (field 0 0) ∷ []))
-  pub columns_may_be_repeated : reads (codes "SELECT age, patient.age FROM patient") ≡ Ok (query (1 ∷ [])
-    (field 1 1 ∷ field 1 1 ∷ [])
-    [])
-  pub three_tables : reads (codes "SELECT country, name FROM doctor, visit, patient WHERE pat = patient.id AND doc = doctor.id") ≡ Ok (query (0 ∷ 2 ∷ 1 ∷ [])
-    (field 0 2 ∷ field 1 2 ∷ [])
-    (Join (field 2 4) (field 1 0) ∷ Join (field 2 3) (field 0 0) ∷ []))
-  pub keys_take_integers : reads (codes "SELECT doc FROM visit WHERE pat = 2 AND id > 1") ≡ Ok (query (2 ∷ [])
-    (field 2 3 ∷ [])
-    (Compare (field 2 4) Equal (number 2) ∷ Compare (field 2 0) More (number 1) ∷ []))
+  pub star_takes_the_tables_as_they_stand : reads (codes "SELECT * FROM patient, visit WHERE patient.id = pat")
+      ≡ Ok (query (1 ∷ 2 ∷ []) (field 1 0 ∷ field 1 1 ∷ field 1 2 ∷ field 2 0 ∷ field 2 1 ∷ field 2 2 ∷ field 2 3 ∷ field 2 4 ∷ [])
+      (Join (field 1 0) (field 2 4) ∷ []))
+  pub words_without_case : reads (codes "select Patient.AGE from PATIENT wHere Name <> 'Ann'")
+      ≡ Ok (query (1 ∷ []) (field 1 1 ∷ []) (Compare (field 1 2) Unequal (Text (codes "Ann")) ∷ []))
+  pub between_is_two_conditions : reads (codes "SELECT id FROM visit WHERE day BETWEEN -3 AND +4 AND day < 5")
+      ≡ Ok (query (2 ∷ []) (field 2 0 ∷ [])
+      (Compare (field 2 1) AtLeast (Number (negsuc 2)) ∷ Compare (field 2 1) AtMost (number 4) ∷ Compare (field 2 1) Less (number 5) ∷ []))
+  pub between_texts : reads (codes "SELECT id FROM patient WHERE name BETWEEN 'A' AND 'C'")
+      ≡ Ok (query (1 ∷ []) (field 1 0 ∷ [])
+      (Compare (field 1 2) AtLeast (Text (codes "A")) ∷ Compare (field 1 2) AtMost (Text (codes "C")) ∷ []))
+  pub no_space_where_none_is_needed : reads (codes "SELECT age,id FROM patient WHERE age<=1AND age>0002")
+      ≡ Ok (query (1 ∷ []) (field 1 1 ∷ field 1 0 ∷ [])
+      (Compare (field 1 1) AtMost (number 1) ∷ Compare (field 1 1) More (number 2) ∷ []))
+  pub a_sign_is_a_token : reads (codes "SELECT age FROM patient WHERE age = - 5 AND age = -0")
+      ≡ Ok (query (1 ∷ []) (field 1 1 ∷ [])
+      (Compare (field 1 1) Equal (Number (negsuc 4)) ∷ Compare (field 1 1) Equal (number 0) ∷ []))
+  pub points_are_tokens : reads (codes "SELECT visit . id FROM visit") ≡ Ok (query (2 ∷ []) (field 2 0 ∷ []) [])
+  pub a_quote_stands_twice : reads (codes "SELECT age FROM patient WHERE name = 'it''s'")
+      ≡ Ok (query (1 ∷ []) (field 1 1 ∷ []) (Compare (field 1 2) Equal (Text (codes "it's")) ∷ []))
+  pub a_quote_counts_once : reads (codes "SELECT age FROM patient WHERE name = ''''''''''''''''''")
+      ≡ Ok (query (1 ∷ []) (field 1 1 ∷ []) (Compare (field 1 2) Equal (Text (codes "''''''''")) ∷ []))
+  pub a_join_may_be_repeated : reads (codes "SELECT day FROM visit, doctor WHERE doctor.id = doc AND visit.doc = doctor.id")
+      ≡ Ok (query (2 ∷ 0 ∷ []) (field 2 1 ∷ [])
+      (Join (field 0 0) (field 2 3) ∷ Join (field 2 3) (field 0 0) ∷ []))
+  pub columns_may_be_repeated : reads (codes "SELECT age, patient.age FROM patient")
+      ≡ Ok (query (1 ∷ []) (field 1 1 ∷ field 1 1 ∷ []) [])
+  pub three_tables : reads (codes "SELECT country, name FROM doctor, visit, patient WHERE pat = patient.id AND doc = doctor.id")
+      ≡ Ok (query (0 ∷ 2 ∷ 1 ∷ []) (field 0 2 ∷ field 1 2 ∷ [])
+      (Join (field 2 4) (field 1 0) ∷ Join (field 2 3) (field 0 0) ∷ []))
+  pub keys_take_integers : reads (codes "SELECT doc FROM visit WHERE pat = 2 AND id > 1")
+      ≡ Ok (query (2 ∷ []) (field 2 3 ∷ [])
+      (Compare (field 2 4) Equal (number 2) ∷ Compare (field 2 0) More (number 1) ∷ []))
 
 -- the first token that no text has
 pub record QuerySyntaxFaults : Type 0 where
@@ -142,20 +124,26 @@ pub record LimitsOfQueries : Type 0 where
   pub no_long_table : reads (codes "SELECT x FROM aaaaaaaaaaaaaaaaaaaaaaaaaaaaaaaa") ≡ Err UnknownTable
   pub long_column : reads (codes "SELECT aaaaaaaaaaaaaaaaaaaaaaaaaaaaaaaaa FROM patient") ≡ Err Limit
   pub no_long_column : reads (codes "SELECT aaaaaaaaaaaaaaaaaaaaaaaaaaaaaaaa FROM patient") ≡ Err UnknownColumn
-  pub long_qualifier : reads (codes "SELECT age FROM patient WHERE aaaaaaaaaaaaaaaaaaaaaaaaaaaaaaaaa.age = 1") ≡ Err Limit
-  pub long_other_side : reads (codes "SELECT age FROM patient WHERE age = patient.aaaaaaaaaaaaaaaaaaaaaaaaaaaaaaaaa") ≡ Err Limit
-  pub literals : reads (codes "SELECT age FROM patient WHERE age=1 AND age=1 AND age=1 AND age=1 AND age=1 AND age=1 AND age=1 AND age=1 AND age=1 AND age=1 AND age=1 AND age=1 AND age=1 AND age=1 AND age=1 AND age=1 AND age=1") ≡ Err Limit
-  pub between_counts_twice : reads (codes "SELECT age FROM patient WHERE age BETWEEN 1 AND 2 AND age BETWEEN 1 AND 2 AND age BETWEEN 1 AND 2 AND age BETWEEN 1 AND 2 AND age BETWEEN 1 AND 2 AND age BETWEEN 1 AND 2 AND age BETWEEN 1 AND 2 AND age BETWEEN 1 AND 2 AND age=1") ≡ Err Limit
-  pub joins_do_not_count : reads (codes "SELECT age FROM patient WHERE age=1 AND age=1 AND age=1 AND age=1 AND age=1 AND age=1 AND age=1 AND age=1 AND age=1 AND age=1 AND age=1 AND age=1 AND age=1 AND age=1 AND age=1 AND age=1 AND age=id") ≡ Err NotLinked
-  pub columns : reads (codes "SELECT x,x,x,x,x,x,x,x,x,x,x,x,x,x,x,x,x,x,x,x,x,x,x,x,x,x,x,x,x,x,x,x,x FROM patient") ≡ Err Limit
-  pub no_column_too_many : reads (codes "SELECT x,x,x,x,x,x,x,x,x,x,x,x,x,x,x,x,x,x,x,x,x,x,x,x,x,x,x,x,x,x,x,x FROM patient") ≡ Err UnknownColumn
+  pub long_qualifier : reads (codes "SELECT age FROM patient WHERE aaaaaaaaaaaaaaaaaaaaaaaaaaaaaaaaa.age = 1")
+      ≡ Err Limit
+  pub long_other_side : reads (codes "SELECT age FROM patient WHERE age = patient.aaaaaaaaaaaaaaaaaaaaaaaaaaaaaaaaa")
+      ≡ Err Limit
+  pub literals : reads (codes "SELECT age FROM patient WHERE age=1 AND age=1 AND age=1 AND age=1 AND age=1 AND age=1 AND age=1 AND age=1 AND age=1 AND age=1 AND age=1 AND age=1 AND age=1 AND age=1 AND age=1 AND age=1 AND age=1")
+      ≡ Err Limit
+  pub between_counts_twice : reads (codes "SELECT age FROM patient WHERE age BETWEEN 1 AND 2 AND age BETWEEN 1 AND 2 AND age BETWEEN 1 AND 2 AND age BETWEEN 1 AND 2 AND age BETWEEN 1 AND 2 AND age BETWEEN 1 AND 2 AND age BETWEEN 1 AND 2 AND age BETWEEN 1 AND 2 AND age=1")
+      ≡ Err Limit
+  pub joins_do_not_count : reads (codes "SELECT age FROM patient WHERE age=1 AND age=1 AND age=1 AND age=1 AND age=1 AND age=1 AND age=1 AND age=1 AND age=1 AND age=1 AND age=1 AND age=1 AND age=1 AND age=1 AND age=1 AND age=1 AND age=id")
+      ≡ Err NotLinked
+  pub columns : reads (codes "SELECT x,x,x,x,x,x,x,x,x,x,x,x,x,x,x,x,x,x,x,x,x,x,x,x,x,x,x,x,x,x,x,x,x FROM patient")
+      ≡ Err Limit
+  pub no_column_too_many : reads (codes "SELECT x,x,x,x,x,x,x,x,x,x,x,x,x,x,x,x,x,x,x,x,x,x,x,x,x,x,x,x,x,x,x,x FROM patient")
+      ≡ Err UnknownColumn
   pub star_counts_each_entry : reads (codes "SELECT * FROM visit,visit,visit,visit,visit,visit,visit") ≡ Err Limit
   pub star_below_the_limit : reads (codes "SELECT * FROM visit,visit,visit,visit,visit,visit") ≡ Err Ambiguous
-  pub star_counts_no_missing_table : reads (codes "SELECT * FROM visit,visit,visit,visit,visit,visit,nowhere") ≡ Err UnknownTable
+  pub star_counts_no_missing_table : reads (codes "SELECT * FROM visit,visit,visit,visit,visit,visit,nowhere")
+      ≡ Err UnknownTable
   pub long_text : reads (codes "SELECT age FROM patient" ++ replicate 4074 32) ≡ Err Limit
-  pub no_long_text : reads (codes "SELECT age FROM patient" ++ replicate 4073 32) ≡ Ok (query (1 ∷ [])
-    (field 1 1 ∷ [])
-    [])
+  pub no_long_text : reads (codes "SELECT age FROM patient" ++ replicate 4073 32) ≡ Ok (query (1 ∷ []) (field 1 1 ∷ []) [])
 
 -- each rule is tested over the whole text before the next
 pub record QueryRulesInOrder : Type 0 where
@@ -172,19 +160,24 @@ pub record QueryRulesInOrder : Type 0 where
   pub text_for_an_identifier : reads (codes "SELECT age FROM patient WHERE id = 'x'") ≡ Err KindMismatch
   pub text_for_a_key : reads (codes "SELECT day FROM visit WHERE doc = 'x'") ≡ Err KindMismatch
   pub kind_of_the_higher_bound : reads (codes "SELECT day FROM visit WHERE day BETWEEN 1 AND 'x'") ≡ Err KindMismatch
-  pub kind_before_literal : reads (codes "SELECT age FROM patient WHERE age = 9223372036854775808 AND name = 1") ≡ Err KindMismatch
+  pub kind_before_literal : reads (codes "SELECT age FROM patient WHERE age = 9223372036854775808 AND name = 1")
+      ≡ Err KindMismatch
   pub below_the_lowest_integer : reads (codes "SELECT age FROM patient WHERE age = -9223372036854775809") ≡ Err BadLiteral
   pub text_too_long : reads (codes "SELECT age FROM patient WHERE name = 'nine_char'") ≡ Err BadLiteral
-  pub higher_bound_too_large : reads (codes "SELECT age FROM patient WHERE age BETWEEN 1 AND 9223372036854775808") ≡ Err BadLiteral
-  pub literal_before_unlinked : reads (codes "SELECT age FROM patient, doctor WHERE age = 9223372036854775808") ≡ Err BadLiteral
-  pub leading_zeros : reads (codes "SELECT age FROM patient WHERE age = 00000000009223372036854775807") ≡ Ok (query (1 ∷ [])
-    (field 1 1 ∷ [])
-    (Compare (field 1 1) Equal (number 9223372036854775807) ∷ []))
+  pub higher_bound_too_large : reads (codes "SELECT age FROM patient WHERE age BETWEEN 1 AND 9223372036854775808")
+      ≡ Err BadLiteral
+  pub literal_before_unlinked : reads (codes "SELECT age FROM patient, doctor WHERE age = 9223372036854775808")
+      ≡ Err BadLiteral
+  pub leading_zeros : reads (codes "SELECT age FROM patient WHERE age = 00000000009223372036854775807")
+      ≡ Ok (query (1 ∷ []) (field 1 1 ∷ []) (Compare (field 1 1) Equal (number 9223372036854775807) ∷ []))
   pub two_tops : reads (codes "SELECT age FROM patient, doctor") ≡ Err NotLinked
   pub no_join : reads (codes "SELECT visit.id FROM visit, doctor") ≡ Err NotLinked
-  pub one_join_of_two : reads (codes "SELECT day FROM visit, doctor, patient WHERE doc = doctor.id") ≡ Err NotLinked
-  pub wrong_identifier : reads (codes "SELECT day FROM visit, doctor, patient WHERE doc = patient.id AND pat = patient.id AND doc = doctor.id") ≡ Err NotLinked
-  pub no_identifier : reads (codes "SELECT day FROM visit, patient WHERE pat = patient.id AND pat = age") ≡ Err NotLinked
+  pub one_join_of_two : reads (codes "SELECT day FROM visit, doctor, patient WHERE doc = doctor.id")
+      ≡ Err NotLinked
+  pub wrong_identifier : reads (codes "SELECT day FROM visit, doctor, patient WHERE doc = patient.id AND pat = patient.id AND doc = doctor.id")
+      ≡ Err NotLinked
+  pub no_identifier : reads (codes "SELECT day FROM visit, patient WHERE pat = patient.id AND pat = age")
+      ≡ Err NotLinked
   pub a_column_with_itself : reads (codes "SELECT age FROM patient WHERE id = id") ≡ Err NotLinked
   pub plain_columns : reads (codes "SELECT age FROM patient WHERE age = id") ≡ Err NotLinked
   pub keys_of_one_table : reads (codes "SELECT day FROM visit WHERE doc = pat") ≡ Err NotLinked

@@ -33,8 +33,8 @@ pub record SchemasOfTexts : Type 0 where
   pub a_key_is_hidden_unasked :
       schema_reading (two_tables (codes ", a INT REFERENCES B") (codes ", c CHAR ( 0064 )"))
       ≡ Ok
-          (record { name = codes "a"; columns = id_column ∷ key_column (codes "a") 1 ∷ [] }
-          ∷ record { name = codes "b"; columns = id_column ∷ text_column (codes "c") 64 ∷ [] } ∷ [])
+      (record { name = codes "a"; columns = id_column ∷ key_column (codes "a") 1 ∷ [] }
+      ∷ record { name = codes "b"; columns = id_column ∷ text_column (codes "c") 64 ∷ [] } ∷ [])
   pub longest_name :
       schema_reading (with_id (long_name 32) [])
       ≡ Ok (record { name = long_name 32; columns = id_column ∷ [] } ∷ [])
@@ -104,8 +104,8 @@ pub record TreesOfSchemas : Type 0 where
   pub one_table_twice : schema_reading (two_tables (codes ", c INT REFERENCES b, d INT REFERENCES b") []) ≡ Err (TwoParents 1)
   pub the_child_that_is_declared_first :
       schema_reading
-          (with_id (codes "r") (codes ", x INT REFERENCES c, y INT REFERENCES b, z INT REFERENCES c, w INT REFERENCES b")
-          ++ (with_id (codes "b") [] ++ with_id (codes "c") []))
+      (with_id (codes "r") (codes ", x INT REFERENCES c, y INT REFERENCES b, z INT REFERENCES c, w INT REFERENCES b")
+      ++ (with_id (codes "b") [] ++ with_id (codes "c") []))
       ≡ Err (TwoParents 1)
   pub before_a_cycle : schema_reading (with_id (codes "t") (codes ", c INT REFERENCES t, d INT REFERENCES t")) ≡ Err (TwoParents 0)
   pub each_other : schema_reading (two_tables (codes ", c INT REFERENCES b") (codes ", c INT REFERENCES a")) ≡ Err (Cycle 0)
@@ -114,9 +114,9 @@ pub record TreesOfSchemas : Type 0 where
       schema_reading (two_tables [] (codes ", a INT REFERENCES a, b INT REFERENCES b")) ≡ Err (Cycle 1)
   pub before_the_roots :
       schema_reading
-          (two_tables [] []
-          ++ (with_id (codes "c") (codes ", x INT REFERENCES d")
-          ++ (with_id (codes "d") (codes ", x INT REFERENCES e") ++ with_id (codes "e") (codes ", x INT REFERENCES c"))))
+      (two_tables [] []
+      ++ (with_id (codes "c") (codes ", x INT REFERENCES d")
+      ++ (with_id (codes "d") (codes ", x INT REFERENCES e") ++ with_id (codes "e") (codes ", x INT REFERENCES c"))))
       ≡ Err (Cycle 2)
   pub two_roots : schema_reading (two_tables [] []) ≡ Err (NotOneRoot 2)
   pub no_table : schema_reading [] ≡ Err (NotOneRoot 0)

@@ -14,4 +14,5 @@ returns c = record {
   payloads = refl;
   proper = (refl, (refl, (refl, (refl, (refl, (refl, (refl, (refl, (refl, (refl, (refl, (refl, tt))))))))))));
   finished = refl;
-  file = refl }
+  file = refl;
+}

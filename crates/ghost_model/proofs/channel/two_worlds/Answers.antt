@@ -1,4 +1,4 @@
-use Rattle.std.proofs.Common.{◌≡◌, ℕ, zero, suc, ◌+◌, ◌<◌, Option, Some, List, [], ◌∷◌, ◌++◌, length, take, sym, ◌∙◌, ap, subst, refl, arith, add-one}
+use Rattle.std.proofs.Common.{◌≡◌, ℕ, zero, suc, ◌<◌, Option, Some, List, [], ◌∷◌, ◌++◌, length, take, sym, ◌∙◌, ap, subst, refl, arith, add-one}
 use Rattle.ghost_model.specs.Channel.{Catalog, Move, Answer, Entry, Journal}
 use Rattle.ghost_model.specs.Asks.{Asked, asked_of}
 use Rattle.ghost_model.specs.Moves.{moves, answers}
@@ -38,12 +38,12 @@ module _ (catalog : Catalog) (at : List ℕ) (asks : List Asked) where
       let answer : d.answer ≡ b.answer = same_head d.answer b.answer (answers (take i ds)) (answers (take i bs)) e in
       let entry : d ≡ b = same_entry d b move answer in
       let goes : GoesOn catalog at asks (before ++ d ∷ []) bs =
-        subst (λ (x : Entry). GoesOn catalog at asks (before ++ x ∷ []) bs) (sym entry) q.1 in
+      subst (λ (x : Entry). GoesOn catalog at asks (before ++ x ∷ []) bs) (sym entry) q.1 in
       cons_moves d.move b.move (moves (take (suc i) ds)) (moves (take (suc i) bs)) move
-        (same_moves ds bs i (before ++ d ∷ []) p.1 goes (omega arith) (omega arith)
-          (same_tail d.answer b.answer (answers (take i ds)) (answers (take i bs)) e))
+      (same_moves ds bs i (before ++ d ∷ []) p.1 goes (omega arith) (omega arith)
+      (same_tail d.answer b.answer (answers (take i ds)) (answers (take i bs)) e))
 
 pub returns : goal.returns
 returns c catalog at texts first second i p q m n e =
     subst (λ (k : ℕ). moves (take k first) ≡ moves (take k second)) (sym (add-one i))
-      (same_moves catalog at (asked_of catalog.schema texts) first second i [] p q m n e)
+    (same_moves catalog at (asked_of catalog.schema texts) first second i [] p q m n e)

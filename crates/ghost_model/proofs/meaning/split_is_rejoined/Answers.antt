@@ -1,4 +1,4 @@
-use Rattle.ghost_model.proofs.MeaningLemmas.{tables_again, are_tables}
+use Rattle.ghost_model.proofs.MeaningLemmas.Rejoining.{tables_again, are_tables}
 use Rattle.ghost_model.proofs.meaning.split_is_rejoined.Goals as goal
 
 pub returns : goal.returns

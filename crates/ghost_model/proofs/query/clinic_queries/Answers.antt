@@ -17,4 +17,5 @@ returns c = record {
   of_the_notes = refl;
   top_is_the_root = refl;
   top_is_below_the_root = refl;
-  no_top_of_two = refl }
+  no_top_of_two = refl;
+}

@@ -25,4 +25,5 @@ returns c = record {
   star_below_the_limit = refl;
   star_counts_no_missing_table = refl;
   long_text = refl;
-  no_long_text = refl }
+  no_long_text = refl;
+}

@@ -5,4 +5,5 @@ pub returns : goal.returns
 returns c = record {
   one = λ schema text. one_or_other schema text;
   meaning = λ schema text query. (means_of schema text query, reading_of_means schema text query);
-  refusal = λ schema text refusal. (refused_of schema text refusal, reading_of_refused schema text refusal) }
+  refusal = λ schema text refusal. (refused_of schema text refusal, reading_of_refused schema text refusal);
+}

@@ -12,4 +12,5 @@ returns c = record {
   column = refl;
   ambiguous = refl;
   kind = refl;
-  literal = refl }
+  literal = refl;
+}

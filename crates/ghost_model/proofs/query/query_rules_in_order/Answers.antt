@@ -33,4 +33,5 @@ returns c = record {
   no_identifier = refl;
   a_column_with_itself = refl;
   plain_columns = refl;
-  keys_of_one_table = refl }
+  keys_of_one_table = refl;
+}

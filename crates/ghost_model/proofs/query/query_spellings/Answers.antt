@@ -19,4 +19,5 @@ returns c = record {
   a_join_may_be_repeated = refl;
   columns_may_be_repeated = refl;
   three_tables = refl;
-  keys_take_integers = refl }
+  keys_take_integers = refl;
+}

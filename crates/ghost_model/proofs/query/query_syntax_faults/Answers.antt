@@ -37,4 +37,5 @@ returns c = record {
   a_byte_beyond_the_characters = refl;
   another_spelling_of_unequal = refl;
   a_semicolon = refl;
-  a_byte_that_begins_no_token = refl }
+  a_byte_that_begins_no_token = refl;
+}

@@ -19,4 +19,5 @@ returns c = record {
   no_character = refl;
   sixty_five_characters = refl;
   very_many_characters = refl;
-  before_a_repeated_name = refl }
+  before_a_repeated_name = refl;
+}

@@ -22,4 +22,5 @@ returns c = record {
   before_an_unknown_table = refl;
   an_unknown_table = refl;
   the_first_unknown_table = refl;
-  a_column_is_no_table = refl }
+  a_column_is_no_table = refl;
+}

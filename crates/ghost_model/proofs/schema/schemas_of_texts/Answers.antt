@@ -11,4 +11,5 @@ returns c = record {
   clinic = refl;
   small_letters_and_int = refl;
   a_key_is_hidden_unasked = refl;
-  longest_name = refl }
+  longest_name = refl;
+}

@@ -25,4 +25,5 @@ returns c = record {
   no_semicolon = refl;
   a_comment = refl;
   an_open_literal = refl;
-  before_a_limit = refl }
+  before_a_limit = refl;
+}

@@ -19,4 +19,5 @@ returns c = record {
   before_the_roots = refl;
   two_roots = refl;
   no_table = refl;
-  white_space = refl }
+  white_space = refl;
+}

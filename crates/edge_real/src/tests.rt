@@ -1,0 +1,90 @@
+//! What the real objects do, by one example each.
+
+use crate::dir_depot::DirDepot;
+use crate::std_sink::StdSink;
+use edge_traits::Failed;
+use edge_traits::depot::Depot;
+use edge_traits::sink::Sink;
+use std::alloc::AllocError;
+use std::cell::{Cell, RefCell};
+use std::fmt::Display;
+use std::io;
+use std::io::{Error, ErrorKind};
+
+/// Keeps what is printed on it, a few bytes a call, and fails at one call.
+#[derive(Drop)]
+struct Paper {
+    text: RefCell<Vec<u8>>,
+    calls: Cell<u64>,
+    fails: u64,
+}
+
+impl Print for Paper {
+    fn print<D: Display + Drop>(&self, _value: D) -> io::Result<()> {
+        Err(Error::from(ErrorKind::Unsupported))
+    }
+
+    fn println<D: Display + Drop>(&self, _value: D) -> io::Result<()> {
+        Err(Error::from(ErrorKind::Unsupported))
+    }
+
+    fn write_all(&self, _bytes: &[u8]) -> io::Result<()> {
+        Err(Error::from(ErrorKind::Unsupported))
+    }
+
+    fn write_some(&self, bytes: &[u8]) -> io::Result<usize> {
+        self.calls.set(self.calls.get().saturating_add(1));
+        if self.calls.get() == self.fails {
+            return Err(Error::from(ErrorKind::BrokenPipe));
+        }
+        let count = bytes.len().min(4);
+        match self.text.try_borrow_mut() {
+            Ok(mut text) => match text.extend_from_slice(&bytes[..count]) {
+                Ok(()) => Ok(count),
+                Err(_) => Err(Error::from(ErrorKind::OutOfMemory)),
+            },
+            Err(_) => Err(Error::from(ErrorKind::Other)),
+        }
+    }
+}
+
+#[test]
+fn rows_are_printed_with_the_next_other_line(rt: HostRuntime) -> Result<(), AllocError> {
+    for (fails, answer, printed) in [
+        (9u64, Ok(6usize), "> 1\n= 1 1\n"),
+        (2, Err(Failed), "> 1\n"),
+    ] {
+        let paper = Paper {
+            text: RefCell::new(Vec::new(rt.alloc())),
+            calls: Cell::new(0),
+            fails,
+        };
+        let mut sink = StdSink::new(rt.alloc(), &paper)?;
+        assert_eq!(rt; sink.write(b"> 1\n"), Ok(4));
+        assert_eq!(rt; paper.calls.get(), 0);
+        assert_eq!(rt; sink.write(b"= 1 1\n"), answer);
+        match paper.text.try_borrow() {
+            Ok(text) => assert_eq!(rt; text.as_slice(), printed.as_bytes()),
+            Err(_) => assert!(rt; false),
+        }
+    }
+    Ok(())
+}
+
+#[test]
+fn files_lie_in_the_file_system(rt: HostRuntime) {
+    let mut depot = DirDepot::new(&rt);
+    assert_eq!(rt; depot.replace("note", b"12345"), Ok(()));
+    assert_eq!(rt; depot.append("note", b"67"), Ok(()));
+    for (name, at, answer, read) in [
+        ("note", 4u64, Ok(2usize), "56"),
+        ("note", 6, Ok(1), "7?"),
+        ("note", 7, Ok(0), "??"),
+        ("none", 0, Err(Failed), "??"),
+    ] {
+        let mut buf = *b"??";
+        assert_eq!(rt; depot.read_at(name, at, &mut buf), answer, "{name} {at}");
+        assert_eq!(rt; buf.as_slice(), read.as_bytes(), "{name} {at}");
+    }
+    assert_eq!(rt; depot.append("none/note", b"8"), Err(Failed));
+}

@@ -1,0 +1,219 @@
+-- Lemmas on the spelling of cells and of asks.
+use Rattle.std.proofs.Common.{◌≡◌, ℕ, zero, suc, ◌+◌, ◌-◌, ◌<◌, ◌≤◌, ◌^◌, Bool, true, false, ◌&&◌, List, [], ◌∷◌, ◌++◌, length, take, drop, slice_index, replicate, ◌∙◌, ap, subst, refl, arith, length-append, Option, Some, None, pos, negsuc, ℤ}
+use Rattle.std.specs.Prelude.{◌==◌, nat_le, if◌then◌else◌, bytes_eq, flat_map}
+use Rattle.std.specs.List.{list_all, prefix_len}
+use Rattle.std.proofs.lemmas.List.{length-replicate}
+use Rattle.std.proofs.lemmas.Nat.{from_be_bytes-to_be_bytes_8}
+use Rattle.std.proofs.lemmas.Bool.Decides.{nat_tests}
+use Rattle.std.proofs.lemmas.Bool.{ltb-true, leb-true}
+use Rattle.std.proofs.lemmas.Slice.Eq.{bytes_eq-Decides}
+use Rattle.std.proofs.Math.Seq.{drop-append_seam}
+use Rattle.ghost_model.specs.Schema.{Schema, Kind, Integer, Chars}
+use Rattle.ghost_model.specs.Query.{Operator, Equal, Unequal, Less, AtMost, More, AtLeast}
+use Rattle.ghost_model.specs.Channel.{Ask, Test}
+use Rattle.ghost_model.specs.Asks as asks
+use Rattle.ghost_model.specs.Values.{Value, Number, Text}
+use Rattle.ghost_model.specs.Tokens.{is_printable}
+use Rattle.ghost_model.specs.Database.{is_of_kind, fits_integer}
+use Rattle.ghost_model.specs.Cells.{cell_width, encode_cell, decode_cell, above_lowest, from_lowest, text_in, is_text_cell, is_not_zero, padded}
+use Rattle.ghost_model.proofs.ChannelLemmas.Tests.{false_is_not, both_hold, hold_both, take_front, drop_front, BothHold}
+
+-- an integer of 64 bits, its distance to the lowest and back
+distance_bound : (z : ℤ) → fits_integer z ≡ true → above_lowest z < 2 ^ 64
+distance_bound (pos n) e = let h : n < 2 ^ 63 = ltb-true n (2 ^ 63) e in omega (arith, h)
+distance_bound (negsuc n) e = let h : n < 2 ^ 63 = ltb-true n (2 ^ 63) e in omega (arith, h)
+
+above_half : (n : ℕ) → 2 ^ 63 ≤ n → nat_le (2 ^ 63) n ≡ true
+above_half n h = grind (arith, nat_tests)
+
+below_half : (n : ℕ) → n < 2 ^ 63 → nat_le (2 ^ 63) n ≡ false
+below_half n h = grind (arith, nat_tests)
+
+from_above : (n : ℕ) → 2 ^ 63 ≤ n → from_lowest n ≡ pos (n - 2 ^ 63)
+from_above n h = rw (above_half n h)
+
+from_below : (n : ℕ) → n < 2 ^ 63 → from_lowest n ≡ negsuc (2 ^ 63 - 1 - n)
+from_below n h = rw (below_half n h)
+
+back_from_lowest : (z : ℤ) → fits_integer z ≡ true → from_lowest (above_lowest z) ≡ z
+back_from_lowest (pos n) e =
+    let same : 2 ^ 63 + n - 2 ^ 63 ≡ n = omega arith in
+    from_above (2 ^ 63 + n) (omega arith) ∙ ap (λ (k : ℕ). pos k) same
+back_from_lowest (negsuc n) e =
+    let h : n < 2 ^ 63 = ltb-true n (2 ^ 63) e in
+    let same : 2 ^ 63 - 1 - (2 ^ 63 - suc n) ≡ n = omega (arith, h) in
+    from_below (2 ^ 63 - suc n) (omega (arith, h)) ∙ ap (λ (k : ℕ). negsuc k) same
+
+printable_is_not_zero : (byte : ℕ) → is_printable byte ≡ true → is_not_zero byte ≡ true
+printable_is_not_zero byte e = grind (arith, nat_tests)
+
+taken_on : (x : ℕ) (xs : List ℕ) → is_not_zero x ≡ true → text_in (x ∷ xs) ≡ x ∷ text_in xs
+taken_on x xs e =
+    let count : ℕ = prefix_len is_not_zero xs in
+    let one : 1 + count ≡ suc count = omega arith in
+    ap (λ (b : Bool). take (if b then 1 + count else 0) (x ∷ xs)) e ∙ ap (λ (n : ℕ). take n (x ∷ xs)) one
+
+-- the text of a padded text
+text_of_padded : (text : List ℕ) (n : ℕ) → list_all is_printable text ≡ true → text_in (text ++ replicate n 0) ≡ text
+text_of_padded [] zero e = refl
+text_of_padded [] (suc n) e = refl
+text_of_padded (x ∷ xs) n e =
+    let both : BothHold (is_printable x) (list_all is_printable xs) = both_hold _ _ e in
+    let here : is_not_zero x ≡ true = printable_is_not_zero x both.one in
+    taken_on x (xs ++ replicate n 0) here ∙ ap (λ (ys : List ℕ). x ∷ ys) (text_of_padded xs n both.other)
+
+all_zero : (n : ℕ) → list_all (λ byte. byte == 0) (replicate n 0) ≡ true
+all_zero zero = refl
+all_zero (suc n) = all_zero n
+
+padded_length : (most : ℕ) (text : List ℕ) → length text ≤ most → length (padded most text) ≡ most
+padded_length most text h =
+    length-append text (replicate (most - length text) 0)
+    ∙ omega (arith, length-replicate {A = ℕ} (most - length text) 0, h)
+
+same_number : (n : ℕ) → (n == n) ≡ true
+same_number n = grind (arith, nat_tests)
+
+is_padded_text : (most : ℕ) (text : List ℕ) → list_all is_printable text ≡ true → is_text_cell (padded most text) ≡ true
+is_padded_text most text e =
+    let inside : text_in (padded most text) ≡ text = text_of_padded text (most - length text) e in
+    hold_both _ _
+    (ap (λ (t : List ℕ). list_all is_printable t) inside ∙ e)
+    (ap (λ (t : List ℕ). list_all (λ byte. byte == 0) (drop (length t) (padded most text))) inside
+    ∙ (ap (λ (t : List ℕ). list_all (λ byte. byte == 0) t) (drop-append_seam text (replicate (most - length text) 0))
+    ∙ all_zero (most - length text)))
+
+decoded_if : (ok : Bool) (value other : Value) → ok ≡ true → value ≡ other → (if ok then Some value else None) ≡ Some other
+decoded_if ok value other e f = rw (e, f)
+
+-- the cell of a value of its kind spells that value
+pub cell_is_read : (kind : Kind) (value : Value) → is_of_kind kind value ≡ true → decode_cell kind (encode_cell kind value) ≡ Some value
+cell_is_read Integer (Number z) e =
+    ap (λ (n : ℕ). Some (Number (from_lowest n))) (from_be_bytes-to_be_bytes_8 (above_lowest z) (distance_bound z e))
+    ∙ ap (λ (n : ℤ). Some (Number n)) (back_from_lowest z e)
+cell_is_read Integer (Text _) e = absurd (false_is_not e)
+cell_is_read (Chars most) (Number _) e = absurd (false_is_not e)
+cell_is_read (Chars most) (Text text) e =
+    let both : BothHold (nat_le (length text) most) (list_all is_printable text) = both_hold _ _ e in
+    let short : length text ≤ most = leb-true (length text) most both.one in
+    let size : (length (padded most text) == most) ≡ true = ap (λ (n : ℕ). n == most) (padded_length most text short) ∙ same_number most in
+    decoded_if (length (padded most text) == most && is_text_cell (padded most text)) (Text (text_in (padded most text))) (Text text)
+    (hold_both _ _ size (is_padded_text most text both.other))
+    (ap (λ (t : List ℕ). Text t) (text_of_padded text (most - length text) both.other))
+
+-- the cell of a value of its kind has its width
+pub cell_length : (kind : Kind) (value : Value) → is_of_kind kind value ≡ true → length (encode_cell kind value) ≡ cell_width kind
+cell_length Integer (Number z) e = refl
+cell_length Integer (Text _) e = absurd (false_is_not e)
+cell_length (Chars most) (Number _) e = absurd (false_is_not e)
+cell_length (Chars most) (Text text) e =
+    let both : BothHold (nat_le (length text) most) (list_all is_printable text) = both_hold _ _ e in
+    padded_length most text (leb-true (length text) most both.one)
+
+operator_back : (operator : Operator) → asks.operator_of (asks.operator_code operator) ≡ operator
+operator_back Equal = refl
+operator_back Unequal = refl
+operator_back Less = refl
+operator_back AtMost = refl
+operator_back More = refl
+operator_back AtLeast = refl
+
+abbrev test_with : ℕ → Operator → Value → Test
+test_with column operator value = record { column = column; operator = operator; value = value }
+
+same_test : (test : Test) (operator : Operator) (value : Value) → operator ≡ test.operator → value ≡ test.value → test_with test.column operator value ≡ test
+same_test test operator value p q =
+    ap (λ (o : Operator). test_with test.column o value) p ∙ ap (λ (v : Value). test_with test.column test.operator v) q
+
+drop_two : (n : ℕ) (a b : ℕ) (xs : List ℕ) → drop (2 + n) (a ∷ b ∷ xs) ≡ drop n xs
+drop_two n a b xs = let two : 2 + n ≡ suc (suc n) = omega arith in ap (λ (k : ℕ). drop k (a ∷ b ∷ xs)) two
+
+cons_tests : (a b : Test) (cs bs : List Test) → a ≡ b → cs ≡ bs → a ∷ cs ≡ b ∷ bs
+cons_tests a b cs bs p q = cc
+
+module _ (schema : Schema) where
+  tests_back :
+      (table : ℕ) (tests : List Test)
+      → list_all (λ test. is_of_kind (asks.kind_at schema table test.column) test.value) tests ≡ true
+      → asks.tests_in schema table (length tests) (flat_map (asks.test_bytes schema table) tests) ≡ tests
+  unfolding asks.tests_in
+  tests_back table [] e = refl
+  tests_back table (test ∷ tests) e =
+      let kind : Kind = asks.kind_at schema table test.column in
+      let both : BothHold (is_of_kind kind test.value) (list_all (λ test. is_of_kind (asks.kind_at schema table test.column) test.value) tests) = both_hold _ _ e in
+      let cell : List ℕ = encode_cell kind test.value in
+      let more : List ℕ = flat_map (asks.test_bytes schema table) tests in
+      let size : length cell ≡ cell_width kind = cell_length kind test.value both.one in
+      let value : asks.value_or_none (decode_cell kind (take (cell_width kind) (cell ++ more))) ≡ test.value =
+      ap (λ (xs : List ℕ). asks.value_or_none (decode_cell kind xs)) (take_front (cell_width kind) cell more size)
+      ∙ ap (λ (v : Option Value). asks.value_or_none v) (cell_is_read kind test.value both.one) in
+      let after : drop (2 + cell_width kind) (test.column ∷ asks.operator_code test.operator ∷ (cell ++ more)) ≡ more =
+      drop_two (cell_width kind) test.column (asks.operator_code test.operator) (cell ++ more) ∙ drop_front (cell_width kind) cell more size in
+      cons_tests _ test _ tests
+      (same_test test _ _ (operator_back test.operator) value)
+      (ap (λ (xs : List ℕ). asks.tests_in schema table (length tests) xs) after ∙ tests_back table tests both.other)
+
+  abbrev ask_with : ℕ → List ℕ → List Test → Ask
+  ask_with table columns tests = record { table = table; columns = columns; tests = tests }
+
+  same_ask : (ask : Ask) (columns : List ℕ) (tests : List Test) → columns ≡ ask.columns → tests ≡ ask.tests → ask_with ask.table columns tests ≡ ask
+  same_ask ask columns tests p q =
+      ap (λ (c : List ℕ). ask_with ask.table c tests) p ∙ ap (λ (t : List Test). ask_with ask.table ask.columns t) q
+
+  proper_tests : (ask : Ask) → asks.is_proper_ask schema ask ≡ true → list_all (λ test. is_of_kind (asks.kind_at schema ask.table test.column) test.value) ask.tests ≡ true
+  proper_tests ask e =
+      let both : BothHold _ (list_all (λ test. is_of_kind (asks.kind_at schema ask.table test.column) test.value) ask.tests) = both_hold _ _ e in
+      both.other
+
+  -- the ask that a proper ask's payload is like
+  like_itself : (ask : Ask) → asks.is_proper_ask schema ask ≡ true → asks.ask_like schema (asks.ask_payload schema ask) ≡ ask
+  like_itself ask e =
+      let tests : List ℕ = flat_map (asks.test_bytes schema ask.table) ask.tests in
+      let rest : List ℕ = length ask.tests ∷ tests in
+      let after : drop (2 + length ask.columns) (asks.ask_payload schema ask) ≡ rest =
+      drop_two (length ask.columns) ask.table (length ask.columns) (ask.columns ++ rest) ∙ drop_front (length ask.columns) ask.columns rest refl in
+      same_ask ask _ _
+      (take_front (length ask.columns) ask.columns rest refl)
+      (ap (λ (xs : List ℕ). asks.tests_in schema ask.table (slice_index xs 0) (drop 1 xs)) after
+      ∙ tests_back ask.table ask.tests (proper_tests ask e))
+
+  abbrev judged : List ℕ → Ask → Option Ask
+  judged payload ask = if asks.is_proper_ask schema ask && bytes_eq (asks.ask_payload schema ask) payload then Some ask else None
+
+  same_bytes : (xs : List ℕ) → bytes_eq xs xs ≡ true
+  same_bytes xs = (bytes_eq-Decides xs xs).1 refl
+
+  some_if : (ok : Bool) (ask : Ask) → ok ≡ true → (if ok then Some ask else None) ≡ Some ask
+  some_if ok ask e = rw e
+
+  pub spelled_ask_is_read : (ask : Ask) → asks.is_proper_ask schema ask ≡ true → asks.ask_in schema (asks.ask_payload schema ask) ≡ Some ask
+  spelled_ask_is_read ask e =
+      ap (λ (a : Ask). judged (asks.ask_payload schema ask) a) (like_itself ask e)
+      ∙ some_if _ ask (hold_both _ _ e (same_bytes (asks.ask_payload schema ask)))
+
+  record IsJudged (ok : Bool) (ask found : Ask) : Type 0 where
+    holds : ok ≡ true
+    same : ask ≡ found
+
+  none_is_not : (ask : Ask) → None ≡ Some ask → ⊥
+  none_is_not ask e = cc
+
+  same_some : (ask found : Ask) → Some ask ≡ Some found → ask ≡ found
+  same_some ask found e = cc
+
+  is_judged : (ok : Bool) (ask found : Ask) → (if ok then Some ask else None) ≡ Some found → IsJudged ok ask found
+  is_judged true ask found e = record { holds = refl; same = same_some ask found e }
+  is_judged false ask found e = absurd (none_is_not found e)
+
+  pub read_ask_is_proper : (payload : List ℕ) (ask : Ask) → asks.ask_in schema payload ≡ Some ask → asks.is_proper_ask schema ask ≡ true
+  read_ask_is_proper payload ask e =
+      let way : IsJudged (asks.is_proper_ask schema (asks.ask_like schema payload) && bytes_eq (asks.ask_payload schema (asks.ask_like schema payload)) payload) (asks.ask_like schema payload) ask = is_judged _ _ ask e in
+      let both : BothHold (asks.is_proper_ask schema (asks.ask_like schema payload)) (bytes_eq (asks.ask_payload schema (asks.ask_like schema payload)) payload) = both_hold _ _ way.holds in
+      subst (λ (a : Ask). asks.is_proper_ask schema a ≡ true) way.same both.one
+
+  pub read_ask_is_spelled : (payload : List ℕ) (ask : Ask) → asks.ask_in schema payload ≡ Some ask → asks.ask_payload schema ask ≡ payload
+  read_ask_is_spelled payload ask e =
+      let way : IsJudged (asks.is_proper_ask schema (asks.ask_like schema payload) && bytes_eq (asks.ask_payload schema (asks.ask_like schema payload)) payload) (asks.ask_like schema payload) ask = is_judged _ _ ask e in
+      let both : BothHold (asks.is_proper_ask schema (asks.ask_like schema payload)) (bytes_eq (asks.ask_payload schema (asks.ask_like schema payload)) payload) = both_hold _ _ way.holds in
+      subst (λ (a : Ask). asks.ask_payload schema a ≡ payload) way.same
+      ((bytes_eq-Decides (asks.ask_payload schema (asks.ask_like schema payload)) payload).0 both.other)
