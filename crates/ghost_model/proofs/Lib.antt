@@ -4,7 +4,11 @@ pub mod GrammarLemmas
 pub mod SchemaLemmas
 pub mod SchemaRuleLemmas
 pub mod SchemaTreeLemmas
+pub mod CatalogLemmas
+pub mod CatalogLengthLemmas
+pub mod CatalogSpellingLemmas
 pub mod QueryLemmas
 pub mod QueryReadingLemmas
 pub mod ChannelLemmas
 pub mod MeaningLemmas
+pub mod SessionLemmas

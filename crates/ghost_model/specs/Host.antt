@@ -2,7 +2,8 @@
 -- ASK with the next serial, 1 first, or BYE; after each ROWS it awaits MORE with the ask's serial. HELLO is answered by
 -- the WELCOME frames of the host's own catalog, whatever generation it names, each full but the last. ASK and MORE are
 -- answered by one frame each: first ROWS, each with as many whole rows as fit, then DONE. At the first frame that is no
--- frame of the key in its place the host stops.
+-- frame of the key in its place the host stops. So it is as long as its file can be read; a host that cannot read it ends
+-- that ask by SORRY instead.
 use Rattle.std.specs.Prelude.{◌≡◌, ℕ, zero, suc, ◌+◌, ◌-◌, ◌/◌, ◌==◌, List, [], ◌∷◌, ◌++◌, length, take, drop, map, flat_map, if◌then◌else◌, Option, Some, None, option_to_list, All, nat_lt, nat_le, ◌&&◌, true, false, ◌*◌, ◌^◌, ◌≤◌, ◌<◌}
 use Rattle.std.specs.List.{list_all}
 use Rattle.ghost_model.specs.Schema.{Schema, is_empty}
@@ -109,12 +110,13 @@ unfoldable pub said_to : Holding → List Frame → Stand → List Frame
 said_to held [] stand = []
 said_to held (frame ∷ later) stand = said_with (said_to held later) (answer_to held stand frame)
 
--- the frames at the front of some bytes, at most so many
+-- a frame that was found, and what comes after it; nothing where none was
 abbrev pub frame_and : (Frame → List Frame) → Got → List Frame
 frame_and later (Found frame) = frame ∷ later frame
 frame_and later (Short _) = []
 frame_and later (Bad _) = []
 
+-- the frames at the front of some bytes, at most so many
 unfoldable pub frames_within : (most : ℕ) → List ℕ → List Frame
 frames_within zero bytes = []
 frames_within (suc most) bytes = frame_and (λ frame. frames_within most (drop (length (frame_bytes frame)) bytes)) (got_of bytes)
