@@ -10,3 +10,7 @@ pub mod Accepted
 pub mod Combined
 pub mod Front
 pub mod Replied
+pub mod Honest
+pub mod Ended
+pub mod Answered
+pub mod Replies

@@ -1,6 +1,6 @@
 //! Laws of whole sessions, each of the key and its host together.
 
-ghost use Rattle.ghost_model.specs.SessionLaws.{OneLocalJournal, ThisHostIsHonest, WholeRepliesAnswer};
+ghost use Rattle.ghost_model.specs.SessionLaws.{OneLocalJournal, ThisHostIsHonest, WholeRepliesAnswer, HonestRepliesAnswer};
 
 /// Where the host is in the key's own process, one journal is possible: two finished proper journals for the same
 /// catalog, address and texts that the same holding served throughout are equal.
@@ -18,4 +18,10 @@ pub fn this_host_is_honest()
 /// follows the text's answer.
 pub fn whole_replies_answer()
     ensures { WholeRepliesAnswer }
+{}
+
+/// Where the host was honest and every ask of an accepted text was ended by DONE, what its replies answer is the meaning
+/// of the text.
+pub fn honest_replies_answer()
+    ensures { HonestRepliesAnswer }
 {}

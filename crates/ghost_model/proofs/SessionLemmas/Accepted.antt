@@ -1,6 +1,6 @@
 -- What an accepted query says of its columns: each is of a table that the query is from, and a join is between columns
 -- that are not visible.
-use Rattle.std.proofs.Common.{◌≡◌, ℕ, ◌⊎◌, inl, inr, Bool, true, false, not, ◌&&◌, ◌||◌, List, [], ◌∷◌, ◌++◌, map, filter, flat_map, sym, ◌∙◌, ap, subst, refl, Option, Some, None, option_map, is_none, length, nat_lt}
+use Rattle.std.proofs.Common.{◌≡◌, ℕ, inl, inr, Bool, true, false, not, ◌&&◌, ◌||◌, List, [], ◌∷◌, ◌++◌, map, filter, flat_map, sym, ◌∙◌, ap, subst, refl, Option, Some, None, option_map, is_none, length, nat_lt}
 use Rattle.std.specs.Prelude.{◌==◌, option_to_list, option_and_then}
 use Rattle.std.specs.List.{list_all, list_any}
 use Rattle.std.proofs.lemmas.Bool.{eqb-true, eq-eqb}
@@ -103,9 +103,10 @@ module _ (schema : Schema) (tree : IsTree schema) where
 
   key_unseen : (key identifier : Field) → is_key_to schema key identifier ≡ true → IsUnseen schema key × IsUnseen schema identifier
   key_unseen key identifier h =
-      let both : BothHold (is_table identifier.table (option_and_then (λ (column : Column). column.child) (column_at schema key.table key.column))) (identifier.column == 0) = both_hold _ _ h in
-      (and_false (nat_lt 0 key.column) (is_shown (column_at schema key.table key.column)) (key_in key identifier.table (column_at schema key.table key.column) refl both.one),
-      ap (λ (n : ℕ). nat_lt 0 n && is_shown (column_at schema identifier.table n)) (eqb-true identifier.column 0 both.other))
+      let both : BothHold (is_table identifier.table (option_and_then (λ (column : Column). column.child) (column_at schema key.table key.column))) (identifier.column == 0) = both_hold _ _ h in (
+        and_false (nat_lt 0 key.column) (is_shown (column_at schema key.table key.column)) (key_in key identifier.table (column_at schema key.table key.column) refl both.one),
+        ap (λ (n : ℕ). nat_lt 0 n && is_shown (column_at schema identifier.table n)) (eqb-true identifier.column 0 both.other),
+      )
 
   join_unseen : (condition : Condition) → is_proper schema condition ≡ true → JoinsUnseen schema condition
   join_unseen (Compare one operator value) h = tt

@@ -1,5 +1,5 @@
 -- That from the hidden part and whole replies follows the answer: combination by combination.
-use Rattle.std.proofs.Common.{◌≡◌, ◌≢◌, ℕ, zero, suc, ◌+◌, ◌<◌, ◌≤◌, ◌⊎◌, inl, inr, Bool, true, false, not, ◌&&◌, ◌||◌, List, [], ◌∷◌, ◌++◌, length, map, filter, flat_map, sym, ◌∙◌, ap, subst, refl, arith, Option, Some, None, slice_get, unwrap_or}
+use Rattle.std.proofs.Common.{◌≡◌, ℕ, zero, suc, ◌+◌, ◌<◌, ◌≤◌, inl, inr, Bool, true, false, not, ◌&&◌, ◌||◌, List, [], ◌∷◌, ◌++◌, length, map, filter, flat_map, sym, ◌∙◌, ap, subst, refl, arith, Option, Some, None, slice_get, unwrap_or}
 use Rattle.std.specs.Prelude.{◌==◌, filter_map, if◌then◌else◌, option_and_then}
 use Rattle.std.specs.List.{list_all, list_any, cons_option}
 use Rattle.std.proofs.lemmas.List.{length-map}
@@ -15,16 +15,16 @@ use Rattle.ghost_model.specs.QueryMeaning.{top_of, only, is_some_among, Means}
 use Rattle.ghost_model.specs.Channel.{Test}
 use Rattle.ghost_model.specs.Asks.{test_of, tests_of, is_field}
 use Rattle.ghost_model.specs.Database.{rows_of, row_of, row_numbered, IsDatabase}
-use Rattle.ghost_model.specs.Split.{Hidden, hidden_values, rows_by, hidden_of, public_of, meets_test}
-use Rattle.ghost_model.specs.Meaning.{Chosen, choice, Combination, combinations, row_in, value_in, compares, is_true_in, passes, projection, others_of, combinations_of, answer_of_row, answer_from_top, answer_or_none, answer}
+use Rattle.ghost_model.specs.Split.{Hidden, hidden_values, hidden_of, public_of, meets_test}
+use Rattle.ghost_model.specs.Meaning.{Chosen, choice, Combination, combinations, row_in, value_in, compares, is_true_in, passes, projection, others_of, answer_of_row, answer_from_top, answer_or_none, answer}
 use Rattle.ghost_model.specs.Replies as replies
 use Rattle.ghost_model.specs.Replies.{Reply, Pick, pick, picks, identifiers_from, identifiers_of, known_value, known_in, is_true_or_asked, stands_in_reply, is_kept, answer_of_pick, answer_from}
 use Rattle.ghost_model.specs.SessionLaws.{whole_replies}
 use Rattle.ghost_model.proofs.ChannelLemmas.Tests.{false_is_not, BothHold, both_hold, hold_both}
 use Rattle.ghost_model.proofs.MeaningLemmas.OneRow.{Among, Distinct, among-filter, from_filter, not_equal}
 use Rattle.ghost_model.proofs.SessionLemmas.Values.{parts_at}
-use Rattle.ghost_model.proofs.SessionLemmas.Whole.{public, stands_by, stands_in_is, IsTold, known_is}
-use Rattle.ghost_model.proofs.SessionLemmas.Accepted.{Each, each_is, IsFrom, ComparesFrom, JoinsUnseen, IsSound, query_is_sound}
+use Rattle.ghost_model.proofs.SessionLemmas.Whole.{stands_by, stands_in_is, known_is}
+use Rattle.ghost_model.proofs.SessionLemmas.Accepted.{Each, each_is, ComparesFrom, JoinsUnseen, IsSound, query_is_sound}
 
 same_bool : (a b : Bool) → (a ≡ true → b ≡ true) → (b ≡ true → a ≡ true) → a ≡ b
 same_bool true true p q = refl
@@ -187,9 +187,10 @@ module _ (schema : Schema) (database : Database) (is : IsDatabase schema databas
       → Each (λ (other : Pick). row_in (map chosen all) other.table ≡ Some (row_at other)) some
       → Each (λ (other : Pick). row_in (map chosen (one ∷ all)) other.table ≡ Some (row_at other)) some
   tail_rows one all [] apart e = tt
-  tail_rows one all (first ∷ some) apart e =
-      (ap (λ (b : Bool). if b then Some (row_at one) else row_in (map chosen all) first.table) (not_equal one.table first.table (λ same. apart (inl (sym same)))) ∙ e.0,
-      tail_rows one all some (λ h. apart (inr h)) e.1)
+  tail_rows one all (first ∷ some) apart e = (
+    ap (λ (b : Bool). if b then Some (row_at one) else row_in (map chosen all) first.table) (not_equal one.table first.table (λ same. apart (inl (sym same)))) ∙ e.0,
+    tail_rows one all some (λ h. apart (inr h)) e.1,
+  )
 
   own_rows : (combination : List Pick) → Distinct (map (λ (one : Pick). one.table) combination) → Each (λ (one : Pick). row_in (map chosen combination) one.table ≡ Some (row_at one)) combination
   own_rows [] d = tt
@@ -432,9 +433,10 @@ module _ (schema : Schema) (database : Database) (is : IsDatabase schema databas
       ]) refl
 
   others_distinct : (top : ℕ) → Distinct asked.from → Distinct (top ∷ others_of top asked.from)
-  others_distinct top d =
-      (λ h. false_is_not (ap not (sym (same_number top)) ∙ (from_filter (λ other. not (other == top)) top asked.from h).1),
-      distinct_filter (λ other. not (other == top)) asked.from d)
+  others_distinct top d = (
+    λ h. false_is_not (ap not (sym (same_number top)) ∙ (from_filter (λ other. not (other == top)) top asked.from h).1),
+    distinct_filter (λ other. not (other == top)) asked.from d,
+  )
 
   module _ (sound : IsSound schema asked) (top : ℕ) (from : Among top asked.from) where
     abbrev others : List ℕ

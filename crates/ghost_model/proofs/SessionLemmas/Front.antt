@@ -1,20 +1,16 @@
 -- That the asks of a proper journal with an honest host are the first of the session's asks, and that what the key heard
 -- of them begins their whole replies.
-use Rattle.std.proofs.Common.{◌≡◌, ℕ, zero, suc, ◌+◌, ◌<◌, ◌≤◌, ◌^◌, ◌⊎◌, inl, inr, Bool, true, false, ◌||◌, ◌&&◌, List, [], ◌∷◌, ◌++◌, length, map, sym, ◌∙◌, ap, subst, refl, arith, append-nil, append_assoc, length-append, Option, Some, None}
+use Rattle.std.proofs.Common.{◌≡◌, ℕ, suc, ◌+◌, ◌≤◌, Bool, true, false, ◌||◌, List, [], ◌∷◌, ◌++◌, length, map, sym, ◌∙◌, ap, subst, refl, arith, append-nil, append_assoc, length-append}
 use Rattle.std.specs.Prelude.{◌==◌, if◌then◌else◌, flat_map}
-use Rattle.std.specs.List.{list_any}
 use Rattle.std.proofs.lemmas.Grind.{flat_map-append}
 use Rattle.std.proofs.lemmas.List.{length-map}
-use Rattle.ghost_model.specs.Schema.{Schema}
-use Rattle.ghost_model.specs.Channel.{Catalog, Ask, Frame, Hello, Asking, More, Bye, Welcome, Replied, Done, Sorry}
+use Rattle.ghost_model.specs.Channel.{Catalog, Frame, Hello, Asking, More, Bye, Welcome, Replied, Done, Sorry}
 use Rattle.ghost_model.specs.Asks.{Asked, ask_payload}
-use Rattle.ghost_model.specs.Frames.{frame_bytes, frame_in}
-use Rattle.ghost_model.specs.NextMove.{Awaits, Missing, Reply, Nothing, Verdict, Short, Whole, Invalid, verdict, Turn, on_with, of_later_texts, still, turn_of_greeting, turn_of_reply, turn, Ending, Answered, Refused, Ended, ended_by_frame, ended_by, Heard, heard_frame, heard_as, hear, hear_all, at_first, heard}
-use Rattle.ghost_model.specs.Host.{reply_frames, Exchange, asked_in, ended_in, exchange_frames, AreExchanges, IsHeardWhole}
+use Rattle.ghost_model.specs.Frames.{frame_in}
+use Rattle.ghost_model.specs.NextMove.{Awaits, Missing, Reply, Nothing, Verdict, Short, Whole, Invalid, verdict, Turn, on_with, of_later_texts, still, turn_of_greeting, turn_of_reply, turn, Ended, ended_by_frame, ended_by, Heard, heard_frame, heard_as, hear, hear_all, at_first, heard}
 use Rattle.ghost_model.specs.Lines.{is_refused_by, was_refused}
 use Rattle.ghost_model.proofs.ChannelLemmas.Tests.{false_is_not}
 use Rattle.ghost_model.proofs.ChannelLemmas.Sending.{heard_more}
-use Rattle.ghost_model.proofs.ChannelLemmas.Replies.{replies_are_heard}
 
 -- a list begins another
 pub record Begins {X : Type 0} (front whole : List X) : Type 0 where
@@ -42,13 +38,7 @@ shorter_begins {X} (x ∷ a) (y ∷ b) c f g h =
     let later : Begins a b = shorter_begins a b (b ++ g.rest) (record { rest = f.rest; joined = sym same.1 }) (record { rest = g.rest; joined = refl }) (omega (arith, h)) in
     record { rest = later.rest; joined = ap (λ (z : X). z ∷ b) (sym same.0) ∙ ap (λ (zs : List X). x ∷ zs) later.joined }
 
-pub mapped_begins : {X Y : Type 0} (f : List X → List Y) (a b : List X) → ((xs ys : List X) → f (xs ++ ys) ≡ f xs ++ f ys) → Begins a b → Begins (f a) (f b)
-mapped_begins f a b both h = record { rest = f h.rest; joined = ap f h.joined ∙ both a h.rest }
-
 -- the asks in frames of the key, by what is awaited and what was sent
-abbrev ask_of : Asked → Ask
-ask_of one = one.ask
-
 abbrev pub still_to_come : List Asked → Awaits → List Asked
 still_to_come asks (Missing bytes) = asks
 still_to_come asks (Reply one serial later count last) = later
@@ -147,8 +137,8 @@ module _ (catalog : Catalog) (asks : List Asked) where
         | false ↦ λ k. refused_joined one other k
       ]) e
 
-  accounted_frame : (h : Heard) (frame : Frame) → IsAccounted h → IsAccounted (heard_as catalog asks h h.part (Short 0)) → IsStep (still_to_come asks h.awaits) (turn catalog asks h.awaits frame) (ended_by h.awaits h.rows frame) → IsAccounted (heard_frame catalog asks h frame)
-  accounted_frame h frame a same s =
+  accounted_frame : (h : Heard) (frame : Frame) → IsAccounted h → IsStep (still_to_come asks h.awaits) (turn catalog asks h.awaits frame) (ended_by h.awaits h.rows frame) → IsAccounted (heard_frame catalog asks h frame)
+  accounted_frame h frame a s =
       let next : Turn = turn catalog asks h.awaits frame in
       let joined = flat_map-append payload_in h.due (turn catalog asks h.awaits frame).due in
       record {
@@ -168,7 +158,7 @@ module _ (catalog : Catalog) (asks : List Asked) where
 
   accounted_as : (h : Heard) (part : List ℕ) (v : Verdict) → IsAccounted h → IsAccounted (heard_as catalog asks h part v)
   accounted_as h part (Short _) a = record { accounts = a.accounts; count = a.count }
-  accounted_as h part Whole a = accounted_frame h (frame_in part) a (record { accounts = a.accounts; count = a.count }) (step h.awaits h.rows (frame_in part))
+  accounted_as h part Whole a = accounted_frame h (frame_in part) a (step h.awaits h.rows (frame_in part))
   accounted_as h part Invalid a = record { accounts = a.accounts; count = a.count }
 
   accounted_either : (broken : Bool) (h other : Heard) → IsAccounted h → IsAccounted other → IsAccounted (if broken then h else other)

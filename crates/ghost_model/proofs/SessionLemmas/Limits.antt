@@ -1,16 +1,16 @@
 -- What the limits of an accepted schema leave: the asks that a key may send fit a frame, and so does a row of a reply.
-use Rattle.std.proofs.Common.{◌≡◌, ℕ, zero, suc, ◌+◌, ◌-◌, ◌*◌, ◌/◌, ◌%◌, ◌^◌, ◌<◌, ◌≤◌, Bool, true, false, ◌&&◌, ◌||◌, not, List, [], ◌∷◌, ◌++◌, length, replicate, slice_index, slice_get, map, sym, ◌∙◌, ap, subst, refl, arith, lit<, length-append, Option, Some, None, option_map, mod-lt}
+use Rattle.std.proofs.Common.{◌≡◌, ℕ, zero, suc, ◌+◌, ◌-◌, ◌*◌, ◌/◌, ◌^◌, ◌<◌, ◌≤◌, Bool, true, false, ◌&&◌, ◌||◌, not, List, [], ◌∷◌, ◌++◌, length, replicate, slice_get, map, sym, ◌∙◌, ap, subst, refl, arith, lit<, length-append, Option, Some, None, option_map, mod-lt}
 use Rattle.std.specs.Prelude.{◌==◌, nat_lt, nat_le, flat_map, sum}
 use Rattle.std.specs.List.{list_all, list_any}
 use Rattle.std.specs.Int.{bytes_high_first, byte_at}
-use Rattle.std.proofs.lemmas.Bool.{ltb-true, ltb-false, leb-true, le-leb}
+use Rattle.std.proofs.lemmas.Bool.{ltb-true, leb-true, le-leb}
 use Rattle.std.proofs.lemmas.Bool.Decides.{nat_tests}
 use Rattle.std.proofs.lemmas.Option.{slice_get-map}
 use Rattle.std.proofs.lemmas.List.Sums.{sum_by-cons}
 use Rattle.ghost_model.specs.Schema.{Schema, Kind, Integer, Chars, Column, columns_or_none, columns_of, column_at, is_shown, is_visible}
 use Rattle.ghost_model.specs.SchemaGrammar.{To, ColumnText, CharColumn, IntegerColumn, TableText, SchemaText}
 use Rattle.ghost_model.specs.SchemaMeaning.{columns_written, column_of, table_of, schema_of}
-use Rattle.ghost_model.specs.SchemaFaults.{SchemaFault, Limit, is_over, is_table_over, is_column_over, Breaks, MeansSchema}
+use Rattle.ghost_model.specs.SchemaFaults.{Limit, is_over, is_table_over, is_column_over, MeansSchema}
 use Rattle.ghost_model.specs.SchemaTrees.{IsTree}
 use Rattle.ghost_model.specs.Tokens.{is_printable, is_between, number_of}
 use Rattle.ghost_model.specs.Values.{Value, Number, Text}
@@ -18,8 +18,8 @@ use Rattle.ghost_model.specs.Query.{Operator, Equal, Unequal, Less, AtMost, More
 use Rattle.ghost_model.specs.Database.{is_of_kind}
 use Rattle.ghost_model.specs.Cells.{cell_width, encode_cell}
 use Rattle.ghost_model.specs.Channel.{Ask, Test, Asking}
-use Rattle.ghost_model.specs.Frames.{AreBytes, IsFrame, most_payload}
-use Rattle.ghost_model.specs.Asks.{kind_or_none, kind_at, operator_code, test_bytes, ask_payload, ascend_from, is_proper_ask, kinds_of, row_width}
+use Rattle.ghost_model.specs.Frames.{AreBytes, IsFrame}
+use Rattle.ghost_model.specs.Asks.{kind_or_none, kind_at, operator_code, test_bytes, ask_payload, ascend_from, is_proper_ask, row_width}
 use Rattle.ghost_model.proofs.ChannelLemmas.Tests.{false_is_not, BothHold, both_hold, hold_both}
 use Rattle.ghost_model.proofs.ChannelLemmas.Asks.{cell_length}
 use Rattle.ghost_model.proofs.SchemaTreeLemmas.{schemas_are_trees}
@@ -261,3 +261,7 @@ module _ (schema : Schema) (small : IsSmall schema) where
       let parts : Parts ask = parts_of ask e in
       let columns : length ask.columns ≤ 24 = few_columns ask.table ask.columns parts.third parts.second in
       omega (arith, columns, cells_fit ask.table ask.columns)
+
+  -- its columns are visible
+  pub proper_columns : (ask : Ask) → is_proper_ask schema ask ≡ true → list_all (is_visible schema ask.table) ask.columns ≡ true
+  proper_columns ask e = let parts : Parts ask = parts_of ask e in parts.second

@@ -1,18 +1,18 @@
 -- That a host in the key's own process leaves one journal.
-use Rattle.std.proofs.Common.{◌≡◌, ℕ, zero, suc, Bool, true, false, ◌&&◌, List, [], ◌∷◌, ◌++◌, length, take, drop, sym, ◌∙◌, ap, subst, refl, append-nil, append_assoc, Option, None, Some}
-use Rattle.std.specs.Prelude.{◌==◌, ◌||◌, not, if◌then◌else◌}
+use Rattle.std.proofs.Common.{◌≡◌, ℕ, suc, Bool, true, false, List, [], ◌∷◌, ◌++◌, length, take, drop, sym, ◌∙◌, ap, subst, refl, append-nil, append_assoc, Option, None, Some}
+use Rattle.std.specs.Prelude.{◌||◌, not, if◌then◌else◌}
 use Rattle.std.specs.List.{list_all, list_any, concat}
 use Rattle.std.proofs.lemmas.Bool.{eqb-true}
 use Rattle.std.proofs.Math.Seq.{drop-append_seam}
 use Rattle.ghost_model.specs.Schema.{is_empty}
-use Rattle.ghost_model.specs.Channel.{Catalog, Move, Dial, Listen, Accept, Send, Take, Close, Answer, Made, Port, Piece, End, Failed, Entry, Journal}
+use Rattle.ghost_model.specs.Channel.{Catalog, Move, Dial, Send, Take, Close, Answer, Made, Port, Piece, End, Failed, Entry, Journal}
 use Rattle.ghost_model.specs.Asks.{Asked}
 use Rattle.ghost_model.specs.Moves.{sent, taken, sent_by, piece_of}
 use Rattle.std.proofs.lemmas.Grind.{flat_map-append}
 use Rattle.ghost_model.specs.NextMove.{GoesOn, IsFinished, next_with, is_close}
 use Rattle.ghost_model.specs.Host.{Holding, host_sends}
 use Rattle.ghost_model.specs.Local.{IsServedBy, is_full, is_answered_in_full}
-use Rattle.ghost_model.proofs.ChannelLemmas.Tests.{false_is_not, BothHold, both_hold, take_front}
+use Rattle.ghost_model.proofs.ChannelLemmas.Tests.{false_is_not, both_hold, take_front}
 
 abbrev entry_of : Move → Answer → Entry
 entry_of move answer = record { move = move; answer = answer }

@@ -1,6 +1,6 @@
 -- That the rows that meet an ask may be sent in any packing, and are read back.
-use Rattle.std.proofs.Common.{◌≡◌, ℕ, zero, suc, ◌+◌, ◌*◌, ◌<◌, ◌≤◌, ◌^◌, Bool, true, false, ◌&&◌, List, [], ◌∷◌, ◌++◌, length, map, take, drop, sym, ◌∙◌, ap, subst, refl, arith, lit<, length-append, Option, Some, None, slice_get}
-use Rattle.std.specs.Prelude.{nat_lt, nat_le, flat_map, filter_map, if◌then◌else◌, sum, All, option_to_list, option_and_then, is_some, IsTrue}
+use Rattle.std.proofs.Common.{◌≡◌, ℕ, zero, suc, ◌+◌, ◌*◌, ◌<◌, ◌≤◌, ◌^◌, true, false, ◌&&◌, List, [], ◌∷◌, ◌++◌, length, map, drop, sym, ◌∙◌, ap, subst, refl, arith, lit<, length-append, Option, Some, None, slice_get}
+use Rattle.std.specs.Prelude.{nat_lt, nat_le, flat_map, filter_map, if◌then◌else◌, sum, All, option_to_list, option_and_then, is_some}
 use Rattle.std.specs.List.{list_all, cons_option}
 use Rattle.std.specs.Int.{to_be_bytes, w32}
 use Rattle.std.proofs.lemmas.Option.{slice_get-map}
@@ -18,9 +18,9 @@ use Rattle.ghost_model.specs.Cells.{cell_width, encode_cell, decode_cell}
 use Rattle.ghost_model.specs.Frames.{AreBytes, most_payload}
 use Rattle.ghost_model.specs.Asks.{ReplyRow, row_bytes, kind_or_none, kind_at, kinds_of, row_width, IsReplyRow}
 use Rattle.ghost_model.specs.NextMove.{are_cells, rows_fit, last_identifier}
-use Rattle.ghost_model.specs.Split.{cells, are_of_kinds, value_at, visible_places, visible_values, rows_by, rows_in, Replied, replied, meets_tests, replies_from, visible_rows, reply_row, reply_rows, public_of}
+use Rattle.ghost_model.specs.Split.{cells, are_of_kinds, value_at, visible_places, visible_values, Replied, replied, meets_tests, replies_from, visible_rows, reply_row, reply_rows, public_of}
 use Rattle.ghost_model.specs.Honest.{fits_frame}
-use Rattle.ghost_model.specs.Host.{IsGroup, AreGroups}
+use Rattle.ghost_model.specs.Host.{AreGroups}
 use Rattle.ghost_model.specs.NextMove as next
 use Rattle.ghost_model.specs.Replies.{values_in}
 use Rattle.ghost_model.proofs.ChannelLemmas.Tests.{false_is_not, BothHold, both_hold, hold_both, take_front, drop_front}

@@ -1,6 +1,6 @@
 -- That what this host sends is what an honest host sends.
-use Rattle.std.proofs.Common.{◌≡◌, ℕ, zero, suc, ◌+◌, ◌*◌, ◌/◌, ◌<◌, ◌≤◌, ◌^◌, Bool, true, false, ◌&&◌, List, [], ◌∷◌, ◌++◌, length, map, sym, ◌∙◌, ap, subst, refl, arith, append-nil, append_assoc, Option, Some, None}
-use Rattle.std.specs.Prelude.{nat_lt, nat_le, flat_map, filter_map, option_to_list, All}
+use Rattle.std.proofs.Common.{◌≡◌, ℕ, zero, suc, ◌+◌, ◌*◌, ◌/◌, ◌<◌, ◌≤◌, true, false, List, [], ◌∷◌, ◌++◌, length, map, sym, ◌∙◌, ap, subst, refl, arith, append-nil, append_assoc, Option, Some, None}
+use Rattle.std.specs.Prelude.{flat_map, filter_map, option_to_list, All}
 use Rattle.std.specs.List.{list_any, list_all, concat, cons_option}
 use Rattle.std.proofs.lemmas.Bool.{lt-ltb, le-leb}
 use Rattle.std.proofs.lemmas.Grind.{flat_map-append}
@@ -9,12 +9,12 @@ use Rattle.std.proofs.Math.Nat.{mul-le-mul_left, div-add-mod}
 use Rattle.ghost_model.specs.Schema.{Schema}
 use Rattle.ghost_model.specs.Channel.{Catalog, Ask, Frame, Hello, Asking, More, Bye, Welcome, Replied, Done, Sorry, Journal}
 use Rattle.ghost_model.specs.Catalog.{catalog_bytes}
-use Rattle.ghost_model.specs.Frames.{IsFrame, Got, got_of, frame_bytes, most_payload}
+use Rattle.ghost_model.specs.Frames.{IsFrame, got_of, frame_bytes, most_payload}
 use Rattle.ghost_model.specs.Asks.{Asked, asked_of, ReplyRow, ask_in, is_proper_ask, row_width}
 use Rattle.ghost_model.specs.Moves.{taken, sent, answers}
 use Rattle.ghost_model.specs.NextMove.{IsProper, IsDue, is_stop}
 use Rattle.ghost_model.specs.Split.{Public, reply_rows}
-use Rattle.ghost_model.specs.Host.{Holding, host_of, host_sends, host_says, honest_stream, frames_of, grouped, most_part, welcomes, rows_frame, reply_to, replies_to, asks_in_frame, IsFront}
+use Rattle.ghost_model.specs.Host.{Holding, host_of, host_sends, host_says, honest_stream, frames_of, grouped, most_part, welcomes, reply_to, replies_to, asks_in_frame, IsFront}
 use Rattle.ghost_model.specs.Honest.{has_up_to, AreWelcomes, fits_frame, IsReply, AreReplies, ask_of_frame, ask_of_got, asks_sent, IsHonest}
 use Rattle.ghost_model.specs.SessionLaws.{IsSetting}
 use Rattle.ghost_model.proofs.ChannelLemmas.{spelled_is_found}
@@ -24,7 +24,7 @@ use Rattle.ghost_model.proofs.ChannelLemmas.Hosts.{host_is_honest, frames_are_cu
 use Rattle.ghost_model.proofs.ChannelLemmas.Sending.{sent_is_due}
 use Rattle.ghost_model.proofs.SessionLemmas.Groups.{groups_are_joined, groups_pass, joined_parts}
 use Rattle.ghost_model.proofs.SessionLemmas.Limits.{IsSmall, schema_is_small, row_fits}
-use Rattle.ghost_model.proofs.SessionLemmas.SentFrames.{AreFrames, AreProper, sent_are_frames, asks_are_good}
+use Rattle.ghost_model.proofs.SessionLemmas.SentFrames.{AreFrames, sent_are_frames, asks_are_good}
 
 -- the bytes of sent frames, and the asks in them
 joined_frames : (frames : List Frame) → concat (map frame_bytes frames) ≡ flat_map frame_bytes frames
@@ -51,14 +51,14 @@ module _ (schema : Schema) where
   asks_of_one (Done _ _) asks = refl
   asks_of_one (Sorry _ _) asks = refl
 
-  abbrev ask_of_bytes : List ℕ → Option Ask
+  abbrev pub ask_of_bytes : List ℕ → Option Ask
   ask_of_bytes bytes = ask_of_got schema (got_of bytes)
 
   found_again : (frame : Frame) → IsFrame frame → ask_of_bytes (frame_bytes frame) ≡ ask_of_frame schema frame
   found_again frame h =
       ap ask_of_bytes (sym (append-nil (frame_bytes frame))) ∙ ap (ask_of_got schema) (spelled_is_found frame [] h)
 
-  asks_in_frames : (frames : List Frame) → AreFrames frames → filter_map ask_of_bytes (map frame_bytes frames) ≡ flat_map (asks_in_frame schema) frames
+  pub asks_in_frames : (frames : List Frame) → AreFrames frames → filter_map ask_of_bytes (map frame_bytes frames) ≡ flat_map (asks_in_frame schema) frames
   asks_in_frames [] h = refl
   asks_in_frames (frame ∷ frames) h =
       ap (λ (o : Option Ask). cons_option o (filter_map ask_of_bytes (map frame_bytes frames))) (found_again frame h.0)
@@ -129,11 +129,12 @@ module _ (catalog : Catalog) (public : Public) (small : IsSmall catalog.schema) 
 
   -- what was taken begins the whole stream
   begins_stream : (begun rest : List ℕ) (said whole : List Frame) → IsFront said whole → begun ++ rest ≡ flat_map frame_bytes said → (later : List ℕ) × (begun ++ later ≡ flat_map frame_bytes whole)
-  begins_stream begun rest said whole front e =
-      (rest ++ flat_map frame_bytes front.rest,
-      sym (append_assoc begun rest (flat_map frame_bytes front.rest))
-      ∙ (ap (λ (bytes : List ℕ). bytes ++ flat_map frame_bytes front.rest) e
-      ∙ (sym (flat_map-append frame_bytes said front.rest) ∙ ap (flat_map frame_bytes) (sym front.joined))))
+  begins_stream begun rest said whole front e = (
+    rest ++ flat_map frame_bytes front.rest,
+    sym (append_assoc begun rest (flat_map frame_bytes front.rest))
+        ∙ (ap (λ (bytes : List ℕ). bytes ++ flat_map frame_bytes front.rest) e
+        ∙ (sym (flat_map-append frame_bytes said front.rest) ∙ ap (flat_map frame_bytes) (sym front.joined))),
+  )
 
   honest_with :
       (journal : Journal) (rest : List ℕ) (frames : List Frame) → sent journal ≡ map frame_bytes frames → AreFrames frames

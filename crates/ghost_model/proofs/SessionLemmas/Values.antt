@@ -1,19 +1,19 @@
 -- What the key knows of a row by the hidden part and by whole replies is what stands in the row.
-use Rattle.std.proofs.Common.{◌≡◌, ℕ, zero, suc, ◌+◌, ◌<◌, ◌⊎◌, inl, inr, Bool, true, false, not, cond, ◌&&◌, List, [], ◌∷◌, length, map, drop, filter, sym, ◌∙◌, ap, subst, refl, arith, Option, Some, None, slice_get}
-use Rattle.std.specs.Prelude.{◌==◌, filter_map, if◌then◌else◌, option_and_then, flat_map}
+use Rattle.std.proofs.Common.{◌≡◌, ℕ, zero, suc, ◌+◌, ◌<◌, inl, inr, Bool, true, false, not, List, [], ◌∷◌, length, map, drop, sym, ◌∙◌, ap, subst, refl, arith, Option, Some, None, slice_get}
+use Rattle.std.specs.Prelude.{◌==◌, filter_map, if◌then◌else◌, option_and_then}
 use Rattle.std.specs.Option.{option_map}
-use Rattle.std.specs.List.{list_all, cons_option}
+use Rattle.std.specs.List.{cons_option}
 use Rattle.std.proofs.lemmas.Option.{slice_get-map}
 use Rattle.std.proofs.lemmas.Bool.Decides.{nat_tests}
 use Rattle.std.proofs.lemmas.Bool.{eqb-true}
-use Rattle.ghost_model.specs.Schema.{Schema, Column, Table, columns_of, column_at, places_from, is_shown, is_visible}
+use Rattle.ghost_model.specs.Schema.{Schema, Column, columns_of, column_at, places_from, is_shown}
 use Rattle.ghost_model.specs.Values.{Value, Row, Rows, Database}
-use Rattle.ghost_model.specs.Channel.{Ask, Test}
-use Rattle.ghost_model.specs.Database.{rows_or_none, rows_of, row_numbered, IsDatabase}
-use Rattle.ghost_model.specs.Split.{Hidden, hidden_flags, visible_values, hidden_values, rows_by, tables_by, hidden_of, public_of, value_at, is_open, visible_places, rows_in, Replied, replied, meets_tests, replies_from, visible_rows}
+use Rattle.ghost_model.specs.Channel.{Ask}
+use Rattle.ghost_model.specs.Database.{rows_or_none, rows_of, IsDatabase}
+use Rattle.ghost_model.specs.Split.{hidden_flags, visible_values, hidden_values, rows_by, tables_by, hidden_of, value_at, is_open, Replied, replied, meets_tests, replies_from}
 use Rattle.ghost_model.specs.Replies.{hidden_places, hidden_value, row_replied}
 use Rattle.ghost_model.proofs.MeaningLemmas.OneRow.{Among}
-use Rattle.ghost_model.proofs.ChannelLemmas.Tests.{false_is_not, BothHold, both_hold}
+use Rattle.ghost_model.proofs.ChannelLemmas.Tests.{false_is_not}
 
 same_number : (n : ℕ) → (n == n) ≡ true
 same_number n = grind (arith, nat_tests)
@@ -167,6 +167,7 @@ value_asked f (first ∷ columns) column some h =
     (value_if (first == column) some.0.0 (value_at columns (filter_map f columns) column) (f column)
     (λ yes. sym there ∙ ap f (eqb-true first column yes))
     (λ no. value_asked f columns column some.1 (later_one first column columns no h)))
+
 module _ (schema : Schema) (database : Database) (is : IsDatabase schema database) where
   pub hidden_is_known :
       (table place column : ℕ) (row : Row) → slice_get (rows_of database table) place ≡ Some row → is_shown (column_at schema table (suc column)) ≡ false

@@ -1,6 +1,6 @@
 -- What the key knows of a row by the hidden part and by whole replies, where the row meets the conditions of its table.
-use Rattle.std.proofs.Common.{◌≡◌, ℕ, zero, suc, ◌+◌, ◌<◌, ◌⊎◌, inl, inr, pos, Bool, true, false, not, ◌&&◌, ◌||◌, List, [], ◌∷◌, length, map, drop, filter, sym, ◌∙◌, ap, subst, refl, arith, Option, Some, None, slice_get}
-use Rattle.std.specs.Prelude.{◌==◌, nat_lt, filter_map, if◌then◌else◌, option_and_then, is_some}
+use Rattle.std.proofs.Common.{◌≡◌, ℕ, zero, suc, ◌+◌, ◌<◌, inl, inr, Bool, true, false, not, ◌&&◌, ◌||◌, List, [], ◌∷◌, length, map, drop, filter, sym, ◌∙◌, ap, subst, refl, arith, Option, Some, None, slice_get}
+use Rattle.std.specs.Prelude.{◌==◌, nat_lt, if◌then◌else◌, option_and_then, is_some}
 use Rattle.std.specs.Option.{option_map}
 use Rattle.std.specs.List.{list_all, list_any}
 use Rattle.std.proofs.lemmas.Option.{slice_get-map}
@@ -8,17 +8,16 @@ use Rattle.std.proofs.lemmas.List.Folds.{list_all-append}
 use Rattle.std.proofs.lemmas.Bool.Decides.{nat_tests}
 use Rattle.std.proofs.lemmas.Bool.{eqb-true, lt-ltb}
 use Rattle.ghost_model.specs.Schema.{Schema, Column, columns_of, column_at, places_from, is_shown, is_visible, is_empty}
-use Rattle.ghost_model.specs.Values.{Value, Number, Row, Rows, Database}
+use Rattle.ghost_model.specs.Values.{Value, Row, Rows, Database}
 use Rattle.ghost_model.specs.Query.{Query, Field, Condition, Compare, Join}
 use Rattle.ghost_model.specs.Channel.{Ask, Test}
-use Rattle.ghost_model.specs.Asks.{ask_for, is_needed, is_from, places, asks_of, test_of, tests_of, is_wanted, is_field}
-use Rattle.ghost_model.specs.Database.{rows_of, row_of, IsDatabase}
-use Rattle.ghost_model.specs.Split.{Hidden, Public, hidden_flags, visible_values, rows_by, hidden_of, public_of, value_at, visible_places, rows_in, Replied, replied, meets_test, meets_tests, replies_from, visible_rows}
+use Rattle.ghost_model.specs.Asks.{ask_for, is_needed, is_from, places, test_of, tests_of, is_wanted, is_field}
+use Rattle.ghost_model.specs.Database.{rows_of, IsDatabase}
+use Rattle.ghost_model.specs.Split.{Public, hidden_flags, visible_values, rows_by, hidden_of, public_of, value_at, visible_places, Replied, replied, meets_test, meets_tests, replies_from, visible_rows}
 use Rattle.ghost_model.specs.Replies.{Reply, hidden_value, row_replied, reply_about, replied_value, known_value, stands_in}
 use Rattle.ghost_model.specs.SessionLaws.{whole_reply, whole_replies}
 use Rattle.ghost_model.proofs.ChannelLemmas.Tests.{false_is_not, BothHold, both_hold, hold_both}
-use Rattle.ghost_model.proofs.ChannelLemmas.Proper.{asks_are_visible}
-use Rattle.ghost_model.proofs.MeaningLemmas.OneRow.{Among, among-filter, from_filter}
+use Rattle.ghost_model.proofs.MeaningLemmas.OneRow.{Among, among-filter}
 use Rattle.ghost_model.proofs.SessionLemmas.Values.{parts_at, hidden_is_known, visible_of_row, row_is_replied, if_met, AllThere, value_asked}
 
 -- places of a list
@@ -146,6 +145,7 @@ module _ (schema : Schema) (database : Database) (is : IsDatabase schema databas
           itself : (n : ℕ) → (n == n) ≡ true
           itself n = grind (arith, nat_tests)
       later_table first table tables differs (inr later) = later
+
       other_table : (first table : ℕ) (tables : List ℕ) → is_needed (ask_for schema asked table) ≡ true → is_needed (ask_for schema asked first) ≡ false → Among table (first ∷ tables) → Among table tables
       other_table first table tables n e (inl same) = absurd (false_is_not (sym e ∙ (ap (λ (t : ℕ). is_needed (ask_for schema asked t)) same ∙ n)))
       other_table first table tables n e (inr later) = later

@@ -1,5 +1,3 @@
-use Rattle.ghost_model.proofs.SessionLemmas.Replied as scratch2
-use Rattle.ghost_model.proofs.SessionLemmas.Front as scratch
 use Rattle.std.proofs.Common.{[]}
 use Rattle.ghost_model.specs.Asks.{asked_of}
 use Rattle.ghost_model.proofs.SessionLemmas.OneJournal.{same_journal}
