@@ -1,0 +1,7 @@
+mod Numerals
+mod ReadRecords
+mod KeptTexts
+mod ReadRows
+mod FormNames
+mod OneReading
+mod ReadForm

@@ -1,2 +1,11 @@
 //! The commands of the key: what the program does with its words, its files, its flash and its link.
 #![tactic(auto)]
+
+pub mod fields;
+pub mod form;
+pub mod naming;
+pub mod pieces;
+pub mod records;
+pub mod rows;
+pub mod texts;
+pub mod words;
