@@ -1,10 +1,12 @@
-mod TokenLemmas
+pub mod TokenLemmas
 mod TextLemmas
 mod GrammarLemmas
 mod SchemaLemmas
 mod SchemaRuleLemmas
 mod SchemaTreeLemmas
+pub mod SchemaLemmas
+pub mod SchemaRuleLemmas
 mod QueryLemmas
-mod QueryReadingLemmas
+pub mod QueryReadingLemmas
 mod ChannelLemmas
 mod MeaningLemmas

@@ -5,3 +5,8 @@ mod ReadRows
 mod FormNames
 mod OneReading
 mod ReadForm
+mod FormText
+mod FormLemmas
+mod FormAnswers
+mod FormRows
+mod FormSchema

@@ -9,3 +9,4 @@ pub mod records;
 pub mod rows;
 pub mod texts;
 pub mod words;
+mod form_laws;
