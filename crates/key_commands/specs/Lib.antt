@@ -7,3 +7,5 @@ pub mod Texts
 pub mod Rows
 pub mod Pieces
 pub mod Views
+pub mod Statuses
+pub mod Local

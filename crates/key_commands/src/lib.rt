@@ -7,6 +7,7 @@ pub mod naming;
 pub mod pieces;
 pub mod records;
 pub mod rows;
+pub mod status;
 pub mod texts;
 pub mod words;
 mod form_laws;
