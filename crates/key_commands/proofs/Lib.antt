@@ -10,3 +10,4 @@ mod FormLemmas
 mod FormAnswers
 mod FormRows
 mod FormSchema
+mod PrintedLines

@@ -9,3 +9,4 @@ pub mod Pieces
 pub mod Views
 pub mod Statuses
 pub mod Local
+pub mod Printing

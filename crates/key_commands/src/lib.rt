@@ -5,6 +5,7 @@ pub mod fields;
 pub mod form;
 pub mod naming;
 pub mod pieces;
+pub mod printing;
 pub mod records;
 pub mod rows;
 pub mod status;
