@@ -11,3 +11,4 @@ mod FormAnswers
 mod FormRows
 mod FormSchema
 mod PrintedLines
+mod ReadScript

@@ -9,6 +9,7 @@ pub mod printing;
 pub mod records;
 pub mod rows;
 pub mod status;
+pub mod script;
 pub mod texts;
 pub mod words;
 mod form_laws;
