@@ -12,3 +12,4 @@ mod FormRows
 mod FormSchema
 mod PrintedLines
 mod ReadScript
+mod Parts

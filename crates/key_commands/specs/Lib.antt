@@ -10,3 +10,4 @@ pub mod Views
 pub mod Statuses
 pub mod Local
 pub mod Printing
+pub mod Opening

@@ -4,6 +4,7 @@
 pub mod fields;
 pub mod form;
 pub mod naming;
+pub mod opening;
 pub mod pieces;
 pub mod printing;
 pub mod records;
