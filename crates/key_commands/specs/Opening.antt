@@ -35,6 +35,12 @@ pub record ReadsScript (contents : Option Files) (names : Names) (form : Form) (
   pub read : IsRead contents names.script most_text script
   pub spelled : SpellsScript form script wanted
 
+-- a payload is that of the script's ask
+pub record ReadsPayload (contents : Option Files) (names : Names) (form : Form) (payload : List ℕ) : Type 0 where
+  pub wanted : List ℕ
+  pub script : ReadsScript contents names form wanted
+  pub payload_is : payload ≡ form_payload form wanted
+
 -- the catalog of a form's schema and so many rows
 abbrev pub form_catalog : Form → (rows : ℕ) → Catalog
 form_catalog form rows = record { schema = form_schema form; counts = rows ∷ []; generation = 1 }
@@ -42,12 +48,10 @@ form_catalog form rows = record { schema = form_schema form; counts = rows ∷ [
 -- all that a session needs
 pub record IsOpened (contents : Option Files) (names : Names) (opened : Opened) : Type 0 where
   pub text : List ℕ
-  pub wanted : List ℕ
   pub schema : ReadsForm contents names text (form_view opened.form)
   pub rows : ReadsRows contents names (form_view opened.form) opened.rows
-  pub script : ReadsScript contents names (form_view opened.form) wanted
+  pub script : ReadsPayload contents names (form_view opened.form) opened.payload.items
   pub catalog : opened.catalog.items ≡ catalog_bytes (form_catalog (form_view opened.form) opened.rows.count)
-  pub payload : opened.payload.items ≡ form_payload (form_view opened.form) wanted
   -- the identifiers of a reply have room
   pub none_found : opened.found.items ≡ []
   pub room : opened.rows.count ≤ vec_capacity opened.found

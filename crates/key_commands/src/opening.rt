@@ -1,13 +1,16 @@
 //! The opening of `local`: all that a session needs is read from the depot, and the journal's file is made empty.
 
-ghost use Rattle.std.specs.Prelude.{◌≡◌, ◌≤◌, ℕ, [], ◌∷◌, true, length, Some, Err, IfOk, OnOk, OnErr, vec_capacity};
+ghost use Rattle.std.specs.Prelude.{◌≡◌, ◌≤◌, ◌+◌, ◌++◌, ℕ, [], ◌∷◌, true, length, Some, Err, IfOk, OnOk, OnErr, vec_capacity, string_bytes};
+ghost use Rattle.arrayvec.specs.ArrayVec.{array_vec_len};
+ghost use Rattle.ghost_model.specs.Cells.{padded};
 ghost use Rattle.ghost_model.specs.Causes.{Rose};
 ghost use Rattle.ghost_model.specs.Catalog.{catalog_bytes};
 ghost use Rattle.edge_traits.specs.Files.{Files, HasLonger, SameBut, with_file};
 ghost use Rattle.key_commands.specs.Form.{Form, is_form, is_wanted, SpellsForm};
 ghost use Rattle.key_commands.specs.FormMeaning.{form_payload};
 ghost use Rattle.key_commands.specs.Local.{IsFirstOther, most_text};
-ghost use Rattle.key_commands.specs.Opening.{IsRead, ReadsForm, ReadsRows, ReadsScript, IsOpened, form_catalog};
+ghost use Rattle.key_commands.specs.Opening.{IsRead, ReadsForm, ReadsRows, ReadsPayload, IsOpened, form_catalog};
+ghost use Rattle.key_commands.specs.Words as words;
 ghost use Rattle.key_commands.specs.Views.{form_view, names_view};
 
 use crate::form::{Form, read_form};
@@ -103,4 +106,116 @@ fn open_schema<D: Depot>(
         Some(form) => Ok(SchemaText { text, form }),
         None => Err(OpenFault::Input(InputFault::NotBuilt { part: 1 })),
     }
+}
+
+/// Reads the rows.
+#[tactic(auto, using(crate::proofs::Parts::longer_rows, crate::proofs::Parts::other_rows, crate::proofs::Parts::reads_rows))]
+fn open_rows<D: Depot>(
+    alloc: Global,
+    names: &Names<'_>,
+    schema: &SchemaText,
+    depot: &mut D,
+) -> Result<Rows, OpenFault>
+    requires { ReadsForm (D.contents depot.old) (names_view names.now) schema.now.text.items (form_view schema.now.form) }
+    ensures read { IfOk result (λ rows. ReadsRows (D.contents depot.old) (names_view names.now) (form_view schema.now.form) rows) }
+    ensures first_other { (part : ℕ) → (files : Files) → D.contents depot.old ≡ Some files → result ≡ Err (OpenFault.Input (InputFault.NotBuilt part)) → IsFirstOther files (names_view names.now) part }
+    ensures never_falls { D.faults depot.old ≤ D.faults depot.new }
+    ensures failed { result ≡ Err OpenFault.Depot → Rose (D.faults depot.old) (D.faults depot.new) }
+    ensures other { (result ≡ Err OpenFault.Depot → ⊥) → D.faults depot.new ≡ D.faults depot.old }
+    ensures appends { D.append_faults depot.new ≡ D.append_faults depot.old }
+    ensures same { D.contents depot.new ≡ D.contents depot.old }
+{
+    let name = file_of_rows(alloc, names, &schema.form)?;
+    let file = read_part(alloc, depot, name.as_str(), 67_108_864, 2)?;
+    match read_rows(alloc, &schema.form, &file) {
+        Ok(rows) => Ok(rows),
+        Err(RowsFault::NoMemory) => Err(OpenFault::NoMemory),
+        Err(RowsFault::Broken) => Err(OpenFault::Input(InputFault::NotBuilt { part: 2 })),
+    }
+}
+
+/// The name of the file of the rows.
+fn file_of_rows(alloc: Global, names: &Names<'_>, form: &Form) -> Result<String, OpenFault>
+    requires { is_form (form_view form.now) ≡ true }
+    ensures name { IfOk result (λ name. string_bytes name ≡ words.table_file (names_view names.now).tables (form_view form.now).table) }
+    ensures fault { (fault : OpenFault) → result ≡ Err fault → fault ≡ OpenFault.NoMemory }
+{
+    match table_file(alloc, names.tables, table_name(form)) {
+        Ok(name) => Ok(name),
+        Err(_) => Err(OpenFault::NoMemory),
+    }
+}
+
+/// The name of the form's table.
+#[tactic(auto, using(crate::proofs::Parts::table_is_text))]
+fn table_name(form: &Form) -> &str
+    requires { is_form (form_view form.now) ≡ true }
+    ensures { result.now ≡ (form_view form.now).table }
+{
+    match std::str::from_utf8(form.table.as_bytes()) {
+        Ok(name) => name,
+        Err(_) => "",
+    }
+}
+
+/// Reads the script, and puts its ask together.
+#[tactic(auto, using(crate::proofs::Parts::longer_script, crate::proofs::Parts::other_script, crate::proofs::Parts::reads_script))]
+fn open_script<D: Depot>(
+    alloc: Global,
+    names: &Names<'_>,
+    form: &Form,
+    rows: &Rows,
+    text: &[u8],
+    depot: &mut D,
+) -> Result<ArrayVec<u8, 69>, OpenFault>
+    requires form { ReadsForm (D.contents depot.old) (names_view names.now) text.now (form_view form.now) }
+    requires rows { ReadsRows (D.contents depot.old) (names_view names.now) (form_view form.now) rows.now }
+    ensures read { IfOk result (λ payload. ReadsPayload (D.contents depot.old) (names_view names.now) (form_view form.now) payload.items) }
+    ensures first_other { (part : ℕ) → (files : Files) → D.contents depot.old ≡ Some files → result ≡ Err (OpenFault.Input (InputFault.NotBuilt part)) → IsFirstOther files (names_view names.now) part }
+    ensures never_falls { D.faults depot.old ≤ D.faults depot.new }
+    ensures failed { result ≡ Err OpenFault.Depot → Rose (D.faults depot.old) (D.faults depot.new) }
+    ensures other { (result ≡ Err OpenFault.Depot → ⊥) → D.faults depot.new ≡ D.faults depot.old }
+    ensures appends { D.append_faults depot.new ≡ D.append_faults depot.old }
+    ensures same { D.contents depot.new ≡ D.contents depot.old }
+{
+    let script = read_part(alloc, depot, names.script, 65_536, 3)?;
+    match read_script(form, &script) {
+        Some(wanted) => Ok(payload_of(form, wanted)),
+        None => Err(OpenFault::Input(InputFault::NotBuilt { part: 3 })),
+    }
+}
+
+/// The payload of the ask for the rows whose visible text is this one.
+fn payload_of(form: &Form, wanted: &[u8]) -> ArrayVec<u8, 69>
+    requires form { is_form (form_view form.now) ≡ true }
+    requires wanted { is_wanted (form_view form.now) wanted.now ≡ true }
+    ensures { result.items ≡ form_payload (form_view form.now) wanted.now }
+{
+    let mut cell = [0; 64];
+    let most = form.shown_most as usize;
+    let (place, _) = cell.split_at_mut(most);
+    put_padded(wanted, place);
+    let mut payload = ArrayVec::new();
+    put(&mut payload, &[0, 0, 1, 1, 1]);
+    put(&mut payload, place);
+    payload
+}
+
+/// Writes a text and zero bytes after it.
+fn put_padded(text: &[u8], out: &mut [u8])
+    requires { length text.now ≤ length out.old }
+    ensures { out.new ≡ padded (length out.old) text.now }
+{
+    let (front, back) = out.split_at_mut(text.len());
+    front.copy_from_slice(text);
+    back.fill(0);
+}
+
+/// Adds bytes to a payload that has room for them.
+fn put(payload: &mut ArrayVec<u8, 69>, bytes: &[u8])
+    requires { array_vec_len payload.old + length bytes.now ≤ 69 }
+    ensures items { payload.new.items ≡ payload.old.items ++ bytes.now }
+    ensures len { array_vec_len payload.new ≡ array_vec_len payload.old + length bytes.now }
+{
+    let _full = payload.try_extend_from_slice(bytes);
 }
