@@ -13,3 +13,4 @@ mod FormSchema
 mod PrintedLines
 mod ReadScript
 mod Parts
+mod WholeOpening

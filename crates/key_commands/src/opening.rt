@@ -1,12 +1,14 @@
 //! The opening of `local`: all that a session needs is read from the depot, and the journal's file is made empty.
 
-ghost use Rattle.std.specs.Prelude.{◌≡◌, ◌≤◌, ◌+◌, ◌++◌, ℕ, [], ◌∷◌, true, length, Some, Err, IfOk, OnOk, OnErr, vec_capacity, string_bytes};
+ghost use Rattle.std.specs.Int.{to_be_bytes, w32};
+ghost use Rattle.std.specs.Prelude.{◌≡◌, ◌≤◌, ◌<◌, ◌^◌, ◌+◌, ◌++◌, ℕ, [], ◌∷◌, true, length, Some, Err, IfOk, OnOk, OnErr, vec_capacity, string_bytes};
 ghost use Rattle.arrayvec.specs.ArrayVec.{array_vec_len};
 ghost use Rattle.ghost_model.specs.Cells.{padded};
 ghost use Rattle.ghost_model.specs.Causes.{Rose};
-ghost use Rattle.ghost_model.specs.Catalog.{catalog_bytes};
+ghost use Rattle.ghost_model.specs.Catalog.{catalog_bytes, catalog_head};
 ghost use Rattle.edge_traits.specs.Files.{Files, HasLonger, SameBut, with_file};
-ghost use Rattle.key_commands.specs.Form.{Form, is_form, is_wanted, SpellsForm};
+ghost use Rattle.key_commands.specs.Form.{is_form, is_wanted, SpellsForm};
+ghost use Rattle.key_commands.specs.Form as spelled;
 ghost use Rattle.key_commands.specs.FormMeaning.{form_payload};
 ghost use Rattle.key_commands.specs.Local.{IsFirstOther, most_text};
 ghost use Rattle.key_commands.specs.Opening.{IsRead, ReadsForm, ReadsRows, ReadsPayload, IsOpened, form_catalog};
@@ -14,9 +16,10 @@ ghost use Rattle.key_commands.specs.Words as words;
 ghost use Rattle.key_commands.specs.Views.{form_view, names_view};
 
 use crate::form::{Form, read_form};
+use crate::pieces::without_line_end;
 use crate::rows::{Rows, RowsFault, read_rows};
 use crate::script::read_script;
-use crate::status::{InputFault, KeyStatus};
+use crate::status::InputFault;
 use crate::words::{Names, table_file};
 use arrayvec::ArrayVec;
 use edge_traits::depot::Depot;
@@ -60,6 +63,89 @@ pub enum OpenFault {
 struct SchemaText {
     text: Vec<u8>,
     form: Form,
+}
+
+/// Reads all that a session needs, and makes the journal's file empty as the last step.
+#[tactic(auto, using(crate::proofs::WholeOpening::unchanged, crate::proofs::WholeOpening::emptied_others))]
+pub fn open<D: Depot>(
+    alloc: Global,
+    names: &Names<'_>,
+    depot: &mut D,
+) -> Result<Opened, OpenFault>
+    ensures opened { IfOk result (λ opened. IsOpened (D.contents depot.old) (names_view names.now) opened) }
+    ensures emptied { OnOk result (D.contents depot.new ≡ with_file (D.contents depot.old) names.now.journal.now []) }
+    ensures first_other { (part : ℕ) → (files : Files) → D.contents depot.old ≡ Some files → result ≡ Err (OpenFault.Input (InputFault.NotBuilt part)) → IsFirstOther files (names_view names.now) part }
+    ensures never_falls { D.faults depot.old ≤ D.faults depot.new }
+    ensures failed { result ≡ Err OpenFault.Depot → Rose (D.faults depot.old) (D.faults depot.new) }
+    ensures other { (result ≡ Err OpenFault.Depot → ⊥) → D.faults depot.new ≡ D.faults depot.old }
+    ensures appends { D.append_faults depot.new ≡ D.append_faults depot.old }
+    ensures others { SameBut names.now.journal.now (D.contents depot.old) (D.contents depot.new) }
+    ensures kept { (result ≡ Err OpenFault.Depot → ⊥) → OnErr result (D.contents depot.new ≡ D.contents depot.old) }
+{
+    let opened = read_all(alloc, names, depot)?;
+    if depot.replace(names.journal, &[]).is_err() {
+        return Err(OpenFault::Depot);
+    }
+    Ok(opened)
+}
+
+/// Reads all that a session needs.
+#[tactic(auto, using(crate::proofs::WholeOpening::opened))]
+fn read_all<D: Depot>(
+    alloc: Global,
+    names: &Names<'_>,
+    depot: &mut D,
+) -> Result<Opened, OpenFault>
+    ensures opened { IfOk result (λ opened. IsOpened (D.contents depot.old) (names_view names.now) opened) }
+    ensures first_other { (part : ℕ) → (files : Files) → D.contents depot.old ≡ Some files → result ≡ Err (OpenFault.Input (InputFault.NotBuilt part)) → IsFirstOther files (names_view names.now) part }
+    ensures never_falls { D.faults depot.old ≤ D.faults depot.new }
+    ensures failed { result ≡ Err OpenFault.Depot → Rose (D.faults depot.old) (D.faults depot.new) }
+    ensures other { (result ≡ Err OpenFault.Depot → ⊥) → D.faults depot.new ≡ D.faults depot.old }
+    ensures appends { D.append_faults depot.new ≡ D.append_faults depot.old }
+    ensures same { D.contents depot.new ≡ D.contents depot.old }
+{
+    let schema = open_schema(alloc, names, depot)?;
+    let rows = open_rows(alloc, names, &schema, depot)?;
+    let payload = open_script(alloc, names, &schema.form, &rows, &schema.text, depot)?;
+    let Ok(catalog) = catalog_of(alloc, &schema.text, rows.count) else {
+        return Err(OpenFault::NoMemory);
+    };
+    let Ok(found) = Vec::with_capacity(alloc, rows.count) else {
+        return Err(OpenFault::NoMemory);
+    };
+    Ok(Opened {
+        form: schema.form,
+        rows,
+        catalog,
+        payload,
+        found,
+    })
+}
+
+/// The bytes of the catalog of the form that a schema's text spells, for so many rows.
+#[tactic(auto, using(crate::proofs::WholeOpening::catalog_spelled))]
+fn catalog_of(alloc: Global, text: &[u8], rows: usize) -> Result<Vec<u8>, AllocError>
+    requires text { length text.now ≤ most_text }
+    requires rows { rows < 2 ^ 32 }
+    ensures { IfOk result (λ bytes. (form : spelled.Form) → SpellsForm text.now form → bytes.items ≡ catalog_bytes (form_catalog form rows)) }
+{
+    catalog_with(alloc, without_line_end(text), rows)
+}
+
+/// The bytes of a catalog with generation 1, the one line of whose schema is this, without its LF.
+fn catalog_with(alloc: Global, line: &[u8], rows: usize) -> Result<Vec<u8>, AllocError>
+    requires line { length line.now ≤ most_text }
+    requires rows { rows < 2 ^ 32 }
+    ensures { IfOk result (λ bytes. bytes.items ≡ catalog_head 1 (length line.now + 1) ++ ((line.now ++ 10 ∷ []) ++ to_be_bytes w32 rows)) }
+{
+    let mut bytes = Vec::from_slice(alloc, b"GHOSTDB")?;
+    bytes.push(1)?;
+    bytes.extend_from_slice(&1u32.to_be_bytes())?;
+    bytes.extend_from_slice(&(line.len() as u32 + 1).to_be_bytes())?;
+    bytes.extend_from_slice(line)?;
+    bytes.push(b'\n')?;
+    bytes.extend_from_slice(&(rows as u32).to_be_bytes())?;
+    Ok(bytes)
 }
 
 /// The bytes of a file that is one part of the input.
