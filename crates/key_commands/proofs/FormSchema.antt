@@ -1,28 +1,28 @@
 -- The canonical text of a form's schema means this schema.
-use Rattle.std.proofs.Common.{◌≡◌, ℕ, zero, suc, ◌+◌, ◌-◌, ◌*◌, ◌<◌, ◌≤◌, ◌^◌, Bool, true, false, not, ◌&&◌, ◌||◌, ◌==◌, cond, if◌then◌else◌, List, [], ◌∷◌, ◌++◌, length, map, filter, nat_le, nat_lt, Option, Some, None, is_none, find, Result, Ok, Err, refl, sym, ◌∙◌, ap, append_assoc, append-nil, arith, rules, codes, bytes_eq}
-use Rattle.std.specs.Prelude.{take_while, flat_map, fold, decimal}
+use Rattle.std.proofs.Common.{◌≡◌, inl, inr, ℕ, suc, ◌+◌, ◌-◌, ◌*◌, ◌<◌, ◌≤◌, ◌^◌, Bool, true, false, not, ◌||◌, cond, if◌then◌else◌, List, [], ◌∷◌, ◌++◌, length, map, nat_le, nat_lt, Option, Some, None, is_none, find, Ok, refl, sym, ◌∙◌, ap, append_assoc, append-nil, arith, rules, codes, bytes_eq}
+use Rattle.std.specs.Prelude.{fold, decimal}
 use Rattle.std.specs.List.{list_all, list_any}
-use Rattle.std.proofs.lemmas.Bool.{and_parts, and_from, not-true, or_from, leb-true, le-leb, le-ltb}
+use Rattle.std.proofs.lemmas.Bool.{and_parts, and_from, not-true, or_from, leb-true, le-ltb}
 use Rattle.std.proofs.lemmas.Bool.Decides.{nat_tests}
 use Rattle.std.proofs.lemmas.Str.Parse.{IsNumeralModel, numerals_by_fold}
 use Rattle.std.proofs.lemmas.Fmt.{digits_decimal, digits_value-decimal}
+use Rattle.std.proofs.lemmas.List.{append_cancel_right}
 use Rattle.std.proofs.lemmas.Slice.Eq.{bytes_eq-Decides}
-use Rattle.std.specs.Prelude.{option_map, option_and_then, sum_by, count_by, slice_get, take}
+use Rattle.std.specs.Prelude.{option_map}
 use Rattle.ghost_model.specs.Schema.{Schema, places_from}
 use Rattle.ghost_model.specs.Query.{Field}
 use Rattle.ghost_model.specs.Tokens.{Keyword, Symbol, Word, Reserved, Name, Digits, Open, Closing, Comma, Semicolon, End, Char, Create, Hidden, Integer, Key, Primary, Table, Read, read, symbol_of, symbols, tokens_from, token_at, word_at, digits_at, symbol_of_word, keyword_of, keyword_or, other_reserved, in_lower_case, begins_name, is_space, is_digit, is_name_byte, is_between}
-use Rattle.ghost_model.specs.Spelled.{begins_as_name, is_reserved, is_name}
-use Rattle.ghost_model.specs.SchemaGrammar.{ColumnText, CharColumn, IntegerColumn, TableText, SchemaText, spelling}
+use Rattle.ghost_model.specs.Spelled.{is_reserved, is_name}
+use Rattle.ghost_model.specs.SchemaGrammar.{CharColumn, IntegerColumn, SchemaText, spelling}
 use Rattle.ghost_model.specs.SchemaPlaces.{syntax_of}
 use Rattle.ghost_model.specs.SchemaMeaning.{value_of_digits, schema_of}
-use Rattle.ghost_model.specs.SchemaFaults.{SchemaFault, Limit, DuplicateName, NoId, TwoParents, Cycle, schema_or, is_over, duplicate_in, lacks_id, unknown_in, is_duplicate, is_unknown, is_shared, returns, ancestor, fields_from, fields, places_of, roots_of, wrong_roots, or_else, fault_of, judged, schema_reading, MeansSchema}
+use Rattle.ghost_model.specs.SchemaFaults.{Limit, DuplicateName, NoId, TwoParents, Cycle, schema_or, is_over, duplicate_in, lacks_id, unknown_in, is_duplicate, is_shared, returns, ancestor, fields_from, places_of, roots_of, wrong_roots, or_else, schema_fault, judged, schema_reading, MeansSchema}
 use Rattle.ghost_model.specs.Catalog.{canonical_text}
 use Rattle.ghost_model.proofs.TokenLemmas.{kinds_anywhere, kinds_after, take_while_all, one_token}
 use Rattle.ghost_model.proofs.SchemaLemmas.{schema_places}
 use Rattle.ghost_model.proofs.SchemaRuleLemmas.{one_schema}
-use Rattle.key_commands.specs.Form.{Form, id_name, is_form, form_schema}
+use Rattle.key_commands.specs.Form.{Form, id_name, is_form, form_schema, IsLine, SpellsForm}
 use Rattle.key_commands.proofs.FormText.{Proper, proper}
-
 
 numerals : IsNumeralModel (λ ds. list_all is_digit ds ≡ true) value_of_digits
 numerals = numerals_by_fold _ (search rules) (λ n digits. fold (λ value digit. value * 10 + (digit - 48)) n digits) (search rules)
@@ -103,26 +103,36 @@ comma_reads : (rest : List ℕ) → symbols (codes "), " ++ rest) ≡ Closing �
 unfolding tokens_from
 comma_reads rest = ap (λ (xs : List Symbol). Closing ∷ Comma ∷ xs) (kinds_anywhere 0 3 0 rest)
 
-end_reads : symbols (codes ") HIDDEN);" ++ 10 ∷ []) ≡ Closing ∷ Word Hidden ∷ Closing ∷ Semicolon ∷ End ∷ []
+-- the end of a line, or of a text that lacks it
+data IsLineEnd : List ℕ → Type 0 where
+  line_feed : IsLineEnd (10 ∷ [])
+  nothing : IsLineEnd []
+
+end_reads : (end : List ℕ) → IsLineEnd end → symbols (codes ") HIDDEN);" ++ end) ≡ Closing ∷ Word Hidden ∷ Closing ∷ Semicolon ∷ End ∷ []
 unfolding tokens_from
-end_reads = refl
+end_reads end line_feed = refl
+end_reads end nothing = refl
 
 -- the text and its tree
 
-abbrev form_line : Form → List ℕ
-form_line form =
+abbrev form_line : Form → (end : List ℕ) → List ℕ
+form_line form end =
     codes "CREATE TABLE " ++ (form.table ++ (codes " (id INTEGER PRIMARY KEY, " ++ (form.shown ++ (codes " CHAR("
-    ++ (decimal form.shown_most ++ (codes "), " ++ (form.secret ++ (codes " CHAR(" ++ (decimal form.secret_most ++ (codes ") HIDDEN);" ++ 10 ∷ []))))))))))
+    ++ (decimal form.shown_most ++ (codes "), " ++ (form.secret ++ (codes " CHAR(" ++ (decimal form.secret_most ++ (codes ") HIDDEN);" ++ end))))))))))
 
-one_line : (form : Form) → canonical_text (form_schema form) ≡ form_line form
+one_line : (form : Form) → canonical_text (form_schema form) ≡ form_line form (10 ∷ [])
 one_line form = simp (append_assoc, append-nil)
+
+cut_line : (form : Form) → form_line form [] ++ 10 ∷ [] ≡ form_line form (10 ∷ [])
+cut_line form = simp append_assoc
 
 abbrev form_tables : Form → SchemaText
 form_tables form =
     record {
       name = form.table;
       first = IntegerColumn id_name true None false;
-      others = CharColumn form.shown (decimal form.shown_most) false ∷ CharColumn form.secret (decimal form.secret_most) true ∷ [] }
+      others = CharColumn form.shown (decimal form.shown_most) false ∷ CharColumn form.secret (decimal form.secret_most) true ∷ [];
+    }
     ∷ []
 
 -- a length is a number of 64 bits and not 0
@@ -132,9 +142,9 @@ few n e = let h = leb-true n 64 e in omega arith
 some_digits : (n : ℕ) → nat_le 1 n ≡ true → nat_le n 64 ≡ true → 1 ≤ value_of_digits (decimal n)
 some_digits n least greatest = let h = leb-true 1 n least in let same = value_right n (few n greatest) in omega arith
 
-line_spelled : (form : Form) → Proper form → symbols (form_line form) ≡ spelling (form_tables form)
-line_spelled form p =
-    let last = codes ") HIDDEN);" ++ 10 ∷ [] in
+line_spelled : (form : Form) (end : List ℕ) → IsLineEnd end → Proper form → symbols (form_line form end) ≡ spelling (form_tables form)
+line_spelled form end ends p =
+    let last = codes ") HIDDEN);" ++ end in
     let hidden = decimal form.secret_most ++ last in
     let secret = form.secret ++ (codes " CHAR(" ++ hidden) in
     let visible = decimal form.shown_most ++ (codes "), " ++ secret) in
@@ -157,8 +167,8 @@ line_spelled form p =
     ∙ ap (λ (xs : List Symbol). Name form.secret ∷ xs)
     (char_reads hidden
     ∙ ap (λ (xs : List Symbol). Word Char ∷ Open ∷ xs)
-    (digits_then (decimal form.secret_most) 41 (codes " HIDDEN);" ++ 10 ∷ []) (digits_right form.secret_most (few _ p.secret_greatest)) (some_digits _ p.secret_least p.secret_greatest) refl
-    ∙ ap (λ (xs : List Symbol). Digits (decimal form.secret_most) ∷ xs) end_reads)))))))))
+    (digits_then (decimal form.secret_most) 41 (codes " HIDDEN);" ++ end) (digits_right form.secret_most (few _ p.secret_greatest)) (some_digits _ p.secret_least p.secret_greatest) refl
+    ∙ ap (λ (xs : List Symbol). Digits (decimal form.secret_most) ∷ xs) (end_reads end ends))))))))))
 
 tables_mean : (form : Form) → Proper form → schema_of (form_tables form) ≡ form_schema form
 tables_mean form p =
@@ -223,18 +233,32 @@ one_root form = refl
 none_both : {X : Type 0} (a b : Option X) → a ≡ None → b ≡ None → or_else a b ≡ None
 none_both {X = X} a b e f = ap (λ (x : Option X). or_else x b) e ∙ f
 
-fault_free : (form : Form) → Proper form → fault_of (form_tables form) ≡ None
+fault_free : (form : Form) → Proper form → schema_fault (form_tables form) ≡ None
 fault_free form p =
     none_both _ _ (ap (λ v. if v then Some Limit else None) (not_over form p))
     (none_both _ _ (no_duplicate form p)
     (none_both _ _ (has_id form) (none_both _ _ (none_unknown form) (none_both _ _ (none_shared form) (none_both _ _ (no_cycle form) (one_root form))))))
 
-pub canonical_text_means_it : (form : Form) → is_form form ≡ true → MeansSchema (canonical_text (form_schema form)) (form_schema form)
-canonical_text_means_it form e =
-    let p = proper form e in
-    let text = canonical_text (form_schema form) in
-    let spells : symbols text ≡ spelling (form_tables form) = ap symbols (one_line form) ∙ line_spelled form p in
+means_by : (form : Form) (text : List ℕ) → Proper form → symbols text ≡ spelling (form_tables form) → MeansSchema text (form_schema form)
+means_by form text p spells =
     let tree : syntax_of text ≡ Ok (form_tables form) = (schema_places.tree text (form_tables form)).1 spells in
     let told : schema_reading text ≡ Ok (form_schema form) =
     ap judged tree ∙ (ap (schema_or (schema_of (form_tables form))) (fault_free form p) ∙ ap (λ (schema : Schema). Ok schema) (tables_mean form p)) in
     (one_schema.read text (form_schema form)).0 told
+
+pub canonical_text_means_it : (form : Form) → is_form form ≡ true → MeansSchema (canonical_text (form_schema form)) (form_schema form)
+canonical_text_means_it form e =
+    let p = proper form e in
+    means_by form (canonical_text (form_schema form)) p (ap symbols (one_line form) ∙ line_spelled form (10 ∷ []) line_feed p)
+
+of_line : (form : Form) (text : List ℕ) → is_form form ≡ true → IsLine (canonical_text (form_schema form)) text → MeansSchema text (form_schema form)
+of_line form text e (inl same) =
+    let p = proper form e in
+    means_by form text p (ap symbols (same ∙ one_line form) ∙ line_spelled form (10 ∷ []) line_feed p)
+of_line form text e (inr lacks) =
+    let p = proper form e in
+    let same : text ≡ form_line form [] = append_cancel_right text (form_line form []) (10 ∷ []) (lacks ∙ (one_line form ∙ sym (cut_line form))) in
+    means_by form text p (ap symbols same ∙ line_spelled form [] nothing p)
+
+pub text_of_form_means_it : (form : Form) (text : List ℕ) → SpellsForm text form → MeansSchema text (form_schema form)
+text_of_form_means_it form text spells = of_line form text spells.proper spells.line

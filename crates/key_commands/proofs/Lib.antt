@@ -14,3 +14,5 @@ mod PrintedLines
 mod ReadScript
 mod Parts
 mod WholeOpening
+mod FormReplies
+mod FormFile

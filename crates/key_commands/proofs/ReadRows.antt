@@ -1,6 +1,8 @@
 -- The faults and the rows of the form's table, record by record.
 use Rattle.std.proofs.Common.{◌≡◌, ◌≤◌, ◌<◌, ◌+◌, ◌∙◌, ℕ, zero, suc, ℤ, pos, Bool, true, false, ◌&&◌, ◌==◌, List, [], ◌∷◌, ◌++◌, length, map, Option, Some, None, refl, sym, ap, ap₂, subst, arith, nat_le, bytes_eq, lit<, append_assoc, length-append}
 use Rattle.std.proofs.lemmas.List.{append-nil}
+use Rattle.std.specs.List.{list_all}
+use Rattle.std.proofs.lemmas.List.Folds.{list_all-append}
 use Rattle.std.proofs.lemmas.Bool.Decides.{nat_tests, Decides-int_eq}
 use Rattle.std.specs.Prelude.{unwrap_or}
 use Rattle.csv.specs.Records.{field_at}
@@ -193,6 +195,10 @@ rows_more number (s ∷ shown) (h ∷ secret) a b many =
     let e : (number + 1) + length shown ≡ number + suc (length shown) = omega arith in
     ap (λ later. row_with number s h ∷ later) (rows_more (number + 1) shown secret a b (omega arith) ∙ ap (λ n. rows_from (number + 1) shown secret ++ row_with n a b ∷ []) e)
 
+-- one more that passes a test
+held_more : {X : Type 0} (test : X → Bool) (xs : List X) (x : X) → list_all test xs ≡ true → test x ≡ true → list_all test (xs ++ x ∷ []) ≡ true
+held_more test xs x all one = list_all-append test xs (x ∷ []) ∙ rw (all, one) refl
+
 -- the records before `left` are so many rows with these texts, and break no rule
 pub record IsReadSoFar (form : Form) (file : List ℕ) (count : ℕ) (shown secret : TextList) (left : List (List (List ℕ))) : Type 0 where
   pub few : count ≤ most_rows
@@ -202,6 +208,8 @@ pub record IsReadSoFar (form : Form) (file : List ℕ) (count : ℕ) (shown secr
   pub secret_many : length secret.texts ≡ count
   pub shown_width : shown.width ≡ form.shown_most
   pub secret_width : secret.width ≡ form.secret_most
+  pub shown_held : list_all (is_text form.shown_most) shown.texts ≡ true
+  pub secret_held : list_all (is_text form.secret_most) secret.texts ≡ true
 
 -- the file is too long, has no header, or another one
 pub too_long : (form : Form) (file : List ℕ) → most_bytes < length file → load_faults (form_schema form) (file ∷ []) ≡ [] → ⊥
@@ -235,6 +243,8 @@ begin form file fields left short is right =
       secret_many = refl;
       shown_width = refl;
       secret_width = refl;
+      shown_held = refl;
+      secret_held = refl;
     }
 
 -- after the last record
@@ -272,4 +282,6 @@ row_read form file count shown secret shown_after secret_after left later fields
       secret_many = length-append secret.texts (b ∷ []) ∙ ap (λ n. n + 1) so_far.secret_many;
       shown_width = so_far.shown_width;
       secret_width = so_far.secret_width;
+      shown_held = held_more (is_text form.shown_most) shown.texts a so_far.shown_held row.shown_held;
+      secret_held = held_more (is_text form.secret_most) secret.texts b so_far.secret_held row.secret_held;
     })

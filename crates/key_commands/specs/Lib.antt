@@ -11,3 +11,4 @@ pub mod Statuses
 pub mod Local
 pub mod Printing
 pub mod Opening
+pub mod FormFile

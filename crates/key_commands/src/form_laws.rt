@@ -1,6 +1,7 @@
 //! Laws of the one form of input: what the definitions give for it.
 
-ghost use Rattle.key_commands.specs.FormMeaning.{OneText, OneMeaning, OneAsk, OneAnswer, PrintedLines, IdentifiersReplied, TextsOfRows, CanonicalText};
+ghost use Rattle.key_commands.specs.FormMeaning.{OneText, OneMeaning, OneAsk, OneAnswer, PrintedLines, IdentifiersReplied, TextsOfRows, SchemaOfForm, RepliesOfForm, MatchesOfForm, FittingRows};
+ghost use Rattle.key_commands.specs.FormFile.{AnswersOfFile};
 
 /// A script of the form has one text, that of its query.
 pub fn one_text()
@@ -37,7 +38,27 @@ pub fn texts_of_rows()
     ensures { TextsOfRows }
 {}
 
-/// The canonical text of a form's schema means this schema.
-pub fn canonical_text_means_it()
-    ensures { CanonicalText }
+/// A text of the form means the form's schema.
+pub fn schema_of_form()
+    ensures { SchemaOfForm }
+{}
+
+/// The reply has a row for each match, in 4 bytes, and such bytes are read as these rows.
+pub fn replies_of_form()
+    ensures { RepliesOfForm }
+{}
+
+/// The matches are identifiers of rows, ascending.
+pub fn matches_of_form()
+    ensures { MatchesOfForm }
+{}
+
+/// The lines and the reply over the database that a table's file spells.
+pub fn answers_of_file()
+    ensures { AnswersOfFile }
+{}
+
+/// Which rows may come in the reply, and that they are rows.
+pub fn fitting_rows()
+    ensures { FittingRows }
 {}

@@ -3,6 +3,7 @@
 
 pub mod fields;
 pub mod form;
+mod form_laws;
 pub mod naming;
 pub mod opening;
 pub mod pieces;
@@ -11,6 +12,7 @@ pub mod records;
 pub mod rows;
 pub mod status;
 pub mod script;
+#[cfg(test)]
+mod tests;
 pub mod texts;
 pub mod words;
-mod form_laws;
