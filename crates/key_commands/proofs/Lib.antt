@@ -1,1 +1,9 @@
 mod Journals
+mod Numerals
+mod ReadRecords
+mod KeptTexts
+mod ReadRows
+mod FormNames
+mod OneReading
+mod ReadForm
+mod ReadScript

@@ -1,3 +1,10 @@
 pub mod Form
 pub mod FormMeaning
 pub mod Journaling
+pub mod Words
+pub mod Numbers
+pub mod Records
+pub mod Texts
+pub mod Rows
+pub mod Pieces
+pub mod Views

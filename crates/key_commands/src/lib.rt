@@ -2,3 +2,12 @@
 #![tactic(auto)]
 
 mod journal;
+pub mod fields;
+pub mod form;
+pub mod naming;
+pub mod pieces;
+pub mod records;
+pub mod rows;
+pub mod script;
+pub mod texts;
+pub mod words;
