@@ -1,10 +1,10 @@
-mod TokenLemmas
+pub mod TokenLemmas
 mod TextLemmas
 mod GrammarLemmas
-mod SchemaLemmas
-mod SchemaRuleLemmas
+pub mod SchemaLemmas
+pub mod SchemaRuleLemmas
 mod SchemaTreeLemmas
 mod QueryLemmas
-mod QueryReadingLemmas
+pub mod QueryReadingLemmas
 mod ChannelLemmas
 mod MeaningLemmas

@@ -7,3 +7,9 @@ mod FormNames
 mod OneReading
 mod ReadForm
 mod ReadScript
+mod FormText
+mod FormLemmas
+mod FormAnswers
+mod FormRows
+mod FormSchema
+mod FormReplies

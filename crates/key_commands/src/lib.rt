@@ -11,3 +11,4 @@ pub mod rows;
 pub mod script;
 pub mod texts;
 pub mod words;
+mod form_laws;
