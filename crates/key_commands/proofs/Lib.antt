@@ -1,4 +1,5 @@
 mod Journals
+mod Gathering
 mod Numerals
 mod ReadRecords
 mod KeptTexts

@@ -1,6 +1,7 @@
 pub mod Form
 pub mod FormMeaning
 pub mod Journaling
+pub mod Hosting
 pub mod Words
 pub mod Numbers
 pub mod Records

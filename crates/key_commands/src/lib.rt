@@ -1,6 +1,7 @@
 //! The commands of the key: what the program does with its words, its files, its flash and its link.
 #![tactic(auto)]
 
+mod host_end;
 mod journal;
 pub mod fields;
 pub mod form;
