@@ -20,6 +20,7 @@ pub record Gathered (column : TextList) (cell : List ℕ) (start place : ℕ) (b
   pub joined : matching_from column cell start ≡ found ++ matching_from column cell place
   pub from_start : start ≤ place
   pub within : place ≤ length column.texts
+  pub sparse : start + length found ≤ place
 
 if_at : (a b : Bool) (m : List ℕ) (n : List ℕ) → a ≡ b → (if a then m else n) ≡ (if b then m else n)
 if_at a b m n e = ap (λ (t : Bool). if t then m else n) e
@@ -74,6 +75,9 @@ module _ (column : TextList) (cell : List ℕ) where
         joined = so_far.joined ∙ (ap (λ (xs : List ℕ). so_far.found ++ xs) (one_found place kept e same) ∙ sym (append_assoc so_far.found ((place + 1) ∷ []) (matching_from column cell (place + 1))));
         from_start = omega (arith, so_far.from_start);
         within = omega (arith, inside);
+        sparse =
+            let more : length (so_far.found ++ (place + 1) ∷ []) ≡ length so_far.found + 1 = length-append so_far.found ((place + 1) ∷ []) in
+            omega (arith, more, so_far.sparse);
       }
 
   pub passed_more :
@@ -88,6 +92,7 @@ module _ (column : TextList) (cell : List ℕ) where
     joined = so_far.joined ∙ ap (λ (xs : List ℕ). so_far.found ++ xs) (one_passed place kept e same);
     from_start = omega (arith, so_far.from_start);
     within = omega (arith, inside);
+    sparse = omega (arith, so_far.sparse);
   }
 
   -- what was gathered when a frame is full, or the texts are at their end
@@ -95,12 +100,14 @@ module _ (column : TextList) (cell : List ℕ) where
     pub rows : bytes ≡ identifier_bytes (take 510 (matching_from column cell start))
     pub left : matching_from column cell place ≡ drop 510 (matching_from column cell start)
     pub count : length bytes ≡ 4 * length (take 510 (matching_from column cell start))
+    pub sparse : start + length (take 510 (matching_from column cell start)) ≤ place
 
   taken : (start place : ℕ) (bytes : List ℕ) → (so_far : Gathered column cell start place bytes) → take 510 (matching_from column cell start) ≡ so_far.found → drop 510 (matching_from column cell start) ≡ matching_from column cell place → Taken start place bytes
   taken start place bytes so_far front back = record {
     rows = so_far.spelled ∙ ap identifier_bytes (sym front);
     left = sym back;
     count = so_far.size ∙ ap (λ (xs : List ℕ). 4 * length xs) (sym front);
+    sparse = let long : length (take 510 (matching_from column cell start)) ≡ length so_far.found = ap length front in omega (arith, long, so_far.sparse);
   }
 
   pub full : (start place : ℕ) (bytes : List ℕ) → Gathered column cell start place bytes → 2040 ≤ length bytes → Taken start place bytes

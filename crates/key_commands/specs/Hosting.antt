@@ -51,12 +51,14 @@ IsAt column cell (Replying serial place sent) stand =
     stand ≡ host.Replying serial (reply_left serial sent (map bare_row (matching_from column cell place)))
 IsAt column cell Over stand = stand ≡ host.Over
 
--- a frame other than an ask, or an ask of the one kind, with a cell of this width
-pub record IsColumnAsk (width : ℕ) (payload : List ℕ) : Type 0 where
+-- an ask of the one kind, with a cell of this width, whose serial is not the last one
+pub record IsColumnAsk (width serial : ℕ) (payload : List ℕ) : Type 0 where
+  pub serial_fits : serial < 2 ^ 32 - 1
   pub cell : List ℕ
   pub wide : length cell ≡ width
   pub spelled : payload ≡ column_payload cell
 
+-- a frame of the key that is no ask, or an ask of the one kind
 abbrev pub CanCome : (width : ℕ) → Frame → Type 0
-CanCome width (Asking _ payload) = IsColumnAsk width payload
+CanCome width (Asking serial payload) = IsColumnAsk width serial payload
 CanCome width _ = Unit {0}

@@ -10,6 +10,7 @@ pub mod pieces;
 pub mod records;
 pub mod rows;
 pub mod script;
+mod speech;
 pub mod texts;
 pub mod words;
 mod form_laws;

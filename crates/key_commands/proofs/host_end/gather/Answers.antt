@@ -29,3 +29,9 @@ returns-after-texts-clause-left c = (at_end c.args.column.now c.args.cell.now c.
 
 pub returns-after-texts-clause-count : goal.returns-after-texts-clause-count
 returns-after-texts-clause-count c = (at_end c.args.column.now c.args.cell.now c.args.place c.texts.at c.texts.rows.items c.texts.invariant (search rules)).count
+
+pub returns-else-len-lt2040-clause-sparse : goal.returns-else-len-lt2040-clause-sparse
+returns-else-len-lt2040-clause-sparse c = (full c.args.column.now c.args.cell.now c.args.place c.texts.at c.texts.rows.items c.texts.invariant (search rules)).sparse
+
+pub returns-after-texts-clause-sparse : goal.returns-after-texts-clause-sparse
+returns-after-texts-clause-sparse c = (at_end c.args.column.now c.args.cell.now c.args.place c.texts.at c.texts.rows.items c.texts.invariant (search rules)).sparse
