@@ -1,13 +1,4 @@
 pub mod TokenLemmas
-mod TextLemmas
-mod GrammarLemmas
-pub mod SchemaLemmas
-pub mod SchemaRuleLemmas
-mod SchemaTreeLemmas
-mod QueryLemmas
-pub mod QueryReadingLemmas
-mod ChannelLemmas
-mod MeaningLemmas
 pub mod TextLemmas
 pub mod GrammarLemmas
 pub mod SchemaLemmas
