@@ -1,8 +1,8 @@
 -- What the query of the form asks, answers and prints.
-use Rattle.std.proofs.Common.{◌≡◌, ℕ, ◌+◌, ◌-◌, Bool, true, false, not, ◌&&◌, ◌||◌, ◌==◌, cond, if◌then◌else◌, nat_le, List, [], ◌∷◌, ◌++◌, length, map, filter, Option, Some, None, Result, Ok, Err, refl, sym, ◌∙◌, ap, append-nil, append_assoc, length-append, arith, codes, bytes_eq, slice_get, take, drop, ◌≤◌, eq-eqb, is_some}
+use Rattle.std.proofs.Common.{◌≡◌, ℕ, ◌+◌, ◌-◌, Bool, true, false, ◌&&◌, cond, if◌then◌else◌, nat_le, List, [], ◌∷◌, ◌++◌, length, map, filter, Option, Some, None, Result, refl, sym, ◌∙◌, ap, append-nil, append_assoc, length-append, arith, bytes_eq, slice_get, take, drop, ◌≤◌, eq-eqb}
 use Rattle.std.specs.Prelude.{flat_map, filter_map, option_to_list, replicate}
 use Rattle.std.specs.List.{list_all, concat}
-use Rattle.std.proofs.lemmas.Bool.{and_parts, and_from, not-true, leb-true, le-leb}
+use Rattle.std.proofs.lemmas.Bool.{and_parts, and_from, leb-true}
 use Rattle.std.proofs.lemmas.List.{length-replicate}
 use Rattle.std.proofs.Math.Bool.{and-true}
 use Rattle.std.proofs.Math.Seq.{take-length}
@@ -10,20 +10,19 @@ use Rattle.std.proofs.lemmas.Slice.Eq.{bytes_eq-Decides}
 use Rattle.ghost_model.specs.Schema.{Chars, places_from}
 use Rattle.ghost_model.specs.Tokens.{is_printable}
 use Rattle.ghost_base.proofs.TextCells.{padded_is_text_cell, text_of_padded}
-use Rattle.ghost_model.specs.Values.{Value, Number, Text, Row, Rows}
+use Rattle.ghost_model.specs.Values.{Value, Text, Row, Rows}
 use Rattle.ghost_model.specs.Query as query
 use Rattle.ghost_model.specs.Query.{Query}
-use Rattle.ghost_model.specs.Cells.{padded, encode_cell, decode_cell, text_in, is_text_cell}
+use Rattle.ghost_model.specs.Cells.{padded, decode_cell, text_in}
 use Rattle.ghost_model.specs.Channel.{Ask}
 use Rattle.ghost_model.specs.QueryMeaning.{Refusal}
-use Rattle.ghost_model.specs.QueryReading.{reading}
-use Rattle.ghost_model.specs.Asks.{Asked, asked_of, asked, asked_from, asks_of, ask_payload, row_width, kinds_of, is_proper_ask, ask_like, ask_in, tests_in, value_or_none}
-use Rattle.ghost_model.specs.Meaning.{Combination, choice, combinations, value_in, passes, projection, answer, answer_of_row, compares}
+use Rattle.ghost_model.specs.Asks.{asked_of, asked, asked_from, asks_of, ask_payload, is_proper_ask, ask_like, ask_in, tests_in, value_or_none}
+use Rattle.ghost_model.specs.Meaning.{choice, combinations, projection, answer, answer_of_row}
 use Rattle.ghost_model.specs.Printed.{printed, row_line, count_line, lines_of_reading}
-use Rattle.ghost_model.specs.Split.{Replied, Public, public_of, visible_rows, replies_from, visible_values, meets_tests}
+use Rattle.ghost_model.specs.Split.{Replied, public_of, visible_rows, replies_from, visible_values, meets_tests}
 use Rattle.key_commands.specs.Form.{Form, form_schema, is_form, is_plain, is_wanted, query_text, form_query}
-use Rattle.key_commands.specs.FormMeaning.{form_ask, form_payload, OneAsk, is_match, secret_of, answer_rows, bare_reply}
-use Rattle.key_commands.proofs.FormText.{Proper, proper, plain_printable}
+use Rattle.key_commands.specs.FormMeaning.{form_ask, form_payload, is_match, secret_of, answer_rows, bare_reply}
+use Rattle.key_commands.proofs.FormText.{plain_printable}
 use Rattle.key_commands.proofs.FormLemmas.{one_meaning}
 
 asks_of_form : (form : Form) (wanted : List ℕ) → asks_of (form_schema form) (form_query wanted) ≡ form_ask wanted ∷ []
@@ -52,7 +51,7 @@ text_is_cell most text short printable =
 pub form_ask_is_proper : (form : Form) (wanted : List ℕ) → is_wanted form wanted ≡ true → is_proper_ask (form_schema form) (form_ask wanted) ≡ true
 form_ask_is_proper form wanted w =
     let both = and_parts (nat_le (length wanted) form.shown_most) (list_all is_plain wanted) w in
-    ap (λ o. is_some o && true) (text_is_cell form.shown_most wanted (leb-true _ _ both.0) (plain_printable wanted both.1))
+    and_from _ _ (and_from _ _ both.0 (plain_printable wanted both.1)) refl
 
 -- its bytes are read as this ask
 as_read : (form : Form) (wanted : List ℕ) → is_wanted form wanted ≡ true → ask_like (form_schema form) (form_payload form wanted) ≡ form_ask wanted

@@ -1,19 +1,18 @@
 -- What the query of the form means, and what it asks.
-use Rattle.std.proofs.Common.{◌≡◌, ℕ, ◌+◌, ◌≤◌, Bool, true, false, not, ◌&&◌, ◌||◌, if◌then◌else◌, nat_le, nat_lt, List, [], ◌∷◌, ◌++◌, length, map, filter, Option, Some, None, is_none, Result, Ok, Err, refl, sym, ◌∙◌, ap, append-nil, length-append, arith, codes, bytes_eq}
-use Rattle.std.specs.Prelude.{filter_map, flat_map, option_map, option_to_list}
+use Rattle.std.proofs.Common.{◌≡◌, ℕ, ◌≤◌, Bool, true, false, ◌||◌, if◌then◌else◌, nat_le, nat_lt, List, [], ◌∷◌, ◌++◌, length, map, Option, Some, is_none, Ok, refl, sym, ◌∙◌, ap, length-append, arith, bytes_eq}
+use Rattle.std.specs.Prelude.{filter_map, option_map, option_to_list}
 use Rattle.std.specs.List.{list_all, list_any}
-use Rattle.std.proofs.lemmas.Bool.{and_parts, and_from, not-true, or_from, le-ltb, leb-true}
+use Rattle.std.proofs.lemmas.Bool.{and_parts, or_from, le-ltb, leb-true}
 use Rattle.std.proofs.lemmas.Slice.Eq.{bytes_eq-Decides}
-use Rattle.ghost_model.specs.Schema.{Schema, Column, Kind, Chars, places_from, is_empty, first_of}
-use Rattle.ghost_model.specs.Values.{Value, Text}
+use Rattle.ghost_model.specs.Schema.{places_from, is_empty, first_of}
+use Rattle.ghost_model.specs.Values.{Text}
 use Rattle.ghost_model.specs.Query as query
 use Rattle.ghost_model.specs.Query.{Query, Field, Condition}
-use Rattle.ghost_model.specs.Tokens.{symbols}
-use Rattle.ghost_model.specs.QueryGrammar.{ColumnText, Bare, Written, Compares, Columns, QueryText, spelling}
-use Rattle.ghost_model.specs.QueryMeaning.{Refusal, Syntax, Limit, UnknownTable, UnknownColumn, Ambiguous, KindMismatch, BadLiteral, NotLinked, field, table_named, column_named, from_tables, meanings, resolved, is_over_limit, has_unknown_table, has_unknown_column, is_ambiguous, has_kind_mismatch, has_bad_literal, is_unlinked, has_repeat, literal_fails, is_other_kind, is_too_large, breaks, Means}
+use Rattle.ghost_model.specs.QueryGrammar.{Bare, Written, Compares, Columns, QueryText}
+use Rattle.ghost_model.specs.QueryMeaning.{Refusal, Syntax, Limit, UnknownTable, UnknownColumn, Ambiguous, KindMismatch, BadLiteral, NotLinked, field, table_named, column_named, from_tables, meanings, resolved, is_over_limit, has_unknown_table, has_unknown_column, is_ambiguous, has_kind_mismatch, has_bad_literal, is_unlinked, has_repeat, literal_fails, is_other_kind, is_too_large, breaks}
 use Rattle.ghost_model.specs.QueryReading.{reading}
 use Rattle.ghost_model.proofs.QueryReadingLemmas.{reading_of_means}
-use Rattle.key_commands.specs.Form.{Form, id_name, form_columns, form_schema, is_form, is_plain, is_wanted, query_text, form_query}
+use Rattle.key_commands.specs.Form.{Form, id_name, form_schema, is_form, is_plain, is_wanted, query_text, form_query}
 use Rattle.key_commands.proofs.FormText.{Proper, proper, query_spelled}
 
 bytes_same : (xs : List ℕ) → bytes_eq xs xs ≡ true
@@ -35,7 +34,8 @@ form_tree form wanted = record {
   selection = Columns (Bare form.secret) [];
   table = form.table;
   more_tables = [];
-  conditions = Compares (Bare form.shown) query.Equal (Written wanted) ∷ [] }
+  conditions = Compares (Bare form.shown) query.Equal (Written wanted) ∷ [];
+}
 
 -- names
 
@@ -81,15 +81,18 @@ resolved_form form wanted p =
     ap (λ (from : List ℕ). let q : Query = record {
       from = from;
       select = meanings schema from (Bare form.secret) ++ [];
-      conditions = map (λ (meant : Field). query.Compare meant query.Equal (Text wanted)) (meanings schema from (Bare form.shown)) ++ [] } in q) (from_one form wanted)
+      conditions = map (λ (meant : Field). query.Compare meant query.Equal (Text wanted)) (meanings schema from (Bare form.shown)) ++ [];
+    } in q) (from_one form wanted)
     ∙ (ap (λ (select : List Field). let q : Query = record {
       from = 0 ∷ [];
       select = select ++ [];
-      conditions = map (λ (meant : Field). query.Compare meant query.Equal (Text wanted)) (meanings schema (0 ∷ []) (Bare form.shown)) ++ [] } in q) (meant_secret form p)
+      conditions = map (λ (meant : Field). query.Compare meant query.Equal (Text wanted)) (meanings schema (0 ∷ []) (Bare form.shown)) ++ [];
+    } in q) (meant_secret form p)
     ∙ ap (λ (meant : List Field). let q : Query = record {
       from = 0 ∷ [];
       select = field 0 2 ∷ [];
-      conditions = map (λ (meant : Field). query.Compare meant query.Equal (Text wanted)) meant ++ [] } in q) (meant_shown form p))
+      conditions = map (λ (meant : Field). query.Compare meant query.Equal (Text wanted)) meant ++ [];
+    } in q) (meant_shown form p))
 
 short_name : (name : List ℕ) → nat_le (length name) 32 ≡ true → nat_lt 32 (length name) ≡ false
 short_name name e = le-ltb 32 (length name) (leb-true (length name) 32 e)
@@ -165,4 +168,5 @@ one_meaning form wanted e w =
       tree = form_tree form wanted;
       spells = query_spelled form wanted e w;
       keeps = keeps_all form wanted p most few;
-      means = sym (resolved_form form wanted p) })
+      means = sym (resolved_form form wanted p);
+    })

@@ -1,5 +1,5 @@
 -- What the names of a form are.
-use Rattle.std.proofs.Common.{◌≡◌, ℕ, Bool, true, List, bytes_eq}
+use Rattle.std.proofs.Common.{◌≡◌, ℕ, true, List}
 use Rattle.std.specs.Cmp.{first_so, second_so}
 use Rattle.std.proofs.lemmas.Slice.Eq.{bytes_eq-Decides}
 use Rattle.ghost_model.specs.Tokens.{in_lower_case}
@@ -24,7 +24,8 @@ parts form h =
       shown = second_so _ _ (first_so _ _ names);
       secret = second_so _ _ names;
       shown_most = second_so _ _ four;
-      secret_most = second_so _ _ five }
+      secret_most = second_so _ _ five;
+    }
 
 lower : (name : List ℕ) → is_short_name name ≡ true → in_lower_case name ≡ name
 unfolding is_name

@@ -1,16 +1,17 @@
 -- The reply to the form's ask, in bytes.
-use Rattle.std.proofs.Common.{◌≡◌, ℕ, zero, suc, ◌+◌, ◌-◌, ◌*◌, ◌/◌, ◌^◌, ◌<◌, ◌≤◌, Bool, true, false, ◌&&◌, if◌then◌else◌, nat_le, nat_lt, List, [], ◌∷◌, ◌++◌, length, map, take, drop, refl, sym, ◌∙◌, ap, append-nil, arith, bytes_eq}
+use Rattle.std.proofs.Common.{◌≡◌, ℕ, ◌+◌, ◌*◌, ◌/◌, ◌^◌, ◌<◌, ◌≤◌, Bool, true, false, if◌then◌else◌, nat_le, nat_lt, List, [], ◌∷◌, ◌++◌, length, map, refl, ◌∙◌, ap, arith, bytes_eq}
 use Rattle.std.specs.Prelude.{flat_map}
 use Rattle.std.specs.List.{list_all}
-use Rattle.std.specs.Int.{to_be_bytes, from_be_bytes, w32}
-use Rattle.std.proofs.lemmas.Bool.{and_parts, and_from, ltb-true, lt-ltb, le-leb, leb-true}
+use Rattle.std.specs.Int.{to_be_bytes, w32}
+use Rattle.std.proofs.lemmas.Bool.{and_parts, and_from, ltb-true, lt-ltb, le-leb}
 use Rattle.std.proofs.lemmas.Nat.{from_be_bytes-to_be_bytes_4}
-use Rattle.ghost_model.specs.Schema.{places_from}
+use Rattle.ghost_model.specs.Schema.{Kind, places_from}
+use Rattle.ghost_model.specs.NextMove.{rows_fit, are_cells}
 use Rattle.ghost_model.specs.Values.{Rows}
-use Rattle.ghost_model.specs.Asks.{ReplyRow, row_bytes, row_in, rows_from, rows_in, ascend_from}
-use Rattle.ghost_model.specs.Split.{Replied, public_of, reply_row, reply_rows}
+use Rattle.ghost_model.specs.Asks.{ReplyRow, row_bytes, rows_from, rows_in, ascend_from}
+use Rattle.ghost_model.specs.Split.{public_of, reply_row, reply_rows}
 use Rattle.key_commands.specs.Form.{Form, form_schema}
-use Rattle.key_commands.specs.FormMeaning.{form_ask, bare_reply, HaveTexts, matches, bare_row, identifier_bytes, fits_identifier}
+use Rattle.key_commands.specs.FormMeaning.{form_ask, bare_reply, HaveTexts, matches, bare_row, identifier_bytes, fits_identifier, is_row_of}
 use Rattle.key_commands.proofs.FormRows.{replied_texts}
 
 bare_rows : (form : Form) (wanted identifiers : List ℕ) → map (reply_row (form_schema form) (form_ask wanted)) (map bare_reply identifiers) ≡ map bare_row identifiers
@@ -69,3 +70,26 @@ matches_ascend wanted shown = ascends (λ text. bytes_eq text wanted) 0 1 shown 
 
 pub matches_within : (wanted : List ℕ) (shown : List (List ℕ)) → list_all (λ identifier. nat_le identifier (length shown)) (matches wanted shown) ≡ true
 matches_within wanted shown = bounded (λ text. bytes_eq text wanted) (length shown) 1 shown (omega arith)
+
+-- rows that may come in a reply
+
+pub rows_without_cells_fit : (rows last : ℕ) (identifiers : List ℕ) → ascend_from last identifiers ≡ true → list_all (λ identifier. nat_le identifier rows) identifiers ≡ true
+    → rows_fit rows last [] (map bare_row identifiers) ≡ true
+unfolding rows_fit
+rows_without_cells_fit rows last [] up small = refl
+rows_without_cells_fit rows last (identifier ∷ later) up small =
+    let ups = and_parts (nat_lt last identifier) (ascend_from identifier later) up in
+    let smalls = and_parts (nat_le identifier rows) (list_all (λ one. nat_le one rows) later) small in
+    and_from _ _ (and_from _ _ (and_from _ _ ups.0 smalls.0) refl) (rows_without_cells_fit rows identifier later ups.1 smalls.1)
+
+above_none : (last identifier : ℕ) → nat_lt last identifier ≡ true → nat_lt 0 identifier ≡ true
+above_none last identifier e = let h = ltb-true last identifier e in lt-ltb 0 identifier (omega arith)
+
+pub fitting_rows_are_rows : (rows last : ℕ) (kinds : List Kind) (replied : List ReplyRow) → rows_fit rows last kinds replied ≡ true → list_all (is_row_of rows) replied ≡ true
+unfolding rows_fit
+fitting_rows_are_rows rows last kinds [] fit = refl
+fitting_rows_are_rows rows last kinds (row ∷ later) fit =
+    let all = and_parts _ (rows_fit rows row.identifier kinds later) fit in
+    let front = and_parts _ (are_cells kinds row.cells) all.0 in
+    let bounds = and_parts (nat_lt last row.identifier) (nat_le row.identifier rows) front.0 in
+    and_from _ _ (and_from _ _ (above_none last row.identifier bounds.0) bounds.1) (fitting_rows_are_rows rows row.identifier kinds later all.1)

@@ -1,5 +1,5 @@
 -- Rows of the form's table whose texts are known.
-use Rattle.std.proofs.Common.{◌≡◌, ℕ, zero, suc, ◌+◌, ◌-◌, Bool, true, false, not, ◌&&◌, ◌==◌, cond, if◌then◌else◌, List, [], ◌∷◌, ◌++◌, length, map, filter, Option, Some, None, refl, sym, ◌∙◌, ap, append-nil, append_assoc, length-append, arith, codes, bytes_eq, slice_get, unwrap_or, get_or}
+use Rattle.std.proofs.Common.{◌≡◌, ℕ, suc, ◌+◌, ◌-◌, Bool, true, false, cond, if◌then◌else◌, List, [], ◌∷◌, ◌++◌, length, map, filter, Some, refl, sym, ◌∙◌, ap, append_assoc, length-append, arith, bytes_eq, slice_get, unwrap_or, get_or}
 use Rattle.std.specs.Prelude.{flat_map, option_to_list}
 use Rattle.std.specs.Cmp.Lexicographic.{slice_cmp}
 use Rattle.std.specs.Ordering.{nat_cmp, is_eq}
@@ -10,12 +10,12 @@ use Rattle.std.proofs.lemmas.Option.{unwrap_or-slice_get}
 use Rattle.std.proofs.Math.Seq.{get_or-append_seam}
 use Rattle.std.proofs.lemmas.List.{length-map}
 use Rattle.ghost_model.specs.Schema.{places_from}
-use Rattle.ghost_model.specs.Values.{Value, Number, Text, Row, Rows}
+use Rattle.ghost_model.specs.Values.{Text, Row, Rows}
 use Rattle.ghost_model.specs.Query as query
 use Rattle.ghost_model.specs.Database.{meets}
 use Rattle.ghost_model.specs.Meaning.{compares}
 use Rattle.ghost_model.specs.Printed.{printed, row_line, count_line}
-use Rattle.ghost_model.specs.Split.{Replied, public_of, visible_rows}
+use Rattle.ghost_model.specs.Split.{public_of, visible_rows}
 use Rattle.key_commands.specs.Form.{Form, form_schema, is_form, is_wanted, query_text}
 use Rattle.key_commands.specs.FormMeaning.{form_ask, is_match, secret_of, answer_rows, bare_reply, HasTexts, HaveTexts, matches, secret_line, line_at}
 use Rattle.key_commands.proofs.FormAnswers.{printed_lines, identifiers_replied}

@@ -1,29 +1,28 @@
 -- The canonical text of a form's schema means this schema.
-use Rattle.std.proofs.Common.{◌≡◌, inl, inr, ℕ, zero, suc, ◌+◌, ◌-◌, ◌*◌, ◌<◌, ◌≤◌, ◌^◌, Bool, true, false, not, ◌&&◌, ◌||◌, ◌==◌, cond, if◌then◌else◌, List, [], ◌∷◌, ◌++◌, length, map, filter, nat_le, nat_lt, Option, Some, None, is_none, find, Result, Ok, Err, refl, sym, ◌∙◌, ap, append_assoc, append-nil, arith, rules, codes, bytes_eq}
-use Rattle.std.specs.Prelude.{take_while, flat_map, fold, decimal}
+use Rattle.std.proofs.Common.{◌≡◌, inl, inr, ℕ, suc, ◌+◌, ◌-◌, ◌*◌, ◌<◌, ◌≤◌, ◌^◌, Bool, true, false, not, ◌||◌, cond, if◌then◌else◌, List, [], ◌∷◌, ◌++◌, length, map, nat_le, nat_lt, Option, Some, None, is_none, find, Ok, refl, sym, ◌∙◌, ap, append_assoc, append-nil, arith, rules, codes, bytes_eq}
+use Rattle.std.specs.Prelude.{fold, decimal}
 use Rattle.std.specs.List.{list_all, list_any}
-use Rattle.std.proofs.lemmas.Bool.{and_parts, and_from, not-true, or_from, leb-true, le-leb, le-ltb}
+use Rattle.std.proofs.lemmas.Bool.{and_parts, and_from, not-true, or_from, leb-true, le-ltb}
 use Rattle.std.proofs.lemmas.Bool.Decides.{nat_tests}
 use Rattle.std.proofs.lemmas.Str.Parse.{IsNumeralModel, numerals_by_fold}
 use Rattle.std.proofs.lemmas.Fmt.{digits_decimal, digits_value-decimal}
 use Rattle.std.proofs.lemmas.List.{append_cancel_right}
 use Rattle.std.proofs.lemmas.Slice.Eq.{bytes_eq-Decides}
-use Rattle.std.specs.Prelude.{option_map, option_and_then, sum_by, count_by, slice_get, take}
+use Rattle.std.specs.Prelude.{option_map}
 use Rattle.ghost_model.specs.Schema.{Schema, places_from}
 use Rattle.ghost_model.specs.Query.{Field}
 use Rattle.ghost_model.specs.Tokens.{Keyword, Symbol, Word, Reserved, Name, Digits, Open, Closing, Comma, Semicolon, End, Char, Create, Hidden, Integer, Key, Primary, Table, Read, read, symbol_of, symbols, tokens_from, token_at, word_at, digits_at, symbol_of_word, keyword_of, keyword_or, other_reserved, in_lower_case, begins_name, is_space, is_digit, is_name_byte, is_between}
-use Rattle.ghost_model.specs.Spelled.{begins_as_name, is_reserved, is_name}
-use Rattle.ghost_model.specs.SchemaGrammar.{ColumnText, CharColumn, IntegerColumn, TableText, SchemaText, spelling}
+use Rattle.ghost_model.specs.Spelled.{is_reserved, is_name}
+use Rattle.ghost_model.specs.SchemaGrammar.{CharColumn, IntegerColumn, SchemaText, spelling}
 use Rattle.ghost_model.specs.SchemaPlaces.{syntax_of}
 use Rattle.ghost_model.specs.SchemaMeaning.{value_of_digits, schema_of}
-use Rattle.ghost_model.specs.SchemaFaults.{SchemaFault, Limit, DuplicateName, NoId, TwoParents, Cycle, schema_or, is_over, duplicate_in, lacks_id, unknown_in, is_duplicate, is_unknown, is_shared, returns, ancestor, fields_from, fields, places_of, roots_of, wrong_roots, or_else, fault_of, judged, schema_reading, MeansSchema}
+use Rattle.ghost_model.specs.SchemaFaults.{Limit, DuplicateName, NoId, TwoParents, Cycle, schema_or, is_over, duplicate_in, lacks_id, unknown_in, is_duplicate, is_shared, returns, ancestor, fields_from, places_of, roots_of, wrong_roots, or_else, schema_fault, judged, schema_reading, MeansSchema}
 use Rattle.ghost_model.specs.Catalog.{canonical_text}
 use Rattle.ghost_model.proofs.TokenLemmas.{kinds_anywhere, kinds_after, take_while_all, one_token}
 use Rattle.ghost_model.proofs.SchemaLemmas.{schema_places}
 use Rattle.ghost_model.proofs.SchemaRuleLemmas.{one_schema}
 use Rattle.key_commands.specs.Form.{Form, id_name, is_form, form_schema, IsLine, SpellsForm}
 use Rattle.key_commands.proofs.FormText.{Proper, proper}
-
 
 numerals : IsNumeralModel (λ ds. list_all is_digit ds ≡ true) value_of_digits
 numerals = numerals_by_fold _ (search rules) (λ n digits. fold (λ value digit. value * 10 + (digit - 48)) n digits) (search rules)
@@ -132,7 +131,8 @@ form_tables form =
     record {
       name = form.table;
       first = IntegerColumn id_name true None false;
-      others = CharColumn form.shown (decimal form.shown_most) false ∷ CharColumn form.secret (decimal form.secret_most) true ∷ [] }
+      others = CharColumn form.shown (decimal form.shown_most) false ∷ CharColumn form.secret (decimal form.secret_most) true ∷ [];
+    }
     ∷ []
 
 -- a length is a number of 64 bits and not 0
@@ -233,7 +233,7 @@ one_root form = refl
 none_both : {X : Type 0} (a b : Option X) → a ≡ None → b ≡ None → or_else a b ≡ None
 none_both {X = X} a b e f = ap (λ (x : Option X). or_else x b) e ∙ f
 
-fault_free : (form : Form) → Proper form → fault_of (form_tables form) ≡ None
+fault_free : (form : Form) → Proper form → schema_fault (form_tables form) ≡ None
 fault_free form p =
     none_both _ _ (ap (λ v. if v then Some Limit else None) (not_over form p))
     (none_both _ _ (no_duplicate form p)

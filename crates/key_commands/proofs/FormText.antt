@@ -1,12 +1,12 @@
 -- The one text of a script of the form, and its tokens.
-use Rattle.std.proofs.Common.{◌≡◌, ℕ, zero, suc, ◌+◌, ◌-◌, ◌⊎◌, inl, inr, Bool, true, false, not, ◌&&◌, ◌||◌, ◌==◌, cond, if◌then◌else◌, List, [], ◌∷◌, ◌++◌, length, map, filter, nat_le, refl, sym, ◌∙◌, ap, append_assoc, append-nil, arith, codes, bytes_eq}
+use Rattle.std.proofs.Common.{◌≡◌, ℕ, zero, suc, ◌+◌, ◌-◌, inl, inr, Bool, true, false, not, ◌&&◌, ◌==◌, cond, if◌then◌else◌, List, [], ◌∷◌, ◌++◌, length, map, filter, nat_le, refl, sym, ◌∙◌, ap, append_assoc, append-nil, arith, codes, bytes_eq}
 use Rattle.std.specs.Prelude.{take_while, flat_map}
 use Rattle.std.specs.List.{list_all}
 use Rattle.std.proofs.lemmas.Bool.{and_parts, and_from, not-true}
 use Rattle.std.proofs.lemmas.Bool.Decides.{nat_tests}
 use Rattle.std.proofs.lemmas.List.{append_cancel_right}
 use Rattle.std.proofs.lemmas.List.Sums.{take_while-cons}
-use Rattle.ghost_model.specs.Tokens.{Symbol, Word, Name, Quoted, Equal, End, Select, From, Where, symbol_of, symbols, in_lower_case, tokens_from, token_at, quoted_from, less_and, more_and, Read, read, is_space, is_digit, begins_name, is_name_byte, is_printable, sign_of, word_at, digits_at}
+use Rattle.ghost_model.specs.Tokens.{Symbol, Word, Name, Quoted, Equal, End, Select, From, Where, symbol_of, symbols, in_lower_case, tokens_from, token_at, quoted_from, less_and, more_and, Read, is_space, is_digit, begins_name, is_name_byte, is_printable, word_at, digits_at}
 use Rattle.ghost_model.specs.Spelled.{begins_as_name, is_reserved, is_name, is_spelled, inside_literal, text_of}
 use Rattle.ghost_model.specs.Texts.{before_parts, parts_after, parts_of, texts_of, is_blank}
 use Rattle.ghost_model.proofs.TokenLemmas.{spelled_text}
@@ -31,8 +31,9 @@ record Stays (even : Bool) (bs : List ℕ) (after : Bool) : Type 0 where
 joined : (a b c : Bool) (bs cs : List ℕ) → Stays a bs b → Stays b cs c → Stays a (bs ++ cs) c
 joined a b c bs cs one other = record {
   on = λ rest part parts e.
-    ap (parts_after a) (append_assoc bs cs rest)
-    ∙ (one.on (cs ++ rest) (cs ++ part) parts (other.on rest part parts e) ∙ ap (λ (xs : List ℕ). xs ∷ parts) (sym (append_assoc bs cs part))) }
+      ap (parts_after a) (append_assoc bs cs rest)
+      ∙ (one.on (cs ++ rest) (cs ++ part) parts (other.on rest part parts e) ∙ ap (λ (xs : List ℕ). xs ∷ parts) (sym (append_assoc bs cs part)));
+}
 
 -- a byte that is neither `;` nor `'`
 abbrev is_still : ℕ → Bool
@@ -113,12 +114,20 @@ proper form e =
     let shown_length = and_parts (nat_le 1 form.shown_most) (nat_le form.shown_most 64) shown_most.1 in
     let secret_length = and_parts (nat_le 1 form.secret_most) (nat_le form.secret_most 64) secret_most.1 in
     record {
-      table_name = table.0; table_short = table.1;
-      shown_name = shown.0; shown_short = shown.1;
-      secret_name = secret.0; secret_short = secret.1;
-      shown_least = shown_length.0; shown_greatest = shown_length.1;
-      secret_least = secret_length.0; secret_greatest = secret_length.1;
-      shown_no_id = not-true _ shown_id.1; secret_no_id = not-true _ secret_id.1; secret_not_shown = not-true _ last.1 }
+      table_name = table.0;
+      table_short = table.1;
+      shown_name = shown.0;
+      shown_short = shown.1;
+      secret_name = secret.0;
+      secret_short = secret.1;
+      shown_least = shown_length.0;
+      shown_greatest = shown_length.1;
+      secret_least = secret_length.0;
+      secret_greatest = secret_length.1;
+      shown_no_id = not-true _ shown_id.1;
+      secret_no_id = not-true _ secret_id.1;
+      secret_not_shown = not-true _ last.1;
+    }
 
 name_bytes : (name : List ℕ) → is_name name ≡ true → list_all is_name_byte name ≡ true
 unfolding is_name

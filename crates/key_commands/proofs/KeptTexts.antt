@@ -1,7 +1,7 @@
 -- Texts in cells of one width: how many there are, the one at a place, and one more.
-use Rattle.std.proofs.Common.{◌≡◌, ◌≤◌, ◌<◌, ◌+◌, ◌-◌, ◌*◌, ◌∙◌, ℕ, zero, suc, true, List, [], ◌∷◌, ◌++◌, length, take, drop, replicate, Some, refl, sym, ap, subst, arith, length-append, length-take-le, nat_le, add-one}
+use Rattle.std.proofs.Common.{◌≡◌, ◌≤◌, ◌<◌, ◌+◌, ◌-◌, ◌*◌, ◌∙◌, ℕ, zero, suc, true, List, [], ◌∷◌, ◌++◌, length, take, drop, replicate, Some, refl, sym, ap, subst, arith, length-append, nat_le}
 use Rattle.std.proofs.lemmas.List.{length-replicate, drop-append-le, take-append-le, take_all, drop_all, drop-drop, length-drop}
-use Rattle.std.specs.Prelude.{slice_get, option_map, IsTrue}
+use Rattle.std.specs.Prelude.{slice_get}
 use Rattle.std.proofs.lemmas.Bool.Decides.{nat_tests}
 use Rattle.std.specs.Cmp.{first_so, second_so}
 use Rattle.ghost_base.proofs.TextCells.{text_of_padded}
@@ -33,7 +33,7 @@ at_place width (suc count) (suc place) cells less h =
     let more = at_place width count place (drop width cells) (omega arith) h.1 in
     let e : width + place * width ≡ suc place * width = omega arith in
     let d : take width (drop (place * width) (drop width cells)) ≡ take width (drop (suc place * width) cells) =
-      ap (take width) (drop-drop (place * width) width cells ∙ ap (λ n. drop n cells) e) in
+    ap (take width) (drop-drop (place * width) width cells ∙ ap (λ n. drop n cells) e) in
     record { text = more.text ∙ ap (λ cell. Some (text_in cell)) d; cell = let P : List ℕ → Type 0 = IsCell width in subst P d more.cell }
 
 -- the same, of the list that is kept
@@ -42,7 +42,7 @@ pub placed : (inside : Inside) (list : TextList) (place : ℕ) → KeepsTexts in
 placed inside list place kept is less =
     let P : TextList → Type 0 = λ list. place < length list.texts → IsAt inside.width place inside.bytes.items list.texts in
     subst P is (λ less. at_place inside.width inside.count place inside.bytes.items
-      (let many = how_many inside.width inside.count inside.bytes.items in omega arith) kept.cells) less
+    (let many = how_many inside.width inside.count inside.bytes.items in omega arith) kept.cells) less
 
 -- there are bytes for the cell at a place
 pub room : (inside : Inside) (list : TextList) (place : ℕ) → KeepsTexts inside → list_of inside ≡ list → place < length list.texts

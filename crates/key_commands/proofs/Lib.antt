@@ -16,3 +16,4 @@ mod FormAnswers
 mod FormRows
 mod FormSchema
 mod FormReplies
+mod FormFile

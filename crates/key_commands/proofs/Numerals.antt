@@ -1,5 +1,5 @@
 -- The number of a list of digits, read from the first to the last.
-use Rattle.std.proofs.Common.{◌≡◌, ◌≤◌, ◌<◌, ◌+◌, ◌-◌, ◌*◌, ◌^◌, ◌∙◌, ℕ, List, [], ◌∷◌, drop, length, get_or, fold, refl, arith}
+use Rattle.std.proofs.Common.{◌≡◌, ◌≤◌, ◌<◌, ◌+◌, ◌-◌, ◌*◌, ◌^◌, ◌∙◌, ℕ, List, [], ◌∷◌, drop, length, get_or, fold, arith}
 use Rattle.std.proofs.lemmas.List.{at_drop_more}
 
 abbrev pub with_digit : ℕ → ℕ → ℕ

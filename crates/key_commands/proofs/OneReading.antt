@@ -49,7 +49,7 @@ pub same_rest : (word other after rest later : List ℕ) → ends_word after ≡
     → word ++ (after ++ rest) ≡ other ++ (after ++ later) → rest ≡ later
 same_rest word other after rest later ends h g e =
     append_cancel_left after rest later (append_cancel_left word (after ++ rest) (after ++ later)
-      (e ∙ ap (λ w. w ++ (after ++ later)) (sym (same_word word other after rest later ends h g e))))
+    (e ∙ ap (λ w. w ++ (after ++ later)) (sym (same_word word other after rest later ends h g e))))
 
 same_last : (xs ys : List ℕ) (a b : ℕ) → xs ++ a ∷ [] ≡ ys ++ b ∷ [] → a ≡ b
 same_last [] [] a b e = cc e
@@ -80,8 +80,9 @@ pub behind_more : (text : List ℕ) (parts later : List (Bor (List ℕ))) (part 
     → left ≡ part.now ++ rest → IsBehind text parts later rest
 behind_more text parts later part left rest behind is = record {
   is_left = λ tail e. append_cancel_left part.now rest (flat_map (λ (part : Bor (List ℕ)). part.now) later ++ tail)
-    (sym is ∙ behind.is_left tail e ∙ append_assoc part.now (flat_map (λ (part : Bor (List ℕ)). part.now) later) tail);
-  is_text = λ tail e. behind.is_text tail (is ∙ ap (λ r. part.now ++ r) e ∙ sym (append_assoc part.now (flat_map (λ (part : Bor (List ℕ)). part.now) later) tail)) }
+      (sym is ∙ behind.is_left tail e ∙ append_assoc part.now (flat_map (λ (part : Bor (List ℕ)). part.now) later) tail);
+  is_text = λ tail e. behind.is_text tail (is ∙ ap (λ r. part.now ++ r) e ∙ sym (append_assoc part.now (flat_map (λ (part : Bor (List ℕ)). part.now) later) tail));
+}
 
 pub not_behind : (text : List ℕ) (parts later : List (Bor (List ℕ))) (part : Bor (List ℕ)) (left : List ℕ) → IsBehind text parts (part ∷ later) left
     → ((rest : List ℕ) → left ≡ part.now ++ rest → ⊥) → (rest : List ℕ) → text ≡ flat_map (λ (part : Bor (List ℕ)). part.now) parts ++ rest → ⊥

@@ -1,5 +1,5 @@
 -- The line of a form's schema has its pieces in one way, and the form with them.
-use Rattle.std.proofs.Common.{◌≡◌, ◌≤◌, ◌<◌, ◌+◌, ◌^◌, ◌∙◌, ℕ, Bool, true, false, not, ◌&&◌, List, [], ◌∷◌, ◌++◌, map, flat_map, codes, decimal, bytes_eq, refl, sym, ap, ap₂, subst, arith, append_assoc, nat_le, lit≤}
+use Rattle.std.proofs.Common.{◌≡◌, ◌≤◌, ◌<◌, ◌+◌, ◌^◌, ◌∙◌, ℕ, true, false, not, ◌&&◌, List, [], ◌∷◌, ◌++◌, map, codes, decimal, bytes_eq, refl, sym, ap, subst, arith, append_assoc, nat_le, lit≤}
 use Rattle.std.proofs.lemmas.List.{append-nil, append_cancel_left}
 use Rattle.std.proofs.lemmas.Bool.Decides.{nat_tests}
 use Rattle.std.proofs.lemmas.Fmt.{decimal-digits_of}
@@ -10,7 +10,7 @@ use Rattle.ghost_model.specs.Tokens.{is_name_byte}
 use Rattle.ghost_model.specs.Spelled.{is_name}
 use Rattle.ghost_model.specs.Catalog.{canonical_text}
 use Rattle.key_commands.specs.Form.{Form, IsLine, SpellsForm, form_schema, id_name, is_form, is_length, is_short_name}
-use Rattle.key_commands.specs.Pieces.{AreWords, Pieces, after_begin, after_secret, after_shown, after_shown_most, after_table, ends_word, is_word, line_of, pieces_of}
+use Rattle.key_commands.specs.Pieces.{AreWords, Pieces, after_begin, after_secret, after_shown, after_shown_most, after_table, is_word, line_of, pieces_of}
 use Rattle.key_commands.proofs.FormNames.{Parts, parts}
 use Rattle.key_commands.proofs.OneReading.{same_rest, same_word}
 
@@ -23,7 +23,7 @@ glue begin table key comma shown space char a close hidden_space secret b hid en
 pub whole_line : (form : Form) → canonical_text (form_schema form) ≡ line_of (pieces_of form) ++ 10 ∷ []
 whole_line form =
     glue (codes "CREATE TABLE ") form.table (codes " (id INTEGER PRIMARY KEY") (codes ", ") form.shown (codes " ") (codes "CHAR(") (decimal form.shown_most) (codes ")") []
-      form.secret (decimal form.secret_most) (codes " HIDDEN") (codes ");") (10 ∷ [])
+    form.secret (decimal form.secret_most) (codes " HIDDEN") (codes ");") (10 ∷ [])
 
 -- a text ends in a byte
 pub record Ends (last : ℕ) (text : List ℕ) : Type 0 where
@@ -33,7 +33,8 @@ pub record Ends (last : ℕ) (text : List ℕ) : Type 0 where
 pub ends_after : (last : ℕ) (front text : List ℕ) → Ends last text → Ends last (front ++ text)
 ends_after last front text ends = record {
   start = front ++ ends.start;
-  whole = ap (λ t. front ++ t) ends.whole ∙ sym (append_assoc front ends.start (last ∷ [])) }
+  whole = ap (λ t. front ++ t) ends.whole ∙ sym (append_assoc front ends.start (last ∷ []));
+}
 
 line_ends : (pieces : Pieces) → Ends 59 (line_of pieces)
 line_ends pieces =
@@ -73,7 +74,8 @@ are_words form proper = record {
   shown = name_is_word form.shown proper.shown;
   shown_most = length_is_word form.shown_most proper.shown_most;
   secret = name_is_word form.secret proper.secret;
-  secret_most = length_is_word form.secret_most proper.secret_most }
+  secret_most = length_is_word form.secret_most proper.secret_most;
+}
 
 -- the line that was read is the form's
 pub line_read : (text line : List ℕ) → ((start : List ℕ) (last : ℕ) → (last ≡ 10 → ⊥) → IsLine ((start ++ last ∷ []) ++ 10 ∷ []) text → line ≡ start ++ last ∷ [])
@@ -108,7 +110,8 @@ agrees line read words is form proper spelled =
       shown = same_word read.shown made.shown (codes " CHAR(") (after_shown read) (after_shown made) refl words.shown other.shown e1;
       shown_most = same_word read.shown_most made.shown_most (codes "), ") (after_shown_most read) (after_shown_most made) refl words.shown_most other.shown_most e2;
       secret = same_word read.secret made.secret (codes " CHAR(") (after_secret read) (after_secret made) refl words.secret other.secret e3;
-      secret_most = same_word read.secret_most made.secret_most (codes ") HIDDEN);") [] [] refl words.secret_most other.secret_most e4 }
+      secret_most = same_word read.secret_most made.secret_most (codes ") HIDDEN);") [] [] refl words.secret_most other.secret_most e4;
+    }
 
 -- the names of the CHAR columns differ
 pub record Apart (form : Form) : Type 0 where
@@ -124,7 +127,7 @@ pub not_apart : (read : Pieces) (form : Form) → Agrees read form → is_form f
 not_apart read form same proper none =
     let own = apart form proper in
     let yes : (not (bytes_eq read.shown id_name) && not (bytes_eq read.secret id_name) && not (bytes_eq read.secret read.shown)) ≡ true =
-      rw (same.shown, same.secret, own.shown, own.secret, own.both) refl in
+    rw (same.shown, same.secret, own.shown, own.secret, own.both) refl in
     cc (yes, none)
 
 pub form_made : (text line : List ℕ) (read : Pieces) (form : Form) → IsLine (line ++ 10 ∷ []) text → line ≡ line_of read → Agrees read form
@@ -138,4 +141,5 @@ form_made text line read form kept is same differ =
     let equal : line_of read ≡ line_of (pieces_of form) = rw (same.table, same.shown, same.shown_most, same.secret, same.secret_most) refl in
     record {
       proper = rw (same.proper.table, same.proper.shown, same.proper.secret, same.proper.shown_most, same.proper.secret_most, one, two, three) refl;
-      line = subst P (ap (λ t. t ++ 10 ∷ []) (is ∙ equal) ∙ sym (whole_line form)) kept }
+      line = subst P (ap (λ t. t ++ 10 ∷ []) (is ∙ equal) ∙ sym (whole_line form)) kept;
+    }

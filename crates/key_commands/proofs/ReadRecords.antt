@@ -1,15 +1,14 @@
 -- What a read of a record leaves of the records of a text.
-use Rattle.std.proofs.Common.{Bor, ◌≡◌, ◌⊎◌, ◌<◌, ◌+◌, ◌∙◌, ℕ, zero, suc, Bool, true, false, List, [], ◌∷◌, length, Option, Some, None, inl, inr, refl, sym, ap, subst, arith}
+use Rattle.std.proofs.Common.{Bor, ◌≡◌, ◌⊎◌, ◌<◌, ◌+◌, ◌∙◌, ℕ, zero, suc, Bool, true, false, List, [], ◌∷◌, length, Option, Some, None, inl, inr, refl, sym, ap, arith}
 use Rattle.std.specs.Prelude.{⊤, option_map, if◌then◌else◌, ◌++◌, not, ◌&&◌, ◌==◌, drop, take}
-use Rattle.std.specs.Io.KnownBytes.{prepend_known}
 use Rattle.csv.specs.declared.reader.Trim.TheVariants as trim
 use Rattle.csv.specs.Machine.{Read, ends_at_end, field_after, fields_after, is_end, next_record, step}
-use Rattle.csv.specs.Reading.{NextIs, ReadRecord, ReadsNext, ReadsOn, Ready, buffered_of, default_config, has_failed, pending_of, records_from, records_next, source_of, stops_reader, unread_of, strip_bom}
+use Rattle.csv.specs.Reading.{NextIs, ReadRecord, ReadsNext, ReadsOn, Ready, buffered_of, default_config, has_failed, pending_of, records_from, records_next, source_of, strip_bom}
 use Rattle.csv.specs.declared.parser.Config.{Config}
 use Rattle.csv.specs.declared.parser.State.{State}
 use Rattle.csv.specs.declared.parser.State.TheVariants as st
 use Rattle.csv.specs.declared.reader.Reader.{Reader}
-use Rattle.key_commands.specs.Records.{IsReading, IsSetUp, Reads, left_of, records_left}
+use Rattle.key_commands.specs.Records.{IsReading, Reads, left_of, records_left}
 
 -- a record takes a byte, or stands at the end of the text and leaves nothing
 abbrev pub Takes : ℕ → Option Read → Type 0
@@ -66,6 +65,7 @@ took state after text later found fields h = rw (one_more (length text)) (by (ne
   where
     one_more : (n : ℕ) → n + 1 ≡ suc n
     one_more n = omega arith
+
     by : (o : Option Read) → Takes (length text) o → (b : Bool) → NextIs o b fields after later
         → Reads b (records_next (records_from default_config (length text)) o) fields (records_from default_config (length later + 1) after later)
     by None t true h = cc h

@@ -1,17 +1,17 @@
 -- The faults and the rows of the form's table, record by record.
-use Rattle.std.proofs.Common.{◌≡◌, ◌≤◌, ◌<◌, ◌+◌, ◌-◌, ◌∙◌, ℕ, zero, suc, ℤ, pos, Bool, true, false, ◌&&◌, ◌==◌, List, [], ◌∷◌, ◌++◌, length, map, drop, Option, Some, None, refl, sym, ap, ap₂, subst, arith, nat_le, bytes_eq, lit<, append_assoc, length-append}
+use Rattle.std.proofs.Common.{◌≡◌, ◌≤◌, ◌<◌, ◌+◌, ◌∙◌, ℕ, zero, suc, ℤ, pos, Bool, true, false, ◌&&◌, ◌==◌, List, [], ◌∷◌, ◌++◌, length, map, Option, Some, None, refl, sym, ap, ap₂, subst, arith, nat_le, bytes_eq, lit<, append_assoc, length-append}
 use Rattle.std.proofs.lemmas.List.{append-nil}
+use Rattle.std.specs.List.{list_all}
+use Rattle.std.proofs.lemmas.List.Folds.{list_all-append}
 use Rattle.std.proofs.lemmas.Bool.Decides.{nat_tests, Decides-int_eq}
 use Rattle.std.specs.Prelude.{unwrap_or}
-use Rattle.std.specs.Ordering.{int_eq}
 use Rattle.csv.specs.Records.{field_at}
 use Rattle.ghost_model.specs.Tokens.{in_lower_case}
-use Rattle.ghost_model.specs.Schema.{Column}
-use Rattle.ghost_model.specs.Values.{Value, Number, Text, Row, Rows, Database}
+use Rattle.ghost_model.specs.Values.{Number, Text, Row, Rows, Database}
 use Rattle.ghost_model.specs.Database.{database_of, integer_of, is_text, records_of, row_spelled, rows_spelled}
-use Rattle.ghost_model.specs.LoadFaults.{FieldCount, LoadFault, RowLimit, field_faults, fields_faults, file_faults, files_faults, is_header, is_number, keys_faults, load_faults, most_bytes, most_rows, place, record_faults, reference_faults, references_from, row_faults, rows_faults, table_references, unless}
+use Rattle.ghost_model.specs.LoadFaults.{FieldCount, LoadFault, RowLimit, field_faults, fields_faults, file_faults, files_faults, is_header, is_number, keys_faults, load_faults, most_bytes, most_rows, place, record_faults, references_from, row_faults, rows_faults, table_references, unless}
 use Rattle.key_commands.specs.Form.{Form, form_columns, form_schema, id_name}
-use Rattle.key_commands.specs.Rows.{HoldRows, IsRow, row_with, rows_from}
+use Rattle.key_commands.specs.Rows.{IsRow, row_with, rows_from}
 use Rattle.key_commands.specs.Texts.{TextList, empty}
 
 -- no faults in two lists are none in each
@@ -123,7 +123,8 @@ keeps_fields form number id shown secret h =
     record {
       id_right = kept (is_number number (integer_of id)) _ (front_none _ _ h);
       shown_right = kept (is_text form.shown_most shown) _ (front_none _ _ later);
-      secret_right = kept (is_text form.secret_most secret) _ (front_none _ _ (back_none (unless (is_text form.shown_most shown) _) _ later)) }
+      secret_right = kept (is_text form.secret_most secret) _ (front_none _ _ (back_none (unless (is_text form.shown_most shown) _) _ later));
+    }
 
 pub broken_field : (form : Form) (number : ℕ) (fields : List (List ℕ)) (id shown secret : List ℕ) → fields ≡ id ∷ shown ∷ secret ∷ []
     → (KeepsFields form number id shown secret → ⊥) → row_faults 0 number (form_columns form) fields ≡ [] → ⊥
@@ -157,7 +158,8 @@ is_row form number fields id shown secret is few right =
       few = few;
       row = ap (λ n. Number n ∷ Text shown ∷ Text secret ∷ []) (number_read number (integer_of id) right.id_right);
       shown_held = right.shown_right;
-      secret_held = right.secret_right })
+      secret_held = right.secret_right;
+    })
 
 -- the form's table has no foreign key
 no_keys : (database : Database) (rec : ℕ) (form : Form) (row : Row) → keys_faults database 0 rec 0 (form_columns form) row ≡ []
@@ -178,8 +180,8 @@ pub one_file : (form : Form) (file : List ℕ) → load_faults (form_schema form
 unfolding files_faults references_from
 one_file form file =
     ap₂ (λ front back. front ++ back) (append-nil (file_faults 0 (form_columns form) file))
-      (append-nil (table_references (database_of (form_schema form) (file ∷ [])) 0 2 (form_columns form) (rows_spelled (form_columns form) file))
-      ∙ no_references (database_of (form_schema form) (file ∷ [])) 2 form (rows_spelled (form_columns form) file))
+    (append-nil (table_references (database_of (form_schema form) (file ∷ [])) 0 2 (form_columns form) (rows_spelled (form_columns form) file))
+    ∙ no_references (database_of (form_schema form) (file ∷ [])) 2 form (rows_spelled (form_columns form) file))
     ∙ append-nil (file_faults 0 (form_columns form) file)
 
 -- one more row at the end
@@ -193,6 +195,10 @@ rows_more number (s ∷ shown) (h ∷ secret) a b many =
     let e : (number + 1) + length shown ≡ number + suc (length shown) = omega arith in
     ap (λ later. row_with number s h ∷ later) (rows_more (number + 1) shown secret a b (omega arith) ∙ ap (λ n. rows_from (number + 1) shown secret ++ row_with n a b ∷ []) e)
 
+-- one more that passes a test
+held_more : {X : Type 0} (test : X → Bool) (xs : List X) (x : X) → list_all test xs ≡ true → test x ≡ true → list_all test (xs ++ x ∷ []) ≡ true
+held_more test xs x all one = list_all-append test xs (x ∷ []) ∙ rw (all, one) refl
+
 -- the records before `left` are so many rows with these texts, and break no rule
 pub record IsReadSoFar (form : Form) (file : List ℕ) (count : ℕ) (shown secret : TextList) (left : List (List (List ℕ))) : Type 0 where
   pub few : count ≤ most_rows
@@ -202,6 +208,8 @@ pub record IsReadSoFar (form : Form) (file : List ℕ) (count : ℕ) (shown secr
   pub secret_many : length secret.texts ≡ count
   pub shown_width : shown.width ≡ form.shown_most
   pub secret_width : secret.width ≡ form.secret_most
+  pub shown_held : list_all (is_text form.shown_most) shown.texts ≡ true
+  pub secret_held : list_all (is_text form.secret_most) secret.texts ≡ true
 
 -- the file is too long, has no header, or another one
 pub too_long : (form : Form) (file : List ℕ) → most_bytes < length file → load_faults (form_schema form) (file ∷ []) ≡ [] → ⊥
@@ -234,7 +242,10 @@ begin form file fields left short is right =
       shown_many = refl;
       secret_many = refl;
       shown_width = refl;
-      secret_width = refl }
+      secret_width = refl;
+      shown_held = refl;
+      secret_held = refl;
+    }
 
 -- after the last record
 pub none_broken : (form : Form) (file : List ℕ) (count : ℕ) (shown secret : TextList) (left : List (List (List ℕ))) → IsReadSoFar form file count shown secret left
@@ -260,9 +271,9 @@ row_read form file count shown secret shown_after secret_after left later fields
     let many : length secret.texts ≡ length shown.texts = so_far.secret_many ∙ sym so_far.shown_many in
     let number : 1 + length shown.texts ≡ count + 1 = let h = so_far.shown_many in omega arith in
     let more : rows_from 1 (shown.texts ++ a ∷ []) (secret.texts ++ b ∷ []) ≡ rows_from 1 shown.texts secret.texts ++ row_with (count + 1) a b ∷ [] =
-      rows_more 1 shown.texts secret.texts a b many ∙ ap (λ n. rows_from 1 shown.texts secret.texts ++ row_with n a b ∷ []) number in
+    rows_more 1 shown.texts secret.texts a b many ∙ ap (λ n. rows_from 1 shown.texts secret.texts ++ row_with n a b ∷ []) number in
     let front : rows_spelled (form_columns form) file ≡ rows_from 1 shown.texts secret.texts ++ (row_with (count + 1) a b ∷ map (row_spelled (form_columns form)) later) =
-      so_far.rows ∙ rw is (ap (λ r. rows_from 1 shown.texts secret.texts ++ (r ∷ map (row_spelled (form_columns form)) later)) row.row) in
+    so_far.rows ∙ rw is (ap (λ r. rows_from 1 shown.texts secret.texts ++ (r ∷ map (row_spelled (form_columns form)) later)) row.row) in
     rw (shown_is, secret_is) (record {
       few = row.few;
       faults = so_far.faults ∙ rw (is, row.clean) refl;
@@ -270,4 +281,7 @@ row_read form file count shown secret shown_after secret_after left later fields
       shown_many = length-append shown.texts (a ∷ []) ∙ ap (λ n. n + 1) so_far.shown_many;
       secret_many = length-append secret.texts (b ∷ []) ∙ ap (λ n. n + 1) so_far.secret_many;
       shown_width = so_far.shown_width;
-      secret_width = so_far.secret_width })
+      secret_width = so_far.secret_width;
+      shown_held = held_more (is_text form.shown_most) shown.texts a so_far.shown_held row.shown_held;
+      secret_held = held_more (is_text form.secret_most) secret.texts b so_far.secret_held row.secret_held;
+    })

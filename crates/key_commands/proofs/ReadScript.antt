@@ -1,7 +1,7 @@
 -- The line of a form's script: a front, the text and its end.
-use Rattle.std.proofs.Common.{◌≡◌, ◌∙◌, ℕ, Bool, true, false, List, [], ◌∷◌, ◌++◌, codes, refl, sym, ap, subst, append_assoc}
+use Rattle.std.proofs.Common.{◌≡◌, ◌∙◌, ℕ, true, false, List, [], ◌∷◌, ◌++◌, codes, refl, sym, ap, subst, append_assoc}
 use Rattle.std.proofs.lemmas.List.{append-nil, append_cancel_left, append_cancel_right}
-use Rattle.key_commands.specs.Form.{Form, IsLine, SpellsScript, is_wanted, query_text, script_line}
+use Rattle.key_commands.specs.Form.{Form, IsLine, SpellsScript, is_wanted, script_line}
 use Rattle.key_commands.proofs.ReadForm.{Ends, ends_after}
 
 -- what stands before the text
@@ -43,4 +43,5 @@ script_made form text line rest wanted kept is behind good =
     let P : List ℕ → Type 0 = λ whole. IsLine whole text in
     record {
       proper = good;
-      line = subst P (ap (λ t. t ++ 10 ∷ []) (is ∙ ap (λ t. front_of form ++ t) behind) ∙ sym (whole_line form wanted)) kept }
+      line = subst P (ap (λ t. t ++ 10 ∷ []) (is ∙ ap (λ t. front_of form ++ t) behind) ∙ sym (whole_line form wanted)) kept;
+    }

@@ -1,17 +1,18 @@
 -- What the definitions of texts, meanings, asks and printed lines give for the one form of input. A script of the form
 -- has one text; this text means the query of the form and makes one ask; and the answer, the rows that the ask is
 -- replied with and the printed lines are those of the rows whose visible text is the wanted one, in their order.
-use Rattle.std.specs.Prelude.{◌≡◌, ℕ, ◌+◌, pos, Bool, true, List, [], ◌∷◌, ◌++◌, nat_le, nat_lt, ◌^◌, length, map, filter, flat_map, codes, bytes_eq, Option, Some, None, slice_get, option_to_list, unwrap_or, ◌-◌, Result, Ok, Err}
+use Rattle.std.specs.Prelude.{◌≡◌, ℕ, Bool, true, ◌&&◌, List, [], ◌∷◌, ◌++◌, nat_le, nat_lt, ◌^◌, length, map, filter, flat_map, codes, bytes_eq, Some, slice_get, option_to_list, unwrap_or, ◌-◌, Ok}
 use Rattle.std.specs.List.{list_all}
 use Rattle.std.specs.Int.{to_be_bytes, w32}
 use Rattle.ghost_model.specs.Query as query
-use Rattle.ghost_model.specs.Values.{Number, Text, Row, Rows}
-use Rattle.ghost_model.specs.Schema.{places_from}
+use Rattle.ghost_model.specs.Values.{Text, Row, Rows}
+use Rattle.ghost_model.specs.Schema.{Kind, places_from}
 use Rattle.ghost_model.specs.Cells.{padded}
 use Rattle.ghost_model.specs.Channel.{Ask}
 use Rattle.ghost_model.specs.Texts.{texts_of}
 use Rattle.ghost_model.specs.QueryReading.{reading}
 use Rattle.ghost_model.specs.Asks.{asked_of, asked, ask_payload, row_width, kinds_of, is_proper_ask, ask_in, ascend_from, ReplyRow, row_bytes, rows_in}
+use Rattle.ghost_model.specs.NextMove.{rows_fit}
 use Rattle.ghost_model.specs.Catalog.{canonical_text}
 use Rattle.ghost_model.specs.SchemaFaults.{MeansSchema}
 use Rattle.ghost_model.specs.Meaning.{answer, compares}
@@ -36,7 +37,8 @@ abbrev pub form_ask : List ℕ → Ask
 form_ask wanted = record {
   table = 0;
   columns = [];
-  tests = record { column = 1; operator = query.Equal; value = Text wanted } ∷ [] }
+  tests = record { column = 1; operator = query.Equal; value = Text wanted } ∷ [];
+}
 
 abbrev pub form_payload : Form → List ℕ → List ℕ
 form_payload form wanted = 0 ∷ 0 ∷ 1 ∷ 1 ∷ 1 ∷ padded form.shown_most wanted
@@ -48,8 +50,8 @@ pub record OneAsk : Type 0 where
   pub payload : (form : Form) (wanted : List ℕ) → ask_payload (form_schema form) (form_ask wanted) ≡ form_payload form wanted
   pub width : (form : Form) (wanted : List ℕ) → row_width (form_schema form) (form_ask wanted) ≡ 4
   pub kinds : (form : Form) (wanted : List ℕ) → kinds_of (form_schema form) (form_ask wanted) ≡ []
-  pub proper : (form : Form) (wanted : List ℕ) → is_form form ≡ true → is_wanted form wanted ≡ true → is_proper_ask (form_schema form) (form_ask wanted) ≡ true
-  pub taken : (form : Form) (wanted : List ℕ) → is_form form ≡ true → is_wanted form wanted ≡ true → ask_in (form_schema form) (form_payload form wanted) ≡ Some (form_ask wanted)
+  pub proper : (form : Form) (wanted : List ℕ) → is_wanted form wanted ≡ true → is_proper_ask (form_schema form) (form_ask wanted) ≡ true
+  pub taken : (form : Form) (wanted : List ℕ) → is_wanted form wanted ≡ true → ask_in (form_schema form) (form_payload form wanted) ≡ Some (form_ask wanted)
 
 -- whether a row's second value is the wanted text
 abbrev pub is_match : List ℕ → Row → Bool
@@ -152,3 +154,18 @@ pub record RepliesOfForm : Type 0 where
 pub record MatchesOfForm : Type 0 where
   pub least : (wanted : List ℕ) (shown : List (List ℕ)) → ascend_from 0 (matches wanted shown) ≡ true
   pub most : (wanted : List ℕ) (shown : List (List ℕ)) → list_all (λ identifier. nat_le identifier (length shown)) (matches wanted shown) ≡ true
+
+-- whether an identifier is one of so many rows
+abbrev pub is_row_of : (rows : ℕ) → ReplyRow → Bool
+is_row_of rows row = nat_lt 0 row.identifier && nat_le row.identifier rows
+
+-- rows without cells may come in a reply where their identifiers ascend and are those of rows; and rows that may come
+-- in a reply have identifiers of rows
+pub record FittingRows : Type 0 where
+  pub fit :
+      (rows last : ℕ) (identifiers : List ℕ) → ascend_from last identifiers ≡ true
+      → list_all (λ identifier. nat_le identifier rows) identifiers ≡ true
+      → rows_fit rows last [] (map bare_row identifiers) ≡ true
+  pub within :
+      (rows last : ℕ) (kinds : List Kind) (replied : List ReplyRow) → rows_fit rows last kinds replied ≡ true
+      → list_all (is_row_of rows) replied ≡ true

@@ -11,3 +11,4 @@ pub mod Texts
 pub mod Rows
 pub mod Pieces
 pub mod Views
+pub mod FormFile

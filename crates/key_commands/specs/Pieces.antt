@@ -1,7 +1,7 @@
 -- The line of a form's schema in pieces: fixed words, and between them the words that differ from form to form. Each of
 -- these has bytes of names alone, and each fixed word after one begins with another byte, so a line has its pieces in
 -- one way.
-use Rattle.std.specs.Prelude.{◌≡◌, ℕ, Bool, true, false, not, List, [], ◌∷◌, ◌++◌, codes, decimal, bytes_eq}
+use Rattle.std.specs.Prelude.{◌≡◌, ℕ, Bool, true, false, not, List, [], ◌∷◌, ◌++◌, codes, decimal}
 use Rattle.std.specs.List.{list_all}
 use Rattle.ghost_model.specs.Tokens.{is_name_byte}
 use Rattle.key_commands.specs.Form.{Form}
@@ -55,4 +55,5 @@ pieces_of form = record {
   shown = form.shown;
   shown_most = decimal form.shown_most;
   secret = form.secret;
-  secret_most = decimal form.secret_most }
+  secret_most = decimal form.secret_most;
+}

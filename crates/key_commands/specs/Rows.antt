@@ -2,6 +2,7 @@
 -- table's file: it is good exactly where there are none, says `Broken` only where there are some, and may always tell of
 -- want of memory.
 use Rattle.std.specs.Prelude.{◌≡◌, ◌≤◌, ◌+◌, ℕ, pos, List, [], ◌∷◌, length, Result, Ok, Err, true}
+use Rattle.std.specs.List.{list_all}
 use Rattle.ghost_model.specs.Values.{Number, Text, Row, Rows}
 use Rattle.ghost_model.specs.Database.{database_of, is_text, row_spelled}
 use Rattle.ghost_model.specs.LoadFaults.{LoadFault, most_rows, row_faults}
@@ -34,6 +35,8 @@ pub record HoldRows (form : Form) (file : List ℕ) (count : ℕ) (shown secret 
   pub secret_many : length secret.texts ≡ count
   pub shown_width : shown.width ≡ form.shown_most
   pub secret_width : secret.width ≡ form.secret_most
+  pub shown_held : list_all (is_text form.shown_most) shown.texts ≡ true
+  pub secret_held : list_all (is_text form.secret_most) secret.texts ≡ true
   pub rows : database_of (form_schema form) (file ∷ []) ≡ rows_from 1 shown.texts secret.texts ∷ []
 
 abbrev pub Judges : {T : Type 0} → Result T RowsFault → List LoadFault → Type 0

@@ -1,5 +1,4 @@
 -- What the values of the code stand for, in the words of the definitions.
-use Rattle.std.specs.Prelude.{ℕ, List}
 use Rattle.key_commands.specs.Words as words
 use Rattle.key_commands.specs.declared.words.Names.{Names}
 use Rattle.key_commands.specs.Form as form
@@ -13,7 +12,8 @@ names_view names = record {
   tables = names.tables.now;
   flash = names.flash.now;
   script = names.script.now;
-  journal = names.journal.now }
+  journal = names.journal.now;
+}
 
 abbrev pub form_view : Form → form.Form
 form_view made = record {
@@ -21,7 +21,8 @@ form_view made = record {
   shown = made.shown;
   shown_most = made.shown_most;
   secret = made.secret;
-  secret_most = made.secret_most }
+  secret_most = made.secret_most;
+}
 
 abbrev pub pieces_view : Pieces → pieces.Pieces
 pieces_view read = record {
@@ -29,4 +30,5 @@ pieces_view read = record {
   shown = read.shown.now;
   shown_most = read.shown_most.now;
   secret = read.secret.now;
-  secret_most = read.secret_most.now }
+  secret_most = read.secret_most.now;
+}

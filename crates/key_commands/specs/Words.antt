@@ -1,7 +1,7 @@
 -- The words of the command `local`: the program's name, whatever it is, the word `local`, and then five options in this
 -- order, each with its value. A value may be any text. The file of a table is the table's name and `.csv` in the folder
 -- that `--data` names.
-use Rattle.std.specs.Prelude.{ℕ, Bool, true, false, ◌&&◌, ◌==◌, List, [], ◌∷◌, ◌++◌, length, codes, bytes_eq, Option, Some, None, slice_get, if◌then◌else◌, unwrap_or}
+use Rattle.std.specs.Prelude.{ℕ, Bool, ◌&&◌, ◌==◌, List, [], ◌++◌, length, codes, bytes_eq, Option, Some, None, slice_get, if◌then◌else◌, unwrap_or}
 
 -- what the options name: the files of the schema, the flash, the script and the journal, and the tables' folder
 pub record Names : Type 0 where
@@ -33,7 +33,8 @@ names_of words =
       tables = word_at words 5;
       flash = word_at words 7;
       script = word_at words 9;
-      journal = word_at words 11 })
+      journal = word_at words 11;
+    })
     else None
 
 -- the file of a table's rows

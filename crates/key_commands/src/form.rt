@@ -6,7 +6,7 @@ ghost use Rattle.key_commands.specs.Pieces as pieces;
 ghost use Rattle.key_commands.specs.Views.{form_view, pieces_view};
 
 use crate::naming::name_of;
-use crate::pieces::{strip_front, without_line_end, word_before};
+use crate::pieces::{is_bytes, strip_front, without_line_end, word_before};
 use ghost_base::Text64;
 use itoa::Buffer;
 
@@ -115,14 +115,7 @@ fn read_pieces(line: &[u8]) -> Option<Pieces<'_>>
 fn are_apart(shown: &[u8], secret: &[u8]) -> bool
     ensures { result ≡ (not (bytes_eq shown.now form.id_name) && not (bytes_eq secret.now form.id_name) && not (bytes_eq secret.now shown.now)) }
 {
-    !is(shown, b"id") && !is(secret, b"id") && !is(secret, shown)
-}
-
-/// Whether a name is this one.
-fn is(name: &[u8], other: &[u8]) -> bool
-    ensures { result ≡ bytes_eq name.now other.now }
-{
-    name == other
+    !is_bytes(shown, b"id") && !is_bytes(secret, b"id") && !is_bytes(secret, shown)
 }
 
 /// The length of a CHAR column that these digits are, without a zero at their front.
@@ -144,5 +137,5 @@ fn spells(number: u8, digits: &[u8]) -> bool
     ensures { result ≡ bytes_eq digits.now (decimal number) }
 {
     let mut buffer = Buffer::new();
-    is(digits, buffer.format(number).as_bytes())
+    is_bytes(digits, buffer.format(number).as_bytes())
 }

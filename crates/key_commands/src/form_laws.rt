@@ -1,6 +1,7 @@
 //! Laws of the one form of input: what the definitions give for it.
 
-ghost use Rattle.key_commands.specs.FormMeaning.{OneText, OneMeaning, OneAsk, OneAnswer, PrintedLines, IdentifiersReplied, TextsOfRows, SchemaOfForm, RepliesOfForm, MatchesOfForm};
+ghost use Rattle.key_commands.specs.FormMeaning.{OneText, OneMeaning, OneAsk, OneAnswer, PrintedLines, IdentifiersReplied, TextsOfRows, SchemaOfForm, RepliesOfForm, MatchesOfForm, FittingRows};
+ghost use Rattle.key_commands.specs.FormFile.{AnswersOfFile};
 
 /// A script of the form has one text, that of its query.
 pub fn one_text()
@@ -50,4 +51,14 @@ pub fn replies_of_form()
 /// The matches are identifiers of rows, ascending.
 pub fn matches_of_form()
     ensures { MatchesOfForm }
+{}
+
+/// The lines and the reply over the database that a table's file spells.
+pub fn answers_of_file()
+    ensures { AnswersOfFile }
+{}
+
+/// Which rows may come in the reply, and that they are rows.
+pub fn fitting_rows()
+    ensures { FittingRows }
 {}

@@ -5,12 +5,14 @@ mod host_end;
 mod journal;
 pub mod fields;
 pub mod form;
+mod form_laws;
 pub mod naming;
 pub mod pieces;
 pub mod records;
 pub mod rows;
 pub mod script;
 mod speech;
+#[cfg(test)]
+mod tests;
 pub mod texts;
 pub mod words;
-mod form_laws;

@@ -8,7 +8,7 @@ ghost use Rattle.ghost_model.specs.Spelled as spelled;
 ghost use Rattle.key_commands.specs.Form as form;
 ghost use Rattle.key_commands.specs.Pieces as pieces;
 
-use crate::pieces::{begins_name, is_name_byte};
+use crate::pieces::{begins_name, is_bytes, is_name_byte};
 use ghost_base::Text64;
 
 /// The name that bytes spell in lower case, where they may be a table's or a column's.
@@ -80,34 +80,34 @@ fn is_reserved(word: &[u8]) -> bool
 fn is_keyword(word: &[u8]) -> bool
     ensures { result ≡ not (is_none (keyword_of word.now)) }
 {
-    if is(word, b"and") {
+    if is_bytes(word, b"and") {
         true
-    } else if is(word, b"between") {
+    } else if is_bytes(word, b"between") {
         true
-    } else if is(word, b"char") {
+    } else if is_bytes(word, b"char") {
         true
-    } else if is(word, b"create") {
+    } else if is_bytes(word, b"create") {
         true
-    } else if is(word, b"from") {
+    } else if is_bytes(word, b"from") {
         true
-    } else if is(word, b"hidden") {
+    } else if is_bytes(word, b"hidden") {
         true
-    } else if is(word, b"int") {
+    } else if is_bytes(word, b"int") {
         true
-    } else if is(word, b"integer") {
+    } else if is_bytes(word, b"integer") {
         true
-    } else if is(word, b"key") {
+    } else if is_bytes(word, b"key") {
         true
-    } else if is(word, b"primary") {
+    } else if is_bytes(word, b"primary") {
         true
-    } else if is(word, b"references") {
+    } else if is_bytes(word, b"references") {
         true
-    } else if is(word, b"select") {
+    } else if is_bytes(word, b"select") {
         true
-    } else if is(word, b"table") {
+    } else if is_bytes(word, b"table") {
         true
     } else {
-        is(word, b"where")
+        is_bytes(word, b"where")
     }
 }
 
@@ -115,34 +115,27 @@ fn is_keyword(word: &[u8]) -> bool
 fn is_other_reserved(word: &[u8]) -> bool
     ensures { result ≡ list_any (bytes_eq word.now) other_reserved }
 {
-    if is(word, b"by") {
+    if is_bytes(word, b"by") {
         true
-    } else if is(word, b"count") {
+    } else if is_bytes(word, b"count") {
         true
-    } else if is(word, b"group") {
+    } else if is_bytes(word, b"group") {
         true
-    } else if is(word, b"in") {
+    } else if is_bytes(word, b"in") {
         true
-    } else if is(word, b"is") {
+    } else if is_bytes(word, b"is") {
         true
-    } else if is(word, b"max") {
+    } else if is_bytes(word, b"max") {
         true
-    } else if is(word, b"min") {
+    } else if is_bytes(word, b"min") {
         true
-    } else if is(word, b"not") {
+    } else if is_bytes(word, b"not") {
         true
-    } else if is(word, b"null") {
+    } else if is_bytes(word, b"null") {
         true
-    } else if is(word, b"or") {
+    } else if is_bytes(word, b"or") {
         true
     } else {
-        is(word, b"sum")
+        is_bytes(word, b"sum")
     }
-}
-
-/// Whether a word is this one.
-fn is(word: &[u8], other: &[u8]) -> bool
-    ensures { result ≡ bytes_eq word.now other.now }
-{
-    word == other
 }

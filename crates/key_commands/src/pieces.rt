@@ -1,6 +1,6 @@
 //! Texts in pieces: fronts, ends and words.
 
-ghost use Rattle.std.specs.Prelude.{◌≡◌, ℕ, List, [], ◌∷◌, ◌++◌, true, length, take_while, flat_map, IfSome, IfNone};
+ghost use Rattle.std.specs.Prelude.{◌≡◌, ℕ, List, [], ◌∷◌, ◌++◌, true, length, take_while, flat_map, bytes_eq, IfSome, IfNone};
 ghost use Rattle.ghost_model.specs.Tokens as tokens;
 ghost use Rattle.key_commands.specs.Form.{IsLine};
 ghost use Rattle.key_commands.specs.Pieces.{ends_word, is_word};
@@ -90,4 +90,11 @@ pub fn begins_name(byte: u8) -> bool
     ensures { result ≡ tokens.begins_name byte }
 {
     b'a' <= byte && byte <= b'z' || b'A' <= byte && byte <= b'Z' || byte == b'_'
+}
+
+/// Whether bytes are these.
+pub fn is_bytes(bytes: &[u8], other: &[u8]) -> bool
+    ensures { result ≡ bytes_eq bytes.now other.now }
+{
+    bytes == other
 }

@@ -47,5 +47,7 @@ fn is_wanted(form: &Form, wanted: &[u8]) -> bool
 fn are_plain(wanted: &[u8]) -> bool
     ensures { result ≡ list_all spelled.is_plain wanted.now }
 {
-    wanted.iter().all(|&byte| 0x20 <= byte && byte <= 0x7E && byte != b'\'')
+    wanted
+        .iter()
+        .all(|&byte| 0x20 <= byte && byte <= 0x7E && byte != b'\'')
 }

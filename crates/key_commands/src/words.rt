@@ -1,7 +1,8 @@
 //! The words of the command `local`.
 
-ghost use Rattle.std.specs.Prelude.{◌≡◌, IfOk, map, option_map, string_bytes};
+ghost use Rattle.std.specs.Prelude.{◌≡◌, ◌++◌, true, IfOk, OnOk, map, option_map, string_bytes};
 ghost use Rattle.key_commands.specs.Words as words;
+ghost use Rattle.key_commands.specs.Pieces.{is_word};
 ghost use Rattle.key_commands.specs.Views.{names_view};
 
 use std::alloc::{AllocError, Global};
@@ -42,15 +43,27 @@ pub fn names_of(args: &[String]) -> Option<Names<'_>>
 }
 
 /// The name of the file of a table's rows.
-pub fn table_file(alloc: Global, tables: &str, table: &str) -> Result<String, AllocError>
+pub fn table_file(alloc: Global, tables: &str, table: &[u8]) -> Result<String, AllocError>
+    requires { is_word table.now ≡ true }
     ensures { IfOk result (λ name. string_bytes name ≡ words.table_file tables.now table.now) }
 {
     let mut name = String::new(alloc);
     name.push_str(tables)?;
     name.push_str("/")?;
-    name.push_str(table)?;
+    push_word(&mut name, table)?;
     name.push_str(".csv")?;
     Ok(name)
+}
+
+/// Puts a word at the end of a text.
+fn push_word(text: &mut String, word: &[u8]) -> Result<(), AllocError>
+    requires { is_word word.now ≡ true }
+    ensures { OnOk result (string_bytes text.new ≡ string_bytes text.old ++ word.now) }
+{
+    for byte in word {
+        text.push(*byte as char)?;
+    }
+    Ok(())
 }
 
 /// Whether the words are those of `local`.

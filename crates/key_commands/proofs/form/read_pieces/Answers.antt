@@ -1,4 +1,4 @@
-use Rattle.std.proofs.Common.{◌≡◌, ◌∙◌, ◌++◌, [], sym, ap, refl, codes, true, length, ◌==◌}
+use Rattle.std.proofs.Common.{◌∙◌, ◌++◌, [], sym, ap, refl, codes, length, ◌==◌}
 use Rattle.std.proofs.lemmas.List.{append_cancel_left}
 use Rattle.key_commands.specs.Pieces.{after_begin, after_secret, after_shown, after_shown_most, after_table}
 use Rattle.key_commands.proofs.OneReading.{no_bytes, same_rest}

@@ -8,6 +8,6 @@ returns c = record {
   payload = payload_of_form;
   width = λ form wanted. refl;
   kinds = λ form wanted. refl;
-  proper = λ form wanted e w. form_ask_is_proper form wanted w;
-  taken = λ form wanted e w. form_ask_in form wanted w;
+  proper = form_ask_is_proper;
+  taken = form_ask_in;
 }

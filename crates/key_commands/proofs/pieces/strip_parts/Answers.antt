@@ -1,4 +1,3 @@
-use Rattle.std.proofs.Common.{Bor, List, ℕ}
 use Rattle.key_commands.proofs.OneReading.{behind_step}
 use Rattle.key_commands.proofs.pieces.strip_parts.Goals as goal
 

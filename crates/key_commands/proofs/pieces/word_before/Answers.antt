@@ -1,4 +1,4 @@
-use Rattle.std.proofs.Common.{◌≡◌, ◌∙◌, ap, take}
+use Rattle.std.proofs.Common.{◌∙◌, ap, take}
 use Rattle.key_commands.specs.Pieces.{is_word}
 use Rattle.key_commands.proofs.OneReading.{no_word, run_is_word}
 use Rattle.key_commands.proofs.pieces.word_before.Goals as goal

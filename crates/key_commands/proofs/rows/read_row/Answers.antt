@@ -1,6 +1,5 @@
-use Rattle.std.proofs.Common.{◌≡◌, ◌≤◌, ◌∙◌, sym, arith}
+use Rattle.std.proofs.Common.{◌∙◌, sym, arith}
 use Rattle.csv.specs.Records.{fields_of}
-use Rattle.ghost_model.specs.LoadFaults.{most_rows}
 use Rattle.key_commands.specs.Views.{form_view}
 use Rattle.key_commands.proofs.ReadRows.{other_shown, other_secret, is_row}
 use Rattle.key_commands.proofs.rows.read_row.Goals as goal

@@ -1,7 +1,5 @@
-use Rattle.std.proofs.Common.{◌≡◌, ◌≤◌, ◌<◌, ◌∙◌, ◌∷◌, [], List, ℕ, length, true, sym, arith}
+use Rattle.std.proofs.Common.{◌∙◌, sym, arith}
 use Rattle.csv.specs.Records.{fields_of}
-use Rattle.ghost_model.specs.Database.{records_of}
-use Rattle.ghost_model.specs.LoadFaults.{most_bytes}
 use Rattle.key_commands.specs.Views.{form_view}
 use Rattle.key_commands.proofs.ReadRows.{begin, no_record, none_broken, other_header, row_broken, row_read, too_long}
 use Rattle.key_commands.proofs.rows.read_rows.Goals as goal
@@ -22,7 +20,7 @@ pub loop-found-init : goal.loop-found-init
 loop-found-init c =
     rw (c.new-shown.ensures, c.new-secret.ensures)
     (begin (form_view c.args.form.now) c.args.file.now (fields_of c.read.new.row) c.read.new.self (omega arith)
-      (sym c.open-records.ensures ∙ rw c.if-not-has_header.false at c.in-Ok.ensures) (sym c.is_header.ensures ∙ c.if-not-is_header.false))
+    (sym c.open-records.ensures ∙ rw c.if-not-has_header.false at c.in-Ok.ensures) (sym c.is_header.ensures ∙ c.if-not-is_header.false))
 
 pub returns-then-not-found-clause-judged : goal.returns-then-not-found-clause-judged
 returns-then-not-found-clause-judged c =

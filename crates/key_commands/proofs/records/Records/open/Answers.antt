@@ -11,7 +11,8 @@ invariant_of-result c =
       going = made.fresh;
       plain = rw (flexible, headers) at made.trim ∙ c.new.ensures.trim;
       standard = rw (flexible, headers) at made.config ∙ c.new.ensures.config;
-      ready = inr (inr (rw (flexible, headers) at made.has_headers, made.headers)) })
+      ready = inr (inr (rw (flexible, headers) at made.has_headers, made.headers));
+    })
 
 pub returns : goal.returns
 returns c = ap₂ records_left c.from_reader.ensures.source c.from_reader.ensures.state

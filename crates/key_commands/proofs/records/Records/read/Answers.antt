@@ -1,4 +1,4 @@
-use Rattle.std.proofs.Common.{Bor, ◌≡◌, ◌∙◌, sym, ℕ, List, Some, true, Ok, Err}
+use Rattle.std.proofs.Common.{Bor, ◌∙◌, sym, ℕ, List, Some}
 use Rattle.csv.specs.Records.{fields_of}
 use Rattle.csv.specs.Reading.{stops_reader, error_kind}
 use Rattle.key_commands.proofs.ReadRecords.{stays, stays_after, reads}
@@ -18,4 +18,4 @@ pub returns : goal.returns
 returns c =
     rw (← c.self.view_is)
     (reads c.self.inside.reader c.read_byte_record.new.self c.in-Ok.found (fields_of c.read_byte_record.new.row) c.self.invariant
-      (λ failed. cc (sym c.in-Ok.is ∙ c.read_byte_record.ensures.failed failed)) c.in-Ok.ensures.reads)
+    (λ failed. cc (sym c.in-Ok.is ∙ c.read_byte_record.ensures.failed failed)) c.in-Ok.ensures.reads)

@@ -1,6 +1,4 @@
-use Rattle.std.proofs.Common.{◌∙◌, ◌≡◌, sym, ap, Some}
-use Rattle.std.specs.Prelude.{option_map}
-use Rattle.ghost_model.specs.Cells.{padded}
+use Rattle.std.proofs.Common.{◌≡◌, sym, ap, Some}
 use Rattle.key_commands.specs.Texts.{TextList}
 use Rattle.key_commands.proofs.KeptTexts.{room, placed}
 use Rattle.key_commands.proofs.texts.Texts.cell.Goals as goal

@@ -1,6 +1,4 @@
-use Rattle.std.proofs.Common.{◌∙◌, ◌≡◌, sym, ap, Some, take, length, List, ℕ}
-use Rattle.ghost_model.specs.Cells.{text_in}
-use Rattle.ghost_model.specs.Database as database
+use Rattle.std.proofs.Common.{◌≡◌, sym, ap}
 use Rattle.key_commands.specs.Texts.{TextList}
 use Rattle.key_commands.proofs.KeptTexts.{room, placed, text_front}
 use Rattle.key_commands.proofs.texts.Texts.get.Goals as goal

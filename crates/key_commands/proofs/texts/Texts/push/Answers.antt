@@ -1,6 +1,5 @@
-use Rattle.std.proofs.Common.{◌∙◌, ◌≡◌, ◌+◌, ◌++◌, ◌∷◌, [], ℕ, List, true, suc, refl, sym, ap, arith, length}
-use Rattle.ghost_model.specs.Database as database
-use Rattle.key_commands.specs.Texts.{TextList, texts_in}
+use Rattle.std.proofs.Common.{◌≡◌, ◌+◌, suc, refl, sym, ap, arith, length}
+use Rattle.key_commands.specs.Texts.{TextList}
 use Rattle.key_commands.proofs.KeptTexts.{how_many, kept_more, texts_more}
 use Rattle.key_commands.proofs.texts.Texts.push.Goals as goal
 
@@ -15,7 +14,7 @@ pub invariant_of-self-2 : goal.invariant_of-self-2
 invariant_of-self-2 c =
     let width : c.args.self.now.width ≡ c.self.inside.width = ap (λ (list : TextList). list.width) (sym c.self.view_is) in
     let more = kept_more c.self.inside.width c.self.inside.count c.self.inside.bytes.items c.args.text.now c.put_cell.new.cells.items
-      c.in_ok-put_cell.ensures.put c.self.invariant.size (rw width at c.requires.text) c.self.invariant.cells in
+    c.in_ok-put_cell.ensures.put c.self.invariant.size (rw width at c.requires.text) c.self.invariant.cells in
     record { small = c.self.invariant.small; size = more.0; cells = more.1 }
 
 pub returns-clause-texts : goal.returns-clause-texts
