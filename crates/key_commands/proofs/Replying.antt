@@ -6,7 +6,7 @@ use Rattle.ghost_model.specs.Schema.{is_empty}
 use Rattle.ghost_model.specs.Channel.{Frame, Replied, Done}
 use Rattle.ghost_model.specs.Frames.{frame_bytes}
 use Rattle.ghost_model.specs.Asks.{ReplyRow, row_bytes}
-use Rattle.ghost_model.specs.Host.{Stand, Listening, Replying, Answered, goes_on, after_reply, rows_frame, grouped, groups_from}
+use Rattle.ghost_model.specs.Host.{Stand, Listening, Replying, Response, goes_on, after_reply, rows_frame, grouped, groups_from}
 use Rattle.key_commands.specs.Texts.{TextList}
 use Rattle.key_commands.specs.FormMeaning.{bare_row, identifier_bytes}
 use Rattle.key_commands.specs.Hosting.{matching_from, reply_left}
@@ -68,23 +68,23 @@ pub bare_count : (identifiers : List ℕ) → length (map bare_row identifiers) 
 bare_count [] = refl
 bare_count (x ∷ xs) = let e = bare_count xs in omega (arith, e)
 
-some_is : (answered other : Answered) → Some other ≡ Some answered → other ≡ answered
+some_is : (answered other : Response) → Some other ≡ Some answered → other ≡ answered
 some_is answered other e = cc
 
 -- the frame that a reply goes on with, and where it then stands
-pub record Goes (answered : Answered) (serial : ℕ) (frame : Frame) (stand : Stand) : Type 0 where
+pub record Goes (answered : Response) (serial : ℕ) (frame : Frame) (stand : Stand) : Type 0 where
   pub says : answered.says ≡ frame ∷ []
   pub stand_is : answered.stand ≡ stand
 
-goes_as : (serial : ℕ) (frame : Frame) (rest frames : List Frame) (stand : Stand) (answered : Answered) → goes_on serial frames ≡ Some answered → frames ≡ frame ∷ rest → after_reply serial rest ≡ stand → Goes answered serial frame stand
+goes_as : (serial : ℕ) (frame : Frame) (rest frames : List Frame) (stand : Stand) (answered : Response) → goes_on serial frames ≡ Some answered → frames ≡ frame ∷ rest → after_reply serial rest ≡ stand → Goes answered serial frame stand
 goes_as serial frame rest frames stand answered goes is after =
     let same : record { says = frame ∷ []; stand = after_reply serial rest } ≡ answered = some_is answered _ (sym (ap (goes_on serial) is) ∙ goes) in
     record {
-      says = sym (ap (λ (a : Answered). a.says) same);
-      stand_is = sym (ap (λ (a : Answered). a.stand) same) ∙ after;
+      says = sym (ap (λ (a : Response). a.says) same);
+      stand_is = sym (ap (λ (a : Response). a.stand) same) ∙ after;
     }
 
-pub goes_done : (column : TextList) (cell : List ℕ) (serial place sent : ℕ) (answered : Answered) → goes_on serial (reply_left serial sent (map bare_row (matching_from column cell place))) ≡ Some answered
+pub goes_done : (column : TextList) (cell : List ℕ) (serial place sent : ℕ) (answered : Response) → goes_on serial (reply_left serial sent (map bare_row (matching_from column cell place))) ≡ Some answered
     → take 510 (matching_from column cell place) ≡ [] → Goes answered serial (Done serial sent) (Listening (serial + 1))
 goes_done column cell serial place sent answered goes none =
     let empty : matching_from column cell place ≡ [] = none_left (matching_from column cell place) none in
@@ -95,7 +95,7 @@ goes_done column cell serial place sent answered goes none =
     none_left [] e = refl
     none_left (x ∷ xs) e = cc
 
-pub goes_rows : (column : TextList) (cell : List ℕ) (serial place sent next count : ℕ) (answered : Answered) → goes_on serial (reply_left serial sent (map bare_row (matching_from column cell place))) ≡ Some answered
+pub goes_rows : (column : TextList) (cell : List ℕ) (serial place sent next count : ℕ) (answered : Response) → goes_on serial (reply_left serial sent (map bare_row (matching_from column cell place))) ≡ Some answered
     → 0 < length (take 510 (matching_from column cell place)) → matching_from column cell next ≡ drop 510 (matching_from column cell place) → count ≡ length (take 510 (matching_from column cell place))
     → Goes answered serial (Replied serial (identifier_bytes (take 510 (matching_from column cell place)))) (Replying serial (reply_left serial (sent + count) (map bare_row (matching_from column cell next))))
 goes_rows column cell serial place sent next count answered goes some left counted =
@@ -117,7 +117,7 @@ goes_rows column cell serial place sent next count answered goes some left count
 
 -- the same, as it was said
 pub said_done :
-    (column : TextList) (cell : List ℕ) (serial place sent : ℕ) (answered : Answered) (speech : Speech) (count : ℕ)
+    (column : TextList) (cell : List ℕ) (serial place sent : ℕ) (answered : Response) (speech : Speech) (count : ℕ)
     → goes_on serial (reply_left serial sent (map bare_row (matching_from column cell place))) ≡ Some answered
     → count ≡ 4 * length (take 510 (matching_from column cell place)) → count ≡ 0
     → owed speech ≡ frame_bytes (Done serial sent) → IsAnswered column cell (stage.Listening (serial + 1)) speech answered
@@ -130,7 +130,7 @@ said_done column cell serial place sent answered speech count goes counted none 
     }
 
 pub said_rows :
-    (column : TextList) (cell : List ℕ) (serial place sent next : ℕ) (answered : Answered) (speech : Speech) (rows : List ℕ) (size : ℕ)
+    (column : TextList) (cell : List ℕ) (serial place sent next : ℕ) (answered : Response) (speech : Speech) (rows : List ℕ) (size : ℕ)
     → goes_on serial (reply_left serial sent (map bare_row (matching_from column cell place))) ≡ Some answered
     → size ≡ 4 * length (take 510 (matching_from column cell place)) → 0 < size
     → rows ≡ identifier_bytes (take 510 (matching_from column cell place))

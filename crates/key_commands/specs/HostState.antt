@@ -1,7 +1,7 @@
 -- What the host in the process has still to say, and that a frame of the key was answered.
 use Rattle.std.specs.Prelude.{◌≡◌, ◌≤◌, ◌<◌, ◌-◌, ◌^◌, ℕ, List, length, take, drop, flat_map}
 use Rattle.ghost_model.specs.Frames.{frame_bytes}
-use Rattle.ghost_model.specs.Host.{Answered}
+use Rattle.ghost_model.specs.Host.{Response}
 use Rattle.key_commands.specs.Texts.{TextList}
 use Rattle.key_commands.specs.Hosting.{IsAt}
 use Rattle.key_commands.specs.declared.host_end.Stage.{Stage}
@@ -13,7 +13,7 @@ abbrev pub owed : Speech → List ℕ
 owed speech = take (speech.to - speech.from) (drop speech.from speech.page)
 
 -- a frame was answered so: the frames are said, and the host stands there
-pub record IsAnswered (column : TextList) (cell : List ℕ) (stage : Stage) (speech : Speech) (answered : Answered) : Type 0 where
+pub record IsAnswered (column : TextList) (cell : List ℕ) (stage : Stage) (speech : Speech) (answered : Response) : Type 0 where
   pub stand : IsAt column cell stage answered.stand
   pub says : owed speech ≡ flat_map frame_bytes answered.says
 

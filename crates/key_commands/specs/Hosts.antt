@@ -1,6 +1,6 @@
 -- The host in the process as a whole: what it is able to do, what it holds, where it stands, and how a frame was answered.
 use Rattle.std.specs.Prelude.{◌≡◌, ◌≤◌, ◌<◌, ◌-◌, ◌^◌, ℕ, List, length, take, flat_map}
-use Rattle.ghost_model.specs.Host.{Holding, Stand, Answered}
+use Rattle.ghost_model.specs.Host.{Holding, Stand, Response}
 use Rattle.key_commands.specs.Hosting.{HoldsColumn, IsAt}
 use Rattle.key_commands.specs.HostState.{IsAnswered, IsKept}
 use Rattle.key_commands.specs.declared.host_end.HostEnd.{HostEnd}
@@ -32,5 +32,5 @@ abbrev pub Stands : HostEnd → Stand → Type 0
 Stands host stand = IsAt host.column.now (take host.column.now.width host.cell) host.stage stand
 
 -- a frame was answered so
-abbrev pub Answers : HostEnd → Answered → Type 0
+abbrev pub Answers : HostEnd → Response → Type 0
 Answers host answered = IsAnswered host.column.now (take host.column.now.width host.cell) host.stage host.speech answered

@@ -7,7 +7,7 @@ ghost use Rattle.key_commands.specs.Texts.{TextList};
 ghost use Rattle.arrayvec.specs.ArrayVec.{array_vec_len};
 ghost use Rattle.ghost_model.specs.Channel as channel;
 ghost use Rattle.ghost_model.specs.Frames.{IsFrame, frame_bytes, payload_of};
-ghost use Rattle.ghost_model.specs.Host.{Holding, Stand, Answered, answer_to, answers_greeting, answers_request, answers_more, answers_ask, goes_on};
+ghost use Rattle.ghost_model.specs.Host.{Holding, Stand, Response, answer_to, answers_greeting, answers_request, answers_more, answers_ask, goes_on};
 ghost use Rattle.channel_codec.specs.Views.{frame_view};
 ghost use Rattle.key_commands.specs.FormMeaning.{identifier_bytes, bare_row};
 ghost use Rattle.key_commands.specs.Hosting.{has_cell, matching_from, HoldsColumn, IsAt, CanCome, IsColumnAsk, reply_left, column_payload};
@@ -124,7 +124,7 @@ fn reply(
     requires sent { sent ≤ place }
     requires serial { serial < 2 ^ 32 - 1 }
     ensures kept { IsKept column.now result }
-    ensures answered { (answered : Answered) → goes_on serial (reply_left serial sent (map bare_row (matching_from column.now cell.now place))) ≡ Some answered
+    ensures answered { (answered : Response) → goes_on serial (reply_left serial sent (map bare_row (matching_from column.now cell.now place))) ≡ Some answered
         → IsAnswered column.now cell.now result speech.new answered }
 {
     let mut rows = Rows::new();
@@ -151,7 +151,7 @@ fn reply(
 fn greet(catalog: &[u8], frame: &Frame, speech: &mut Speech) -> Stage
     requires short { length catalog.now ≤ 2039 }
     ensures kept { (column : TextList) → IsKept column result }
-    ensures answered { (held : Holding) (column : TextList) (cell : List ℕ) (answered : Answered) → catalog.now ≡ catalog_bytes held.catalog
+    ensures answered { (held : Holding) (column : TextList) (cell : List ℕ) (answered : Response) → catalog.now ≡ catalog_bytes held.catalog
         → answers_greeting held (frame_view frame.now) ≡ Some answered → IsAnswered column cell result speech.new answered }
 {
     match frame {
@@ -196,7 +196,7 @@ fn answer_ask(
     requires few { length column.now.texts < 2 ^ 32 - 1 }
     requires serial { serial < 2 ^ 32 - 1 }
     ensures kept { IsKept column.now result }
-    ensures answered { (held : Holding) (catalog : List ℕ) (answered : Answered) → HoldsColumn held catalog column.now → IsColumnAsk column.now.width serial payload.now
+    ensures answered { (held : Holding) (catalog : List ℕ) (answered : Response) → HoldsColumn held catalog column.now → IsColumnAsk column.now.width serial payload.now
         → answers_ask held serial (ask_in held.catalog.schema payload.now) ≡ Some answered
         → IsAnswered column.now (take column.now.width cell.new) result speech.new answered }
 {
@@ -222,7 +222,7 @@ fn listen(
     requires room { length cell.old ≡ 64 }
     requires few { length column.now.texts < 2 ^ 32 - 1 }
     ensures kept { IsKept column.now result }
-    ensures answered { (held : Holding) (catalog : List ℕ) (answered : Answered) → HoldsColumn held catalog column.now
+    ensures answered { (held : Holding) (catalog : List ℕ) (answered : Response) → HoldsColumn held catalog column.now
         → CanCome column.now.width (frame_view frame.now) → answers_request held next (frame_view frame.now) ≡ Some answered
         → IsAnswered column.now (take column.now.width cell.new) result speech.new answered }
 {
@@ -251,7 +251,7 @@ fn go_on(
     requires few { length column.now.texts < 2 ^ 32 - 1 }
     requires within { IsWithin column.now serial place sent }
     ensures kept { IsKept column.now result }
-    ensures answered { (answered : Answered) → answers_more serial (reply_left serial sent (map bare_row (matching_from column.now cell.now place))) (frame_view frame.now) ≡ Some answered
+    ensures answered { (answered : Response) → answers_more serial (reply_left serial sent (map bare_row (matching_from column.now cell.now place))) (frame_view frame.now) ≡ Some answered
         → IsAnswered column.now cell.now result speech.new answered }
 {
     match frame {
@@ -299,7 +299,7 @@ impl<'a> HostEnd<'a> {
         requires { IsAble self.old }
         ensures able { IsAble self.new }
         ensures same { IsSameHost self.old self.new }
-        ensures answered { (held : Holding) (stand : Stand) (answered : Answered) → Holds held self.old → Stands self.old stand
+        ensures answered { (held : Holding) (stand : Stand) (answered : Response) → Holds held self.old → Stands self.old stand
             → CanCome (width_of self.old) (frame_view frame.now) → answer_to held stand (frame_view frame.now) ≡ Some answered → Answers self.new answered }
     {
         match self.stage {
@@ -333,7 +333,7 @@ impl<'a> HostEnd<'a> {
         requires { IsAble self.old }
         ensures able { IsAble self.new }
         ensures same { IsSameHost self.old self.new }
-        ensures answered { (held : Holding) (stand : Stand) (frame : channel.Frame) (answered : Answered) → Holds held self.old → Stands self.old stand
+        ensures answered { (held : Holding) (stand : Stand) (frame : channel.Frame) (answered : Response) → Holds held self.old → Stands self.old stand
             → IsFrame frame → bytes.now ≡ frame_bytes frame → CanCome (width_of self.old) frame → answer_to held stand frame ≡ Some answered
             → Answers self.new answered }
     {
