@@ -1,10 +1,10 @@
 pub mod TokenLemmas
-mod TextLemmas
-mod GrammarLemmas
+pub mod TextLemmas
+pub mod GrammarLemmas
 pub mod SchemaLemmas
 pub mod SchemaRuleLemmas
-mod SchemaTreeLemmas
-mod QueryLemmas
+pub mod SchemaTreeLemmas
+pub mod QueryLemmas
 pub mod QueryReadingLemmas
-mod ChannelLemmas
-mod MeaningLemmas
+pub mod ChannelLemmas
+pub mod MeaningLemmas

@@ -63,7 +63,6 @@ pub data Reason : Type 0 where
   WasAnswered : Reason
   MetFault : Fault → Reason
 
-
 pub record RefusedLines (schema : Schema) (text : ℕ) (written : List ℕ) (lines : List (List ℕ)) : Type 0 where
   pub refusal : Refusal
   pub refused : reading schema written ≡ Err refusal

@@ -1,3 +1,7 @@
+mod Journals
+mod Gathering
+mod Replying
+mod Answering
 mod Numerals
 mod ReadRecords
 mod KeptTexts

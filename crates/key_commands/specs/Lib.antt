@@ -1,5 +1,9 @@
 pub mod Form
 pub mod FormMeaning
+pub mod Journaling
+pub mod Hosting
+pub mod HostState
+pub mod Hosts
 pub mod Words
 pub mod Numbers
 pub mod Records

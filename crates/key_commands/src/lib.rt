@@ -1,6 +1,8 @@
 //! The commands of the key: what the program does with its words, its files, its flash and its link.
 #![tactic(auto)]
 
+mod host_end;
+mod journal;
 pub mod fields;
 pub mod form;
 mod form_laws;
@@ -12,6 +14,7 @@ pub mod records;
 pub mod rows;
 pub mod status;
 pub mod script;
+mod speech;
 #[cfg(test)]
 mod tests;
 pub mod texts;

@@ -12,17 +12,14 @@ use Rattle.std.proofs.Math.Seq.{drop-append_seam}
 use Rattle.ghost_model.proofs.ChannelLemmas.{spelled_is_found}
 use Rattle.ghost_model.specs.Channel.{Catalog, Ask, Frame, Hello, Asking, More, Bye}
 use Rattle.ghost_model.specs.Asks.{ReplyRow, row_bytes, ask_in}
-use Rattle.ghost_model.specs.Host.{Holding, Stand, Greeting, Listening, Replying, Over, Answered, welcomes, reply_to, replies_to, answers_ask, goes_on, after_reply, said_to, said_with, ask_of_frame, frames_within, frame_and, IsFront, groups_from, grouped, welcomes_of, welcome_part, rows_frame, honest_stream, host_says, frames_of}
+use Rattle.ghost_model.specs.Host.{Holding, Stand, Greeting, Listening, Replying, Over, Response, welcomes, reply_to, replies_to, answers_ask, goes_on, after_reply, said_to, said_with, asks_in_frame, frames_within, frame_and, IsFront, groups_from, grouped, welcomes_of, welcome_part, rows_frame, honest_stream, host_says, frames_of}
 
 module _ (held : Holding) where
-  asks_in : List Frame → List Ask
-  asks_in frames = flat_map (ask_of_frame held.catalog.schema) frames
-
   -- what an honest host would say from here on
   abbrev owed : List Frame → Stand → List Frame
-  owed frames Greeting = welcomes held.catalog ++ replies_to held 1 (flat_map (ask_of_frame held.catalog.schema) frames)
-  owed frames (Listening next) = replies_to held next (flat_map (ask_of_frame held.catalog.schema) frames)
-  owed frames (Replying serial rest) = rest ++ replies_to held (serial + 1) (flat_map (ask_of_frame held.catalog.schema) frames)
+  owed frames Greeting = welcomes held.catalog ++ replies_to held 1 (flat_map (asks_in_frame held.catalog.schema) frames)
+  owed frames (Listening next) = replies_to held next (flat_map (asks_in_frame held.catalog.schema) frames)
+  owed frames (Replying serial rest) = rest ++ replies_to held (serial + 1) (flat_map (asks_in_frame held.catalog.schema) frames)
   owed frames Over = []
 
   nothing : (whole : List Frame) → IsFront [] whole
@@ -34,24 +31,24 @@ module _ (held : Holding) where
     joined = ap (λ (x : List Frame). says ++ x) f.joined ∙ sym (append_assoc says front f.rest);
   }
 
-  owed_after : (serial : ℕ) (rest frames : List Frame) → owed frames (after_reply serial rest) ≡ rest ++ replies_to held (serial + 1) (flat_map (ask_of_frame held.catalog.schema) frames)
+  owed_after : (serial : ℕ) (rest frames : List Frame) → owed frames (after_reply serial rest) ≡ rest ++ replies_to held (serial + 1) (flat_map (asks_in_frame held.catalog.schema) frames)
   owed_after serial [] frames = refl
   owed_after serial (frame ∷ rest) frames = refl
 
   -- one more frame of a reply
-  on_front : (serial : ℕ) (reply later : List Frame) → ((stand : Stand) → IsFront (said_to held later stand) (owed later stand)) → IsFront (said_with (said_to held later) (goes_on serial reply)) (reply ++ replies_to held (serial + 1) (flat_map (ask_of_frame held.catalog.schema) later))
+  on_front : (serial : ℕ) (reply later : List Frame) → ((stand : Stand) → IsFront (said_to held later stand) (owed later stand)) → IsFront (said_with (said_to held later) (goes_on serial reply)) (reply ++ replies_to held (serial + 1) (flat_map (asks_in_frame held.catalog.schema) later))
   on_front serial [] later h = nothing _
   on_front serial (frame ∷ rest) later h =
       subst (λ (x : List Frame). IsFront (frame ∷ said_to held later (after_reply serial rest)) (frame ∷ x)) (owed_after serial rest later)
       (more_said (frame ∷ []) _ _ (h (after_reply serial rest)))
 
-  ask_front : (serial : ℕ) (o : Option Ask) (later : List Frame) → ((stand : Stand) → IsFront (said_to held later stand) (owed later stand)) → IsFront (said_with (said_to held later) (answers_ask held serial o)) (replies_to held serial (option_to_list o ++ flat_map (ask_of_frame held.catalog.schema) later))
+  ask_front : (serial : ℕ) (o : Option Ask) (later : List Frame) → ((stand : Stand) → IsFront (said_to held later stand) (owed later stand)) → IsFront (said_with (said_to held later) (answers_ask held serial o)) (replies_to held serial (option_to_list o ++ flat_map (asks_in_frame held.catalog.schema) later))
   ask_front serial None later h = nothing _
   ask_front serial (Some ask) later h =
       subst (λ (x : List Frame). IsFront (said_with (said_to held later) (goes_on serial (reply_to held serial ask))) x) refl
       (on_front serial (reply_to held serial ask) later h)
 
-  if_front : (b : Bool) (o : Option Answered) (later whole : List Frame) → (b ≡ true → IsFront (said_with (said_to held later) o) whole) → IsFront (said_with (said_to held later) (if b then o else None)) whole
+  if_front : (b : Bool) (o : Option Response) (later whole : List Frame) → (b ≡ true → IsFront (said_with (said_to held later) o) whole) → IsFront (said_with (said_to held later) (if b then o else None)) whole
   if_front true o later whole h = h refl
   if_front false o later whole h = nothing whole
 
@@ -67,7 +64,7 @@ module _ (held : Holding) where
   is_front (_ ∷ later) Greeting = nothing _
   is_front (Asking serial payload ∷ later) (Listening next) =
       if_front (serial == next) (answers_ask held serial (ask_in held.catalog.schema payload)) later _
-      (λ e. subst (λ (n : ℕ). IsFront (said_with (said_to held later) (answers_ask held serial (ask_in held.catalog.schema payload))) (replies_to held n (option_to_list (ask_in held.catalog.schema payload) ++ flat_map (ask_of_frame held.catalog.schema) later)))
+      (λ e. subst (λ (n : ℕ). IsFront (said_with (said_to held later) (answers_ask held serial (ask_in held.catalog.schema payload))) (replies_to held n (option_to_list (ask_in held.catalog.schema payload) ++ flat_map (asks_in_frame held.catalog.schema) later)))
       (eqb-true serial next e)
       (ask_front serial (ask_in held.catalog.schema payload) later (is_front later)))
   is_front (Bye ∷ later) (Listening next) = subst (λ (x : List Frame). IsFront x (owed later (Listening next))) (sym (silent_after later)) (nothing _)

@@ -6,7 +6,8 @@ use Rattle.std.proofs.lemmas.Bool.{lt-leb}
 use Rattle.std.proofs.lemmas.Bool.Decides.{Decides-int_eq}
 use Rattle.ghost_model.specs.Schema.{Schema, Column, Kind, Integer, Chars, columns_of, column_at}
 use Rattle.ghost_model.specs.Values.{Value, Number, Row, Rows, Database}
-use Rattle.ghost_model.specs.Database.{IsDatabase, row_of, rows_of, row_count, field, fits_integer, is_text, is_of_kind, is_row_among, is_numeral, number_of, signed_within, integer_of, value_of, row_spelled, records_of, database_of}
+use Rattle.ghost_model.specs.Tokens.{number_of}
+use Rattle.ghost_model.specs.Database.{IsDatabase, row_of, rows_of, row_count, field, fits_integer, is_text, is_of_kind, is_row_among, is_numeral, signed_within, integer_of, value_of, row_spelled, records_of, database_of}
 use Rattle.ghost_model.specs.SchemaTrees.{IsTree, identifier}
 use Rattle.ghost_model.specs.LoadFaults
 use Rattle.ghost_model.specs.LoadFaults.{IsFirst, LoadFault, FileLimit, Header, RowLimit, FieldCount, BadId, BadInt, BadChars, BadReference, Place, unless, value_faults, field_faults, is_number, id_faults, fields_faults, row_faults, rows_faults, is_header, record_faults, file_faults, files_faults, key_faults, keys_faults, table_references, references_from, load_faults, most_rows, most_bytes}
