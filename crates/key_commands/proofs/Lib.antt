@@ -20,3 +20,4 @@ mod Parts
 mod WholeOpening
 mod FormReplies
 mod FormFile
+mod OneCause

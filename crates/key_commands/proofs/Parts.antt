@@ -1,18 +1,14 @@
 -- The parts of the input, as they were read.
-use Rattle.std.proofs.Common.{zero, suc, true, lit<, ◌≡◌, ◌≤◌, ◌<◌, ℕ, List, [], ◌∷◌, length, Option, None, Some, MatchOption, refl, sym, ◌∙◌, ap, subst, arith}
+use Rattle.std.proofs.Common.{true, ◌≡◌, ◌≤◌, ◌<◌, ℕ, List, [], ◌∷◌, length, Option, None, Some, MatchOption, refl, sym, ◌∙◌, ap, subst, arith}
 use Rattle.std.specs.FinMap as map
-use Rattle.std.specs.Str.{IsAscii, IsUtf8}
-use Rattle.std.specs.List.{list_all}
 use Rattle.std.specs.Cmp.{first_so, second_so}
-use Rattle.std.proofs.lemmas.Str.{IsUtf8-from_ascii}
-use Rattle.std.proofs.lemmas.Bool.Decides.{nat_tests}
-use Rattle.ghost_model.specs.Tokens.{is_name_byte}
 use Rattle.ghost_model.specs.Spelled.{is_name}
 use Rattle.ghost_model.specs.LoadFaults.{load_faults, most_bytes}
 use Rattle.edge_traits.specs.Files.{Files, HasFile, HasLonger}
 use Rattle.key_commands.specs.Words.{Names, table_file}
-use Rattle.key_commands.specs.Form.{Form, form_schema, is_form, is_short_name, SpellsForm, SpellsScript}
+use Rattle.key_commands.specs.Form.{Form, form_schema, is_form, SpellsForm, SpellsScript}
 use Rattle.key_commands.specs.FormMeaning.{form_payload}
+use Rattle.key_commands.specs.Pieces.{is_word}
 use Rattle.key_commands.specs.Rows.{HoldRows}
 use Rattle.key_commands.specs.declared.rows.Rows.{Rows}
 use Rattle.key_commands.proofs.FormNames.{parts}
@@ -156,18 +152,7 @@ reads_script contents names form script wanted payload read spelled is = record 
   payload_is = is;
 }
 
--- the name of a table is a text
-below : (byte : ℕ) → is_name_byte byte ≡ true → byte < 128
-below byte h = grind (arith, nat_tests)
-
-ascii : (name : List ℕ) → list_all is_name_byte name ≡ true → IsAscii name
-ascii [] h i = lit< tt
-ascii (b ∷ name) h zero = below b (first_so _ _ h)
-ascii (b ∷ name) h (suc i) = ascii name (second_so _ _ h) i
-
-name_bytes : (name : List ℕ) → is_short_name name ≡ true → list_all is_name_byte name ≡ true
+-- the name of a table is a word
+pub table_is_word : (form : Form) → is_form form ≡ true → is_word form.table ≡ true
 unfolding is_name
-name_bytes name h = second_so _ _ (first_so _ _ (first_so _ _ (first_so _ _ h)))
-
-pub table_is_text : (form : Form) → is_form form ≡ true → IsUtf8 form.table
-table_is_text form h = IsUtf8-from_ascii form.table (ascii form.table (name_bytes form.table (parts form h).table))
+table_is_word form h = second_so _ _ (first_so _ _ (first_so _ _ (first_so _ _ (parts form h).table)))

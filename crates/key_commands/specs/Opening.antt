@@ -4,7 +4,7 @@ use Rattle.std.specs.Prelude.{◌≡◌, ◌≤◌, ℕ, List, [], ◌∷◌, le
 use Rattle.ghost_model.specs.Channel.{Catalog}
 use Rattle.ghost_model.specs.Catalog.{catalog_bytes}
 use Rattle.ghost_model.specs.LoadFaults.{load_faults, most_bytes}
-use Rattle.edge_traits.specs.Files.{Files, HasFile}
+use Rattle.edge_traits.specs.Files.{Files, HasFile, with_file}
 use Rattle.key_commands.specs.Words.{Names, table_file}
 use Rattle.key_commands.specs.Form.{Form, form_schema, SpellsForm, SpellsScript}
 use Rattle.key_commands.specs.FormMeaning.{form_payload}
@@ -55,3 +55,9 @@ pub record IsOpened (contents : Option Files) (names : Names) (opened : Opened) 
   -- the identifiers of a reply have room
   pub none_found : opened.found.items ≡ []
   pub room : opened.rows.count ≤ vec_capacity opened.found
+
+-- the files are those of such an opening, and its journal is empty
+pub record IsReady (contents : Option Files) (names : Names) (opened : Opened) : Type 0 where
+  pub before : Option Files
+  pub opening : IsOpened before names opened
+  pub emptied : contents ≡ with_file before names.journal []

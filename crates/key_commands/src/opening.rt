@@ -221,26 +221,15 @@ fn open_rows<D: Depot>(
 }
 
 /// The name of the file of the rows.
+#[tactic(auto, using(crate::proofs::Parts::table_is_word))]
 fn file_of_rows(alloc: Global, names: &Names<'_>, form: &Form) -> Result<String, OpenFault>
     requires { is_form (form_view form.now) ≡ true }
     ensures name { IfOk result (λ name. string_bytes name ≡ words.table_file (names_view names.now).tables (form_view form.now).table) }
     ensures fault { (fault : OpenFault) → result ≡ Err fault → fault ≡ OpenFault.NoMemory }
 {
-    match table_file(alloc, names.tables, table_name(form)) {
+    match table_file(alloc, names.tables, form.table.as_bytes()) {
         Ok(name) => Ok(name),
         Err(_) => Err(OpenFault::NoMemory),
-    }
-}
-
-/// The name of the form's table.
-#[tactic(auto, using(crate::proofs::Parts::table_is_text))]
-fn table_name(form: &Form) -> &str
-    requires { is_form (form_view form.now) ≡ true }
-    ensures { result.now ≡ (form_view form.now).table }
-{
-    match std::str::from_utf8(form.table.as_bytes()) {
-        Ok(name) => name,
-        Err(_) => "",
     }
 }
 
