@@ -1,0 +1,143 @@
+-- A session with one ask, frame by frame: what the key has due, what the host says to it, and what the key then has due.
+use Rattle.std.proofs.Common.{◌≡◌, ℕ, zero, suc, ◌+◌, ◌-◌, ◌*◌, ◌/◌, ◌<◌, ◌≤◌, ◌^◌, Bool, true, false, List, [], ◌∷◌, ◌++◌, length, map, take, drop, sym, ◌∙◌, ap, subst, refl, arith, append-nil, append_assoc, length-append, length-take, Option, Some, None, lit<}
+use Rattle.std.specs.Prelude.{flat_map, if◌then◌else◌, ◌&&◌, ◌==◌, nat_lt, nat_le, All}
+use Rattle.std.proofs.lemmas.List.{length-drop, take-append-drop}
+use Rattle.std.proofs.lemmas.List.Elements.{All-take, All-drop}
+use Rattle.std.proofs.lemmas.Grind.{flat_map-append}
+use Rattle.std.proofs.lemmas.Bool.{eq-eqb}
+use Rattle.ghost_model.specs.Schema.{Kind, is_empty}
+use Rattle.ghost_model.specs.Catalog.{catalog_bytes}
+use Rattle.ghost_model.specs.Channel.{Catalog, Ask, Frame, Hello, Asking, More, Bye, Welcome, Replied, Done}
+use Rattle.ghost_model.specs.Frames.{IsFrame, AreBytes, frame_bytes}
+use Rattle.ghost_model.specs.Asks.{Asked, ReplyRow, IsReplyRow, row_bytes, row_width, kinds_of, rows_in, ask_payload}
+use Rattle.ghost_model.specs.NextMove as next
+use Rattle.ghost_model.specs.NextMove.{Awaits, Missing, Reply, Nothing, Heard, rows_fit, rows_of, last_identifier, are_cells, heard_frame, turn, turn_of_greeting, on_with, still, rows_after, ended_by, ended, Ended, Answered, IsAwaited}
+use Rattle.ghost_model.specs.Host.{Holding, Stand, Greeting, Listening, Replying, Over, Response, answer_to, answers_ask, goes_on, after_reply, reply_to, rows_frame, grouped, IsGroup}
+use Rattle.ghost_model.proofs.ChannelLemmas.Replies.{done_awaited, rows_awaited}
+use Rattle.ghost_model.proofs.ChannelLemmas.Greeting.{welcome_awaited, front_bytes}
+use Rattle.ghost_model.proofs.ChannelLemmas.Rows.{rows_length, spelled_rows_are_read}
+use Rattle.ghost_model.proofs.ChannelLemmas.Tests.{both_hold, hold_both, BothHold}
+use Rattle.key_commands.specs.Hosting.{reply_left}
+use Rattle.key_commands.specs.Serving.{ServesAsk}
+use Rattle.key_commands.proofs.Replying.{at_done, at_rows, still_replying}
+use Rattle.key_commands.proofs.Answering.{welcomes_are, catalog_starts}
+
+-- rows that fit, cut in two
+pub record FitTwo (most last : ℕ) (kinds : List Kind) (one other : List ReplyRow) : Type 0 where
+  pub first : rows_fit most last kinds one ≡ true
+  pub second : rows_fit most (last_identifier last one) kinds other ≡ true
+
+fit_two : (most last : ℕ) (kinds : List Kind) (one other : List ReplyRow) → rows_fit most last kinds (one ++ other) ≡ true → FitTwo most last kinds one other
+unfolding rows_fit
+fit_two most last kinds [] other e = record { first = refl; second = e }
+fit_two most last kinds (row ∷ one) other e =
+    let test : Bool = nat_lt last row.identifier && nat_le row.identifier most && are_cells kinds row.cells in
+    let both : BothHold (nat_lt last row.identifier && nat_le row.identifier most && are_cells kinds row.cells) (rows_fit most row.identifier kinds (one ++ other)) = both_hold _ _ e in
+    let rest : FitTwo most row.identifier kinds one other = fit_two most row.identifier kinds one other both.other in
+    record { first = hold_both _ _ both.one rest.first; second = rest.second }
+
+bytes_back : (one other : List ℕ) → AreBytes (one ++ other) → AreBytes other
+bytes_back [] other h = h
+bytes_back (x ∷ one) other h = bytes_back one other (λ k. h (suc k))
+
+module _ (held : Holding) (asked : Asked) (can : ServesAsk held asked) where
+  abbrev pub asks : List Asked
+  asks = asked ∷ []
+
+  abbrev pub rows : List ReplyRow
+  rows = held.rows asked.ask
+
+  abbrev pub kinds : List Kind
+  kinds = kinds_of held.catalog.schema asked.ask
+
+  -- the reply goes on: these rows came, and those are still to come
+  pub record Going (h : Heard) (got todo : List ReplyRow) : Type 0 where
+    pub last : ℕ
+    pub awaits : h.awaits ≡ Reply asked 1 [] (length got) last
+    pub fits : rows_fit (rows_of held.catalog asked.ask.table) last (kinds_of held.catalog.schema asked.ask) todo ≡ true
+    pub widths : All (IsReplyRow held.catalog.schema asked.ask) todo
+    pub bytes : AreBytes (flat_map row_bytes todo)
+    pub all : got ++ todo ≡ held.rows asked.ask
+    pub came : h.rows ≡ flat_map row_bytes got
+    pub none_ended : h.ended ≡ []
+
+  pub record Greeted (h : Heard) (got : List ReplyRow) : Type 0 where
+    pub awaits : h.awaits ≡ Missing (catalog_bytes held.catalog)
+    pub none_came : h.rows ≡ []
+    pub none_ended : h.ended ≡ []
+    pub none_got : got ≡ []
+
+  -- the ask was ended, and nothing more is awaited
+  pub record Finished (h : Heard) (got : List ReplyRow) : Type 0 where
+    pub awaits : h.awaits ≡ Nothing
+    pub all : got ≡ held.rows asked.ask
+    pub has_ended : h.ended ≡ ended asked (Answered (flat_map row_bytes (held.rows asked.ask))) ∷ []
+
+  -- the frame that the key has due, where the host stands there
+  pub data Due (h : Heard) (got : List ReplyRow) (frame : Frame) (stand : Stand) : Type 0 where
+    hello : Greeted h got → frame ≡ Hello held.catalog.generation → stand ≡ Greeting → Due h got frame stand
+    ask : Going h [] (held.rows asked.ask) → got ≡ [] → frame ≡ Asking 1 (ask_payload held.catalog.schema asked.ask) → stand ≡ Listening 1 → Due h got frame stand
+    more : (todo : List ReplyRow) → Going h got todo → frame ≡ More 1 → stand ≡ Replying 1 (reply_left 1 (length got) todo) → Due h got frame stand
+    bye : Finished h got → frame ≡ Bye → stand ≡ Listening 2 → Due h got frame stand
+
+  -- the frame that comes from the host, which then stands there
+  pub data Comes (h : Heard) (got : List ReplyRow) (frame : Frame) (stand : Stand) : Type 0 where
+    welcome : Greeted h got → frame ≡ Welcome 1 (catalog_bytes held.catalog) → stand ≡ Listening 1 → Comes h got frame stand
+    some_rows : (todo : List ReplyRow) → Going h got todo → 0 < length todo → frame ≡ rows_frame 1 (take 510 todo) → stand ≡ Replying 1 (reply_left 1 (length got + length (take 510 todo)) (drop 510 todo)) → Comes h got frame stand
+    done : Going h got [] → frame ≡ Done 1 (length got) → stand ≡ Listening 2 → Comes h got frame stand
+
+  -- a frame of the host answers that of the key
+  pub record Exchanged (h : Heard) (got : List ReplyRow) (o : Option Response) : Type 0 where
+    pub frame : Frame
+    pub stand : Stand
+    pub is : o ≡ Some (record { says = frame ∷ []; stand = stand })
+    pub awaited : IsAwaited held.catalog h.awaits frame
+    pub comes : Comes h got frame stand
+
+  one_bound : 1 < 2 ^ 32
+  one_bound = lit< tt
+
+  group_of : (h : Heard) (got todo : List ReplyRow) → (going : Going h got todo) → 0 < length todo → IsGroup held.catalog asked.ask going.last (take 510 todo)
+  group_of h got todo going some =
+      let size : length (take 510 todo) * row_width held.catalog.schema asked.ask ≡ length (take 510 todo) * 4 = ap (λ (w : ℕ). length (take 510 todo) * w) can.narrow in
+      let front : rows_fit (rows_of held.catalog asked.ask.table) going.last (kinds_of held.catalog.schema asked.ask) (take 510 todo ++ drop 510 todo) ≡ true =
+          ap (rows_fit (rows_of held.catalog asked.ask.table) going.last (kinds_of held.catalog.schema asked.ask)) (take-append-drop 510 todo) ∙ going.fits in
+      let spelled : flat_map row_bytes todo ≡ flat_map row_bytes (take 510 todo) ++ flat_map row_bytes (drop 510 todo) =
+          ap (flat_map row_bytes) (sym (take-append-drop 510 todo)) ∙ flat_map-append row_bytes (take 510 todo) (drop 510 todo) in
+      record {
+        some = omega (arith, length-take 510 todo, some);
+        fits = omega (arith, length-take 510 todo, size);
+        ascends = (fit_two (rows_of held.catalog asked.ask.table) going.last (kinds_of held.catalog.schema asked.ask) (take 510 todo) (drop 510 todo) front).first;
+        widths = All-take (IsReplyRow held.catalog.schema asked.ask) 510 todo going.widths;
+        bytes = front_bytes (flat_map row_bytes (take 510 todo)) (flat_map row_bytes (drop 510 todo)) (subst (λ (bs : List ℕ). AreBytes bs) spelled going.bytes);
+      }
+
+  few_got : (h : Heard) (got todo : List ReplyRow) → Going h got todo → length got < 2 ^ 32
+  few_got h got todo going =
+      let whole : length got + length todo ≡ length (held.rows asked.ask) = sym (length-append got todo) ∙ ap length going.all in
+      omega (arith, whole, can.few)
+
+  pub next_reply : (h : Heard) (got todo : List ReplyRow) → Going h got todo → Exchanged h got (goes_on 1 (reply_left 1 (length got) todo))
+  next_reply h got [] going =
+      subst (λ (frames : List Frame). Exchanged h got (goes_on 1 frames)) (sym (at_done 1 (length got) [] refl))
+      (record {
+        frame = Done 1 (length got);
+        stand = Listening 2;
+        is = refl;
+        awaited = subst (λ (a : Awaits). IsAwaited held.catalog a (Done 1 (length got))) (sym going.awaits)
+            (done_awaited held.catalog asks asked 1 [] (lit< tt) one_bound (length got) going.last (few_got h got [] going));
+        comes = done going refl refl;
+      })
+  next_reply h got (row ∷ todo) going =
+      let some : 0 < length (row ∷ todo) = omega arith in
+      let after : after_reply 1 (reply_left 1 (length got + length (take 510 (row ∷ todo))) (drop 510 (row ∷ todo))) ≡ Replying 1 (reply_left 1 (length got + length (take 510 (row ∷ todo))) (drop 510 (row ∷ todo))) =
+          still_replying 1 (length got + length (take 510 (row ∷ todo))) (drop 510 (row ∷ todo)) in
+      subst (λ (frames : List Frame). Exchanged h got (goes_on 1 frames)) (sym (at_rows 1 (length got) (row ∷ todo) some))
+      (record {
+        frame = rows_frame 1 (take 510 (row ∷ todo));
+        stand = Replying 1 (reply_left 1 (length got + length (take 510 (row ∷ todo))) (drop 510 (row ∷ todo)));
+        is = ap (λ (s : Stand). Some (record { says = rows_frame 1 (take 510 (row ∷ todo)) ∷ []; stand = s })) after;
+        awaited = subst (λ (a : Awaits). IsAwaited held.catalog a (rows_frame 1 (take 510 (row ∷ todo)))) (sym going.awaits)
+            (rows_awaited held.catalog asks asked 1 [] (lit< tt) one_bound (length got) going.last (take 510 (row ∷ todo)) (group_of h got (row ∷ todo) going some));
+        comes = some_rows (row ∷ todo) going some refl refl;
+      })
