@@ -4,7 +4,7 @@ use Rattle.std.specs.Prelude.{flat_map, if◌then◌else◌, ◌&&◌, ◌==◌,
 use Rattle.std.proofs.lemmas.List.{length-drop, take-append-drop}
 use Rattle.std.proofs.lemmas.List.Elements.{All-take, All-drop}
 use Rattle.std.proofs.lemmas.Grind.{flat_map-append}
-use Rattle.std.proofs.lemmas.Bool.{eq-eqb}
+use Rattle.std.proofs.lemmas.Bool.{eq-eqb, lt-ltb, le-leb}
 use Rattle.ghost_model.specs.Schema.{Kind, is_empty}
 use Rattle.ghost_model.specs.Catalog.{catalog_bytes}
 use Rattle.ghost_model.specs.Channel.{Catalog, Ask, Frame, Hello, Asking, More, Bye, Welcome, Replied, Done}
@@ -13,7 +13,7 @@ use Rattle.ghost_model.specs.Asks.{Asked, ReplyRow, IsReplyRow, row_bytes, row_w
 use Rattle.ghost_model.specs.NextMove as next
 use Rattle.ghost_model.specs.NextMove.{Awaits, Missing, Reply, Nothing, Heard, rows_fit, rows_of, last_identifier, are_cells, heard_frame, turn, turn_of_greeting, on_with, still, rows_after, ended_by, ended, Ended, Answered, IsAwaited}
 use Rattle.ghost_model.specs.Host.{Holding, Stand, Greeting, Listening, Replying, Over, Response, answer_to, answers_ask, goes_on, after_reply, reply_to, rows_frame, grouped, IsGroup}
-use Rattle.ghost_model.proofs.ChannelLemmas.Replies.{done_awaited, rows_awaited}
+use Rattle.ghost_model.proofs.ChannelLemmas.Replies.{done_awaited, rows_awaited, number_bytes}
 use Rattle.ghost_model.proofs.ChannelLemmas.Greeting.{welcome_awaited, front_bytes}
 use Rattle.ghost_model.proofs.ChannelLemmas.Rows.{rows_length, spelled_rows_are_read}
 use Rattle.ghost_model.proofs.ChannelLemmas.Tests.{both_hold, hold_both, BothHold}
@@ -141,3 +141,89 @@ module _ (held : Holding) (asked : Asked) (can : ServesAsk held asked) where
             (rows_awaited held.catalog asks asked 1 [] (lit< tt) one_bound (length got) going.last (take 510 (row ∷ todo)) (group_of h got (row ∷ todo) going some));
         comes = some_rows (row ∷ todo) going some refl refl;
       })
+
+  reply_here : reply_to held 1 asked.ask ≡ reply_left 1 0 (held.rows asked.ask)
+  reply_here =
+      ap (λ (width : ℕ). map (rows_frame 1) (grouped (2040 / width) (held.rows asked.ask)) ++ Done 1 (length (held.rows asked.ask)) ∷ []) can.narrow
+      ∙ ap (λ (n : ℕ). map (rows_frame 1) (grouped 510 (held.rows asked.ask)) ++ Done 1 n ∷ [])
+      (let e : length (held.rows asked.ask) ≡ 0 + length (held.rows asked.ask) = omega arith in e)
+
+  answer_at : (frame other : Frame) (stand there : Stand) → frame ≡ other → stand ≡ there → answer_to held there other ≡ answer_to held stand frame
+  answer_at frame other stand there e s = ap (λ (f : Frame). answer_to held there f) (sym e) ∙ ap (λ (t : Stand). answer_to held t frame) (sym s)
+
+  welcome_fits : (nat_lt 0 (length (catalog_bytes held.catalog)) && nat_le (length (catalog_bytes held.catalog)) 2039) ≡ true
+  welcome_fits = hold_both _ _ (lt-ltb 0 (length (catalog_bytes held.catalog)) (catalog_starts held)) (le-leb (length (catalog_bytes held.catalog)) 2039 can.catalog_fits)
+
+  welcome_is_awaited : IsAwaited held.catalog (Missing (catalog_bytes held.catalog)) (Welcome 1 (catalog_bytes held.catalog))
+  welcome_is_awaited =
+      let part : List ℕ = catalog_bytes held.catalog in
+      subst (λ (missing : List ℕ). IsAwaited held.catalog (Missing missing) (Welcome 1 (catalog_bytes held.catalog))) (append-nil (catalog_bytes held.catalog))
+      (welcome_awaited held.catalog asks 1 (catalog_bytes held.catalog) [] (omega arith) welcome_fits can.catalog_is_bytes
+      (ap (λ (b : Bool). 1 == (if b then 1 else 0)) (eq-eqb (length (catalog_bytes held.catalog)) (length (catalog_bytes held.catalog ++ [])) (ap length (sym (append-nil (catalog_bytes held.catalog)))))))
+
+  -- whether the key's frame is the last one
+  pub data Next (h : Heard) (got : List ReplyRow) (frame : Frame) (stand : Stand) : Type 0 where
+    over : Finished h got → frame ≡ Bye → answer_to held stand frame ≡ Some (record { says = []; stand = Over }) → Next h got frame stand
+    exchange : Exchanged h got (answer_to held stand frame) → Next h got frame stand
+
+  pub answered_due : (h : Heard) (got : List ReplyRow) (frame : Frame) (stand : Stand) → Due h got frame stand → Next h got frame stand
+  answered_due h got frame stand (hello greeted is there) =
+      exchange (record {
+        frame = Welcome 1 (catalog_bytes held.catalog);
+        stand = Listening 1;
+        is = sym (answer_at frame (Hello held.catalog.generation) stand Greeting is there)
+            ∙ ap (λ (frames : List Frame). Some (record { says = frames; stand = Listening 1 })) (welcomes_are held (catalog_bytes held.catalog) refl can.catalog_fits);
+        awaited = subst (λ (a : Awaits). IsAwaited held.catalog a (Welcome 1 (catalog_bytes held.catalog))) (sym greeted.awaits) welcome_is_awaited;
+        comes = welcome greeted refl refl;
+      })
+  answered_due h got frame stand (ask going none is there) =
+      exchange (subst (λ (o : Option Response). Exchanged h got o)
+      (ap (goes_on 1) (sym reply_here) ∙ (ap (λ (o : Option Ask). answers_ask held 1 o) (sym can.is_read)
+      ∙ answer_at frame (Asking 1 (ask_payload held.catalog.schema asked.ask)) stand (Listening 1) is there))
+      (subst (λ (g : List ReplyRow). Exchanged h g (goes_on 1 (reply_left 1 0 (held.rows asked.ask)))) (sym none) (next_reply h [] (held.rows asked.ask) going)))
+  answered_due h got frame stand (more todo going is there) =
+      exchange (subst (λ (o : Option Response). Exchanged h got o)
+      (answer_at frame (More 1) stand (Replying 1 (reply_left 1 (length got) todo)) is there)
+      (next_reply h got todo going))
+  answered_due h got frame stand (bye finished is there) =
+      over finished is (sym (answer_at frame Bye stand (Listening 2) is there))
+
+  nothing_bytes : AreBytes []
+  nothing_bytes i = lit< tt
+
+  more_is_frame : IsFrame (More 1)
+  more_is_frame = record { serial = refl; size = refl; payload = refl; bytes = nothing_bytes; serial_fits = one_bound; number_fits = lit< tt }
+
+  bye_is_frame : IsFrame Bye
+  bye_is_frame = record { serial = refl; size = refl; payload = refl; bytes = nothing_bytes; serial_fits = lit< tt; number_fits = lit< tt }
+
+  hello_is_frame : IsFrame (Hello held.catalog.generation)
+  hello_is_frame = record { serial = refl; size = refl; payload = refl; bytes = number_bytes held.catalog.generation; serial_fits = lit< tt; number_fits = can.generation }
+
+  pub due_is_frame : (h : Heard) (got : List ReplyRow) (frame : Frame) (stand : Stand) → Due h got frame stand → IsFrame frame
+  due_is_frame h got frame stand (hello _ is _) = subst (λ (f : Frame). IsFrame f) (sym is) hello_is_frame
+  due_is_frame h got frame stand (ask _ _ is _) = subst (λ (f : Frame). IsFrame f) (sym is) can.frame
+  due_is_frame h got frame stand (more _ _ is _) = subst (λ (f : Frame). IsFrame f) (sym is) more_is_frame
+  due_is_frame h got frame stand (bye _ is _) = subst (λ (f : Frame). IsFrame f) (sym is) bye_is_frame
+
+  -- the rows that a frame of the host brings
+  abbrev pub rows_of_frame : Frame → List ReplyRow
+  rows_of_frame (Replied _ payload) = rows_in held.catalog.schema asked.ask payload
+  rows_of_frame _ = []
+
+  -- a frame of the host was heard, and the next frame of the key is due
+  pub record Turned (h after : Heard) (got : List ReplyRow) (stand : Stand) : Type 0 where
+    pub frame : Frame
+    pub due : after.due ≡ h.due ++ frame ∷ []
+    pub next_due : Due after got frame stand
+
+  -- what was heard, by what was awaited
+  abbrev heard_at : Heard → Awaits → (came : List ℕ) → (none : List Ended) → Frame → Heard
+  heard_at h awaits came none frame = heard_frame held.catalog (asked ∷ []) (record h { awaits = awaits; rows = came; ended = none }) frame
+
+  heard_so : (h : Heard) (awaits : Awaits) (came : List ℕ) (none : List Ended) (frame other : Frame) → h.awaits ≡ awaits → h.rows ≡ came → h.ended ≡ none → frame ≡ other → heard_at h awaits came none other ≡ heard_frame held.catalog (asked ∷ []) h frame
+  heard_so h awaits came none frame other a c n f =
+      ap (λ (x : Awaits). heard_at h x came none other) (sym a)
+      ∙ (ap (λ (x : List ℕ). heard_at h h.awaits x none other) (sym c)
+      ∙ (ap (λ (x : List Ended). heard_at h h.awaits h.rows x other) (sym n)
+      ∙ ap (λ (x : Frame). heard_frame held.catalog (asked ∷ []) h x) (sym f)))

@@ -16,5 +16,6 @@ pub record ServesAsk (held : Holding) (asked : Asked) : Type 0 where
   pub widths : All (IsReplyRow held.catalog.schema asked.ask) (held.rows asked.ask)
   pub bytes : AreBytes (flat_map row_bytes (held.rows asked.ask))
   pub few : length (held.rows asked.ask) < 2 ^ 32
+  pub generation : held.catalog.generation < 2 ^ 32
   pub catalog_fits : length (catalog_bytes held.catalog) ≤ 2039
   pub catalog_is_bytes : AreBytes (catalog_bytes held.catalog)

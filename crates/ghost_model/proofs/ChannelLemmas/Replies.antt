@@ -21,7 +21,7 @@ use Rattle.ghost_model.proofs.ChannelLemmas.Tests.{hold_both}
 not_zero : (n : ℕ) → 0 < n → not (n == 0) ≡ true
 not_zero n h = grind (arith, nat_tests)
 
-number_bytes : (n : ℕ) → AreBytes (to_be_bytes w32 n)
+pub number_bytes : (n : ℕ) → AreBytes (to_be_bytes w32 n)
 number_bytes n zero = mod-lt (n / 16777216) (lit< tt)
 number_bytes n (suc zero) = mod-lt (n / 65536) (lit< tt)
 number_bytes n (suc (suc zero)) = mod-lt (n / 256) (lit< tt)
