@@ -227,3 +227,116 @@ module _ (held : Holding) (asked : Asked) (can : ServesAsk held asked) where
       ∙ (ap (λ (x : List ℕ). heard_at h h.awaits x none other) (sym c)
       ∙ (ap (λ (x : List Ended). heard_at h h.awaits h.rows x other) (sym n)
       ∙ ap (λ (x : Frame). heard_frame held.catalog (asked ∷ []) h x) (sym f)))
+
+  after_welcome :
+      (h : Heard) (b : Bool) → b ≡ true
+      → Turned h (record { awaits = (if b then on_with held.catalog.schema 1 (asked ∷ []) else still (Missing (drop (length (catalog_bytes held.catalog)) (catalog_bytes held.catalog)))).awaits;
+        part = [];
+        frames = h.frames ++ Welcome 1 (catalog_bytes held.catalog) ∷ [];
+        due = h.due ++ (if b then on_with held.catalog.schema 1 (asked ∷ []) else still (Missing (drop (length (catalog_bytes held.catalog)) (catalog_bytes held.catalog)))).due;
+        rows = [];
+        ended = [];
+        broken = false }) [] (Listening 1)
+  after_welcome h true e = record {
+    frame = Asking 1 (ask_payload held.catalog.schema asked.ask);
+    due = refl;
+    next_due = ask (record {
+      last = 0;
+      awaits = refl;
+      fits = can.fits;
+      widths = can.widths;
+      bytes = can.bytes;
+      all = refl;
+      came = refl;
+      none_ended = refl;
+    }) refl refl refl;
+  }
+  after_welcome h false e = absurd (not_so e)
+    where
+      not_so : false ≡ true → ⊥
+      not_so e = cc
+
+  turned_by_welcome : (h : Heard) (got : List ReplyRow) → got ≡ [] → Turned h (heard_at h (Missing (catalog_bytes held.catalog)) [] [] (Welcome 1 (catalog_bytes held.catalog))) got (Listening 1)
+  turned_by_welcome h got none =
+      subst (λ (g : List ReplyRow). Turned h (heard_at h (Missing (catalog_bytes held.catalog)) [] [] (Welcome 1 (catalog_bytes held.catalog))) g (Listening 1)) (sym none)
+      (after_welcome h (length (catalog_bytes held.catalog) == length (catalog_bytes held.catalog)) (eq-eqb (length (catalog_bytes held.catalog)) (length (catalog_bytes held.catalog)) refl))
+
+  turned_by_done : (h : Heard) (got : List ReplyRow) (last : ℕ) → got ≡ held.rows asked.ask → Turned h (heard_at h (Reply asked 1 [] (length got) last) (flat_map row_bytes got) [] (Done 1 (length got))) got (Listening 2)
+  turned_by_done h got last all = record {
+    frame = Bye;
+    due = refl;
+    next_due = bye (record {
+      awaits = refl;
+      all = all;
+      has_ended = ap (λ (rows : List ReplyRow). ended asked (Answered (flat_map row_bytes rows)) ∷ []) all;
+    }) refl refl;
+  }
+
+  joined_rows : (got group rest whole : List ReplyRow) → got ++ whole ≡ held.rows asked.ask → group ++ rest ≡ whole → (got ++ group) ++ rest ≡ held.rows asked.ask
+  joined_rows got group rest whole all both = append_assoc got group rest ∙ (ap (λ (xs : List ReplyRow). got ++ xs) both ∙ all)
+
+  turned_by_rows : (h : Heard) (got todo : List ReplyRow) → (going : Going h got todo) → 0 < length todo
+      → Turned h (heard_at h (Reply asked 1 [] (length got) going.last) (flat_map row_bytes got) [] (rows_frame 1 (take 510 todo))) (got ++ take 510 todo) (Replying 1 (reply_left 1 (length got + length (take 510 todo)) (drop 510 todo)))
+  turned_by_rows h got todo going some =
+      let group : List ReplyRow = take 510 todo in
+      let is = group_of h got todo going some in
+      let read : rows_in held.catalog.schema asked.ask (flat_map row_bytes (take 510 todo)) ≡ take 510 todo = spelled_rows_are_read held.catalog.schema asked.ask (take 510 todo) is.widths in
+      let count : length (got ++ take 510 todo) ≡ length got + length (take 510 todo) = length-append got (take 510 todo) in
+      let fits : rows_fit (rows_of held.catalog asked.ask.table) going.last (kinds_of held.catalog.schema asked.ask) (take 510 todo ++ drop 510 todo) ≡ true =
+          ap (rows_fit (rows_of held.catalog asked.ask.table) going.last (kinds_of held.catalog.schema asked.ask)) (take-append-drop 510 todo) ∙ going.fits in
+      let spelled : flat_map row_bytes todo ≡ flat_map row_bytes (take 510 todo) ++ flat_map row_bytes (drop 510 todo) =
+          ap (flat_map row_bytes) (sym (take-append-drop 510 todo)) ∙ flat_map-append row_bytes (take 510 todo) (drop 510 todo) in
+      record {
+        frame = More 1;
+        due = refl;
+        next_due = more (drop 510 todo) (record {
+          last = last_identifier going.last (take 510 todo);
+          awaits = ap (λ (rows : List ReplyRow). Reply asked 1 [] (length got + length rows) (last_identifier going.last rows)) read
+              ∙ ap (λ (n : ℕ). Reply asked 1 [] n (last_identifier going.last (take 510 todo))) (sym count);
+          fits = (fit_two (rows_of held.catalog asked.ask.table) going.last (kinds_of held.catalog.schema asked.ask) (take 510 todo) (drop 510 todo) fits).second;
+          widths = All-drop (IsReplyRow held.catalog.schema asked.ask) 510 todo going.widths;
+          bytes = bytes_back (flat_map row_bytes (take 510 todo)) (flat_map row_bytes (drop 510 todo)) (subst (λ (bs : List ℕ). AreBytes bs) spelled going.bytes);
+          all = joined_rows got (take 510 todo) (drop 510 todo) todo going.all (take-append-drop 510 todo);
+          came = sym (flat_map-append row_bytes got (take 510 todo));
+          none_ended = refl;
+        }) refl (ap (λ (n : ℕ). Replying 1 (reply_left 1 n (drop 510 todo))) (sym count));
+      }
+
+  -- the rows of a frame of the host
+  pub record Heeded (h : Heard) (got : List ReplyRow) (frame : Frame) (stand : Stand) : Type 0 where
+    pub brought : List ReplyRow
+    pub its_rows : rows_of_frame frame ≡ brought
+    pub turned : Turned h (heard_frame held.catalog (asked ∷ []) h frame) (got ++ brought) stand
+
+  whole_rows : (got : List ReplyRow) → got ++ [] ≡ held.rows asked.ask → got ≡ held.rows asked.ask
+  whole_rows got e = sym (append-nil got) ∙ e
+
+  at_rows_got : (h after : Heard) (got other : List ReplyRow) (stand there : Stand) → other ≡ got → there ≡ stand → Turned h after other there → Turned h after got stand
+  at_rows_got h after got other stand there e s t =
+      subst (λ (x : Stand). Turned h after got x) s (subst (λ (g : List ReplyRow). Turned h after g there) e t)
+
+  pub heeds : (h : Heard) (got : List ReplyRow) (frame : Frame) (stand : Stand) → Comes h got frame stand → Heeded h got frame stand
+  heeds h got frame stand (welcome greeted is there) = record {
+    brought = [];
+    its_rows = ap rows_of_frame is;
+    turned = at_rows_got h (heard_frame held.catalog (asked ∷ []) h frame) (got ++ []) got stand (Listening 1) (sym (append-nil got)) (sym there)
+        (subst (λ (after : Heard). Turned h after got (Listening 1))
+        (heard_so h (Missing (catalog_bytes held.catalog)) [] [] frame (Welcome 1 (catalog_bytes held.catalog)) greeted.awaits greeted.none_came greeted.none_ended is)
+        (turned_by_welcome h got greeted.none_got));
+  }
+  heeds h got frame stand (some_rows todo going some is there) = record {
+    brought = take 510 todo;
+    its_rows = ap rows_of_frame is ∙ spelled_rows_are_read held.catalog.schema asked.ask (take 510 todo) (group_of h got todo going some).widths;
+    turned = at_rows_got h (heard_frame held.catalog (asked ∷ []) h frame) (got ++ take 510 todo) (got ++ take 510 todo) stand _ refl (sym there)
+        (subst (λ (after : Heard). Turned h after (got ++ take 510 todo) (Replying 1 (reply_left 1 (length got + length (take 510 todo)) (drop 510 todo))))
+        (heard_so h (Reply asked 1 [] (length got) going.last) (flat_map row_bytes got) [] frame (rows_frame 1 (take 510 todo)) going.awaits going.came going.none_ended is)
+        (turned_by_rows h got todo going some));
+  }
+  heeds h got frame stand (done going is there) = record {
+    brought = [];
+    its_rows = ap rows_of_frame is;
+    turned = at_rows_got h (heard_frame held.catalog (asked ∷ []) h frame) (got ++ []) got stand (Listening 2) (sym (append-nil got)) (sym there)
+        (subst (λ (after : Heard). Turned h after got (Listening 2))
+        (heard_so h (Reply asked 1 [] (length got) going.last) (flat_map row_bytes got) [] frame (Done 1 (length got)) going.awaits going.came going.none_ended is)
+        (turned_by_done h got going.last (whole_rows got going.all)));
+  }
