@@ -2,6 +2,7 @@ mod Journals
 mod Gathering
 mod Replying
 mod Answering
+mod Exchanges
 mod Numerals
 mod ReadRecords
 mod KeptTexts

@@ -4,6 +4,7 @@ pub mod Journaling
 pub mod Hosting
 pub mod HostState
 pub mod Hosts
+pub mod Serving
 pub mod Words
 pub mod Numbers
 pub mod Records

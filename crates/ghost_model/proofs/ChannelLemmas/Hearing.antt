@@ -28,7 +28,7 @@ judged_part : (short header part payload : Bool) (m n : ℕ) → short ≡ false
 judged_part short header part payload m n a b c = rw (a, b, c)
 
 -- what a header says, whatever follows it
-size_stays : (part more : List ℕ) → 8 ≤ length part → size_in (part ++ more) ≡ size_in part
+pub size_stays : (part more : List ℕ) → 8 ≤ length part → size_in (part ++ more) ≡ size_in part
 size_stays (a ∷ b ∷ c ∷ d ∷ part) more m = refl
 size_stays _ more m = absurd (omega (arith, m))
 
@@ -39,7 +39,7 @@ header_stays catalog Nothing part more m = refl
 header_stays catalog awaits _ more m = absurd (omega (arith, m))
 
 module _ (catalog : Catalog) (awaits : Awaits) (frame : Frame) (can : IsAwaited catalog awaits frame) where
-  size_of_frame : size_in (frame_bytes frame) ≡ length (payload_of frame)
+  pub size_of_frame : size_in (frame_bytes frame) ≡ length (payload_of frame)
   size_of_frame = ap size_in (sym (append-nil (frame_bytes frame))) ∙ size_is_read frame [] can.fits
 
   read_again : frame_in (frame_bytes frame) ≡ frame
@@ -56,7 +56,7 @@ module _ (catalog : Catalog) (awaits : Awaits) (frame : Frame) (can : IsAwaited 
       (ap (λ (f : Frame). payload_fits catalog awaits f) read_again ∙ can.payload)
 
   -- a part of it
-  lacking : (part : List ℕ) (byte : ℕ) (more : List ℕ) → part ++ byte ∷ more ≡ frame_bytes frame → (n : ℕ) × (verdict catalog awaits part ≡ Short n)
+  pub lacking : (part : List ℕ) (byte : ℕ) (more : List ℕ) → part ++ byte ∷ more ≡ frame_bytes frame → (n : ℕ) × (verdict catalog awaits part ≡ Short n)
   lacking part byte more e =
       let lengths : length part + length (byte ∷ more) ≡ length (frame_bytes frame) = sym (length-append part (byte ∷ more)) ∙ ap length e in
       elim (leb_tells 8 (length part)) [
