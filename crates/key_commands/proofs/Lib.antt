@@ -22,3 +22,5 @@ mod WholeOpening
 mod FormReplies
 mod FormFile
 mod OneCause
+mod HeldColumn
+mod Answered

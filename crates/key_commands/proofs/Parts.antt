@@ -72,7 +72,7 @@ rows_longer files names form schema longer = record {
 }
 
 -- a schema as it was read, where the depot tells its files
-schema_told : (contents : Option Files) (files : Files) (names : Names) (text : List ℕ) (form : Form) → contents ≡ Some files → ReadsForm contents names text form → SchemaIs files names form
+pub schema_told : (contents : Option Files) (files : Files) (names : Names) (text : List ℕ) (form : Form) → contents ≡ Some files → ReadsForm contents names text form → SchemaIs files names form
 schema_told contents files names text form told reads = record {
   text = text;
   file = record { found = file_told contents files names.schema text told reads.read.told; short = reads.read.short };
@@ -108,7 +108,7 @@ reads_rows contents names form name bytes rows named read clean held = record {
 }
 
 -- rows as they were read, where the depot tells its files
-rows_told : (contents : Option Files) (files : Files) (names : Names) (form : Form) (rows : Rows) → contents ≡ Some files → (reads : ReadsRows contents names form rows) → RowsAre files names form reads.bytes
+pub rows_told : (contents : Option Files) (files : Files) (names : Names) (form : Form) (rows : Rows) → contents ≡ Some files → (reads : ReadsRows contents names form rows) → RowsAre files names form reads.bytes
 rows_told contents files names form rows told reads = record {
   file = record {
     found = file_told contents files (table_file names.tables form.table) reads.bytes told reads.read.told;

@@ -16,4 +16,5 @@ pub mod Statuses
 pub mod Local
 pub mod Printing
 pub mod Opening
+pub mod Conversing
 pub mod FormFile

@@ -10,7 +10,7 @@ use Rattle.key_commands.specs.Form.{Form, form_schema, SpellsForm, SpellsScript}
 use Rattle.key_commands.specs.FormMeaning.{form_payload}
 use Rattle.key_commands.specs.Texts.{TextList}
 use Rattle.key_commands.specs.Rows.{HoldRows}
-use Rattle.key_commands.specs.Local.{most_text}
+use Rattle.key_commands.specs.Local.{Input, most_text}
 use Rattle.key_commands.specs.Views.{form_view}
 use Rattle.key_commands.specs.declared.opening.Opened.{Opened}
 use Rattle.key_commands.specs.declared.rows.Rows.{Rows}
@@ -55,6 +55,15 @@ pub record IsOpened (contents : Option Files) (names : Names) (opened : Opened) 
   -- the identifiers of a reply have room
   pub none_found : opened.found.items ≡ []
   pub room : opened.rows.count ≤ vec_capacity opened.found
+
+-- the input that was read
+abbrev pub input_of : {contents : Option Files} {names : Names} {opened : Opened} → IsOpened contents names opened → Input
+input_of {opened = opened} opening = record {
+  form = form_view opened.form;
+  rows = opening.rows.bytes;
+  script = opening.script.script.script;
+  wanted = opening.script.wanted;
+}
 
 -- the files are those of such an opening, and its journal is empty
 pub record IsReady (contents : Option Files) (names : Names) (opened : Opened) : Type 0 where
