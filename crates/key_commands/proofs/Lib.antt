@@ -24,3 +24,4 @@ mod FormFile
 mod OneCause
 mod HeldColumn
 mod Answered
+mod ServedAsk
