@@ -12,10 +12,12 @@ use Rattle.ghost_model.specs.Schema.{Schema, places_from}
 use Rattle.ghost_model.specs.Tokens.{is_printable, is_name_byte}
 use Rattle.ghost_model.specs.Cells.{padded}
 use Rattle.ghost_model.specs.Catalog.{canonical_text, catalog_bytes, catalog_head, counts_bytes}
-use Rattle.ghost_model.specs.Channel.{Catalog, Asking}
+use Rattle.ghost_model.specs.Channel.{Catalog, Asking, Journal}
 use Rattle.ghost_model.specs.Frames.{AreBytes, IsFrame, size_allowed}
 use Rattle.ghost_model.specs.Asks.{ReplyRow, IsReplyRow, asked, ask_payload, ask_in, row_bytes}
-use Rattle.ghost_model.specs.NextMove.{rows_fit}
+use Rattle.ghost_model.specs.Moves.{lines}
+use Rattle.ghost_model.specs.NextMove.{rows_fit, GoesOn, IsFinished}
+use Rattle.ghost_model.specs.Local.{IsServedBy}
 use Rattle.ghost_model.specs.Host.{Holding, host_of}
 use Rattle.ghost_model.specs.Split.{Public, public_of, reply_rows}
 use Rattle.ghost_model.proofs.ChannelLemmas.Replies.{number_bytes}
@@ -25,6 +27,9 @@ use Rattle.key_commands.specs.Form.{Form, form_schema, is_form, is_wanted, is_le
 use Rattle.key_commands.specs.FormMeaning.{form_ask, form_payload, bare_row, matches, identifier_bytes}
 use Rattle.key_commands.specs.Pieces.{Pieces, AreWords, is_word, line_of, pieces_of}
 use Rattle.key_commands.specs.Local.{schema_of, database_in, host_in, catalog_of}
+use Rattle.key_commands.specs.Hosting.{HoldsColumn}
+use Rattle.key_commands.specs.Journaling.{Log, Extends}
+use Rattle.key_commands.specs.Conversing.{WasHeld}
 use Rattle.key_commands.specs.Serving.{ServesAsk}
 use Rattle.key_commands.specs.Opening.{IsOpened, input_of, form_catalog}
 use Rattle.key_commands.specs.Views.{form_view}
@@ -35,7 +40,8 @@ use Rattle.key_commands.proofs.FormAnswers.{payload_of_form, form_ask_in}
 use Rattle.key_commands.proofs.FormFile.{reply_of_file}
 use Rattle.key_commands.proofs.FormReplies.{matches_ascend, matches_within, rows_without_cells_fit, bytes_of_rows}
 use Rattle.key_commands.proofs.ReadForm.{are_words, whole_line}
-use Rattle.key_commands.proofs.Answered.{catalog_is}
+use Rattle.key_commands.proofs.Answered.{catalog_is, asks_are, bare_back}
+use Rattle.key_commands.proofs.HeldColumn.{holds_column}
 
 -- lists of bytes
 one_more : (byte : ℕ) (bytes : List ℕ) → byte < 256 → AreBytes bytes → AreBytes (byte ∷ bytes)
@@ -218,3 +224,36 @@ serves {opened = opened} opening =
     subst P (sym (catalog_is opening))
     (over_catalog form opening.script.wanted opened.rows.count opened.rows.shown.texts public opening.schema.spelled.proper opening.script.script.spelled.proper held.shown_many held.few
     (reply_of_file form opening.script.wanted opening.rows.bytes opened.rows.count opened.rows.shown opened.rows.secret held))
+
+pub holds : {contents : Option Files} {names : Names} {opened : Opened} → (opening : IsOpened contents names opened) → HoldsColumn (host_in (input_of opening)) opened.catalog.items opened.rows.shown
+holds {opened = opened} opening =
+    holds_column (catalog_of (input_of opening)) (form_view opened.form) opening.rows.bytes opened.rows.count opened.rows.shown opened.rows.secret opened.catalog.items
+    refl (opening.catalog ∙ ap catalog_bytes (sym (catalog_is opening))) opening.rows.held
+
+-- a session of the one ask is a session of the script
+pub went : {contents : Option Files} {names : Names} {opened : Opened} → (opening : IsOpened contents names opened) → (name : List ℕ) (old new : Log) (found : List ℕ) (journal : Journal)
+    → GoesOn (catalog_of (input_of opening)) [] (asked 1 (form_ask opening.script.wanted) ∷ []) [] journal → IsFinished journal → IsServedBy (host_in (input_of opening)) journal → Extends name (lines journal) old new
+    → map bare_row found ≡ (host_in (input_of opening)).rows (form_ask opening.script.wanted) → WasHeld (input_of opening) opened.rows.shown.texts name old new found
+went {opened = opened} opening name old new found journal goes finished served extends replied = record {
+  journal = journal;
+  proper = subst (λ asks. GoesOn (catalog_of (input_of opening)) [] asks [] journal) (sym (asks_are opening)) goes;
+  finished = finished;
+  served = served;
+  extends = extends;
+  found_are = bare_back found (matches opening.script.wanted opened.rows.shown.texts)
+      (replied ∙ reply_of_file (form_view opened.form) opening.script.wanted opening.rows.bytes opened.rows.count opened.rows.shown opened.rows.secret opening.rows.held);
+}
+
+-- the cells of the visible column are narrow
+pub narrow : (form : Form) (width : ℕ) → is_form form ≡ true → width ≡ form.shown_most → width ≤ 64
+narrow form width h is =
+    let high : nat_le form.shown_most 64 ≡ true = second_so _ _ (parts form h).shown_most in
+    let few : form.shown_most ≤ 64 = grind (arith, nat_tests) in
+    omega arith
+
+-- and those of the hidden one
+pub narrow_too : (form : Form) (width : ℕ) → is_form form ≡ true → width ≡ form.secret_most → width ≤ 64
+narrow_too form width h is =
+    let high : nat_le form.secret_most 64 ≡ true = second_so _ _ (parts form h).secret_most in
+    let few : form.secret_most ≤ 64 = grind (arith, nat_tests) in
+    omega arith
