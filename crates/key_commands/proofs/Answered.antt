@@ -1,6 +1,7 @@
 -- What a session over an opening means for the one who called: the files spell an input, the printed lines are those of
 -- this input, and the journal's file has the lines of the session.
-use Rattle.std.proofs.Common.{◌≡◌, ◌≢◌, ℕ, zero, suc, ◌+◌, ◌<◌, ◌≤◌, Bool, true, false, cond, List, [], ◌∷◌, ◌++◌, length, map, Option, Some, None, refl, sym, ◌∙◌, ap, subst, arith, slice_index, nat_lt, nat_le}
+use Rattle.std.proofs.Common.{◌≡◌, ◌≢◌, ℕ, zero, suc, ◌+◌, ◌<◌, ◌≤◌, Bool, true, false, cond, List, [], ◌∷◌, ◌++◌, length, map, Option, Some, None, refl, sym, ◌∙◌, ap, subst, arith, slice_index, nat_lt, nat_le, Result, Ok, Err, OnOk, OnErr, append-nil}
+use Rattle.std.specs.Prelude.{is_err}
 use Rattle.std.specs.List.{list_all}
 use Rattle.std.specs.Cmp.{first_so, second_so}
 use Rattle.std.specs.Ordering.{nat_cmp, eq_by_cmp}
@@ -130,6 +131,23 @@ journals {contents = contents} {names = names} opening files told old new found 
       finished = held.finished;
       served = held.served;
     }
+
+-- what holds of an error, or of a value, where a result is one
+pub err_of : {T E : Type 0} (result : Result T E) (P : Type 0) → is_err result ≡ true → OnErr result P → P
+err_of (Ok value) P h holds = cc h
+err_of (Err error) P h holds = holds
+
+pub ok_of : {T E : Type 0} (result : Result T E) (P : Type 0) → is_err result ≡ false → OnOk result P → P
+ok_of (Ok value) P h holds = holds
+ok_of (Err error) P h holds = cc h
+
+-- all of a piece is a front of it
+pub whole_front : (before after : Option (List ℕ)) (piece : List ℕ) → after ≡ grown before piece → GrowsByFront before piece after
+whole_front before after piece is = record {
+  front = piece;
+  begins = record { rest = []; joined = sym (append-nil piece) };
+  grew = is;
+}
 
 either : (b : Bool) (P : Type 0) → (b ≡ true → P) → (b ≡ false → P) → P
 either true P first second = first refl

@@ -11,7 +11,7 @@ use Rattle.edge_traits.specs.Files.{Files}
 use Rattle.key_commands.specs.Words.{Names, table_file}
 use Rattle.key_commands.specs.Form.{Form, IsLine, SpellsForm, SpellsScript, is_length, is_form}
 use Rattle.key_commands.specs.Pieces.{line_of, pieces_of}
-use Rattle.key_commands.specs.Local.{Input, SchemaIs, RowsAre, ScriptIs, Spells, SchemaIsOther, RowsAreOther, ScriptIsOther, IsFirstOther}
+use Rattle.key_commands.specs.Local.{Input, SchemaIs, RowsAre, ScriptIs, Spells, SchemaIsOther, RowsAreOther, ScriptIsOther, IsFirstOther, Opened, Answers}
 use Rattle.key_commands.specs.Statuses.{not_built}
 use Rattle.key_commands.specs.declared.status.KeyStatus.{KeyStatus}
 use Rattle.key_commands.specs.declared.status.KeyStatus.TheVariants as status
@@ -22,16 +22,16 @@ use Rattle.key_commands.proofs.ReadForm.{Ends, line_ends, whole_line, agrees, ar
 
 crossed : (text one other : List ℕ) → Ends 59 other → text ≡ one ++ 10 ∷ [] → text ++ 10 ∷ [] ≡ other ++ 10 ∷ [] → ⊥
 crossed text one other ends is lacks =
-    let whole : one ++ 10 ∷ [] ≡ ends.start ++ 59 ∷ [] = sym is ∙ append_cancel_right (10 ∷ []) text other lacks ∙ ends.whole in
+    let whole : one ++ 10 ∷ [] ≡ ends.start ++ 59 ∷ [] = sym is ∙ append_cancel_right text other (10 ∷ []) lacks ∙ ends.whole in
     let last : 10 ≡ 59 = same_last one ends.start 10 59 whole in
     cc last
 
 -- a text is a line, or lacks its LF, of one line alone
 one_line : (text one other : List ℕ) → Ends 59 one → Ends 59 other → IsLine (one ++ 10 ∷ []) text → IsLine (other ++ 10 ∷ []) text → one ≡ other
-one_line text one other e f (inl is) (inl too) = append_cancel_right (10 ∷ []) one other (sym is ∙ too)
+one_line text one other e f (inl is) (inl too) = append_cancel_right one other (10 ∷ []) (sym is ∙ too)
 one_line text one other e f (inl is) (inr lacks) = absurd (crossed text one other f is lacks)
 one_line text one other e f (inr lacks) (inl is) = absurd (crossed text other one e is lacks)
-one_line text one other e f (inr lacks) (inr too) = append_cancel_right (10 ∷ []) one other (sym lacks ∙ too)
+one_line text one other e f (inr lacks) (inr too) = append_cancel_right one other (10 ∷ []) (sym lacks ∙ too)
 
 small : (most : ℕ) → is_length most ≡ true → most < 2 ^ 64
 small most h =
@@ -113,6 +113,20 @@ pub record Tells (files : Files) (names : Names) (ended : KeyStatus) : Type 0 wh
   pub part : (part : ℕ) → ended ≡ not_built part → IsFirstOther files names part
   pub answered : ended ≡ status.Ok → (input : Input) × Spells files names input
   pub sink : ended ≡ status.Sink → (input : Input) × Spells files names input
+
+-- the same from what a call did, where its words name these files
+pub tells : (files : Files) (names given : Names) (ended : KeyStatus) (written_before written_after : Option (List ℕ)) (appends_before appends_after : ℕ) (contents : Option Files) → given ≡ names
+    → (ended ≡ status.Usage → ⊥) → ((part : ℕ) → ended ≡ not_built part → IsFirstOther files given part)
+    → (Opened ended written_before written_after appends_before appends_after → Answers files given ended written_before written_after appends_before appends_after contents) → Tells files names ended
+tells files names given ended written_before written_after appends_before appends_after contents same words part answers =
+    let P : Names → Type 0 = λ n. Tells files n ended in
+    let opened : KeyStatus → Type 0 = λ e. Opened e written_before written_after appends_before appends_after in
+    subst P same (record {
+      words = words;
+      part = part;
+      answered = λ ok. let made = answers (subst opened (sym ok) tt) in (made.input, made.spelled);
+      sink = λ failed. let made = answers (subst opened (sym failed) tt) in (made.input, made.spelled);
+    })
 
 -- where a part is the first that is not of the form, the status tells of it, unless memory or the depot failed
 pub told_part : (files : Files) (names : Names) (ended : KeyStatus) (part : ℕ) → Tells files names ended → (ended ≡ status.Depot → ⊥) → IsFirstOther files names part → (ended ≡ not_built part) ⊎ (ended ≡ status.NoMemory)

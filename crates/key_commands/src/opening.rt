@@ -221,7 +221,6 @@ fn open_rows<D: Depot>(
 }
 
 /// The name of the file of the rows.
-#[tactic(auto, using(crate::proofs::Parts::table_is_word))]
 fn file_of_rows(alloc: Global, names: &Names<'_>, form: &Form) -> Result<String, OpenFault>
     requires { is_form (form_view form.now) ≡ true }
     ensures name { IfOk result (λ name. string_bytes name ≡ words.table_file (names_view names.now).tables (form_view form.now).table) }
