@@ -3,6 +3,7 @@ mod Gathering
 mod Replying
 mod Answering
 mod Exchanges
+mod Standing
 mod Numerals
 mod ReadRecords
 mod KeptTexts
