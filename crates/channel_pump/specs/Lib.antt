@@ -1,3 +1,4 @@
 pub mod Narrow
 pub mod Asked
 pub mod Rows
+pub mod Here

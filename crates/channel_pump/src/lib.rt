@@ -6,8 +6,6 @@
 #![tactic(auto)]
 
 pub mod forms;
-
-
+mod judging;
 mod rows;
-
-
+pub mod state;
