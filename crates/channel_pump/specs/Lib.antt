@@ -2,3 +2,5 @@ pub mod Narrow
 pub mod Asked
 pub mod Rows
 pub mod Here
+pub mod State
+pub mod Turning

@@ -8,7 +8,7 @@ ghost use Rattle.channel_pump.specs.Narrow.{is_narrow};
 use ghost_base::Kind;
 
 /// An ask of a session, as the pump needs it.
-#[derive(Clone, Copy, Debug)]
+#[derive(Clone, Copy)]
 pub struct AskForm<'a> {
     /// The number of its text, from 1.
     pub text: u32,

@@ -9,3 +9,4 @@ pub mod forms;
 mod judging;
 mod rows;
 pub mod state;
+mod turning;

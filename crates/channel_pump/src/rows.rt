@@ -15,7 +15,7 @@ use ghost_base::{Kind, cell_width, decode_cell};
 use crate::forms::AskForm;
 
 /// What is counted of the rows of one frame.
-#[derive(Clone, Copy, Debug)]
+#[derive(Clone, Copy)]
 pub(crate) struct Tally {
     /// How many rows there are.
     pub(crate) rows: u32,

@@ -6,7 +6,7 @@ ghost use Rattle.channel_pump.specs.declared.state.Phase.TheVariants.{Reply};
 use crate::forms::AskForm;
 
 /// What the key sends.
-#[derive(Clone, Copy, Debug, PartialEq, Eq)]
+#[derive(Clone, Copy)]
 pub enum Outgoing {
     /// The greeting.
     Hello,
@@ -19,7 +19,7 @@ pub enum Outgoing {
 }
 
 /// What the key awaits: the catalog, the reply to an ask, or nothing more.
-#[derive(Clone, Copy, Debug, PartialEq, Eq)]
+#[derive(Clone, Copy)]
 pub enum Phase {
     /// WELCOME frames.
     Greeting,
@@ -41,7 +41,7 @@ pub enum Cause {
 }
 
 /// The move that is next.
-#[derive(Clone, Copy, Debug, PartialEq, Eq)]
+#[derive(Clone, Copy)]
 pub enum Stage {
     /// The dial.
     Dialling,
@@ -88,7 +88,7 @@ pub enum Event {
 }
 
 /// The key's side of a session.
-#[derive(Debug, Drop)]
+#[derive(Drop)]
 pub struct Pump<'a> {
     /// The generation of the catalog.
     pub(crate) generation: u32,
