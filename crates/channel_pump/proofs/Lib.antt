@@ -1,2 +1,6 @@
 pub mod RowLemmas
 pub mod TurningLemmas
+pub mod JournalLemmas
+pub mod CuttingLemmas
+pub mod PlaceLemmas
+pub mod ReportLemmas

@@ -1,6 +1,6 @@
 -- When a pump stands where a journal leaves the key: its fields are what is left of the journal, for a catalog and the
 -- asks of the session.
-use Rattle.std.specs.Prelude.{◌≡◌, ℕ, ◌+◌, ◌-◌, ◌^◌, ◌<◌, ◌≤◌, Bool, true, false, not, List, [], ◌∷◌, ◌++◌, length, take, flat_map, slice_get, min, Option, Some, None}
+use Rattle.std.specs.Prelude.{◌≡◌, ℕ, ◌+◌, ◌-◌, ◌^◌, ◌<◌, ◌≤◌, Bool, true, false, not, List, [], ◌∷◌, ◌++◌, length, take, drop, flat_map, slice_get, min, Option, Some, None}
 use Rattle.ghost_model.specs.Channel as channel
 use Rattle.ghost_model.specs.Channel.{Catalog, Journal, Move}
 use Rattle.ghost_model.specs.Catalog.{catalog_bytes}
@@ -237,3 +237,40 @@ IsGoing phase (Closed _) = ⊥
 pub record IsTurned (catalog : Catalog) (p : Pump) (turn : Turn) : Type 0 where
   pub awaits : IsAwaiting catalog p p.phase turn.awaits
   pub due : turn.due ≡ due_at p p.stage
+
+-- a move and its answer, as an entry of a journal
+abbrev pub entry : Move → channel.Answer → channel.Entry
+entry move answer = record { move = move; answer = answer }
+
+-- the entry of a take that was answered by the first so many bytes behind the part in a page
+abbrev pub taken_entry : Pump → (page : List ℕ) → (n : ℕ) → channel.Entry
+taken_entry p page n = entry (channel.Take p.lacks) (channel.Piece (take n (drop p.have page)))
+
+-- a session with these forms of its asks begins here
+pub record Begins (catalog : Catalog) (asks : List Asked) (generation : ℕ) (bytes : List ℕ) (forms : List AskForm) : Type 0 where
+  pub its_generation : catalog.generation ≡ generation
+  pub its_bytes : catalog_bytes catalog ≡ bytes
+  pub its_asks : AreAsked catalog forms asks
+
+-- the move that is wanted is a take
+abbrev pub is_take : Want → Bool
+is_take want.Dial = false
+is_take want.Send = false
+is_take (want.Take _ _) = true
+is_take want.Close = false
+is_take want.Closed = false
+
+-- a take fits a page
+abbrev pub FitsPage : Want → Type 0
+FitsPage want.Dial = Unit {0}
+FitsPage want.Send = Unit {0}
+FitsPage (want.Take at most) = (0 < most) × (at + most ≤ 2048)
+FitsPage want.Close = Unit {0}
+FitsPage want.Closed = Unit {0}
+
+abbrev pub cause_at : Stage → Option Cause
+cause_at Dialling = None
+cause_at (Sending _) = None
+cause_at Taking = None
+cause_at (Closing cause) = Some cause
+cause_at (Closed cause) = Some cause

@@ -1,5 +1,5 @@
 -- What a valid frame leads to, in the pump's own numbers.
-use Rattle.std.specs.Prelude.{◌≡◌, ℕ, ◌==◌, Bool, List, [], ◌∷◌, length, drop, take_while}
+use Rattle.std.specs.Prelude.{◌≡◌, ℕ, ◌==◌, Bool, List, [], ◌∷◌, ◌++◌, length, drop, take_while}
 use Rattle.ghost_model.specs.Channel as channel
 use Rattle.ghost_model.specs.Channel.{Catalog}
 use Rattle.ghost_model.specs.Asks.{ReplyRow, rows_in}
@@ -35,3 +35,7 @@ abbrev pub event_at : Catalog → Heard → (part : List ℕ) → Verdict → Ev
 event_at catalog heard part (next.Short _) = event.Part
 event_at catalog heard part next.Whole = event_of (length (rows_of_frame catalog heard.awaits (frame_in part))) (frame_in part)
 event_at catalog heard part next.Invalid = event.Invalid (kind_in part) (counted (bytes_before heard))
+
+-- what a piece of the stream leads to, behind the part of the frame at hand
+abbrev pub event_after : Catalog → Heard → (piece : List ℕ) → Event
+event_after catalog heard piece = event_at catalog heard (heard.part ++ piece) (next.verdict catalog heard.awaits (heard.part ++ piece))
