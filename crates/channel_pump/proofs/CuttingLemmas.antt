@@ -124,3 +124,18 @@ module _ (catalog : Catalog) (asks : List Asked) where
       ∙ (cut (record h { part = h.part ++ byte ∷ [] }) (next ∷ later) (missing - 1) whole short (omega arith) (omega (arith, fits))
       ∙ (same_heard h (h.part ++ byte ∷ []) ((h.part ++ byte ∷ []) ++ next ∷ later) (verdict catalog h.awaits ((h.part ++ byte ∷ []) ++ next ∷ later))
       ∙ ap (λ (x : List ℕ). heard_as catalog asks h x (verdict catalog h.awaits x)) (append_assoc h.part (byte ∷ []) (next ∷ later)))))
+
+-- what is missing and no more
+pub exact : (catalog : Catalog) (awaits : Awaits) (part piece : List ℕ) (missing : ℕ) → verdict catalog awaits part ≡ Short missing → length piece ≤ missing
+    → 8 + size_in (part ++ piece) ≤ length (part ++ piece) → length (part ++ piece) ≡ 8 + size_in (part ++ piece)
+exact catalog awaits part piece missing e fits whole =
+    let longer : length (part ++ piece) ≡ length part + length piece = length-append part piece in
+    elim (way (nat_lt (length part) 8) (header_fits catalog awaits part) (nat_lt (length part) (8 + size_in part)) (payload_fits catalog awaits (frame_in part))
+      (8 - length part) (8 + size_in part - length part) missing e) [
+      | in_header s k ↦ (let short : length part < 8 = lt_true (length part) 8 s in omega (arith, longer, k, fits, whole, short))
+      | in_payload s h p k ↦
+          (let long : 8 ≤ length part = lt_false (length part) 8 s in
+          let size : size_in (part ++ piece) ≡ size_in part = size_same part piece long in
+          let more : length part < 8 + size_in part = lt_true (length part) (8 + size_in part) p in
+          omega (arith, longer, size, k, fits, whole, more))
+    ]

@@ -4,3 +4,4 @@ pub mod JournalLemmas
 pub mod CuttingLemmas
 pub mod PlaceLemmas
 pub mod ReportLemmas
+pub mod TookLemmas

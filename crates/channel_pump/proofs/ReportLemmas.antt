@@ -197,11 +197,11 @@ after_silent catalog asks journal q e none h =
 same_some : (m n : Move) → Some m ≡ Some n → m ≡ n
 same_some m n e = cc
 
-or_nothing : (a b : Bool) → a ≡ b → (a || false) ≡ b
+pub or_nothing : (a b : Bool) → a ≡ b → (a || false) ≡ b
 or_nothing true b e = e
 or_nothing false b e = e
 
-plus_nothing : (n m : ℕ) → n ≡ m → n + 0 ≡ m
+pub plus_nothing : (n m : ℕ) → n ≡ m → n + 0 ≡ m
 plus_nothing n m e = omega (arith, e)
 
 going_stage : (p : Pump) (s : Stage) → can_fail (want_at p s) ≡ true → is_closed s ≡ false

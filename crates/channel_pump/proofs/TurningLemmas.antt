@@ -62,7 +62,7 @@ pub payload_length : (part : List ℕ) → 8 + frames.size_in part ≤ length pa
 payload_length part whole =
     length-take-le (frames.size_in part) (drop 8 part) (omega (arith, length-drop 8 part, whole))
 
-frame_of_kind : (part : List ℕ) (kind : ℕ) → frames.kind_in part ≡ kind
+pub frame_of_kind : (part : List ℕ) (kind : ℕ) → frames.kind_in part ≡ kind
     → frames.frame_in part ≡ frames.frame_of_parts kind (frames.serial_in part) (frames.payload_in part)
 frame_of_kind part kind e = ap (λ (k : ℕ). frames.frame_of_parts k (frames.serial_in part) (frames.payload_in part)) e
 

@@ -7,8 +7,10 @@ ghost use Rattle.ghost_model.specs.Asks.{Asked};
 ghost use Rattle.ghost_model.specs.Moves.{taken};
 ghost use Rattle.ghost_model.specs.NextMove as next;
 ghost use Rattle.ghost_model.specs.NextMove.{next_with, heard};
+ghost use Rattle.ghost_model.specs.Frames.{payload_of};
 ghost use Rattle.channel_codec.specs.Views.{frame_view};
 ghost use Rattle.channel_pump.specs.Here.{moves_left};
+ghost use Rattle.channel_pump.specs.State as state;
 ghost use Rattle.channel_pump.specs.State.{IsAfter, Keeps, IsWanted, IsTakenBy, FitsPage, Begins, want_of, want_at, is_done_by, can_fail, is_take, entry, taken_entry, cause_at, frame_due};
 ghost use Rattle.channel_pump.specs.Turning.{event_after};
 
@@ -17,6 +19,17 @@ use channel_codec::frame::{Frame, put_frame};
 use crate::forms::AskForm;
 use crate::judging::Judged;
 use crate::state::{Cause, Event, Outgoing, Phase, Pump, Stage, Want};
+
+/// The payload of the first of some asks, and no bytes where there is none.
+fn first_payload<'a>(asks: &'a [AskForm<'a>]) -> &'a [u8]
+    ensures value { result.now ≡ state.first_payload asks.now }
+    ensures short { length result.now ≤ 2040 }
+{
+    match asks.first() {
+        Some(form) => form.payload,
+        None => &[],
+    }
+}
 
 impl<'a> Pump<'a> {
     /// A session of these asks, with a catalog of this generation and of these bytes, before its first move.
@@ -61,8 +74,8 @@ impl<'a> Pump<'a> {
 
     /// The frame that is sent.
     fn outgoing(&self, outgoing: Outgoing) -> Frame<'a>
-        requires { outgoing ≡ Outgoing.Ask → 0 < length self.now.rest.now }
         ensures frame { frame_view result ≡ frame_due self.now outgoing }
+        ensures short { length (payload_of (frame_view result)) ≤ 2040 }
     {
         match outgoing {
             Outgoing::Hello => Frame::Hello {
@@ -70,7 +83,7 @@ impl<'a> Pump<'a> {
             },
             Outgoing::Ask => Frame::Ask {
                 serial: self.serial,
-                payload: self.rest[0].payload,
+                payload: first_payload(self.rest),
             },
             Outgoing::More => Frame::More {
                 serial: self.serial,
