@@ -5,3 +5,4 @@ pub mod CuttingLemmas
 pub mod PlaceLemmas
 pub mod ReportLemmas
 pub mod TookLemmas
+pub mod CauseLemmas

@@ -1,8 +1,8 @@
 -- A piece of the stream leads to where the journal leaves the key.
-use Rattle.std.proofs.Common.{◌≡◌, ◌≢◌, ℕ, suc, ◌+◌, ◌-◌, ◌^◌, ◌<◌, ◌≤◌, min, Bool, true, false, ◌&&◌, ◌==◌, nat_le, ◌||◌, Option, Some, None, List, [], ◌∷◌, ◌++◌, length, take, drop, flat_map, refl, ap, sym, ◌∙◌, subst, arith, append-nil}
+use Rattle.std.proofs.Common.{◌≡◌, ◌≢◌, ℕ, zero, suc, ◌+◌, ◌-◌, ◌^◌, ◌<◌, ◌≤◌, min, Bool, true, false, ◌&&◌, ◌==◌, nat_le, ◌||◌, Option, Some, None, List, [], ◌∷◌, ◌++◌, length, take, drop, flat_map, refl, ap, sym, ◌∙◌, subst, arith, append-nil}
 use Rattle.std.specs.List.{slice_get}
 use Rattle.std.proofs.Math.Seq.{take-add}
-use Rattle.std.proofs.lemmas.List.{length-append, length-drop, length-take-le}
+use Rattle.std.proofs.lemmas.List.{length-append, length-drop, length-take-le, drop-take}
 use Rattle.std.proofs.lemmas.Grind.{flat_map-append}
 use Rattle.std.proofs.lemmas.Bool.Decides.{nat_tests}
 use Rattle.ghost_model.specs.Channel as channel
@@ -344,3 +344,27 @@ pub frame_size : (p : Pump) (part : List ℕ) (tally : Tally) → Stands p part 
 frame_size p part tally h exact_size =
     header_size (frames.kind_of (frames.frame_in part)) (length (frames.payload_of (frames.frame_in part))) (frames.serial_of (frames.frame_in part)) (frames.payload_of (frames.frame_in part))
     ∙ (ap (λ (k : ℕ). 8 + k) (payload_size p p.phase part h.whole h.header) ∙ sym exact_size)
+
+-- what the events tell of the replies
+size_of_front : (k : ℕ) (page : List ℕ) → 8 ≤ length page → frames.size_in (take (8 + k) page) ≡ frames.size_in page
+size_of_front k (a ∷ b ∷ c ∷ d ∷ page) m =
+    ap (λ (n : ℕ). frames.size_in (take n (a ∷ b ∷ c ∷ d ∷ page))) (eight k)
+  where
+    eight : (k : ℕ) → 8 + k ≡ suc (suc (suc (suc (4 + k))))
+    eight k = omega arith
+size_of_front k _ m = absurd (omega (arith, m))
+
+-- a whole frame at the front of a page has its payload behind the header
+pub payload_of_front : (m : ℕ) (page : List ℕ) → 8 ≤ length page → length (take m page) ≡ m → m ≡ 8 + frames.size_in (take m page)
+    → frames.payload_in (take m page) ≡ frames.payload_in page
+payload_of_front m page long size e =
+    let same : frames.size_in (take m page) ≡ frames.size_in page =
+        ap (λ (n : ℕ). frames.size_in (take n page)) e ∙ size_of_front (frames.size_in (take m page)) page long in
+    ap (λ (n : ℕ). take (frames.size_in (take m page)) (drop 8 (take n page))) e
+    ∙ (ap (λ (x : List ℕ). take (frames.size_in (take m page)) x) (drop-take 8 (frames.size_in (take m page)) page)
+    ∙ (take_twice (frames.size_in (take m page)) (drop 8 page) ∙ ap (λ (n : ℕ). take n (drop 8 page)) same))
+  where
+    take_twice : (n : ℕ) (xs : List ℕ) → take n (take n xs) ≡ take n xs
+    take_twice zero xs = refl
+    take_twice (suc n) [] = refl
+    take_twice (suc n) (x ∷ xs) = ap (λ (y : List ℕ). x ∷ y) (take_twice n xs)

@@ -4,3 +4,4 @@ pub mod Rows
 pub mod Here
 pub mod State
 pub mod Turning
+pub mod Progress

@@ -6,13 +6,14 @@ ghost use Rattle.ghost_model.specs.Channel.{Catalog, Journal, Move};
 ghost use Rattle.ghost_model.specs.Asks.{Asked};
 ghost use Rattle.ghost_model.specs.Moves.{taken};
 ghost use Rattle.ghost_model.specs.NextMove as next;
-ghost use Rattle.ghost_model.specs.NextMove.{next_with, heard};
+ghost use Rattle.ghost_model.specs.NextMove.{next_with, heard, left};
 ghost use Rattle.ghost_model.specs.Frames.{payload_of};
 ghost use Rattle.channel_codec.specs.Views.{frame_view};
 ghost use Rattle.channel_pump.specs.Here.{moves_left};
 ghost use Rattle.channel_pump.specs.State as state;
 ghost use Rattle.channel_pump.specs.State.{IsAfter, Keeps, IsWanted, IsTakenBy, FitsPage, Begins, want_of, want_at, is_done_by, can_fail, is_take, entry, taken_entry, cause_at, frame_due};
 ghost use Rattle.channel_pump.specs.Turning.{event_after};
+ghost use Rattle.channel_pump.specs.Progress.{Tells, EndsAs};
 
 use channel_codec::frame::{Frame, put_frame};
 
@@ -69,6 +70,18 @@ impl<'a> Pump<'a> {
             },
             Stage::Closing(_) => Want::Close,
             Stage::Closed(_) => Want::Closed,
+        }
+    }
+
+    /// Why the session ends, if it does.
+    pub fn cause(&self) -> Option<Cause>
+        ensures cause { result ≡ cause_at self.now.stage }
+        ensures ends { (catalog : Catalog) (asks : List Asked) (journal : Journal)
+            → IsAfter catalog asks journal self.now → EndsAs (left catalog asks journal) result }
+    {
+        match self.stage {
+            Stage::Closing(cause) | Stage::Closed(cause) => Some(cause),
+            _ => None,
         }
     }
 
