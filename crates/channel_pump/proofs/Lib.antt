@@ -6,3 +6,4 @@ pub mod PlaceLemmas
 pub mod ReportLemmas
 pub mod TookLemmas
 pub mod CauseLemmas
+pub mod ProgressLemmas

@@ -24,7 +24,7 @@ reply_header_is catalog (form ∷ forms) number asked serial later count last he
     ap (λ (n : ℕ). frames.version_in header == frames.frame_version && frames.serial_in header == n && next.reply_size_fits (width_of (form_kinds form)) (frames.kind_in header) (frames.size_in header)) e
     ∙ ap (λ (kinds : List schema.Kind). frames.version_in header == frames.frame_version && frames.serial_in header == serial && next.reply_size_fits (width_of kinds) (frames.kind_in header) (frames.size_in header)) h.0.kinds
 
-header_is : (catalog : Catalog) (p : Pump) (phase : Phase) (awaits : Awaits) (header : List ℕ) → IsAwaiting catalog p phase awaits
+pub header_is : (catalog : Catalog) (p : Pump) (phase : Phase) (awaits : Awaits) (header : List ℕ) → IsAwaiting catalog p phase awaits
     → header_at phase p header ≡ next.header_fits catalog awaits header
 header_is catalog p Greeting (Missing bytes) header h = ap (λ (x : List ℕ). next.header_fits nothing (Missing x) header) h
 header_is catalog p Greeting (next.Reply _ _ _ _ _) header h = absurd h
@@ -60,7 +60,7 @@ reply_payload_is catalog [] came final asked later count last frame h c l = absu
 reply_payload_is catalog (form ∷ forms) came final asked later count last frame h c l =
     ap (λ (n : ℕ). form_fits form n final frame) c ∙ (ap (λ (n : ℕ). form_fits form count n frame) l ∙ form_fits_is catalog form asked count last frame h.0)
 
-payload_is : (catalog : Catalog) (p : Pump) (phase : Phase) (awaits : Awaits) (frame : channel.Frame) → IsAwaiting catalog p phase awaits
+pub payload_is : (catalog : Catalog) (p : Pump) (phase : Phase) (awaits : Awaits) (frame : channel.Frame) → IsAwaiting catalog p phase awaits
     → payload_at phase p frame ≡ next.payload_fits catalog awaits frame
 payload_is catalog p Greeting (Missing bytes) frame h = ap (λ (x : List ℕ). next.greeting_fits x frame) h
 payload_is catalog p Greeting (next.Reply _ _ _ _ _) frame h = absurd h

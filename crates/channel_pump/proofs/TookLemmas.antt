@@ -81,7 +81,7 @@ module _ (catalog : Catalog) (asks : List Asked) (journal : Journal) (p : Pump) 
   pub part_is : At → part ≡ (left catalog asks journal).heard.part ++ piece
   part_is h = page_part p.have n page (left catalog asks journal).heard.part h.keeps (is_taking h).have
 
-  part_length : At → length part ≡ p.have + n
+  pub part_length : At → length part ≡ p.have + n
   part_length h = length-take-le (p.have + n) page (enough h)
 
   piece_length : At → length piece ≡ n
@@ -106,7 +106,7 @@ module _ (catalog : Catalog) (asks : List Asked) (journal : Journal) (p : Pump) 
       ∙ (ap (λ (v : next.Verdict). heard_as catalog asks (left catalog asks journal).heard ((left catalog asks journal).heard.part ++ piece) v) (sym (verdict_of h))
       ∙ ap (λ (x : List ℕ). heard_as catalog asks (left catalog asks journal).heard x (verdict_here p part)) (sym (part_is h)))
 
-  left_is : At → (v : next.Verdict) → verdict_here p part ≡ v → left catalog asks (journal ++ taken_entry p page n ∷ [])
+  pub left_is : At → (v : next.Verdict) → verdict_here p part ≡ v → left catalog asks (journal ++ taken_entry p page n ∷ [])
       ≡ goes_to (left catalog asks journal) (taken_entry p page n) (heard_as catalog asks (left catalog asks journal).heard part v)
   left_is h v e =
       left_more catalog asks journal (taken_entry p page n)
@@ -279,7 +279,7 @@ module _ (catalog : Catalog) (asks : List Asked) (journal : Journal) (p : Pump) 
   whole_length tally h stands = exact_length h stands.whole
 
 -- the spelling of a frame is as long as the bytes that it is in
-data ReplyKind (kind size : ℕ) : Type 0 where
+pub data ReplyKind (kind size : ℕ) : Type 0 where
   rows : kind ≡ 18 → ReplyKind kind size
   done : kind ≡ 19 → size ≡ 4 → ReplyKind kind size
   sorry : kind ≡ 20 → size ≡ 1 → ReplyKind kind size
@@ -311,6 +311,22 @@ greeting_kind version kind serial size missing e = (grind (arith, nat_tests), gr
 
 no_truth : false ≡ true → ⊥
 no_truth e = cc
+
+pub data FrameKind (kind size : ℕ) : Type 0 where
+  greets : kind ≡ 17 → FrameKind kind size
+  replies : ReplyKind kind size → FrameKind kind size
+
+pub kind_of_header : (p : Pump) (phase : Phase) (part : List ℕ) → header_at phase p part ≡ true → FrameKind (frames.kind_in part) (frames.size_in part)
+kind_of_header p Greeting part t =
+    greets (greeting_kind (frames.version_in part) (frames.kind_in part) (frames.serial_in part) (frames.size_in part) (length p.missing.now) t).0
+kind_of_header p Reply part t = reply_kind_of p.rest.now t
+  where
+    reply_kind_of : (forms : List AskForm) → reply_header forms p.serial part ≡ true → FrameKind (frames.kind_in part) (frames.size_in part)
+    reply_kind_of [] e = absurd (no_truth e)
+    reply_kind_of (form ∷ forms) e =
+        replies (reply_kind (frames.version_in part == frames.frame_version) (frames.serial_in part == p.serial) (width_of (form_kinds form)) (frames.kind_in part) (frames.size_in part)
+        (frames.kind_in part == 18) (frames.kind_in part == 19) refl refl e)
+kind_of_header p Over part t = absurd (no_truth t)
 
 payload_size : (p : Pump) (phase : Phase) (part : List ℕ) → 8 + frames.size_in part ≤ length part → header_at phase p part ≡ true
     → length (frames.payload_of (frames.frame_in part)) ≡ frames.size_in part

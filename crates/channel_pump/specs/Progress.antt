@@ -40,15 +40,15 @@ pub record RowsCame (catalog : Catalog) (asked : Asked) (last : ℕ) (payload : 
   pub count : n ≡ length (rows_in catalog.schema asked.ask payload)
   pub size : length payload ≡ n * row_width catalog.schema asked.ask
 
-abbrev pub MayCome : Catalog → Awaits → (page : List ℕ) → (n : ℕ) → Type 0
-MayCome catalog (Missing _) page n = ⊥
-MayCome catalog (next.Reply asked serial later count last) page n = RowsCame catalog asked last (payload_in page) n
-MayCome catalog Nothing page n = ⊥
+abbrev pub MayCome : Catalog → Awaits → (payload : List ℕ) → (n : ℕ) → Type 0
+MayCome catalog (Missing _) payload n = ⊥
+MayCome catalog (next.Reply asked serial later count last) payload n = RowsCame catalog asked last payload n
+MayCome catalog Nothing payload n = ⊥
 
 abbrev pub RowsOf : Catalog → Awaits → (page : List ℕ) → Event → Type 0
 RowsOf catalog awaits page event.Part = Unit {0}
 RowsOf catalog awaits page event.Welcome = Unit {0}
-RowsOf catalog awaits page (event.Rows n) = MayCome catalog awaits page n
+RowsOf catalog awaits page (event.Rows n) = MayCome catalog awaits (payload_in page) n
 RowsOf catalog awaits page event.Done = Unit {0}
 RowsOf catalog awaits page (event.Sorry _) = Unit {0}
 RowsOf catalog awaits page (event.Invalid _ _) = Unit {0}

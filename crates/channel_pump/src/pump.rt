@@ -178,6 +178,9 @@ impl<'a> Pump<'a> {
         ensures event { (catalog : Catalog) (asks : List Asked) (journal : Journal)
             → IsAfter catalog asks journal self.old → Keeps catalog asks journal page.now
             → result ≡ event_after catalog (heard catalog asks (taken journal)) (take n (drop self.old.have page.now)) }
+        ensures tells { (catalog : Catalog) (asks : List Asked) (journal : Journal)
+            → IsAfter catalog asks journal self.old → Keeps catalog asks journal page.now
+            → Tells catalog page.now result (heard catalog asks (taken journal)) (heard catalog asks (taken (journal ++ taken_entry self.old page.now n ∷ []))) }
         ensures fewer { moves_left self.new < moves_left self.old }
     {
         let (part, _rest) = page.split_at(self.have + n);
