@@ -78,7 +78,7 @@ short_on : (catalog : Catalog) (awaits : Awaits) (part : List ℕ) (byte missing
 short_on catalog awaits part byte missing some e =
     let longer : length (part ++ byte ∷ []) ≡ length part + 1 = length-append part (byte ∷ []) in
     elim (way (nat_lt (length part) 8) (header_fits catalog awaits part) (nat_lt (length part) (8 + size_in part)) (payload_fits catalog awaits (frame_in part))
-      (8 - length part) (8 + size_in part - length part) missing e) [
+    (8 - length part) (8 + size_in part - length part) missing e) [
       | in_header s k ↦
           (pick_header (nat_lt (length (part ++ byte ∷ [])) 8) (header_fits catalog awaits (part ++ byte ∷ [])) (nat_lt (length (part ++ byte ∷ [])) (8 + size_in (part ++ byte ∷ [])))
           (payload_fits catalog awaits (frame_in (part ++ byte ∷ []))) (8 - length (part ++ byte ∷ [])) (8 + size_in (part ++ byte ∷ []) - length (part ++ byte ∷ []))
@@ -118,7 +118,7 @@ module _ (catalog : Catalog) (asks : List Asked) where
       let two : 2 ≤ missing = omega (arith, fits) in
       let short : verdict catalog h.awaits (h.part ++ byte ∷ []) ≡ Short (missing - 1) = short_on catalog h.awaits h.part byte missing two e in
       let step : hear catalog asks h byte ≡ record h { part = h.part ++ byte ∷ [] } =
-          hear_unbroken h byte h.broken whole ∙ ap (heard_as catalog asks h (h.part ++ byte ∷ [])) short in
+      hear_unbroken h byte h.broken whole ∙ ap (heard_as catalog asks h (h.part ++ byte ∷ [])) short in
       hear_more catalog asks h byte (next ∷ later)
       ∙ (ap (λ (x : Heard). hear_all catalog asks x (next ∷ later)) step
       ∙ (cut (record h { part = h.part ++ byte ∷ [] }) (next ∷ later) (missing - 1) whole short (omega arith) (omega (arith, fits))
@@ -131,7 +131,7 @@ pub exact : (catalog : Catalog) (awaits : Awaits) (part piece : List ℕ) (missi
 exact catalog awaits part piece missing e fits whole =
     let longer : length (part ++ piece) ≡ length part + length piece = length-append part piece in
     elim (way (nat_lt (length part) 8) (header_fits catalog awaits part) (nat_lt (length part) (8 + size_in part)) (payload_fits catalog awaits (frame_in part))
-      (8 - length part) (8 + size_in part - length part) missing e) [
+    (8 - length part) (8 + size_in part - length part) missing e) [
       | in_header s k ↦ (let short : length part < 8 = lt_true (length part) 8 s in omega (arith, longer, k, fits, whole, short))
       | in_payload s h p k ↦
           (let long : 8 ≤ length part = lt_false (length part) 8 s in

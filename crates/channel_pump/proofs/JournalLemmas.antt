@@ -56,15 +56,15 @@ pub left_more : (catalog : Catalog) (asks : List Asked) (journal : Journal) (ent
     → left catalog asks (journal ++ entry ∷ []) ≡ goes catalog asks (left catalog asks journal) entry
 left_more catalog asks journal entry =
     let pieces : taken (journal ++ entry ∷ []) ≡ taken journal ++ piece_of entry.answer =
-        flat_map-append (λ (e : Entry). piece_of e.answer) journal (entry ∷ [])
-        ∙ ap (λ (x : List ℕ). taken journal ++ x) (append-nil (piece_of entry.answer)) in
+    flat_map-append (λ (e : Entry). piece_of e.answer) journal (entry ∷ [])
+    ∙ ap (λ (x : List ℕ). taken journal ++ x) (append-nil (piece_of entry.answer)) in
     let sends : length (sent (journal ++ entry ∷ [])) ≡ length (sent journal) + length (sent_by entry.move) =
-        ap length (flat_map-append (λ (e : Entry). sent_by e.move) journal (entry ∷ [])
-        ∙ ap (λ (x : List (List ℕ)). sent journal ++ x) (append-nil (sent_by entry.move)))
-        ∙ length-append (sent journal) (sent_by entry.move) in
+    ap length (flat_map-append (λ (e : Entry). sent_by e.move) journal (entry ∷ [])
+    ∙ ap (λ (x : List (List ℕ)). sent journal ++ x) (append-nil (sent_by entry.move)))
+    ∙ length-append (sent journal) (sent_by entry.move) in
     ap (λ (b : Bool). left_of b (list_any (λ (e : Entry). is_close e.move) (journal ++ entry ∷ [])) (list_any (λ (e : Entry). is_stop e.answer) (journal ++ entry ∷ [])) (length (sent (journal ++ entry ∷ []))) (heard catalog asks (taken (journal ++ entry ∷ [])))) (is_some_list journal entry)
     ∙ (ap (λ (b : Bool). left_of true b (list_any (λ (e : Entry). is_stop e.answer) (journal ++ entry ∷ [])) (length (sent (journal ++ entry ∷ []))) (heard catalog asks (taken (journal ++ entry ∷ [])))) (any_more (λ (e : Entry). is_close e.move) journal entry)
     ∙ (ap (λ (b : Bool). left_of true (list_any (λ (e : Entry). is_close e.move) journal || is_close entry.move) b (length (sent (journal ++ entry ∷ []))) (heard catalog asks (taken (journal ++ entry ∷ [])))) (any_more (λ (e : Entry). is_stop e.answer) journal entry)
     ∙ (ap (λ (n : ℕ). left_of true (list_any (λ (e : Entry). is_close e.move) journal || is_close entry.move) (list_any (λ (e : Entry). is_stop e.answer) journal || is_stop entry.answer) n (heard catalog asks (taken (journal ++ entry ∷ [])))) sends
     ∙ ap (λ (h : Heard). left_of true (list_any (λ (e : Entry). is_close e.move) journal || is_close entry.move) (list_any (λ (e : Entry). is_stop e.answer) journal || is_stop entry.answer) (length (sent journal) + length (sent_by entry.move)) h)
-      (ap (λ (x : List ℕ). heard catalog asks x) pieces ∙ hear_append catalog asks (at_first catalog) (taken journal) (piece_of entry.answer)))))
+    (ap (λ (x : List ℕ). heard catalog asks x) pieces ∙ hear_append catalog asks (at_first catalog) (taken journal) (piece_of entry.answer)))))

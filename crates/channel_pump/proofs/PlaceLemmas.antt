@@ -78,11 +78,11 @@ pub verdict_is : (catalog : Catalog) (p : Pump) (awaits : Awaits) (part : List �
     → verdict_here p part ≡ next.verdict catalog awaits part
 verdict_is catalog p awaits part h =
     ap (λ (b : Bool). if nat_lt (length part) 8 then next.Short (8 - length part) else if not b then next.Invalid
-      else if nat_lt (length part) (8 + frames.size_in part) then next.Short (8 + frames.size_in part - length part)
-      else if payload_at p.phase p (frames.frame_in part) then next.Whole else next.Invalid) (header_is catalog p p.phase awaits part h)
+    else if nat_lt (length part) (8 + frames.size_in part) then next.Short (8 + frames.size_in part - length part)
+    else if payload_at p.phase p (frames.frame_in part) then next.Whole else next.Invalid) (header_is catalog p p.phase awaits part h)
     ∙ ap (λ (b : Bool). if nat_lt (length part) 8 then next.Short (8 - length part) else if not (next.header_fits catalog awaits part) then next.Invalid
-      else if nat_lt (length part) (8 + frames.size_in part) then next.Short (8 + frames.size_in part - length part)
-      else if b then next.Whole else next.Invalid) (payload_is catalog p p.phase awaits (frames.frame_in part) h)
+    else if nat_lt (length part) (8 + frames.size_in part) then next.Short (8 + frames.size_in part - length part)
+    else if b then next.Whole else next.Invalid) (payload_is catalog p p.phase awaits (frames.frame_in part) h)
 
 reply_rows_are : (catalog : Catalog) (forms : List AskForm) (asked : Asked) (serial : ℕ) (later : List Asked) (count last : ℕ) (frame : channel.Frame)
     → AreAsked catalog forms (asked ∷ later) → reply_rows forms frame ≡ rows_of_frame catalog (next.Reply asked serial later count last) frame

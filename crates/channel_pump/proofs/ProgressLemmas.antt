@@ -73,7 +73,7 @@ came_of catalog (next.Reply asked serial later count last) part n kind whole hea
     let width : ℕ = row_width catalog.schema asked.ask in
     let awaits : Awaits = next.Reply asked serial later count last in
     let counted : n ≡ length (rows_in catalog.schema asked.ask (frames.payload_in part)) =
-        number ∙ ap (λ (f : channel.Frame). length (rows_of_frame catalog (next.Reply asked serial later count last) f)) frame in
+    number ∙ ap (λ (f : channel.Frame). length (rows_of_frame catalog (next.Reply asked serial later count last) f)) frame in
     record {
       fit = subst (λ (f : channel.Frame). next.payload_fits catalog (next.Reply asked serial later count last) f ≡ true) frame payload;
       count = counted;
@@ -130,9 +130,9 @@ module _ (catalog : Catalog) (asks : List Asked) (journal : Journal) (p : Pump) 
         rows = rows_are (left catalog asks journal).heard.rows tally.rows kind same;
         ended = ap (λ (x : List next.Ended). (left catalog asks journal).heard.ended ++ x) (ended_is (left catalog asks journal).heard.awaits (left catalog asks journal).heard.rows tally.rows (frames.frame_in part));
         came = came (left catalog asks journal).heard.awaits tally.rows kind (λ k.
-          subst (λ (x : List ℕ). MayCome catalog (left catalog asks journal).heard.awaits x tally.rows) same
-          (came_of catalog (left catalog asks journal).heard.awaits part tally.rows k stands.whole
-          (sym (header_is catalog p p.phase (left catalog asks journal).heard.awaits part h.after.awaits) ∙ stands.header)
-          (sym (payload_is catalog p p.phase (left catalog asks journal).heard.awaits (frames.frame_in part) h.after.awaits) ∙ stands.payload)
-          (stands.rows.rows ∙ ap length (rows_at_are catalog p p.phase (left catalog asks journal).heard.awaits (frames.frame_in part) h.after.awaits))));
+            subst (λ (x : List ℕ). MayCome catalog (left catalog asks journal).heard.awaits x tally.rows) same
+            (came_of catalog (left catalog asks journal).heard.awaits part tally.rows k stands.whole
+            (sym (header_is catalog p p.phase (left catalog asks journal).heard.awaits part h.after.awaits) ∙ stands.header)
+            (sym (payload_is catalog p p.phase (left catalog asks journal).heard.awaits (frames.frame_in part) h.after.awaits) ∙ stands.payload)
+            (stands.rows.rows ∙ ap length (rows_at_are catalog p p.phase (left catalog asks journal).heard.awaits (frames.frame_in part) h.after.awaits))));
       })

@@ -66,7 +66,6 @@ pub last_more : (last width left : ℕ) (bytes : List ℕ) → 0 < left
 last_more last width left bytes h =
     ap (λ (all : List ReplyRow). last_identifier last all) (rows_more width left bytes h)
 
-
 -- between two rows: what the rows so far leave of the tests and of the last identifier
 pub record RowsLeft (most last : ℕ) (kinds : List Kind) (all : List ReplyRow) (width left before count : ℕ) (rest : List ℕ) : Type 0 where
   pub same : rows_fit most before kinds (rows_from width left rest) ≡ rows_fit most last kinds all
@@ -87,9 +86,9 @@ pub row_read : (most last : ℕ) (kinds : List Kind) (all : List ReplyRow) (widt
     → RowsLeft most last kinds all width (left - 1) identifier (count + 1) later
 row_read most last kinds all width left before count identifier rest row later inv some r l t i =
     let test : row_test most before kinds (row_in (take width rest)) ≡ true =
-        subst (λ (x : List ℕ). row_test most before kinds (row_in x) ≡ true) r t in
+    subst (λ (x : List ℕ). row_test most before kinds (row_in x) ≡ true) r t in
     let named : identifier ≡ (row_in (take width rest)).identifier =
-        subst (λ (x : List ℕ). identifier ≡ (row_in x).identifier) r i in
+    subst (λ (x : List ℕ). identifier ≡ (row_in x).identifier) r i in
     let higher : IsAbove most before (row_in (take width rest)).identifier = is_above most before (row_in (take width rest)).identifier (are_cells kinds (row_in (take width rest)).cells) test in
     let up : before < (row_in (take width rest)).identifier = higher.above in
     let low : (row_in (take width rest)).identifier ≤ most = higher.within in

@@ -242,8 +242,8 @@ module _ (catalog : Catalog) (asks : List Asked) (journal : Journal) (p : Pump) 
       → min (before + k) (2 ^ 64 - 1) ≡ counted (length (flat_map frames.frame_bytes (h.frames ++ frame ∷ [])))
   more_bytes h frame k before e b =
       let all : length (flat_map frames.frame_bytes (h.frames ++ frame ∷ [])) ≡ bytes_before h + k =
-          ap length (flat_map-append frames.frame_bytes h.frames (frame ∷ []) ∙ ap (λ (x : List ℕ). flat_map frames.frame_bytes h.frames ++ x) (append-nil (frames.frame_bytes frame)))
-          ∙ (length-append (flat_map frames.frame_bytes h.frames) (frames.frame_bytes frame) ∙ ap (λ (m : ℕ). bytes_before h + m) e) in
+      ap length (flat_map-append frames.frame_bytes h.frames (frame ∷ []) ∙ ap (λ (x : List ℕ). flat_map frames.frame_bytes h.frames ++ x) (append-nil (frames.frame_bytes frame)))
+      ∙ (length-append (flat_map frames.frame_bytes h.frames) (frames.frame_bytes frame) ∙ ap (λ (m : ℕ). bytes_before h + m) e) in
       omega (arith, all, b)
 
   pub frame_after : (q : Pump) → At → IsTurned catalog q (next.turn catalog asks (left catalog asks journal).heard.awaits (frames.frame_in part))
@@ -316,50 +316,50 @@ pub data FrameKind (kind size : ℕ) : Type 0 where
   greets : kind ≡ 17 → FrameKind kind size
   replies : ReplyKind kind size → FrameKind kind size
 
-pub kind_of_header : (p : Pump) (phase : Phase) (part : List ℕ) → header_at phase p part ≡ true → FrameKind (frames.kind_in part) (frames.size_in part)
-kind_of_header p Greeting part t =
-    greets (greeting_kind (frames.version_in part) (frames.kind_in part) (frames.serial_in part) (frames.size_in part) (length p.missing.now) t).0
-kind_of_header p Reply part t = reply_kind_of p.rest.now t
+pub kind_of_header : (p : Pump) (phase : Phase) (bytes : List ℕ) → header_at phase p bytes ≡ true → FrameKind (frames.kind_in bytes) (frames.size_in bytes)
+kind_of_header p Greeting bytes t =
+    greets (greeting_kind (frames.version_in bytes) (frames.kind_in bytes) (frames.serial_in bytes) (frames.size_in bytes) (length p.missing.now) t).0
+kind_of_header p Reply bytes t = reply_kind_of p.rest.now t
   where
-    reply_kind_of : (forms : List AskForm) → reply_header forms p.serial part ≡ true → FrameKind (frames.kind_in part) (frames.size_in part)
+    reply_kind_of : (forms : List AskForm) → reply_header forms p.serial bytes ≡ true → FrameKind (frames.kind_in bytes) (frames.size_in bytes)
     reply_kind_of [] e = absurd (no_truth e)
     reply_kind_of (form ∷ forms) e =
-        replies (reply_kind (frames.version_in part == frames.frame_version) (frames.serial_in part == p.serial) (width_of (form_kinds form)) (frames.kind_in part) (frames.size_in part)
-        (frames.kind_in part == 18) (frames.kind_in part == 19) refl refl e)
-kind_of_header p Over part t = absurd (no_truth t)
+        replies (reply_kind (frames.version_in bytes == frames.frame_version) (frames.serial_in bytes == p.serial) (width_of (form_kinds form)) (frames.kind_in bytes) (frames.size_in bytes)
+        (frames.kind_in bytes == 18) (frames.kind_in bytes == 19) refl refl e)
+kind_of_header p Over bytes t = absurd (no_truth t)
 
-payload_size : (p : Pump) (phase : Phase) (part : List ℕ) → 8 + frames.size_in part ≤ length part → header_at phase p part ≡ true
-    → length (frames.payload_of (frames.frame_in part)) ≡ frames.size_in part
-payload_size p Greeting part whole t =
-    let size : length (frames.payload_in part) ≡ frames.size_in part = payload_length part whole in
-    let kind : (frames.kind_in part ≡ 17) × (2 ≤ frames.size_in part) =
-        greeting_kind (frames.version_in part) (frames.kind_in part) (frames.serial_in part) (frames.size_in part) (length p.missing.now) t in
-    ap (λ (f : channel.Frame). length (frames.payload_of f)) (frame_of_kind part 17 kind.0)
-    ∙ greeting_size (frames.payload_in part) (frames.size_in part) size kind.1
+payload_size : (p : Pump) (phase : Phase) (bytes : List ℕ) → 8 + frames.size_in bytes ≤ length bytes → header_at phase p bytes ≡ true
+    → length (frames.payload_of (frames.frame_in bytes)) ≡ frames.size_in bytes
+payload_size p Greeting bytes whole t =
+    let size : length (frames.payload_in bytes) ≡ frames.size_in bytes = payload_length bytes whole in
+    let kind : (frames.kind_in bytes ≡ 17) × (2 ≤ frames.size_in bytes) =
+    greeting_kind (frames.version_in bytes) (frames.kind_in bytes) (frames.serial_in bytes) (frames.size_in bytes) (length p.missing.now) t in
+    ap (λ (f : channel.Frame). length (frames.payload_of f)) (frame_of_kind bytes 17 kind.0)
+    ∙ greeting_size (frames.payload_in bytes) (frames.size_in bytes) size kind.1
   where
     greeting_size : (payload : List ℕ) (size : ℕ) → length payload ≡ size → 2 ≤ size → suc (length (drop 1 payload)) ≡ size
     greeting_size payload size e some = omega (arith, length-drop 1 payload, e, some)
-payload_size p Reply part whole t = reply_size p.rest.now t
+payload_size p Reply bytes whole t = reply_size p.rest.now t
   where
-    reply_size : (forms : List AskForm) → reply_header forms p.serial part ≡ true → length (frames.payload_of (frames.frame_in part)) ≡ frames.size_in part
+    reply_size : (forms : List AskForm) → reply_header forms p.serial bytes ≡ true → length (frames.payload_of (frames.frame_in bytes)) ≡ frames.size_in bytes
     reply_size [] e = absurd (no_truth e)
     reply_size (form ∷ forms) e =
-        elim (reply_kind (frames.version_in part == frames.frame_version) (frames.serial_in part == p.serial) (width_of (form_kinds form)) (frames.kind_in part) (frames.size_in part)
-          (frames.kind_in part == 18) (frames.kind_in part == 19) refl refl e) [
-          | rows k ↦ ap (λ (f : channel.Frame). length (frames.payload_of f)) (frame_of_kind part 18 k) ∙ payload_length part whole
-          | done k z ↦ ap (λ (f : channel.Frame). length (frames.payload_of f)) (frame_of_kind part 19 k) ∙ sym z
-          | sorry k z ↦ ap (λ (f : channel.Frame). length (frames.payload_of f)) (frame_of_kind part 20 k) ∙ sym z
+        elim (reply_kind (frames.version_in bytes == frames.frame_version) (frames.serial_in bytes == p.serial) (width_of (form_kinds form)) (frames.kind_in bytes) (frames.size_in bytes)
+        (frames.kind_in bytes == 18) (frames.kind_in bytes == 19) refl refl e) [
+          | rows k ↦ ap (λ (f : channel.Frame). length (frames.payload_of f)) (frame_of_kind bytes 18 k) ∙ payload_length bytes whole
+          | done k z ↦ ap (λ (f : channel.Frame). length (frames.payload_of f)) (frame_of_kind bytes 19 k) ∙ sym z
+          | sorry k z ↦ ap (λ (f : channel.Frame). length (frames.payload_of f)) (frame_of_kind bytes 20 k) ∙ sym z
         ]
-payload_size p Over part whole t = absurd (no_truth t)
+payload_size p Over bytes whole t = absurd (no_truth t)
 
 header_size : (kind size serial : ℕ) (payload : List ℕ) → length (frames.header_bytes kind size serial ++ payload) ≡ 8 + length payload
 header_size kind size serial payload = length-append (frames.header_bytes kind size serial) payload
 
-pub frame_size : (p : Pump) (part : List ℕ) (tally : Tally) → Stands p part tally → length part ≡ 8 + frames.size_in part
-    → length (frames.frame_bytes (frames.frame_in part)) ≡ length part
-frame_size p part tally h exact_size =
-    header_size (frames.kind_of (frames.frame_in part)) (length (frames.payload_of (frames.frame_in part))) (frames.serial_of (frames.frame_in part)) (frames.payload_of (frames.frame_in part))
-    ∙ (ap (λ (k : ℕ). 8 + k) (payload_size p p.phase part h.whole h.header) ∙ sym exact_size)
+pub frame_size : (p : Pump) (bytes : List ℕ) (tally : Tally) → Stands p bytes tally → length bytes ≡ 8 + frames.size_in bytes
+    → length (frames.frame_bytes (frames.frame_in bytes)) ≡ length bytes
+frame_size p bytes tally h exact_size =
+    header_size (frames.kind_of (frames.frame_in bytes)) (length (frames.payload_of (frames.frame_in bytes))) (frames.serial_of (frames.frame_in bytes)) (frames.payload_of (frames.frame_in bytes))
+    ∙ (ap (λ (k : ℕ). 8 + k) (payload_size p p.phase bytes h.whole h.header) ∙ sym exact_size)
 
 -- what the events tell of the replies
 size_of_front : (k : ℕ) (page : List ℕ) → 8 ≤ length page → frames.size_in (take (8 + k) page) ≡ frames.size_in page
@@ -375,7 +375,7 @@ pub payload_of_front : (m : ℕ) (page : List ℕ) → 8 ≤ length page → len
     → frames.payload_in (take m page) ≡ frames.payload_in page
 payload_of_front m page long size e =
     let same : frames.size_in (take m page) ≡ frames.size_in page =
-        ap (λ (n : ℕ). frames.size_in (take n page)) e ∙ size_of_front (frames.size_in (take m page)) page long in
+    ap (λ (n : ℕ). frames.size_in (take n page)) e ∙ size_of_front (frames.size_in (take m page)) page long in
     ap (λ (n : ℕ). take (frames.size_in (take m page)) (drop 8 (take n page))) e
     ∙ (ap (λ (x : List ℕ). take (frames.size_in (take m page)) x) (drop-take 8 (frames.size_in (take m page)) page)
     ∙ (take_twice (frames.size_in (take m page)) (drop 8 page) ∙ ap (λ (n : ℕ). take n (drop 8 page)) same))

@@ -81,7 +81,7 @@ frame_of_greeting : (missing part : List ℕ) → next.header_fits nothing (next
     → frames.frame_in part ≡ channel.Welcome (slice_index (frames.payload_in part) 0) (welcomed part)
 frame_of_greeting missing part fits =
     let all : Greets (frames.version_in part) (frames.kind_in part) (frames.serial_in part) (frames.size_in part) =
-        greets (frames.version_in part) (frames.kind_in part) (frames.serial_in part) (frames.size_in part) (length missing) fits in
+    greets (frames.version_in part) (frames.kind_in part) (frames.serial_in part) (frames.size_in part) (length missing) fits in
     frame_of_kind part 17 all.kind_is
 
 test_true : (a b : ℕ) → a ≡ b → (a == b) ≡ true
@@ -137,9 +137,9 @@ rows_some [] serial part whole kind t = absurd (false_is_not t)
 rows_some (form ∷ forms) serial part whole kind t =
     let width : ℕ = width_of (form_kinds form) in
     let size : IsRowsSize (width_of (form_kinds form)) (frames.size_in part) =
-        rows_size (frames.version_in part == frames.frame_version) (frames.serial_in part == serial) (width_of (form_kinds form)) (frames.kind_in part) (frames.size_in part) kind t in
+    rows_size (frames.version_in part == frames.frame_version) (frames.serial_in part == serial) (width_of (form_kinds form)) (frames.kind_in part) (frames.size_in part) kind t in
     let counted : length (rows_with (form_kinds form) (frames.payload_in part)) ≡ length (frames.payload_in part) / width_of (form_kinds form) =
-        rows_count (width_of (form_kinds form)) (length (frames.payload_in part) / width_of (form_kinds form)) (frames.payload_in part) in
+    rows_count (width_of (form_kinds form)) (length (frames.payload_in part) / width_of (form_kinds form)) (frames.payload_in part) in
     let more : 0 < frames.size_in part / width_of (form_kinds form) = quotient_some (frames.size_in part) (width_of (form_kinds form)) size.some size.whole in
     subst (λ (f : channel.Frame). 0 < length (form_rows form f)) (sym (frame_of_kind part 18 kind))
     (subst (λ (n : ℕ). 0 < n) (sym (counted ∙ ap (λ (n : ℕ). n / width_of (form_kinds form)) (payload_length part whole))) more)

@@ -7,12 +7,11 @@ ghost use Rattle.channel_pump.specs.Asked.{form_kinds, width_of};
 ghost use Rattle.channel_pump.specs.Here.{nothing, header_at, payload_at, form_fits, form_rows, verdict_here, judged_view, IsJudged, IsTallyHere};
 ghost use Rattle.channel_pump.specs.Rows.{IsTally};
 
-use channel_codec::frame::{HEADER_BYTES, PAYLOAD_BYTES, VERSION};
-use channel_codec::reading::{kind_in, number_in, serial_in, size_in, version_in};
-
 use crate::forms::AskForm;
 use crate::rows::{Tally, read_rows, row_width};
 use crate::state::{Phase, Pump};
+use channel_codec::frame::{HEADER_BYTES, PAYLOAD_BYTES, VERSION};
+use channel_codec::reading::{kind_in, number_in, serial_in, size_in, version_in};
 
 /// What bytes amount to.
 pub(crate) enum Judged {
@@ -59,7 +58,11 @@ fn reply_header(form: &AskForm, serial: u32, header: &[u8]) -> bool
 {
     version_in(header) == VERSION
         && serial_in(header) == serial
-        && reply_size(row_width(form.kinds), kind_in(header), size_in(header) as usize)
+        && reply_size(
+            row_width(form.kinds),
+            kind_in(header),
+            size_in(header) as usize,
+        )
 }
 
 /// Whether a payload welcomes a part of these missing bytes.
@@ -91,13 +94,7 @@ fn reply_payload(form: &AskForm, count: u32, last: u32, part: &[u8]) -> Option<T
                 None
             }
         }
-        _ => {
-            if payload[0] != 0 {
-                Some(none)
-            } else {
-                None
-            }
-        }
+        _ => { if payload[0] != 0 { Some(none) } else { None } }
     }
 }
 
@@ -126,8 +123,15 @@ impl<'a> Pump<'a> {
             Phase::Greeting => {
                 let (_header, after) = part.split_at(HEADER_BYTES);
                 let (payload, _rest) = after.split_at(size_in(part) as usize);
-                let none = Tally { rows: 0, last: self.last };
-                if welcomes(self.missing, payload) { Some(none) } else { None }
+                let none = Tally {
+                    rows: 0,
+                    last: self.last,
+                };
+                if welcomes(self.missing, payload) {
+                    Some(none)
+                } else {
+                    None
+                }
             }
             Phase::Reply => reply_payload(&self.rest[0], self.count, self.last, part),
             Phase::Over => None,

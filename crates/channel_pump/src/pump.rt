@@ -15,11 +15,10 @@ ghost use Rattle.channel_pump.specs.State.{IsAfter, Keeps, IsWanted, IsTakenBy, 
 ghost use Rattle.channel_pump.specs.Turning.{event_after};
 ghost use Rattle.channel_pump.specs.Progress.{Tells, EndsAs};
 
-use channel_codec::frame::{Frame, put_frame};
-
 use crate::forms::AskForm;
 use crate::judging::Judged;
 use crate::state::{Cause, Event, Outgoing, Phase, Pump, Stage, Want};
+use channel_codec::frame::{Frame, put_frame};
 
 /// The payload of the first of some asks, and no bytes where there is none.
 fn first_payload<'a>(asks: &'a [AskForm<'a>]) -> &'a [u8]
@@ -203,5 +202,113 @@ impl<'a> Pump<'a> {
                 self.hear(part, tally)
             }
         }
+    }
+}
+
+#[cfg(test)]
+mod tests {
+    use super::*;
+    use ghost_base::Kind;
+
+    // Whether the key, whose takes are answered by at most so many bytes of the stream, sends these frames and is told
+    // these events, and then ends by this cause.
+    fn goes(
+        asks: &[AskForm],
+        step: usize,
+        host: &[u8],
+        sent: &[&[u8]],
+        told: &[Event],
+        cause: Cause,
+    ) -> bool
+        requires asks { 1 + length asks.now < 2 ^ 32 }
+        requires step { 0 < step }
+    {
+        let mut pump = Pump::begin(5, b"catalog", asks);
+        let mut page = [0; 2048];
+        let mut stream = host;
+        let mut frames = sent;
+        let mut events = told;
+        for _ in 0..500 {
+            match pump.want() {
+                Want::Dial | Want::Close => pump.made(),
+                Want::Send => {
+                    let count = pump.frame(&mut page);
+                    let Some((frame, later)) = frames.split_first() else {
+                        return false
+                    };
+                    if *frame != &page[..count] {
+                        return false;
+                    }
+                    frames = later;
+                    pump.made();
+                }
+                Want::Take { at, most } => {
+                    let count = step.min(most).min(stream.len());
+                    if count == 0 {
+                        pump.ended();
+                    } else {
+                        let (piece, rest) = stream.split_at(count);
+                        page[at..at + count].copy_from_slice(piece);
+                        stream = rest;
+                        let event = pump.took(&page, count);
+                        if event != Event::Part {
+                            let Some((first, later)) = events.split_first() else {
+                                return false
+                            };
+                            if *first != event {
+                                return false;
+                            }
+                            events = later;
+                        }
+                    }
+                }
+                Want::Closed => {
+                    return frames.is_empty() && events.is_empty() && pump.cause() == Some(cause);
+                }
+            }
+        }
+        false
+    }
+
+    #[test]
+    fn sessions_go_however_the_stream_is_cut(rt: HostRuntime) {
+        let asks = [
+            AskForm {
+                text: 1,
+                payload: &[0, 1, 1, 0],
+                kinds: &[Kind::Chars(2)],
+                rows: 3,
+            },
+            AskForm {
+                text: 2,
+                payload: &[0, 0, 0],
+                kinds: &[],
+                rows: 3,
+            },
+        ];
+        let host =
+            b"\x11\x01\0\x08\0\0\0\0\x01catalog\x12\x01\0\x0C\0\0\0\x01\0\0\0\x01ab\0\0\0\x03c\0\x13\x01\0\x04\0\0\0\x01\0\0\0\x02\x14\x01\0\x01\0\0\0\x02\x07";
+        let sent: [&[u8]; 5] = [
+            &[1, 1, 0, 4, 0, 0, 0, 0, 0, 0, 0, 5],
+            &[2, 1, 0, 4, 0, 0, 0, 1, 0, 1, 1, 0],
+            &[3, 1, 0, 0, 0, 0, 0, 1],
+            &[2, 1, 0, 3, 0, 0, 0, 2, 0, 0, 0],
+            &[4, 1, 0, 0, 0, 0, 0, 0],
+        ];
+        let told = [Event::Welcome, Event::Rows(2), Event::Done, Event::Sorry(7)];
+        assert!(rt; goes(&asks, 2048, host, &sent, &told, Cause::Finished));
+        assert!(rt; goes(&asks, 1, host, &sent, &told, Cause::Finished));
+        assert!(rt; goes(&asks, 5, &host[..20], &sent[..2], &told[..1], Cause::Link));
+        let invalid = Event::Invalid { kind: 18, at: 16 };
+        assert!(rt;
+            goes(
+                &asks[1..],
+                3,
+                &host[..36],
+                &[sent[0], &[2, 1, 0, 3, 0, 0, 0, 1, 0, 0, 0]],
+                &[Event::Welcome, invalid],
+                Cause::Protocol { kind: 18, at: 16 }
+            )
+        );
     }
 }

@@ -9,10 +9,9 @@ ghost use Rattle.channel_pump.specs.Narrow.{is_narrow};
 ghost use Rattle.channel_pump.specs.Asked.{form_kinds, width_of, rows_with};
 ghost use Rattle.channel_pump.specs.Rows.{IsTally};
 
+use crate::forms::AskForm;
 use channel_codec::reading::number_in;
 use ghost_base::{Kind, cell_width, decode_cell};
-
-use crate::forms::AskForm;
 
 /// What is counted of the rows of one frame.
 #[derive(Clone, Copy)]

@@ -10,12 +10,11 @@ ghost use Rattle.channel_pump.specs.Here.{Stands, header_at, payload_at, frames_
 ghost use Rattle.channel_pump.specs.State.{IsAwaiting, IsFresh, IsBefore, IsTurned, IsGoing};
 ghost use Rattle.channel_pump.specs.Turning.{forms_after, event_of};
 
-use channel_codec::frame::HEADER_BYTES;
-use channel_codec::reading::{kind_in, size_in};
-
 use crate::forms::AskForm;
 use crate::rows::Tally;
 use crate::state::{Event, Outgoing, Phase, Pump, Stage};
+use channel_codec::frame::HEADER_BYTES;
+use channel_codec::reading::{kind_in, size_in};
 
 /// How many asks at the front are of this text.
 fn count_of_text(text: u32, asks: &[AskForm]) -> usize
@@ -101,7 +100,9 @@ impl<'a> Pump<'a> {
         ensures generation { self.new.generation ≡ self.old.generation }
         ensures event { result ≡ event_of tally.rows (frames.frame_in part.now) }
     {
-        let Some((ended, later)) = self.rest.split_first() else { unreachable!() };
+        let Some((ended, later)) = self.rest.split_first() else {
+            unreachable!()
+        };
         match kind_in(part) {
             18 => {
                 self.count += tally.rows;

@@ -9,9 +9,9 @@ use Rattle.channel_pump.proofs.rows.read_rows.Goals as goal
 pub returns-then-not-row_fits-clause-fits : goal.returns-then-not-row_fits-clause-fits
 returns-then-not-row_fits-clause-fits c =
     let fails : row_test c.args.form.now.rows c.rows.before (form_kinds c.args.form.now) (row_in c.split_at.result.0.now) ≡ false =
-        sym c.row_fits.ensures ∙ c.if-not-row_fits.true in
+    sym c.row_fits.ensures ∙ c.if-not-row_fits.true in
     let test : row_test c.args.form.now.rows c.rows.before (form_kinds c.args.form.now) (row_in (take c.row_width-width.result c.rows.rest.now)) ≡ false =
-        subst (λ (x : List ℕ). row_test c.args.form.now.rows c.rows.before (form_kinds c.args.form.now) (row_in x) ≡ false) c.split_at.ensures.front fails in
+    subst (λ (x : List ℕ). row_test c.args.form.now.rows c.rows.before (form_kinds c.args.form.now) (row_in x) ≡ false) c.split_at.ensures.front fails in
     sym (sym c.rows.invariant.left.same
     ∙ fits_not c.args.form.now.rows c.rows.before c.row_width-width.result c.rows.left (form_kinds c.args.form.now) c.rows.rest.now c.rows-test.true test)
 
@@ -35,7 +35,7 @@ pub returns-clause-tally : goal.returns-clause-tally
 returns-clause-tally c =
     let none : c.rows.left ≡ 0 = omega (arith, c.rows-test.false) in
     let counted : length (rows_with (form_kinds c.args.form.now) c.args.payload.now) ≡ length c.args.payload.now / width_of (form_kinds c.args.form.now) =
-        rows_count (width_of (form_kinds c.args.form.now)) (length c.args.payload.now / width_of (form_kinds c.args.form.now)) c.args.payload.now in
+    rows_count (width_of (form_kinds c.args.form.now)) (length c.args.payload.now / width_of (form_kinds c.args.form.now)) c.args.payload.now in
     record {
       rows = omega (arith, counted, c.rows.invariant.count, none);
       last = ap (λ (all : _). last_identifier c.rows.before all) (sym (rows_none c.row_width-width.result c.rows.rest.now))

@@ -56,16 +56,16 @@ returns-in-Invalid-clause-event c catalog asks journal h k =
 pub returns-in-Whole-clause-after : goal.returns-in-Whole-clause-after
 returns-in-Whole-clause-after c catalog asks journal h k =
     let at : At catalog asks journal c.args.self.now c.args.page.now c.args.n =
-        record { after = h; keeps = k; some = c.requires.some; taken_by = c.requires.taken; room = c.requires.room } in
+    record { after = h; keeps = k; some = c.requires.some; taken_by = c.requires.taken; room = c.requires.room } in
     let stands : Stands c.args.self.now (take (c.args.self.now.have + c.args.n) c.args.page.now) c.in-Whole.tally =
-        subst (λ (x : List ℕ). Stands c.args.self.now x c.in-Whole.tally) c.split_at.ensures.front c.in-Whole.ensures.judged in
+    subst (λ (x : List ℕ). Stands c.args.self.now x c.in-Whole.tally) c.split_at.ensures.front c.in-Whole.ensures.judged in
     let size : length (take (c.args.self.now.have + c.args.n) c.args.page.now) ≡ 8 + frames.size_in (take (c.args.self.now.have + c.args.n) c.args.page.now) =
-        whole_length catalog asks journal c.args.self.now c.args.page.now c.args.n c.in-Whole.tally at stands in
+    whole_length catalog asks journal c.args.self.now c.args.page.now c.args.n c.in-Whole.tally at stands in
     let turned : IsTurned catalog c.hear.new.self (next.turn catalog asks (left catalog asks journal).heard.awaits (frames.frame_in (take (c.args.self.now.have + c.args.n) c.args.page.now))) =
-        subst (λ (x : List ℕ). IsTurned catalog c.hear.new.self (next.turn catalog asks (left catalog asks journal).heard.awaits (frames.frame_in x))) c.split_at.ensures.front
-        (c.hear.ensures.turned catalog asks (left catalog asks journal).heard.awaits
-        (awaits_on catalog c.args.self.now _ (left catalog asks journal).heard.awaits (same_fields _ _ refl refl refl refl refl refl) h.awaits)
-        (fresh_on catalog asks c.args.self.now _ (same_fields _ _ refl refl refl refl refl refl) h.fresh)) in
+    subst (λ (x : List ℕ). IsTurned catalog c.hear.new.self (next.turn catalog asks (left catalog asks journal).heard.awaits (frames.frame_in x))) c.split_at.ensures.front
+    (c.hear.ensures.turned catalog asks (left catalog asks journal).heard.awaits
+    (awaits_on catalog c.args.self.now _ (left catalog asks journal).heard.awaits (same_fields _ _ refl refl refl refl refl refl) h.awaits)
+    (fresh_on catalog asks c.args.self.now _ (same_fields _ _ refl refl refl refl refl refl) h.fresh)) in
     frame_after catalog asks journal c.args.self.now c.args.page.now c.args.n c.hear.new.self at turned
     (c.hear.ensures.fresh catalog asks (fresh_on catalog asks c.args.self.now _ (same_fields _ _ refl refl refl refl refl refl) h.fresh))
     c.hear.ensures.going c.hear.ensures.have c.hear.ensures.lacks
@@ -83,7 +83,7 @@ returns-in-Whole-clause-keeps c catalog asks journal h k =
 pub returns-in-Whole-clause-event : goal.returns-in-Whole-clause-event
 returns-in-Whole-clause-event c catalog asks journal h k =
     let stands : Stands c.args.self.now (take (c.args.self.now.have + c.args.n) c.args.page.now) c.in-Whole.tally =
-        subst (λ (x : List ℕ). Stands c.args.self.now x c.in-Whole.tally) c.split_at.ensures.front c.in-Whole.ensures.judged in
+    subst (λ (x : List ℕ). Stands c.args.self.now x c.in-Whole.tally) c.split_at.ensures.front c.in-Whole.ensures.judged in
     sym (frame_event catalog asks journal c.args.self.now c.args.page.now c.args.n c.in-Whole.tally
     (record { after = h; keeps = k; some = c.requires.some; taken_by = c.requires.taken; room = c.requires.room }) stands
     (sym (c.in-Whole.ensures.verdict ∙ ap (verdict_here c.args.self.now) c.split_at.ensures.front))
@@ -104,13 +104,13 @@ returns-in-Invalid-clause-tells c catalog asks journal h k =
 pub returns-in-Whole-clause-tells : goal.returns-in-Whole-clause-tells
 returns-in-Whole-clause-tells c catalog asks journal h k =
     let at : At catalog asks journal c.args.self.now c.args.page.now c.args.n =
-        record { after = h; keeps = k; some = c.requires.some; taken_by = c.requires.taken; room = c.requires.room } in
+    record { after = h; keeps = k; some = c.requires.some; taken_by = c.requires.taken; room = c.requires.room } in
     let stands : Stands c.args.self.now (take (c.args.self.now.have + c.args.n) c.args.page.now) c.in-Whole.tally =
-        subst (λ (x : List ℕ). Stands c.args.self.now x c.in-Whole.tally) c.split_at.ensures.front c.in-Whole.ensures.judged in
+    subst (λ (x : List ℕ). Stands c.args.self.now x c.in-Whole.tally) c.split_at.ensures.front c.in-Whole.ensures.judged in
     let size : length (take (c.args.self.now.have + c.args.n) c.args.page.now) ≡ 8 + frames.size_in (take (c.args.self.now.have + c.args.n) c.args.page.now) =
-        whole_length catalog asks journal c.args.self.now c.args.page.now c.args.n c.in-Whole.tally at stands in
+    whole_length catalog asks journal c.args.self.now c.args.page.now c.args.n c.in-Whole.tally at stands in
     let long : length (take (c.args.self.now.have + c.args.n) c.args.page.now) ≡ c.args.self.now.have + c.args.n =
-        part_length catalog asks journal c.args.self.now c.args.page.now c.args.n at in
+    part_length catalog asks journal c.args.self.now c.args.page.now c.args.n at in
     subst (λ (e : Event). Tells catalog c.args.page.now e (left catalog asks journal).heard (left catalog asks (journal ++ taken_entry c.args.self.now c.args.page.now c.args.n ∷ [])).heard)
     (ap (λ (x : List ℕ). event_of c.in-Whole.tally.rows (frames.frame_in x)) (sym c.split_at.ensures.front) ∙ sym c.hear.ensures.event)
     (frame_tells catalog asks journal c.args.self.now c.args.page.now c.args.n c.in-Whole.tally at stands
