@@ -4,6 +4,7 @@ mod Replying
 mod Answering
 mod Exchanges
 mod Standing
+mod Sessions
 mod Numerals
 mod ReadRecords
 mod KeptTexts

@@ -11,6 +11,7 @@ pub mod pieces;
 pub mod records;
 pub mod rows;
 pub mod script;
+mod session;
 mod speech;
 #[cfg(test)]
 mod tests;
