@@ -3,6 +3,8 @@ mod Gathering
 mod Replying
 mod Answering
 mod Exchanges
+mod Standing
+mod Sessions
 mod Numerals
 mod ReadRecords
 mod KeptTexts

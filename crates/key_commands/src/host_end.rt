@@ -1,6 +1,6 @@
 //! The host's end of a session whose host is in the key's own process.
 
-ghost use Rattle.std.specs.Prelude.{◌≡◌, ◌≤◌, ◌<◌, ◌+◌, ◌-◌, ◌*◌, ◌^◌, ◌++◌, ◌∷◌, [], length, take, drop, map, flat_map, ℕ, List, Some, IfSome, MatchOption};
+ghost use Rattle.std.specs.Prelude.{◌≡◌, ◌≤◌, ◌<◌, ◌+◌, ◌-◌, ◌*◌, ◌^◌, ◌++◌, ◌∷◌, [], length, take, drop, map, flat_map, ℕ, List, Some, IfSome, MatchOption, min};
 ghost use Rattle.ghost_model.specs.Catalog.{catalog_bytes};
 ghost use Rattle.ghost_model.specs.Asks.{ask_in};
 ghost use Rattle.key_commands.specs.Texts.{TextList};
@@ -99,14 +99,18 @@ impl Speech {
         self.from = self.to;
     }
 
-    /// Hands out the next bytes, as many as there is room for.
-    pub fn hand(&mut self, out: &mut [u8])
-        requires { length out.old ≤ length (owed self.old) }
-        ensures { owed self.old ≡ out.new ++ owed self.new }
+    /// Hands out the next bytes, as many as there are and as there is room for; answers how many.
+    pub fn hand(&mut self, out: &mut [u8]) -> usize
+        ensures count { result ≡ min (length out.old) (length (owed self.old)) }
+        ensures handed { owed self.old ≡ take result out.new ++ owed self.new }
     {
-        let count = out.len();
-        out.copy_from_slice(&self.page[self.from..self.from + count]);
+        let count = out.len().min(self.to - self.from);
+        let (place, _rest) = out.split_at_mut(count);
+        let (_done, ahead) = self.page.split_at(self.from);
+        let (piece, _later) = ahead.split_at(count);
+        place.copy_from_slice(piece);
         self.from += count;
+        count
     }
 }
 
@@ -342,14 +346,14 @@ impl<'a> HostEnd<'a> {
         }
     }
 
-    /// Hands out the next bytes of what was said, as many as there is room for.
-    pub fn hand(&mut self, out: &mut [u8])
-        requires { length out.old ≤ length (owed self.old.speech) }
-        ensures handed { owed self.old.speech ≡ out.new ++ owed self.new.speech }
+    /// Hands out the next bytes of what was said, as many as there are and as there is room for; answers how many.
+    pub fn hand(&mut self, out: &mut [u8]) -> usize
+        ensures count { result ≡ min (length out.old) (length (owed self.old.speech)) }
+        ensures handed { owed self.old.speech ≡ take result out.new ++ owed self.new.speech }
         ensures able { IsAble self.old → IsAble self.new }
         ensures same { IsSameHost self.old self.new }
         ensures stands { (stand : Stand) → Stands self.old stand → Stands self.new stand }
     {
-        self.speech.hand(out);
+        self.speech.hand(out)
     }
 }

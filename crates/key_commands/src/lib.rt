@@ -14,6 +14,7 @@ pub mod records;
 pub mod rows;
 pub mod status;
 pub mod script;
+mod session;
 mod speech;
 #[cfg(test)]
 mod tests;

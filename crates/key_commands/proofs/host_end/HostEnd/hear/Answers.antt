@@ -4,7 +4,7 @@ use Rattle.channel_codec.specs.Views.{frame_view, got_view}
 use Rattle.key_commands.specs.Hosting.{CanCome}
 use Rattle.key_commands.specs.Hosts.{width_of}
 use Rattle.key_commands.proofs.Answering.{view_is}
-use Rattle.key_commands.proofs.Exchanges.{next_reply}
+use Rattle.key_commands.proofs.Standing.{left_more}
 use Rattle.key_commands.proofs.host_end.HostEnd.hear.Goals as goal
 
 pub returns-in-Frame-clause-answered : goal.returns-in-Frame-clause-answered
