@@ -27,3 +27,4 @@ mod OneCause
 mod HeldColumn
 mod Answered
 mod ServedAsk
+mod SessionOf

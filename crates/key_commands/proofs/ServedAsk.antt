@@ -131,7 +131,7 @@ catalog_is_short form rows h =
     omega (arith, whole)
 
 -- the ask
-cell_is_wide : (most : ℕ) (text : List ℕ) → length text ≤ most → length (padded most text) ≡ most
+pub cell_is_wide : (most : ℕ) (text : List ℕ) → length text ≤ most → length (padded most text) ≡ most
 cell_is_wide most text short =
     length-append text (replicate (most - length text) 0) ∙ (ap (λ n. length text + n) (length-replicate (most - length text) 0) ∙ omega arith)
 
@@ -230,18 +230,31 @@ holds {opened = opened} opening =
     holds_column (catalog_of (input_of opening)) (form_view opened.form) opening.rows.bytes opened.rows.count opened.rows.shown opened.rows.secret opened.catalog.items
     refl (opening.catalog ∙ ap catalog_bytes (sym (catalog_is opening))) opening.rows.held
 
+-- its reply has the rows that match
+pub replied : {contents : Option Files} {names : Names} {opened : Opened} → (opening : IsOpened contents names opened) → (host_in (input_of opening)).rows (form_ask opening.script.wanted) ≡ map bare_row (matches opening.script.wanted opened.rows.shown.texts)
+replied {opened = opened} opening =
+    reply_of_file (form_view opened.form) opening.script.wanted opening.rows.bytes opened.rows.count opened.rows.shown opened.rows.secret opening.rows.held
+
+-- and no more of them than there are
+pub not_more : {contents : Option Files} {names : Names} {opened : Opened} → (opening : IsOpened contents names opened) → length ((host_in (input_of opening)).rows (form_ask opening.script.wanted)) ≤ length opened.rows.shown.texts
+not_more {opened = opened} opening =
+    let found = matches opening.script.wanted opened.rows.shown.texts in
+    let few : length found ≤ length opened.rows.shown.texts = some_places _ 1 opened.rows.shown.texts in
+    let e : length ((host_in (input_of opening)).rows (form_ask opening.script.wanted)) ≡ length found = ap length (replied opening) ∙ many_back found in
+    omega arith
+
 -- a session of the one ask is a session of the script
 pub went : {contents : Option Files} {names : Names} {opened : Opened} → (opening : IsOpened contents names opened) → (name : List ℕ) (old new : Log) (found : List ℕ) (journal : Journal)
     → GoesOn (catalog_of (input_of opening)) [] (asked 1 (form_ask opening.script.wanted) ∷ []) [] journal → IsFinished journal → IsServedBy (host_in (input_of opening)) journal → Extends name (lines journal) old new
     → map bare_row found ≡ (host_in (input_of opening)).rows (form_ask opening.script.wanted) → WasHeld (input_of opening) opened.rows.shown.texts name old new found
-went {opened = opened} opening name old new found journal goes finished served extends replied = record {
+went {opened = opened} opening name old new found journal goes finished served extends back = record {
   journal = journal;
   proper = subst (λ asks. GoesOn (catalog_of (input_of opening)) [] asks [] journal) (sym (asks_are opening)) goes;
   finished = finished;
   served = served;
   extends = extends;
   found_are = bare_back found (matches opening.script.wanted opened.rows.shown.texts)
-      (replied ∙ reply_of_file (form_view opened.form) opening.script.wanted opening.rows.bytes opened.rows.count opened.rows.shown opened.rows.secret opening.rows.held);
+      (back ∙ replied opening);
 }
 
 -- the cells of the visible column are narrow
