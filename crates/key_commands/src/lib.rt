@@ -6,6 +6,7 @@ mod journal;
 pub mod fields;
 pub mod form;
 mod form_laws;
+pub mod local;
 pub mod naming;
 pub mod opening;
 pub mod pieces;
