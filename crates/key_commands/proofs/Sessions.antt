@@ -1,5 +1,5 @@
 -- A session with one ask, move by move.
-use Rattle.std.proofs.Common.{◌≡◌, ℕ, zero, suc, ◌+◌, ◌-◌, ◌*◌, ◌/◌, ◌<◌, ◌≤◌, List, [], ◌∷◌, ◌++◌, length, map, take, drop, drop-drop, sym, ◌∙◌, ap, subst, refl, arith, append_assoc, append-nil, length-append}
+use Rattle.std.proofs.Common.{◌≡◌, ℕ, zero, suc, ◌+◌, ◌-◌, ◌*◌, ◌/◌, ◌<◌, ◌≤◌, List, [], ◌∷◌, ◌++◌, length, map, take, drop, drop-drop, sym, ◌∙◌, ap, subst, refl, arith, append_assoc, append-nil, length-append, length-take}
 use Rattle.std.proofs.lemmas.List.{length-drop}
 use Rattle.std.proofs.Math.Seq.{take-add}
 use Rattle.ghost_model.specs.Frames.{number_in}
@@ -7,22 +7,34 @@ use Rattle.ghost_model.specs.Asks.{rows_from}
 use Rattle.ghost_model.proofs.ChannelLemmas.Tests.{take_front}
 use Rattle.key_commands.specs.Serving.{identifier_of}
 
-use Rattle.std.specs.Prelude.{Bool, true, false, ◌||◌, Option, Some, None, flat_map, All, ◌==◌}
+use Rattle.std.specs.Prelude.{Bool, true, false, ◌||◌, Option, Some, None, flat_map, All, ◌==◌, min}
 use Rattle.std.proofs.lemmas.Grind.{flat_map-append}
 use Rattle.ghost_model.proofs.ChannelLemmas.Tests.{both_hold, hold_both}
 use Rattle.key_commands.specs.Texts.{TextList}
 use Rattle.key_commands.proofs.Journals.{goes_on_with, begins_at}
 use Rattle.std.specs.List.{list_all, concat}
 use Rattle.ghost_model.proofs.ChannelLemmas.Hosts.{frames_are_cut}
-use Rattle.ghost_model.specs.Channel.{Catalog, Frame, Move, Dial, Send, Take, Close, Answer, Made, Piece, Entry, Journal}
-use Rattle.ghost_model.specs.Frames.{IsFrame, frame_bytes}
+use Rattle.ghost_model.specs.Channel.{Catalog, Frame, Hello, Asking, More, Bye, Welcome, Replied, Done, Sorry, Move, Dial, Send, Take, Close, Answer, Made, Piece, Entry, Journal}
+use Rattle.ghost_model.specs.Frames.{IsFrame, frame_bytes, frame_in, size_in, payload_in}
 use Rattle.ghost_model.specs.Moves.{line, lines, taken, sent, sent_by, piece_of}
 use Rattle.ghost_model.specs.Asks.{Asked, ReplyRow, ask_payload}
 use Rattle.ghost_model.specs.NextMove.{GoesOn, IsFinished, Left, left, next_with, heard, hear_all, is_close}
 use Rattle.ghost_model.specs.Host.{Holding, Stand, Response, said_to, said_with, answer_to, frames_of}
 use Rattle.ghost_model.specs.Host as host_specs
 use Rattle.ghost_model.specs.Local.{is_full}
-use Rattle.channel_pump.specs.State.{IsAfter, Keeps}
+use Rattle.channel_pump.specs.State.{IsAfter, Keeps, IsLeft, IsStage, want_at, want_of, taken_entry}
+use Rattle.channel_pump.specs.Turning.{event_of, event_at, event_after}
+use Rattle.channel_pump.specs.Turning.{rows_of_frame as pump_rows}
+use Rattle.channel_pump.specs.declared.state.Want.TheVariants as want
+use Rattle.channel_pump.specs.declared.state.Stage.{Stage}
+use Rattle.channel_pump.specs.declared.state.Stage.TheVariants as stage
+use Rattle.channel_pump.specs.declared.state.Event.{Event}
+use Rattle.channel_pump.specs.declared.state.Event.TheVariants as event_is
+use Rattle.std.proofs.lemmas.List.{take-append-drop, map-append, length-map}
+use Rattle.std.proofs.lemmas.Bool.{eq-eqb}
+use Rattle.std.proofs.Math.Seq.{take-append_seam}
+use Rattle.ghost_model.proofs.ChannelLemmas.{size_is_read}
+use Rattle.key_commands.proofs.Exchanges.{rows_of_frame}
 use Rattle.channel_pump.specs.declared.state.Pump.{Pump}
 use Rattle.key_commands.specs.Hosting.{HoldsColumn, IsColumnAsk, CanCome}
 use Rattle.key_commands.specs.HostState.{owed}
@@ -30,7 +42,7 @@ use Rattle.key_commands.specs.Hosts.{Holds, Stands, Answers, IsSameHost, width_o
 use Rattle.key_commands.specs.Journaling.{Log, Extends}
 use Rattle.key_commands.specs.Serving.{ServesAsk, Conversed}
 use Rattle.key_commands.specs.declared.host_end.HostEnd.{HostEnd}
-use Rattle.key_commands.proofs.Standing.{At, goes, left_more, taken_more, sent_more, still_open, begins, send_at, answers_at, sending_can_come, sending_is_frame, over_at}
+use Rattle.key_commands.proofs.Standing.{Brings, nothing, a_frame, take_at, took_at, few_at, At, goes, left_more, taken_more, sent_more, still_open, begins, send_at, answers_at, sending_can_come, sending_is_frame, over_at}
 
 -- identifiers are kept row by row
 pub record KeptSoFar (items start : List ℕ) (room first_room left : ℕ) (rest rows : List ℕ) : Type 0 where
@@ -329,3 +341,154 @@ conversed held asked name can start now pump host page ids r next =
     joined_frames : (frames : List Frame) → concat (map frame_bytes frames) ≡ flat_map frame_bytes frames
     joined_frames [] = refl
     joined_frames (frame ∷ frames) = ap (λ (bs : List ℕ). frame_bytes frame ++ bs) (joined_frames frames)
+
+-- what the pump says of a take
+pub record TakingIs (p : Pump) (l : Left) (place most : ℕ) : Type 0 where
+  pub have : p.have ≡ place
+  pub lacks : p.lacks ≡ most
+  pub part : length l.heard.part ≡ place
+
+take_have : (a b c d : ℕ) → want.Take a b ≡ want.Take c d → c ≡ a
+take_have a b c d e = cc
+
+take_lacks : (a b c d : ℕ) → want.Take a b ≡ want.Take c d → d ≡ b
+take_lacks a b c d e = cc
+
+not_dial : (a b : ℕ) → want.Take a b ≡ want.Dial → ⊥
+not_dial a b e = cc
+not_send : (a b : ℕ) → want.Take a b ≡ want.Send → ⊥
+not_send a b e = cc
+not_close : (a b : ℕ) → want.Take a b ≡ want.Close → ⊥
+not_close a b e = cc
+not_closed : (a b : ℕ) → want.Take a b ≡ want.Closed → ⊥
+not_closed a b e = cc
+
+taking_by : (catalog : Catalog) (p : Pump) (l : Left) (place most : ℕ) (stage : Stage) → IsStage catalog p l stage → want.Take place most ≡ want_at p stage → TakingIs p l place most
+taking_by catalog p l place most stage.Dialling is e = absurd (not_dial place most e)
+taking_by catalog p l place most (stage.Sending _) is e = absurd (not_send place most e)
+taking_by catalog p l place most stage.Taking is e =
+    let there : p.have ≡ place = take_have place most p.have p.lacks e in
+    record { have = there; lacks = take_lacks place most p.have p.lacks e; part = is.have ∙ there }
+taking_by catalog p l place most (stage.Closing _) is e = absurd (not_close place most e)
+taking_by catalog p l place most (stage.Closed _) is e = absurd (not_closed place most e)
+
+pub taking_is : (catalog : Catalog) (asks : List Asked) (p : Pump) (l : Left) (place most : ℕ) → IsLeft catalog asks p l → want.Take place most ≡ want_of p → TakingIs p l place most
+taking_is catalog asks p l place most is e = taking_by catalog p l place most p.stage is.stage e
+
+count_rows : (width count : ℕ) (bytes : List ℕ) → length (rows_from width count bytes) ≡ count
+unfolding rows_from
+count_rows width zero bytes = refl
+count_rows width (suc count) bytes = let e = count_rows width count (drop width bytes) in omega (arith, e)
+
+-- what a piece brought is kept
+pub record Heed (event : Event) (page ids next_ids : List ℕ) (room : ℕ) : Type 0 where
+  pub rows : (n : ℕ) → event ≡ event_is.Rows n → 8 + size_in page ≤ length page → length ids + length (payload_in page) / 4 ≤ room
+      → next_ids ≡ ids ++ map identifier_of (rows_from 4 (length (payload_in page) / 4) (payload_in page))
+  pub others : ((n : ℕ) → event ≡ event_is.Rows n → ⊥) → next_ids ≡ ids
+
+part_is_not : (event : Event) (n : ℕ) → event ≡ event_is.Part → event ≡ event_is.Rows n → ⊥
+part_is_not event n e f = cc
+welcome_is_not : (event : Event) (n : ℕ) → event ≡ event_is.Welcome → event ≡ event_is.Rows n → ⊥
+welcome_is_not event n e f = cc
+done_is_not : (event : Event) (n : ℕ) → event ≡ event_is.Done → event ≡ event_is.Rows n → ⊥
+done_is_not event n e f = cc
+sorry_is_not : (event : Event) (code n : ℕ) → event ≡ event_is.Sorry code → event ≡ event_is.Rows n → ⊥
+sorry_is_not event code n e f = cc
+
+module _ (held : Holding) (asked : Asked) (can : ServesAsk held asked) where
+  nothing_kept : (event : Event) (page ids next_ids : List ℕ) (room : ℕ) (brought : List ReplyRow) → Heed event page ids next_ids room → ((n : ℕ) → event ≡ event_is.Rows n → ⊥) → brought ≡ [] → next_ids ≡ ids ++ map identifier_of brought
+  nothing_kept event page ids next_ids room brought heed never none =
+      heed.others never ∙ (sym (append-nil ids) ∙ ap (λ (rows : List ReplyRow). ids ++ map identifier_of rows) (sym none))
+
+  kept_by :
+      (event : Event) (page ids next_ids rest : List ℕ) (room n : ℕ) (brought : List ReplyRow) (frame : Frame) → Heed event page ids next_ids room
+      → event ≡ event_of n frame → IsFrame frame → page ≡ frame_bytes frame ++ rest → rows_of_frame held asked can frame ≡ brought → length ids + length brought ≤ room → length page ≡ 2048
+      → next_ids ≡ ids ++ map identifier_of brought
+  kept_by event page ids next_ids rest room n brought (Hello _) heed is fits page_is rows few long = nothing_kept event page ids next_ids room brought heed (λ k e. part_is_not event k is e) (sym rows)
+  kept_by event page ids next_ids rest room n brought (Asking _ _) heed is fits page_is rows few long = nothing_kept event page ids next_ids room brought heed (λ k e. part_is_not event k is e) (sym rows)
+  kept_by event page ids next_ids rest room n brought (More _) heed is fits page_is rows few long = nothing_kept event page ids next_ids room brought heed (λ k e. part_is_not event k is e) (sym rows)
+  kept_by event page ids next_ids rest room n brought Bye heed is fits page_is rows few long = nothing_kept event page ids next_ids room brought heed (λ k e. part_is_not event k is e) (sym rows)
+  kept_by event page ids next_ids rest room n brought (Welcome _ _) heed is fits page_is rows few long = nothing_kept event page ids next_ids room brought heed (λ k e. welcome_is_not event k is e) (sym rows)
+  kept_by event page ids next_ids rest room n brought (Done _ _) heed is fits page_is rows few long = nothing_kept event page ids next_ids room brought heed (λ k e. done_is_not event k is e) (sym rows)
+  kept_by event page ids next_ids rest room n brought (Sorry _ code) heed is fits page_is rows few long = nothing_kept event page ids next_ids room brought heed (λ k e. sorry_is_not event code k is e) (sym rows)
+  kept_by event page ids next_ids rest room n brought (Replied serial payload) heed is fits page_is rows few long =
+      let size : size_in page ≡ length payload = ap size_in page_is ∙ size_is_read (Replied serial payload) rest fits in
+      let same : payload_in page ≡ payload = ap payload_in page_is ∙ (ap (λ (k : ℕ). take k (payload ++ rest)) (size_is_read (Replied serial payload) rest fits) ∙ take-append_seam payload rest) in
+      let by_four : brought ≡ rows_from 4 (length payload / 4) payload = sym rows ∙ ap (λ (w : ℕ). rows_from w (length payload / w) payload) can.narrow in
+      let count : length brought ≡ length payload / 4 = ap length by_four ∙ count_rows 4 (length payload / 4) payload in
+      let bytes : length page ≡ 8 + length payload + length rest = ap length page_is ∙ frame_length payload rest in
+      heed.rows n is (omega (arith, size, bytes))
+      (subst (λ (p : List ℕ). length ids + length p / 4 ≤ room) (sym same) (subst (λ (k : ℕ). length ids + k ≤ room) count few))
+      ∙ (ap (λ (p : List ℕ). ids ++ map identifier_of (rows_from 4 (length p / 4) p)) same
+      ∙ ap (λ (found : List ReplyRow). ids ++ map identifier_of found) (sym by_four))
+    where
+      frame_length : (payload rest : List ℕ) → length (frame_bytes (Replied serial payload) ++ rest) ≡ 8 + length payload + length rest
+      frame_length payload rest = let both = length-append payload rest in omega (arith, both)
+
+  pub kept_piece :
+      (l : Left) (event : Event) (page ids next_ids piece : List ℕ) (room size : ℕ) (brought : List ReplyRow) → Brings held asked can l piece brought → event ≡ event_after held.catalog l.heard piece
+      → l.heard.part ++ piece ≡ take size page → length page ≡ 2048 → Heed event page ids next_ids room → length ids + length brought ≤ room
+      → next_ids ≡ ids ++ map identifier_of brought
+  kept_piece l event page ids next_ids piece room size brought (nothing missing v none) is front long heed few =
+      nothing_kept event page ids next_ids room brought heed (λ k e. part_is_not event k (is ∙ ap (event_at held.catalog l.heard (l.heard.part ++ piece)) v) e) none
+  kept_piece l event page ids next_ids piece room size brought (a_frame frame fits bytes v read rows) is front long heed few =
+      kept_by event page ids next_ids (drop size page) room (length (pump_rows held.catalog l.heard.awaits (frame_in (l.heard.part ++ piece)))) brought frame heed
+      (is ∙ (ap (event_at held.catalog l.heard (l.heard.part ++ piece)) v ∙ ap (event_of (length (pump_rows held.catalog l.heard.awaits (frame_in (l.heard.part ++ piece))))) read)) fits
+      (sym (take-append-drop size page) ∙ ap (λ (bs : List ℕ). bs ++ drop size page) (sym front ∙ bytes)) rows few long
+
+took_all : (count most owes : ℕ) → count ≡ min most owes → most ≤ owes → count ≡ most
+took_all count most owes e h = omega (arith, e, h)
+
+piece_length : (place count : ℕ) (page : List ℕ) → length page ≡ 2048 → place + count ≤ 2048 → length (take count (drop place page)) ≡ count
+piece_length place count page long fits = let one = length-take count (drop place page) in let two = length-drop place page in omega (arith, one, two, long, fits)
+
+pub took_move :
+    (held : Holding) (asked : Asked) (name : List ℕ) (can : ServesAsk held asked) (start now later : Log) (pump next_pump : Pump) (host next_host : HostEnd) (page next_page ids next_ids : List ℕ)
+    (r : Runs held asked name can start now pump host page ids) (event : Event) (place most count room : ℕ)
+    → next_with held.catalog [] (asked ∷ []) r.journal ≡ Some (Take most) → want.Take place most ≡ want_of pump
+    → 0 < count → count ≡ min most (length (owed host.speech)) → owed host.speech ≡ take count (drop place next_page) ++ owed next_host.speech
+    → take place next_page ≡ take place page → length next_page ≡ 2048 → place + most ≤ 2048
+    → (Keeps held.catalog (asked ∷ []) r.journal next_page → IsAfter held.catalog (asked ∷ []) (r.journal ++ taken_entry pump next_page count ∷ []) next_pump)
+    → (Keeps held.catalog (asked ∷ []) r.journal next_page → Keeps held.catalog (asked ∷ []) (r.journal ++ taken_entry pump next_page count ∷ []) next_page)
+    → (Keeps held.catalog (asked ∷ []) r.journal next_page → event ≡ event_after held.catalog (heard held.catalog (asked ∷ []) (taken r.journal)) (take count (drop pump.have next_page)))
+    → Extends name (line (record { move = Take most; answer = Piece (take count (drop place next_page)) })) now later
+    → IsSameHost host next_host → ((stand : Stand) → Stands host stand → Stands next_host stand) → Heed event next_page ids next_ids room → length (held.rows asked.ask) ≤ room
+    → Runs held asked name can start later next_pump next_host next_page next_ids
+took_move held asked name can start now later pump next_pump host next_host page next_page ids next_ids r event place most count room next wanted some counted handed front long fits after keeps told wrote same stands heed enough =
+    let l : Left = left held.catalog (asked ∷ []) r.journal in
+    let piece : List ℕ = take count (drop place next_page) in
+    let t = take_at held asked can (left held.catalog (asked ∷ []) r.journal) r.stand (owed host.speech) r.got most r.there next in
+    let all : count ≡ most = took_all count most (length (owed host.speech)) counted t.within in
+    let k = taking_is held.catalog (asked ∷ []) pump (left held.catalog (asked ∷ []) r.journal) place most r.after wanted in
+    let size : length (take count (drop place next_page)) ≡ count = piece_length place count next_page long (omega (arith, all, fits)) in
+    let kept : Keeps held.catalog (asked ∷ []) r.journal next_page =
+        ap (λ (n : ℕ). take n next_page) k.part ∙ (front ∙ (ap (λ (n : ℕ). take n page) (sym k.part) ∙ r.keeps)) in
+    let entry_is : taken_entry pump next_page count ≡ record { move = Take most; answer = Piece (take count (drop place next_page)) } =
+        ap (λ (n : ℕ). record { move = Take n; answer = Piece (take count (drop pump.have next_page)) }) k.lacks
+        ∙ ap (λ (n : ℕ). record { move = Take most; answer = Piece (take count (drop n next_page)) }) k.have in
+    let took = took_at held asked can (left held.catalog (asked ∷ []) r.journal) r.stand (owed host.speech) r.got most (take count (drop place next_page)) (owed next_host.speech) t handed (omega (arith, size, some)) in
+    let few : length (r.got ++ took.brought) ≤ length (held.rows asked.ask) =
+        few_at held asked can (goes held.catalog (asked ∷ []) (left held.catalog (asked ∷ []) r.journal) (record { move = Take most; answer = Piece (take count (drop place next_page)) })) r.stand (owed next_host.speech) (r.got ++ took.brought) took.there in
+    let counts : length ids ≡ length r.got = ap length r.kept ∙ length-map r.got identifier_of in
+    let both : length (r.got ++ took.brought) ≡ length r.got + length took.brought = length-append r.got took.brought in
+    more_moves held asked name can start now later pump next_pump host next_host page next_page ids next_ids r (record { move = Take most; answer = Piece (take count (drop place next_page)) }) (r.got ++ took.brought) r.stand next
+    (subst (λ (e : Entry). IsAfter held.catalog (asked ∷ []) (r.journal ++ e ∷ []) next_pump) entry_is (after kept))
+    (subst (λ (e : Entry). Keeps held.catalog (asked ∷ []) (r.journal ++ e ∷ []) next_page) entry_is (keeps kept))
+    wrote (eq-eqb (length (take count (drop place next_page))) most (size ∙ all)) (goes_on_after refl) took.there (stands r.stand r.stands) same r.key r.said
+    (append-nil (sent r.journal) ∙ r.sent_are) r.are_frames r.leads
+    (r.said_are ∙ (ap (λ (bs : List ℕ). taken r.journal ++ bs) handed ∙ sym (append_assoc (taken r.journal) (take count (drop place next_page)) (owed next_host.speech))))
+    (kept_piece held asked can (left held.catalog (asked ∷ []) r.journal) event next_page ids next_ids (take count (drop place next_page)) room (place + count) took.brought took.brings
+    (told kept ∙ ap (λ (n : ℕ). event_after held.catalog (heard held.catalog (asked ∷ []) (taken r.journal)) (take count (drop n next_page))) k.have)
+    (ap (λ (bs : List ℕ). bs ++ take count (drop place next_page)) (sym kept ∙ ap (λ (n : ℕ). take n next_page) k.part) ∙ sym (take-add place count next_page))
+    long heed (omega (arith, few, counts, both, enough))
+    ∙ (ap (λ (xs : List ℕ). xs ++ map identifier_of took.brought) r.kept ∙ sym (map-append identifier_of r.got took.brought)))
+
+-- a take is never answered by nothing
+pub never_nothing :
+    (held : Holding) (asked : Asked) (name : List ℕ) (can : ServesAsk held asked) (start now : Log) (pump : Pump) (host : HostEnd) (page ids : List ℕ)
+    (r : Runs held asked name can start now pump host page ids) (most count : ℕ)
+    → next_with held.catalog [] (asked ∷ []) r.journal ≡ Some (Take most) → 0 < most → count ≡ min most (length (owed host.speech)) → count ≡ 0 → ⊥
+never_nothing held asked name can start now pump host page ids r most count next some counted none =
+    let t = take_at held asked can (left held.catalog (asked ∷ []) r.journal) r.stand (owed host.speech) r.got most r.there next in
+    let all : count ≡ most = took_all count most (length (owed host.speech)) counted t.within in
+    absurd (omega (arith, all, none, some))

@@ -1,6 +1,8 @@
-use Rattle.std.proofs.Common.{rules, ◌∙◌, ap, sym, refl, ◌∷◌, [], Some}
+use Rattle.std.proofs.Common.{rules, ◌∙◌, ap, subst, sym, refl, ◌∷◌, [], Some}
 use Rattle.ghost_model.specs.Channel as channel
 use Rattle.ghost_model.specs.NextMove.{left}
+use Rattle.ghost_model.specs.Asks.{ask_payload}
+use Rattle.key_commands.specs.Hosting.{IsColumnAsk}
 use Rattle.key_commands.specs.HostState.{owed}
 use Rattle.key_commands.proofs.Sessions.{quiet_move, closes, goes_on_after, begun, sent_move, conversed}
 use Rattle.key_commands.proofs.Standing.{dial_leads, close_leads}
@@ -13,7 +15,8 @@ moves-init g c = record {
   runs = λ held asked serves.
       begun held asked c.args.journal.now serves.serves _ c.begin-pump.result c.new-host.result _ c.args.replies.now.items
       (c.begin-pump.ensures.after held.catalog (asked ∷ []) serves.begins) c.new-host.ensures.stands c.new-host.ensures.owes
-      (c.new-host.ensures.holds held serves.holds) ? c.requires.empty;
+      (c.new-host.ensures.holds held serves.holds)
+      (subst (λ width. IsColumnAsk width 1 (ask_payload held.catalog.schema asked.ask)) (sym c.new-host.ensures.width) serves.asks) c.requires.empty;
 }
 
 pub moves-preserved-in-Dial : goal.moves-preserved-in-Dial
@@ -61,7 +64,9 @@ moves-preserved g c = record {
 }
 
 pub returns-in-Closed : goal.returns-in-Closed
-returns-in-Closed g c held asked serves =
-    let r = c.moves.invariant.runs held asked serves in
-    conversed held asked c.args.journal.now serves.serves _ _ c.moves.pump c.moves.host c.moves.page c.moves.replies.items r
-    (c.in-Closed.ensures.next held.catalog [] (asked ∷ []) r.journal r.after)
+returns-in-Closed g c = record {
+  conversed = λ held asked serves.
+      let r = c.moves.invariant.runs held asked serves in
+      conversed held asked c.args.journal.now serves.serves _ _ c.moves.pump c.moves.host c.moves.page c.moves.replies.items r
+      (c.in-Closed.ensures.next held.catalog [] (asked ∷ []) r.journal r.after);
+}
