@@ -6,9 +6,9 @@ use Rattle.std.specs.List.{list_any, list_all}
 use Rattle.std.proofs.lemmas.List.{nil_from_length}
 use Rattle.ghost_model.specs.Schema.{is_empty}
 use Rattle.ghost_model.specs.Channel.{Catalog, Frame, Hello, Bye, Move, Dial, Send, Take, Close, Answer, Made, Piece, Entry, Journal}
-use Rattle.ghost_model.specs.Frames.{frame_bytes, frame_in}
+use Rattle.ghost_model.specs.Frames.{IsFrame, frame_bytes, frame_in}
 use Rattle.ghost_model.specs.Moves.{taken, sent, sent_by, piece_of}
-use Rattle.ghost_model.specs.Asks.{Asked, ReplyRow}
+use Rattle.ghost_model.specs.Asks.{Asked, ReplyRow, ask_payload}
 use Rattle.ghost_model.specs.NextMove as next
 use Rattle.ghost_model.specs.NextMove.{Awaits, Missing, Reply, Nothing, Verdict, Heard, Left, left, verdict, heard_as, heard_frame, hear_all, lacks, next_of, rest_of, send_or, is_close, is_stop, IsAwaited}
 use Rattle.ghost_model.specs.Host.{Holding, Stand, Response, answer_to}
@@ -16,8 +16,10 @@ use Rattle.ghost_model.specs.Host as host
 use Rattle.ghost_model.proofs.ChannelLemmas.Hearing.{lacking, heard_on, read_again}
 use Rattle.ghost_model.proofs.ChannelLemmas.Hearing.{whole as whole_verdict}
 use Rattle.ghost_model.proofs.ChannelLemmas.Sending.{heard_more}
+use Rattle.key_commands.specs.Hosting.{IsColumnAsk, CanCome}
 use Rattle.key_commands.specs.Serving.{ServesAsk}
-use Rattle.key_commands.proofs.Exchanges.{Due, Comes, Finished, Going, Next, over, exchange, Exchanged, Turned, Heeded, answered_due, heeds, rows_of_frame, hello, welcome, some_rows, done}
+use Rattle.key_commands.proofs.Exchanges.{more as called_for}
+use Rattle.key_commands.proofs.Exchanges.{Due, Comes, Finished, Going, Next, over, exchange, Exchanged, Turned, Heeded, answered_due, due_is_frame, heeds, rows_of_frame, hello, ask, bye, welcome, some_rows, done}
 
 -- what was heard, with this part of the frame at hand
 abbrev pub with_part : Heard → List ℕ → Heard
@@ -358,7 +360,7 @@ module _ (held : Holding) (asked : Asked) (can : ServesAsk held asked) where
   -- what a piece brings: nothing where the frame is not whole yet, and else the rows of the frame
   pub data Brings (l : Left) (piece : List ℕ) (brought : List ReplyRow) : Type 0 where
     nothing : (missing : ℕ) → verdict held.catalog l.heard.awaits (l.heard.part ++ piece) ≡ next.Short missing → brought ≡ [] → Brings l piece brought
-    a_frame : (frame : Frame) → l.heard.part ++ piece ≡ frame_bytes frame → verdict held.catalog l.heard.awaits (l.heard.part ++ piece) ≡ next.Whole → frame_in (l.heard.part ++ piece) ≡ frame
+    a_frame : (frame : Frame) → IsFrame frame → l.heard.part ++ piece ≡ frame_bytes frame → verdict held.catalog l.heard.awaits (l.heard.part ++ piece) ≡ next.Whole → frame_in (l.heard.part ++ piece) ≡ frame
         → rows_of_frame held asked can frame ≡ brought → Brings l piece brought
 
   pub record Took (l : Left) (stand : Stand) (later : List ℕ) (got : List ReplyRow) (most : ℕ) (piece : List ℕ) : Type 0 where
@@ -378,7 +380,7 @@ module _ (held : Holding) (asked : Asked) (can : ServesAsk held asked) where
       let bytes : l.heard.part ++ byte ∷ more ≡ frame_bytes t.frame = ap (λ (x : Heard). x.part ++ byte ∷ more) t.heard_is ∙ e in
       record {
         brought = heeded.brought;
-        brings = a_frame t.frame bytes
+        brings = a_frame t.frame t.awaited.fits bytes
             (ap (λ (x : Heard). verdict held.catalog x.awaits (l.heard.part ++ byte ∷ more)) t.heard_is
             ∙ (ap (λ (bs : List ℕ). verdict held.catalog t.h.awaits bs) bytes ∙ whole_verdict held.catalog t.h.awaits t.frame t.awaited))
             (ap frame_in bytes ∙ read_again held.catalog t.h.awaits t.frame t.awaited)
@@ -448,3 +450,49 @@ module _ (held : Holding) (asked : Asked) (can : ServesAsk held asked) where
   begins =
       due (Hello held.catalog.generation) [] (record { closed = refl; stopped = refl; valid = refl }) refl refl refl refl
       (hello (record { awaits = refl; none_came = refl; none_ended = refl; none_got = refl }) refl refl)
+
+  -- nothing is closed before the close
+  pub still_open : (l : Left) (stand : Stand) (owed : List ℕ) (got : List ReplyRow) (move : Move) → At l stand owed got → next_of held.catalog [] l ≡ Some move → l.closed ≡ false
+  still_open l stand owed got move (due _ _ quiet _ _ _ _ _) e = quiet.closed
+  still_open l stand owed got move (taking _ _ _ _ c _ _ _ _ _ _ _) e = c
+  still_open l stand owed got move (ending _ quiet _ _ _) e = quiet.closed
+  still_open l stand owed got move (closed o c none finished) e = absurd (none_is_not _ move (closed_next l o c) e)
+
+  -- no more rows came than there are
+  front_length : (one other whole : List ReplyRow) → one ++ other ≡ whole → length one ≤ length whole
+  front_length one other whole e = let both : length one + length other ≡ length whole = sym (length-append one other) ∙ ap length e in omega (arith, both)
+
+  same_length : (one whole : List ReplyRow) → one ≡ whole → length one ≤ length whole
+  same_length one whole e = let same : length one ≡ length whole = ap length e in omega (arith, same)
+
+  no_length : (one whole : List ReplyRow) → one ≡ [] → length one ≤ length whole
+  no_length one whole e = let same : length one ≡ 0 = ap length e in omega (arith, same)
+
+  due_few : (h : Heard) (got : List ReplyRow) (frame : Frame) (stand : Stand) → Due held asked can h got frame stand → length got ≤ length (held.rows asked.ask)
+  due_few h got frame stand (hello greeted _ _) = no_length got (held.rows asked.ask) greeted.none_got
+  due_few h got frame stand (ask _ none _ _) = no_length got (held.rows asked.ask) none
+  due_few h got frame stand (called_for todo going _ _) = front_length got todo (held.rows asked.ask) going.all
+  due_few h got frame stand (bye finished _ _) = same_length got (held.rows asked.ask) finished.all
+
+  comes_few : (h : Heard) (got : List ReplyRow) (frame : Frame) (stand : Stand) → Comes held asked can h got frame stand → length got ≤ length (held.rows asked.ask)
+  comes_few h got frame stand (welcome greeted _ _) = no_length got (held.rows asked.ask) greeted.none_got
+  comes_few h got frame stand (some_rows todo going _ _ _) = front_length got todo (held.rows asked.ask) going.all
+  comes_few h got frame stand (done going _ _) = front_length got [] (held.rows asked.ask) going.all
+
+  pub few_at : (l : Left) (stand : Stand) (owed : List ℕ) (got : List ReplyRow) → At l stand owed got → length got ≤ length (held.rows asked.ask)
+  few_at l stand owed got (due frame _ _ _ _ _ _ what) = due_few l.heard got frame stand what
+  few_at l stand owed got (taking h frame _ _ _ _ _ _ _ _ _ comes) = comes_few h got frame stand comes
+  few_at l stand owed got (ending _ _ _ _ finished) = same_length got (held.rows asked.ask) finished.all
+  few_at l stand owed got (closed _ _ _ finished) = same_length got (held.rows asked.ask) finished.all
+
+  due_can_come : (width : ℕ) (h : Heard) (got : List ReplyRow) (frame : Frame) (stand : Stand) → IsColumnAsk width 1 (ask_payload held.catalog.schema asked.ask) → Due held asked can h got frame stand → CanCome width frame
+  due_can_come width h got frame stand column (hello _ is _) = subst (λ (f : Frame). CanCome width f) (sym is) tt
+  due_can_come width h got frame stand column (ask _ _ is _) = subst (λ (f : Frame). CanCome width f) (sym is) column
+  due_can_come width h got frame stand column (called_for _ _ is _) = subst (λ (f : Frame). CanCome width f) (sym is) tt
+  due_can_come width h got frame stand column (bye _ is _) = subst (λ (f : Frame). CanCome width f) (sym is) tt
+
+  pub sending_can_come : (width : ℕ) (l : Left) (stand : Stand) (owed : List ℕ) (got : List ReplyRow) (bytes : List ℕ) → IsColumnAsk width 1 (ask_payload held.catalog.schema asked.ask) → (s : Sending l stand owed got bytes) → CanCome width s.frame
+  sending_can_come width l stand owed got bytes column s = due_can_come width l.heard got s.frame stand column s.what
+
+  pub sending_is_frame : (l : Left) (stand : Stand) (owed : List ℕ) (got : List ReplyRow) (bytes : List ℕ) → (s : Sending l stand owed got bytes) → IsFrame s.frame
+  sending_is_frame l stand owed got bytes s = due_is_frame held asked can l.heard got s.frame stand s.what

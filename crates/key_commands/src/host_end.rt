@@ -288,6 +288,7 @@ impl<'a> HostEnd<'a> {
         ensures holds { (held : Holding) → HoldsColumn held catalog.now column.now → Holds held result }
         ensures stands { Stands result host.Greeting }
         ensures owes { owed result.speech ≡ [] }
+        ensures width { width_of result ≡ column.now.width }
     {
         HostEnd {
             catalog,

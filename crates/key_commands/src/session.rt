@@ -1,6 +1,6 @@
 //! The key's session with a host in its own process.
 
-ghost use Rattle.std.specs.Prelude.{◌≡◌, ◌≤◌, ◌<◌, ◌+◌, ◌-◌, ◌/◌, ◌^◌, ◌++◌, ◌∷◌, [], ℕ, length, take, drop, map, min, vec_capacity};
+ghost use Rattle.std.specs.Prelude.{◌≡◌, ◌≤◌, ◌<◌, ◌+◌, ◌-◌, ◌/◌, ◌^◌, ◌++◌, ◌∷◌, [], ℕ, false, length, take, drop, map, min, vec_capacity};
 ghost use Rattle.ghost_model.specs.Asks.{Asked, rows_from};
 ghost use Rattle.ghost_model.specs.Frames as frames;
 ghost use Rattle.ghost_model.specs.Host.{Holding, Stand};
@@ -115,15 +115,10 @@ pub(crate) fn converse<D: Depot>(
             }
             Want::Send => {
                 let count = pump.frame(&mut page);
-                host.hear(&page[..count]);
+                let (bytes, _rest) = page.split_at(count);
+                host.hear(bytes);
                 pump.made();
-                failed = record(
-                    depot,
-                    journal,
-                    failed,
-                    &Move::Send(&page[..count]),
-                    &Answer::Made,
-                );
+                failed = record(depot, journal, failed, &Move::Send(bytes), &Answer::Made);
             }
             Want::Take { at, most } => {
                 let count = take_piece(&mut host, &mut page, at, most);
@@ -139,13 +134,10 @@ pub(crate) fn converse<D: Depot>(
                 } else {
                     let event = pump.took(&page, count);
                     heed(event, &page, replies);
-                    failed = record(
-                        depot,
-                        journal,
-                        failed,
-                        &Move::Take(most as u16),
-                        &Answer::Piece(&page[at..at + count]),
-                    );
+                    let (_part, rest) = page.split_at(at);
+                    let (piece, _later) = rest.split_at(count);
+                    let made = Move::Take(most as u16);
+                    failed = record(depot, journal, failed, &made, &Answer::Piece(piece));
                 }
             }
             Want::Close => {
