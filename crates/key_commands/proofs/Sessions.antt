@@ -492,3 +492,6 @@ never_nothing held asked name can start now pump host page ids r most count next
     let t = take_at held asked can (left held.catalog (asked ∷ []) r.journal) r.stand (owed host.speech) r.got most r.there next in
     let all : count ≡ most = took_all count most (length (owed host.speech)) counted t.within in
     absurd (omega (arith, all, none, some))
+
+pub piece_line : (name : List ℕ) (most : ℕ) (one other : List ℕ) (before after : Log) → one ≡ other → Extends name (line (record { move = Take most; answer = Piece one })) before after → Extends name (line (record { move = Take most; answer = Piece other })) before after
+piece_line name most one other before after is h = subst (λ (bs : List ℕ). Extends name (line (record { move = Take most; answer = Piece bs })) before after) is h

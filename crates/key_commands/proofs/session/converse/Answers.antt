@@ -1,10 +1,10 @@
-use Rattle.std.proofs.Common.{rules, ◌∙◌, ap, subst, sym, refl, ◌∷◌, [], Some}
+use Rattle.std.proofs.Common.{rules, ◌∙◌, ap, subst, sym, refl, ◌∷◌, [], Some, vec_capacity, length, take, drop, ◌≤◌}
 use Rattle.ghost_model.specs.Channel as channel
 use Rattle.ghost_model.specs.NextMove.{left}
 use Rattle.ghost_model.specs.Asks.{ask_payload}
 use Rattle.key_commands.specs.Hosting.{IsColumnAsk}
 use Rattle.key_commands.specs.HostState.{owed}
-use Rattle.key_commands.proofs.Sessions.{quiet_move, closes, goes_on_after, begun, sent_move, conversed}
+use Rattle.key_commands.proofs.Sessions.{took_move, piece_line, never_nothing, quiet_move, closes, goes_on_after, begun, sent_move, conversed}
 use Rattle.key_commands.proofs.Standing.{dial_leads, close_leads}
 use Rattle.key_commands.proofs.session.converse.Goals as goal
 
@@ -46,10 +46,34 @@ moves-preserved-in-Send g c = record {
 }
 
 pub moves-preserved-then-count-eq0 : goal.moves-preserved-then-count-eq0
-moves-preserved-then-count-eq0 g c = ?
+moves-preserved-then-count-eq0 g c = record {
+  able = c.take_piece-count.ensures.able c.moves.invariant.able;
+  room = c.moves.invariant.room;
+  runs = λ held asked serves.
+      let r = c.moves.invariant.runs held asked serves in
+      absurd (never_nothing held asked c.args.journal.now serves.serves _ _ c.moves.pump c.moves.host c.moves.page c.moves.replies.items r c.in-Take.most c.take_piece-count.result
+      (c.in-Take.ensures.next held.catalog [] (asked ∷ []) r.journal r.after) c.in-Take.ensures.page.0 c.take_piece-count.ensures.count c.if-count-eq0.true);
+}
 
 pub moves-preserved-else-count-eq0 : goal.moves-preserved-else-count-eq0
-moves-preserved-else-count-eq0 g c = ?
+moves-preserved-else-count-eq0 g c = record {
+  able = c.take_piece-count.ensures.able c.moves.invariant.able;
+  room = c.heed.ensures.room ∙ c.moves.invariant.room;
+  runs = λ held asked serves.
+      let r = c.moves.invariant.runs held asked serves in
+      took_move held asked c.args.journal.now serves.serves _ _ _ c.moves.pump c.took-event.new.self c.moves.host c.take_piece-count.new.host c.moves.page c.take_piece-count.new.page
+      c.moves.replies.items c.heed.new.replies.items r c.took-event.result c.in-Take.at c.in-Take.most c.take_piece-count.result (vec_capacity c.moves.replies)
+      (c.in-Take.ensures.next held.catalog [] (asked ∷ []) r.journal r.after) c.in-Take.ensures.want
+      (search rules) c.take_piece-count.ensures.count c.take_piece-count.ensures.handed c.take_piece-count.ensures.front (search rules) c.in-Take.ensures.page.1
+      (λ keeps. c.took-event.ensures.after held.catalog (asked ∷ []) r.journal r.after keeps)
+      (λ keeps. c.took-event.ensures.keeps held.catalog (asked ∷ []) r.journal r.after keeps)
+      (λ keeps. c.took-event.ensures.event held.catalog (asked ∷ []) r.journal r.after keeps)
+      (piece_line c.args.journal.now c.in-Take.most c.split_at-else-count-eq0-2.result.0.now (take c.take_piece-count.result (drop c.in-Take.at c.take_piece-count.new.page)) _ _
+      (c.split_at-else-count-eq0-2.ensures.front ∙ ap (take c.take_piece-count.result) c.split_at-else-count-eq0.ensures.back) c.record-failed-else-count-eq0.ensures)
+      c.take_piece-count.ensures.same c.take_piece-count.ensures.stands
+      (record { rows = c.heed.ensures.rows; others = c.heed.ensures.others })
+      (subst (λ room. length (held.rows asked.ask) ≤ room) (sym c.moves.invariant.room) serves.has_room);
+}
 
 pub moves-preserved : goal.moves-preserved
 moves-preserved g c = record {
