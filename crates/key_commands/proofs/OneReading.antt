@@ -51,7 +51,7 @@ same_rest word other after rest later ends h g e =
     append_cancel_left after rest later (append_cancel_left word (after ++ rest) (after ++ later)
     (e ∙ ap (λ w. w ++ (after ++ later)) (sym (same_word word other after rest later ends h g e))))
 
-same_last : (xs ys : List ℕ) (a b : ℕ) → xs ++ a ∷ [] ≡ ys ++ b ∷ [] → a ≡ b
+pub same_last : (xs ys : List ℕ) (a b : ℕ) → xs ++ a ∷ [] ≡ ys ++ b ∷ [] → a ≡ b
 same_last [] [] a b e = cc e
 same_last [] (y ∷ []) a b e = cc e
 same_last [] (y ∷ z ∷ ys) a b e = cc e

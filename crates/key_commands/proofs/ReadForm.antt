@@ -36,7 +36,7 @@ ends_after last front text ends = record {
   whole = ap (λ t. front ++ t) ends.whole ∙ sym (append_assoc front ends.start (last ∷ []));
 }
 
-line_ends : (pieces : Pieces) → Ends 59 (line_of pieces)
+pub line_ends : (pieces : Pieces) → Ends 59 (line_of pieces)
 line_ends pieces =
     ends_after 59 (codes "CREATE TABLE ") (after_begin pieces) (ends_after 59 pieces.table _ (ends_after 59 (codes " (id INTEGER PRIMARY KEY, ") (after_table pieces)
     (ends_after 59 pieces.shown _ (ends_after 59 (codes " CHAR(") (after_shown pieces) (ends_after 59 pieces.shown_most _ (ends_after 59 (codes "), ") (after_shown_most pieces)

@@ -1,5 +1,10 @@
 pub mod Form
 pub mod FormMeaning
+pub mod Journaling
+pub mod Hosting
+pub mod HostState
+pub mod Hosts
+pub mod Serving
 pub mod Words
 pub mod Numbers
 pub mod Records
@@ -7,4 +12,9 @@ pub mod Texts
 pub mod Rows
 pub mod Pieces
 pub mod Views
+pub mod Statuses
+pub mod Local
+pub mod Printing
+pub mod Opening
+pub mod Conversing
 pub mod FormFile

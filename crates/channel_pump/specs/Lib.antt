@@ -1,0 +1,7 @@
+pub mod Narrow
+pub mod Asked
+pub mod Rows
+pub mod Here
+pub mod State
+pub mod Turning
+pub mod Progress
