@@ -28,3 +28,4 @@ mod HeldColumn
 mod Answered
 mod ServedAsk
 mod SessionOf
+mod Throughout

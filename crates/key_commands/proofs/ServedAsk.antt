@@ -17,7 +17,7 @@ use Rattle.ghost_model.specs.Frames.{AreBytes, IsFrame, size_allowed}
 use Rattle.ghost_model.specs.Asks.{ReplyRow, IsReplyRow, asked, ask_payload, ask_in, row_bytes}
 use Rattle.ghost_model.specs.Moves.{lines}
 use Rattle.ghost_model.specs.NextMove.{rows_fit, GoesOn, IsFinished}
-use Rattle.ghost_model.specs.Local.{IsServedBy}
+use Rattle.ghost_model.specs.SessionLaws.{IsServedThroughout}
 use Rattle.ghost_model.specs.Host.{Holding, host_of}
 use Rattle.ghost_model.specs.Split.{Public, public_of, reply_rows}
 use Rattle.ghost_model.proofs.ChannelLemmas.Replies.{number_bytes}
@@ -245,7 +245,7 @@ not_more {opened = opened} opening =
 
 -- a session of the one ask is a session of the script
 pub went : {contents : Option Files} {names : Names} {opened : Opened} → (opening : IsOpened contents names opened) → (name : List ℕ) (old new : Log) (found : List ℕ) (journal : Journal)
-    → GoesOn (catalog_of (input_of opening)) [] (asked 1 (form_ask opening.script.wanted) ∷ []) [] journal → IsFinished journal → IsServedBy (host_in (input_of opening)) journal → Extends name (lines journal) old new
+    → GoesOn (catalog_of (input_of opening)) [] (asked 1 (form_ask opening.script.wanted) ∷ []) [] journal → IsFinished journal → IsServedThroughout (host_in (input_of opening)) journal → Extends name (lines journal) old new
     → map bare_row found ≡ (host_in (input_of opening)).rows (form_ask opening.script.wanted) → WasHeld (input_of opening) opened.rows.shown.texts name old new found
 went {opened = opened} opening name old new found journal goes finished served extends back = record {
   journal = journal;

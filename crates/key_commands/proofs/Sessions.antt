@@ -22,6 +22,8 @@ use Rattle.ghost_model.specs.NextMove.{GoesOn, IsFinished, Left, left, next_with
 use Rattle.ghost_model.specs.Host.{Holding, Stand, Response, said_to, said_with, answer_to, frames_of}
 use Rattle.ghost_model.specs.Host as host_specs
 use Rattle.ghost_model.specs.Local.{is_full}
+use Rattle.ghost_model.specs.SessionLaws.{IsServedThroughout}
+use Rattle.key_commands.proofs.Throughout.{served_so, throughout_more, throughout_none}
 use Rattle.channel_pump.specs.State.{IsAfter, Keeps, IsLeft, IsStage, want_at, want_of, taken_entry}
 use Rattle.channel_pump.specs.Turning.{event_of, event_at, event_after}
 use Rattle.channel_pump.specs.Turning.{rows_of_frame as pump_rows}
@@ -113,6 +115,7 @@ pub record Runs (held : Holding) (asked : Asked) (name : List ℕ) (can : Serves
   pub keeps : Keeps held.catalog (asked ∷ []) journal page
   pub wrote : Extends name (lines journal) start now
   pub full : list_all is_full journal ≡ true
+  pub throughout : IsServedThroughout held journal
   pub finished : (left held.catalog (asked ∷ []) journal).closed ≡ true → IsFinished journal
   pub there : At held asked can (left held.catalog (asked ∷ []) journal) stand (owed host.speech) got
   pub stands : Stands host stand
@@ -197,6 +200,9 @@ more_moves held asked name can start now later pump next_pump host next_host pag
   keeps = keeps;
   wrote = subst (λ (bs : List ℕ). Extends name bs start later) (sym (lines_more r.journal entry)) (goes_on_with name (lines r.journal) (line entry) start now later r.wrote wrote);
   full = full_more r.journal entry r.full full;
+  throughout = throughout_more held r.journal entry r.throughout
+      (served_so held (r.journal ++ entry ∷ []) key said stand (owed next_host.speech) (full_more r.journal entry r.full full)
+      (sent_more r.journal entry ∙ sent_are) frames leads (said_are ∙ ap (λ (bs : List ℕ). bs ++ owed next_host.speech) (sym (taken_more r.journal entry))));
   finished = finished_more held asked can r.journal entry r.stand (owed host.speech) r.got r.there next closing;
   there = subst (λ (l : Left). At held asked can l stand (owed next_host.speech) got) (sym (left_more held.catalog (asked ∷ []) r.journal entry)) there;
   stands = stands;
@@ -246,6 +252,7 @@ begun held asked name can start pump host page ids after stands none holds asks 
   keeps = refl;
   wrote = begins_at name start;
   full = refl;
+  throughout = throughout_none held (served_so held [] [] [] host_specs.Greeting [] refl refl (λ k d less. absurd (omega (arith, less))) (λ later. refl) refl);
   finished = λ shut. absurd (false_is_not shut);
   there = subst (λ (bs : List ℕ). At held asked can (left held.catalog (asked ∷ []) []) host_specs.Greeting bs []) (sym none) (begins held asked can);
   stands = stands;
@@ -320,28 +327,15 @@ pub conversed :
 unfolding said_to
 conversed held asked name can start now pump host page ids r next =
     let end = over_at held asked can (left held.catalog (asked ∷ []) r.journal) r.stand (owed host.speech) r.got r.there next in
-    let cut : frames_of (concat (sent r.journal)) ≡ r.key =
-        ap (λ (xs : List (List ℕ)). frames_of (concat xs)) r.sent_are ∙ (ap frames_of (joined_frames r.key) ∙ frames_are_cut r.key r.are_frames) in
-    let said : said_to held r.key host_specs.Greeting ≡ r.said =
-        ap (λ (fs : List Frame). said_to held fs host_specs.Greeting) (sym (append-nil r.key)) ∙ (r.leads [] ∙ append-nil r.said) in
     record {
       journal = r.journal;
       proper = r.goes_on;
       finished = r.finished end.its_close;
-      served = record {
-        full = r.full;
-        rest = owed host.speech;
-        said = sym (ap (λ (fs : List Frame). flat_map frame_bytes (said_to held fs host_specs.Greeting)) cut ∙ (ap (flat_map frame_bytes) said ∙ r.said_are));
-      };
+      served = r.throughout;
       wrote = r.wrote;
       replied = r.kept ∙ ap (map identifier_of) end.finished.all;
       its_end = end.finished.has_ended;
     }
-  where
-    joined_frames : (frames : List Frame) → concat (map frame_bytes frames) ≡ flat_map frame_bytes frames
-    joined_frames [] = refl
-    joined_frames (frame ∷ frames) = ap (λ (bs : List ℕ). frame_bytes frame ++ bs) (joined_frames frames)
-
 -- what the pump says of a take
 pub record TakingIs (p : Pump) (l : Left) (place most : ℕ) : Type 0 where
   pub have : p.have ≡ place

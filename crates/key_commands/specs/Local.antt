@@ -15,7 +15,7 @@ use Rattle.ghost_model.specs.Split.{public_of}
 use Rattle.ghost_model.specs.Host.{Holding, host_of}
 use Rattle.ghost_model.specs.Moves.{lines}
 use Rattle.ghost_model.specs.NextMove.{IsProper, IsFinished}
-use Rattle.ghost_model.specs.Local.{IsServedBy}
+use Rattle.ghost_model.specs.SessionLaws.{IsServedThroughout}
 use Rattle.edge_traits.specs.Files.{Files, HasFile}
 use Rattle.edge_traits.specs.Written.{grown, GrowsByFront}
 use Rattle.key_commands.specs.Words.{Names, table_file}
@@ -127,7 +127,7 @@ pub record Journals (input : Input) (names : Names) (contents : Option Files) : 
   pub file : HasFile contents names.journal (lines journal)
   pub proper : IsProper (catalog_of input) [] (texts_in input) journal
   pub finished : IsFinished journal
-  pub served : IsServedBy (host_in input) journal
+  pub served : IsServedThroughout (host_in input) journal
 
 -- whether the opening of a call succeeded: it did where the status is Ok or Sink, and where it is Depot and something
 -- was written to the sink or the count of failed appends changed

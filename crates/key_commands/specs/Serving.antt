@@ -10,7 +10,7 @@ use Rattle.ghost_model.specs.NextMove.{rows_fit, rows_of}
 use Rattle.ghost_model.specs.NextMove.{GoesOn, IsFinished, Answered, ended, heard}
 use Rattle.ghost_model.specs.Channel.{Journal}
 use Rattle.ghost_model.specs.Moves.{lines, taken}
-use Rattle.ghost_model.specs.Local.{IsServedBy}
+use Rattle.ghost_model.specs.SessionLaws.{IsServedThroughout}
 use Rattle.ghost_model.specs.Host.{Holding}
 use Rattle.channel_pump.specs.State.{Begins}
 use Rattle.channel_pump.specs.declared.forms.AskForm.{AskForm}
@@ -46,7 +46,7 @@ pub record Conversed (held : Holding) (asked : Asked) (name : List ℕ) (before 
   pub journal : Journal
   pub proper : GoesOn held.catalog [] (asked ∷ []) [] journal
   pub finished : IsFinished journal
-  pub served : IsServedBy held journal
+  pub served : IsServedThroughout held journal
   pub wrote : Extends name (lines journal) before after
   pub replied : identifiers ≡ map identifier_of (held.rows asked.ask)
   pub its_end : (heard held.catalog (asked ∷ []) (taken journal)).ended ≡ ended asked (Answered (flat_map row_bytes (held.rows asked.ask))) ∷ []
