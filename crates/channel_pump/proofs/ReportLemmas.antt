@@ -1,5 +1,5 @@
 -- What is wanted is the next move, and each answer leads to where the journal leaves the key.
-use Rattle.std.proofs.Common.{◌≡◌, ◌≢◌, ℕ, ◌+◌, ◌-◌, ◌<◌, ◌≤◌, Bool, true, false, not, ◌||◌, Option, Some, None, List, [], ◌∷◌, ◌++◌, length, take, drop, if◌then◌else◌, refl, ap, sym, ◌∙◌, subst, arith}
+use Rattle.std.proofs.Common.{◌≡◌, ℕ, ◌+◌, Bool, true, false, not, ◌||◌, Option, Some, None, List, [], ◌∷◌, ◌++◌, length, if◌then◌else◌, refl, ap, sym, ◌∙◌, subst, arith}
 use Rattle.std.specs.List.{slice_get}
 use Rattle.std.proofs.lemmas.Option.{slice_get_past}
 use Rattle.ghost_model.specs.Channel as channel
@@ -22,7 +22,7 @@ use Rattle.channel_pump.specs.declared.state.Cause.TheVariants.{Finished, Link, 
 use Rattle.channel_pump.specs.declared.state.Want.{Want}
 use Rattle.channel_pump.specs.declared.state.Want.TheVariants as want
 use Rattle.channel_pump.specs.Asked.{AreAsked}
-use Rattle.channel_pump.specs.State.{IsLeft, Begins, is_bye, can_fail, is_take, IsAfter, IsAwaiting, IsFresh, IsStage, IsDialling, IsSending, IsTaking, IsFinished, IsCause, IsWanted, want_of, want_at, frame_due, is_over, is_opened, is_closed, has_stopped, has_broken, entry}
+use Rattle.channel_pump.specs.State.{IsLeft, Begins, is_bye, can_fail, is_take, IsAfter, IsAwaiting, IsFresh, IsStage, IsDialling, IsSending, IsTaking, IsFinished, IsCause, want_of, want_at, frame_due, is_over, is_opened, is_closed, has_stopped, has_broken, entry}
 use Rattle.channel_pump.proofs.JournalLemmas.{goes, goes_to, left_more, left_of, hear_none}
 
 -- the next move, over plain values

@@ -1,5 +1,5 @@
 -- A piece of the stream leads to where the journal leaves the key.
-use Rattle.std.proofs.Common.{◌≡◌, ◌≢◌, ℕ, zero, suc, ◌+◌, ◌-◌, ◌^◌, ◌<◌, ◌≤◌, min, Bool, true, false, ◌&&◌, ◌==◌, nat_le, ◌||◌, Option, Some, None, List, [], ◌∷◌, ◌++◌, length, take, drop, flat_map, refl, ap, sym, ◌∙◌, subst, arith, append-nil}
+use Rattle.std.proofs.Common.{◌≡◌, ℕ, zero, suc, ◌+◌, ◌-◌, ◌^◌, ◌<◌, ◌≤◌, min, Bool, true, false, ◌&&◌, ◌==◌, nat_le, ◌||◌, Some, List, [], ◌∷◌, ◌++◌, length, take, drop, flat_map, refl, ap, sym, ◌∙◌, subst, arith, append-nil}
 use Rattle.std.specs.List.{slice_get}
 use Rattle.std.proofs.Math.Seq.{take-add}
 use Rattle.std.proofs.lemmas.List.{length-append, length-drop, length-take-le, drop-take}
@@ -9,7 +9,6 @@ use Rattle.ghost_model.specs.Channel as channel
 use Rattle.ghost_model.specs.Channel.{Catalog, Move, Journal}
 use Rattle.ghost_model.specs.Frames as frames
 use Rattle.ghost_model.specs.Asks.{Asked}
-use Rattle.ghost_model.specs.Moves.{taken}
 use Rattle.ghost_model.specs.NextMove as next
 use Rattle.ghost_model.specs.NextMove.{Awaits, Heard, Left, left, heard, hear_all, heard_as}
 use Rattle.channel_pump.specs.declared.forms.AskForm.{AskForm}
@@ -20,13 +19,12 @@ use Rattle.channel_pump.specs.declared.state.Phase.TheVariants.{Greeting, Reply,
 use Rattle.channel_pump.specs.declared.state.Stage.{Stage}
 use Rattle.channel_pump.specs.declared.state.Stage.TheVariants.{Dialling, Sending, Taking, Closing, Closed}
 use Rattle.channel_pump.specs.declared.state.Cause.TheVariants.{Protocol}
-use Rattle.channel_pump.specs.declared.state.Event.{Event}
 use Rattle.channel_pump.specs.declared.state.Event.TheVariants as event
 use Rattle.channel_pump.specs.Asked.{form_kinds, width_of}
-use Rattle.channel_pump.specs.Here.{verdict_here, header_at, reply_header, rows_at, nothing, Stands}
-use Rattle.channel_pump.specs.State.{IsLeft, IsAfter, IsAwaiting, IsFresh, IsStage, IsTaking, IsTurned, IsGoing, IsTakenBy, want_at, want_of, frame_due, due_at, is_over, is_opened, is_closed, has_stopped, has_broken, counted, bytes_before, entry, taken_entry, Keeps}
-use Rattle.channel_pump.specs.Turning.{event_after, event_at, event_of, rows_of_frame}
-use Rattle.channel_pump.proofs.JournalLemmas.{goes, goes_to, left_more}
+use Rattle.channel_pump.specs.Here.{verdict_here, header_at, reply_header, Stands}
+use Rattle.channel_pump.specs.State.{IsLeft, IsAfter, IsFresh, IsStage, IsTaking, IsTurned, IsGoing, IsTakenBy, want_at, want_of, frame_due, due_at, is_over, is_opened, is_closed, has_stopped, has_broken, counted, bytes_before, taken_entry, Keeps}
+use Rattle.channel_pump.specs.Turning.{event_after, event_at, event_of}
+use Rattle.channel_pump.proofs.JournalLemmas.{goes_to, left_more}
 use Rattle.channel_pump.proofs.CuttingLemmas.{cut, exact}
 use Rattle.channel_pump.proofs.PlaceLemmas.{verdict_is, rows_at_are}
 use Rattle.channel_pump.proofs.TurningLemmas.{payload_length, frame_of_kind}

@@ -210,10 +210,14 @@ mod tests {
     use super::*;
     use ghost_base::Kind;
 
+    fn is_same(one: &[u8], other: &[u8]) -> bool {
+        one == other
+    }
+
     // Whether the key, whose takes are answered by at most so many bytes of the stream, sends these frames and is told
     // these events, and then ends by this cause.
-    fn goes(
-        asks: &[AskForm],
+    fn goes<'a>(
+        asks: &'a [AskForm<'a>],
         step: usize,
         host: &[u8],
         sent: &[&[u8]],
@@ -223,47 +227,42 @@ mod tests {
         requires asks { 1 + length asks.now < 2 ^ 32 }
         requires step { 0 < step }
     {
-        let mut pump = Pump::begin(5, b"catalog", asks);
+        let mut pump = Pump::begin(5, b"catalog", &*asks);
         let mut page = [0; 2048];
-        let mut stream = host;
-        let mut frames = sent;
-        let mut events = told;
+        let mut taken = 0;
+        let mut frames = 0;
+        let mut events = 0;
         for _ in 0..500 {
             match pump.want() {
                 Want::Dial | Want::Close => pump.made(),
                 Want::Send => {
                     let count = pump.frame(&mut page);
-                    let Some((frame, later)) = frames.split_first() else {
-                        return false
-                    };
-                    if *frame != &page[..count] {
+                    if frames >= sent.len() || !is_same(sent[frames], &page[..count]) {
                         return false;
                     }
-                    frames = later;
+                    frames += 1;
                     pump.made();
                 }
                 Want::Take { at, most } => {
-                    let count = step.min(most).min(stream.len());
+                    let count = step.min(most).min(host.len().saturating_sub(taken));
                     if count == 0 {
                         pump.ended();
                     } else {
-                        let (piece, rest) = stream.split_at(count);
-                        page[at..at + count].copy_from_slice(piece);
-                        stream = rest;
+                        page[at..at + count].copy_from_slice(&host[taken..taken + count]);
+                        taken += count;
                         let event = pump.took(&page, count);
                         if event != Event::Part {
-                            let Some((first, later)) = events.split_first() else {
-                                return false
-                            };
-                            if *first != event {
+                            if events >= told.len() || told[events] != event {
                                 return false;
                             }
-                            events = later;
+                            events += 1;
                         }
                     }
                 }
                 Want::Closed => {
-                    return frames.is_empty() && events.is_empty() && pump.cause() == Some(cause);
+                    return frames == sent.len()
+                        && events == told.len()
+                        && pump.cause() == Some(cause);
                 }
             }
         }

@@ -1,5 +1,5 @@
 use Rattle.std.proofs.Common.{refl}
-use Rattle.channel_pump.proofs.ReportLemmas.{dialled, sent_last, sent_other, closed_after, same_fields}
+use Rattle.channel_pump.proofs.ReportLemmas.{closed_after, same_fields}
 use Rattle.channel_pump.proofs.state.Pump.made.Goals as goal
 
 pub returns-in-Closing-clause-after : goal.returns-in-Closing-clause-after

@@ -1,15 +1,13 @@
-use Rattle.std.proofs.Common.{◌≡◌, ℕ, ◌+◌, ◌-◌, ◌^◌, min, List, [], ◌∷◌, ◌++◌, length, take, drop, refl, ap, sym, ◌∙◌, subst, arith}
-use Rattle.ghost_model.specs.Channel.{Catalog, Journal}
-use Rattle.ghost_model.specs.Asks.{Asked}
+use Rattle.std.proofs.Common.{◌≡◌, ℕ, ◌+◌, ◌-◌, ◌^◌, min, List, [], ◌∷◌, ◌++◌, length, take, refl, ap, sym, ◌∙◌, subst, arith}
 use Rattle.ghost_model.specs.Frames as frames
 use Rattle.ghost_model.specs.NextMove as next
 use Rattle.ghost_model.specs.NextMove.{left}
 use Rattle.channel_pump.specs.Here.{Stands, verdict_here}
-use Rattle.channel_pump.specs.State.{IsAfter, Keeps, IsTurned, taken_entry}
+use Rattle.channel_pump.specs.State.{IsTurned, taken_entry}
 use Rattle.channel_pump.specs.declared.state.Event.{Event}
 use Rattle.channel_pump.specs.Progress.{Tells}
 use Rattle.channel_pump.specs.Turning.{event_of}
-use Rattle.channel_pump.proofs.ReportLemmas.{Same, same_fields, awaits_on, fresh_on}
+use Rattle.channel_pump.proofs.ReportLemmas.{same_fields, awaits_on, fresh_on}
 use Rattle.channel_pump.proofs.TookLemmas.{At, taking_stage, part_after, part_keeps, part_event, invalid_after, invalid_keeps, invalid_event, frame_after, frame_keeps, frame_event, whole_length, frame_size, part_length, payload_of_front}
 use Rattle.channel_pump.proofs.ProgressLemmas.{part_tells, invalid_tells, frame_tells}
 use Rattle.channel_pump.proofs.state.Pump.took.Goals as goal
