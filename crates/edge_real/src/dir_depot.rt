@@ -1,8 +1,7 @@
 //! The file system as a depot.
 
-ghost use Rattle.std.specs.Prelude.{◌≡◌, ◌≤◌, ℕ, None, length, IfOk, OnOk};
-ghost use Rattle.ghost_model.specs.Causes.{HasCause, Rose};
-ghost use Rattle.edge_traits.specs.Files.{Files, file_of, with_file, or_empty, SameBut, ReadsAt};
+ghost use Rattle.std.specs.Prelude.{◌≡◌, ◌≤◌, None, length, IfOk};
+ghost use Rattle.ghost_model.specs.Causes.{Rose};
 
 use edge_traits::Failed;
 use edge_traits::depot::Depot;

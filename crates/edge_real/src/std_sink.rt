@@ -1,8 +1,6 @@
 //! The standard output as a sink.
 
-ghost use Rattle.std.specs.Prelude.{◌≡◌, ◌≤◌, ℕ, None, length, IfOk};
-ghost use Rattle.ghost_model.specs.Causes.{HasCause};
-ghost use Rattle.edge_traits.specs.Written.{grown, GrowsByFront};
+ghost use Rattle.std.specs.Prelude.{◌≡◌, None, IfOk};
 
 use edge_traits::sink::Sink;
 use edge_traits::{Failed, room};

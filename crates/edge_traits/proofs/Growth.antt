@@ -2,7 +2,7 @@
 use Rattle.std.proofs.Common.{◌≡◌, ℕ, ◌+◌, ◌-◌, ◌≤◌, List, ◌++◌, length, take, drop, Option, None, Some, refl, sym, ◌∙◌, ap, append_assoc, append-nil, [], Result, Ok, Err, OnErr}
 use Rattle.std.proofs.lemmas.List.{take_rest, take-append-drop}
 use Rattle.std.proofs.Math.Seq.{take-add}
-use Rattle.edge_traits.specs.Written.{grown, Begins, GrowsByFront}
+use Rattle.edge_traits.specs.Written.{grown, GrowsByFront}
 
 -- so far `at` bytes of the piece were handed over, and nothing failed
 pub record Handed (piece : List ℕ) (at faults_before faults_now : ℕ) (before now : Option (List ℕ)) : Type 0 where

@@ -1,7 +1,7 @@
 -- The files in slots: what the first slot of a name says of the map, and what a write to it does.
-use Rattle.std.proofs.Common.{◌≡◌, ◌≢◌, ℕ, ◌+◌, ◌<◌, ◌≤◌, Bool, true, false, cond, List, [], ◌∷◌, ◌++◌, length, take, set, get_or, map as each, Option, None, Some, refl, sym, ◌∙◌, ap, arith, nat_eq, nat_lt, not, zero, suc}
+use Rattle.std.proofs.Common.{◌≡◌, ℕ, ◌+◌, ◌<◌, ◌≤◌, Bool, true, false, cond, List, [], ◌∷◌, ◌++◌, length, take, set, get_or, map as each, Option, None, Some, refl, sym, ◌∙◌, ap, arith, nat_lt, not, zero, suc}
 use Rattle.std.specs.Ordering.{nat_cmp, eq_by_cmp}
-use Rattle.std.specs.Cmp.Lexicographic.{slice_cmp, pointwise, texts_ties, same_text, other_text, nat_list_cmp_total}
+use Rattle.std.specs.Cmp.Lexicographic.{slice_cmp, texts_ties, same_text, other_text, nat_list_cmp_total}
 use Rattle.std.specs.List.{position, position_or_len}
 use Rattle.std.specs.FinMap as map
 use Rattle.std.proofs.lemmas.List.{take_more_set, map-append, get_or-take}

@@ -1,9 +1,9 @@
 -- What a change of one file leaves of the others.
-use Rattle.std.proofs.Common.{subst, ◌≡◌, ◌≢◌, List, ℕ, Bool, true, false, cond, Option, Some, refl, sym, ◌∙◌, ap}
+use Rattle.std.proofs.Common.{subst, ◌≡◌, List, ℕ, Bool, true, false, cond, Option, Some, refl, sym, ◌∙◌}
 use Rattle.std.specs.Ordering.{nat_cmp, eq_by_cmp}
 use Rattle.std.specs.Cmp.Lexicographic.{slice_cmp, texts_ties, same_text, nat_list_cmp_total}
 use Rattle.std.specs.FinMap as map
-use Rattle.edge_traits.specs.Files.{Files, file_of, SameBut}
+use Rattle.edge_traits.specs.Files.{Files, SameBut}
 
 untied : (b : Bool) (x : Option (List ℕ)) (y : Option (List ℕ)) → (b ≡ true → ⊥) → cond b x y ≡ y
 untied true x y never = absurd (never refl)

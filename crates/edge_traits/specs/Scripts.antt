@@ -1,6 +1,13 @@
 -- The script of an object in memory names the calls that are to fail, by their numbers from 1.
-use Rattle.std.specs.Prelude.{ℕ, List, Contains}
+use Rattle.std.specs.Prelude.{◌≡◌, ℕ, List, Contains}
+use Rattle.edge_traits.specs.declared.script.Script.{Script}
 
 -- the script names the call of that number
 abbrev pub IsNamed : List ℕ → ℕ → Type 0
 IsNamed fails call = Contains fails call
+
+-- the script of an object that was not called yet
+pub record IsFresh (named : List ℕ) (script : Script) : Type 0 where
+  pub numbers : script.fails.items ≡ named
+  pub no_call : script.calls ≡ 0
+  pub no_fault : script.faults ≡ 0

@@ -1,9 +1,10 @@
 //! A depot in memory.
 
-ghost use Rattle.std.specs.Prelude.{◌≡◌, ◌++◌, ◌≤◌, ℕ, Some, None, length, IfOk, OnOk, OnErr, IsTrue, MatchOption, false};
+ghost use Rattle.std.specs.Prelude.{◌≡◌, ◌++◌, ◌≤◌, Some, None, length, IfOk, OnOk, IsTrue, MatchOption, false};
 ghost use Rattle.std.specs.FinMap as map;
 ghost use Rattle.ghost_model.specs.Causes.{HasCause};
-ghost use Rattle.edge_traits.specs.Files.{Files, file_of, with_file, or_empty, SameBut, ReadsAt, GivesAt};
+ghost use Rattle.edge_traits.specs.Scripts.{IsFresh};
+ghost use Rattle.edge_traits.specs.Files.{file_of, with_file, or_empty, SameBut, GivesAt};
 
 use crate::Failed;
 use crate::depot::Depot;
@@ -28,7 +29,8 @@ pub struct Room {
 #[derive(Drop)]
 pub struct MemDepot {
     files: Slots,
-    script: Script,
+    /// Which calls fail.
+    pub script: Script,
     append_faults: u64,
 }
 
@@ -38,6 +40,7 @@ impl MemDepot {
         ensures empty { IfOk result (λ depot. ⟦<MemDepot as Depot>⟧.contents depot ≡ Some map.empty) }
         ensures faults { IfOk result (λ depot. ⟦<MemDepot as Depot>⟧.faults depot ≡ 0) }
         ensures append_faults { IfOk result (λ depot. ⟦<MemDepot as Depot>⟧.append_faults depot ≡ 0) }
+        ensures script { IfOk result (λ depot. IsFresh fails.now depot.script) }
     {
         Ok(MemDepot {
             files: Slots::new(alloc, room.files, room.name_bytes, room.file_bytes)?,

@@ -1,8 +1,7 @@
 //! A sink in memory.
 
-ghost use Rattle.std.specs.Prelude.{◌≡◌, ◌<◌, ◌≤◌, [], Some, take, length, IfOk, OnErr};
-ghost use Rattle.ghost_model.specs.Causes.{HasCause};
-ghost use Rattle.edge_traits.specs.Written.{grown, GrowsByFront};
+ghost use Rattle.std.specs.Prelude.{◌≡◌, ◌<◌, [], Some, IfOk, vec_capacity};
+ghost use Rattle.edge_traits.specs.Scripts.{IsFresh};
 
 use crate::script::Script;
 use crate::sink::Sink;
@@ -14,9 +13,12 @@ use std::alloc::{AllocError, Global};
 /// A call past its room is a fault, and so is each call that its script names. A failed call takes nothing.
 #[derive(Drop)]
 pub struct MemSink {
-    bytes: Vec<u8>,
-    most: usize,
-    script: Script,
+    /// All bytes taken so far. Their capacity is the room.
+    pub bytes: Vec<u8>,
+    /// The most bytes that one call takes.
+    pub most: usize,
+    /// Which calls fail.
+    pub script: Script,
 }
 
 impl MemSink {
@@ -30,6 +32,9 @@ impl MemSink {
     ) -> Result<MemSink, AllocError>
         ensures empty { IfOk result (λ sink. ⟦<MemSink as Sink>⟧.written sink ≡ Some []) }
         ensures faults { IfOk result (λ sink. ⟦<MemSink as Sink>⟧.faults sink ≡ 0) }
+        ensures room { IfOk result (λ sink. vec_capacity sink.bytes ≡ room) }
+        ensures most { IfOk result (λ sink. sink.most ≡ most) }
+        ensures script { IfOk result (λ sink. IsFresh fails.now sink.script) }
     {
         Ok(MemSink {
             bytes: Vec::with_capacity(alloc, room)?,

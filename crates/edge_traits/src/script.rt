@@ -2,7 +2,7 @@
 
 ghost use Rattle.std.specs.Prelude.{◌≡◌, ◌+◌, ◌≤◌, min, IfOk, OnOk, OnErr};
 ghost use Rattle.ghost_model.specs.Causes.{HasCause, Rose, last_count};
-ghost use Rattle.edge_traits.specs.Scripts.{IsNamed};
+ghost use Rattle.edge_traits.specs.Scripts.{IsNamed, IsFresh};
 
 use crate::Failed;
 use std::alloc::{AllocError, Global};
@@ -21,9 +21,7 @@ pub struct Script {
 impl Script {
     /// The script of an object that was not called yet.
     pub fn new(alloc: Global, fails: &[u64]) -> Result<Script, AllocError>
-        ensures fails { IfOk result (λ script. script.fails.items ≡ fails.now) }
-        ensures calls { IfOk result (λ script. script.calls ≡ 0) }
-        ensures faults { IfOk result (λ script. script.faults ≡ 0) }
+        ensures { IfOk result (λ script. IsFresh fails.now script) }
     {
         Ok(Script {
             fails: Vec::from_slice(alloc, fails)?,

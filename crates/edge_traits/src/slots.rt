@@ -1,6 +1,6 @@
 //! Files in memory, each in a slot whose room was reserved when it was made.
 
-ghost use Rattle.std.specs.Prelude.{◌≡◌, ◌++◌, ◌+◌, ◌≤◌, ℕ, List, IfOk, IfSome, IsTrue, MatchOption, MatchBool, Some, None, false, vec_len, vec_capacity};
+ghost use Rattle.std.specs.Prelude.{◌≡◌, ◌++◌, ◌+◌, ◌≤◌, IfOk, IsTrue, MatchOption, Some, None, false, vec_len};
 ghost use Rattle.std.specs.List.{position};
 ghost use Rattle.std.specs.FinMap as map;
 ghost use Rattle.edge_traits.specs.Files.{or_empty};

@@ -1,9 +1,8 @@
 -- The byte order of cells is the order of their values, kind by kind.
-use Rattle.std.proofs.Common.{◌≡◌, ℕ, suc, zero, ◌+◌, ◌-◌, ◌*◌, ◌/◌, ◌%◌, ◌^◌, ◌<◌, ◌≤◌, true, ◌&&◌, nat_le, ℤ, pos, negsuc, List, [], ◌∷◌, ◌++◌, length, length-append, replicate, IsTrue, refl, sym, ap, ap₂, ◌∙◌, arith, nat_cmp, int_cmp, Ordering, Less, Equal, Greater, mod-lt, mod-eq_of_lt, div-one, suc-mul, mul-le-mul_right, leb-true, ltb-true, w64}
+use Rattle.std.proofs.Common.{◌≡◌, ℕ, suc, zero, ◌+◌, ◌-◌, ◌*◌, ◌/◌, ◌%◌, ◌^◌, ◌<◌, ◌≤◌, true, ℤ, pos, negsuc, List, [], ◌∷◌, ◌++◌, length, replicate, IsTrue, refl, sym, ap, ap₂, ◌∙◌, arith, nat_cmp, int_cmp, Ordering, Less, Equal, Greater, mod-lt, mod-eq_of_lt, div-one, suc-mul, mul-le-mul_right, leb-true, w64}
 use Rattle.std.proofs.Math.Nat.{mod-one, pow-succ'}
 use Rattle.std.proofs.Math.Arith.{mod-mul}
 use Rattle.std.proofs.lemmas.Bool.Decides.{nat_tests}
-use Rattle.std.proofs.lemmas.List.{length-replicate}
 use Rattle.std.specs.Ordering.{ordering_then, MatchOrdering}
 use Rattle.std.specs.Cmp.{nat_cmp_is, first_so, second_so}
 use Rattle.std.specs.Cmp.Lexicographic.{slice_cmp}

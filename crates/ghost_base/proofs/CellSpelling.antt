@@ -1,5 +1,5 @@
 -- Cells spell their values, kind by kind.
-use Rattle.std.proofs.Common.{◌≡◌, ℕ, ◌+◌, ◌-◌, ◌≤◌, Bool, true, false, cond, ◌&&◌, ◌==◌, nat_le, nat_lt, ℤ, List, length, length-append, replicate, IsTrue, Option, Some, None, if◌then◌else◌, refl, sym, ap, subst, ◌∙◌, arith, eqb-true, eq-eqb, leb-true, le-leb}
+use Rattle.std.proofs.Common.{◌≡◌, ℕ, ◌-◌, ◌≤◌, Bool, true, false, ◌&&◌, ◌==◌, nat_le, nat_lt, List, length, length-append, replicate, IsTrue, Some, None, if◌then◌else◌, refl, sym, ap, subst, ◌∙◌, arith, eqb-true, eq-eqb, leb-true, le-leb}
 use Rattle.std.specs.List.{list_all}
 use Rattle.std.specs.Cmp.{first_so, second_so}
 use Rattle.std.proofs.lemmas.List.{length-replicate}
@@ -38,7 +38,7 @@ text_written (Chars most) (Text t) text out e h w =
     let same : text ≡ t = cc in
     let p : (nat_le (length t) most && list_all is_printable t) ≡ true = h in
     subst (λ o. decode_cell (Chars most) o ≡ Some (Text t)) (sym (w ∙ ap (padded most) same))
-      (text_read_back most t (leb-true _ _ (first_so _ _ p)) (second_so _ _ p))
+    (text_read_back most t (leb-true _ _ (first_so _ _ p)) (second_so _ _ p))
 
 chosen : {X : Type 0} (b : Bool) (x y : X) → (if b then Some x else None) ≡ Some y → (b ≡ true) × (x ≡ y)
 chosen true x y h = (refl, cc)
@@ -53,7 +53,8 @@ spells_a_text most bytes value h =
     let printable : list_all is_printable (text_in bytes) ≡ true = first_so _ _ text in
     subst (λ v. IsCellOf (Chars most) v bytes) p.1 record {
       held = rw (short, printable) refl;
-      cell = text_spelled bytes text ∙ ap (λ n. padded n (text_in bytes)) long }
+      cell = text_spelled bytes text ∙ ap (λ n. padded n (text_in bytes)) long;
+    }
 
 pub spells_a_cell : (kind : Kind) (bytes : List ℕ) (value : Value) → IsTrue (list_all (λ byte. nat_lt byte 256) bytes)
     → decode_cell kind bytes ≡ Some value → IsCellOf kind value bytes
@@ -61,7 +62,8 @@ spells_a_cell Integer bytes value small h =
     let p = chosen (length bytes == 8) _ value h in
     subst (λ v. IsCellOf Integer v bytes) p.1 record {
       held = from_fits _ (spelled_fits bytes small);
-      cell = integer_spelled bytes (eqb-true _ _ p.0) small }
+      cell = integer_spelled bytes (eqb-true _ _ p.0) small;
+    }
 spells_a_cell (Chars most) bytes value small h = spells_a_text most bytes value h
 
 pub text_read : (kind : Kind) (bytes text : List ℕ) → decode_cell kind bytes ≡ Some (Text text) → encode_cell kind (Text text) ≡ bytes

@@ -1,13 +1,12 @@
 -- A text and the zero bytes after it spell that text and no other.
-use Rattle.std.proofs.Common.{◌≡◌, ℕ, suc, zero, ◌+◌, ◌-◌, ◌<◌, ◌≤◌, Bool, true, false, ◌&&◌, ◌==◌, List, [], ◌∷◌, ◌++◌, length, drop, replicate, IsTrue, refl, sym, ap, ◌∙◌, arith, eqb-true, take-append-drop, length-append, length-drop}
-use Rattle.std.specs.List.{list_all, take_while, prefix_len}
+use Rattle.std.proofs.Common.{◌≡◌, ℕ, suc, zero, ◌≤◌, true, ◌==◌, List, [], ◌∷◌, ◌++◌, length, drop, replicate, IsTrue, refl, sym, ap, ◌∙◌, arith, eqb-true, take-append-drop, length-append, length-drop}
+use Rattle.std.specs.List.{list_all, prefix_len}
 use Rattle.std.specs.Cmp.{first_so, second_so}
 use Rattle.std.proofs.lemmas.List.Sums.{take_while-cons}
 use Rattle.std.proofs.lemmas.List.Folds.{length-prefix_len}
 use Rattle.std.proofs.lemmas.Bool.Decides.{nat_tests}
 use Rattle.ghost_model.specs.Tokens.{is_printable}
 use Rattle.ghost_model.specs.Cells.{is_not_zero, padded, text_in, is_text_cell}
-
 
 printable_is_not_zero : (x : ℕ) → is_printable x ≡ true → is_not_zero x ≡ true
 printable_is_not_zero x h = grind (arith, nat_tests)
@@ -47,7 +46,7 @@ text_is_short cell = omega (arith, ap length (text_and_rest cell), length-append
 pub text_spelled : (cell : List ℕ) → is_text_cell cell ≡ true → cell ≡ padded (length cell) (text_in cell)
 text_spelled cell h =
     let rest : drop (length (text_in cell)) cell ≡ replicate (length (drop (length (text_in cell)) cell)) 0 =
-      zeros (drop (length (text_in cell)) cell) (second_so _ _ h) in
+    zeros (drop (length (text_in cell)) cell) (second_so _ _ h) in
     let e : text_in cell ++ replicate (length (drop (length (text_in cell)) cell)) 0 ≡ cell =
-      ap (λ t. text_in cell ++ t) (sym rest) ∙ text_and_rest cell in
+    ap (λ t. text_in cell ++ t) (sym rest) ∙ text_and_rest cell in
     sym e ∙ ap (λ n. text_in cell ++ replicate n 0) (length-drop (length (text_in cell)) cell)

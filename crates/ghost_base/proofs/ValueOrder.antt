@@ -1,5 +1,5 @@
 -- The order of values is a total order.
-use Rattle.std.proofs.Common.{◌≡◌, ℤ, List, refl, ap, nat_cmp, int_cmp, Ordering, Less, Equal, Greater}
+use Rattle.std.proofs.Common.{◌≡◌, refl, ap, Less, Equal}
 use Rattle.std.proofs.lemmas.Cmp.{nat_list_cmp_total, int_cmp_total}
 use Rattle.std.proofs.lemmas.Map.Lookups.{exact_bytes, exact_signed}
 use Rattle.std.specs.Ordering.{ordering_reverse}
@@ -32,4 +32,5 @@ pub values_total : IsTotalOrder order_of
 values_total = record {
   antisymm = reversed;
   trans = chained;
-  congr = λ a b c h. ap (λ v. order_of v c) (same_value a b h) }
+  congr = λ a b c h. ap (λ v. order_of v c) (same_value a b h);
+}

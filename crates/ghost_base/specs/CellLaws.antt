@@ -1,6 +1,6 @@
 -- The laws of cells. The bytes of a cell spell the one value that they were made of, and bytes that spell a value are
 -- its cell. The order of two cells of one kind, by bytes, is the order of their values.
-use Rattle.std.specs.Prelude.{◌≡◌, ℕ, IsTrue, nat_lt, List, Option, Some}
+use Rattle.std.specs.Prelude.{◌≡◌, ℕ, IsTrue, nat_lt, List, Some}
 use Rattle.std.specs.List.{list_all}
 use Rattle.std.specs.Ordering.{nat_cmp}
 use Rattle.std.specs.declared.cmp.Ordering.{Ordering}
@@ -20,14 +20,14 @@ pub record IsCellOf (kind : Kind) (value : Value) (bytes : List ℕ) : Type 0 wh
 pub record CellsSpellOneValue : Type 0 where
   pub reads_back : (kind : Kind) (value : Value) → IsTrue (is_of_kind kind value) → decode_cell kind (encode_cell kind value) ≡ Some value
   pub spells_a_cell : (kind : Kind) (bytes : List ℕ) (value : Value) → IsTrue (list_all (λ byte. nat_lt byte 256) bytes)
-    → decode_cell kind bytes ≡ Some value → IsCellOf kind value bytes
+      → decode_cell kind bytes ≡ Some value → IsCellOf kind value bytes
 
 abbrev pub byte_order : List ℕ → List ℕ → Ordering
 byte_order some others = slice_cmp nat_cmp some others
 
 abbrev pub CellOrderIsValueOrder : Type 0
 CellOrderIsValueOrder = (kind : Kind) (a b : Value) → IsTrue (is_of_kind kind a) → IsTrue (is_of_kind kind b)
-  → byte_order (encode_cell kind a) (encode_cell kind b) ≡ order_of a b
+    → byte_order (encode_cell kind a) (encode_cell kind b) ≡ order_of a b
 
 -- The order of values is a total order, and values that it does not tell apart are one.
 pub record ValuesAreOrdered : Type 0 where

@@ -21,7 +21,7 @@ pub fields_are : (text : Inside) → IsPadded text → fields_of (take text.len 
 fields_are text h =
     let count : length (take text.len text.bytes) ≡ text.len = length-take-le text.len text.bytes (subst (λ n. text.len ≤ n) (sym h.whole) h.fits) in
     let whole : take text.len text.bytes ++ replicate (64 - length (take text.len text.bytes)) 0 ≡ text.bytes =
-      ap (λ n. take text.len text.bytes ++ replicate (64 - n) 0) count
-      ∙ ap (λ rest. take text.len text.bytes ++ rest) (sym h.spare)
-      ∙ take-append-drop text.len text.bytes in
+    ap (λ n. take text.len text.bytes ++ replicate (64 - n) 0) count
+    ∙ ap (λ rest. take text.len text.bytes ++ rest) (sym h.spare)
+    ∙ take-append-drop text.len text.bytes in
     ap₂ places whole count

@@ -1,5 +1,4 @@
 -- What the kinds and values of the code stand for, in the words of the definitions.
-use Rattle.std.specs.Prelude.{ℕ, ℤ, List}
 use Rattle.ghost_model.specs.Schema as schema
 use Rattle.ghost_model.specs.Values as values
 use Rattle.ghost_base.specs.declared.kind.Kind.{Kind}

@@ -167,20 +167,28 @@ mod tests {
             (i64::MIN, [0; 8]),
             (i64::MAX, [0xFF; 8]),
         ] {
-            assert!(rt; is_cell(Kind::Integer, Value::Int(number), &cell), "at {number}");
+            assert!(rt;
+                is_cell(Kind::Integer, Value::Int(number), &cell),
+                "at {number}"
+            );
         }
     }
 
     #[test]
     fn texts_end_at_the_first_zero_byte(rt: HostRuntime) {
+        for (most, text, cell) in [
+            (8, Text64::of(b"cardio"), b"cardio\0\0".as_slice()),
+            (2, Text64::of(b"FR"), b"FR".as_slice()),
+            (3, Text64::of(b""), b"\0\0\0".as_slice()),
+        ] {
+            assert!(rt;
+                is_cell(Kind::Chars(most), Value::Chars(text), cell),
+                "at {most}"
+            );
+        }
         let cardio = Value::Chars(Text64::of(b"cardio"));
-        let full = Value::Chars(Text64::of(b"FR"));
-        let empty = Value::Chars(Text64::of(b""));
-        assert!(rt; is_cell(Kind::Chars(8), cardio, b"cardio\0\0"));
-        assert!(rt; is_cell(Kind::Chars(2), full, b"FR"));
-        assert!(rt; is_cell(Kind::Chars(3), empty, b"\0\0\0"));
-        assert!(rt; !is_cell(Kind::Chars(5), cardio, b"cardi"));
-        assert!(rt; !is_cell(Kind::Integer, full, b"FR\0\0\0\0\0\0"));
+        assert!(rt; !is_of_kind(Kind::Chars(5), &cardio));
+        assert!(rt; !is_of_kind(Kind::Integer, &cardio));
     }
 
     #[test]

@@ -1,5 +1,14 @@
 -- Lemmas on frames and on the next move.
+pub mod Tests
 pub mod Asks
+pub mod Proper
+pub mod Hosts
+pub mod Hearing
+pub mod Rows
+pub mod Sending
+pub mod Replies
+pub mod Greeting
+pub mod Streams
 use Rattle.std.proofs.Common.{◌≡◌, ℕ, zero, suc, ◌+◌, ◌-◌, ◌*◌, ◌<◌, ◌≤◌, ◌^◌, ◌⊎◌, ◌≢◌, inl, inr, Bool, true, false, ◌&&◌, List, [], ◌∷◌, ◌++◌, length, take, drop, slice_index, get_or, sym, ◌∙◌, ap, subst, refl, arith, length-append, append-nil, append_assoc, lit<, w16, w32}
 use Rattle.std.specs.Prelude.{◌==◌, nat_lt, nat_le, not, if◌then◌else◌}
 use Rattle.std.specs.Int.{to_be_bytes, from_be_bytes}
@@ -286,16 +295,24 @@ remade (Replied serial payload) h = refl
 remade (Done serial total) h = ap (λ (n : ℕ). Done serial n) (from_be_bytes-to_be_bytes_4 total h.number_fits)
 remade (Sorry serial code) h = refl
 
+pub payload_is_read : (frame : Frame) (rest : List ℕ) → IsFrame frame → payload_in (frame_bytes frame ++ rest) ≡ payload_of frame
+payload_is_read frame rest h =
+    ap (λ (n : ℕ). take n (payload_of frame ++ rest)) (size_is_read frame rest h) ∙ take-append_seam (payload_of frame) rest
+
+pub frame_is_read : (frame : Frame) (rest : List ℕ) → IsFrame frame → frame_in (frame_bytes frame ++ rest) ≡ frame
+frame_is_read frame rest h =
+    let bytes : List ℕ = frame_bytes frame ++ rest in
+    let serial : serial_in bytes ≡ serial_of frame = from_be_bytes-to_be_bytes_4 (serial_of frame) h.serial_fits in
+    ap (λ (n : ℕ). frame_of_parts (kind_of frame) n (payload_in bytes)) serial
+    ∙ (ap (λ (p : List ℕ). frame_of_parts (kind_of frame) (serial_of frame) p) (payload_is_read frame rest h) ∙ remade frame h)
+
 pub spelled_is_found : (frame : Frame) (rest : List ℕ) → IsFrame frame → got_of (frame_bytes frame ++ rest) ≡ Found frame
 spelled_is_found frame rest h =
     let bytes : List ℕ = frame_bytes frame ++ rest in
     let size : size_in bytes ≡ length (payload_of frame) = size_is_read frame rest h in
     let serial : serial_in bytes ≡ serial_of frame = from_be_bytes-to_be_bytes_4 (serial_of frame) h.serial_fits in
-    let payload : payload_in bytes ≡ payload_of frame =
-    ap (λ (n : ℕ). take n (payload_of frame ++ rest)) size ∙ take-append_seam (payload_of frame) rest in
-    let same : frame_in bytes ≡ frame =
-    ap (λ (n : ℕ). frame_of_parts (kind_of frame) n (payload_in bytes)) serial
-    ∙ (ap (λ (p : List ℕ). frame_of_parts (kind_of frame) (serial_of frame) p) payload ∙ remade frame h) in
+    let payload : payload_in bytes ≡ payload_of frame = payload_is_read frame rest h in
+    let same : frame_in bytes ≡ frame = frame_is_read frame rest h in
     let lengths : length bytes ≡ 8 + (length (payload_of frame) + length rest) = omega (arith, length-append (payload_of frame) rest) in
     let header : header_allowed bytes ≡ true =
     three_hold _ _ _ refl (ap (λ (n : ℕ). size_allowed (kind_of frame) n) size ∙ h.size) (ap (λ (n : ℕ). serial_allowed (kind_of frame) n) serial ∙ h.serial) in

@@ -3,4 +3,4 @@ pub mod Rejoining
 pub mod PublicPart
 pub mod Loading
 pub mod OneRow
-pub mod Identifiers
+pub mod Leading

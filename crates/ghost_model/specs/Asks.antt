@@ -3,7 +3,7 @@
 -- own order, each once. Nothing of a hidden column or of an identifier is in it. An ask is sent as bytes: the table, the
 -- number of its columns and each of them, the number of its conditions, and for each of these the column, the operator
 -- from 1 to 6 and the literal's cell. A reply to it has rows of one width: an identifier in 4 bytes and the asked cells.
-use Rattle.std.specs.Prelude.{◌≡◌, ℕ, zero, suc, ◌+◌, ◌/◌, Bool, true, not, ◌&&◌, ◌==◌, nat_lt, nat_le, List, [], ◌∷◌, ◌++◌, length, take, drop, map, filter, flat_map, sum, slice_index, if◌then◌else◌, bytes_eq, Option, Some, None, Result, Ok, Err}
+use Rattle.std.specs.Prelude.{◌≡◌, ℕ, zero, suc, ◌+◌, ◌/◌, Bool, true, not, ◌&&◌, ◌==◌, nat_lt, nat_le, List, [], ◌∷◌, ◌++◌, length, take, drop, map, filter, flat_map, sum, slice_index, if◌then◌else◌, bytes_eq, Option, Some, None, Result, Ok, Err, ◌^◌, ◌%◌, ◌<◌, All}
 use Rattle.std.specs.List.{list_any, list_all}
 use Rattle.std.specs.Int.{to_be_bytes, from_be_bytes, w32}
 use Rattle.ghost_model.specs.Schema.{Schema, Column, Kind, Chars, columns_of, column_at, places_where, is_empty, is_visible}
@@ -13,6 +13,7 @@ use Rattle.ghost_model.specs.Cells.{cell_width, encode_cell, decode_cell}
 use Rattle.ghost_model.specs.Query.{Query, Field, Condition, Compare, Join, Operator, Equal, Unequal, Less, AtMost, More, AtLeast}
 use Rattle.ghost_model.specs.QueryReading.{reading}
 use Rattle.ghost_model.specs.Channel.{Test, Ask}
+use Rattle.ghost_model.specs.Frames.{AreBytes}
 
 -- the condition of an ask for this table that a condition of a query is, if its column is visible
 abbrev pub test_of : Schema → (table : ℕ) → Condition → List Test
@@ -193,3 +194,33 @@ asked_from schema number (reading ∷ later) =
 -- the asks of the accepted texts in order, with the numbers of their texts
 abbrev pub asked_of : Schema → (texts : List (List ℕ)) → List Asked
 asked_of schema texts = asked_from schema 1 (map (reading schema) texts)
+
+-- whether an ask names visible columns alone
+abbrev pub names_visible : Schema → Ask → Bool
+names_visible schema ask =
+    list_all (is_visible schema ask.table) ask.columns
+    && list_all (λ test. is_visible schema ask.table test.column) ask.tests
+
+-- nothing of a hidden column or of an identifier is in an ask
+abbrev pub AsksAreVisible : Type 0
+AsksAreVisible = (schema : Schema) (query : Query) → list_all (names_visible schema) (asks_of schema query) ≡ true
+
+-- the asks of an accepted text are such as a key may send
+abbrev pub AsksAreProper : Type 0
+AsksAreProper =
+    (schema : Schema) (text : List ℕ) (query : Query) → reading schema text ≡ Ok query
+    → list_all (is_proper_ask schema) (asks_of schema query) ≡ true
+
+-- a row of a reply to an ask: its identifier fits four bytes, and its cells have their widths
+pub record IsReplyRow (schema : Schema) (ask : Ask) (row : ReplyRow) : Type 0 where
+  pub identifier : row.identifier < 2 ^ 32
+  pub width : 4 + length row.cells ≡ row_width schema ask
+
+-- rows are the ones that their bytes spell, and bytes of whole rows are those of the rows that they spell
+pub record RowsHaveOneSpelling : Type 0 where
+  pub spelled_are_read :
+      (schema : Schema) (ask : Ask) (rows : List ReplyRow) → All (IsReplyRow schema ask) rows
+      → rows_in schema ask (flat_map row_bytes rows) ≡ rows
+  pub read_are_spelled :
+      (schema : Schema) (ask : Ask) (payload : List ℕ) → AreBytes payload → length payload % row_width schema ask ≡ 0
+      → flat_map row_bytes (rows_in schema ask payload) ≡ payload

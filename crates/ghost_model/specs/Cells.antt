@@ -1,9 +1,9 @@
 -- Cells: the bytes of one value, as wide as its column says. An INTEGER has 8 bytes, its two's complement with the
 -- top bit flipped, most significant byte first; a CHAR(n) has n bytes, its text and then zero bytes. So the order of
 -- the bytes of two cells of one kind is the order of their values.
-use Rattle.std.specs.Prelude.{◌≡◌, ℕ, suc, ℤ, pos, negsuc, ◌+◌, ◌-◌, ◌^◌, Bool, true, false, not, ◌&&◌, ◌==◌, nat_le, List, [], ◌∷◌, ◌++◌, length, drop, replicate, take_while, Option, Some, None, if◌then◌else◌, flat_map}
+use Rattle.std.specs.Prelude.{ℕ, suc, ℤ, pos, negsuc, ◌+◌, ◌-◌, ◌^◌, Bool, not, ◌&&◌, ◌==◌, nat_le, List, [], ◌++◌, length, drop, replicate, take_while, Option, Some, None, if◌then◌else◌}
 use Rattle.std.specs.List.{list_all}
-use Rattle.std.specs.Int.{to_be_bytes, from_be_bytes, w32, w64}
+use Rattle.std.specs.Int.{to_be_bytes, from_be_bytes, w64}
 use Rattle.ghost_model.specs.Schema.{Kind, Integer, Chars}
 use Rattle.ghost_model.specs.Values.{Value, Number, Text}
 use Rattle.ghost_model.specs.Tokens.{is_printable}

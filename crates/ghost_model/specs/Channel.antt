@@ -1,6 +1,6 @@
 -- What goes over the channel, as data: what both sides know beforehand (the catalog), what the key asks, the frames
 -- that carry it, and the moves of one end with their answers.
-use Rattle.std.specs.Prelude.{◌≡◌, ℕ, Bool, List}
+use Rattle.std.specs.Prelude.{ℕ, List}
 use Rattle.ghost_model.specs.Schema.{Schema}
 use Rattle.ghost_model.specs.Values.{Value}
 use Rattle.ghost_model.specs.Query.{Operator}

@@ -2,7 +2,7 @@
 -- the identifier, the first value of a row. Each value is of its column's kind, and each foreign key is the
 -- identifier of a row of the table that it names. Files spell a database by their CSV records: those after the first
 -- are the rows, field by field.
-use Rattle.std.specs.Prelude.{◌≡◌, ℕ, zero, suc, ◌+◌, ◌-◌, ◌*◌, ◌^◌, ℤ, pos, negsuc, neg_ℤ, int_le, Bool, true, false, ◌&&◌, ◌==◌, nat_lt, nat_le, List, [], ◌∷◌, length, map, drop, fold, Option, Some, None, slice_get, option_and_then, unwrap_or, IsTrue, if◌then◌else◌}
+use Rattle.std.specs.Prelude.{◌≡◌, ℕ, zero, suc, ◌-◌, ◌^◌, ℤ, pos, negsuc, neg_ℤ, int_le, Bool, true, false, ◌&&◌, ◌==◌, nat_lt, nat_le, List, [], ◌∷◌, length, map, drop, Option, Some, None, slice_get, option_and_then, unwrap_or, IsTrue, if◌then◌else◌}
 use Rattle.std.specs.List.{list_all}
 use Rattle.std.specs.Cmp.Lexicographic.{slice_cmp}
 use Rattle.std.specs.Ordering.{nat_cmp, int_cmp}
@@ -10,7 +10,10 @@ use Rattle.std.specs.declared.cmp.Ordering.{Ordering}
 use Rattle.std.specs.declared.cmp.Ordering.TheVariants as order
 use Rattle.csv.specs.Reading.{records, default_config, strip_bom}
 use Rattle.ghost_model.specs.Schema.{Schema, Column, Kind, Integer, Chars, columns_of, column_at, parent, keys_to, first_of}
+use Rattle.ghost_model.specs.SchemaFaults.{ancestor}
+use Rattle.ghost_model.specs.SchemaTrees.{IsTree}
 use Rattle.ghost_model.specs.Tokens.{is_printable, is_digit}
+pub use Rattle.ghost_model.specs.Tokens.{number_of}
 use Rattle.ghost_model.specs.Values.{Value, Number, Text, Row, Rows, Database}
 use Rattle.ghost_model.specs.Query.{Operator}
 use Rattle.ghost_model.specs.Query as query
@@ -102,13 +105,38 @@ leads_within [] schema database from identifier to = if from == to then Some ide
 leads_within (_ ∷ steps) schema database from identifier to =
     if from == to then Some identifier
     else option_and_then (λ above.
-      option_and_then (λ reached. points_to schema database above reached to)
-      (leads_within steps schema database from identifier above)) (parent schema to)
+    option_and_then (λ reached. points_to schema database above reached to)
+    (leads_within steps schema database from identifier above)) (parent schema to)
 
 -- the identifier of the row of a table, the same or one below, to which a row leads along the foreign keys. No path
 -- has more of them than there are tables
 abbrev pub leads : Schema → Database → (from identifier to : ℕ) → Option ℕ
 leads schema database from identifier to = leads_within schema schema database from identifier to
+
+-- a table is another one or lies below it: following parents from it comes there
+abbrev pub IsAtOrBelow : Schema → (from to : ℕ) → Type 0
+IsAtOrBelow schema from to = (steps : ℕ) × (ancestor schema steps to ≡ Some from)
+
+-- a row of a table that another row leads to
+pub record Lands (schema : Schema) (database : Database) (from identifier to : ℕ) : Type 0 where
+  pub reached : ℕ
+  pub row : Row
+  pub led : leads schema database from identifier to ≡ Some reached
+  pub stands : row_of database to reached ≡ Some row
+
+-- what rows lead to, whatever the number of tables between
+pub record LeadsFollowKeys (schema : Schema) (database : Database) : Type 0 where
+  pub to_itself : (table identifier : ℕ) → leads schema database table identifier table ≡ Some identifier
+  pub along_a_key : (from above to identifier : ℕ) → IsAtOrBelow schema from above → parent schema to ≡ Some above
+      → leads schema database from identifier to
+      ≡ option_and_then (λ reached. points_to schema database above reached to) (leads schema database from identifier above)
+  pub lands : (from to identifier : ℕ) (row : Row) → IsAtOrBelow schema from to → row_of database from identifier ≡ Some row
+      → Lands schema database from identifier to
+
+-- in a database of a tree of tables each row leads to one row of each table below
+abbrev pub RowsLeadToRows : Type 0
+RowsLeadToRows =
+    (schema : Schema) (database : Database) → IsTree schema → IsDatabase schema database → LeadsFollowKeys schema database
 
 -- the order of values of one kind: integers by number, texts by bytes, a prefix before the longer text
 abbrev pub order_of : Value → Value → Ordering
@@ -143,9 +171,6 @@ records_of file = records default_config (strip_bom file)
 abbrev pub is_numeral : List ℕ → Bool
 is_numeral [] = false
 is_numeral (digit ∷ digits) = list_all is_digit (digit ∷ digits)
-
-abbrev pub number_of : List ℕ → ℕ
-number_of digits = fold (λ number digit. number * 10 + (digit - 48)) 0 digits
 
 -- the number with these digits and this sign, where it is not above the greatest
 abbrev pub signed_within : ℕ → (ℕ → ℤ) → List ℕ → Option ℤ

@@ -28,6 +28,7 @@ pub mod Asks
 pub mod Moves
 pub mod NextMove
 pub mod Host
+pub mod Local
 pub mod Honest
 pub mod Replies
 pub mod Lines

@@ -1,1 +1,106 @@
--- Lines: to be written
+-- The lines that a session may give for a text, whatever host it meets. A refused text has its refusal's line. A text
+-- whose asks were not all ended by DONE has the line of what ended them. Each other text has the rows of its answer from
+-- the replies and their number, or, where the key's flash failed it or held a damaged slot, some rows from the front of
+-- these and the word for that.
+use Rattle.std.specs.Prelude.{◌≡◌, ℕ, Bool, true, false, ◌==◌, List, [], ◌∷◌, ◌++◌, length, map, filter, codes, Ok, Err, if◌then◌else◌, ◌+◌, slice_get, Some}
+use Rattle.std.specs.List.{list_any}
+use Rattle.ghost_model.specs.Schema.{Schema}
+use Rattle.ghost_model.specs.Values.{Row}
+use Rattle.ghost_model.specs.Query.{Query}
+use Rattle.ghost_model.specs.QueryMeaning.{Refusal}
+use Rattle.ghost_model.specs.QueryReading.{reading}
+use Rattle.ghost_model.specs.Channel.{Catalog, Journal}
+use Rattle.ghost_model.specs.Asks.{asks_of, asked_of}
+use Rattle.ghost_model.specs.Moves.{taken, answers}
+use Rattle.ghost_model.specs.NextMove.{Ending, Answered, Refused, Ended, heard, is_stop}
+use Rattle.ghost_model.specs.Split.{Hidden}
+use Rattle.ghost_model.specs.Replies.{replies, answer_from}
+use Rattle.ghost_model.specs.Printed.{row_line, answer_lines, word_line, refusal_line}
+
+-- the asks of a text that were ended, whatever ended them
+abbrev pub ended_of : Catalog → (texts : List (List ℕ)) → Journal → (text : ℕ) → List Ended
+ended_of catalog texts journal text =
+    filter (λ end. end.asked.text == text) (heard catalog (asked_of catalog.schema texts) (taken journal)).ended
+
+abbrev pub is_refused_by : Ending → Bool
+is_refused_by (Answered _) = false
+is_refused_by (Refused _) = true
+
+-- whether SORRY ended an ask of a text
+abbrev pub was_refused : List Ended → Bool
+was_refused ends = list_any (λ end. is_refused_by end.ending) ends
+
+-- whether all asks of a query were ended by DONE
+abbrev pub all_done : Schema → Query → List Ended → Bool
+all_done schema query ends =
+    if was_refused ends then false else length ends == length (asks_of schema query)
+
+-- the word for what ended the asks of a text: the host, the link, or an invalid frame
+abbrev pub broken_word : List Ended → Journal → List ℕ
+broken_word ends journal =
+    if was_refused ends then codes "host"
+    else if list_any is_stop (answers journal) then codes "link"
+    else codes "protocol"
+
+-- the key's own faults that end a text
+pub data Fault : Type 0 where
+  OnFlash : Fault
+  OnDamage : Fault
+
+abbrev pub fault_word : Fault → List ℕ
+fault_word OnFlash = codes "flash"
+fault_word OnDamage = codes "damaged"
+
+-- the rows that answer an accepted text from its replies
+abbrev pub rows_from_replies : Catalog → Hidden → (texts : List (List ℕ)) → Journal → (text : ℕ) → Query → List Row
+rows_from_replies catalog kept texts journal text query =
+    answer_from catalog.schema kept query (replies catalog (asked_of catalog.schema texts) journal text)
+
+-- why a text has these lines
+pub data Reason : Type 0 where
+  IsRefused : Reason
+  WasBroken : Reason
+  WasAnswered : Reason
+  MetFault : Fault → Reason
+
+pub record RefusedLines (schema : Schema) (text : ℕ) (written : List ℕ) (lines : List (List ℕ)) : Type 0 where
+  pub refusal : Refusal
+  pub refused : reading schema written ≡ Err refusal
+  pub line : lines ≡ refusal_line text refusal ∷ []
+
+pub record BrokenLines (catalog : Catalog) (texts : List (List ℕ)) (journal : Journal) (text : ℕ) (written : List ℕ) (lines : List (List ℕ)) : Type 0 where
+  pub query : Query
+  pub accepted : reading catalog.schema written ≡ Ok query
+  pub broken : all_done catalog.schema query (ended_of catalog texts journal text) ≡ false
+  pub line : lines ≡ word_line text (broken_word (ended_of catalog texts journal text) journal) ∷ []
+
+pub record AnsweredLines (catalog : Catalog) (kept : Hidden) (texts : List (List ℕ)) (journal : Journal) (text : ℕ) (written : List ℕ) (lines : List (List ℕ)) : Type 0 where
+  pub query : Query
+  pub accepted : reading catalog.schema written ≡ Ok query
+  pub done : all_done catalog.schema query (ended_of catalog texts journal text) ≡ true
+  pub answer : lines ≡ answer_lines text (rows_from_replies catalog kept texts journal text query)
+
+pub record FaultLines (fault : Fault) (catalog : Catalog) (kept : Hidden) (texts : List (List ℕ)) (journal : Journal) (text : ℕ) (written : List ℕ) (lines : List (List ℕ)) : Type 0 where
+  pub query : Query
+  pub accepted : reading catalog.schema written ≡ Ok query
+  pub done : all_done catalog.schema query (ended_of catalog texts journal text) ≡ true
+  pub given : List Row
+  pub left : List Row
+  pub front : rows_from_replies catalog kept texts journal text query ≡ given ++ left
+  pub answer : lines ≡ map row_line given ++ word_line text (fault_word fault) ∷ []
+
+-- the lines of text number `text`, which is `written`, for this reason
+abbrev pub AreLinesFor : Reason → Catalog → Hidden → (texts : List (List ℕ)) → Journal → (text : ℕ) → (written : List ℕ) → (lines : List (List ℕ)) → Type 0
+AreLinesFor IsRefused catalog kept texts journal text written lines = RefusedLines catalog.schema text written lines
+AreLinesFor WasBroken catalog kept texts journal text written lines = BrokenLines catalog texts journal text written lines
+AreLinesFor WasAnswered catalog kept texts journal text written lines = AnsweredLines catalog kept texts journal text written lines
+AreLinesFor (MetFault fault) catalog kept texts journal text written lines = FaultLines fault catalog kept texts journal text written lines
+
+-- the lines of text number `text` in a session that went by a journal
+pub record AreLines (catalog : Catalog) (kept : Hidden) (texts : List (List ℕ)) (journal : Journal) (text : ℕ) (lines : List (List ℕ)) : Type 0 where
+  pub place : ℕ
+  pub numbered : text ≡ place + 1
+  pub written : List ℕ
+  pub stands : slice_get texts place ≡ Some written
+  pub reason : Reason
+  pub lines_are : AreLinesFor reason catalog kept texts journal text written lines

@@ -1,13 +1,13 @@
 -- The rules that the files of a database are to keep, and where each one is broken. The faults stand in the order in
--- which the files are read: file by file, in a file record by record, in a record first its number, then the number of
--- its fields, then field by field; the foreign keys come after all files, by table, record and column. Only the first
--- fault is ever answered, so after a broken rule the list may say anything.
-use Rattle.std.specs.Prelude.{◌≡◌, ℕ, ◌+◌, ◌<◌, ◌≤◌, ℤ, pos, Bool, true, false, ◌==◌, nat_le, List, [], ◌∷◌, ◌++◌, length, map, Option, Some, None, bytes_eq, Result, Ok, Err, is_some, IsTrue}
-use Rattle.std.specs.List.{list_all}
+-- which the files are read: file by file, in a file record by record, in a record first whether the table may have so
+-- many rows, then the number of its fields, then field by field with the identifier first; the foreign keys come after
+-- all files, by table, record and column. Only the first fault is ever answered, so after a broken rule the list may say
+-- anything.
+use Rattle.std.specs.Prelude.{◌≡◌, ℕ, ◌+◌, ◌<◌, ◌≤◌, ℤ, pos, Bool, true, false, ◌==◌, nat_le, List, [], ◌∷◌, ◌++◌, length, map, Option, Some, None, bytes_eq, Result, Ok, Err, is_some}
 use Rattle.std.specs.Cmp.Lexicographic.{pointwise}
 use Rattle.std.specs.Ordering.{int_eq}
 use Rattle.ghost_model.specs.Schema.{Schema, Column, Kind, Integer, Chars, first_of}
-use Rattle.ghost_model.specs.SchemaFaults.{MeansSchema}
+use Rattle.ghost_model.specs.SchemaTrees.{IsTree}
 use Rattle.ghost_model.specs.Tokens.{in_lower_case}
 use Rattle.ghost_model.specs.Values.{Value, Row, Rows, Database}
 use Rattle.ghost_model.specs.Database.{is_text, is_row_among, row_count, records_of, integer_of, database_of, IsDatabase}
@@ -157,22 +157,10 @@ abbrev pub Judges : {T E : Type 0} → (told : E → Option LoadFault) → Resul
 Judges told (Ok _) faults = faults ≡ []
 Judges told (Err error) faults = TellsFirst (told error) faults
 
-abbrev pub is_integer : Kind → Bool
-is_integer Integer = true
-is_integer (Chars _) = false
-
-abbrev pub begins_with_integer : List Column → Bool
-begins_with_integer [] = false
-begins_with_integer (column ∷ _) = is_integer column.kind
-
--- the first column of each table is of kind INTEGER, as its identifier is to be
-abbrev pub has_identifiers : Schema → Bool
-has_identifiers schema = list_all (λ table. begins_with_integer table.columns) schema
-
 -- files that keep every rule spell a database, one file for each table
 abbrev pub FilesSpellADatabase : Type 0
 FilesSpellADatabase =
-    (schema : Schema) (files : List (List ℕ)) → IsTrue (has_identifiers schema) → length files ≡ length schema
+    (schema : Schema) (files : List (List ℕ)) → IsTree schema → length files ≡ length schema
     → load_faults schema files ≡ [] → IsDatabase schema (database_of schema files)
 
 -- and each table has at most as many rows as it may have
@@ -180,10 +168,6 @@ abbrev pub FilesKeepTheRowLimit : Type 0
 FilesKeepTheRowLimit =
     (schema : Schema) (files : List (List ℕ)) → load_faults schema files ≡ []
     → (table : ℕ) → row_count (database_of schema files) table ≤ most_rows
-
--- a schema that a text means has identifiers
-abbrev pub SchemasHaveIdentifiers : Type 0
-SchemasHaveIdentifiers = (text : List ℕ) (schema : Schema) → MeansSchema text schema → IsTrue (has_identifiers schema)
 
 -- a file that is too long has that fault first, whatever else is in it
 abbrev pub LongFilesAreToldFirst : Type 0

@@ -5,13 +5,13 @@
 -- breaks a rule of its place. Each valid frame may make a frame of the key due: HELLO at the start, the first ask once
 -- the catalog was welcomed whole, MORE for each ROWS, the next ask for each DONE, the first ask of a later text for each
 -- SORRY, and BYE where no ask is left. Asks have the serials 1, 2, 3, .. in the order in which they are sent.
-use Rattle.std.specs.Prelude.{◌≡◌, ℕ, ◌+◌, ◌-◌, ◌%◌, ◌<◌, Bool, true, false, not, ◌&&◌, ◌||◌, ◌==◌, nat_lt, nat_le, List, [], ◌∷◌, ◌++◌, length, take, drop, flat_map, slice_get, if◌then◌else◌, bytes_eq, Option, Some, None, is_some}
+use Rattle.std.specs.Prelude.{◌≡◌, ℕ, ◌+◌, ◌-◌, ◌%◌, ◌<◌, Bool, true, false, not, ◌&&◌, ◌||◌, ◌==◌, nat_lt, nat_le, List, [], ◌∷◌, ◌++◌, length, take, drop, flat_map, slice_get, if◌then◌else◌, bytes_eq, Option, Some, None, is_some, map}
 use Rattle.std.specs.List.{list_any}
 use Rattle.ghost_model.specs.Schema.{Schema, Kind, is_empty}
 use Rattle.ghost_model.specs.Cells.{cell_width, decode_cell}
 use Rattle.ghost_model.specs.Channel.{Catalog, Ask, Frame, Hello, Asking, More, Bye, Welcome, Replied, Done, Sorry, Move, Dial, Send, Take, Close, Listen, Accept, Answer, Made, Port, Piece, End, Failed, Journal}
 use Rattle.ghost_model.specs.Catalog.{catalog_bytes}
-use Rattle.ghost_model.specs.Frames.{AreBytes, frame_bytes, frame_in, frame_version, version_in, kind_in, size_in, serial_in, most_payload}
+use Rattle.ghost_model.specs.Frames.{AreBytes, IsFrame, frame_bytes, frame_in, frame_version, version_in, kind_in, size_in, serial_in, most_payload}
 use Rattle.ghost_model.specs.Asks.{Asked, asked_of, ReplyRow, ask_payload, kinds_of, row_width, rows_in}
 use Rattle.ghost_model.specs.Moves.{taken, sent, moves, answers}
 
@@ -342,3 +342,28 @@ abbrev pub ReceivedIsSpelled : Type 0
 ReceivedIsSpelled =
     (catalog : Catalog) (asks : List Asked) (received : List ℕ) → AreBytes received
     → IsSpelled received (heard catalog asks received)
+
+-- a frame may come where this is awaited
+pub record IsAwaited (catalog : Catalog) (awaits : Awaits) (frame : Frame) : Type 0 where
+  pub fits : IsFrame frame
+  pub header : header_fits catalog awaits (frame_bytes frame) ≡ true
+  pub payload : payload_fits catalog awaits frame ≡ true
+
+-- the bytes of a frame that may come are heard as this frame
+abbrev pub AwaitedIsHeard : Type 0
+AwaitedIsHeard =
+    (catalog : Catalog) (asks : List Asked) (before : Heard) (frame : Frame) → before.part ≡ [] → before.broken ≡ false
+    → IsAwaited catalog before.awaits frame
+    → hear_all catalog asks before (frame_bytes frame) ≡ heard_frame catalog asks before frame
+
+-- what was sent is the first of the frames that are due
+pub record IsDue (catalog : Catalog) (asks : List Asked) (journal : Journal) : Type 0 where
+  pub frames : List Frame
+  pub sent_are : sent journal ≡ map frame_bytes frames
+  pub rest : List Frame
+  pub due_are : due catalog asks (taken journal) ≡ frames ++ rest
+
+abbrev pub SentIsDue : Type 0
+SentIsDue =
+    (catalog : Catalog) (at : List ℕ) (texts : List (List ℕ)) (journal : Journal) → IsProper catalog at texts journal
+    → IsDue catalog (asked_of catalog.schema texts) journal

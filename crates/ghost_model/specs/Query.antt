@@ -1,6 +1,6 @@
 -- A query with its names resolved: the tables that it is from, the columns that it selects and its conditions. Tables
 -- and columns stand by their places in the schema.
-use Rattle.std.specs.Prelude.{◌≡◌, ℕ, List}
+use Rattle.std.specs.Prelude.{ℕ, List}
 use Rattle.ghost_model.specs.Values.{Value}
 
 -- a column of a table

@@ -2,9 +2,10 @@
 -- meaning. The rules are tested one after another, each over the whole text. A column may stand without its table
 -- where exactly one FROM table has it. `*` is every column of the FROM tables in the order of the text, identifiers and
 -- foreign keys among them. BETWEEN is two conditions.
-use Rattle.std.specs.Prelude.{◌≡◌, ℕ, ◌+◌, ◌-◌, ◌*◌, ◌^◌, ◌<◌, ℤ, pos, neg_ℤ, int_le, Bool, true, false, not, ◌&&◌, ◌||◌, ◌==◌, nat_lt, List, [], ◌∷◌, ◌++◌, length, map, filter, filter_map, flat_map, fold, sum_by, Option, Some, None, is_none, option_map, option_and_then, option_to_list, bytes_eq}
+use Rattle.std.specs.Prelude.{◌≡◌, ℕ, ◌-◌, ◌^◌, ◌<◌, ℤ, pos, neg_ℤ, int_le, Bool, true, false, not, ◌&&◌, ◌||◌, ◌==◌, nat_lt, List, [], ◌∷◌, ◌++◌, length, map, filter, filter_map, flat_map, sum_by, Option, Some, None, is_none, option_map, option_and_then, option_to_list, bytes_eq}
 use Rattle.std.specs.List.{list_any, list_all}
 use Rattle.ghost_model.specs.Schema.{Schema, Kind, Integer, Chars, columns_of, column_at, places_where, first_of, is_empty, is_table, parent}
+use Rattle.ghost_model.specs.Tokens.{number_of}
 use Rattle.ghost_model.specs.Values.{Value, Number, Text}
 use Rattle.ghost_model.specs.Query.{Field, AtMost, AtLeast, Condition, Compare, Join, Query}
 use Rattle.ghost_model.specs.Grammar.{Spells, IsSyntaxFault}
@@ -56,9 +57,6 @@ meanings schema from (Qualified table name) =
     flat_map (fields_named schema name) (filter (λ other. is_table other (table_named schema table)) from)
 
 -- literals
-
-abbrev pub number_of : List ℕ → ℕ
-number_of digits = fold (λ number digit. number * 10 + (digit - 48)) 0 digits
 
 abbrev pub with_sign : Sign → ℕ → ℤ
 with_sign Positive number = pos number

@@ -1,7 +1,7 @@
 -- A schema: a list of tables, each a list of columns. Tables and columns are numbered by place from 0, in the order
 -- of their declaration; column 0 of each table is its identifier, `id`. A name is a list of bytes in lower case.
 -- A foreign key names its child table; the parent of a table is the table that holds the foreign key to it.
-use Rattle.std.specs.Prelude.{◌≡◌, ℕ, zero, suc, ◌+◌, Bool, true, false, not, ◌&&◌, ◌==◌, List, [], ◌∷◌, Option, Some, None, slice_get, if◌then◌else◌, nat_lt}
+use Rattle.std.specs.Prelude.{ℕ, ◌+◌, Bool, true, false, not, ◌&&◌, ◌==◌, List, [], ◌∷◌, Option, Some, None, slice_get, if◌then◌else◌, nat_lt}
 
 -- what a column holds: 64-bit signed integers, or texts of at most so many bytes
 pub data Kind : Type 0 where
@@ -66,7 +66,7 @@ holders_of schema child = places_where (λ table. not (is_empty (keys_to child t
 abbrev pub parent : Schema → ℕ → Option ℕ
 parent schema table = first_of (holders_of schema table)
 
--- the places, from `at` on, of the tables whose parent is this one; the last list has one element for each of them
+-- the places, from `at` on, of the tables whose parent is this one; the last list has one element for each table from `at` on
 unfoldable pub children_from : Schema → (table at : ℕ) → List Table → List ℕ
 children_from schema table at [] = []
 children_from schema table at (_ ∷ later) =

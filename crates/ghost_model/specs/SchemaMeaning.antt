@@ -1,12 +1,9 @@
 -- The schema that the tree of a text means. A name stands in lower case, the length of a CHAR is the value of its
 -- digits, and a column with REFERENCES is hidden whether or not HIDDEN is written.
-use Rattle.std.specs.Prelude.{ℕ, ◌+◌, ◌-◌, ◌*◌, true, List, ◌∷◌, map, fold, position, bytes_eq, Option, Some, None}
+use Rattle.std.specs.Prelude.{ℕ, true, List, ◌∷◌, map, position, bytes_eq, Option, Some, None}
+use Rattle.ghost_model.specs.Tokens.{number_of}
 use Rattle.ghost_model.specs.Schema.{Integer, Chars, Column, Table, Schema}
 use Rattle.ghost_model.specs.SchemaGrammar.{To, ColumnText, CharColumn, IntegerColumn, TableText, SchemaText}
-
--- the number that decimal digits write, of any length
-abbrev pub value_of_digits : List ℕ → ℕ
-value_of_digits digits = fold (λ value digit. value * 10 + (digit - 48)) 0 digits
 
 -- the place of the first table with this name
 abbrev pub table_named : SchemaText → List ℕ → Option ℕ
@@ -17,7 +14,7 @@ columns_written table = table.first ∷ table.others
 
 abbrev pub column_of : SchemaText → ColumnText → Column
 column_of tables (CharColumn name digits hidden) =
-    record { name = name; kind = Chars (value_of_digits digits); hidden = hidden; child = None }
+    record { name = name; kind = Chars (number_of digits); hidden = hidden; child = None }
 column_of tables (IntegerColumn name primary None hidden) =
     record { name = name; kind = Integer; hidden = hidden; child = None }
 column_of tables (IntegerColumn name primary (Some (To table says_id)) hidden) =

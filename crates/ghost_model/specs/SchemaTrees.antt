@@ -1,6 +1,6 @@
--- What the rules leave: each schema that a text means is a tree of tables within the limits. Every table begins with
--- its identifier, at most one foreign key names a table, following parents never returns, and exactly one table, the
--- root, has no parent.
+-- What the rules leave: each schema that a text means is a tree of at most 12 tables with at most 24 columns each. Every
+-- table begins with its identifier, at most one foreign key names a table, following parents never returns, and exactly
+-- one table, the root, has no parent.
 use Rattle.std.specs.Prelude.{◌≡◌, ℕ, ◌<◌, ◌≤◌, true, false, List, length, codes, Some, None}
 use Rattle.ghost_model.specs.Schema.{Integer, Column, Schema, columns_of, column_at}
 use Rattle.ghost_model.specs.SchemaFaults.{Returns, keys_naming, roots_of, MeansSchema}

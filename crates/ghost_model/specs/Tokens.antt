@@ -4,7 +4,7 @@
 -- the reserved ones are no names. A text literal is one token: `'`, characters 0x20 to 0x7E with `''` for one `'`, and
 -- a last `'`. A byte that begins no token, and a `'` whose literal has another byte in it or no end, are a bad token,
 -- which no text of a grammar has. The list ends with the end of the text, so that each fault has its place.
-use Rattle.std.specs.Prelude.{◌≡◌, ℕ, zero, suc, ◌+◌, ◌-◌, Bool, true, false, ◌&&◌, ◌||◌, ◌==◌, nat_le, List, [], ◌∷◌, ◌++◌, length, map, take_while, if◌then◌else◌, codes, bytes_eq, Option, Some, None, slice_get, option_map}
+use Rattle.std.specs.Prelude.{ℕ, zero, suc, ◌+◌, ◌-◌, Bool, true, false, ◌&&◌, ◌||◌, ◌==◌, nat_le, List, [], ◌∷◌, ◌++◌, length, map, take_while, if◌then◌else◌, codes, bytes_eq, Option, Some, None, slice_get, option_map, ◌*◌, fold}
 use Rattle.std.specs.List.{list_any}
 use Rattle.std.specs.Char.{to_ascii_lowercase}
 
@@ -62,6 +62,10 @@ is_space byte = byte == 32 || byte == 9 || byte == 10 || byte == 13
 
 abbrev pub is_digit : ℕ → Bool
 is_digit byte = is_between 48 57 byte
+
+-- the number that decimal digits write, of any length
+abbrev pub number_of : List ℕ → ℕ
+number_of digits = fold (λ number digit. number * 10 + (digit - 48)) 0 digits
 
 -- a letter or `_`
 abbrev pub begins_name : ℕ → Bool
@@ -144,7 +148,7 @@ abbrev pub more_and : List ℕ → Read
 more_and [] = read More 1
 more_and (b ∷ _) = if b == 61 then read AtLeast 2 else read More 1
 
--- the symbols of one byte
+-- the symbol of a byte that is a token whatever follows it, or the bad one
 abbrev pub sign_of : ℕ → Symbol
 sign_of byte =
     if byte == 40 then Open

@@ -1,6 +1,6 @@
 -- Values, rows and databases: what the tables hold. A value is an integer or a text; a row has one value for each
 -- column, the identifier among them; a database has for each table of its schema the list of its rows.
-use Rattle.std.specs.Prelude.{◌≡◌, ℕ, ℤ, pos, List, [], ◌∷◌, Option, Some, None, slice_get, option_and_then}
+use Rattle.std.specs.Prelude.{ℕ, ℤ, List}
 
 pub data Value : Type 0 where
   Number : ℤ → Value

@@ -6,3 +6,4 @@ pub mod Queries
 pub mod Channel
 pub mod Meaning
 pub mod Databases
+pub mod Sessions

@@ -1,8 +1,9 @@
 //! Laws and examples of frames, asks, journals and of what the host sends.
 
 ghost use Rattle.ghost_model.specs.Frames.{FramesArePrefixFree, FramesHaveOneSpelling};
-ghost use Rattle.ghost_model.specs.Asks.{AsksHaveOneSpelling};
-ghost use Rattle.ghost_model.specs.NextMove.{TwoWorlds, ReceivedIsSpelled};
+ghost use Rattle.ghost_model.specs.Asks.{AsksHaveOneSpelling, AsksAreVisible, AsksAreProper, RowsHaveOneSpelling};
+ghost use Rattle.ghost_model.specs.Host.{FramesAreCut, HostIsHonest, NothingIsLost, GreetingsAreHeard, RepliesAreHeard, HonestStreamsAreHeard};
+ghost use Rattle.ghost_model.specs.NextMove.{TwoWorlds, ReceivedIsSpelled, AwaitedIsHeard, SentIsDue};
 ghost use Rattle.ghost_model.specs.examples.Channel.{SpellingsOfFrames, ReadingsOfFrames, JournalOfTheNotes, AsksOfQueries, AsksOfBytes, JournalOfTheClinic, JournalWithoutAsks, InvalidFrames, FramesThatAreDue, AnswersOfTheHost};
 
 /// No frame's spelling is a proper prefix of another's.
@@ -21,15 +22,71 @@ pub fn asks_have_one_spelling()
     ensures { AsksHaveOneSpelling }
 {}
 
+/// Frames that are sent one after another are cut into these frames again.
+pub fn frames_are_cut()
+    ensures { FramesAreCut }
+{}
+
+/// Asks name visible columns alone: nothing of a hidden column or of an identifier is sent.
+pub fn asks_are_visible()
+    ensures { AsksAreVisible }
+{}
+
+/// The asks of an accepted text are such as a key may send.
+pub fn asks_are_proper()
+    ensures { AsksAreProper }
+{}
+
+/// Rows of a reply are the ones that their bytes spell, and bytes of whole rows are those of the rows that they spell.
+pub fn rows_have_one_spelling()
+    ensures { RowsHaveOneSpelling }
+{}
+
 /// Received bytes are the spellings of the frames that the key heard, joined, and the part of the frame at hand.
 pub fn received_bytes_are_frames()
     ensures { ReceivedIsSpelled }
+{}
+
+/// The bytes of a frame that may come in its place are heard as this frame.
+pub fn awaited_frames_are_heard()
+    ensures { AwaitedIsHeard }
+{}
+
+/// What a proper journal sent is the first of the frames that its taken bytes make due.
+pub fn sent_frames_are_due()
+    ensures { SentIsDue }
 {}
 
 /// Two proper journals for the same catalog, address and texts whose first answers agree have the same moves up to and
 /// with the one after these.
 pub fn two_worlds()
     ensures { TwoWorlds }
+{}
+
+/// Whatever a key sends, this host says a front of an honest stream: its catalog, then the whole reply to each ask.
+pub fn host_is_honest()
+    ensures { HostIsHonest }
+{}
+
+/// The WELCOME frames of a host spell its catalog, and the ROWS frames of a reply its rows.
+pub fn nothing_is_lost()
+    ensures { NothingIsLost }
+{}
+
+/// WELCOME frames that spell the catalog, cut anywhere, are heard whole.
+pub fn greetings_are_heard()
+    ensures { GreetingsAreHeard }
+{}
+
+/// The whole reply to an ask, in any packing, is heard whole: the ask is ended with all its rows.
+pub fn replies_are_heard()
+    ensures { RepliesAreHeard }
+{}
+
+/// The stream of an honest host, in any packing, is heard to its end without an invalid frame, and each ask is ended with
+/// all its rows.
+pub fn honest_streams_are_heard()
+    ensures { HonestStreamsAreHeard }
 {}
 
 /// The spelling of each kind of frame.

@@ -9,4 +9,5 @@ pub mod channel;
 pub mod meaning;
 pub mod query;
 pub mod schema;
+pub mod sessions;
 pub mod tokens;

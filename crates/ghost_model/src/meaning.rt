@@ -1,6 +1,7 @@
 //! Laws and examples of databases, of their files, of the two parts of a database and of a query's meaning.
 
-ghost use Rattle.ghost_model.specs.LoadFaults.{FilesSpellADatabase, FilesKeepTheRowLimit, SchemasHaveIdentifiers, LongFilesAreToldFirst};
+ghost use Rattle.ghost_model.specs.Database.{RowsLeadToRows};
+ghost use Rattle.ghost_model.specs.LoadFaults.{FilesSpellADatabase, FilesKeepTheRowLimit, LongFilesAreToldFirst};
 ghost use Rattle.ghost_model.specs.Split.{SplitIsRejoined, PublicPartsGoWithCatalogs};
 ghost use Rattle.ghost_model.specs.Meaning.{OneRowEach};
 ghost use Rattle.ghost_model.specs.examples.Databases.{ClinicIsSpelled, IntegersOfFields, RecordsOfFiles, HeadersOfFiles, OneRuleBroken, TwoRulesBroken};
@@ -9,101 +10,84 @@ ghost use Rattle.ghost_model.specs.examples.Meaning.{PartsOfTheClinic, AnswersOf
 /// The clinic's files spell its database.
 pub fn clinic_is_spelled()
     ensures { ClinicIsSpelled }
-{
-}
+{}
 
 /// The integers that fields spell.
 pub fn integers_of_fields()
     ensures { IntegersOfFields }
-{
-}
+{}
 
 /// The records of some files.
 pub fn records_of_files()
     ensures { RecordsOfFiles }
-{
-}
+{}
 
 /// Headers that are accepted, and headers that are refused.
 pub fn headers_of_files()
     ensures { HeadersOfFiles }
-{
-}
+{}
 
 /// Files that break one rule, and where.
 pub fn one_rule_broken()
     ensures { OneRuleBroken }
-{
-}
+{}
 
 /// Files that break two rules, and which one is told.
 pub fn two_rules_broken()
     ensures { TwoRulesBroken }
-{
-}
+{}
 
 /// A database is its two parts rejoined.
 pub fn split_is_rejoined()
     ensures { SplitIsRejoined }
-{
-}
+{}
 
 /// The clinic's two parts, its visible image and two replies.
 pub fn parts_of_the_clinic()
     ensures { PartsOfTheClinic }
-{
-}
+{}
 
 /// What texts over the clinic and over the notes print.
 pub fn answers_of_the_clinic()
     ensures { AnswersOfTheClinic }
-{
-}
+{}
 
 /// What refused texts print.
 pub fn refused_texts()
     ensures { RefusedTexts }
-{
-}
+{}
 
 /// The lines of some rows.
 pub fn lines_of_rows()
     ensures { LinesOfRows }
-{
-}
+{}
 
 /// Files that keep every rule of loading spell a database.
 pub fn files_spell_a_database()
     ensures { FilesSpellADatabase }
-{
-}
+{}
 
 /// An accepted query has at most one row in its answer for each row of its top table.
 pub fn one_row_each()
     ensures { OneRowEach }
-{
-}
+{}
 
 /// Files that keep every rule of loading have no table with too many rows.
 pub fn files_keep_the_row_limit()
     ensures { FilesKeepTheRowLimit }
-{
-}
-
-/// The tables of an accepted schema begin with their identifiers.
-pub fn schemas_have_identifiers()
-    ensures { SchemasHaveIdentifiers }
-{
-}
+{}
 
 /// A file that is too long is told before anything else in it.
 pub fn long_files_are_told_first()
     ensures { LongFilesAreToldFirst }
-{
-}
+{}
 
 /// The public part of a database goes with the database's catalog.
 pub fn public_parts_go_with_catalogs()
     ensures { PublicPartsGoWithCatalogs }
-{
-}
+{}
+
+/// Each row leads to one row of each table below.
+pub fn rows_lead_to_rows()
+    ensures { RowsLeadToRows }
+{}

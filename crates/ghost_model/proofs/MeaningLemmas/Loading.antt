@@ -1,14 +1,16 @@
 -- Files that keep every rule spell a database: a faultless field is of its kind, a faultless record is a row, and
 -- faultless keys are identifiers of rows.
-use Rattle.std.proofs.Common.{◌≡◌, refl, sym, ap, subst, ℕ, zero, suc, ◌+◌, ◌-◌, ◌^◌, ◌≤◌, ℤ, pos, neg_ℤ, Bool, true, false, ◌&&◌, nat_eq, nat_le, List, [], ◌∷◌, ◌++◌, length, map, drop, Option, Some, None, slice_get, unwrap_or, is_some, option_and_then, arith, leb-true, eqb-true, le-leb, if◌then◌else◌}
+use Rattle.std.proofs.Common.{◌≡◌, refl, sym, ap, subst, ℕ, zero, suc, ◌+◌, ◌-◌, ◌^◌, ◌≤◌, ◌<◌, ℤ, pos, neg_ℤ, Bool, true, false, ◌&&◌, nat_eq, nat_le, List, [], ◌∷◌, ◌++◌, length, map, drop, Option, Some, None, slice_get, unwrap_or, is_some, option_and_then, arith, leb-true, eqb-true, le-leb, if◌then◌else◌}
 use Rattle.std.proofs.lemmas.List.{length-map}
-use Rattle.std.specs.List.{list_all}
+use Rattle.std.proofs.lemmas.Bool.{lt-leb}
 use Rattle.std.proofs.lemmas.Bool.Decides.{Decides-int_eq}
-use Rattle.ghost_model.specs.Schema.{Schema, Column, Kind, Integer, Chars, Table, columns_of, column_at}
+use Rattle.ghost_model.specs.Schema.{Schema, Column, Kind, Integer, Chars, columns_of, column_at}
 use Rattle.ghost_model.specs.Values.{Value, Number, Row, Rows, Database}
-use Rattle.ghost_model.specs.Database.{IsDatabase, row_of, rows_of, row_count, field, fits_integer, is_text, is_of_kind, is_row_among, is_numeral, number_of, signed_within, integer_of, value_of, row_spelled, records_of, database_of}
+use Rattle.ghost_model.specs.Tokens.{number_of}
+use Rattle.ghost_model.specs.Database.{IsDatabase, row_of, rows_of, row_count, field, fits_integer, is_text, is_of_kind, is_row_among, is_numeral, signed_within, integer_of, value_of, row_spelled, records_of, database_of}
+use Rattle.ghost_model.specs.SchemaTrees.{IsTree, identifier}
 use Rattle.ghost_model.specs.LoadFaults
-use Rattle.ghost_model.specs.LoadFaults.{LoadFault, FileLimit, Header, RowLimit, FieldCount, BadId, BadInt, BadChars, BadReference, Place, unless, value_faults, field_faults, is_number, id_faults, fields_faults, row_faults, rows_faults, is_header, record_faults, file_faults, files_faults, key_faults, keys_faults, table_references, references_from, load_faults, is_integer, begins_with_integer, most_rows, most_bytes}
+use Rattle.ghost_model.specs.LoadFaults.{IsFirst, LoadFault, FileLimit, Header, RowLimit, FieldCount, BadId, BadInt, BadChars, BadReference, Place, unless, value_faults, field_faults, is_number, id_faults, fields_faults, row_faults, rows_faults, is_header, record_faults, file_faults, files_faults, key_faults, keys_faults, table_references, references_from, load_faults, most_rows, most_bytes}
 
 -- two lists that make none
 pub both_empty : {X : Type 0} (xs ys : List X) → xs ++ ys ≡ [] → (xs ≡ []) × (ys ≡ [])
@@ -30,7 +32,8 @@ if_some true x z h = (refl, ap (λ o. unwrap_or o x) h)
 if_some false x z h = let no : ⊥ = cc in absurd no
 
 -- the parts of a digits' number with a sign
-within : (greatest : ℕ) (sign : ℕ → ℤ) (digits : List ℕ) (z : ℤ) → signed_within greatest sign digits ≡ Some z → (number_of digits ≤ greatest) × (sign (number_of digits) ≡ z)
+within : (greatest : ℕ) (sign : ℕ → ℤ) (digits : List ℕ) (z : ℤ) → signed_within greatest sign digits ≡ Some z
+    → (number_of digits ≤ greatest) × (sign (number_of digits) ≡ z)
 within greatest sign digits z h =
     let p = if_some (is_numeral digits && nat_le (number_of digits) greatest) (sign (number_of digits)) z h in
     let q = both_true (is_numeral digits) (nat_le (number_of digits) greatest) p.0 in
@@ -46,7 +49,8 @@ neg_fits : (n : ℕ) → n ≤ 2 ^ 63 → fits_integer (neg_ℤ (pos n)) ≡ tru
 neg_fits zero h = refl
 neg_fits (suc n) h = le-leb (suc n) (2 ^ 63) h
 
-minus_fits : (digits : List ℕ) (z : ℤ) → signed_within (2 ^ 63) (λ number. neg_ℤ (pos number)) digits ≡ Some z → fits_integer z ≡ true
+minus_fits : (digits : List ℕ) (z : ℤ) → signed_within (2 ^ 63) (λ number. neg_ℤ (pos number)) digits ≡ Some z
+    → fits_integer z ≡ true
 minus_fits digits z h =
     let p = within (2 ^ 63) (λ number. neg_ℤ (pos number)) digits z h in
     subst (λ w. fits_integer w ≡ true) p.1 (neg_fits (number_of digits) p.0)
@@ -63,9 +67,12 @@ integer_fits (b ∷ bs) z h =
       | false ↦ λ e.
           (elim (nat_eq b 43) as (λ v. (if v then plus else plain) ≡ Some z → fits_integer z ≡ true) [
             | true ↦ λ e. plus_fits bs z e
-            | false ↦ λ e. plus_fits (b ∷ bs) z e ]) e ]) h
+            | false ↦ λ e. plus_fits (b ∷ bs) z e
+          ]) e
+    ]) h
 
-some_fits : (text : List ℕ) (o : Option ℤ) → integer_of text ≡ o → is_some o ≡ true → fits_integer (unwrap_or o (pos 0)) ≡ true
+some_fits : (text : List ℕ) (o : Option ℤ) → integer_of text ≡ o → is_some o ≡ true
+    → fits_integer (unwrap_or o (pos 0)) ≡ true
 some_fits text None e h = let no : ⊥ = cc in absurd no
 some_fits text (Some z) e h = integer_fits text z e
 
@@ -73,13 +80,16 @@ pub integer_is : (text : List ℕ) → is_some (integer_of text) ≡ true → is
 integer_is text h = some_fits text (integer_of text) refl h
 
 -- a field without a fault is of its column's kind
-pub field_is : (at : Place) (kind : Kind) (text : List ℕ) → value_faults at kind text ≡ [] → is_of_kind kind (value_of kind text) ≡ true
+pub field_is : (at : Place) (kind : Kind) (text : List ℕ) → value_faults at kind text ≡ []
+    → is_of_kind kind (value_of kind text) ≡ true
 field_is at Integer text h = integer_is text (kept (is_some (integer_of text)) (BadInt at) h)
 field_is at (Chars most) text h = kept (is_text most text) (BadChars at) h
 
 -- the same of each field of a record
-pub fields_are : (table rec at : ℕ) (columns : List Column) (fields : List (List ℕ)) → field_faults table rec at columns fields ≡ []
-    → (place : ℕ) (value : Value) (declared : Column) → slice_get (row_spelled columns fields) place ≡ Some value → slice_get columns place ≡ Some declared → is_of_kind declared.kind value ≡ true
+pub fields_are : (table rec at : ℕ) (columns : List Column) (fields : List (List ℕ))
+    → field_faults table rec at columns fields ≡ []
+    → (place : ℕ) (value : Value) (declared : Column) → slice_get (row_spelled columns fields) place ≡ Some value
+    → slice_get columns place ≡ Some declared → is_of_kind declared.kind value ≡ true
 unfolding field_faults
 fields_are table rec at [] fields h place value declared hv hd = let no : ⊥ = cc in absurd no
 fields_are table rec at (k ∷ ks) [] h place value declared hv hd = let no : ⊥ = cc in absurd no
@@ -92,7 +102,8 @@ fields_are table rec at (k ∷ ks) (f ∷ fs) h (suc place) value declared hv hd
     let p = both_empty (value_faults (LoadFaults.place table rec at) k.kind f) (field_faults table rec (at + 1) ks fs) h in
     fields_are table rec (at + 1) ks fs p.1 place value declared hv hd
 
-pub spelled_width : (columns : List Column) (fields : List (List ℕ)) → length fields ≡ length columns → length (row_spelled columns fields) ≡ length columns
+pub spelled_width : (columns : List Column) (fields : List (List ℕ)) → length fields ≡ length columns
+    → length (row_spelled columns fields) ≡ length columns
 spelled_width [] fields h = refl
 spelled_width (k ∷ ks) [] h = cc
 spelled_width (k ∷ ks) (f ∷ fs) h = ap suc (spelled_width ks fs (omega arith))
@@ -107,19 +118,19 @@ number_is : (n : ℕ) (o : Option ℤ) → is_number n o ≡ true → o ≡ Some
 number_is n None h = cc
 number_is n (Some z) h = ap Some ((Decides-int_eq z (pos n)).0 h)
 
-integer_kind : (kind : Kind) → is_integer kind ≡ true → kind ≡ Integer
-integer_kind Integer h = refl
-integer_kind (Chars most) h = cc
-
-row_kinds : (table rec : ℕ) (k : Column) (ks : List Column) (f : List ℕ) (fs : List (List ℕ)) → is_of_kind k.kind (value_of k.kind f) ≡ true → field_faults table rec 1 ks fs ≡ []
-    → (column : ℕ) (value : Value) (declared : Column) → slice_get (row_spelled (k ∷ ks) (f ∷ fs)) column ≡ Some value → slice_get (k ∷ ks) column ≡ Some declared → is_of_kind declared.kind value ≡ true
+row_kinds : (table rec : ℕ) (k : Column) (ks : List Column) (f : List ℕ) (fs : List (List ℕ))
+    → is_of_kind k.kind (value_of k.kind f) ≡ true → field_faults table rec 1 ks fs ≡ []
+    → (column : ℕ) (value : Value) (declared : Column) → slice_get (row_spelled (k ∷ ks) (f ∷ fs)) column ≡ Some value
+    → slice_get (k ∷ ks) column ≡ Some declared → is_of_kind declared.kind value ≡ true
 row_kinds table rec k ks f fs first h zero value declared hv hd =
     let v : value_of k.kind f ≡ value = ap (λ o. unwrap_or o (value_of k.kind f)) hv in
     let d : k ≡ declared = ap (λ o. unwrap_or o k) hd in
     subst (λ w. is_of_kind declared.kind w ≡ true) v (subst (λ c. is_of_kind c.kind (value_of k.kind f) ≡ true) d first)
-row_kinds table rec k ks f fs first h (suc column) value declared hv hd = fields_are table rec 1 ks fs h column value declared hv hd
+row_kinds table rec k ks f fs first h (suc column) value declared hv hd =
+    fields_are table rec 1 ks fs h column value declared hv hd
 
-pub row_is : (table n : ℕ) (columns : List Column) (fields : List (List ℕ)) → begins_with_integer columns ≡ true → row_faults table n columns fields ≡ [] → IsRow columns n (row_spelled columns fields)
+pub row_is : (table n : ℕ) (columns : List Column) (fields : List (List ℕ)) → slice_get columns 0 ≡ Some identifier
+    → row_faults table n columns fields ≡ [] → IsRow columns n (row_spelled columns fields)
 row_is table n [] fields b h = let no : ⊥ = cc in absurd no
 row_is table n (k ∷ ks) fields b h =
     let at = LoadFaults.place table (n + 1) 0 in
@@ -132,17 +143,20 @@ row_is table n (k ∷ ks) fields b h =
     counted (f ∷ fs) same none =
         let r = both_empty (id_faults table n f) (field_faults table (n + 1) 1 ks fs) none in
         let spelled = number_is n (integer_of f) (kept (is_number n (integer_of f)) (BadId (LoadFaults.place table (n + 1) 0)) r.0) in
-        let of_integers = integer_kind k.kind b in
+        let of_integers : k.kind ≡ Integer = ap (λ o. (unwrap_or o k).kind) b in
         let first : value_of Integer f ≡ Number (pos n) = ap (λ o. Number (unwrap_or o (pos 0))) spelled in
         let first_kind : is_of_kind Integer (value_of Integer f) ≡ true = integer_is f (ap is_some spelled) in
         record {
           width = spelled_width (k ∷ ks) (f ∷ fs) same;
           number = ap Some (subst (λ kind. value_of kind f ≡ Number (pos n)) (sym of_integers) first);
-          kinds = row_kinds table (n + 1) k ks f fs (subst (λ kind. is_of_kind kind (value_of kind f) ≡ true) (sym of_integers) first_kind) r.1 }
+          kinds = row_kinds table (n + 1) k ks f fs (subst (λ kind. is_of_kind kind (value_of kind f) ≡ true) (sym of_integers) first_kind) r.1;
+        }
 
 -- the rows of a file without a fault
-rows_are : (table n : ℕ) (columns : List Column) (records : List (List (List ℕ))) → begins_with_integer columns ≡ true → rows_faults table n columns records ≡ []
-    → (place : ℕ) (row : Row) → slice_get (map (row_spelled columns) records) place ≡ Some row → IsRow columns (n + place) row
+rows_are : (table n : ℕ) (columns : List Column) (records : List (List (List ℕ))) → slice_get columns 0 ≡ Some identifier
+    → rows_faults table n columns records ≡ []
+    → (place : ℕ) (row : Row) → slice_get (map (row_spelled columns) records) place ≡ Some row
+    → IsRow columns (n + place) row
 unfolding rows_faults
 rows_are table n columns [] b h place row hr = let no : ⊥ = cc in absurd no
 rows_are table n columns (r ∷ rs) b h zero row hr =
@@ -155,37 +169,43 @@ rows_are table n columns (r ∷ rs) b h (suc place) row hr =
     let e : n + 1 + place ≡ n + suc place = omega arith in
     subst (λ m. IsRow columns m row) e (rows_are table (n + 1) columns rs b p.1 place row hr)
 
-records_are : (table : ℕ) (columns : List Column) (records : List (List (List ℕ))) → begins_with_integer columns ≡ true → record_faults table columns records ≡ []
-    → (place : ℕ) (row : Row) → slice_get (map (row_spelled columns) (drop 1 records)) place ≡ Some row → IsRow columns (1 + place) row
+records_are : (table : ℕ) (columns : List Column) (records : List (List (List ℕ))) → slice_get columns 0 ≡ Some identifier
+    → record_faults table columns records ≡ []
+    → (place : ℕ) (row : Row) → slice_get (map (row_spelled columns) (drop 1 records)) place ≡ Some row
+    → IsRow columns (1 + place) row
 records_are table columns [] b h place row hr = let no : ⊥ = cc in absurd no
 records_are table columns (header ∷ rows) b h place row hr =
     let p = both_empty (unless (is_header columns header) (Header (LoadFaults.place table 1 0))) (rows_faults table 1 columns rows) h in
     rows_are table 1 columns rows b p.1 place row hr
 
 -- the rows of all files without a fault
-tables_are : (table : ℕ) (schema : Schema) (files : List (List ℕ)) → list_all (λ (each : Table). begins_with_integer each.columns) schema ≡ true → files_faults table schema files ≡ []
-    → (at place : ℕ) (row : Row) → slice_get (rows_of (database_of schema files) at) place ≡ Some row → IsRow (columns_of schema at) (1 + place) row
+tables_are : (table : ℕ) (schema : Schema) (files : List (List ℕ))
+    → ((at : ℕ) → at < length schema → column_at schema at 0 ≡ Some identifier) → files_faults table schema files ≡ []
+    → (at place : ℕ) (row : Row) → slice_get (rows_of (database_of schema files) at) place ≡ Some row
+    → IsRow (columns_of schema at) (1 + place) row
 unfolding files_faults
 tables_are table [] files b h at place row hr = let no : ⊥ = cc in absurd no
 tables_are table (d ∷ ds) [] b h at place row hr = let no : ⊥ = cc in absurd no
 tables_are table (d ∷ ds) (f ∷ fs) b h zero place row hr =
     let p = both_empty (file_faults table d.columns f) (files_faults (table + 1) ds fs) h in
     let q = both_empty (unless (nat_le (length f) most_bytes) (FileLimit (LoadFaults.place table 0 0))) (record_faults table d.columns (records_of f)) p.0 in
-    let c = both_true (begins_with_integer d.columns) (list_all (λ (each : Table). begins_with_integer each.columns) ds) b in
-    records_are table d.columns (records_of f) c.0 q.1 place row hr
+    records_are table d.columns (records_of f) (b 0 (omega arith)) q.1 place row hr
 tables_are table (d ∷ ds) (f ∷ fs) b h (suc at) place row hr =
     let p = both_empty (file_faults table d.columns f) (files_faults (table + 1) ds fs) h in
-    let c = both_true (begins_with_integer d.columns) (list_all (λ (each : Table). begins_with_integer each.columns) ds) b in
-    tables_are (table + 1) ds fs c.1 p.1 at place row hr
+    tables_are (table + 1) ds fs (λ spot within. b (suc spot) (omega arith)) p.1 at place row hr
 
-pub length-database_of : (schema : Schema) (files : List (List ℕ)) → length files ≡ length schema → length (database_of schema files) ≡ length schema
+pub length-database_of : (schema : Schema) (files : List (List ℕ)) → length files ≡ length schema
+    → length (database_of schema files) ≡ length schema
 length-database_of [] files h = refl
 length-database_of (d ∷ ds) [] h = cc
 length-database_of (d ∷ ds) (f ∷ fs) h = ap suc (length-database_of ds fs (omega arith))
 
 -- keys without a fault are identifiers of rows: of a row, of a table, of all tables
-keys_are : (database : Database) (table rec at : ℕ) (columns : List Column) (row : Row) → keys_faults database table rec at columns row ≡ []
-    → (column child : ℕ) (value : Value) (declared : Column) → slice_get row column ≡ Some value → slice_get columns column ≡ Some declared → declared.child ≡ Some child → is_row_among (row_count database child) value ≡ true
+keys_are : (database : Database) (table rec at : ℕ) (columns : List Column) (row : Row)
+    → keys_faults database table rec at columns row ≡ []
+    → (column child : ℕ) (value : Value) (declared : Column) → slice_get row column ≡ Some value
+    → slice_get columns column ≡ Some declared → declared.child ≡ Some child
+    → is_row_among (row_count database child) value ≡ true
 unfolding keys_faults
 keys_are database table rec at [] row h column child value declared hv hd hc = let no : ⊥ = cc in absurd no
 keys_are database table rec at (k ∷ ks) [] h column child value declared hv hd hc = let no : ⊥ = cc in absurd no
@@ -201,9 +221,12 @@ keys_are database table rec at (k ∷ ks) (v ∷ vs) h (suc column) child value 
     let p = both_empty (key_faults database (LoadFaults.place table rec at) k.child v) (keys_faults database table rec (at + 1) ks vs) h in
     keys_are database table rec (at + 1) ks vs p.1 column child value declared hv hd hc
 
-row_keys_are : (database : Database) (table rec : ℕ) (columns : List Column) (rows : Rows) → table_references database table rec columns rows ≡ []
+row_keys_are : (database : Database) (table rec : ℕ) (columns : List Column) (rows : Rows)
+    → table_references database table rec columns rows ≡ []
     → (place : ℕ) (row : Row) → slice_get rows place ≡ Some row
-    → (column child : ℕ) (value : Value) (declared : Column) → slice_get row column ≡ Some value → slice_get columns column ≡ Some declared → declared.child ≡ Some child → is_row_among (row_count database child) value ≡ true
+    → (column child : ℕ) (value : Value) (declared : Column) → slice_get row column ≡ Some value
+    → slice_get columns column ≡ Some declared → declared.child ≡ Some child
+    → is_row_among (row_count database child) value ≡ true
 unfolding table_references
 row_keys_are database table rec columns [] h place row hr column child value declared hv hd hc = let no : ⊥ = cc in absurd no
 row_keys_are database table rec columns (r ∷ rs) h zero row hr column child value declared hv hd hc =
@@ -214,9 +237,12 @@ row_keys_are database table rec columns (r ∷ rs) h (suc place) row hr column c
     let p = both_empty (keys_faults database table rec 0 columns r) (table_references database table (rec + 1) columns rs) h in
     row_keys_are database table (rec + 1) columns rs p.1 place row hr column child value declared hv hd hc
 
-table_keys_are : (database : Database) (table : ℕ) (schema : Schema) (later : Database) → references_from database table schema later ≡ []
+table_keys_are : (database : Database) (table : ℕ) (schema : Schema) (later : Database)
+    → references_from database table schema later ≡ []
     → (at place : ℕ) (row : Row) → slice_get (rows_of later at) place ≡ Some row
-    → (column child : ℕ) (value : Value) (declared : Column) → slice_get row column ≡ Some value → column_at schema at column ≡ Some declared → declared.child ≡ Some child → is_row_among (row_count database child) value ≡ true
+    → (column child : ℕ) (value : Value) (declared : Column) → slice_get row column ≡ Some value
+    → column_at schema at column ≡ Some declared → declared.child ≡ Some child
+    → is_row_among (row_count database child) value ≡ true
 unfolding references_from
 table_keys_are database table [] later h at place row hr column child value declared hv hd hc = let no : ⊥ = cc in absurd no
 table_keys_are database table (d ∷ ds) [] h at place row hr column child value declared hv hd hc = let no : ⊥ = cc in absurd no
@@ -235,44 +261,51 @@ pub record Found (database : Database) (table identifier column : ℕ) (value : 
   pub stands : slice_get (rows_of database table) place ≡ Some row
   pub holds : slice_get row column ≡ Some value
 
-in_row : (o : Option Row) (column : ℕ) (value : Value) → option_and_then (λ row. slice_get row column) o ≡ Some value → (row : Row) × (o ≡ Some row) × (slice_get row column ≡ Some value)
+in_row : (o : Option Row) (column : ℕ) (value : Value) → option_and_then (λ row. slice_get row column) o ≡ Some value
+    → (row : Row) × (o ≡ Some row) × (slice_get row column ≡ Some value)
 in_row None column value h = let no : ⊥ = cc in absurd no
 in_row (Some row) column value h = (row, refl, h)
 
-pub found : (database : Database) (table identifier column : ℕ) (value : Value) → field database table identifier column ≡ Some value → Found database table identifier column value
+pub found : (database : Database) (table identifier column : ℕ) (value : Value)
+    → field database table identifier column ≡ Some value → Found database table identifier column value
 found database table zero column value h = let no : ⊥ = cc in absurd no
 found database table (suc place) column value h =
     let p = in_row (slice_get (rows_of database table) place) column value h in
     record { place = place; row = p.0; number = refl; stands = p.1; holds = p.2 }
 
 -- the facts of a row by its identifier
-by_identifier : (schema : Schema) (database : Database) → ((table place : ℕ) (row : Row) → slice_get (rows_of database table) place ≡ Some row → IsRow (columns_of schema table) (1 + place) row)
-    → (table identifier : ℕ) (row : Row) → row_of database table identifier ≡ Some row → IsRow (columns_of schema table) identifier row
+by_identifier : (schema : Schema) (database : Database)
+    → ((table place : ℕ) (row : Row) → slice_get (rows_of database table) place ≡ Some row → IsRow (columns_of schema table) (1 + place) row)
+    → (table identifier : ℕ) (row : Row) → row_of database table identifier ≡ Some row
+    → IsRow (columns_of schema table) identifier row
 by_identifier schema database are table zero row h = let no : ⊥ = cc in absurd no
 by_identifier schema database are table (suc place) row h =
     let e : 1 + place ≡ suc place = omega arith in
     subst (λ n. IsRow (columns_of schema table) n row) e (are table place row h)
 
-pub files_are : (schema : Schema) (files : List (List ℕ)) → list_all (λ (each : Table). begins_with_integer each.columns) schema ≡ true
+pub files_are : (schema : Schema) (files : List (List ℕ))
+    → IsTree schema
     → length files ≡ length schema → load_faults schema files ≡ [] → IsDatabase schema (database_of schema files)
-files_are schema files identified many none =
+files_are schema files tree many none =
     let database = database_of schema files in
     let p = both_empty (files_faults 0 schema files) (references_from database 0 schema database) none in
-    let rows = tables_are 0 schema files identified p.0 in
+    let rows = tables_are 0 schema files tree.begins_with_id p.0 in
     let each = by_identifier schema database rows in
     record {
       tables = length-database_of schema files many;
       widths = λ table identifier row h. (each table identifier row h).width;
       identifiers = λ table identifier row h. (each table identifier row h).number;
       kinds = λ table identifier column value declared h hd.
-        let f = found database table identifier column value h in (rows table f.place f.row f.stands).kinds column value declared f.holds hd;
+          let f = found database table identifier column value h in (rows table f.place f.row f.stands).kinds column value declared f.holds hd;
       references = λ table identifier column child value declared h hd hc.
-        let f = found database table identifier column value h in
-        table_keys_are database 0 schema database p.1 table f.place f.row f.stands column child value declared f.holds hd hc }
+          let f = found database table identifier column value h in
+          table_keys_are database 0 schema database p.1 table f.place f.row f.stands column child value declared f.holds hd hc;
+    }
 
 -- no table has more rows than it may have
 
-row_count_from : (table n : ℕ) (columns : List Column) (records : List (List (List ℕ))) → n ≤ most_rows + 1 → rows_faults table n columns records ≡ [] → n + length records ≤ most_rows + 1
+row_count_from : (table n : ℕ) (columns : List Column) (records : List (List (List ℕ))) → n ≤ most_rows + 1
+    → rows_faults table n columns records ≡ [] → n + length records ≤ most_rows + 1
 unfolding rows_faults
 row_count_from table n columns [] within h = omega arith
 row_count_from table n columns (r ∷ rs) within h =
@@ -283,7 +316,8 @@ row_count_from table n columns (r ∷ rs) within h =
     let later = row_count_from table (n + 1) columns rs (omega arith) p.1 in
     omega arith
 
-rows_within : (table : ℕ) (columns : List Column) (records : List (List (List ℕ))) → record_faults table columns records ≡ [] → length (map (row_spelled columns) (drop 1 records)) ≤ most_rows
+rows_within : (table : ℕ) (columns : List Column) (records : List (List (List ℕ)))
+    → record_faults table columns records ≡ [] → length (map (row_spelled columns) (drop 1 records)) ≤ most_rows
 rows_within table columns [] h = omega arith
 rows_within table columns (header ∷ rows) h =
     let p = both_empty (unless (is_header columns header) (Header (LoadFaults.place table 1 0))) (rows_faults table 1 columns rows) h in
@@ -291,7 +325,8 @@ rows_within table columns (header ∷ rows) h =
     let same = length-map rows (row_spelled columns) in
     omega arith
 
-tables_within : (table : ℕ) (schema : Schema) (files : List (List ℕ)) → files_faults table schema files ≡ [] → (at : ℕ) → row_count (database_of schema files) at ≤ most_rows
+tables_within : (table : ℕ) (schema : Schema) (files : List (List ℕ)) → files_faults table schema files ≡ [] → (at : ℕ)
+    → row_count (database_of schema files) at ≤ most_rows
 unfolding files_faults
 tables_within table [] files h at = omega arith
 tables_within table (d ∷ ds) [] h at = omega arith
@@ -303,7 +338,15 @@ tables_within table (d ∷ ds) (f ∷ fs) h (suc at) =
     let p = both_empty (file_faults table d.columns f) (files_faults (table + 1) ds fs) h in
     tables_within (table + 1) ds fs p.1 at
 
-pub files_within : (schema : Schema) (files : List (List ℕ)) → load_faults schema files ≡ [] → (at : ℕ) → row_count (database_of schema files) at ≤ most_rows
+pub files_within : (schema : Schema) (files : List (List ℕ)) → load_faults schema files ≡ [] → (at : ℕ)
+    → row_count (database_of schema files) at ≤ most_rows
 files_within schema files none =
     let p = both_empty (files_faults 0 schema files) (references_from (database_of schema files) 0 schema (database_of schema files)) none in
     tables_within 0 schema files p.0
+
+pub long_file : (table : ℕ) (columns : List Column) (file : List ℕ) → most_bytes < length file
+    → IsFirst (FileLimit (LoadFaults.place table 0 0)) (file_faults table columns file)
+long_file table columns file h =
+    let rest = record_faults table columns (records_of file) in
+    let over : nat_le (length file) most_bytes ≡ false = lt-leb (length file) most_bytes h in
+    record { later = rest; first = ap (λ v. unless v (FileLimit (LoadFaults.place table 0 0)) ++ rest) over }

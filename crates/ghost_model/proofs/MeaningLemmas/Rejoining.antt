@@ -6,7 +6,8 @@ use Rattle.ghost_model.specs.Values.{Number, Row, Rows, Database}
 use Rattle.ghost_model.specs.Database.{IsDatabase, rows_of}
 use Rattle.ghost_model.specs.Split.{hidden_flags, visible_values, hidden_values, rows_by, tables_by, merged, rejoined_rows, rejoined_tables}
 
-pub merged-split : {X : Type 0} (flags : List Bool) (values : List X) → length values ≡ length flags → merged flags (visible_values flags values) (hidden_values flags values) ≡ values
+pub merged-split : {X : Type 0} (flags : List Bool) (values : List X) → length values ≡ length flags
+    → merged flags (visible_values flags values) (hidden_values flags values) ≡ values
 merged-split [] [] same = refl
 merged-split [] (x ∷ xs) same = cc
 merged-split (b ∷ flags) [] same = cc
@@ -14,7 +15,8 @@ merged-split (true ∷ flags) (x ∷ xs) same = ap (λ rest. x ∷ rest) (merged
 merged-split (false ∷ flags) (x ∷ xs) same = ap (λ rest. x ∷ rest) (merged-split flags xs (omega arith))
 
 -- a row is its identifier and its two parts merged
-pub row_again : (columns : List Column) (identifier : ℕ) (row : Row) → length row ≡ length columns → slice_get row 0 ≡ Some (Number (pos identifier))
+pub row_again : (columns : List Column) (identifier : ℕ) (row : Row) → length row ≡ length columns
+    → slice_get row 0 ≡ Some (Number (pos identifier))
     → Number (pos identifier) ∷ merged (hidden_flags columns) (visible_values (hidden_flags columns) (drop 1 row)) (hidden_values (hidden_flags columns) (drop 1 row)) ≡ row
 row_again columns identifier [] same first = cc
 row_again columns identifier (value ∷ values) same first =
@@ -29,17 +31,20 @@ pub record AreRows (columns : List Column) (identifier : ℕ) (rows : Rows) : Ty
   pub width : (place : ℕ) (row : Row) → slice_get rows place ≡ Some row → length row ≡ length columns
   pub number : (place : ℕ) (row : Row) → slice_get rows place ≡ Some row → slice_get row 0 ≡ Some (Number (pos (identifier + place)))
 
-pub later_rows : (columns : List Column) (identifier : ℕ) (row : Row) (rows : Rows) → AreRows columns identifier (row ∷ rows) → AreRows columns (identifier + 1) rows
+pub later_rows : (columns : List Column) (identifier : ℕ) (row : Row) (rows : Rows)
+    → AreRows columns identifier (row ∷ rows) → AreRows columns (identifier + 1) rows
 later_rows columns identifier row rows are = record {
   width = λ place other h. are.width (suc place) other h;
-  number = λ place other h. let e : identifier + 1 + place ≡ identifier + suc place = omega arith in rw e (are.number (suc place) other h) }
+  number = λ place other h. let e : identifier + 1 + place ≡ identifier + suc place = omega arith in rw e (are.number (suc place) other h);
+}
 
 pub rows_again : (columns : List Column) (identifier : ℕ) (rows : Rows) → AreRows columns identifier rows
     → rejoined_rows identifier columns (rows_by visible_values columns rows) (rows_by hidden_values columns rows) ≡ rows
 rows_again columns identifier [] are = refl
 rows_again columns identifier (row ∷ rows) are =
     let e : identifier + 0 ≡ identifier = omega arith in
-    let first : slice_get row 0 ≡ Some (Number (pos identifier)) = subst (λ n. slice_get row 0 ≡ Some (Number (pos n))) e (are.number 0 row refl) in
+    let first : slice_get row 0 ≡ Some (Number (pos identifier)) =
+    subst (λ n. slice_get row 0 ≡ Some (Number (pos n))) e (are.number 0 row refl) in
     let one = row_again columns identifier row (are.width 0 row refl) first in
     let others = rows_again columns (identifier + 1) rows (later_rows columns identifier row rows are) in
     λ i. one i ∷ others i
@@ -61,4 +66,5 @@ tables_again (table ∷ tables) (rows ∷ database) same are =
 pub are_tables : (schema : Schema) (database : Database) → IsDatabase schema database → AreTables schema database
 are_tables schema database is = λ table. record {
   width = λ place row h. is.widths table (suc place) row h;
-  number = λ place row h. let e : 1 + place ≡ suc place = omega arith in rw e (is.identifiers table (suc place) row h) }
+  number = λ place row h. let e : 1 + place ≡ suc place = omega arith in rw e (is.identifiers table (suc place) row h);
+}

@@ -62,7 +62,8 @@ pub record IntegersOfFields : Type 0 where
 pub record RecordsOfFiles : Type 0 where
   pub nothing : records_of [] ≡ []
   pub no_line_end_at_the_end : records_of (codes "a,b") ≡ (codes "a" ∷ codes "b" ∷ []) ∷ []
-  pub three_line_ends : records_of (97 ∷ 13 ∷ 98 ∷ 10 ∷ 99 ∷ 13 ∷ 10 ∷ 100 ∷ []) ≡ (codes "a" ∷ []) ∷ (codes "b" ∷ []) ∷ (codes "c" ∷ []) ∷ (codes "d" ∷ []) ∷ []
+  pub three_line_ends : records_of (97 ∷ 13 ∷ 98 ∷ 10 ∷ 99 ∷ 13 ∷ 10 ∷ 100 ∷ [])
+      ≡ (codes "a" ∷ []) ∷ (codes "b" ∷ []) ∷ (codes "c" ∷ []) ∷ (codes "d" ∷ []) ∷ []
   pub blank_lines : records_of (97 ∷ 10 ∷ 10 ∷ 10 ∷ 98 ∷ 10 ∷ []) ≡ (codes "a" ∷ []) ∷ (codes "b" ∷ []) ∷ []
   pub a_byte_order_mark : records_of (0xEF ∷ 0xBB ∷ 0xBF ∷ codes "id") ≡ (codes "id" ∷ []) ∷ []
   pub a_quote_inside : records_of (97 ∷ 34 ∷ 98 ∷ 10 ∷ []) ≡ ((97 ∷ 34 ∷ 98 ∷ []) ∷ []) ∷ []
@@ -73,7 +74,8 @@ pub record RecordsOfFiles : Type 0 where
 
 -- the first fault of the clinic with other rows
 abbrev pub first_fault : (doctor_rows patient_rows visit_rows : List (List ℕ)) → Option LoadFault
-first_fault doctor_rows patient_rows visit_rows = load_fault clinic_schema (doctors doctor_rows ∷ patients patient_rows ∷ visits visit_rows ∷ [])
+first_fault doctor_rows patient_rows visit_rows =
+    load_fault clinic_schema (doctors doctor_rows ∷ patients patient_rows ∷ visits visit_rows ∷ [])
 
 -- the first fault of the clinic with another file of doctors
 abbrev pub first_fault_of : (doctor_bytes : List ℕ) → Option LoadFault
@@ -87,7 +89,9 @@ ann = codes "1,30,Ann"
 
 -- the first record names the columns
 pub record HeadersOfFiles : Type 0 where
-  pub upper_case : first_fault_of (lines (codes "ID,Specialty,COUNTRY" ∷ cardio ∷ codes "2,neuro,ES" ∷ codes "3,cardio,ES" ∷ [])) ≡ None
+  pub upper_case :
+      first_fault_of (lines (codes "ID,Specialty,COUNTRY" ∷ cardio ∷ codes "2,neuro,ES" ∷ codes "3,cardio,ES" ∷ []))
+      ≡ None
   pub no_record : first_fault_of [] ≡ Some (Header (place 0 1 0))
   pub blank_lines_alone : first_fault_of (10 ∷ 13 ∷ 10 ∷ []) ≡ Some (Header (place 0 1 0))
   pub another_name : first_fault_of (lines (codes "id,speciality,country" ∷ [])) ≡ Some (Header (place 0 1 0))
@@ -107,39 +111,59 @@ pub record OneRuleBroken : Type 0 where
   pub above_the_greatest : first_fault [] (codes "1,9223372036854775808,Ann" ∷ []) [] ≡ Some (BadInt (place 1 2 1))
   pub an_empty_integer : first_fault [] (codes "1,,Ann" ∷ []) [] ≡ Some (BadInt (place 1 2 1))
   pub an_empty_text : first_fault [] (codes "1,30," ∷ []) [] ≡ None
-  pub too_long : first_fault (cardio ∷ codes "2,cardiolog,ES" ∷ codes "3,cardio,ES" ∷ []) [] [] ≡ Some (BadChars (place 0 3 1))
-  pub no_character : first_fault ((codes "1,card" ++ 0xC3 ∷ 0xA9 ∷ codes ",FR") ∷ []) [] [] ≡ Some (BadChars (place 0 2 1))
-  pub a_line_end_within : first_fault ((codes "1," ++ 34 ∷ 97 ∷ 10 ∷ 34 ∷ codes ",FR") ∷ []) [] [] ≡ Some (BadChars (place 0 2 1))
-  pub blank_lines_are_not_counted : first_fault ([] ∷ cardio ∷ [] ∷ codes "2,cardiolog,ES" ∷ []) [] [] ≡ Some (BadChars (place 0 3 1))
-  pub no_such_doctor : load_fault clinic_schema (doctor_file ∷ patient_file ∷ visits (codes "1,5,flu,4,1" ∷ []) ∷ []) ≡ Some (BadReference (place 2 2 3))
-  pub no_doctor_zero : first_fault (cardio ∷ []) (ann ∷ []) (codes "1,5,flu,0,1" ∷ []) ≡ Some (BadReference (place 2 2 3))
-  pub no_doctor_below_zero : first_fault (cardio ∷ []) (ann ∷ []) (codes "1,5,flu,-1,1" ∷ []) ≡ Some (BadReference (place 2 2 3))
+  pub too_long : first_fault (cardio ∷ codes "2,cardiolog,ES" ∷ codes "3,cardio,ES" ∷ []) [] []
+      ≡ Some (BadChars (place 0 3 1))
+  pub no_character : first_fault ((codes "1,card" ++ 0xC3 ∷ 0xA9 ∷ codes ",FR") ∷ []) [] []
+      ≡ Some (BadChars (place 0 2 1))
+  pub a_line_end_within : first_fault ((codes "1," ++ 34 ∷ 97 ∷ 10 ∷ 34 ∷ codes ",FR") ∷ []) [] []
+      ≡ Some (BadChars (place 0 2 1))
+  pub blank_lines_are_not_counted : first_fault ([] ∷ cardio ∷ [] ∷ codes "2,cardiolog,ES" ∷ []) [] []
+      ≡ Some (BadChars (place 0 3 1))
+  pub no_such_doctor : load_fault clinic_schema (doctor_file ∷ patient_file ∷ visits (codes "1,5,flu,4,1" ∷ []) ∷ [])
+      ≡ Some (BadReference (place 2 2 3))
+  pub no_doctor_zero : first_fault (cardio ∷ []) (ann ∷ []) (codes "1,5,flu,0,1" ∷ [])
+      ≡ Some (BadReference (place 2 2 3))
+  pub no_doctor_below_zero : first_fault (cardio ∷ []) (ann ∷ []) (codes "1,5,flu,-1,1" ∷ [])
+      ≡ Some (BadReference (place 2 2 3))
   pub no_patient : first_fault (cardio ∷ []) [] (codes "1,5,flu,1,1" ∷ []) ≡ Some (BadReference (place 2 2 4))
   pub the_last_row : row_faults 0 1000000 patient_table.columns (codes "1000000" ∷ codes "30" ∷ codes "Ann" ∷ []) ≡ []
-  pub one_row_more : row_faults 0 1000001 patient_table.columns (codes "1000001" ∷ codes "30" ∷ codes "Ann" ∷ []) ≡ RowLimit (place 0 1000002 0) ∷ []
+  pub one_row_more : row_faults 0 1000001 patient_table.columns (codes "1000001" ∷ codes "30" ∷ codes "Ann" ∷ [])
+      ≡ RowLimit (place 0 1000002 0) ∷ []
 
 -- a schema whose first table holds the foreign key
 abbrev pub holder_first : Schema
 holder_first =
     record { name = codes "holder"; columns = id_column ∷ key_column (codes "held") 1 ∷ [] }
-    ∷ record { name = codes "held"; columns = id_column ∷ text_column (codes "word") 4 ∷ number_column (codes "count") ∷ [] }
+    ∷ record {
+      name = codes "held";
+      columns = id_column ∷ text_column (codes "word") 4 ∷ number_column (codes "count") ∷ [];
+    }
     ∷ []
 
 abbrev pub holder_fault : (holder_rows held_rows : List (List ℕ)) → Option LoadFault
-holder_fault holder_rows held_rows = load_fault holder_first (lines (codes "id,held" ∷ holder_rows) ∷ lines (codes "id,word,count" ∷ held_rows) ∷ [])
+holder_fault holder_rows held_rows =
+    load_fault holder_first (lines (codes "id,held" ∷ holder_rows) ∷ lines (codes "id,word,count" ∷ held_rows) ∷ [])
 
 -- two rules broken at once
 pub record TwoRulesBroken : Type 0 where
-  pub header_then_fields : first_fault_of (lines (codes "id,specialty" ∷ codes "7,cardio" ∷ [])) ≡ Some (Header (place 0 1 0))
-  pub row_limit_then_field_count : row_faults 0 1000001 patient_table.columns (codes "7" ∷ []) ≡ RowLimit (place 0 1000002 0) ∷ FieldCount (place 0 1000002 0) ∷ BadId (place 0 1000002 0) ∷ []
+  pub header_then_fields : first_fault_of (lines (codes "id,specialty" ∷ codes "7,cardio" ∷ []))
+      ≡ Some (Header (place 0 1 0))
+  pub row_limit_then_field_count : row_faults 0 1000001 patient_table.columns (codes "7" ∷ [])
+      ≡ RowLimit (place 0 1000002 0) ∷ FieldCount (place 0 1000002 0) ∷ BadId (place 0 1000002 0) ∷ []
   pub field_count_then_number : first_fault (codes "7,cardio" ∷ []) [] [] ≡ Some (FieldCount (place 0 2 0))
   pub number_then_integer : first_fault [] (codes "7,old,Ann" ∷ []) [] ≡ Some (BadId (place 1 2 0))
   pub number_then_text : first_fault (codes ",cardiolog,FR" ∷ []) [] [] ≡ Some (BadId (place 0 2 0))
   pub integer_then_text : first_fault [] [] (codes "1,,checking up,1,1" ∷ []) ≡ Some (BadInt (place 2 2 1))
   pub text_then_integer : first_fault [] [] (codes "1,5,checking up,,1" ∷ []) ≡ Some (BadChars (place 2 2 2))
-  pub text_then_next_record : first_fault (codes "1,cardiolog,FR" ∷ codes "2" ∷ []) [] [] ≡ Some (BadChars (place 0 2 1))
-  pub text_then_next_file : load_fault clinic_schema (doctors (codes "1,cardio,FRA" ∷ []) ∷ [] ∷ visit_file ∷ []) ≡ Some (BadChars (place 0 2 2))
-  pub reference_after_all_files : holder_fault (codes "1,2" ∷ []) (codes "1,word,many" ∷ []) ≡ Some (BadInt (place 1 2 2))
-  pub reference_alone : holder_fault (codes "1,1" ∷ codes "2,2" ∷ []) (codes "1,word,5" ∷ []) ≡ Some (BadReference (place 0 3 1))
-  pub references_by_record : first_fault (cardio ∷ []) (ann ∷ []) (codes "1,5,flu,1,2" ∷ codes "2,5,flu,2,1" ∷ []) ≡ Some (BadReference (place 2 2 4))
-  pub references_by_column : first_fault (cardio ∷ []) (ann ∷ []) (codes "1,5,flu,2,2" ∷ []) ≡ Some (BadReference (place 2 2 3))
+  pub text_then_next_record : first_fault (codes "1,cardiolog,FR" ∷ codes "2" ∷ []) [] []
+      ≡ Some (BadChars (place 0 2 1))
+  pub text_then_next_file : load_fault clinic_schema (doctors (codes "1,cardio,FRA" ∷ []) ∷ [] ∷ visit_file ∷ [])
+      ≡ Some (BadChars (place 0 2 2))
+  pub reference_after_all_files : holder_fault (codes "1,2" ∷ []) (codes "1,word,many" ∷ [])
+      ≡ Some (BadInt (place 1 2 2))
+  pub reference_alone : holder_fault (codes "1,1" ∷ codes "2,2" ∷ []) (codes "1,word,5" ∷ [])
+      ≡ Some (BadReference (place 0 3 1))
+  pub references_by_record : first_fault (cardio ∷ []) (ann ∷ []) (codes "1,5,flu,1,2" ∷ codes "2,5,flu,2,1" ∷ [])
+      ≡ Some (BadReference (place 2 2 4))
+  pub references_by_column : first_fault (cardio ∷ []) (ann ∷ []) (codes "1,5,flu,2,2" ∷ [])
+      ≡ Some (BadReference (place 2 2 3))

@@ -16,10 +16,16 @@ abbrev pub three : (purpose : List ℕ) (doc pat : ℕ) → Row
 three purpose doc pat = Text purpose ∷ number doc ∷ number pat ∷ []
 
 abbrev pub specialties_of_cardio : Ask
-specialties_of_cardio = record { table = 0; columns = 1 ∷ []; tests = record { column = 1; operator = Equal; value = Text (codes "cardio") } ∷ [] }
+specialties_of_cardio =
+    record {
+      table = 0;
+      columns = 1 ∷ [];
+      tests = record { column = 1; operator = Equal; value = Text (codes "cardio") } ∷ [];
+    }
 
 abbrev pub late_visits : Ask
-late_visits = record { table = 2; columns = []; tests = record { column = 1; operator = AtLeast; value = number 5 } ∷ [] }
+late_visits =
+    record { table = 2; columns = []; tests = record { column = 1; operator = AtLeast; value = number 5 } ∷ [] }
 
 abbrev pub cardio : ℕ → Replied
 cardio identifier = record { identifier = identifier; values = one (Text (codes "cardio")) }
@@ -39,14 +45,16 @@ pub record PartsOfTheClinic : Type 0 where
   pub hidden : (hidden_of clinic_schema clinic).hidden
       ≡ (one (Text (codes "FR")) ∷ one (Text (codes "ES")) ∷ one (Text (codes "ES")) ∷ [])
       ∷ (one (Text (codes "Ann")) ∷ one (Text (codes "Bob")) ∷ [])
-      ∷ (three (codes "flu") 1 1 ∷ three (codes "check") 3 2 ∷ three (codes "flu") 3 1 ∷ three (codes "flu") 2 2 ∷ []) ∷ []
+      ∷ (three (codes "flu") 1 1 ∷ three (codes "check") 3 2 ∷ three (codes "flu") 3 1 ∷ three (codes "flu") 2 2 ∷ [])
+      ∷ []
   pub again : rejoined clinic_schema (public_of clinic_schema clinic) (hidden_of clinic_schema clinic) ≡ clinic
   pub image_length : length (image clinic_catalog (public_of clinic_schema clinic)) ≡ 437
   pub image_of_doctors : drop 365 (image clinic_catalog (public_of clinic_schema clinic))
       ≡ cardio_cell ++ (codes "neuro" ++ 0 ∷ 0 ∷ 0 ∷ (cardio_cell
       ++ (0x80 ∷ 0 ∷ 0 ∷ 0 ∷ 0 ∷ 0 ∷ 0 ∷ 30 ∷ 0x80 ∷ 0 ∷ 0 ∷ 0 ∷ 0 ∷ 0 ∷ 0 ∷ 41 ∷ 0x80 ∷ 0 ∷ 0 ∷ 0 ∷ 0 ∷ 0 ∷ 0 ∷ 5
       ∷ 0x80 ∷ 0 ∷ 0 ∷ 0 ∷ 0 ∷ 0 ∷ 0 ∷ 5 ∷ 0x80 ∷ 0 ∷ 0 ∷ 0 ∷ 0 ∷ 0 ∷ 0 ∷ 9 ∷ 0x80 ∷ 0 ∷ 0 ∷ 0 ∷ 0 ∷ 0 ∷ 0 ∷ 2 ∷ [])))
-  pub reply : visible_rows clinic_schema (public_of clinic_schema clinic) specialties_of_cardio ≡ cardio 1 ∷ cardio 3 ∷ []
+  pub reply : visible_rows clinic_schema (public_of clinic_schema clinic) specialties_of_cardio
+      ≡ cardio 1 ∷ cardio 3 ∷ []
   pub bytes_of_reply : concat (reply_bytes clinic_schema (public_of clinic_schema clinic) specialties_of_cardio)
       ≡ 0 ∷ 0 ∷ 0 ∷ 1 ∷ (cardio_cell ++ 0 ∷ 0 ∷ 0 ∷ 3 ∷ cardio_cell)
   pub reply_without_columns : visible_rows clinic_schema (public_of clinic_schema clinic) late_visits
@@ -56,8 +64,10 @@ pub record PartsOfTheClinic : Type 0 where
 abbrev pub tabbed : (left right : List ℕ) → List ℕ
 tabbed left right = codes "> " ++ (left ++ 9 ∷ right)
 
-abbrev pub cardio_on_flu : List ℕ
-cardio_on_flu = codes "SELECT visit.id, specialty FROM visit, doctor WHERE doc = doctor.id AND specialty = 'cardio' AND purpose = 'flu'"
+abbrev pub cardio_on : (purpose : List ℕ) → List ℕ
+cardio_on purpose =
+    codes "SELECT visit.id, specialty FROM visit, doctor WHERE doc = doctor.id AND specialty = 'cardio' AND purpose = '"
+    ++ (purpose ++ codes "'")
 
 abbrev pub from_day_two : List ℕ
 from_day_two = codes "SELECT visit.id, day FROM visit WHERE day >= 2"
@@ -65,35 +75,64 @@ from_day_two = codes "SELECT visit.id, day FROM visit WHERE day >= 2"
 abbrev pub names_of_ann : List ℕ
 names_of_ann = codes "SELECT name FROM patient WHERE name = 'Ann'"
 
+abbrev pub visits_of_spain : List ℕ
+visits_of_spain = codes "SELECT visit.id FROM visit, doctor WHERE doc = doctor.id AND country = 'ES'"
+
+abbrev pub least_age : List ℕ
+least_age = codes "SELECT patient.id FROM patient WHERE age >= -9223372036854775808"
+
+-- what texts over the clinic print
 abbrev pub on_clinic : (texts : List (List ℕ)) → List ℕ
 on_clinic texts = printed clinic_schema texts clinic
 
+abbrev pub cardio_lines : List (List ℕ)
+cardio_lines = tabbed (codes "1") (codes "cardio") ∷ tabbed (codes "3") (codes "cardio") ∷ []
+
+abbrev pub day_lines : List (List ℕ)
+day_lines =
+    tabbed (codes "1") (codes "5") ∷ tabbed (codes "2") (codes "5") ∷ tabbed (codes "3") (codes "9")
+    ∷ tabbed (codes "4") (codes "2") ∷ []
+
 pub record AnswersOfTheClinic : Type 0 where
-  pub a_join : on_clinic (cardio_on_flu ∷ []) ≡ lines (tabbed (codes "1") (codes "cardio") ∷ tabbed (codes "3") (codes "cardio") ∷ codes "= 1 2" ∷ [])
+  pub a_join : on_clinic (cardio_on (codes "flu") ∷ []) ≡ lines (cardio_lines ++ codes "= 1 2" ∷ [])
   pub no_text : on_clinic [] ≡ []
   pub a_hidden_condition : on_clinic (names_of_ann ∷ []) ≡ lines (codes "> Ann" ∷ codes "= 1 1" ∷ [])
-  pub a_visible_condition : on_clinic (from_day_two ∷ [])
-      ≡ lines (tabbed (codes "1") (codes "5") ∷ tabbed (codes "2") (codes "5") ∷ tabbed (codes "3") (codes "9") ∷ tabbed (codes "4") (codes "2") ∷ codes "= 1 4" ∷ [])
-  pub each_row_once : on_clinic (codes "SELECT doctor.id FROM doctor WHERE country = 'ES'" ∷ []) ≡ lines (codes "> 2" ∷ codes "> 3" ∷ codes "= 1 2" ∷ [])
-  pub a_refusal_and_an_answer : on_clinic (codes "SELECT visit.id FROM visit, doctor" ∷ codes " SELECT patient.id FROM patient" ∷ [])
+  pub a_visible_condition : on_clinic (from_day_two ∷ []) ≡ lines (day_lines ++ codes "= 1 4" ∷ [])
+  pub each_row_once : on_clinic (codes "SELECT doctor.id FROM doctor WHERE country = 'ES'" ∷ [])
+      ≡ lines (codes "> 2" ∷ codes "> 3" ∷ codes "= 1 2" ∷ [])
+  pub a_refusal_and_an_answer :
+      on_clinic (codes "SELECT visit.id FROM visit, doctor" ∷ codes " SELECT patient.id FROM patient" ∷ [])
       ≡ lines (codes "! 1 unlinked" ∷ codes "> 1" ∷ codes "> 2" ∷ codes "= 2 2" ∷ [])
-  pub no_row : on_clinic (codes "SELECT visit.id, specialty FROM visit, doctor WHERE doc = doctor.id AND specialty = 'cardio' AND purpose = 'none'" ∷ []) ≡ lines (codes "= 1 0" ∷ [])
-  pub three_texts : on_clinic (cardio_on_flu ∷ from_day_two ∷ names_of_ann ∷ [])
-      ≡ lines (tabbed (codes "1") (codes "cardio") ∷ tabbed (codes "3") (codes "cardio") ∷ codes "= 1 2"
-      ∷ tabbed (codes "1") (codes "5") ∷ tabbed (codes "2") (codes "5") ∷ tabbed (codes "3") (codes "9") ∷ tabbed (codes "4") (codes "2") ∷ codes "= 2 4"
-      ∷ codes "> Ann" ∷ codes "= 3 1" ∷ [])
-  pub the_least_integer : on_clinic (codes "SELECT patient.id FROM patient WHERE age >= -9223372036854775808" ∷ []) ≡ lines (codes "> 1" ∷ codes "> 2" ∷ codes "= 1 2" ∷ [])
-  pub a_hidden_condition_below : on_clinic (codes "SELECT visit.id FROM visit, doctor WHERE doc = doctor.id AND country = 'ES'" ∷ [])
+  pub no_row : on_clinic (cardio_on (codes "none") ∷ []) ≡ lines (codes "= 1 0" ∷ [])
+  pub three_texts : on_clinic (cardio_on (codes "flu") ∷ from_day_two ∷ names_of_ann ∷ [])
+      ≡ lines (cardio_lines ++ codes "= 1 2" ∷ (day_lines ++ codes "= 2 4" ∷ codes "> Ann" ∷ codes "= 3 1" ∷ []))
+  pub the_least_integer : on_clinic (least_age ∷ []) ≡ lines (codes "> 1" ∷ codes "> 2" ∷ codes "= 1 2" ∷ [])
+  pub a_hidden_condition_below : on_clinic (visits_of_spain ∷ [])
       ≡ lines (codes "> 2" ∷ codes "> 3" ∷ codes "> 4" ∷ codes "= 1 3" ∷ [])
-  pub notes_on_a_topic : printed note_schema (codes "SELECT body FROM note WHERE topic = 'a'" ∷ []) notes ≡ lines (codes "> x" ∷ codes "> z" ∷ codes "= 1 2" ∷ [])
+  pub every_column : on_clinic (codes "SELECT * FROM patient" ∷ [])
+      ≡ lines ((tabbed (codes "1") (codes "30") ++ 9 ∷ codes "Ann") ∷ (tabbed (codes "2") (codes "41") ++ 9 ∷ codes "Bob")
+      ∷ codes "= 1 2" ∷ [])
+  pub a_join_either_side_first : on_clinic (codes "SELECT visit.id FROM patient, visit WHERE patient.id = pat AND age < 41" ∷ [])
+      ≡ lines (codes "> 1" ∷ codes "> 3" ∷ codes "= 1 2" ∷ [])
+  pub notes_on_a_topic : printed note_schema (codes "SELECT body FROM note WHERE topic = 'a'" ∷ []) notes
+      ≡ lines (codes "> x" ∷ codes "> z" ∷ codes "= 1 2" ∷ [])
 
 -- one text for each refusal
+abbrev pub refused : List (List ℕ)
+refused =
+    codes "SELECT age patient"
+    ∷ codes "SELECT x FROM nowhere"
+    ∷ codes "SELECT x FROM visit"
+    ∷ codes "SELECT id FROM visit, doctor"
+    ∷ codes "SELECT age FROM patient WHERE age = 'x'"
+    ∷ codes "SELECT age FROM patient WHERE age = 9223372036854775808"
+    ∷ codes "SELECT id FROM a, a, a, a, a, a, a, a, a, a, a, a, a"
+    ∷ []
+
 pub record RefusedTexts : Type 0 where
-  pub each : on_clinic (
-      codes "SELECT age patient" ∷ codes "SELECT x FROM nowhere" ∷ codes "SELECT x FROM visit" ∷ codes "SELECT id FROM visit, doctor"
-      ∷ codes "SELECT age FROM patient WHERE age = 'x'" ∷ codes "SELECT age FROM patient WHERE age = 9223372036854775808"
-      ∷ codes "SELECT id FROM visit, visit, visit, visit, visit, visit, visit, visit, visit, visit, visit, visit, visit" ∷ [])
-      ≡ lines (codes "! 1 syntax 11" ∷ codes "! 2 table" ∷ codes "! 3 column" ∷ codes "! 4 ambiguous" ∷ codes "! 5 kind" ∷ codes "! 6 literal" ∷ codes "! 7 limit" ∷ [])
+  pub each : on_clinic refused
+      ≡ lines (codes "! 1 syntax 11" ∷ codes "! 2 table" ∷ codes "! 3 column" ∷ codes "! 4 ambiguous" ∷ codes "! 5 kind"
+      ∷ codes "! 6 literal" ∷ codes "! 7 limit" ∷ [])
 
 -- lines of single rows
 pub record LinesOfRows : Type 0 where

@@ -1,4 +1,4 @@
-use Rattle.std.proofs.Common.{◌≡◌, ◌+◌, ◌≤◌, ◌++◌, length, take, vec_len}
+use Rattle.std.proofs.Common.{vec_len}
 use Rattle.std.specs.Vec.{vec_capacity}
 use Rattle.edge_traits.proofs.Filling.{Filled}
 use Rattle.edge_traits.proofs.room.add.Given as goal

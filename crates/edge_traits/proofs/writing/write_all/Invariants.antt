@@ -1,5 +1,4 @@
-use Rattle.std.proofs.Common.{◌≡◌, ◌-◌, ◌≤◌, length, take}
-use Rattle.edge_traits.specs.Written.{grown}
+use Rattle.std.proofs.Common.{◌-◌, length}
 use Rattle.edge_traits.proofs.Growth.{Handed}
 use Rattle.edge_traits.proofs.writing.write_all.Given as goal
 

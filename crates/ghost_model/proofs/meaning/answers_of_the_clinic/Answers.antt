@@ -9,6 +9,17 @@ use Rattle.ghost_model.proofs.meaning.answers_of_the_clinic.Goals as goal
 pub returns : goal.returns
 unfolding digits places_from tokens_from quoted_from read_from combinations
 returns c = record {
-  a_join = refl; no_text = refl; a_hidden_condition = refl; a_visible_condition = refl;
-  each_row_once = refl; a_refusal_and_an_answer = refl; no_row = refl; three_texts = refl;
-  the_least_integer = refl; a_hidden_condition_below = refl; notes_on_a_topic = refl }
+  a_join = refl;
+  no_text = refl;
+  a_hidden_condition = refl;
+  a_visible_condition = refl;
+  each_row_once = refl;
+  a_refusal_and_an_answer = refl;
+  no_row = refl;
+  three_texts = refl;
+  the_least_integer = refl;
+  a_hidden_condition_below = refl;
+  every_column = refl;
+  a_join_either_side_first = refl;
+  notes_on_a_topic = refl;
+}

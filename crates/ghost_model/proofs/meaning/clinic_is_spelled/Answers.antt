@@ -9,5 +9,10 @@ use Rattle.ghost_model.proofs.meaning.clinic_is_spelled.Goals as goal
 pub returns : goal.returns
 unfolding records_from strip_bom next_record places_from leads_within files_faults rows_faults field_faults references_from table_references keys_faults
 returns c = record {
-  spelled = refl; no_fault = refl; to_doctor = refl; to_patient = refl; to_itself = refl;
-  not_upwards = refl }
+  spelled = refl;
+  no_fault = refl;
+  to_doctor = refl;
+  to_patient = refl;
+  to_itself = refl;
+  not_upwards = refl;
+}

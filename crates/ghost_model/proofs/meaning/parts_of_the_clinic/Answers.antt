@@ -7,5 +7,12 @@ use Rattle.ghost_model.proofs.meaning.parts_of_the_clinic.Goals as goal
 pub returns : goal.returns
 unfolding digits places_from replies_from
 returns c = record {
-  visible = refl; hidden = refl; again = refl; image_length = refl; image_of_doctors = refl;
-  reply = refl; bytes_of_reply = refl; reply_without_columns = refl }
+  visible = refl;
+  hidden = refl;
+  again = refl;
+  image_length = refl;
+  image_of_doctors = refl;
+  reply = refl;
+  bytes_of_reply = refl;
+  reply_without_columns = refl;
+}

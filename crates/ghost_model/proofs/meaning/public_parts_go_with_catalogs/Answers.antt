@@ -2,4 +2,4 @@ use Rattle.ghost_model.proofs.MeaningLemmas.PublicPart.{goes_with}
 use Rattle.ghost_model.proofs.meaning.public_parts_go_with_catalogs.Goals as goal
 
 pub returns : goal.returns
-returns c cat database is counts = goes_with cat database is counts
+returns c = goes_with

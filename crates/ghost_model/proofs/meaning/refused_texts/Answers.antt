@@ -9,4 +9,5 @@ use Rattle.ghost_model.proofs.meaning.refused_texts.Goals as goal
 pub returns : goal.returns
 unfolding digits places_from tokens_from quoted_from read_from combinations
 returns c = record {
-  each = refl }
+  each = refl;
+}

@@ -1,0 +1,380 @@
+-- That the asks of queries are such as a key may send.
+use Rattle.std.proofs.Common.{◌≡◌, ℕ, ◌+◌, ◌-◌, ◌<◌, ◌≤◌, ◌^◌, Bool, true, false, ◌&&◌, List, [], ◌∷◌, ◌++◌, length, map, sym, ◌∙◌, ap, subst, refl, arith, length-append, lit<, Option, Some, None, pos, negsuc, ℤ, Ok}
+use Rattle.std.specs.Prelude.{◌==◌, ◌||◌, nat_lt, nat_le, not, if◌then◌else◌, filter, flat_map}
+use Rattle.std.specs.List.{sum_by}
+use Rattle.std.specs.Option.{option_map}
+use Rattle.std.proofs.Math.Bool.{and-true}
+use Rattle.std.proofs.lemmas.Bool.{eqb-true}
+use Rattle.std.specs.List.{list_all, list_any}
+use Rattle.std.proofs.lemmas.List.Folds.{list_all-append, list_all-map}
+use Rattle.std.proofs.lemmas.Grind.{flat_map-append}
+use Rattle.std.proofs.lemmas.List.Sums.{sum_by-cons}
+use Rattle.std.proofs.lemmas.Bool.Decides.{nat_tests}
+use Rattle.std.proofs.lemmas.Bool.{ltb-false, lt-ltb, le-leb}
+use Rattle.ghost_model.specs.Schema.{Schema, Column, Kind, Integer, Chars, columns_of, column_at, is_visible, is_shown, places_from}
+use Rattle.ghost_model.specs.Values.{Value, Number, Text}
+use Rattle.ghost_model.specs.Query.{Query, Field, Condition, Compare, Join, AtLeast, AtMost}
+use Rattle.ghost_model.specs.Channel.{Test}
+use Rattle.ghost_model.specs.Tokens.{Symbol, Quoted, End, Word, And, Comma, is_printable, symbols}
+use Rattle.ghost_model.specs.Spelled.{is_spelled, IsBeforeEnd}
+use Rattle.ghost_model.specs.Database.{is_of_kind, fits_integer}
+use Rattle.ghost_model.specs.QueryGrammar.{ConditionText, Compares, LiesBetween, Joins, ColumnText, LiteralText, Unsigned, Signed, Written, QueryText, spelling, spell_condition, spell_literal, spell_where, spell_column, spell_table, spell_selection}
+use Rattle.ghost_model.specs.Grammar.{separated}
+use Rattle.ghost_model.specs.QueryMeaning as meaning
+use Rattle.ghost_model.specs.Asks as asks
+use Rattle.ghost_model.specs.QueryReading.{reading}
+use Rattle.ghost_model.proofs.TokenLemmas.{before_end}
+use Rattle.ghost_model.proofs.QueryReadingLemmas.{means_of}
+use Rattle.ghost_model.proofs.ChannelLemmas.Tests.{false_is_not, both_hold, hold_both, BothHold}
+
+-- tests of lists
+filtered : {X : Type 0} (p q : X → Bool) (x : X) (xs : List X) (b : Bool) → q x ≡ b → (b ≡ true → p x ≡ true) → list_all p (filter q xs) ≡ true → list_all p (if b then x ∷ filter q xs else filter q xs) ≡ true
+filtered p q x xs true e h r = hold_both (p x) (list_all p (filter q xs)) (h refl) r
+filtered p q x xs false e h r = r
+
+all_filter : {X : Type 0} (p q : X → Bool) (xs : List X) → ((x : X) → q x ≡ true → p x ≡ true) → list_all p (filter q xs) ≡ true
+all_filter p q [] h = refl
+all_filter p q (x ∷ xs) h = filtered p q x xs (q x) refl (h x) (all_filter p q xs h)
+
+all_kept : {X : Type 0} (p q : X → Bool) (xs : List X) → list_all p xs ≡ true → list_all p (filter q xs) ≡ true
+all_kept p q [] h = refl
+all_kept p q (x ∷ xs) h =
+    let both : BothHold (p x) (list_all p xs) = both_hold (p x) (list_all p xs) h in
+    filtered p q x xs (q x) refl (λ _. both.one) (all_kept p q xs both.other)
+
+all_weaker : {X : Type 0} (p r : X → Bool) (xs : List X) → ((x : X) → p x ≡ true → r x ≡ true) → list_all p xs ≡ true → list_all r xs ≡ true
+all_weaker p r [] h e = refl
+all_weaker p r (x ∷ xs) h e =
+    let both : BothHold (p x) (list_all p xs) = both_hold (p x) (list_all p xs) e in
+    hold_both (r x) (list_all r xs) (h x both.one) (all_weaker p r xs h both.other)
+
+all_flat : {X Y : Type 0} (p : Y → Bool) (f : X → List Y) (xs : List X) → list_all (λ x. list_all p (f x)) xs ≡ true → list_all p (flat_map f xs) ≡ true
+all_flat p f [] e = refl
+all_flat p f (x ∷ xs) e =
+    let both : BothHold (list_all p (f x)) (list_all (λ y. list_all p (f y)) xs) = both_hold _ _ e in
+    list_all-append p (f x) (flat_map f xs) ∙ hold_both _ _ both.one (all_flat p f xs both.other)
+
+all_inside : {X Y : Type 0} (p : Y → Bool) (f : X → List Y) (xs : List X) → list_all p (flat_map f xs) ≡ true → list_all (λ x. list_all p (f x)) xs ≡ true
+all_inside p f [] e = refl
+all_inside p f (x ∷ xs) e =
+    let both : BothHold (list_all p (f x)) (list_all p (flat_map f xs)) = both_hold _ _ (sym (list_all-append p (f x) (flat_map f xs)) ∙ e) in
+    hold_both _ _ both.one (all_inside p f xs both.other)
+
+all_each : {X : Type 0} (p : X → Bool) (xs : List X) → ((x : X) → p x ≡ true) → list_all p xs ≡ true
+all_each p [] h = refl
+all_each p (x ∷ xs) h = hold_both (p x) (list_all p xs) (h x) (all_each p xs h)
+
+neither : (a b : Bool) → (a || b) ≡ false → (a ≡ false) × (b ≡ false)
+neither true b e = absurd (false_is_not (sym e))
+neither false b e = (refl, e)
+
+not_true : (a : Bool) → a ≡ false → not a ≡ true
+not_true a e = rw e
+
+not_false : (a : Bool) → not a ≡ true → a ≡ false
+not_false true e = absurd (false_is_not e)
+not_false false e = refl
+
+none_all : {X : Type 0} (p : X → Bool) (xs : List X) → list_any p xs ≡ false → list_all (λ x. not (p x)) xs ≡ true
+none_all p [] e = refl
+none_all p (x ∷ xs) e =
+    let both : (p x ≡ false) × (list_any p xs ≡ false) = neither (p x) (list_any p xs) e in
+    hold_both _ _ (not_true (p x) both.0) (none_all p xs both.1)
+
+-- the columns of asks
+abbrev always : {X : Type 0} → X → Bool
+always _ = true
+
+module _ (schema : Schema) where
+  visible_columns : (select : List Field) (table : ℕ) → list_all (is_visible schema table) (filter (asks.is_wanted schema select table) (asks.places (columns_of schema table))) ≡ true
+  visible_columns select table =
+      all_filter (is_visible schema table) (asks.is_wanted schema select table) (asks.places (columns_of schema table))
+      (λ column e. (both_hold (is_visible schema table column) (list_any (asks.is_field table column) select) e).one)
+
+  tested : (table : ℕ) (field : Field) (test : Test) (r : Test → Bool) (b : Bool) → (b ≡ true → r test ≡ true) → list_all r (if b then test ∷ [] else []) ≡ true
+  tested table field test r true h = hold_both (r test) true (h refl) refl
+  tested table field test r false h = refl
+
+  visible_test : (table : ℕ) (condition : Condition) → list_all (λ test. is_visible schema table test.column) (asks.test_of schema table condition) ≡ true
+  visible_test table (Compare field operator value) =
+      tested table field (record { column = field.column; operator = operator; value = value }) (λ test. is_visible schema table test.column)
+      (field.table == table && is_visible schema table field.column)
+      (λ e. (both_hold (field.table == table) (is_visible schema table field.column) e).other)
+  visible_test table (Join left right) = refl
+
+  visible_tests : (table : ℕ) (conditions : List Condition) → list_all (λ test. is_visible schema table test.column) (asks.tests_of schema table conditions) ≡ true
+  visible_tests table conditions =
+      all_flat (λ test. is_visible schema table test.column) (asks.test_of schema table) conditions
+      (all_each (λ condition. list_all (λ test. is_visible schema table test.column) (asks.test_of schema table condition)) conditions (visible_test table))
+
+  pub asks_are_visible : (query : Query) → list_all (asks.names_visible schema) (asks.asks_of schema query) ≡ true
+  asks_are_visible query =
+      all_kept (asks.names_visible schema) asks.is_needed (map (asks.ask_for schema query) (filter (asks.is_from query) (asks.places schema)))
+      (list_all-map (asks.names_visible schema) (asks.ask_for schema query) (filter (asks.is_from query) (asks.places schema))
+      ∙ all_each (λ table. asks.names_visible schema (asks.ask_for schema query table)) (filter (asks.is_from query) (asks.places schema))
+      (λ table. hold_both _ _ (visible_columns query.select table) (visible_tests table query.conditions)))
+
+-- places are below the length, and ascend
+places_below : {X : Type 0} (at : ℕ) (xs : List X) (most : ℕ) → at + length xs ≤ most → list_all (λ place. nat_lt place most) (places_from always at xs) ≡ true
+unfolding places_from
+places_below at [] most h = refl
+places_below at (x ∷ xs) most h =
+    hold_both _ _ (lt-ltb at most (omega (arith, h))) (places_below (at + 1) xs most (omega (arith, h)))
+
+-- what is kept of places from `at` on ascends from any number below
+ascending_if : (before at : ℕ) (kept : List ℕ) (b : Bool) → before < at → asks.ascend_from at kept ≡ true → asks.ascend_from before kept ≡ true → asks.ascend_from before (if b then at ∷ kept else kept) ≡ true
+ascending_if before at kept true h e f = hold_both _ _ (lt-ltb before at h) e
+ascending_if before at kept false h e f = f
+
+ascending : {X : Type 0} (q : ℕ → Bool) (before at : ℕ) (xs : List X) → before < at → asks.ascend_from before (filter q (places_from always at xs)) ≡ true
+unfolding places_from
+ascending q before at [] h = refl
+ascending q before at (x ∷ xs) h =
+    ascending_if before at (filter q (places_from always (at + 1) xs)) (q at) h
+    (ascending q at (at + 1) xs (omega arith)) (ascending q before (at + 1) xs (omega (arith, h)))
+
+-- a value that breaks no rule of literals is of its column's kind; `printable` says that a text is
+abbrev is_plain : Value → Bool
+is_plain (Number _) = true
+is_plain (Text bytes) = list_all is_printable bytes
+
+fits_below : (n : ℕ) → not (nat_le n (2 ^ 63 - 1)) ≡ false → nat_lt n (2 ^ 63) ≡ true
+fits_below n e = grind (arith, nat_tests)
+
+number_fits : (number : ℤ) → meaning.is_too_large (Some Integer) (Number number) ≡ false → fits_integer number ≡ true
+number_fits (pos n) e = fits_below n e
+number_fits (negsuc n) e = fits_below n (ap (λ (b : Bool). not b) (sym (and-true (nat_le n (2 ^ 63 - 1)))) ∙ e)
+
+by_kind : (kind : Kind) (value : Value) → meaning.is_other_kind (Some kind) value ≡ false → meaning.is_too_large (Some kind) value ≡ false → is_plain value ≡ true → is_of_kind kind value ≡ true
+by_kind Integer (Number z) a b c = number_fits z b
+by_kind Integer (Text text) a b c = absurd (false_is_not (sym a))
+by_kind (Chars most) (Number z) a b c = absurd (false_is_not (sym a))
+by_kind (Chars most) (Text text) a b c = hold_both _ _ (le-leb (length text) most (ltb-false most (length text) b)) c
+
+by_column : (o : Option Column) (value : Value) → is_shown o ≡ true → meaning.is_other_kind (option_map (λ column. column.kind) o) value ≡ false → meaning.is_too_large (option_map (λ column. column.kind) o) value ≡ false → is_plain value ≡ true → is_of_kind (asks.kind_or_none o) value ≡ true
+by_column None value e a b c = absurd (false_is_not e)
+by_column (Some column) value e a b c = by_kind column.kind value a b c
+
+abbrev is_plain_condition : Condition → Bool
+is_plain_condition (Compare field operator value) = is_plain value
+is_plain_condition (Join left right) = true
+
+all_from_three : {X : Type 0} (p q r s : X → Bool) (xs : List X) → ((x : X) → p x ≡ true → q x ≡ true → r x ≡ true → s x ≡ true) → list_all p xs ≡ true → list_all q xs ≡ true → list_all r xs ≡ true → list_all s xs ≡ true
+all_from_three p q r s [] h a b c = refl
+all_from_three p q r s (x ∷ xs) h a b c =
+    let one : BothHold (p x) (list_all p xs) = both_hold (p x) (list_all p xs) a in
+    let two : BothHold (q x) (list_all q xs) = both_hold (q x) (list_all q xs) b in
+    let three : BothHold (r x) (list_all r xs) = both_hold (r x) (list_all r xs) c in
+    hold_both (s x) (list_all s xs) (h x one.one two.one three.one) (all_from_three p q r s xs h one.other two.other three.other)
+
+module _ (schema : Schema) where
+  abbrev is_sound : (table : ℕ) → Test → Bool
+  is_sound table test = is_of_kind (asks.kind_at schema table test.column) test.value
+
+  sound_test : (table : ℕ) (condition : Condition) → meaning.literal_fails schema meaning.is_other_kind condition ≡ false → meaning.literal_fails schema meaning.is_too_large condition ≡ false → is_plain_condition condition ≡ true → list_all (is_sound table) (asks.test_of schema table condition) ≡ true
+  sound_test table (Join left right) a b c = refl
+  sound_test table (Compare field operator value) a b c =
+      tested schema table field (record { column = field.column; operator = operator; value = value }) (is_sound table)
+      (field.table == table && is_visible schema table field.column)
+      (λ e. let both : BothHold (field.table == table) (is_visible schema table field.column) = both_hold _ _ e in
+      let same : field.table ≡ table = eqb-true field.table table both.one in
+      let shown : BothHold (nat_lt 0 field.column) (is_shown (column_at schema table field.column)) = both_hold _ _ both.other in
+      by_column (column_at schema table field.column) value shown.other
+      (subst (λ (t : ℕ). meaning.is_other_kind (option_map (λ column. column.kind) (column_at schema t field.column)) value ≡ false) same a)
+      (subst (λ (t : ℕ). meaning.is_too_large (option_map (λ column. column.kind) (column_at schema t field.column)) value ≡ false) same b)
+      c)
+
+  sound_tests :
+      (table : ℕ) (conditions : List Condition) → list_any (meaning.literal_fails schema meaning.is_other_kind) conditions ≡ false
+      → list_any (meaning.literal_fails schema meaning.is_too_large) conditions ≡ false → list_all is_plain_condition conditions ≡ true
+      → list_all (is_sound table) (asks.tests_of schema table conditions) ≡ true
+  sound_tests table conditions a b c =
+      all_flat (is_sound table) (asks.test_of schema table) conditions
+      (all_from_three (λ x. not (meaning.literal_fails schema meaning.is_other_kind x)) (λ x. not (meaning.literal_fails schema meaning.is_too_large x)) is_plain_condition
+      (λ x. list_all (is_sound table) (asks.test_of schema table x)) conditions
+      (λ x p q r. sound_test table x (not_false _ p) (not_false _ q) r)
+      (none_all _ conditions a) (none_all _ conditions b) c)
+
+-- the texts of literals have characters alone
+abbrev is_loose : Symbol → Bool
+is_loose (Quoted value) = list_all is_printable value
+is_loose _ = true
+
+loose_if_spelled : (symbol : Symbol) → is_spelled symbol ≡ true → is_loose symbol ≡ true
+loose_if_spelled (Quoted value) e = e
+loose_if_spelled _ e = refl
+
+loose_text : (text : List ℕ) → list_all is_loose (symbols text) ≡ true
+loose_text text =
+    let before : (xs : List Symbol) × IsBeforeEnd text xs = before_end text in
+    ap (λ (xs : List Symbol). list_all is_loose xs) before.1.whole
+    ∙ (list_all-append is_loose before.0 (End ∷ [])
+    ∙ hold_both _ _ (all_weaker is_spelled is_loose before.0 loose_if_spelled before.1.spelled) refl)
+
+loose_right : (xs ys : List Symbol) → list_all is_loose (xs ++ ys) ≡ true → list_all is_loose ys ≡ true
+loose_right xs ys e = (both_hold (list_all is_loose xs) (list_all is_loose ys) (sym (list_all-append is_loose xs ys) ∙ e)).other
+
+loose_left : (xs ys : List Symbol) → list_all is_loose (xs ++ ys) ≡ true → list_all is_loose xs ≡ true
+loose_left xs ys e = (both_hold (list_all is_loose xs) (list_all is_loose ys) (sym (list_all-append is_loose xs ys) ∙ e)).one
+
+plain_literal : (literal : LiteralText) → list_all is_loose (spell_literal literal) ≡ true → is_plain (meaning.value_of literal) ≡ true
+plain_literal (Unsigned digits) e = refl
+plain_literal (Signed sign digits) e = refl
+plain_literal (Written text) e = (both_hold (list_all is_printable text) true e).one
+
+module _ (schema : Schema) (from : List ℕ) where
+  plain_conditions : (condition : ConditionText) → list_all is_loose (spell_condition condition) ≡ true → list_all is_plain_condition (meaning.conditions_of schema from condition) ≡ true
+  plain_conditions (Compares column operator literal) e =
+      let right : BothHold _ (list_all is_loose (spell_literal literal)) = both_hold _ _ (loose_right (spell_column column) _ e) in
+      list_all-map is_plain_condition (λ meant. Compare meant operator (meaning.value_of literal)) (meaning.meanings schema from column)
+      ∙ all_each (λ meant. is_plain (meaning.value_of literal)) (meaning.meanings schema from column) (λ _. plain_literal literal right.other)
+  plain_conditions (LiesBetween column low high) e =
+      let both : list_all is_loose (spell_literal low ++ (Word And ∷ spell_literal high)) ≡ true = loose_right (spell_column column) _ e in
+      let first : is_plain (meaning.value_of low) ≡ true = plain_literal low (loose_left (spell_literal low) _ both) in
+      let second : is_plain (meaning.value_of high) ≡ true = plain_literal high (loose_right (spell_literal low) _ both) in
+      all_flat is_plain_condition (λ meant. Compare meant AtLeast (meaning.value_of low) ∷ Compare meant AtMost (meaning.value_of high) ∷ []) (meaning.meanings schema from column)
+      (all_each (λ meant. is_plain (meaning.value_of low) && (is_plain (meaning.value_of high) && true)) (meaning.meanings schema from column)
+      (λ _. hold_both _ _ first (hold_both _ _ second refl)))
+  plain_conditions (Joins left right) e =
+      all_flat is_plain_condition (λ meant. map (Join meant) (meaning.meanings schema from right)) (meaning.meanings schema from left)
+      (all_each (λ meant. list_all is_plain_condition (map (Join meant) (meaning.meanings schema from right))) (meaning.meanings schema from left)
+      (λ meant. list_all-map is_plain_condition (Join meant) (meaning.meanings schema from right) ∙ all_each (λ _. true) (meaning.meanings schema from right) (λ _. refl)))
+
+loose_where : (conditions : List ConditionText) → list_all is_loose (spell_where conditions) ≡ true → list_all (λ condition. list_all is_loose (spell_condition condition)) conditions ≡ true
+loose_where [] e = refl
+loose_where (condition ∷ more) e =
+    hold_both _ _ (loose_left (spell_condition condition) _ e)
+    (all_inside is_loose (λ other. Word And ∷ spell_condition other) more (loose_right (spell_condition condition) _ e))
+
+loose_conditions : (text : List ℕ) (tree : QueryText) → symbols text ≡ spelling tree → list_all (λ condition. list_all is_loose (spell_condition condition)) tree.conditions ≡ true
+loose_conditions text tree e =
+    let whole : list_all is_loose (spelling tree) ≡ true = ap (λ (xs : List Symbol). list_all is_loose xs) (sym e) ∙ loose_text text in
+    let tables : List Symbol = separated Comma spell_table tree.table tree.more_tables in
+    let after : list_all is_loose (tables ++ (spell_where tree.conditions ++ (End ∷ []))) ≡ true = loose_right (spell_selection tree.selection) _ whole in
+    loose_where tree.conditions (loose_left (spell_where tree.conditions) (End ∷ []) (loose_right tables _ after))
+
+-- how many conditions an ask has
+one_at_most : (b : Bool) (test : Test) (rest : List Test) → length ((if b then test ∷ [] else []) ++ rest) ≤ 1 + length rest
+one_at_most true test rest = omega arith
+one_at_most false test rest = omega arith
+
+module _ (schema : Schema) (from : List ℕ) (table : ℕ) where
+  few : (condition : Condition) (rest : List Test) → length (asks.test_of schema table condition ++ rest) ≤ 1 + length rest
+  few (Compare field operator value) rest =
+      one_at_most (field.table == table && is_visible schema table field.column) (record { column = field.column; operator = operator; value = value }) rest
+  few (Join left right) rest = omega arith
+
+  few_of_one : (f : Field → Condition) (fields : List Field) → length fields ≤ 1 → length (flat_map (asks.test_of schema table) (map f fields)) ≤ 1
+  few_of_one f [] h = omega arith
+  few_of_one f (field ∷ []) h = few (f field) []
+  few_of_one f (field ∷ other ∷ rest) h = absurd (omega (arith, h))
+
+  few_of_two : (f g : Field → Condition) (fields : List Field) → length fields ≤ 1 → length (flat_map (asks.test_of schema table) (flat_map (λ field. f field ∷ g field ∷ []) fields)) ≤ 2
+  few_of_two f g [] h = omega arith
+  few_of_two f g (field ∷ []) h =
+      let one = few (f field) (asks.test_of schema table (g field) ++ []) in
+      let two = few (g field) [] in
+      omega (arith, one, two)
+  few_of_two f g (field ∷ other ∷ rest) h = absurd (omega (arith, h))
+
+  none_of_joins : (left : Field) (fields : List Field) → flat_map (asks.test_of schema table) (map (Join left) fields) ≡ []
+  none_of_joins left [] = refl
+  none_of_joins left (field ∷ fields) = none_of_joins left fields
+
+  none_of_all_joins : (right : List Field) (fields : List Field) → flat_map (asks.test_of schema table) (flat_map (λ left. map (Join left) right) fields) ≡ []
+  none_of_all_joins right [] = refl
+  none_of_all_joins right (field ∷ fields) =
+      flat_map-append (asks.test_of schema table) (map (Join field) right) (flat_map (λ left. map (Join left) right) fields)
+      ∙ (ap (λ (xs : List Test). xs ++ flat_map (asks.test_of schema table) (flat_map (λ left. map (Join left) right) fields)) (none_of_joins field right)
+      ∙ none_of_all_joins right fields)
+
+  abbrev has_one : ColumnText → Bool
+  has_one column = not (nat_lt 1 (length (meaning.meanings schema from column)))
+
+  at_most_one : (column : ColumnText) → has_one column ≡ true → length (meaning.meanings schema from column) ≤ 1
+  at_most_one column e = ltb-false 1 (length (meaning.meanings schema from column)) (not_false _ e)
+
+  few_tests : (condition : ConditionText) → list_all has_one (meaning.condition_columns condition) ≡ true → length (flat_map (asks.test_of schema table) (meaning.conditions_of schema from condition)) ≤ meaning.literal_conditions condition
+  few_tests (Compares column operator literal) e =
+      few_of_one (λ meant. Compare meant operator (meaning.value_of literal)) (meaning.meanings schema from column) (at_most_one column (both_hold (has_one column) true e).one)
+  few_tests (LiesBetween column low high) e =
+      few_of_two (λ meant. Compare meant AtLeast (meaning.value_of low)) (λ meant. Compare meant AtMost (meaning.value_of high)) (meaning.meanings schema from column) (at_most_one column (both_hold (has_one column) true e).one)
+  few_tests (Joins left right) e =
+      let none : length (flat_map (asks.test_of schema table) (meaning.conditions_of schema from (Joins left right))) ≡ 0 =
+      ap length (none_of_all_joins (meaning.meanings schema from right) (meaning.meanings schema from left)) in
+      omega (arith, none)
+
+  few_in_all : (conditions : List ConditionText) → list_all (λ condition. list_all has_one (meaning.condition_columns condition)) conditions ≡ true → length (asks.tests_of schema table (flat_map (meaning.conditions_of schema from) conditions)) ≤ sum_by meaning.literal_conditions conditions
+  few_in_all [] e = omega arith
+  few_in_all (condition ∷ more) e =
+      let both : BothHold (list_all has_one (meaning.condition_columns condition)) (list_all (λ condition. list_all has_one (meaning.condition_columns condition)) more) = both_hold _ _ e in
+      let here : List Condition = meaning.conditions_of schema from condition in
+      let rest : List Condition = flat_map (meaning.conditions_of schema from) more in
+      let split : length (asks.tests_of schema table (flat_map (meaning.conditions_of schema from) (condition ∷ more))) ≡ length (flat_map (asks.test_of schema table) here) + length (flat_map (asks.test_of schema table) rest) =
+      ap length (flat_map-append (asks.test_of schema table) here rest) ∙ length-append (flat_map (asks.test_of schema table) here) (flat_map (asks.test_of schema table) rest) in
+      let total : sum_by meaning.literal_conditions (condition ∷ more) ≡ meaning.literal_conditions condition + sum_by meaning.literal_conditions more = sum_by-cons meaning.literal_conditions condition more in
+      omega (arith, split, total, few_tests condition both.one, few_in_all more both.other)
+
+-- the columns of asks ascend
+skipped : (kept : List ℕ) (b : Bool) → b ≡ false → asks.ascend_from 0 kept ≡ true → asks.ascend_from 0 (if b then 0 ∷ kept else kept) ≡ true
+skipped kept true e h = absurd (false_is_not (sym e))
+skipped kept false e h = h
+
+columns_ascend : {X : Type 0} (q : ℕ → Bool) (xs : List X) → q 0 ≡ false → asks.ascend_from 0 (filter q (places_from always 0 xs)) ≡ true
+unfolding places_from
+columns_ascend q [] e = refl
+columns_ascend q (x ∷ xs) e = skipped (filter q (places_from always 1 xs)) (q 0) e (ascending q 0 1 xs (lit< tt))
+
+module _ (schema : Schema) (text : List ℕ) (tree : QueryText) (spells : symbols text ≡ spelling tree) (keeps : (rule : meaning.Refusal) → meaning.breaks schema text tree rule ≡ false) where
+  abbrev tables : List ℕ
+  tables = meaning.from_tables schema tree
+
+  limited : sum_by meaning.literal_conditions tree.conditions ≤ 16
+  limited =
+      let four : ((nat_lt 4096 (length text) || list_any (λ name. nat_lt 32 (length name)) (meaning.names_in tree) || nat_lt 12 (length (meaning.from_names tree)) || nat_lt 16 (sum_by meaning.literal_conditions tree.conditions)) ≡ false) × (nat_lt 32 (meaning.selected_count schema tree tree.selection) ≡ false) = neither _ _ (keeps meaning.Limit) in
+      let three : ((nat_lt 4096 (length text) || list_any (λ name. nat_lt 32 (length name)) (meaning.names_in tree) || nat_lt 12 (length (meaning.from_names tree))) ≡ false) × (nat_lt 16 (sum_by meaning.literal_conditions tree.conditions) ≡ false) = neither _ _ four.0 in
+      ltb-false 16 (sum_by meaning.literal_conditions tree.conditions) three.1
+
+  single : list_all (λ condition. list_all (has_one schema tables 0) (meaning.condition_columns condition)) tree.conditions ≡ true
+  single =
+      let both : (meaning.has_repeat tables ≡ false) × (list_any (λ column. nat_lt 1 (length (meaning.meanings schema tables column))) (meaning.columns_in tree) ≡ false) = neither _ _ (keeps meaning.Ambiguous) in
+      let all : list_all (has_one schema tables 0) (meaning.columns_in tree) ≡ true = none_all (λ column. nat_lt 1 (length (meaning.meanings schema tables column))) (meaning.columns_in tree) both.1 in
+      let parts : BothHold (list_all (has_one schema tables 0) (meaning.selection_columns tree.selection)) (list_all (has_one schema tables 0) (flat_map meaning.condition_columns tree.conditions)) =
+      both_hold _ _ (sym (list_all-append (has_one schema tables 0) (meaning.selection_columns tree.selection) (flat_map meaning.condition_columns tree.conditions)) ∙ all) in
+      all_inside (has_one schema tables 0) meaning.condition_columns tree.conditions parts.other
+
+  plain : list_all is_plain_condition (meaning.resolved schema tree).conditions ≡ true
+  plain =
+      all_flat is_plain_condition (meaning.conditions_of schema tables) tree.conditions
+      (all_weaker (λ condition. list_all is_loose (spell_condition condition)) (λ condition. list_all is_plain_condition (meaning.conditions_of schema tables condition)) tree.conditions
+      (plain_conditions schema tables) (loose_conditions text tree spells))
+
+  proper_ask : (table : ℕ) → nat_lt table (length schema) ≡ true → asks.is_proper_ask schema (asks.ask_for schema (meaning.resolved schema tree) table) ≡ true
+  proper_ask table e =
+      let query : Query = meaning.resolved schema tree in
+      let count : length (asks.tests_of schema table query.conditions) ≤ 16 = omega (arith, few_in_all schema tables table tree.conditions single, limited) in
+      hold_both _ _
+      (hold_both _ _
+      (hold_both _ _
+      (hold_both _ _
+      (hold_both _ _ e (visible_columns schema query.select table))
+      (columns_ascend (asks.is_wanted schema query.select table) (columns_of schema table) refl))
+      (le-leb (length (asks.tests_of schema table query.conditions)) 16 count))
+      (visible_tests schema table query.conditions))
+      (sound_tests schema table query.conditions (keeps meaning.KindMismatch) (keeps meaning.BadLiteral) plain)
+
+  proper_asks : list_all (asks.is_proper_ask schema) (asks.asks_of schema (meaning.resolved schema tree)) ≡ true
+  proper_asks =
+      let query : Query = meaning.resolved schema tree in
+      let places : List ℕ = asks.places schema in
+      let below : list_all (λ place. nat_lt place (length schema)) (asks.places schema) ≡ true = places_below 0 schema (length schema) (omega arith) in
+      all_kept (asks.is_proper_ask schema) asks.is_needed (map (asks.ask_for schema query) (filter (asks.is_from query) (asks.places schema)))
+      (list_all-map (asks.is_proper_ask schema) (asks.ask_for schema query) (filter (asks.is_from query) (asks.places schema))
+      ∙ all_weaker (λ place. nat_lt place (length schema)) (λ table. asks.is_proper_ask schema (asks.ask_for schema query table)) (filter (asks.is_from query) (asks.places schema))
+      proper_ask (all_kept (λ place. nat_lt place (length schema)) (asks.is_from query) (asks.places schema) below))
+
+pub asks_are_proper : (schema : Schema) (text : List ℕ) (query : Query) → reading schema text ≡ Ok query → list_all (asks.is_proper_ask schema) (asks.asks_of schema query) ≡ true
+asks_are_proper schema text query read =
+    let means : meaning.Means schema text query = means_of schema text query read in
+    subst (λ (q : Query). list_all (asks.is_proper_ask schema) (asks.asks_of schema q) ≡ true) (sym means.means)
+    (proper_asks schema text means.tree means.spells means.keeps)
