@@ -22,6 +22,7 @@ use Rattle.channel_pump.specs.declared.state.Cause.TheVariants.{Finished, Link, 
 use Rattle.channel_pump.specs.declared.state.Want.{Want}
 use Rattle.channel_pump.specs.declared.state.Want.TheVariants as want
 use Rattle.channel_pump.specs.Asked.{AreAsked}
+use Rattle.channel_pump.specs.Marks.{AreMarked}
 
 -- the forms, serial, number of rows and last identifier are those of the reply that is awaited
 pub record IsReplying (catalog : Catalog) (p : Pump) (asked : Asked) (serial : ℕ) (later : List Asked) (count last : ℕ) : Type 0 where
@@ -163,6 +164,7 @@ pub record IsLeft (catalog : Catalog) (asks : List Asked) (p : Pump) (l : Left) 
   pub awaits : IsAwaiting catalog p p.phase l.heard.awaits
   pub fresh : IsFresh catalog asks p p.phase
   pub before : p.before ≡ counted (bytes_before l.heard)
+  pub refused : AreMarked p.refused l.heard.ended
   pub stage : IsStage catalog p l p.stage
 
 -- the pump stands where the journal leaves a session with these asks
