@@ -190,7 +190,7 @@ pub marks_on : (p q : Pump) (ended : List next.Ended) → Same p q → AreMarked
 marks_on p q ended s h = subst (λ (x : List Bool). AreMarked x ended) (sym s.refused) h
 
 -- an answer with no bytes leaves what was heard
-silent : (catalog : Catalog) (asks : List Asked) (l : Left) (e : channel.Entry) → piece_of e.answer ≡ [] → goes catalog asks l e ≡ goes_to l e l.heard
+pub silent : (catalog : Catalog) (asks : List Asked) (l : Left) (e : channel.Entry) → piece_of e.answer ≡ [] → goes catalog asks l e ≡ goes_to l e l.heard
 silent catalog asks l e none =
     ap (λ (bytes : List ℕ). goes_to l e (next.hear_all catalog asks l.heard bytes)) none
     ∙ ap (goes_to l e) (hear_none catalog asks l.heard)

@@ -6,3 +6,4 @@ pub mod Marks
 pub mod State
 pub mod Turning
 pub mod Progress
+pub mod Pages
