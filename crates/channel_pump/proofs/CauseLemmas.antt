@@ -1,6 +1,6 @@
 -- Why a session ends.
-use Rattle.std.proofs.Common.{◌≡◌, ℕ, true, false, List, Option, Some, None, refl}
-use Rattle.ghost_model.specs.Channel.{Catalog, Journal}
+use Rattle.std.proofs.Common.{◌≡◌, true, List, refl}
+use Rattle.ghost_model.specs.Channel.{Catalog}
 use Rattle.ghost_model.specs.Asks.{Asked}
 use Rattle.ghost_model.specs.NextMove as next
 use Rattle.ghost_model.specs.NextMove.{Awaits, Missing, Nothing, Left}

@@ -7,3 +7,4 @@ pub mod ReportLemmas
 pub mod TookLemmas
 pub mod CauseLemmas
 pub mod ProgressLemmas
+pub mod MarkLemmas

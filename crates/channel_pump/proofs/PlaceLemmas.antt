@@ -1,9 +1,9 @@
 -- The pump's own numbers judge as the definitions do.
-use Rattle.std.proofs.Common.{◌≡◌, ℕ, ◌+◌, ◌-◌, Bool, true, false, not, ◌&&◌, ◌==◌, nat_lt, List, [], ◌∷◌, length, map, if◌then◌else◌, refl, ap, sym, ◌∙◌, subst}
+use Rattle.std.proofs.Common.{◌≡◌, ℕ, ◌+◌, ◌-◌, Bool, not, ◌&&◌, ◌==◌, nat_lt, List, [], ◌∷◌, length, if◌then◌else◌, refl, ap, ◌∙◌}
 use Rattle.ghost_model.specs.Schema as schema
 use Rattle.ghost_model.specs.Channel as channel
 use Rattle.ghost_model.specs.Channel.{Catalog}
-use Rattle.ghost_model.specs.Asks.{Asked, ReplyRow, rows_in, kinds_of}
+use Rattle.ghost_model.specs.Asks.{Asked, rows_in}
 use Rattle.ghost_model.specs.Frames as frames
 use Rattle.ghost_model.specs.NextMove as next
 use Rattle.ghost_model.specs.NextMove.{Awaits, Missing, Nothing}
@@ -13,7 +13,7 @@ use Rattle.channel_pump.specs.declared.state.Phase.{Phase}
 use Rattle.channel_pump.specs.declared.state.Phase.TheVariants.{Greeting, Reply, Over}
 use Rattle.channel_pump.specs.Asked.{AreAsked, IsAskForm, form_kinds, width_of, rows_with}
 use Rattle.channel_pump.specs.Here.{nothing, header_at, reply_header, payload_at, form_fits, reply_payload, verdict_here, rows_at, reply_rows}
-use Rattle.channel_pump.specs.State.{IsAwaiting, IsReplying}
+use Rattle.channel_pump.specs.State.{IsAwaiting}
 use Rattle.channel_pump.specs.Turning.{rows_of_frame}
 
 reply_header_is : (catalog : Catalog) (forms : List AskForm) (number : ℕ) (asked : Asked) (serial : ℕ) (later : List Asked) (count last : ℕ) (header : List ℕ)

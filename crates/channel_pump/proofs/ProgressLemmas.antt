@@ -1,5 +1,5 @@
 -- What the events of a piece tell of the replies.
-use Rattle.std.proofs.Common.{◌≡◌, ◌≢◌, ℕ, suc, ◌+◌, ◌*◌, ◌/◌, ◌%◌, ◌<◌, ◌≤◌, Bool, true, false, ◌&&◌, ◌==◌, nat_le, List, [], ◌∷◌, ◌++◌, length, take, drop, refl, ap, sym, ◌∙◌, subst, arith, append-nil}
+use Rattle.std.proofs.Common.{◌≡◌, ℕ, ◌+◌, ◌*◌, ◌/◌, ◌%◌, ◌≤◌, Bool, true, false, ◌&&◌, ◌==◌, nat_le, List, [], ◌∷◌, ◌++◌, length, take, refl, ap, sym, ◌∙◌, subst, arith, append-nil}
 use Rattle.std.proofs.lemmas.Bool.Decides.{nat_tests}
 use Rattle.std.proofs.Math.Nat.{div-add-mod}
 use Rattle.ghost_model.specs.Channel as channel
@@ -12,14 +12,14 @@ use Rattle.channel_pump.specs.declared.rows.Tally.{Tally}
 use Rattle.channel_pump.specs.declared.state.Pump.{Pump}
 use Rattle.channel_pump.specs.declared.state.Event.{Event}
 use Rattle.channel_pump.specs.declared.state.Event.TheVariants as event
-use Rattle.channel_pump.specs.Here.{verdict_here, header_at, payload_at, Stands}
-use Rattle.channel_pump.specs.State.{IsAwaiting, taken_entry}
+use Rattle.channel_pump.specs.Here.{verdict_here, Stands}
+use Rattle.channel_pump.specs.State.{taken_entry}
 use Rattle.channel_pump.specs.Turning.{event_of, rows_of_frame}
-use Rattle.channel_pump.specs.Progress.{rows_on, ended_on, RowsCame, MayCome, RowsOf, Tells}
+use Rattle.channel_pump.specs.Progress.{rows_on, ended_on, MayCome, RowsOf, Tells}
 use Rattle.channel_pump.proofs.RowLemmas.{rows_count}
 use Rattle.channel_pump.proofs.TurningLemmas.{payload_length, frame_of_kind}
 use Rattle.channel_pump.proofs.PlaceLemmas.{header_is, payload_is, rows_at_are}
-use Rattle.channel_pump.proofs.TookLemmas.{At, left_is, payload_of_front, ReplyKind, rows, done, sorry, kind_of_header, FrameKind, greets, replies}
+use Rattle.channel_pump.proofs.TookLemmas.{At, left_is, rows, done, sorry, kind_of_header, FrameKind, greets, replies}
 
 ended_is : (awaits : Awaits) (bytes : List ℕ) (n : ℕ) (frame : channel.Frame) → next.ended_by awaits bytes frame ≡ ended_on (event_of n frame) awaits bytes
 ended_is (Missing _) bytes n (channel.Hello _) = refl

@@ -1,7 +1,10 @@
 -- What is wanted is the next move, and each answer leads to where the journal leaves the key.
-use Rattle.std.proofs.Common.{◌≡◌, ◌≢◌, ℕ, ◌+◌, ◌-◌, ◌<◌, ◌≤◌, Bool, true, false, not, ◌||◌, Option, Some, None, List, [], ◌∷◌, ◌++◌, length, take, drop, if◌then◌else◌, refl, ap, sym, ◌∙◌, subst, arith}
+use Rattle.std.proofs.Common.{◌≡◌, ℕ, ◌+◌, Bool, true, false, not, ◌||◌, Option, Some, None, List, [], ◌∷◌, ◌++◌, length, if◌then◌else◌, refl, ap, sym, ◌∙◌, subst, arith}
+use Rattle.std.proofs.Common.{replicate}
 use Rattle.std.specs.List.{slice_get}
+use Rattle.std.proofs.lemmas.List.{get_or-replicate}
 use Rattle.std.proofs.lemmas.Option.{slice_get_past}
+use Rattle.channel_pump.specs.Marks.{AreMarked}
 use Rattle.ghost_model.specs.Channel as channel
 use Rattle.ghost_model.specs.Channel.{Catalog, Move, Journal}
 use Rattle.ghost_model.specs.Frames.{frame_bytes}
@@ -22,7 +25,7 @@ use Rattle.channel_pump.specs.declared.state.Cause.TheVariants.{Finished, Link, 
 use Rattle.channel_pump.specs.declared.state.Want.{Want}
 use Rattle.channel_pump.specs.declared.state.Want.TheVariants as want
 use Rattle.channel_pump.specs.Asked.{AreAsked}
-use Rattle.channel_pump.specs.State.{IsLeft, Begins, is_bye, can_fail, is_take, IsAfter, IsAwaiting, IsFresh, IsStage, IsDialling, IsSending, IsTaking, IsFinished, IsCause, IsWanted, want_of, want_at, frame_due, is_over, is_opened, is_closed, has_stopped, has_broken, entry}
+use Rattle.channel_pump.specs.State.{IsLeft, Begins, is_bye, can_fail, is_take, IsAfter, IsAwaiting, IsFresh, IsStage, IsDialling, IsSending, IsTaking, IsFinished, IsCause, want_of, want_at, frame_due, is_over, is_opened, is_closed, has_stopped, has_broken, entry}
 use Rattle.channel_pump.proofs.JournalLemmas.{goes, goes_to, left_more, left_of, hear_none}
 
 -- the next move, over plain values
@@ -151,6 +154,7 @@ pub record Same (p q : Pump) : Type 0 where
   pub serial : q.serial ≡ p.serial
   pub count : q.count ≡ p.count
   pub last : q.last ≡ p.last
+  pub refused : q.refused ≡ p.refused
 
 same_awaiting : (catalog : Catalog) (p q : Pump) (phase : Phase) (awaits : Awaits) → Same p q → IsAwaiting catalog p phase awaits → IsAwaiting catalog q phase awaits
 same_awaiting catalog p q Greeting (Missing bytes) s h = s.missing ∙ h
@@ -182,8 +186,11 @@ awaits_on catalog p q awaits s h = subst (λ (x : Phase). IsAwaiting catalog q x
 pub fresh_on : (catalog : Catalog) (asks : List Asked) (p q : Pump) → Same p q → IsFresh catalog asks p p.phase → IsFresh catalog asks q q.phase
 fresh_on catalog asks p q s h = subst (λ (x : Phase). IsFresh catalog asks q x) (sym s.phase) (same_fresh catalog asks p q p.phase s h)
 
+pub marks_on : (p q : Pump) (ended : List next.Ended) → Same p q → AreMarked p.refused ended → AreMarked q.refused ended
+marks_on p q ended s h = subst (λ (x : List Bool). AreMarked x ended) (sym s.refused) h
+
 -- an answer with no bytes leaves what was heard
-silent : (catalog : Catalog) (asks : List Asked) (l : Left) (e : channel.Entry) → piece_of e.answer ≡ [] → goes catalog asks l e ≡ goes_to l e l.heard
+pub silent : (catalog : Catalog) (asks : List Asked) (l : Left) (e : channel.Entry) → piece_of e.answer ≡ [] → goes catalog asks l e ≡ goes_to l e l.heard
 silent catalog asks l e none =
     ap (λ (bytes : List ℕ). goes_to l e (next.hear_all catalog asks l.heard bytes)) none
     ∙ ap (goes_to l e) (hear_none catalog asks l.heard)
@@ -240,6 +247,7 @@ stopped_after catalog at asks journal p q move answer s before stage going none 
       awaits = awaits_on catalog p q l.heard.awaits s h.awaits;
       fresh = fresh_on catalog asks p q s h.fresh;
       before = before ∙ h.before;
+      refused = marks_on p q l.heard.ended s h.refused;
       stage = subst (λ (x : Stage). IsStage catalog q (goes_to l (entry move answer) l.heard) x) (sym stage) tt;
     })
 
@@ -265,6 +273,7 @@ dialled catalog at asks journal p q move s before generation stage was h n =
       awaits = awaits_on catalog p q l.heard.awaits s h.awaits;
       fresh = fresh_on catalog asks p q s h.fresh;
       before = before ∙ h.before;
+      refused = marks_on p q l.heard.ended s h.refused;
       stage = subst (λ (x : Stage). IsStage catalog q (goes_to l (entry (channel.Dial at) channel.Made) l.heard) x) (sym stage) (record {
         phase = ap is_over s.phase ∙ first.phase;
         frame = first_due l.heard.due (l.sent + 0) p q generation first.due (plus_nothing l.sent 0 first.sent);
@@ -293,6 +302,7 @@ sent_last catalog at asks journal p q move s before stage was h n =
       awaits = awaits_on catalog p q l.heard.awaits s h.awaits;
       fresh = fresh_on catalog asks p q s h.fresh;
       before = before ∙ h.before;
+      refused = marks_on p q l.heard.ended s h.refused;
       stage = subst (λ (x : Stage). IsStage catalog q (goes_to l (entry (channel.Send (frame_bytes channel.Bye)) channel.Made) l.heard) x) (sym stage)
           (record { phase = ap is_over s.phase ∙ sending.phase; sent = sending.last });
     }))
@@ -313,6 +323,7 @@ sent_other catalog at asks journal p q outgoing move s before stage have lacking
       awaits = awaits_on catalog p q l.heard.awaits s h.awaits;
       fresh = fresh_on catalog asks p q s h.fresh;
       before = before ∙ h.before;
+      refused = marks_on p q l.heard.ended s h.refused;
       stage = subst (λ (x : Stage). IsStage catalog q (goes_to l (entry known channel.Made) l.heard) x) (sym stage) (record {
         phase = ap is_over s.phase ∙ (sending.phase ∙ more);
         sent = sending.last;
@@ -341,15 +352,16 @@ closed_after catalog at asks journal p q cause move s before stage was h n =
       awaits = awaits_on catalog p q l.heard.awaits s h.awaits;
       fresh = fresh_on catalog asks p q s h.fresh;
       before = before ∙ h.before;
+      refused = marks_on p q l.heard.ended s h.refused;
       stage = subst (λ (x : Stage). IsStage catalog q (goes_to l (entry channel.Close channel.Made) l.heard) x) (sym stage)
           (same_cause p q l (entry channel.Close channel.Made) cause s refl ending);
     }))
 
 -- before the first move
 pub begun : (catalog : Catalog) (asks : List Asked) (q : Pump) (generation : ℕ) (bytes : List ℕ) (forms : List AskForm) → Begins catalog asks generation bytes forms
-    → q.generation ≡ generation → q.missing.now ≡ bytes → q.rest.now ≡ forms → q.serial ≡ 1 → q.before ≡ 0 → q.phase ≡ Greeting → q.stage ≡ Dialling
+    → q.generation ≡ generation → q.missing.now ≡ bytes → q.rest.now ≡ forms → q.serial ≡ 1 → q.before ≡ 0 → q.phase ≡ Greeting → q.stage ≡ Dialling → q.refused ≡ replicate 65 false
     → IsAfter catalog asks [] q
-begun catalog asks q generation bytes forms b g m r serial before phase stage =
+begun catalog asks q generation bytes forms b g m r serial before phase stage refused =
     subst (λ (h : next.Heard). IsLeft catalog asks q (left_of false false false 0 h)) (sym (hear_none catalog asks (next.at_first catalog)))
     (record {
       opened = sym (ap is_opened stage);
@@ -360,6 +372,7 @@ begun catalog asks q generation bytes forms b g m r serial before phase stage =
       fresh = subst (λ (x : Phase). IsFresh catalog asks q x) (sym phase)
           (record { all = subst (λ (x : List AskForm). AreAsked catalog x asks) (sym r) b.its_asks; serial = serial });
       before = before;
+      refused = subst (λ (x : List Bool). AreMarked x []) (sym refused) (record { size = refl; each = λ text h. get_or-replicate 65 text false false (omega (arith, h)) });
       stage = subst (λ (x : Stage). IsStage catalog q (left_of false false false 0 (next.at_first catalog)) x) (sym stage) (record {
         phase = ap is_over phase;
         sent = refl;
@@ -368,9 +381,9 @@ begun catalog asks q generation bytes forms b g m r serial before phase stage =
       });
     })
 
-pub same_fields : (p q : Pump) → q.phase ≡ p.phase → q.missing.now ≡ p.missing.now → q.rest.now ≡ p.rest.now → q.serial ≡ p.serial → q.count ≡ p.count → q.last ≡ p.last → Same p q
-same_fields p q phase missing rest serial count last =
-    record { phase = phase; missing = missing; rest = rest; serial = serial; count = count; last = last }
+pub same_fields : (p q : Pump) → q.phase ≡ p.phase → q.missing.now ≡ p.missing.now → q.rest.now ≡ p.rest.now → q.serial ≡ p.serial → q.count ≡ p.count → q.last ≡ p.last → q.refused ≡ p.refused → Same p q
+same_fields p q phase missing rest serial count last refused =
+    record { phase = phase; missing = missing; rest = rest; serial = serial; count = count; last = last; refused = refused }
 
 pub take_can_fail : (w : Want) → is_take w ≡ true → can_fail w ≡ true
 take_can_fail want.Dial e = refl

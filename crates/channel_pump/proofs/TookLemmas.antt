@@ -1,5 +1,5 @@
 -- A piece of the stream leads to where the journal leaves the key.
-use Rattle.std.proofs.Common.{◌≡◌, ◌≢◌, ℕ, zero, suc, ◌+◌, ◌-◌, ◌^◌, ◌<◌, ◌≤◌, min, Bool, true, false, ◌&&◌, ◌==◌, nat_le, ◌||◌, Option, Some, None, List, [], ◌∷◌, ◌++◌, length, take, drop, flat_map, refl, ap, sym, ◌∙◌, subst, arith, append-nil}
+use Rattle.std.proofs.Common.{◌≡◌, ℕ, zero, suc, ◌+◌, ◌-◌, ◌^◌, ◌<◌, ◌≤◌, min, Bool, true, false, ◌&&◌, ◌==◌, nat_le, ◌||◌, Some, List, [], ◌∷◌, ◌++◌, length, take, drop, flat_map, refl, ap, sym, ◌∙◌, subst, arith, append-nil}
 use Rattle.std.specs.List.{slice_get}
 use Rattle.std.proofs.Math.Seq.{take-add}
 use Rattle.std.proofs.lemmas.List.{length-append, length-drop, length-take-le, drop-take}
@@ -9,7 +9,6 @@ use Rattle.ghost_model.specs.Channel as channel
 use Rattle.ghost_model.specs.Channel.{Catalog, Move, Journal}
 use Rattle.ghost_model.specs.Frames as frames
 use Rattle.ghost_model.specs.Asks.{Asked}
-use Rattle.ghost_model.specs.Moves.{taken}
 use Rattle.ghost_model.specs.NextMove as next
 use Rattle.ghost_model.specs.NextMove.{Awaits, Heard, Left, left, heard, hear_all, heard_as}
 use Rattle.channel_pump.specs.declared.forms.AskForm.{AskForm}
@@ -20,17 +19,17 @@ use Rattle.channel_pump.specs.declared.state.Phase.TheVariants.{Greeting, Reply,
 use Rattle.channel_pump.specs.declared.state.Stage.{Stage}
 use Rattle.channel_pump.specs.declared.state.Stage.TheVariants.{Dialling, Sending, Taking, Closing, Closed}
 use Rattle.channel_pump.specs.declared.state.Cause.TheVariants.{Protocol}
-use Rattle.channel_pump.specs.declared.state.Event.{Event}
 use Rattle.channel_pump.specs.declared.state.Event.TheVariants as event
 use Rattle.channel_pump.specs.Asked.{form_kinds, width_of}
-use Rattle.channel_pump.specs.Here.{verdict_here, header_at, reply_header, rows_at, nothing, Stands}
-use Rattle.channel_pump.specs.State.{IsLeft, IsAfter, IsAwaiting, IsFresh, IsStage, IsTaking, IsTurned, IsGoing, IsTakenBy, want_at, want_of, frame_due, due_at, is_over, is_opened, is_closed, has_stopped, has_broken, counted, bytes_before, entry, taken_entry, Keeps}
-use Rattle.channel_pump.specs.Turning.{event_after, event_at, event_of, rows_of_frame}
-use Rattle.channel_pump.proofs.JournalLemmas.{goes, goes_to, left_more}
+use Rattle.channel_pump.specs.Here.{verdict_here, header_at, reply_header, Stands}
+use Rattle.channel_pump.specs.State.{IsLeft, IsAfter, IsFresh, IsStage, IsTaking, IsTurned, IsGoing, IsTakenBy, want_at, want_of, frame_due, due_at, is_over, is_opened, is_closed, has_stopped, has_broken, counted, bytes_before, taken_entry, Keeps}
+use Rattle.channel_pump.specs.Marks.{AreMarked}
+use Rattle.channel_pump.specs.Turning.{event_after, event_at, event_of}
+use Rattle.channel_pump.proofs.JournalLemmas.{goes_to, left_more}
 use Rattle.channel_pump.proofs.CuttingLemmas.{cut, exact}
 use Rattle.channel_pump.proofs.PlaceLemmas.{verdict_is, rows_at_are}
 use Rattle.channel_pump.proofs.TurningLemmas.{payload_length, frame_of_kind}
-use Rattle.channel_pump.proofs.ReportLemmas.{Same, awaits_on, fresh_on, or_nothing, plus_nothing}
+use Rattle.channel_pump.proofs.ReportLemmas.{Same, marks_on, awaits_on, fresh_on, or_nothing, plus_nothing}
 
 page_part : (have n : ℕ) (page part : List ℕ) → take (length part) page ≡ part → length part ≡ have
     → take (have + n) page ≡ part ++ take n (drop have page)
@@ -151,6 +150,7 @@ module _ (catalog : Catalog) (asks : List Asked) (journal : Journal) (p : Pump) 
         awaits = awaits_on catalog p q l.heard.awaits s h.after.awaits;
         fresh = fresh_on catalog asks p q s h.after.fresh;
         before = before ∙ h.after.before;
+        refused = marks_on p q l.heard.ended s h.after.refused;
         stage = subst (λ (x : Stage). IsStage catalog q (goes_to l (taken_entry p page n) (record l.heard { part = part })) x) (sym stage) (record {
           phase = ap is_over s.phase ∙ (is_taking h).phase;
           sent = (is_taking h).sent ∙ sym (plus_nothing l.sent l.sent refl);
@@ -178,6 +178,7 @@ module _ (catalog : Catalog) (asks : List Asked) (journal : Journal) (p : Pump) 
         awaits = awaits_on catalog p q l.heard.awaits s h.after.awaits;
         fresh = fresh_on catalog asks p q s h.after.fresh;
         before = before ∙ h.after.before;
+        refused = marks_on p q l.heard.ended s h.after.refused;
         stage = subst (λ (x : Stage). IsStage catalog q (goes_to l (taken_entry p page n) (record l.heard { part = part; broken = true })) x) (sym stage)
             (record { its_kind = kind_is; its_place = place_is ∙ h.after.before });
       })
@@ -249,8 +250,9 @@ module _ (catalog : Catalog) (asks : List Asked) (journal : Journal) (p : Pump) 
   pub frame_after : (q : Pump) → At → IsTurned catalog q (next.turn catalog asks (left catalog asks journal).heard.awaits (frames.frame_in part))
       → IsFresh catalog asks q q.phase → IsGoing q.phase q.stage → q.have ≡ 0 → q.lacks ≡ 8 → q.before ≡ min (p.before + length part) (2 ^ 64 - 1)
       → length (frames.frame_bytes (frames.frame_in part)) ≡ length part
+      → AreMarked q.refused ((left catalog asks journal).heard.ended ++ next.ended_by (left catalog asks journal).heard.awaits (left catalog asks journal).heard.rows (frames.frame_in part))
       → verdict_here p part ≡ next.Whole → IsAfter catalog asks (journal ++ taken_entry p page n ∷ []) q
-  frame_after q h turned fresh going have lacking before size e =
+  frame_after q h turned fresh going have lacking before size marks e =
       let l : Left = left catalog asks journal in
       let turn : next.Turn = next.turn catalog asks (left catalog asks journal).heard.awaits (frames.frame_in part) in
       let is = stage_bool q q.stage going in
@@ -262,6 +264,7 @@ module _ (catalog : Catalog) (asks : List Asked) (journal : Journal) (p : Pump) 
         awaits = turned.awaits;
         fresh = fresh;
         before = before ∙ more_bytes l.heard (frames.frame_in part) (length part) p.before size h.after.before;
+        refused = marks;
         stage = going_stage q turn q.stage h turned.due going have lacking (next.heard_frame catalog asks l.heard (frames.frame_in part)) refl refl refl;
       })
 

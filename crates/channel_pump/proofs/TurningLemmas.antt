@@ -1,27 +1,26 @@
 -- What the pump awaits next, and what it sends, are those of the definitions.
-use Rattle.std.proofs.Common.{◌≡◌, ◌≢◌, ℕ, zero, suc, ◌+◌, ◌*◌, ◌/◌, ◌%◌, take_while, ◌-◌, ◌<◌, ◌≤◌, Bool, true, false, ◌&&◌, ◌==◌, cond, nat_lt, nat_le, List, [], ◌∷◌, length, take, drop, if◌then◌else◌, slice_index, refl, ap, sym, ◌∙◌, subst, arith}
+use Rattle.std.proofs.Common.{◌≡◌, ◌≢◌, ℕ, zero, suc, ◌+◌, ◌*◌, ◌/◌, ◌%◌, take_while, ◌-◌, ◌<◌, ◌≤◌, Bool, true, false, ◌&&◌, ◌==◌, cond, nat_le, List, [], ◌∷◌, length, drop, if◌then◌else◌, slice_index, ap, sym, ◌∙◌, subst, arith}
 use Rattle.std.proofs.lemmas.Bool.Decides.{nat_tests}
 use Rattle.std.proofs.Math.Nat.{div-add-mod}
 use Rattle.std.proofs.lemmas.List.Sums.{take_while-cons}
 use Rattle.ghost_model.specs.Channel as channel
 use Rattle.ghost_model.specs.Channel.{Catalog}
 use Rattle.std.proofs.lemmas.List.{length-drop, length-take-le}
-use Rattle.ghost_model.specs.Asks.{Asked, ReplyRow, ask_payload, rows_in}
+use Rattle.ghost_model.specs.Asks.{Asked, ask_payload}
 use Rattle.ghost_model.specs.Schema.{Schema}
 use Rattle.ghost_model.specs.Frames as frames
 use Rattle.ghost_model.specs.NextMove as next
 use Rattle.channel_pump.specs.declared.forms.AskForm.{AskForm}
 use Rattle.channel_pump.specs.declared.state.Pump.{Pump}
 use Rattle.channel_pump.specs.declared.state.Phase.{Phase}
-use Rattle.channel_pump.specs.declared.state.Phase.TheVariants.{Greeting, Reply, Over}
-use Rattle.channel_pump.specs.declared.state.Stage.{Stage}
+use Rattle.channel_pump.specs.declared.state.Phase.TheVariants.{Greeting, Reply}
 use Rattle.channel_pump.specs.declared.state.Stage.TheVariants.{Sending, Taking}
-use Rattle.channel_pump.specs.declared.state.Outgoing.TheVariants.{Hello, Ask, More, Bye}
+use Rattle.channel_pump.specs.declared.state.Outgoing.TheVariants.{Ask}
 use Rattle.channel_pump.specs.declared.rows.Tally.{Tally}
 use Rattle.channel_pump.specs.Asked.{AreAsked, form_kinds, width_of, rows_with}
 use Rattle.channel_pump.specs.Here.{Stands, nothing, header_at, reply_header, reply_rows, form_rows, rows_at, table_rows, frames_for, frames_of_reply, frames_at, frames_left}
 use Rattle.channel_pump.proofs.RowLemmas.{rows_count}
-use Rattle.channel_pump.specs.State.{IsAwaiting, IsReplying, IsTurned, IsBefore, first_payload, frame_due, due_at}
+use Rattle.channel_pump.specs.State.{IsAwaiting, IsTurned, first_payload, due_at}
 use Rattle.channel_pump.specs.Turning.{forms_after}
 
 false_is_not : false ≡ true → ⊥

@@ -1,6 +1,7 @@
 -- What the pump's own numbers say of a frame: the rules of the place where it stands, which are those of the definitions
 -- for what it awaits.
 use Rattle.std.specs.Prelude.{◌≡◌, ℕ, ◌+◌, ◌-◌, ◌*◌, ◌<◌, ◌≤◌, Bool, true, false, not, ◌&&◌, ◌==◌, nat_lt, List, [], ◌∷◌, length, if◌then◌else◌}
+use Rattle.std.specs.List.{list_any}
 use Rattle.ghost_model.specs.Channel as channel
 use Rattle.ghost_model.specs.Frames.{frame_version, version_in, kind_in, size_in, serial_in, frame_in}
 use Rattle.ghost_model.specs.Asks.{ReplyRow}
@@ -98,6 +99,12 @@ abbrev pub IsJudged : Pump → List ℕ → Judged → Type 0
 IsJudged p part (judged.Short missing) = (0 < missing) × (length part + missing ≤ 2048)
 IsJudged p part (judged.Whole tally) = Stands p part tally
 IsJudged p part judged.Invalid = Unit {0}
+
+-- whether an ask of a text is still to be ended
+abbrev pub awaits_at : Phase → Pump → (text : ℕ) → Bool
+awaits_at Greeting p text = list_any (λ form. form.text == text) p.rest.now
+awaits_at Reply p text = list_any (λ form. form.text == text) p.rest.now
+awaits_at Over p text = false
 
 -- how many frames may come at most for these asks
 abbrev pub frames_for : List AskForm → ℕ

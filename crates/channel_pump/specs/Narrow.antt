@@ -1,5 +1,5 @@
 -- The widest columns are of 64 bytes.
-use Rattle.std.specs.Prelude.{ℕ, Bool, nat_le}
+use Rattle.std.specs.Prelude.{Bool, nat_le}
 use Rattle.ghost_model.specs.Schema.{Kind}
 use Rattle.ghost_model.specs.Cells.{cell_width}
 

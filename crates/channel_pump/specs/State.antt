@@ -1,11 +1,11 @@
 -- When a pump stands where a journal leaves the key: its fields are what is left of the journal, for a catalog and the
 -- asks of the session.
-use Rattle.std.specs.Prelude.{◌≡◌, ℕ, ◌+◌, ◌-◌, ◌^◌, ◌<◌, ◌≤◌, Bool, true, false, not, List, [], ◌∷◌, ◌++◌, length, take, drop, flat_map, slice_get, min, Option, Some, None}
+use Rattle.std.specs.Prelude.{◌≡◌, ℕ, ◌+◌, ◌-◌, ◌^◌, ◌<◌, ◌≤◌, Bool, true, false, List, [], ◌∷◌, length, take, drop, flat_map, slice_get, min, Option, Some, None}
 use Rattle.ghost_model.specs.Channel as channel
 use Rattle.ghost_model.specs.Channel.{Catalog, Journal, Move}
 use Rattle.ghost_model.specs.Catalog.{catalog_bytes}
-use Rattle.ghost_model.specs.Frames.{frame_bytes, kind_in, frame_in}
-use Rattle.ghost_model.specs.Asks.{Asked, rows_in}
+use Rattle.ghost_model.specs.Frames.{frame_bytes, kind_in}
+use Rattle.ghost_model.specs.Asks.{Asked}
 use Rattle.ghost_model.specs.Moves.{taken}
 use Rattle.ghost_model.specs.NextMove as next
 use Rattle.ghost_model.specs.NextMove.{Awaits, Missing, Nothing, Heard, Left, Turn, left, next_with, heard}
@@ -21,9 +21,8 @@ use Rattle.channel_pump.specs.declared.state.Cause.{Cause}
 use Rattle.channel_pump.specs.declared.state.Cause.TheVariants.{Finished, Link, Protocol}
 use Rattle.channel_pump.specs.declared.state.Want.{Want}
 use Rattle.channel_pump.specs.declared.state.Want.TheVariants as want
-use Rattle.channel_pump.specs.declared.state.Event.{Event}
-use Rattle.channel_pump.specs.declared.state.Event.TheVariants as event
 use Rattle.channel_pump.specs.Asked.{AreAsked}
+use Rattle.channel_pump.specs.Marks.{AreMarked}
 
 -- the forms, serial, number of rows and last identifier are those of the reply that is awaited
 pub record IsReplying (catalog : Catalog) (p : Pump) (asked : Asked) (serial : ℕ) (later : List Asked) (count last : ℕ) : Type 0 where
@@ -165,6 +164,7 @@ pub record IsLeft (catalog : Catalog) (asks : List Asked) (p : Pump) (l : Left) 
   pub awaits : IsAwaiting catalog p p.phase l.heard.awaits
   pub fresh : IsFresh catalog asks p p.phase
   pub before : p.before ≡ counted (bytes_before l.heard)
+  pub refused : AreMarked p.refused l.heard.ended
   pub stage : IsStage catalog p l p.stage
 
 -- the pump stands where the journal leaves a session with these asks

@@ -7,6 +7,7 @@
 
 pub mod forms;
 mod judging;
+pub mod laws;
 pub mod pump;
 mod rows;
 pub mod state;

@@ -1,6 +1,7 @@
 //! The calls of a pump. A session asks what is wanted, does that move and reports its answer.
 
-ghost use Rattle.std.specs.Prelude.{◌≡◌, ℕ, ◌+◌, ◌<◌, ◌≤◌, ◌^◌, ◌++◌, true, List, [], ◌∷◌, length, take, drop, Option, Some};
+ghost use Rattle.std.specs.Prelude.{◌≡◌, ℕ, ◌+◌, ◌<◌, ◌≤◌, ◌^◌, ◌++◌, ◌==◌, true, List, [], ◌∷◌, length, take, drop, Option, Some};
+ghost use Rattle.std.specs.List.{list_any};
 ghost use Rattle.ghost_model.specs.Channel as channel;
 ghost use Rattle.ghost_model.specs.Channel.{Catalog, Journal, Move};
 ghost use Rattle.ghost_model.specs.Asks.{Asked};
@@ -9,7 +10,8 @@ ghost use Rattle.ghost_model.specs.NextMove as next;
 ghost use Rattle.ghost_model.specs.NextMove.{next_with, heard, left};
 ghost use Rattle.ghost_model.specs.Frames.{payload_of};
 ghost use Rattle.channel_codec.specs.Views.{frame_view};
-ghost use Rattle.channel_pump.specs.Here.{moves_left};
+ghost use Rattle.channel_pump.specs.Here.{moves_left, awaits_at};
+ghost use Rattle.channel_pump.specs.Marks.{state_of};
 ghost use Rattle.channel_pump.specs.State as state;
 ghost use Rattle.channel_pump.specs.State.{IsAfter, Keeps, IsWanted, IsTakenBy, FitsPage, Begins, want_of, want_at, is_done_by, can_fail, is_take, entry, taken_entry, cause_at, frame_due};
 ghost use Rattle.channel_pump.specs.Turning.{event_after};
@@ -17,8 +19,15 @@ ghost use Rattle.channel_pump.specs.Progress.{Tells, EndsAs};
 
 use crate::forms::AskForm;
 use crate::judging::Judged;
-use crate::state::{Cause, Event, Outgoing, Phase, Pump, Stage, Want};
+use crate::state::{Cause, Event, Outgoing, Phase, Pump, ReplyState, Stage, Want};
 use channel_codec::frame::{Frame, put_frame};
+
+/// Whether an ask is of this text.
+fn has_text(text: u32, asks: &[AskForm]) -> bool
+    ensures { result ≡ list_any (λ form. form.text == text) asks.now }
+{
+    asks.iter().any(|form| form.text == text)
+}
 
 /// The payload of the first of some asks, and no bytes where there is none.
 fn first_payload<'a>(asks: &'a [AskForm<'a>]) -> &'a [u8]
@@ -50,6 +59,7 @@ impl<'a> Pump<'a> {
             have: 0,
             lacks: 8,
             before: 0,
+            refused: [false; 65],
         }
     }
 
@@ -81,6 +91,37 @@ impl<'a> Pump<'a> {
         match self.stage {
             Stage::Closing(cause) | Stage::Closed(cause) => Some(cause),
             _ => None,
+        }
+    }
+
+    /// Whether an ask of a text is still to be ended.
+    fn awaits_text(&self, text: u32) -> bool
+        ensures { result ≡ awaits_at self.now.phase self.now text }
+    {
+        match self.phase {
+            Phase::Greeting => has_text(text, self.rest),
+            Phase::Reply => has_text(text, self.rest),
+            Phase::Over => false,
+        }
+    }
+
+    /// In what state the replies to the asks of a text are.
+    pub fn reply_state(&self, text: u32) -> ReplyState
+        requires { text ≤ 64 }
+        ensures { (catalog : Catalog) (asks : List Asked) (journal : Journal)
+            → IsAfter catalog asks journal self.now → result ≡ state_of asks text (left catalog asks journal) }
+    {
+        if self.refused[text as usize] {
+            return ReplyState::Host;
+        }
+        if !self.awaits_text(text) {
+            return ReplyState::Done;
+        }
+        match self.cause() {
+            None => ReplyState::Awaited,
+            Some(Cause::Finished) => ReplyState::Awaited,
+            Some(Cause::Link) => ReplyState::Link,
+            Some(Cause::Protocol { .. }) => ReplyState::Protocol,
         }
     }
 
@@ -210,60 +251,62 @@ mod tests {
     use super::*;
     use ghost_base::Kind;
 
+    fn is_same(one: &[u8], other: &[u8]) -> bool {
+        one == other
+    }
+
     // Whether the key, whose takes are answered by at most so many bytes of the stream, sends these frames and is told
-    // these events, and then ends by this cause.
-    fn goes(
-        asks: &[AskForm],
+    // these events, and then ends by this cause, with the replies of the first two texts in these states.
+    fn goes<'a>(
+        asks: &'a [AskForm<'a>],
         step: usize,
         host: &[u8],
         sent: &[&[u8]],
         told: &[Event],
         cause: Cause,
+        states: [ReplyState; 2],
     ) -> bool
         requires asks { 1 + length asks.now < 2 ^ 32 }
         requires step { 0 < step }
     {
-        let mut pump = Pump::begin(5, b"catalog", asks);
+        let mut pump = Pump::begin(5, b"catalog", &*asks);
         let mut page = [0; 2048];
-        let mut stream = host;
-        let mut frames = sent;
-        let mut events = told;
+        let mut taken = 0;
+        let mut frames = 0;
+        let mut events = 0;
         for _ in 0..500 {
             match pump.want() {
                 Want::Dial | Want::Close => pump.made(),
                 Want::Send => {
                     let count = pump.frame(&mut page);
-                    let Some((frame, later)) = frames.split_first() else {
-                        return false
-                    };
-                    if *frame != &page[..count] {
+                    if frames >= sent.len() || !is_same(sent[frames], &page[..count]) {
                         return false;
                     }
-                    frames = later;
+                    frames += 1;
                     pump.made();
                 }
                 Want::Take { at, most } => {
-                    let count = step.min(most).min(stream.len());
+                    let count = step.min(most).min(host.len().saturating_sub(taken));
                     if count == 0 {
                         pump.ended();
                     } else {
-                        let (piece, rest) = stream.split_at(count);
-                        page[at..at + count].copy_from_slice(piece);
-                        stream = rest;
+                        page[at..at + count].copy_from_slice(&host[taken..taken + count]);
+                        taken += count;
                         let event = pump.took(&page, count);
                         if event != Event::Part {
-                            let Some((first, later)) = events.split_first() else {
-                                return false
-                            };
-                            if *first != event {
+                            if events >= told.len() || told[events] != event {
                                 return false;
                             }
-                            events = later;
+                            events += 1;
                         }
                     }
                 }
                 Want::Closed => {
-                    return frames.is_empty() && events.is_empty() && pump.cause() == Some(cause);
+                    return frames == sent.len()
+                        && events == told.len()
+                        && pump.cause() == Some(cause)
+                        && pump.reply_state(1) == states[0]
+                        && pump.reply_state(2) == states[1];
                 }
             }
         }
@@ -296,9 +339,39 @@ mod tests {
             &[4, 1, 0, 0, 0, 0, 0, 0],
         ];
         let told = [Event::Welcome, Event::Rows(2), Event::Done, Event::Sorry(7)];
-        assert!(rt; goes(&asks, 2048, host, &sent, &told, Cause::Finished));
-        assert!(rt; goes(&asks, 1, host, &sent, &told, Cause::Finished));
-        assert!(rt; goes(&asks, 5, &host[..20], &sent[..2], &told[..1], Cause::Link));
+        assert!(rt;
+            goes(
+                &asks,
+                2048,
+                host,
+                &sent,
+                &told,
+                Cause::Finished,
+                [ReplyState::Done, ReplyState::Host]
+            )
+        );
+        assert!(rt;
+            goes(
+                &asks,
+                1,
+                host,
+                &sent,
+                &told,
+                Cause::Finished,
+                [ReplyState::Done, ReplyState::Host]
+            )
+        );
+        assert!(rt;
+            goes(
+                &asks,
+                5,
+                &host[..20],
+                &sent[..2],
+                &told[..1],
+                Cause::Link,
+                [ReplyState::Link, ReplyState::Link]
+            )
+        );
         let invalid = Event::Invalid { kind: 18, at: 16 };
         assert!(rt;
             goes(
@@ -307,7 +380,8 @@ mod tests {
                 &host[..36],
                 &[sent[0], &[2, 1, 0, 3, 0, 0, 0, 1, 0, 0, 0]],
                 &[Event::Welcome, invalid],
-                Cause::Protocol { kind: 18, at: 16 }
+                Cause::Protocol { kind: 18, at: 16 },
+                [ReplyState::Done, ReplyState::Protocol]
             )
         );
     }

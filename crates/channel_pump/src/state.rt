@@ -87,6 +87,21 @@ pub enum Event {
     Invalid { kind: u8, at: u64 },
 }
 
+/// In what state the replies to a text's asks are.
+#[derive(Clone, Copy, Debug, PartialEq, Eq)]
+pub enum ReplyState {
+    /// Each was ended by DONE.
+    Done,
+    /// One was refused by the host.
+    Host,
+    /// The link ended or failed before they were ended.
+    Link,
+    /// An invalid frame came before they were ended.
+    Protocol,
+    /// Some are awaited.
+    Awaited,
+}
+
 /// The key's side of a session.
 #[derive(Drop)]
 pub struct Pump<'a> {
@@ -110,6 +125,8 @@ pub struct Pump<'a> {
     pub(crate) lacks: usize,
     /// How many bytes were taken before it, which stays at the greatest number of 64 bits.
     pub(crate) before: u64,
+    /// Of which texts, by their numbers, an ask was refused.
+    pub(crate) refused: [bool; 65],
     ghost serials: { serial + length rest.now < 2 ^ 32 },
     ghost counted: { count ≤ last },
     ghost bounded: { have + lacks ≤ 2048 },

@@ -8,6 +8,7 @@ ghost use Rattle.ghost_model.specs.NextMove as next;
 ghost use Rattle.channel_pump.specs.Asked.{AreAsked};
 ghost use Rattle.channel_pump.specs.Here.{Stands, header_at, payload_at, frames_left, frames_for};
 ghost use Rattle.channel_pump.specs.State.{IsAwaiting, IsFresh, IsBefore, IsTurned, IsGoing};
+ghost use Rattle.channel_pump.specs.Marks.{marked_on};
 ghost use Rattle.channel_pump.specs.Turning.{forms_after, event_of};
 
 use crate::forms::AskForm;
@@ -45,6 +46,7 @@ impl<'a> Pump<'a> {
         ensures lacks { self.new.lacks ≡ self.old.lacks }
         ensures before { self.new.before ≡ self.old.before }
         ensures generation { self.new.generation ≡ self.old.generation }
+        ensures refused { self.new.refused ≡ self.old.refused }
     {
         self.serial = serial;
         self.rest = asks;
@@ -73,6 +75,7 @@ impl<'a> Pump<'a> {
         ensures lacks { self.new.lacks ≡ self.old.lacks }
         ensures before { self.new.before ≡ self.old.before }
         ensures generation { self.new.generation ≡ self.old.generation }
+        ensures refused { self.new.refused ≡ self.old.refused }
     {
         let size = size_in(part) as usize - 1;
         if size == self.missing.len() {
@@ -98,6 +101,7 @@ impl<'a> Pump<'a> {
         ensures lacks { self.new.lacks ≡ self.old.lacks }
         ensures before { self.new.before ≡ self.old.before }
         ensures generation { self.new.generation ≡ self.old.generation }
+        ensures refused { self.new.refused ≡ marked_on result self.old.rest.now self.old.refused }
         ensures event { result ≡ event_of tally.rows (frames.frame_in part.now) }
     {
         let Some((ended, later)) = self.rest.split_first() else {
@@ -115,6 +119,7 @@ impl<'a> Pump<'a> {
                 Event::Done
             }
             _ => {
+                self.refused[ended.text as usize] = true;
                 self.go_on_with(self.serial + 1, after_text(ended.text, later));
                 Event::Sorry(part[HEADER_BYTES])
             }
@@ -135,6 +140,7 @@ impl<'a> Pump<'a> {
         ensures lacks { self.new.lacks ≡ self.old.lacks }
         ensures before { self.new.before ≡ self.old.before }
         ensures generation { self.new.generation ≡ self.old.generation }
+        ensures refused { self.new.refused ≡ marked_on result self.old.rest.now self.old.refused }
         ensures event { result ≡ event_of tally.rows (frames.frame_in part.now) }
     {
         match self.phase {

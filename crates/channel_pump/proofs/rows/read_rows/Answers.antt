@@ -1,5 +1,4 @@
-use Rattle.std.proofs.Common.{◌≡◌, ℕ, ◌≤◌, ◌<◌, ◌/◌, ◌+◌, ◌-◌, ◌*◌, true, false, List, length, take, drop, refl, ap, sym, ◌∙◌, subst, arith}
-use Rattle.std.proofs.lemmas.List.{length-drop}
+use Rattle.std.proofs.Common.{◌≡◌, ℕ, ◌/◌, false, List, length, take, ap, sym, ◌∙◌, subst, arith}
 use Rattle.ghost_model.specs.Asks.{row_in, rows_from}
 use Rattle.ghost_model.specs.NextMove.{rows_fit, last_identifier}
 use Rattle.channel_pump.specs.Asked.{form_kinds, width_of, rows_with}

@@ -1,4 +1,4 @@
-use Rattle.std.proofs.Common.{◌≡◌, ℕ, ◌≤◌, length, ◌+◌, ◌*◌, ◌/◌}
+use Rattle.std.proofs.Common.{◌≡◌, ◌≤◌, length, ◌+◌, ◌*◌, ◌/◌}
 use Rattle.channel_pump.specs.Asked.{form_kinds, width_of, rows_with}
 use Rattle.channel_pump.proofs.RowLemmas.{RowsLeft}
 use Rattle.channel_pump.proofs.rows.read_rows.Given as goal

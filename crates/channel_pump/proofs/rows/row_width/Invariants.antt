@@ -1,4 +1,4 @@
-use Rattle.std.proofs.Common.{◌≡◌, ℕ, ◌≤◌, length, map, IsTrue, ◌+◌, ◌*◌, sum}
+use Rattle.std.proofs.Common.{◌≡◌, ◌≤◌, length, map, IsTrue, ◌+◌, ◌*◌, sum}
 use Rattle.std.specs.List.{list_all}
 use Rattle.ghost_model.specs.Cells.{cell_width}
 use Rattle.ghost_base.specs.Views.{kind_of}

@@ -1,11 +1,10 @@
-use Rattle.std.proofs.Common.{◌≡◌, ◌≢◌, ◌≤◌, ◌<◌, ℕ, ◌+◌, ◌-◌, List, ◌∷◌, length, drop, refl, ap, sym, ◌∙◌, subst, arith}
+use Rattle.std.proofs.Common.{◌≢◌, ◌≤◌, ℕ, ◌+◌, List, refl, ap, sym, ◌∙◌, subst, arith}
 use Rattle.ghost_model.specs.Frames as frames
 use Rattle.ghost_model.specs.NextMove as next
 use Rattle.channel_pump.specs.declared.forms.AskForm.{AskForm}
 use Rattle.channel_pump.specs.Asked.{AreAsked}
 use Rattle.channel_pump.specs.Here.{frames_for}
 use Rattle.channel_pump.specs.State.{IsTurned}
-use Rattle.channel_pump.specs.Turning.{forms_after}
 use Rattle.channel_pump.proofs.TurningLemmas.{fewer_by_rows, fewer_by_end, frames_dropped, refused_asks, refused_turn}
 use Rattle.channel_pump.proofs.state.Pump.replied.Goals as goal
 

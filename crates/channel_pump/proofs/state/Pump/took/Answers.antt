@@ -1,16 +1,16 @@
-use Rattle.std.proofs.Common.{◌≡◌, ℕ, ◌+◌, ◌-◌, ◌^◌, min, List, [], ◌∷◌, ◌++◌, length, take, drop, refl, ap, sym, ◌∙◌, subst, arith}
-use Rattle.ghost_model.specs.Channel.{Catalog, Journal}
-use Rattle.ghost_model.specs.Asks.{Asked}
+use Rattle.std.proofs.Common.{◌≡◌, ℕ, ◌+◌, ◌-◌, ◌^◌, min, Bool, List, [], ◌∷◌, ◌++◌, length, take, refl, ap, sym, ◌∙◌, subst, arith}
 use Rattle.ghost_model.specs.Frames as frames
 use Rattle.ghost_model.specs.NextMove as next
 use Rattle.ghost_model.specs.NextMove.{left}
 use Rattle.channel_pump.specs.Here.{Stands, verdict_here}
-use Rattle.channel_pump.specs.State.{IsAfter, Keeps, IsTurned, taken_entry}
+use Rattle.channel_pump.specs.State.{IsTurned, taken_entry}
 use Rattle.channel_pump.specs.declared.state.Event.{Event}
 use Rattle.channel_pump.specs.Progress.{Tells}
 use Rattle.channel_pump.specs.Turning.{event_of}
-use Rattle.channel_pump.proofs.ReportLemmas.{Same, same_fields, awaits_on, fresh_on}
+use Rattle.channel_pump.proofs.ReportLemmas.{same_fields, awaits_on, fresh_on}
 use Rattle.channel_pump.proofs.TookLemmas.{At, taking_stage, part_after, part_keeps, part_event, invalid_after, invalid_keeps, invalid_event, frame_after, frame_keeps, frame_event, whole_length, frame_size, part_length, payload_of_front}
+use Rattle.channel_pump.specs.Marks.{AreMarked, marked_on}
+use Rattle.channel_pump.proofs.MarkLemmas.{frame_marks}
 use Rattle.channel_pump.proofs.ProgressLemmas.{part_tells, invalid_tells, frame_tells}
 use Rattle.channel_pump.proofs.state.Pump.took.Goals as goal
 
@@ -18,7 +18,7 @@ pub returns-in-Short-clause-after : goal.returns-in-Short-clause-after
 returns-in-Short-clause-after c catalog asks journal h k =
     part_after catalog asks journal c.args.self.now c.args.page.now c.args.n _ _
     (record { after = h; keeps = k; some = c.requires.some; taken_by = c.requires.taken; room = c.requires.room })
-    (same_fields _ _ refl refl refl refl refl refl) refl (taking_stage c.args.self.now c.args.n c.args.self.now.stage c.requires.taken) refl refl
+    (same_fields _ _ refl refl refl refl refl refl refl) refl (taking_stage c.args.self.now c.args.n c.args.self.now.stage c.requires.taken) refl refl
     (sym (c.in-Short.ensures.verdict ∙ ap (verdict_here c.args.self.now) c.split_at.ensures.front))
 
 pub returns-in-Short-clause-keeps : goal.returns-in-Short-clause-keeps
@@ -37,7 +37,7 @@ pub returns-in-Invalid-clause-after : goal.returns-in-Invalid-clause-after
 returns-in-Invalid-clause-after c catalog asks journal h k =
     invalid_after catalog asks journal c.args.self.now c.args.page.now c.args.n _ _ _
     (record { after = h; keeps = k; some = c.requires.some; taken_by = c.requires.taken; room = c.requires.room })
-    (same_fields _ _ refl refl refl refl refl refl) refl refl (ap frames.kind_in c.split_at.ensures.front) refl
+    (same_fields _ _ refl refl refl refl refl refl refl) refl refl (ap frames.kind_in c.split_at.ensures.front) refl
     (sym (c.in-Invalid.ensures.verdict ∙ ap (verdict_here c.args.self.now) c.split_at.ensures.front))
 
 pub returns-in-Invalid-clause-keeps : goal.returns-in-Invalid-clause-keeps
@@ -64,14 +64,20 @@ returns-in-Whole-clause-after c catalog asks journal h k =
     let turned : IsTurned catalog c.hear.new.self (next.turn catalog asks (left catalog asks journal).heard.awaits (frames.frame_in (take (c.args.self.now.have + c.args.n) c.args.page.now))) =
     subst (λ (x : List ℕ). IsTurned catalog c.hear.new.self (next.turn catalog asks (left catalog asks journal).heard.awaits (frames.frame_in x))) c.split_at.ensures.front
     (c.hear.ensures.turned catalog asks (left catalog asks journal).heard.awaits
-    (awaits_on catalog c.args.self.now _ (left catalog asks journal).heard.awaits (same_fields _ _ refl refl refl refl refl refl) h.awaits)
-    (fresh_on catalog asks c.args.self.now _ (same_fields _ _ refl refl refl refl refl refl) h.fresh)) in
+    (awaits_on catalog c.args.self.now _ (left catalog asks journal).heard.awaits (same_fields _ _ refl refl refl refl refl refl refl) h.awaits)
+    (fresh_on catalog asks c.args.self.now _ (same_fields _ _ refl refl refl refl refl refl refl) h.fresh)) in
     frame_after catalog asks journal c.args.self.now c.args.page.now c.args.n c.hear.new.self at turned
-    (c.hear.ensures.fresh catalog asks (fresh_on catalog asks c.args.self.now _ (same_fields _ _ refl refl refl refl refl refl) h.fresh))
+    (c.hear.ensures.fresh catalog asks (fresh_on catalog asks c.args.self.now _ (same_fields _ _ refl refl refl refl refl refl refl) h.fresh))
     c.hear.ensures.going c.hear.ensures.have c.hear.ensures.lacks
     (c.hear.ensures.before ∙ (c.saturating_add-self.ensures
     ∙ ap (λ (x : List ℕ). min (c.args.self.now.before + length x) (2 ^ 64 - 1)) c.split_at.ensures.front))
     (frame_size c.args.self.now (take (c.args.self.now.have + c.args.n) c.args.page.now) c.in-Whole.tally stands size)
+    (subst (λ (marks : List Bool). AreMarked marks ((left catalog asks journal).heard.ended
+    ++ next.ended_by (left catalog asks journal).heard.awaits (left catalog asks journal).heard.rows (frames.frame_in (take (c.args.self.now.have + c.args.n) c.args.page.now))))
+    (sym (c.hear.ensures.refused ∙ ap (λ (e : Event). marked_on e c.args.self.now.rest.now c.args.self.now.refused)
+    (c.hear.ensures.event ∙ ap (λ (x : List ℕ). event_of c.in-Whole.tally.rows (frames.frame_in x)) c.split_at.ensures.front)))
+    (frame_marks catalog c.args.self.now (left catalog asks journal).heard.awaits (left catalog asks journal).heard.ended (left catalog asks journal).heard.rows c.in-Whole.tally.rows
+    (take (c.args.self.now.have + c.args.n) c.args.page.now) h.awaits stands.header h.refused))
     (sym (c.in-Whole.ensures.verdict ∙ ap (verdict_here c.args.self.now) c.split_at.ensures.front))
 
 pub returns-in-Whole-clause-keeps : goal.returns-in-Whole-clause-keeps

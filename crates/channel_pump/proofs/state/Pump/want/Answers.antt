@@ -1,6 +1,5 @@
-use Rattle.std.proofs.Common.{refl}
 use Rattle.ghost_model.specs.NextMove.{left}
-use Rattle.channel_pump.proofs.ReportLemmas.{wants_dial, wants_send, wants_take, wants_close, wants_none}
+use Rattle.channel_pump.proofs.ReportLemmas.{wants_dial, wants_send, wants_take, wants_close}
 use Rattle.channel_pump.proofs.state.Pump.want.Goals as goal
 
 pub returns-in-Dialling-clause-next : goal.returns-in-Dialling-clause-next
