@@ -81,5 +81,4 @@ abbrev pub form_query : List ℕ → Query
 form_query wanted = record {
   from = 0 ∷ [];
   select = record { table = 0; column = 2 } ∷ [];
-  conditions = Compare (record { table = 0; column = 1 }) Equal (Text wanted) ∷ [];
-}
+  conditions = Compare (record { table = 0; column = 1 }) Equal (Text wanted) ∷ [] }
