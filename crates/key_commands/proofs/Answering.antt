@@ -1,5 +1,5 @@
 -- How the host in the process answers a frame of the key.
-use Rattle.std.proofs.Common.{◌≡◌, ℕ, zero, suc, ◌+◌, ◌-◌, ◌*◌, ◌/◌, ◌<◌, ◌≤◌, ◌^◌, Bool, true, false, List, [], ◌∷◌, ◌++◌, length, map, take, drop, sym, ◌∙◌, ap, subst, refl, arith, append-nil, Option, Some, None}
+use Rattle.std.proofs.Common.{◌≡◌, ℕ, ◌+◌, ◌-◌, ◌/◌, ◌<◌, ◌≤◌, Bool, true, false, List, [], ◌∷◌, ◌++◌, length, map, take, drop, sym, ◌∙◌, ap, subst, refl, arith, append-nil, Option, Some, None}
 use Rattle.std.specs.Prelude.{flat_map, if◌then◌else◌, ◌==◌}
 use Rattle.std.proofs.lemmas.List.{take_all}
 use Rattle.std.proofs.lemmas.Bool.{eq-eqb, eqb-true}
@@ -51,7 +51,7 @@ greeted held column cell answered catalog speech generation frame hello is few a
     record {
       stand = sym (ap (λ (a : Response). a.stand) same);
       says = said ∙ (sym (append-nil (frame_bytes (Welcome 1 catalog)))
-      ∙ (sym (ap (flat_map frame_bytes) (welcomes_are held catalog is few)) ∙ ap (λ (a : Response). flat_map frame_bytes a.says) same));
+          ∙ (sym (ap (flat_map frame_bytes) (welcomes_are held catalog is few)) ∙ ap (λ (a : Response). flat_map frame_bytes a.says) same));
     }
 
 -- an ask of the one kind

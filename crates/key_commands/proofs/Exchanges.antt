@@ -1,21 +1,20 @@
 -- A session with one ask, frame by frame: what the key has due, what the host says to it, and what the key then has due.
-use Rattle.std.proofs.Common.{◌≡◌, ℕ, zero, suc, ◌+◌, ◌-◌, ◌*◌, ◌/◌, ◌<◌, ◌≤◌, ◌^◌, Bool, true, false, List, [], ◌∷◌, ◌++◌, length, map, take, drop, sym, ◌∙◌, ap, subst, refl, arith, append-nil, append_assoc, length-append, length-take, Option, Some, None, lit<}
+use Rattle.std.proofs.Common.{◌≡◌, ℕ, suc, ◌+◌, ◌*◌, ◌/◌, ◌<◌, ◌^◌, Bool, true, false, List, [], ◌∷◌, ◌++◌, length, map, take, drop, sym, ◌∙◌, ap, subst, refl, arith, append-nil, append_assoc, length-append, length-take, Option, Some, lit<}
 use Rattle.std.specs.Prelude.{flat_map, if◌then◌else◌, ◌&&◌, ◌==◌, nat_lt, nat_le, All}
-use Rattle.std.proofs.lemmas.List.{length-drop, take-append-drop}
+use Rattle.std.proofs.lemmas.List.{take-append-drop}
 use Rattle.std.proofs.lemmas.List.Elements.{All-take, All-drop}
 use Rattle.std.proofs.lemmas.Grind.{flat_map-append}
 use Rattle.std.proofs.lemmas.Bool.{eq-eqb, lt-ltb, le-leb}
-use Rattle.ghost_model.specs.Schema.{Kind, is_empty}
+use Rattle.ghost_model.specs.Schema.{Kind}
 use Rattle.ghost_model.specs.Catalog.{catalog_bytes}
-use Rattle.ghost_model.specs.Channel.{Catalog, Ask, Frame, Hello, Asking, More, Bye, Welcome, Replied, Done}
-use Rattle.ghost_model.specs.Frames.{IsFrame, AreBytes, frame_bytes}
+use Rattle.ghost_model.specs.Channel.{Ask, Frame, Hello, Asking, More, Bye, Welcome, Replied, Done}
+use Rattle.ghost_model.specs.Frames.{IsFrame, AreBytes}
 use Rattle.ghost_model.specs.Asks.{Asked, ReplyRow, IsReplyRow, row_bytes, row_width, kinds_of, rows_in, ask_payload}
-use Rattle.ghost_model.specs.NextMove as next
-use Rattle.ghost_model.specs.NextMove.{Awaits, Missing, Reply, Nothing, Heard, rows_fit, rows_of, last_identifier, are_cells, heard_frame, turn, turn_of_greeting, on_with, still, rows_after, ended_by, ended, Ended, Answered, IsAwaited}
+use Rattle.ghost_model.specs.NextMove.{Awaits, Missing, Reply, Nothing, Heard, rows_fit, rows_of, last_identifier, are_cells, heard_frame, on_with, still, ended, Ended, Answered, IsAwaited}
 use Rattle.ghost_model.specs.Host.{Holding, Stand, Greeting, Listening, Replying, Over, Response, answer_to, answers_ask, goes_on, after_reply, reply_to, rows_frame, grouped, IsGroup}
 use Rattle.ghost_model.proofs.ChannelLemmas.Replies.{done_awaited, rows_awaited, number_bytes}
 use Rattle.ghost_model.proofs.ChannelLemmas.Greeting.{welcome_awaited, front_bytes}
-use Rattle.ghost_model.proofs.ChannelLemmas.Rows.{rows_length, spelled_rows_are_read}
+use Rattle.ghost_model.proofs.ChannelLemmas.Rows.{spelled_rows_are_read}
 use Rattle.ghost_model.proofs.ChannelLemmas.Tests.{both_hold, hold_both, BothHold}
 use Rattle.key_commands.specs.Hosting.{reply_left}
 use Rattle.key_commands.specs.Serving.{ServesAsk}
@@ -101,9 +100,9 @@ module _ (held : Holding) (asked : Asked) (can : ServesAsk held asked) where
   group_of h got todo going some =
       let size : length (take 510 todo) * row_width held.catalog.schema asked.ask ≡ length (take 510 todo) * 4 = ap (λ (w : ℕ). length (take 510 todo) * w) can.narrow in
       let front : rows_fit (rows_of held.catalog asked.ask.table) going.last (kinds_of held.catalog.schema asked.ask) (take 510 todo ++ drop 510 todo) ≡ true =
-          ap (rows_fit (rows_of held.catalog asked.ask.table) going.last (kinds_of held.catalog.schema asked.ask)) (take-append-drop 510 todo) ∙ going.fits in
+      ap (rows_fit (rows_of held.catalog asked.ask.table) going.last (kinds_of held.catalog.schema asked.ask)) (take-append-drop 510 todo) ∙ going.fits in
       let spelled : flat_map row_bytes todo ≡ flat_map row_bytes (take 510 todo) ++ flat_map row_bytes (drop 510 todo) =
-          ap (flat_map row_bytes) (sym (take-append-drop 510 todo)) ∙ flat_map-append row_bytes (take 510 todo) (drop 510 todo) in
+      ap (flat_map row_bytes) (sym (take-append-drop 510 todo)) ∙ flat_map-append row_bytes (take 510 todo) (drop 510 todo) in
       record {
         some = omega (arith, length-take 510 todo, some);
         fits = omega (arith, length-take 510 todo, size);
@@ -131,7 +130,7 @@ module _ (held : Holding) (asked : Asked) (can : ServesAsk held asked) where
   next_reply h got (row ∷ todo) going =
       let some : 0 < length (row ∷ todo) = omega arith in
       let after : after_reply 1 (reply_left 1 (length got + length (take 510 (row ∷ todo))) (drop 510 (row ∷ todo))) ≡ Replying 1 (reply_left 1 (length got + length (take 510 (row ∷ todo))) (drop 510 (row ∷ todo))) =
-          still_replying 1 (length got + length (take 510 (row ∷ todo))) (drop 510 (row ∷ todo)) in
+      still_replying 1 (length got + length (take 510 (row ∷ todo))) (drop 510 (row ∷ todo)) in
       subst (λ (frames : List Frame). Exchanged h got (goes_on 1 frames)) (sym (at_rows 1 (length got) (row ∷ todo) some))
       (record {
         frame = rows_frame 1 (take 510 (row ∷ todo));
@@ -230,13 +229,15 @@ module _ (held : Holding) (asked : Asked) (can : ServesAsk held asked) where
 
   after_welcome :
       (h : Heard) (b : Bool) → b ≡ true
-      → Turned h (record { awaits = (if b then on_with held.catalog.schema 1 (asked ∷ []) else still (Missing (drop (length (catalog_bytes held.catalog)) (catalog_bytes held.catalog)))).awaits;
+      → Turned h (record {
+        awaits = (if b then on_with held.catalog.schema 1 (asked ∷ []) else still (Missing (drop (length (catalog_bytes held.catalog)) (catalog_bytes held.catalog)))).awaits;
         part = [];
         frames = h.frames ++ Welcome 1 (catalog_bytes held.catalog) ∷ [];
         due = h.due ++ (if b then on_with held.catalog.schema 1 (asked ∷ []) else still (Missing (drop (length (catalog_bytes held.catalog)) (catalog_bytes held.catalog)))).due;
         rows = [];
         ended = [];
-        broken = false }) [] (Listening 1)
+        broken = false;
+      }) [] (Listening 1)
   after_welcome h true e = record {
     frame = Asking 1 (ask_payload held.catalog.schema asked.ask);
     due = refl;
@@ -283,9 +284,9 @@ module _ (held : Holding) (asked : Asked) (can : ServesAsk held asked) where
       let read : rows_in held.catalog.schema asked.ask (flat_map row_bytes (take 510 todo)) ≡ take 510 todo = spelled_rows_are_read held.catalog.schema asked.ask (take 510 todo) is.widths in
       let count : length (got ++ take 510 todo) ≡ length got + length (take 510 todo) = length-append got (take 510 todo) in
       let fits : rows_fit (rows_of held.catalog asked.ask.table) going.last (kinds_of held.catalog.schema asked.ask) (take 510 todo ++ drop 510 todo) ≡ true =
-          ap (rows_fit (rows_of held.catalog asked.ask.table) going.last (kinds_of held.catalog.schema asked.ask)) (take-append-drop 510 todo) ∙ going.fits in
+      ap (rows_fit (rows_of held.catalog asked.ask.table) going.last (kinds_of held.catalog.schema asked.ask)) (take-append-drop 510 todo) ∙ going.fits in
       let spelled : flat_map row_bytes todo ≡ flat_map row_bytes (take 510 todo) ++ flat_map row_bytes (drop 510 todo) =
-          ap (flat_map row_bytes) (sym (take-append-drop 510 todo)) ∙ flat_map-append row_bytes (take 510 todo) (drop 510 todo) in
+      ap (flat_map row_bytes) (sym (take-append-drop 510 todo)) ∙ flat_map-append row_bytes (take 510 todo) (drop 510 todo) in
       record {
         frame = More 1;
         due = refl;

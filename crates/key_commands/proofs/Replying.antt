@@ -1,11 +1,11 @@
 -- A reply, frame by frame.
-use Rattle.std.proofs.Common.{◌≡◌, ℕ, zero, suc, ◌+◌, ◌-◌, ◌*◌, ◌/◌, ◌<◌, ◌≤◌, ◌^◌, Bool, true, false, List, [], ◌∷◌, ◌++◌, length, map, take, drop, sym, ◌∙◌, ap, subst, refl, arith, append-nil, append_assoc, length-append, length-take, Option, Some, None}
+use Rattle.std.proofs.Common.{◌≡◌, ℕ, zero, suc, ◌+◌, ◌-◌, ◌*◌, ◌/◌, ◌<◌, Bool, false, List, [], ◌∷◌, ◌++◌, length, map, take, drop, sym, ◌∙◌, ap, refl, arith, append-nil, length-append, length-take, Some}
 use Rattle.std.specs.Prelude.{flat_map, if◌then◌else◌}
 use Rattle.std.proofs.lemmas.List.{length-drop, take-append-drop, nil_from_length}
 use Rattle.ghost_model.specs.Schema.{is_empty}
 use Rattle.ghost_model.specs.Channel.{Frame, Replied, Done}
 use Rattle.ghost_model.specs.Frames.{frame_bytes}
-use Rattle.ghost_model.specs.Asks.{ReplyRow, row_bytes}
+use Rattle.ghost_model.specs.Asks.{ReplyRow}
 use Rattle.ghost_model.specs.Host.{Stand, Listening, Replying, Response, goes_on, after_reply, rows_frame, grouped, groups_from}
 use Rattle.key_commands.specs.Texts.{TextList}
 use Rattle.key_commands.specs.FormMeaning.{bare_row, identifier_bytes}
@@ -103,10 +103,10 @@ goes_rows column cell serial place sent next count answered goes some left count
     let long : 0 < length (map bare_row ids) = let n = bare_count ids in let m = length-take 510 ids in omega (arith, n, m, some) in
     let front : take 510 (map bare_row ids) ≡ map bare_row (take 510 ids) = bare_front 510 ids in
     let spelled : rows_frame serial (take 510 (map bare_row ids)) ≡ Replied serial (identifier_bytes (take 510 ids)) =
-        ap (rows_frame serial) front ∙ ap (Replied serial) (bytes_of_rows (take 510 ids)) in
+    ap (rows_frame serial) front ∙ ap (Replied serial) (bytes_of_rows (take 510 ids)) in
     let back : drop 510 (map bare_row ids) ≡ map bare_row (matching_from column cell next) = bare_back 510 ids ∙ ap (map bare_row) (sym left) in
     let number : sent + length (take 510 (map bare_row ids)) ≡ sent + count =
-        ap (λ (n : ℕ). sent + n) (ap length front ∙ (bare_count (take 510 ids) ∙ sym counted)) in
+    ap (λ (n : ℕ). sent + n) (ap length front ∙ (bare_count (take 510 ids) ∙ sym counted)) in
     goes_as serial (Replied serial (identifier_bytes (take 510 ids))) (reply_left serial (sent + count) (map bare_row (matching_from column cell next)))
     (reply_left serial sent (map bare_row ids)) (Replying serial (reply_left serial (sent + count) (map bare_row (matching_from column cell next)))) answered goes
     (at_rows serial sent (map bare_row ids) long
@@ -144,5 +144,5 @@ said_rows column cell serial place sent next answered speech rows size goes coun
     record {
       stand = more.stand_is;
       says = said ∙ (ap (λ (r : List ℕ). frame_bytes (Replied serial r)) are
-      ∙ (sym (append-nil (frame_bytes (Replied serial (identifier_bytes (take 510 (matching_from column cell place)))))) ∙ sym (ap (flat_map frame_bytes) more.says)));
+          ∙ (sym (append-nil (frame_bytes (Replied serial (identifier_bytes (take 510 (matching_from column cell place)))))) ∙ sym (ap (flat_map frame_bytes) more.says)));
     }

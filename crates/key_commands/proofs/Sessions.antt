@@ -6,15 +6,14 @@ use Rattle.ghost_model.specs.Frames.{number_in}
 use Rattle.ghost_model.specs.Asks.{rows_from}
 use Rattle.ghost_model.proofs.ChannelLemmas.Tests.{take_front}
 use Rattle.key_commands.specs.Serving.{identifier_of}
-
-use Rattle.std.specs.Prelude.{Bool, true, false, ◌||◌, Option, Some, None, flat_map, All, ◌==◌, min}
+use Rattle.std.specs.Prelude.{Bool, true, false, ◌||◌, Option, Some, None, flat_map, All, min}
 use Rattle.std.proofs.lemmas.Grind.{flat_map-append}
 use Rattle.ghost_model.proofs.ChannelLemmas.Tests.{both_hold, hold_both}
 use Rattle.key_commands.specs.Texts.{TextList}
 use Rattle.key_commands.proofs.Journals.{goes_on_with, begins_at}
 use Rattle.std.specs.List.{list_all, concat}
 use Rattle.ghost_model.proofs.ChannelLemmas.Hosts.{frames_are_cut}
-use Rattle.ghost_model.specs.Channel.{Catalog, Frame, Hello, Asking, More, Bye, Welcome, Replied, Done, Sorry, Move, Dial, Send, Take, Close, Answer, Made, Piece, Entry, Journal}
+use Rattle.ghost_model.specs.Channel.{Catalog, Frame, Hello, Asking, More, Bye, Welcome, Replied, Done, Sorry, Move, Send, Take, Close, Made, Piece, Entry, Journal}
 use Rattle.ghost_model.specs.Frames.{IsFrame, frame_bytes, frame_in, size_in, payload_in}
 use Rattle.ghost_model.specs.Moves.{line, lines, taken, sent, sent_by, piece_of}
 use Rattle.ghost_model.specs.Asks.{Asked, ReplyRow, ask_payload}
@@ -171,7 +170,7 @@ finished_more held asked can journal entry stand owes got there e (closes is) sh
 finished_more held asked can journal entry stand owes got there e (goes_on_after not) shut =
     let before : (left held.catalog (asked ∷ []) journal).closed ≡ false = still_open held asked can (left held.catalog (asked ∷ []) journal) stand owes got entry.move there e in
     let after : (left held.catalog (asked ∷ []) (journal ++ entry ∷ [])).closed ≡ false =
-        ap (λ (l : Left). l.closed) (left_more held.catalog (asked ∷ []) journal entry) ∙ neither _ _ before not in
+    ap (λ (l : Left). l.closed) (left_more held.catalog (asked ∷ []) journal entry) ∙ neither _ _ before not in
     absurd (false_is_not (sym after ∙ shut))
   where
     neither : (a b : Bool) → a ≡ false → b ≡ false → (a || b) ≡ false
@@ -306,8 +305,8 @@ sent_move held asked name can start now later pump next_pump host next_host page
     let s = send_at held asked can (left held.catalog (asked ∷ []) r.journal) r.stand (owed host.speech) r.got bytes r.there next in
     let a = answers_at held asked can (left held.catalog (asked ∷ []) r.journal) r.stand (owed host.speech) r.got bytes s in
     let says = answered r.stand s.frame a.response r.stands
-        (sending_is_frame held asked can (left held.catalog (asked ∷ []) r.journal) r.stand (owed host.speech) r.got bytes s) s.spelled
-        (sending_can_come held asked can (width_of host) (left held.catalog (asked ∷ []) r.journal) r.stand (owed host.speech) r.got bytes r.asks s) a.is in
+    (sending_is_frame held asked can (left held.catalog (asked ∷ []) r.journal) r.stand (owed host.speech) r.got bytes s) s.spelled
+    (sending_can_come held asked can (width_of host) (left held.catalog (asked ∷ []) r.journal) r.stand (owed host.speech) r.got bytes r.asks s) a.is in
     more_moves held asked name can start now later pump next_pump host next_host page next_page ids ids r (record { move = Send bytes; answer = Made }) r.got a.response.stand next after
     (keeps_same held.catalog (asked ∷ []) r.journal (record { move = Send bytes; answer = Made }) next_page refl keeps) wrote refl (goes_on_after refl)
     (a.leads (owed next_host.speech) says.says) says.stand same
@@ -350,10 +349,13 @@ take_lacks a b c d e = cc
 
 not_dial : (a b : ℕ) → want.Take a b ≡ want.Dial → ⊥
 not_dial a b e = cc
+
 not_send : (a b : ℕ) → want.Take a b ≡ want.Send → ⊥
 not_send a b e = cc
+
 not_close : (a b : ℕ) → want.Take a b ≡ want.Close → ⊥
 not_close a b e = cc
+
 not_closed : (a b : ℕ) → want.Take a b ≡ want.Closed → ⊥
 not_closed a b e = cc
 
@@ -382,10 +384,13 @@ pub record Heed (event : Event) (page ids next_ids : List ℕ) (room : ℕ) : Ty
 
 part_is_not : (event : Event) (n : ℕ) → event ≡ event_is.Part → event ≡ event_is.Rows n → ⊥
 part_is_not event n e f = cc
+
 welcome_is_not : (event : Event) (n : ℕ) → event ≡ event_is.Welcome → event ≡ event_is.Rows n → ⊥
 welcome_is_not event n e f = cc
+
 done_is_not : (event : Event) (n : ℕ) → event ≡ event_is.Done → event ≡ event_is.Rows n → ⊥
 done_is_not event n e f = cc
+
 sorry_is_not : (event : Event) (code n : ℕ) → event ≡ event_is.Sorry code → event ≡ event_is.Rows n → ⊥
 sorry_is_not event code n e f = cc
 
@@ -456,13 +461,13 @@ took_move held asked name can start now later pump next_pump host next_host page
     let k = taking_is held.catalog (asked ∷ []) pump (left held.catalog (asked ∷ []) r.journal) place most r.after wanted in
     let size : length (take count (drop place next_page)) ≡ count = piece_length place count next_page long (omega (arith, all, fits)) in
     let kept : Keeps held.catalog (asked ∷ []) r.journal next_page =
-        ap (λ (n : ℕ). take n next_page) k.part ∙ (front ∙ (ap (λ (n : ℕ). take n page) (sym k.part) ∙ r.keeps)) in
+    ap (λ (n : ℕ). take n next_page) k.part ∙ (front ∙ (ap (λ (n : ℕ). take n page) (sym k.part) ∙ r.keeps)) in
     let entry_is : taken_entry pump next_page count ≡ record { move = Take most; answer = Piece (take count (drop place next_page)) } =
-        ap (λ (n : ℕ). record { move = Take n; answer = Piece (take count (drop pump.have next_page)) }) k.lacks
-        ∙ ap (λ (n : ℕ). record { move = Take most; answer = Piece (take count (drop n next_page)) }) k.have in
+    ap (λ (n : ℕ). record { move = Take n; answer = Piece (take count (drop pump.have next_page)) }) k.lacks
+    ∙ ap (λ (n : ℕ). record { move = Take most; answer = Piece (take count (drop n next_page)) }) k.have in
     let took = took_at held asked can (left held.catalog (asked ∷ []) r.journal) r.stand (owed host.speech) r.got most (take count (drop place next_page)) (owed next_host.speech) t handed (omega (arith, size, some)) in
     let few : length (r.got ++ took.brought) ≤ length (held.rows asked.ask) =
-        few_at held asked can (goes held.catalog (asked ∷ []) (left held.catalog (asked ∷ []) r.journal) (record { move = Take most; answer = Piece (take count (drop place next_page)) })) r.stand (owed next_host.speech) (r.got ++ took.brought) took.there in
+    few_at held asked can (goes held.catalog (asked ∷ []) (left held.catalog (asked ∷ []) r.journal) (record { move = Take most; answer = Piece (take count (drop place next_page)) })) r.stand (owed next_host.speech) (r.got ++ took.brought) took.there in
     let counts : length ids ≡ length r.got = ap length r.kept ∙ length-map r.got identifier_of in
     let both : length (r.got ++ took.brought) ≡ length r.got + length took.brought = length-append r.got took.brought in
     more_moves held asked name can start now later pump next_pump host next_host page next_page ids next_ids r (record { move = Take most; answer = Piece (take count (drop place next_page)) }) (r.got ++ took.brought) r.stand next

@@ -1,11 +1,10 @@
 -- Where a session with one ask stands: what the next move is, and what each move leads to.
-use Rattle.std.proofs.Common.{◌≡◌, ℕ, zero, suc, ◌+◌, ◌-◌, ◌<◌, ◌≤◌, ◌⊎◌, inl, inr, Bool, true, false, ◌||◌, List, [], ◌∷◌, ◌++◌, length, take, drop, sym, ◌∙◌, ap, subst, refl, arith, append-nil, append_assoc, length-append, Option, Some, None, slice_get}
+use Rattle.std.proofs.Common.{◌≡◌, ℕ, ◌+◌, ◌<◌, ◌≤◌, Bool, true, false, ◌||◌, List, [], ◌∷◌, ◌++◌, length, sym, ◌∙◌, ap, subst, refl, arith, append-nil, append_assoc, length-append, Option, Some, None, slice_get}
 use Rattle.std.specs.Prelude.{flat_map, if◌then◌else◌, not}
 use Rattle.std.proofs.lemmas.Grind.{flat_map-append}
-use Rattle.std.specs.List.{list_any, list_all}
-use Rattle.std.proofs.lemmas.List.{nil_from_length}
+use Rattle.std.specs.List.{list_any}
 use Rattle.ghost_model.specs.Schema.{is_empty}
-use Rattle.ghost_model.specs.Channel.{Catalog, Frame, Hello, Bye, Move, Dial, Send, Take, Close, Answer, Made, Piece, Entry, Journal}
+use Rattle.ghost_model.specs.Channel.{Catalog, Frame, Hello, Move, Dial, Send, Take, Close, Made, Piece, Entry, Journal}
 use Rattle.ghost_model.specs.Frames.{IsFrame, frame_bytes, frame_in}
 use Rattle.ghost_model.specs.Moves.{taken, sent, sent_by, piece_of}
 use Rattle.ghost_model.specs.Asks.{Asked, ReplyRow, ask_payload}
@@ -19,7 +18,7 @@ use Rattle.ghost_model.proofs.ChannelLemmas.Sending.{heard_more}
 use Rattle.key_commands.specs.Hosting.{IsColumnAsk, CanCome}
 use Rattle.key_commands.specs.Serving.{ServesAsk}
 use Rattle.key_commands.proofs.Exchanges.{more as called_for}
-use Rattle.key_commands.proofs.Exchanges.{Due, Comes, Finished, Going, Next, over, exchange, Exchanged, Turned, Heeded, answered_due, due_is_frame, heeds, rows_of_frame, hello, ask, bye, welcome, some_rows, done}
+use Rattle.key_commands.proofs.Exchanges.{Due, Comes, Finished, Next, over, exchange, answered_due, due_is_frame, heeds, rows_of_frame, hello, ask, bye, welcome, some_rows, done}
 
 -- what was heard, with this part of the frame at hand
 abbrev pub with_part : Heard → List ℕ → Heard
@@ -197,35 +196,49 @@ module _ (held : Holding) (asked : Asked) (can : ServesAsk held asked) where
   -- moves that differ
   take_is_not_dial : (most : ℕ) (o : Option Move) (address : List ℕ) → o ≡ Some (Take most) → o ≡ Some (Dial address) → ⊥
   take_is_not_dial most o address e f = cc
+
   take_is_not_send : (most : ℕ) (o : Option Move) (bytes : List ℕ) → o ≡ Some (Take most) → o ≡ Some (Send bytes) → ⊥
   take_is_not_send most o bytes e f = cc
+
   take_is_not_close : (most : ℕ) (o : Option Move) → o ≡ Some (Take most) → o ≡ Some Close → ⊥
   take_is_not_close most o e f = cc
+
   close_is_not_dial : (o : Option Move) (address : List ℕ) → o ≡ Some Close → o ≡ Some (Dial address) → ⊥
   close_is_not_dial o address e f = cc
+
   close_is_not_send : (o : Option Move) (bytes : List ℕ) → o ≡ Some Close → o ≡ Some (Send bytes) → ⊥
   close_is_not_send o bytes e f = cc
+
   none_is_not : (o : Option Move) (move : Move) → o ≡ None → o ≡ Some move → ⊥
   none_is_not o move e f = cc
+
   send_is_not_take : (b : Bool) (o : Option Move) (bytes : List ℕ) (most : ℕ) → o ≡ (if b then Some (Send bytes) else Some (Dial [])) → o ≡ Some (Take most) → ⊥
   send_is_not_take true o bytes most e f = cc
   send_is_not_take false o bytes most e f = cc
+
   send_is_not_close : (b : Bool) (o : Option Move) (bytes : List ℕ) → o ≡ (if b then Some (Send bytes) else Some (Dial [])) → o ≡ Some Close → ⊥
   send_is_not_close true o bytes e f = cc
   send_is_not_close false o bytes e f = cc
+
   send_is_not_none : (b : Bool) (o : Option Move) (bytes : List ℕ) → o ≡ (if b then Some (Send bytes) else Some (Dial [])) → o ≡ None → ⊥
   send_is_not_none true o bytes e f = cc
   send_is_not_none false o bytes e f = cc
+
   dial_is_not_send : (o : Option Move) (bytes : List ℕ) → o ≡ Some (Dial []) → o ≡ Some (Send bytes) → ⊥
   dial_is_not_send o bytes e f = cc
+
   sent_bytes : (o : Option Move) (a b : List ℕ) → o ≡ Some (Send a) → o ≡ Some (Send b) → b ≡ a
   sent_bytes o a b e f = cc
+
   taken_size : (o : Option Move) (a b : ℕ) → o ≡ Some (Take a) → o ≡ Some (Take b) → b ≡ a
   taken_size o a b e f = cc
+
   take_is_not_none : (o : Option Move) (most : ℕ) → o ≡ Some (Take most) → o ≡ None → ⊥
   take_is_not_none o most e f = cc
+
   close_is_not_none : (o : Option Move) → o ≡ Some Close → o ≡ None → ⊥
   close_is_not_none o e f = cc
+
   close_is_not_take : (o : Option Move) (most : ℕ) → o ≡ Some Close → o ≡ Some (Take most) → ⊥
   close_is_not_take o most e f = cc
 
@@ -271,7 +284,15 @@ module _ (held : Holding) (asked : Asked) (can : ServesAsk held asked) where
   sending_by : (l : Left) (stand : Stand) (owed : List ℕ) (got : List ReplyRow) (bytes : List ℕ) (frame : Frame) (before : List Frame) → Quiet l → l.heard.part ≡ [] → l.heard.due ≡ before ++ frame ∷ [] → length before ≡ l.sent → owed ≡ [] → Due held asked can l.heard got frame stand
       → (b : Bool) → l.opened ≡ b → next_of held.catalog [] l ≡ Some (Send bytes) → Sending l stand owed got bytes
   sending_by l stand owed got bytes frame before quiet part is count none what true o e = record {
-    frame = frame; before = before; opened = o; quiet = quiet; part = part; is_due = is; count = count; none_owed = none; what = what;
+    frame = frame;
+    before = before;
+    opened = o;
+    quiet = quiet;
+    part = part;
+    is_due = is;
+    count = count;
+    none_owed = none;
+    what = what;
     spelled = sent_bytes _ (frame_bytes frame) bytes (due_next l frame before quiet is count true o) e;
   }
   sending_by l stand owed got bytes frame before quiet part is count none what false o e =
@@ -349,7 +370,16 @@ module _ (held : Holding) (asked : Asked) (can : ServesAsk held asked) where
   take_at l stand owed got most (taking h frame part o c s is count joined some awaited comes) e =
       let t = taking_next l stand owed got h frame part o c s is count joined some awaited comes in
       record {
-        h = h; frame = frame; part = part; not_closed = c; not_stopped = s; heard_is = is; count = count; joined = joined; awaited = awaited; comes = comes;
+        h = h;
+        frame = frame;
+        part = part;
+        not_closed = c;
+        not_stopped = s;
+        heard_is = is;
+        count = count;
+        joined = joined;
+        awaited = awaited;
+        comes = comes;
         within = subst (λ (n : ℕ). n ≤ length owed) (sym (taken_size _ t.most most t.next e)) t.within;
       }
   take_at l stand owed got most (ending o quiet count none finished) e =
@@ -375,8 +405,8 @@ module _ (held : Holding) (asked : Asked) (can : ServesAsk held asked) where
   took_whole l stand owed got most byte more t e =
       let heeded = heeds held asked can t.h got t.frame stand t.comes in
       let heard : hear_all held.catalog (asked ∷ []) l.heard (byte ∷ more) ≡ heard_frame held.catalog (asked ∷ []) t.h t.frame =
-          ap (λ (x : Heard). hear_all held.catalog (asked ∷ []) x (byte ∷ more)) t.heard_is
-          ∙ heard_on held.catalog t.h.awaits t.frame t.awaited (asked ∷ []) t.h.frames t.h.due t.h.rows t.h.ended t.part byte more e in
+      ap (λ (x : Heard). hear_all held.catalog (asked ∷ []) x (byte ∷ more)) t.heard_is
+      ∙ heard_on held.catalog t.h.awaits t.frame t.awaited (asked ∷ []) t.h.frames t.h.due t.h.rows t.h.ended t.part byte more e in
       let bytes : l.heard.part ++ byte ∷ more ≡ frame_bytes t.frame = ap (λ (x : Heard). x.part ++ byte ∷ more) t.heard_is ∙ e in
       record {
         brought = heeded.brought;
@@ -393,7 +423,7 @@ module _ (held : Holding) (asked : Asked) (can : ServesAsk held asked) where
   took_part : (l : Left) (stand : Stand) (owed : List ℕ) (got : List ReplyRow) (most : ℕ) (piece : List ℕ) (byte : ℕ) (more : List ℕ) → (t : Taking l stand owed got most) → t.part ++ (piece ++ byte ∷ more) ≡ frame_bytes t.frame → Took l stand (byte ∷ more) got most piece
   took_part l stand owed got most piece byte more t e =
       let heard : hear_all held.catalog (asked ∷ []) l.heard piece ≡ whole t.h (t.part ++ piece) =
-          ap (λ (x : Heard). hear_all held.catalog (asked ∷ []) x piece) t.heard_is ∙ heard_part held.catalog (asked ∷ []) t.frame t.h t.part piece byte more t.awaited e in
+      ap (λ (x : Heard). hear_all held.catalog (asked ∷ []) x piece) t.heard_is ∙ heard_part held.catalog (asked ∷ []) t.frame t.h t.part piece byte more t.awaited e in
       let joined : (t.part ++ piece) ++ byte ∷ more ≡ frame_bytes t.frame = append_assoc t.part piece (byte ∷ more) ∙ e in
       let short = lacking held.catalog t.h.awaits t.frame t.awaited (t.part ++ piece) byte more joined in
       record {

@@ -2,11 +2,11 @@
 -- and want no cells. Such a host holds the catalog's bytes, few enough for one WELCOME frame, and the texts of that
 -- column. It replies with the places of the texts whose cell is the ask's cell, each place as an identifier. Where it
 -- stands in a session is told by its stage: what of a reply is still to come follows from the text it goes on at.
-use Rattle.std.specs.Prelude.{◌≡◌, ◌≤◌, ◌<◌, ◌^◌, ℕ, ◌+◌, ◌-◌, Bool, true, false, List, [], ◌∷◌, ◌++◌, length, take, drop, map, bytes_eq, Option, Some}
+use Rattle.std.specs.Prelude.{◌≡◌, ◌<◌, ◌^◌, ℕ, ◌+◌, ◌-◌, Bool, List, [], ◌∷◌, ◌++◌, length, drop, map, bytes_eq, Some}
 use Rattle.ghost_model.specs.Schema.{places_from}
 use Rattle.ghost_model.specs.Cells.{padded}
 use Rattle.ghost_model.specs.Catalog.{catalog_bytes}
-use Rattle.ghost_model.specs.Channel.{Ask, Frame, Hello, Asking, More, Bye, Welcome, Replied, Done, Sorry}
+use Rattle.ghost_model.specs.Channel.{Ask, Frame, Asking, Done}
 use Rattle.ghost_model.specs.Asks.{ReplyRow, ask_in, row_width}
 use Rattle.ghost_model.specs.Host.{Holding, Stand, rows_frame, grouped, most_part}
 use Rattle.ghost_model.specs.Host as host

@@ -1,5 +1,5 @@
 -- The host in the process as a whole: what it is able to do, what it holds, where it stands, and how a frame was answered.
-use Rattle.std.specs.Prelude.{◌≡◌, ◌≤◌, ◌<◌, ◌-◌, ◌^◌, ℕ, List, length, take, flat_map}
+use Rattle.std.specs.Prelude.{◌≡◌, ◌≤◌, ◌<◌, ◌-◌, ◌^◌, ℕ, List, length, take}
 use Rattle.ghost_model.specs.Host.{Holding, Stand, Response}
 use Rattle.key_commands.specs.Hosting.{HoldsColumn, IsAt}
 use Rattle.key_commands.specs.HostState.{IsAnswered, IsKept}

@@ -1,7 +1,7 @@
 -- What a host needs so that a session with one ask goes on to its end: the ask is one that a key may send, its reply has
 -- identifiers alone, and the rows may be sent and the catalog fits one frame. And what the session then leaves: a journal
 -- whose moves are the key's, to a host that answered them in full, its lines in the file, and the reply.
-use Rattle.std.specs.Prelude.{◌≡◌, ◌≤◌, ◌<◌, ◌^◌, ◌+◌, ℕ, true, List, [], ◌∷◌, length, flat_map, All, Some, map}
+use Rattle.std.specs.Prelude.{◌≡◌, ◌≤◌, ◌<◌, ◌^◌, ℕ, true, List, [], ◌∷◌, length, flat_map, All, Some, map}
 use Rattle.ghost_model.specs.Catalog.{catalog_bytes}
 use Rattle.ghost_model.specs.Channel.{Asking}
 use Rattle.ghost_model.specs.Frames.{AreBytes, IsFrame}

@@ -15,12 +15,11 @@ ghost use Rattle.ghost_model.specs.Host as host;
 ghost use Rattle.key_commands.specs.Hosts.{IsAble, Holds, Stands, Answers, IsSameHost, width_of};
 ghost use Rattle.key_commands.specs.HostState.{owed, IsAnswered, IsKept, IsWithin};
 
+use crate::speech::Speech;
+use crate::texts::Texts;
 use arrayvec::ArrayVec;
 use channel_codec::frame::{Frame, put_frame};
 use channel_codec::reading::{Got, frame_of};
-
-use crate::speech::Speech;
-use crate::texts::Texts;
 
 /// The rows of one frame of a reply, 4 bytes each.
 type Rows = ArrayVec<u8, 2040>;
@@ -215,13 +214,7 @@ fn answer_ask(
 }
 
 /// Answers a frame that comes where an ask or the farewell may come.
-fn listen(
-    column: &Texts,
-    next: u32,
-    frame: &Frame,
-    cell: &mut [u8],
-    speech: &mut Speech,
-) -> Stage
+fn listen(column: &Texts, next: u32, frame: &Frame, cell: &mut [u8], speech: &mut Speech) -> Stage
     requires narrow { column.now.width ≤ 64 }
     requires room { length cell.old ≡ 64 }
     requires few { length column.now.texts < 2 ^ 32 - 1 }

@@ -1,11 +1,11 @@
 //! The commands of the key: what the program does with its words, its files, its flash and its link.
 #![tactic(auto)]
 
-mod host_end;
-mod journal;
 pub mod fields;
 pub mod form;
 mod form_laws;
+mod host_end;
+mod journal;
 pub mod local;
 pub mod naming;
 pub mod opening;

@@ -9,14 +9,13 @@ ghost use Rattle.key_commands.specs.Hosts.{IsAble, IsSameHost, Stands};
 ghost use Rattle.key_commands.specs.Journaling.{log};
 ghost use Rattle.key_commands.specs.Serving.{ServesSession, Conversed, identifier_of};
 
+use crate::host_end::HostEnd;
+use crate::journal::{Answer, Move, record};
+use crate::texts::Texts;
 use channel_codec::reading::{number_in, size_in};
 use channel_pump::forms::AskForm;
 use channel_pump::state::{Event, Pump, Want};
 use edge_traits::depot::Depot;
-
-use crate::host_end::HostEnd;
-use crate::journal::{Answer, Move, record};
-use crate::texts::Texts;
 
 /// Adds an identifier to a reply, if there is room.
 fn keep(replies: &mut Vec<u32>, identifier: u32)
@@ -99,9 +98,9 @@ pub(crate) fn converse<D: Depot>(
     ensures conversed { (held : Holding) (asked : Asked)
         → ServesSession held asked generation catalog.now asks.now column.now (vec_capacity replies.old)
         → Conversed held asked journal.now
-            (log (D.contents depot.old) (D.faults depot.old) (D.append_faults depot.old) false)
-            (log (D.contents depot.new) (D.faults depot.new) (D.append_faults depot.new) result)
-            replies.new.items }
+        (log (D.contents depot.old) (D.faults depot.old) (D.append_faults depot.old) false)
+        (log (D.contents depot.new) (D.faults depot.new) (D.append_faults depot.new) result)
+        replies.new.items }
 {
     let mut pump = Pump::begin(generation, catalog, asks);
     let mut host = HostEnd::new(catalog, column);

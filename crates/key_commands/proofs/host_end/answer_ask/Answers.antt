@@ -1,4 +1,3 @@
-use Rattle.std.proofs.Common.{sym}
 use Rattle.key_commands.proofs.Answering.{answered_ask}
 use Rattle.key_commands.proofs.host_end.answer_ask.Goals as goal
 

@@ -1,4 +1,4 @@
-use Rattle.std.proofs.Common.{ap, subst, sym}
+use Rattle.std.proofs.Common.{ap, subst}
 use Rattle.channel_codec.specs.Views.{frame_view}
 use Rattle.key_commands.specs.Hosting.{IsColumnAsk}
 use Rattle.key_commands.proofs.Answering.{listened, is_column_ask}

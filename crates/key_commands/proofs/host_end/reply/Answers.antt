@@ -1,4 +1,4 @@
-use Rattle.std.proofs.Common.{rules, ◌≡◌, ◌<◌, ◌∙◌}
+use Rattle.std.proofs.Common.{rules, ◌∙◌}
 use Rattle.arrayvec.specs.ArrayVec.{array_vec_len}
 use Rattle.key_commands.proofs.Replying.{said_done, said_rows}
 use Rattle.key_commands.proofs.host_end.reply.Goals as goal

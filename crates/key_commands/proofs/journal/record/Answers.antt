@@ -1,6 +1,6 @@
-use Rattle.std.proofs.Common.{◌∙◌, sym, ap}
+use Rattle.std.proofs.Common.{◌∙◌, sym}
 use Rattle.ghost_model.specs.Moves as moves
-use Rattle.key_commands.specs.Journaling.{entry_of, log}
+use Rattle.key_commands.specs.Journaling.{entry_of}
 use Rattle.key_commands.proofs.Journals.{one_append, with_answer}
 use Rattle.key_commands.proofs.journal.record.Goals as goal
 

@@ -1,4 +1,4 @@
-use Rattle.std.proofs.Common.{◌≡◌, vec_capacity, false, length}
+use Rattle.std.proofs.Common.{◌≡◌, vec_capacity, false}
 use Rattle.ghost_model.specs.Asks.{Asked}
 use Rattle.ghost_model.specs.Host.{Holding}
 use Rattle.channel_pump.specs.Here.{moves_left}

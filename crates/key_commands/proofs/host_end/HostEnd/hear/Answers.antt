@@ -1,10 +1,9 @@
 use Rattle.std.proofs.Common.{ap, subst, sym, ◌∙◌}
 use Rattle.ghost_model.specs.Host.{answer_to}
-use Rattle.channel_codec.specs.Views.{frame_view, got_view}
+use Rattle.channel_codec.specs.Views.{got_view}
 use Rattle.key_commands.specs.Hosting.{CanCome}
 use Rattle.key_commands.specs.Hosts.{width_of}
 use Rattle.key_commands.proofs.Answering.{view_is}
-use Rattle.key_commands.proofs.Standing.{left_more}
 use Rattle.key_commands.proofs.host_end.HostEnd.hear.Goals as goal
 
 pub returns-in-Frame-clause-answered : goal.returns-in-Frame-clause-answered
