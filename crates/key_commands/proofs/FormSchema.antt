@@ -11,11 +11,11 @@ use Rattle.std.proofs.lemmas.Slice.Eq.{bytes_eq-Decides}
 use Rattle.std.specs.Prelude.{option_map}
 use Rattle.ghost_model.specs.Schema.{Schema, places_from}
 use Rattle.ghost_model.specs.Query.{Field}
-use Rattle.ghost_model.specs.Tokens.{Keyword, Symbol, Word, Reserved, Name, Digits, Open, Closing, Comma, Semicolon, End, Char, Create, Hidden, Integer, Key, Primary, Table, Read, read, symbol_of, symbols, tokens_from, token_at, word_at, digits_at, symbol_of_word, keyword_of, keyword_or, other_reserved, in_lower_case, begins_name, is_space, is_digit, is_name_byte, is_between}
+use Rattle.ghost_model.specs.Tokens.{number_of, Keyword, Symbol, Word, Reserved, Name, Digits, Open, Closing, Comma, Semicolon, End, Char, Create, Hidden, Integer, Key, Primary, Table, Read, read, symbol_of, symbols, tokens_from, token_at, word_at, digits_at, symbol_of_word, keyword_of, keyword_or, other_reserved, in_lower_case, begins_name, is_space, is_digit, is_name_byte, is_between}
 use Rattle.ghost_model.specs.Spelled.{is_reserved, is_name}
 use Rattle.ghost_model.specs.SchemaGrammar.{CharColumn, IntegerColumn, SchemaText, spelling}
 use Rattle.ghost_model.specs.SchemaPlaces.{syntax_of}
-use Rattle.ghost_model.specs.SchemaMeaning.{value_of_digits, schema_of}
+use Rattle.ghost_model.specs.SchemaMeaning.{schema_of}
 use Rattle.ghost_model.specs.SchemaFaults.{Limit, DuplicateName, NoId, TwoParents, Cycle, schema_or, is_over, duplicate_in, lacks_id, unknown_in, is_duplicate, is_shared, returns, ancestor, fields_from, places_of, roots_of, wrong_roots, or_else, schema_fault, judged, schema_reading, MeansSchema}
 use Rattle.ghost_model.specs.Catalog.{canonical_text}
 use Rattle.ghost_model.proofs.TokenLemmas.{kinds_anywhere, kinds_after, take_while_all, one_token}
@@ -24,13 +24,13 @@ use Rattle.ghost_model.proofs.SchemaRuleLemmas.{one_schema}
 use Rattle.key_commands.specs.Form.{Form, id_name, is_form, form_schema, IsLine, SpellsForm}
 use Rattle.key_commands.proofs.FormText.{Proper, proper}
 
-numerals : IsNumeralModel (λ ds. list_all is_digit ds ≡ true) value_of_digits
+numerals : IsNumeralModel (λ ds. list_all is_digit ds ≡ true) number_of
 numerals = numerals_by_fold _ (search rules) (λ n digits. fold (λ value digit. value * 10 + (digit - 48)) n digits) (search rules)
 
 pub digits_right : (n : ℕ) → n < 2 ^ 64 → list_all is_digit (decimal n) ≡ true
 digits_right n h = digits_decimal numerals n h
 
-pub value_right : (n : ℕ) → n < 2 ^ 64 → value_of_digits (decimal n) ≡ n
+pub value_right : (n : ℕ) → n < 2 ^ 64 → number_of (decimal n) ≡ n
 value_right n h = digits_value-decimal numerals n h
 
 -- tokens that a byte of another kind follows
@@ -78,7 +78,7 @@ name_then (b ∷ w) y rest e other =
     token_then b w (y ∷ rest) (Name (b ∷ w)) (name_is_no_space b begins.0)
     (taken _ _ _ _ begins.0 (ap word_at (take_while_all is_name_byte (b ∷ w) y rest begins.1 other)) ∙ ap (λ (s : Symbol). read s (suc (length w))) named)
 
-digits_then : (ds : List ℕ) (y : ℕ) (rest : List ℕ) → list_all is_digit ds ≡ true → 1 ≤ value_of_digits ds → is_digit y ≡ false → symbols (ds ++ y ∷ rest) ≡ Digits ds ∷ symbols (y ∷ rest)
+digits_then : (ds : List ℕ) (y : ℕ) (rest : List ℕ) → list_all is_digit ds ≡ true → 1 ≤ number_of ds → is_digit y ≡ false → symbols (ds ++ y ∷ rest) ≡ Digits ds ∷ symbols (y ∷ rest)
 digits_then [] y rest e some other = absurd (omega arith)
 digits_then (b ∷ w) y rest e some other =
     let both = and_parts (is_digit b) (list_all is_digit w) e in
@@ -139,7 +139,7 @@ form_tables form =
 few : (n : ℕ) → nat_le n 64 ≡ true → n < 2 ^ 64
 few n e = let h = leb-true n 64 e in omega arith
 
-some_digits : (n : ℕ) → nat_le 1 n ≡ true → nat_le n 64 ≡ true → 1 ≤ value_of_digits (decimal n)
+some_digits : (n : ℕ) → nat_le 1 n ≡ true → nat_le n 64 ≡ true → 1 ≤ number_of (decimal n)
 some_digits n least greatest = let h = leb-true 1 n least in let same = value_right n (few n greatest) in omega arith
 
 line_spelled : (form : Form) (end : List ℕ) → IsLineEnd end → Proper form → symbols (form_line form end) ≡ spelling (form_tables form)
@@ -172,7 +172,7 @@ line_spelled form end ends p =
 
 tables_mean : (form : Form) → Proper form → schema_of (form_tables form) ≡ form_schema form
 tables_mean form p =
-    ap (λ n. form_schema (record form { shown_most = n; secret_most = value_of_digits (decimal form.secret_most) })) (value_right form.shown_most (few _ p.shown_greatest))
+    ap (λ n. form_schema (record form { shown_most = n; secret_most = number_of (decimal form.secret_most) })) (value_right form.shown_most (few _ p.shown_greatest))
     ∙ ap (λ n. form_schema (record form { secret_most = n })) (value_right form.secret_most (few _ p.secret_greatest))
 
 -- the tree breaks no rule
@@ -181,7 +181,7 @@ short_name : (name : List ℕ) → nat_le (length name) 32 ≡ true → nat_lt 3
 short_name name e = le-ltb 32 (length name) (leb-true (length name) 32 e)
 
 short_column : (name : List ℕ) (most : ℕ) (hidden : Bool) → nat_le (length name) 32 ≡ true → nat_le 1 most ≡ true → nat_le most 64 ≡ true
-    → (nat_lt 32 (length name) || not (is_between 1 64 (value_of_digits (decimal most)))) ≡ false
+    → (nat_lt 32 (length name) || not (is_between 1 64 (number_of (decimal most)))) ≡ false
 short_column name most hidden short least greatest =
     or_from _ _ (short_name name short)
     (ap (λ n. not (is_between 1 64 n)) (value_right most (few most greatest)) ∙ ap not (and_from _ _ least greatest))
