@@ -18,6 +18,8 @@ pub mod script;
 mod session;
 mod speech;
 #[cfg(test)]
+mod local_tests;
+#[cfg(test)]
 mod tests;
 pub mod texts;
 pub mod words;
