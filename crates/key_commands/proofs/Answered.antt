@@ -9,24 +9,21 @@ use Rattle.std.specs.Cmp.Lexicographic.{slice_cmp, texts_ties, nat_list_cmp_tota
 use Rattle.std.specs.FinMap as finite
 use Rattle.std.proofs.lemmas.Bool.Decides.{nat_tests}
 use Rattle.std.proofs.lemmas.Slice.Eq.{bytes_eq-Decides}
-use Rattle.ghost_model.specs.Causes.{Rose}
-use Rattle.ghost_model.specs.Values.{Database}
-use Rattle.ghost_model.specs.Channel.{Catalog, Journal, Entry, Close}
-use Rattle.ghost_model.specs.Texts.{texts_of}
+use Rattle.ghost_model.specs.Channel.{Catalog, Journal, Close}
 use Rattle.ghost_model.specs.Database.{row_counts}
-use Rattle.ghost_model.specs.Asks.{ReplyRow, Asked, asked, asked_of, ascend_from}
+use Rattle.ghost_model.specs.Asks.{ReplyRow, asked, asked_of, ascend_from}
 use Rattle.ghost_model.specs.Printed.{printed}
 use Rattle.ghost_model.specs.Moves.{lines, line, line_of}
 use Rattle.ghost_model.specs.NextMove.{IsFinished}
 use Rattle.edge_traits.specs.Files.{Files, HasFile, or_empty, with_file}
 use Rattle.edge_traits.specs.Written.{grown, GrowsByFront}
 use Rattle.key_commands.specs.Words.{Names}
-use Rattle.key_commands.specs.Form.{Form, form_schema, query_text}
+use Rattle.key_commands.specs.Form.{form_schema, query_text}
 use Rattle.key_commands.specs.FormMeaning.{bare_row, matches, form_ask}
 use Rattle.key_commands.specs.Rows.{rows_from}
 use Rattle.key_commands.specs.Printing.{AreRows, answer_at}
-use Rattle.key_commands.specs.Local.{Input, Spells, Prints, Journals, Answers, schema_of, database_in, texts_in, catalog_of, host_in, printed_by}
-use Rattle.key_commands.specs.Journaling.{Log, Extends, told_file}
+use Rattle.key_commands.specs.Local.{Spells, Journals, Answers, database_in, texts_in, catalog_of, printed_by}
+use Rattle.key_commands.specs.Journaling.{Log, told_file}
 use Rattle.key_commands.specs.Opening.{IsOpened, input_of, form_catalog}
 use Rattle.key_commands.specs.Conversing.{WasHeld}
 use Rattle.key_commands.specs.Views.{form_view}
@@ -75,8 +72,8 @@ pub catalog_is : {contents : Option Files} {names : Names} {opened : Opened} →
 catalog_is {opened = opened} opening =
     let held = opening.rows.held in
     let counts : row_counts (database_in (input_of opening)) ≡ opened.rows.count ∷ [] =
-        ap row_counts held.rows
-        ∙ ap (λ n. n ∷ []) (many_rows 1 opened.rows.shown.texts opened.rows.secret.texts (held.shown_many ∙ sym held.secret_many) ∙ held.shown_many) in
+    ap row_counts held.rows
+    ∙ ap (λ n. n ∷ []) (many_rows 1 opened.rows.shown.texts opened.rows.secret.texts (held.shown_many ∙ sym held.secret_many) ∙ held.shown_many) in
     ap (λ c. let made : Catalog = record { schema = form_schema (form_view opened.form); counts = c; generation = 1 } in made) counts
 
 -- the lines of the input are those of the rows that match
@@ -122,7 +119,7 @@ has_lines (Some files) name journal finished e =
 journals : {contents : Option Files} {names : Names} {opened : Opened} → (opening : IsOpened contents names opened) → (files : Files) → contents ≡ Some files → (old new : Log) (found : List ℕ) → WasHeld (input_of opening) opened.rows.shown.texts names.journal old new found → old.contents ≡ with_file contents names.journal [] → new.failed ≡ false → Journals (input_of opening) names new.contents
 journals {contents = contents} {names = names} opening files told old new found held empty good =
     let before : told_file old.contents names.journal ≡ Some [] =
-        ap (λ c. told_file c names.journal) (empty ∙ ap (λ c. with_file c names.journal []) told) ∙ emptied files names.journal in
+    ap (λ c. told_file c names.journal) (empty ∙ ap (λ c. with_file c names.journal []) told) ∙ emptied files names.journal in
     record {
       journal = held.journal;
       file = has_lines new.contents names.journal held.journal held.finished
@@ -161,7 +158,7 @@ pub answers : {contents : Option Files} {names : Names} {opened : Opened} → (o
     → Answers files names ended before after old.append_faults new.append_faults new.contents
 answers {contents = contents} {names = names} {opened = opened} opening files told old new found held empty fresh ended before after front all good bad =
     let printed : answer_at opened.rows.secret.texts found ≡ printed_by (input_of opening) =
-        ap (answer_at opened.rows.secret.texts) held.found_are ∙ sym (printed_is opening) in
+    ap (answer_at opened.rows.secret.texts) held.found_are ∙ sym (printed_is opening) in
     record {
       input = input_of opening;
       spelled = spelled opening files told;

@@ -1,14 +1,12 @@
 -- The host over the rows of a form's table replies to each ask that it accepts with the places of the texts that have
 -- the ask's cell.
-use Rattle.std.proofs.Common.{◌≡◌, ℕ, ◌+◌, ◌-◌, ◌≤◌, Bool, true, false, ◌&&◌, ◌==◌, if◌then◌else◌, List, [], ◌∷◌, ◌++◌, length, map, take, drop, Option, Some, None, refl, sym, ◌∙◌, ap, subst, bytes_eq, nat_le, append-nil}
+use Rattle.std.proofs.Common.{◌≡◌, ℕ, ◌+◌, ◌-◌, Bool, true, false, ◌&&◌, ◌==◌, if◌then◌else◌, List, [], ◌∷◌, length, map, take, drop, Some, None, refl, sym, ◌∙◌, ap, subst, bytes_eq}
 use Rattle.std.specs.List.{list_all}
 use Rattle.std.specs.Cmp.{first_so, second_so}
-use Rattle.std.proofs.Math.Seq.{take-length}
 use Rattle.std.proofs.lemmas.Slice.Eq.{bytes_eq-Decides}
 use Rattle.ghost_model.specs.Schema.{Schema, Chars, places_from}
 use Rattle.ghost_model.specs.Values.{Value, Text}
 use Rattle.ghost_model.specs.Query as query
-use Rattle.ghost_model.specs.Tokens.{is_printable}
 use Rattle.ghost_model.specs.Cells.{padded, decode_cell, text_in, is_text_cell}
 use Rattle.ghost_model.specs.Catalog.{catalog_bytes}
 use Rattle.ghost_model.specs.Channel.{Catalog, Ask}
@@ -18,7 +16,7 @@ use Rattle.ghost_model.specs.Split.{public_of}
 use Rattle.ghost_model.specs.Host.{Holding, host_of}
 use Rattle.ghost_base.proofs.TextCells.{text_of_padded}
 use Rattle.key_commands.specs.Form.{Form, form_schema}
-use Rattle.key_commands.specs.FormMeaning.{form_ask, form_payload, bare_row, matches}
+use Rattle.key_commands.specs.FormMeaning.{form_ask, bare_row, matches}
 use Rattle.key_commands.specs.Texts.{TextList}
 use Rattle.key_commands.specs.Rows.{HoldRows}
 use Rattle.key_commands.specs.Hosting.{column_payload, has_cell, matching_from, IsReplied, HoldsColumn}
@@ -105,8 +103,8 @@ holds_column catalog form file count shown secret bytes schema is hold =
       replied = λ cell ask wide read.
           let right = accepted form cell ask (ap (λ s. ask_in s (column_payload cell)) (sym schema) ∙ read) in
           let places : matches right.text shown.texts ≡ matching_from shown cell 0 =
-              same_places (λ text. bytes_eq text right.text) (has_cell shown.width cell) (is_text form.shown_most) 1 shown.texts hold.shown_held
-              (λ text h. same_test form.shown_most text right.text cell h right.held right.cell_is ∙ ap (λ w. bytes_eq (padded w text) cell) (sym hold.shown_width)) in
+          same_places (λ text. bytes_eq text right.text) (has_cell shown.width cell) (is_text form.shown_most) 1 shown.texts hold.shown_held
+          (λ text h. same_test form.shown_most text right.text cell h right.held right.cell_is ∙ ap (λ w. bytes_eq (padded w text) cell) (sym hold.shown_width)) in
           let P : Ask → Type 0 = λ a. IsReplied (Held (form_schema form)) shown cell a in
           let made : IsReplied (Held (form_schema form)) shown cell ask = subst P (sym right.ask_is) (record {
             width = refl;

@@ -1,17 +1,16 @@
 -- What the files of a call spell is one thing: the schema's file is of one form, at most one part is the first that is
 -- not of the form, and then they spell no input.
-use Rattle.std.proofs.Common.{◌≡◌, ◌⊎◌, inl, inr, ◌<◌, ◌≤◌, ◌^◌, ℕ, zero, suc, true, List, [], ◌∷◌, ◌++◌, length, Option, Some, refl, sym, ◌∙◌, ap, subst, arith, decimal, nat_le}
+use Rattle.std.proofs.Common.{◌≡◌, ◌⊎◌, inl, inr, ◌<◌, ◌≤◌, ◌^◌, ℕ, zero, suc, true, List, [], ◌∷◌, ◌++◌, Option, Some, refl, sym, ◌∙◌, ap, subst, arith, nat_le}
 use Rattle.std.specs.FinMap as map
-use Rattle.std.specs.Cmp.{first_so, second_so}
+use Rattle.std.specs.Cmp.{second_so}
 use Rattle.std.proofs.lemmas.List.{append_cancel_right}
 use Rattle.std.proofs.lemmas.Bool.Decides.{nat_tests}
 use Rattle.std.proofs.lemmas.Fmt.{decimal_injective}
-use Rattle.ghost_model.specs.LoadFaults.{load_faults}
 use Rattle.edge_traits.specs.Files.{Files}
-use Rattle.key_commands.specs.Words.{Names, table_file}
-use Rattle.key_commands.specs.Form.{Form, IsLine, SpellsForm, SpellsScript, is_length, is_form}
+use Rattle.key_commands.specs.Words.{Names}
+use Rattle.key_commands.specs.Form.{Form, IsLine, SpellsForm, is_length}
 use Rattle.key_commands.specs.Pieces.{line_of, pieces_of}
-use Rattle.key_commands.specs.Local.{Input, SchemaIs, RowsAre, ScriptIs, Spells, SchemaIsOther, RowsAreOther, ScriptIsOther, IsFirstOther, Opened, Answers}
+use Rattle.key_commands.specs.Local.{Input, SchemaIs, RowsAre, ScriptIs, Spells, RowsAreOther, ScriptIsOther, IsFirstOther, Opened, Answers}
 use Rattle.key_commands.specs.Statuses.{not_built}
 use Rattle.key_commands.specs.declared.status.KeyStatus.{KeyStatus}
 use Rattle.key_commands.specs.declared.status.KeyStatus.TheVariants as status
@@ -52,8 +51,8 @@ pub one_form : (text : List ℕ) (a b : Form) → SpellsForm text a → SpellsFo
 one_form text a b one other =
     let P : List ℕ → Type 0 = λ whole. IsLine whole text in
     let lines : line_of (pieces_of a) ≡ line_of (pieces_of b) =
-        one_line text (line_of (pieces_of a)) (line_of (pieces_of b)) (line_ends (pieces_of a)) (line_ends (pieces_of b))
-        (subst P (whole_line a) one.line) (subst P (whole_line b) other.line) in
+    one_line text (line_of (pieces_of a)) (line_of (pieces_of b)) (line_ends (pieces_of a)) (line_ends (pieces_of b))
+    (subst P (whole_line a) one.line) (subst P (whole_line b) other.line) in
     let same = agrees (line_of (pieces_of a)) (pieces_of a) (are_words a (parts a one.proper)) refl b other.proper lines in
     let own = parts a one.proper in
     same_fields a b same.table same.shown

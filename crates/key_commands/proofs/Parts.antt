@@ -1,5 +1,5 @@
 -- The parts of the input, as they were read.
-use Rattle.std.proofs.Common.{true, ◌≡◌, ◌≤◌, ◌<◌, ℕ, List, [], ◌∷◌, length, Option, None, Some, MatchOption, refl, sym, ◌∙◌, ap, subst, arith}
+use Rattle.std.proofs.Common.{true, ◌≡◌, ◌<◌, ℕ, List, [], ◌∷◌, length, Option, None, Some, MatchOption, refl, sym, ◌∙◌, ap, subst, arith}
 use Rattle.std.specs.FinMap as map
 use Rattle.std.specs.Cmp.{first_so, second_so}
 use Rattle.ghost_model.specs.Spelled.{is_name}
@@ -12,8 +12,8 @@ use Rattle.key_commands.specs.Pieces.{is_word}
 use Rattle.key_commands.specs.Rows.{HoldRows}
 use Rattle.key_commands.specs.declared.rows.Rows.{Rows}
 use Rattle.key_commands.proofs.FormNames.{parts}
-use Rattle.key_commands.specs.Local.{IsFile, SchemaIs, RowsAre, ScriptIs, SchemaIsOther, RowsAreOther, ScriptIsOther, IsFirstOther, most_text}
-use Rattle.key_commands.specs.Opening.{IsRead, ReadsForm, ReadsRows, ReadsScript, ReadsPayload}
+use Rattle.key_commands.specs.Local.{IsFile, SchemaIs, RowsAre, SchemaIsOther, RowsAreOther, ScriptIsOther, IsFirstOther, most_text}
+use Rattle.key_commands.specs.Opening.{IsRead, ReadsForm, ReadsRows, ReadsPayload}
 
 -- a file of told files
 pub file_told : (contents : Option Files) (files : Files) (name bytes : List ℕ) → contents ≡ Some files → HasFile contents name bytes → map.get files name ≡ Some bytes
@@ -88,7 +88,7 @@ longer_rows contents files names text form name part told reads is named h =
 pub other_rows : (contents : Option Files) (files : Files) (names : Names) (text : List ℕ) (form : Form) (name bytes : List ℕ) → contents ≡ Some files → ReadsForm contents names text form → name ≡ table_file names.tables form.table → IsRead contents name most_bytes bytes → (load_faults (form_schema form) (bytes ∷ []) ≡ [] → ⊥) → IsFirstOther files names 2
 other_rows contents files names text form name bytes told reads named read broken =
     let found : map.get files (table_file names.tables form.table) ≡ Some bytes =
-        subst (λ n. map.get files n ≡ Some bytes) named (file_told contents files name bytes told read.told) in
+    subst (λ n. map.get files n ≡ Some bytes) named (file_told contents files name bytes told read.told) in
     record {
       form = form;
       schema = schema_told contents files names text form told reads;

@@ -1,10 +1,8 @@
 -- What is told of a sink, through the writes of several lines.
-use Rattle.std.proofs.Common.{◌≡◌, ℕ, zero, suc, ◌+◌, ◌-◌, ◌<◌, ◌≤◌, List, [], ◌∷◌, ◌++◌, length, take, drop, Option, None, Some, refl, sym, ◌∙◌, ap, subst, append_assoc, append-nil, unwrap_or, slice_get, slice_index, arith, codes, decimal}
-use Rattle.std.specs.Prelude.{flat_map}
-use Rattle.edge_traits.specs.Written.{grown, Begins, GrowsByFront}
-use Rattle.ghost_model.specs.Printed.{count_line}
+use Rattle.std.proofs.Common.{◌≡◌, ℕ, zero, suc, ◌+◌, ◌-◌, ◌<◌, List, [], ◌∷◌, ◌++◌, length, take, drop, Option, None, Some, refl, sym, ◌∙◌, ap, subst, append_assoc, append-nil, unwrap_or, slice_get, slice_index, arith}
+use Rattle.edge_traits.specs.Written.{grown, GrowsByFront}
 use Rattle.key_commands.specs.FormMeaning.{secret_line, line_at}
-use Rattle.key_commands.specs.Printing.{lines_at, answer_at}
+use Rattle.key_commands.specs.Printing.{lines_at}
 
 grown-grown : (told : Option (List ℕ)) (a b : List ℕ) → grown (grown told a) b ≡ grown told (a ++ b)
 grown-grown None a b = refl
@@ -77,6 +75,6 @@ pub row_front : (start now later : Option (List ℕ)) (secret : List (List ℕ))
 row_front start now later secret found place text within is before step =
     let line : secret_line text ≡ line_at secret (slice_index found place) = line_of_text secret (slice_index found place) text is in
     let one : GrowsByFront start (lines_at secret (take place found) ++ line_at secret (slice_index found place)) later =
-        subst (λ l. GrowsByFront start (lines_at secret (take place found) ++ l) later) line (then_front start now later (lines_at secret (take place found)) (secret_line text) before step) in
+    subst (λ l. GrowsByFront start (lines_at secret (take place found) ++ l) later) line (then_front start now later (lines_at secret (take place found)) (secret_line text) before step) in
     let more : GrowsByFront start (lines_at secret (take (place + 1) found)) later = subst (λ l. GrowsByFront start l later) (sym (lines_more secret found place within)) one in
     subst (λ l. GrowsByFront start l later) (sym (lines_rest secret found (place + 1))) (longer start later (lines_at secret (take (place + 1) found)) (lines_at secret (drop (place + 1) found)) more)

@@ -1,5 +1,5 @@
 -- The host over the rows of a form's table serves the one ask of a script of this form to its end.
-use Rattle.std.proofs.Common.{◌≡◌, ℕ, zero, suc, ◌+◌, ◌-◌, ◌*◌, ◌/◌, ◌<◌, ◌≤◌, ◌^◌, Bool, true, false, ◌&&◌, nat_lt, nat_le, List, [], ◌∷◌, ◌++◌, length, map, Option, Some, codes, decimal, refl, sym, ◌∙◌, ap, subst, arith, lit<, lit≤, replicate, length-append, append-nil, if◌then◌else◌}
+use Rattle.std.proofs.Common.{◌≡◌, ℕ, zero, suc, ◌+◌, ◌-◌, ◌<◌, ◌≤◌, ◌^◌, Bool, true, false, nat_lt, nat_le, List, [], ◌∷◌, ◌++◌, length, map, Option, codes, decimal, refl, sym, ◌∙◌, ap, subst, arith, lit<, lit≤, replicate, length-append, if◌then◌else◌}
 use Rattle.std.specs.Prelude.{flat_map, All}
 use Rattle.std.specs.Int.{to_be_bytes, w32}
 use Rattle.std.specs.List.{list_all}
@@ -8,17 +8,17 @@ use Rattle.std.proofs.lemmas.List.{length-replicate}
 use Rattle.std.proofs.lemmas.Bool.{le-leb}
 use Rattle.std.proofs.lemmas.Bool.Decides.{nat_tests}
 use Rattle.std.proofs.lemmas.Fmt.{length-decimal-le}
-use Rattle.ghost_model.specs.Schema.{Schema, places_from}
+use Rattle.ghost_model.specs.Schema.{places_from}
 use Rattle.ghost_model.specs.Tokens.{is_printable, is_name_byte}
 use Rattle.ghost_model.specs.Cells.{padded}
 use Rattle.ghost_model.specs.Catalog.{canonical_text, catalog_bytes, catalog_head, counts_bytes}
 use Rattle.ghost_model.specs.Channel.{Catalog, Asking, Journal}
 use Rattle.ghost_model.specs.Frames.{AreBytes, IsFrame, size_allowed}
-use Rattle.ghost_model.specs.Asks.{ReplyRow, IsReplyRow, asked, ask_payload, ask_in, row_bytes}
+use Rattle.ghost_model.specs.Asks.{IsReplyRow, asked, ask_payload, ask_in, row_bytes}
 use Rattle.ghost_model.specs.Moves.{lines}
 use Rattle.ghost_model.specs.NextMove.{rows_fit, GoesOn, IsFinished}
 use Rattle.ghost_model.specs.SessionLaws.{IsServedThroughout}
-use Rattle.ghost_model.specs.Host.{Holding, host_of}
+use Rattle.ghost_model.specs.Host.{host_of}
 use Rattle.ghost_model.specs.Split.{Public, public_of, reply_rows}
 use Rattle.ghost_model.proofs.ChannelLemmas.Replies.{number_bytes}
 use Rattle.edge_traits.specs.Files.{Files}
@@ -26,7 +26,7 @@ use Rattle.key_commands.specs.Words.{Names}
 use Rattle.key_commands.specs.Form.{Form, form_schema, is_form, is_wanted, is_length, is_short_name, is_plain}
 use Rattle.key_commands.specs.FormMeaning.{form_ask, form_payload, bare_row, matches, identifier_bytes}
 use Rattle.key_commands.specs.Pieces.{Pieces, AreWords, is_word, line_of, pieces_of}
-use Rattle.key_commands.specs.Local.{schema_of, database_in, host_in, catalog_of}
+use Rattle.key_commands.specs.Local.{database_in, host_in, catalog_of}
 use Rattle.key_commands.specs.Hosting.{HoldsColumn}
 use Rattle.key_commands.specs.Journaling.{Log, Extends}
 use Rattle.key_commands.specs.Conversing.{WasHeld}
@@ -34,7 +34,7 @@ use Rattle.key_commands.specs.Serving.{ServesAsk}
 use Rattle.key_commands.specs.Opening.{IsOpened, input_of, form_catalog}
 use Rattle.key_commands.specs.Views.{form_view}
 use Rattle.key_commands.specs.declared.opening.Opened.{Opened}
-use Rattle.key_commands.proofs.FormNames.{Parts, parts}
+use Rattle.key_commands.proofs.FormNames.{parts}
 use Rattle.key_commands.proofs.FormText.{plain_printable}
 use Rattle.key_commands.proofs.FormAnswers.{payload_of_form, form_ask_in}
 use Rattle.key_commands.proofs.FormFile.{reply_of_file}
@@ -103,18 +103,18 @@ line_is_short : (form : Form) → is_form form ≡ true → length (line_of (pie
 line_is_short form h =
     let own = parts form h in
     let e : length (line_of (pieces_of form)) ≤ 13 + (32 + (26 + (32 + (6 + (2 + (3 + (32 + (6 + (2 + 10))))))))) =
-        at_most (codes "CREATE TABLE ") _ 13 _ (lit≤ tt) (at_most form.table _ 32 _ (name_is_short form.table own.table)
-        (at_most (codes " (id INTEGER PRIMARY KEY, ") _ 26 _ (lit≤ tt) (at_most form.shown _ 32 _ (name_is_short form.shown own.shown)
-        (at_most (codes " CHAR(") _ 6 _ (lit≤ tt) (at_most (decimal form.shown_most) _ 2 _ (few_digits form.shown_most own.shown_most)
-        (at_most (codes "), ") _ 3 _ (lit≤ tt) (at_most form.secret _ 32 _ (name_is_short form.secret own.secret)
-        (at_most (codes " CHAR(") _ 6 _ (lit≤ tt) (at_most (decimal form.secret_most) (codes ") HIDDEN);") 2 10 (few_digits form.secret_most own.secret_most) (lit≤ tt)))))))))) in
+    at_most (codes "CREATE TABLE ") _ 13 _ (lit≤ tt) (at_most form.table _ 32 _ (name_is_short form.table own.table)
+    (at_most (codes " (id INTEGER PRIMARY KEY, ") _ 26 _ (lit≤ tt) (at_most form.shown _ 32 _ (name_is_short form.shown own.shown)
+    (at_most (codes " CHAR(") _ 6 _ (lit≤ tt) (at_most (decimal form.shown_most) _ 2 _ (few_digits form.shown_most own.shown_most)
+    (at_most (codes "), ") _ 3 _ (lit≤ tt) (at_most form.secret _ 32 _ (name_is_short form.secret own.secret)
+    (at_most (codes " CHAR(") _ 6 _ (lit≤ tt) (at_most (decimal form.secret_most) (codes ") HIDDEN);") 2 10 (few_digits form.secret_most own.secret_most) (lit≤ tt)))))))))) in
     omega (arith, e)
 
 -- the catalog of a form
 catalog_are_bytes : (form : Form) (rows : ℕ) → is_form form ≡ true → AreBytes (catalog_bytes (form_catalog form rows))
 catalog_are_bytes form rows h =
     let text : AreBytes (canonical_text (form_schema form)) =
-        subst AreBytes (sym (whole_line form)) (joined (line_of (pieces_of form)) (10 ∷ []) (line_bytes (pieces_of form) (are_words form (parts form h))) (known (10 ∷ []) refl)) in
+    subst AreBytes (sym (whole_line form)) (joined (line_of (pieces_of form)) (10 ∷ []) (line_bytes (pieces_of form) (are_words form (parts form h))) (known (10 ∷ []) refl)) in
     let size = length (canonical_text (form_schema form)) in
     joined (catalog_head 1 size) (canonical_text (form_schema form) ++ counts_bytes (rows ∷ []))
     (joined (codes "GHOSTDB") (1 ∷ (to_be_bytes w32 1 ++ to_be_bytes w32 size)) (known (codes "GHOSTDB") refl)
@@ -124,10 +124,10 @@ catalog_are_bytes form rows h =
 pub catalog_is_short : (form : Form) (rows : ℕ) → is_form form ≡ true → length (catalog_bytes (form_catalog form rows)) ≤ 2039
 catalog_is_short form rows h =
     let text : length (canonical_text (form_schema form)) ≤ 200 + 1 =
-        subst (λ t. length t ≤ 200 + 1) (sym (whole_line form)) (at_most (line_of (pieces_of form)) (10 ∷ []) 200 1 (line_is_short form h) (lit≤ tt)) in
+    subst (λ t. length t ≤ 200 + 1) (sym (whole_line form)) (at_most (line_of (pieces_of form)) (10 ∷ []) 200 1 (line_is_short form h) (lit≤ tt)) in
     let size = length (canonical_text (form_schema form)) in
     let whole : length (catalog_bytes (form_catalog form rows)) ≤ 16 + ((200 + 1) + 4) =
-        at_most (catalog_head 1 size) (canonical_text (form_schema form) ++ counts_bytes (rows ∷ [])) 16 ((200 + 1) + 4) (lit≤ tt) (at_most (canonical_text (form_schema form)) (counts_bytes (rows ∷ [])) (200 + 1) 4 text (lit≤ tt)) in
+    at_most (catalog_head 1 size) (canonical_text (form_schema form) ++ counts_bytes (rows ∷ [])) 16 ((200 + 1) + 4) (lit≤ tt) (at_most (canonical_text (form_schema form)) (counts_bytes (rows ∷ [])) (200 + 1) 4 text (lit≤ tt)) in
     omega (arith, whole)
 
 -- the ask
@@ -199,7 +199,7 @@ over_catalog : (form : Form) (wanted : List ℕ) (count : ℕ) (shown : List (Li
 over_catalog form wanted count shown public h k many few replied =
     let found = matches wanted shown in
     let within : list_all (λ identifier. nat_le identifier count) found ≡ true =
-        subst (λ n. list_all (λ identifier. nat_le identifier n) found ≡ true) many (matches_within wanted shown) in
+    subst (λ n. list_all (λ identifier. nat_le identifier n) found ≡ true) many (matches_within wanted shown) in
     let length_is : length (reply_rows (form_schema form) public (form_ask wanted)) ≡ length found = ap length replied ∙ many_back found in
     let not_more : length found ≤ length shown = some_places _ 1 shown in
     record {

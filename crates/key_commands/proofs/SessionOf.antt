@@ -1,11 +1,10 @@
 -- The session of `local`: its one ask, as the pump needs it, and what the session leaves.
-use Rattle.std.proofs.Common.{◌≡◌, ◌≤◌, ◌-◌, ℕ, true, nat_le, List, [], ◌∷◌, length, map, replicate, Option, refl, sym, ◌∙◌, ap, subst, arith, lit<, vec_capacity, length-append}
+use Rattle.std.proofs.Common.{◌≡◌, ◌≤◌, ℕ, true, nat_le, List, [], ◌∷◌, length, map, Option, refl, sym, ◌∙◌, ap, subst, arith, lit<, vec_capacity}
 use Rattle.std.specs.Cmp.{first_so}
 use Rattle.std.proofs.lemmas.Bool.Decides.{nat_tests}
-use Rattle.std.proofs.lemmas.List.{length-replicate}
 use Rattle.ghost_model.specs.Cells.{padded}
 use Rattle.ghost_model.specs.Catalog.{catalog_bytes}
-use Rattle.ghost_model.specs.Asks.{ReplyRow, asked, ask_payload}
+use Rattle.ghost_model.specs.Asks.{asked, ask_payload}
 use Rattle.ghost_model.specs.NextMove.{rows_of}
 use Rattle.edge_traits.specs.Files.{Files}
 use Rattle.channel_pump.specs.Asked.{IsAskForm, form_kinds}
@@ -78,7 +77,7 @@ pub held : {contents : Option Files} {names : Names} {opened : Opened} → (open
 held {opened = opened} opening name old new found made =
     let rows = replied opening in
     let back : map bare_row found ≡ (host_in (input_of opening)).rows (form_ask opening.script.wanted) =
-        ap (map bare_row) (made.replied ∙ ap (map identifier_of) rows) ∙ identifiers_back (matches opening.script.wanted opened.rows.shown.texts) ∙ sym rows in
+    ap (map bare_row) (made.replied ∙ ap (map identifier_of) rows) ∙ identifiers_back (matches opening.script.wanted opened.rows.shown.texts) ∙ sym rows in
     went opening name old new found made.journal made.proper made.finished made.served made.wrote back
 
 -- the catalog is short

@@ -11,8 +11,7 @@ use Rattle.std.proofs.lemmas.Grind.{flat_map-append}
 use Rattle.ghost_model.proofs.ChannelLemmas.Tests.{both_hold, hold_both}
 use Rattle.key_commands.specs.Texts.{TextList}
 use Rattle.key_commands.proofs.Journals.{goes_on_with, begins_at}
-use Rattle.std.specs.List.{list_all, concat}
-use Rattle.ghost_model.proofs.ChannelLemmas.Hosts.{frames_are_cut}
+use Rattle.std.specs.List.{list_all}
 use Rattle.ghost_model.specs.Channel.{Catalog, Frame, Hello, Asking, More, Bye, Welcome, Replied, Done, Sorry, Move, Send, Take, Close, Made, Piece, Entry, Journal}
 use Rattle.ghost_model.specs.Frames.{IsFrame, frame_bytes, frame_in, size_in, payload_in}
 use Rattle.ghost_model.specs.Moves.{line, lines, taken, sent, sent_by, piece_of}
@@ -335,6 +334,7 @@ conversed held asked name can start now pump host page ids r next =
       replied = r.kept ∙ ap (map identifier_of) end.finished.all;
       its_end = end.finished.has_ended;
     }
+
 -- what the pump says of a take
 pub record TakingIs (p : Pump) (l : Left) (place most : ℕ) : Type 0 where
   pub have : p.have ≡ place

@@ -1,6 +1,6 @@
 -- A session that was served at each of its moves was served throughout.
-use Rattle.std.proofs.Common.{◌≡◌, ℕ, zero, suc, ◌+◌, ◌-◌, ◌<◌, ◌≤◌, List, [], ◌∷◌, ◌++◌, length, map, take, sym, ◌∙◌, ap, subst, refl, arith, append-nil, length-append, ◌⊎◌, inl, inr}
-use Rattle.std.specs.Prelude.{Bool, true, flat_map, All}
+use Rattle.std.proofs.Common.{◌≡◌, ℕ, zero, suc, List, [], ◌∷◌, ◌++◌, map, take, sym, ◌∙◌, ap, subst, refl, append-nil, ◌⊎◌, inl, inr}
+use Rattle.std.specs.Prelude.{true, flat_map, All}
 use Rattle.std.specs.List.{list_all, concat}
 use Rattle.ghost_model.specs.Channel.{Frame, Entry, Journal}
 use Rattle.ghost_model.specs.Frames.{IsFrame, frame_bytes}
@@ -20,9 +20,9 @@ pub served_so :
 unfolding said_to
 served_so held journal key said stand rest full sent_are frames leads said_are =
     let cut : frames_of (concat (sent journal)) ≡ key =
-        ap (λ (xs : List (List ℕ)). frames_of (concat xs)) sent_are ∙ (ap frames_of (joined_frames key) ∙ frames_are_cut key frames) in
+    ap (λ (xs : List (List ℕ)). frames_of (concat xs)) sent_are ∙ (ap frames_of (joined_frames key) ∙ frames_are_cut key frames) in
     let all_said : said_to held key host_specs.Greeting ≡ said =
-        ap (λ (fs : List Frame). said_to held fs host_specs.Greeting) (sym (append-nil key)) ∙ (leads [] ∙ append-nil said) in
+    ap (λ (fs : List Frame). said_to held fs host_specs.Greeting) (sym (append-nil key)) ∙ (leads [] ∙ append-nil said) in
     record {
       full = full;
       rest = rest;
@@ -47,8 +47,9 @@ take_more (y ∷ ys) x (suc count) = elim (take_more ys x count) [ inl e ↦ inl
 -- one more move, at which the session is served
 pub throughout_more : (held : Holding) (journal : Journal) (entry : Entry) → IsServedThroughout held journal → IsServedBy held (journal ++ entry ∷ []) → IsServedThroughout held (journal ++ entry ∷ [])
 throughout_more held journal entry before now entries = elim (take_more journal entry entries) [
-  inl e ↦ subst (λ (j : Journal). IsServedBy held j) (sym e) (before entries)
-  | inr e ↦ subst (λ (j : Journal). IsServedBy held j) (sym e) now ]
+  | inl e ↦ subst (λ (j : Journal). IsServedBy held j) (sym e) (before entries)
+  | inr e ↦ subst (λ (j : Journal). IsServedBy held j) (sym e) now
+]
 
 -- before the first move
 pub throughout_none : (held : Holding) → IsServedBy held [] → IsServedThroughout held []

@@ -1,12 +1,10 @@
 -- The opening put together.
-use Rattle.std.proofs.Common.{◌≡◌, ◌≤◌, ◌<◌, ◌+◌, ℕ, List, [], ◌∷◌, ◌++◌, length, Option, None, Some, refl, sym, ◌∙◌, ap, subst, arith, append_assoc, append-nil, length-append, vec_capacity, is_some}
+use Rattle.std.proofs.Common.{◌≡◌, ◌≤◌, ◌+◌, ℕ, List, [], ◌∷◌, ◌++◌, length, Option, sym, ◌∙◌, ap, subst, append-nil, length-append, vec_capacity, is_some}
 use Rattle.std.specs.Int.{to_be_bytes, w32}
-use Rattle.std.specs.FinMap as map
 use Rattle.ghost_model.specs.Catalog.{canonical_text, catalog_bytes, catalog_head}
-use Rattle.edge_traits.specs.Files.{Files, SameBut, with_file, file_of}
+use Rattle.edge_traits.specs.Files.{Files, SameBut, file_of}
 use Rattle.key_commands.specs.Words.{Names}
 use Rattle.key_commands.specs.Form.{Form, IsLine, SpellsForm, form_schema}
-use Rattle.key_commands.specs.Pieces.{line_of, pieces_of}
 use Rattle.key_commands.specs.Opening.{ReadsForm, ReadsRows, ReadsPayload, IsOpened, form_catalog}
 use Rattle.key_commands.specs.Views.{form_view}
 use Rattle.key_commands.specs.declared.opening.Opened.{Opened}

@@ -2,10 +2,10 @@
 -- and a hidden CHAR column, in its canonical text; and a script of one query that selects the hidden column where the
 -- visible one equals a text. Names are in lower case, and the script has just these spaces. Either text may lack its
 -- last LF.
-use Rattle.std.specs.Prelude.{◌≡◌, ◌⊎◌, ℕ, Bool, true, false, not, ◌&&◌, ◌==◌, nat_le, List, [], ◌∷◌, ◌++◌, length, codes, bytes_eq, Some, None}
+use Rattle.std.specs.Prelude.{◌≡◌, ◌⊎◌, ℕ, Bool, true, false, not, ◌&&◌, ◌==◌, nat_le, List, [], ◌∷◌, ◌++◌, length, codes, bytes_eq, None}
 use Rattle.std.specs.List.{list_all}
-use Rattle.ghost_model.specs.Schema.{Schema, Table, Column, Kind, Integer, Chars}
-use Rattle.ghost_model.specs.Values.{Value, Text}
+use Rattle.ghost_model.specs.Schema.{Schema, Column, Integer, Chars}
+use Rattle.ghost_model.specs.Values.{Text}
 use Rattle.ghost_model.specs.Query.{Query, Compare, Equal}
 use Rattle.ghost_model.specs.Tokens.{is_printable}
 use Rattle.ghost_model.specs.Spelled.{is_name}
@@ -81,4 +81,5 @@ abbrev pub form_query : List ℕ → Query
 form_query wanted = record {
   from = 0 ∷ [];
   select = record { table = 0; column = 2 } ∷ [];
-  conditions = Compare (record { table = 0; column = 1 }) Equal (Text wanted) ∷ [] }
+  conditions = Compare (record { table = 0; column = 1 }) Equal (Text wanted) ∷ [];
+}

@@ -1,7 +1,7 @@
 -- What `local` reads, prints and journals. Its words name a schema's file, the folder of the table's file, and a
 -- script's file, which are read in this order. Together they spell an input: a form, the rows of its table and the
 -- wanted text. Else one of the three parts is the first that is not of the form.
-use Rattle.std.specs.Prelude.{◌≡◌, ◌≢◌, ◌⊎◌, ◌≤◌, ℕ, zero, suc, List, [], ◌∷◌, ◌++◌, length, Option, Some}
+use Rattle.std.specs.Prelude.{◌≡◌, ◌≢◌, ◌⊎◌, ◌≤◌, ℕ, zero, suc, List, [], ◌∷◌, length, Option, Some}
 use Rattle.std.specs.FinMap as map
 use Rattle.ghost_model.specs.Causes.{Rose}
 use Rattle.ghost_model.specs.Schema.{Schema}

@@ -8,7 +8,6 @@ use Rattle.edge_traits.specs.Files.{Files, HasFile, with_file}
 use Rattle.key_commands.specs.Words.{Names, table_file}
 use Rattle.key_commands.specs.Form.{Form, form_schema, SpellsForm, SpellsScript}
 use Rattle.key_commands.specs.FormMeaning.{form_payload}
-use Rattle.key_commands.specs.Texts.{TextList}
 use Rattle.key_commands.specs.Rows.{HoldRows}
 use Rattle.key_commands.specs.Local.{Input, most_text}
 use Rattle.key_commands.specs.Views.{form_view}

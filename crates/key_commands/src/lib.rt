@@ -7,18 +7,18 @@ mod form_laws;
 mod host_end;
 mod journal;
 pub mod local;
+#[cfg(test)]
+mod local_tests;
 pub mod naming;
 pub mod opening;
 pub mod pieces;
 pub mod printing;
 pub mod records;
 pub mod rows;
-pub mod status;
 pub mod script;
 mod session;
 mod speech;
-#[cfg(test)]
-mod local_tests;
+pub mod status;
 #[cfg(test)]
 mod tests;
 pub mod texts;
