@@ -75,8 +75,8 @@ pub catalog_is : {contents : Option Files} {names : Names} {opened : Opened} →
 catalog_is {opened = opened} opening =
     let held = opening.rows.held in
     let counts : row_counts (database_in (input_of opening)) ≡ opened.rows.count ∷ [] =
-        ap row_counts held.rows
-        ∙ ap (λ n. n ∷ []) (many_rows 1 opened.rows.shown.texts opened.rows.secret.texts (held.shown_many ∙ sym held.secret_many) ∙ held.shown_many) in
+    ap row_counts held.rows
+    ∙ ap (λ n. n ∷ []) (many_rows 1 opened.rows.shown.texts opened.rows.secret.texts (held.shown_many ∙ sym held.secret_many) ∙ held.shown_many) in
     ap (λ c. let made : Catalog = record { schema = form_schema (form_view opened.form); counts = c; generation = 1 } in made) counts
 
 -- the lines of the input are those of the rows that match
@@ -122,7 +122,7 @@ has_lines (Some files) name journal finished e =
 journals : {contents : Option Files} {names : Names} {opened : Opened} → (opening : IsOpened contents names opened) → (files : Files) → contents ≡ Some files → (old new : Log) (found : List ℕ) → WasHeld (input_of opening) opened.rows.shown.texts names.journal old new found → old.contents ≡ with_file contents names.journal [] → new.failed ≡ false → Journals (input_of opening) names new.contents
 journals {contents = contents} {names = names} opening files told old new found held empty good =
     let before : told_file old.contents names.journal ≡ Some [] =
-        ap (λ c. told_file c names.journal) (empty ∙ ap (λ c. with_file c names.journal []) told) ∙ emptied files names.journal in
+    ap (λ c. told_file c names.journal) (empty ∙ ap (λ c. with_file c names.journal []) told) ∙ emptied files names.journal in
     record {
       journal = held.journal;
       file = has_lines new.contents names.journal held.journal held.finished
@@ -161,7 +161,7 @@ pub answers : {contents : Option Files} {names : Names} {opened : Opened} → (o
     → Answers files names ended before after old.append_faults new.append_faults new.contents
 answers {contents = contents} {names = names} {opened = opened} opening files told old new found held empty fresh ended before after front all good bad =
     let printed : answer_at opened.rows.secret.texts found ≡ printed_by (input_of opening) =
-        ap (answer_at opened.rows.secret.texts) held.found_are ∙ sym (printed_is opening) in
+    ap (answer_at opened.rows.secret.texts) held.found_are ∙ sym (printed_is opening) in
     record {
       input = input_of opening;
       spelled = spelled opening files told;

@@ -105,8 +105,8 @@ holds_column catalog form file count shown secret bytes schema is hold =
       replied = λ cell ask wide read.
           let right = accepted form cell ask (ap (λ s. ask_in s (column_payload cell)) (sym schema) ∙ read) in
           let places : matches right.text shown.texts ≡ matching_from shown cell 0 =
-              same_places (λ text. bytes_eq text right.text) (has_cell shown.width cell) (is_text form.shown_most) 1 shown.texts hold.shown_held
-              (λ text h. same_test form.shown_most text right.text cell h right.held right.cell_is ∙ ap (λ w. bytes_eq (padded w text) cell) (sym hold.shown_width)) in
+          same_places (λ text. bytes_eq text right.text) (has_cell shown.width cell) (is_text form.shown_most) 1 shown.texts hold.shown_held
+          (λ text h. same_test form.shown_most text right.text cell h right.held right.cell_is ∙ ap (λ w. bytes_eq (padded w text) cell) (sym hold.shown_width)) in
           let P : Ask → Type 0 = λ a. IsReplied (Held (form_schema form)) shown cell a in
           let made : IsReplied (Held (form_schema form)) shown cell ask = subst P (sym right.ask_is) (record {
             width = refl;

@@ -52,8 +52,8 @@ pub one_form : (text : List ℕ) (a b : Form) → SpellsForm text a → SpellsFo
 one_form text a b one other =
     let P : List ℕ → Type 0 = λ whole. IsLine whole text in
     let lines : line_of (pieces_of a) ≡ line_of (pieces_of b) =
-        one_line text (line_of (pieces_of a)) (line_of (pieces_of b)) (line_ends (pieces_of a)) (line_ends (pieces_of b))
-        (subst P (whole_line a) one.line) (subst P (whole_line b) other.line) in
+    one_line text (line_of (pieces_of a)) (line_of (pieces_of b)) (line_ends (pieces_of a)) (line_ends (pieces_of b))
+    (subst P (whole_line a) one.line) (subst P (whole_line b) other.line) in
     let same = agrees (line_of (pieces_of a)) (pieces_of a) (are_words a (parts a one.proper)) refl b other.proper lines in
     let own = parts a one.proper in
     same_fields a b same.table same.shown

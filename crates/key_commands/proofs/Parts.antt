@@ -88,7 +88,7 @@ longer_rows contents files names text form name part told reads is named h =
 pub other_rows : (contents : Option Files) (files : Files) (names : Names) (text : List ℕ) (form : Form) (name bytes : List ℕ) → contents ≡ Some files → ReadsForm contents names text form → name ≡ table_file names.tables form.table → IsRead contents name most_bytes bytes → (load_faults (form_schema form) (bytes ∷ []) ≡ [] → ⊥) → IsFirstOther files names 2
 other_rows contents files names text form name bytes told reads named read broken =
     let found : map.get files (table_file names.tables form.table) ≡ Some bytes =
-        subst (λ n. map.get files n ≡ Some bytes) named (file_told contents files name bytes told read.told) in
+    subst (λ n. map.get files n ≡ Some bytes) named (file_told contents files name bytes told read.told) in
     record {
       form = form;
       schema = schema_told contents files names text form told reads;

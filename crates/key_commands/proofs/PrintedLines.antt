@@ -77,6 +77,6 @@ pub row_front : (start now later : Option (List ℕ)) (secret : List (List ℕ))
 row_front start now later secret found place text within is before step =
     let line : secret_line text ≡ line_at secret (slice_index found place) = line_of_text secret (slice_index found place) text is in
     let one : GrowsByFront start (lines_at secret (take place found) ++ line_at secret (slice_index found place)) later =
-        subst (λ l. GrowsByFront start (lines_at secret (take place found) ++ l) later) line (then_front start now later (lines_at secret (take place found)) (secret_line text) before step) in
+    subst (λ l. GrowsByFront start (lines_at secret (take place found) ++ l) later) line (then_front start now later (lines_at secret (take place found)) (secret_line text) before step) in
     let more : GrowsByFront start (lines_at secret (take (place + 1) found)) later = subst (λ l. GrowsByFront start l later) (sym (lines_more secret found place within)) one in
     subst (λ l. GrowsByFront start l later) (sym (lines_rest secret found (place + 1))) (longer start later (lines_at secret (take (place + 1) found)) (lines_at secret (drop (place + 1) found)) more)

@@ -103,18 +103,18 @@ line_is_short : (form : Form) → is_form form ≡ true → length (line_of (pie
 line_is_short form h =
     let own = parts form h in
     let e : length (line_of (pieces_of form)) ≤ 13 + (32 + (26 + (32 + (6 + (2 + (3 + (32 + (6 + (2 + 10))))))))) =
-        at_most (codes "CREATE TABLE ") _ 13 _ (lit≤ tt) (at_most form.table _ 32 _ (name_is_short form.table own.table)
-        (at_most (codes " (id INTEGER PRIMARY KEY, ") _ 26 _ (lit≤ tt) (at_most form.shown _ 32 _ (name_is_short form.shown own.shown)
-        (at_most (codes " CHAR(") _ 6 _ (lit≤ tt) (at_most (decimal form.shown_most) _ 2 _ (few_digits form.shown_most own.shown_most)
-        (at_most (codes "), ") _ 3 _ (lit≤ tt) (at_most form.secret _ 32 _ (name_is_short form.secret own.secret)
-        (at_most (codes " CHAR(") _ 6 _ (lit≤ tt) (at_most (decimal form.secret_most) (codes ") HIDDEN);") 2 10 (few_digits form.secret_most own.secret_most) (lit≤ tt)))))))))) in
+    at_most (codes "CREATE TABLE ") _ 13 _ (lit≤ tt) (at_most form.table _ 32 _ (name_is_short form.table own.table)
+    (at_most (codes " (id INTEGER PRIMARY KEY, ") _ 26 _ (lit≤ tt) (at_most form.shown _ 32 _ (name_is_short form.shown own.shown)
+    (at_most (codes " CHAR(") _ 6 _ (lit≤ tt) (at_most (decimal form.shown_most) _ 2 _ (few_digits form.shown_most own.shown_most)
+    (at_most (codes "), ") _ 3 _ (lit≤ tt) (at_most form.secret _ 32 _ (name_is_short form.secret own.secret)
+    (at_most (codes " CHAR(") _ 6 _ (lit≤ tt) (at_most (decimal form.secret_most) (codes ") HIDDEN);") 2 10 (few_digits form.secret_most own.secret_most) (lit≤ tt)))))))))) in
     omega (arith, e)
 
 -- the catalog of a form
 catalog_are_bytes : (form : Form) (rows : ℕ) → is_form form ≡ true → AreBytes (catalog_bytes (form_catalog form rows))
 catalog_are_bytes form rows h =
     let text : AreBytes (canonical_text (form_schema form)) =
-        subst AreBytes (sym (whole_line form)) (joined (line_of (pieces_of form)) (10 ∷ []) (line_bytes (pieces_of form) (are_words form (parts form h))) (known (10 ∷ []) refl)) in
+    subst AreBytes (sym (whole_line form)) (joined (line_of (pieces_of form)) (10 ∷ []) (line_bytes (pieces_of form) (are_words form (parts form h))) (known (10 ∷ []) refl)) in
     let size = length (canonical_text (form_schema form)) in
     joined (catalog_head 1 size) (canonical_text (form_schema form) ++ counts_bytes (rows ∷ []))
     (joined (codes "GHOSTDB") (1 ∷ (to_be_bytes w32 1 ++ to_be_bytes w32 size)) (known (codes "GHOSTDB") refl)
@@ -124,10 +124,10 @@ catalog_are_bytes form rows h =
 pub catalog_is_short : (form : Form) (rows : ℕ) → is_form form ≡ true → length (catalog_bytes (form_catalog form rows)) ≤ 2039
 catalog_is_short form rows h =
     let text : length (canonical_text (form_schema form)) ≤ 200 + 1 =
-        subst (λ t. length t ≤ 200 + 1) (sym (whole_line form)) (at_most (line_of (pieces_of form)) (10 ∷ []) 200 1 (line_is_short form h) (lit≤ tt)) in
+    subst (λ t. length t ≤ 200 + 1) (sym (whole_line form)) (at_most (line_of (pieces_of form)) (10 ∷ []) 200 1 (line_is_short form h) (lit≤ tt)) in
     let size = length (canonical_text (form_schema form)) in
     let whole : length (catalog_bytes (form_catalog form rows)) ≤ 16 + ((200 + 1) + 4) =
-        at_most (catalog_head 1 size) (canonical_text (form_schema form) ++ counts_bytes (rows ∷ [])) 16 ((200 + 1) + 4) (lit≤ tt) (at_most (canonical_text (form_schema form)) (counts_bytes (rows ∷ [])) (200 + 1) 4 text (lit≤ tt)) in
+    at_most (catalog_head 1 size) (canonical_text (form_schema form) ++ counts_bytes (rows ∷ [])) 16 ((200 + 1) + 4) (lit≤ tt) (at_most (canonical_text (form_schema form)) (counts_bytes (rows ∷ [])) (200 + 1) 4 text (lit≤ tt)) in
     omega (arith, whole)
 
 -- the ask
@@ -199,7 +199,7 @@ over_catalog : (form : Form) (wanted : List ℕ) (count : ℕ) (shown : List (Li
 over_catalog form wanted count shown public h k many few replied =
     let found = matches wanted shown in
     let within : list_all (λ identifier. nat_le identifier count) found ≡ true =
-        subst (λ n. list_all (λ identifier. nat_le identifier n) found ≡ true) many (matches_within wanted shown) in
+    subst (λ n. list_all (λ identifier. nat_le identifier n) found ≡ true) many (matches_within wanted shown) in
     let length_is : length (reply_rows (form_schema form) public (form_ask wanted)) ≡ length found = ap length replied ∙ many_back found in
     let not_more : length found ≤ length shown = some_places _ 1 shown in
     record {

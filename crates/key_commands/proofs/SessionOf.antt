@@ -78,7 +78,7 @@ pub held : {contents : Option Files} {names : Names} {opened : Opened} → (open
 held {opened = opened} opening name old new found made =
     let rows = replied opening in
     let back : map bare_row found ≡ (host_in (input_of opening)).rows (form_ask opening.script.wanted) =
-        ap (map bare_row) (made.replied ∙ ap (map identifier_of) rows) ∙ identifiers_back (matches opening.script.wanted opened.rows.shown.texts) ∙ sym rows in
+    ap (map bare_row) (made.replied ∙ ap (map identifier_of) rows) ∙ identifiers_back (matches opening.script.wanted opened.rows.shown.texts) ∙ sym rows in
     went opening name old new found made.journal made.proper made.finished made.served made.wrote back
 
 -- the catalog is short

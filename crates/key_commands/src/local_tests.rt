@@ -20,7 +20,8 @@ const ROWS: &str = "id,topic,body\n1,a,x\n2,b,y\n3,a,z\n";
 const SCRIPT: &str = "SELECT body FROM note WHERE topic = 'a';\n";
 
 /// The twelve moves of the session for the rows and the script above.
-const JOURNAL: &str = "dial ok\nsend 010100040000000000000001 ok\ntake 8 1101006500000000\ntake 101 0147484f53544442010000000100000050435245415445205441424c45206e6f74652028696420494e5445474552205052494d415259204b45592c20746f70696320434841522834292c20626f647920434841522838292048494444454e293b0a00000003\nsend 0201000900000001000001010161000000 ok\ntake 8 1201000800000001\ntake 8 0000000100000003\nsend 0301000000000001 ok\ntake 8 1301000400000001\ntake 4 00000002\nsend 0401000000000000 ok\nclose\n";
+const JOURNAL: &str =
+    "dial ok\nsend 010100040000000000000001 ok\ntake 8 1101006500000000\ntake 101 0147484f53544442010000000100000050435245415445205441424c45206e6f74652028696420494e5445474552205052494d415259204b45592c20746f70696320434841522834292c20626f647920434841522838292048494444454e293b0a00000003\nsend 0201000900000001000001010161000000 ok\ntake 8 1201000800000001\ntake 8 0000000100000003\nsend 0301000000000001 ok\ntake 8 1301000400000001\ntake 4 00000002\nsend 0401000000000000 ok\nclose\n";
 
 /// A depot with the three files of a call, which fails at some calls.
 fn depot_with(
@@ -83,7 +84,10 @@ fn a_failing_sink_changes_no_move(rt: HostRuntime) -> Result<(), AllocError> {
         let mut depot = depot_with(rt.alloc(), ROWS, SCRIPT, &[])?;
         let mut out = MemSink::new(rt.alloc(), 99, 99, &[call])?;
         let args = words(rt.alloc())?;
-        assert!(rt; key_main(rt.alloc(), &args, &mut depot, &mut out) == KeyStatus::Sink, "call {call}");
+        assert!(rt;
+            key_main(rt.alloc(), &args, &mut depot, &mut out) == KeyStatus::Sink,
+            "call {call}"
+        );
         assert_eq!(rt; out.bytes(), taken.as_bytes(), "call {call}");
         assert!(rt; journal_is(&depot, JOURNAL), "call {call}");
     }
@@ -97,7 +101,10 @@ fn a_failing_read_ends_the_opening(rt: HostRuntime) -> Result<(), AllocError> {
         let mut depot = depot_with(rt.alloc(), ROWS, SCRIPT, &[call])?;
         let mut out = MemSink::new(rt.alloc(), 99, 99, &[])?;
         let args = words(rt.alloc())?;
-        assert!(rt; key_main(rt.alloc(), &args, &mut depot, &mut out) == KeyStatus::Depot, "call {call}");
+        assert!(rt;
+            key_main(rt.alloc(), &args, &mut depot, &mut out) == KeyStatus::Depot,
+            "call {call}"
+        );
         assert_eq!(rt; out.bytes(), b"".as_slice(), "call {call}");
         assert!(rt; depot.file("journal").is_none(), "call {call}");
     }
@@ -110,7 +117,10 @@ fn a_failing_append_changes_no_line(rt: HostRuntime) -> Result<(), AllocError> {
         let mut depot = depot_with(rt.alloc(), ROWS, SCRIPT, &[call])?;
         let mut out = MemSink::new(rt.alloc(), 99, 99, &[])?;
         let args = words(rt.alloc())?;
-        assert!(rt; key_main(rt.alloc(), &args, &mut depot, &mut out) == KeyStatus::Depot, "call {call}");
+        assert!(rt;
+            key_main(rt.alloc(), &args, &mut depot, &mut out) == KeyStatus::Depot,
+            "call {call}"
+        );
         assert_eq!(rt; out.bytes(), b"> x\n> z\n= 1 2\n".as_slice(), "call {call}");
         assert_eq!(rt; depot.append_faults(), 1, "call {call}");
     }
@@ -128,7 +138,10 @@ fn each_part_of_another_form_is_told(rt: HostRuntime) -> Result<(), AllocError> 
         let mut out = MemSink::new(rt.alloc(), 99, 99, &[])?;
         let args = words(rt.alloc())?;
         let status = key_main(rt.alloc(), &args, &mut depot, &mut out);
-        assert!(rt; status == KeyStatus::Input(InputFault::NotBuilt { part }), "part {part}");
+        assert!(rt;
+            status == KeyStatus::Input(InputFault::NotBuilt { part }),
+            "part {part}"
+        );
         assert_eq!(rt; status.exit_code(), 4);
         assert_eq!(rt; out.bytes(), b"".as_slice());
         assert!(rt; depot.file("journal").is_none());

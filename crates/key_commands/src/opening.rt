@@ -67,11 +67,7 @@ struct SchemaText {
 
 /// Reads all that a session needs, and makes the journal's file empty as the last step.
 #[tactic(auto, using(crate::proofs::WholeOpening::unchanged, crate::proofs::WholeOpening::emptied_others))]
-pub fn open<D: Depot>(
-    alloc: Global,
-    names: &Names<'_>,
-    depot: &mut D,
-) -> Result<Opened, OpenFault>
+pub fn open<D: Depot>(alloc: Global, names: &Names<'_>, depot: &mut D) -> Result<Opened, OpenFault>
     ensures opened { IfOk result (λ opened. IsOpened (D.contents depot.old) (names_view names.now) opened) }
     ensures emptied { OnOk result (D.contents depot.new ≡ with_file (D.contents depot.old) names.now.journal.now []) }
     ensures first_other { (part : ℕ) → (files : Files) → D.contents depot.old ≡ Some files → result ≡ Err (OpenFault.Input (InputFault.NotBuilt part)) → IsFirstOther files (names_view names.now) part }
@@ -91,11 +87,7 @@ pub fn open<D: Depot>(
 
 /// Reads all that a session needs.
 #[tactic(auto, using(crate::proofs::WholeOpening::opened))]
-fn read_all<D: Depot>(
-    alloc: Global,
-    names: &Names<'_>,
-    depot: &mut D,
-) -> Result<Opened, OpenFault>
+fn read_all<D: Depot>(alloc: Global, names: &Names<'_>, depot: &mut D) -> Result<Opened, OpenFault>
     ensures opened { IfOk result (λ opened. IsOpened (D.contents depot.old) (names_view names.now) opened) }
     ensures first_other { (part : ℕ) → (files : Files) → D.contents depot.old ≡ Some files → result ≡ Err (OpenFault.Input (InputFault.NotBuilt part)) → IsFirstOther files (names_view names.now) part }
     ensures never_falls { D.faults depot.old ≤ D.faults depot.new }

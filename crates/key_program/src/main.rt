@@ -5,10 +5,9 @@ use edge_real::dir_depot::DirDepot;
 use edge_real::std_sink::StdSink;
 use key_commands::local::key_main;
 use key_commands::status::KeyStatus;
-use std::env;
-use std::io;
 use std::io::ErrorKind;
 use std::process::ExitCode;
+use std::{env, io};
 
 /// Does what the words of the command line say, prints a line on standard error where that did not go well, and ends
 /// with the status.
