@@ -1,9 +1,8 @@
-use Rattle.std.proofs.Common.{◌≡◌, ℕ, List, [], ◌∷◌, ◌++◌, length, take, refl, sym, ◌∙◌, ap, subst}
+use Rattle.std.proofs.Common.{◌≡◌, ℕ, List, [], ◌∷◌, ◌++◌, length, take, refl, sym, ◌∙◌, subst}
 use Rattle.ghost_model.specs.Channel.{Catalog, Entry, Journal}
 use Rattle.ghost_model.specs.Asks.{Asked}
 use Rattle.ghost_model.specs.Moves.{piece_of}
 use Rattle.ghost_model.specs.NextMove.{Heard, Left, left, at_first}
-use Rattle.channel_pump.specs.Pages.{PagesKeep}
 use Rattle.channel_pump.specs.State.{Keeps}
 use Rattle.channel_pump.proofs.JournalLemmas.{hear_none, left_more}
 use Rattle.channel_pump.proofs.ReportLemmas.{silent}
