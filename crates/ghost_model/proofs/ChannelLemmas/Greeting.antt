@@ -21,7 +21,7 @@ abbrev fits : List ℕ → Bool
 fits part = nat_lt 0 (length part) && nat_le (length part) most_part
 
 -- bytes of a front
-front_bytes : (part more : List ℕ) → AreBytes (part ++ more) → AreBytes part
+pub front_bytes : (part more : List ℕ) → AreBytes (part ++ more) → AreBytes part
 front_bytes [] more h i = lit< tt
 front_bytes (x ∷ xs) more h zero = h 0
 front_bytes (x ∷ xs) more h (suc i) = front_bytes xs more (λ k. h (suc k)) i
@@ -45,7 +45,7 @@ welcome_is_frame last part m e h =
     }
 
 module _ (catalog : Catalog) (asks : List Asked) where
-  welcome_awaited : (last : ℕ) (part more : List ℕ) → last ≤ 1 → fits part ≡ true → AreBytes part → (last == (if length part == length (part ++ more) then 1 else 0)) ≡ true → IsAwaited catalog (Missing (part ++ more)) (Welcome last part)
+  pub welcome_awaited : (last : ℕ) (part more : List ℕ) → last ≤ 1 → fits part ≡ true → AreBytes part → (last == (if length part == length (part ++ more) then 1 else 0)) ≡ true → IsAwaited catalog (Missing (part ++ more)) (Welcome last part)
   welcome_awaited last part more m e h t =
       let is : IsFrame (Welcome last part) = welcome_is_frame last part m e h in
       let both : BothHold (nat_lt 0 (length part)) (nat_le (length part) most_part) = both_hold _ _ e in

@@ -21,7 +21,7 @@ use Rattle.ghost_model.proofs.ChannelLemmas.Tests.{hold_both}
 not_zero : (n : ℕ) → 0 < n → not (n == 0) ≡ true
 not_zero n h = grind (arith, nat_tests)
 
-number_bytes : (n : ℕ) → AreBytes (to_be_bytes w32 n)
+pub number_bytes : (n : ℕ) → AreBytes (to_be_bytes w32 n)
 number_bytes n zero = mod-lt (n / 16777216) (lit< tt)
 number_bytes n (suc zero) = mod-lt (n / 65536) (lit< tt)
 number_bytes n (suc (suc zero)) = mod-lt (n / 256) (lit< tt)
@@ -47,7 +47,7 @@ module _ (catalog : Catalog) (asks : List Asked) (asked : Asked) (serial : ℕ) 
     broken = false;
   }
 
-  done_fits : (total : ℕ) → total < 2 ^ 32 → IsFrame (Done serial total)
+  pub done_fits : (total : ℕ) → total < 2 ^ 32 → IsFrame (Done serial total)
   done_fits total h = record {
     serial = not_zero serial some;
     size = refl;
@@ -57,7 +57,7 @@ module _ (catalog : Catalog) (asks : List Asked) (asked : Asked) (serial : ℕ) 
     number_fits = h;
   }
 
-  done_awaited : (count last : ℕ) → count < 2 ^ 32 → IsAwaited catalog (Reply asked serial later count last) (Done serial count)
+  pub done_awaited : (count last : ℕ) → count < 2 ^ 32 → IsAwaited catalog (Reply asked serial later count last) (Done serial count)
   done_awaited count last h = record {
     fits = done_fits count h;
     header = hold_both _ _ (hold_both _ _ refl (eq-eqb _ serial (from_be_bytes-to_be_bytes_4 serial small))) refl;
@@ -87,7 +87,7 @@ module _ (catalog : Catalog) (asks : List Asked) (asked : Asked) (serial : ℕ) 
   rows_size_fits : (size : ℕ) → 0 < size → size % width ≡ 0 → size ≤ 2040 → (nat_lt 0 size && size % width == 0 && nat_le size most_payload) ≡ true
   rows_size_fits size a b c = hold_both _ _ (hold_both _ _ (lt-ltb 0 size a) (eq-eqb (size % width) 0 b)) (le-leb size 2040 c)
 
-  rows_awaited : (count last : ℕ) (group : List ReplyRow) → IsGroup catalog asked.ask last group → IsAwaited catalog (Reply asked serial later count last) (rows_frame serial group)
+  pub rows_awaited : (count last : ℕ) (group : List ReplyRow) → IsGroup catalog asked.ask last group → IsAwaited catalog (Reply asked serial later count last) (rows_frame serial group)
   rows_awaited count last group g =
       let fits : IsFrame (rows_frame serial group) = rows_frame_fits last group g in
       let size : size_in (frame_bytes (rows_frame serial group)) ≡ length group * width = size_read (rows_frame serial group) fits ∙ group_length group g.widths in
