@@ -1,10 +1,14 @@
 -- Lemmas on frames and on the next move.
+pub mod Tests
 pub mod Asks
 pub mod Proper
 pub mod Hosts
 pub mod Hearing
 pub mod Rows
 pub mod Sending
+pub mod Replies
+pub mod Greeting
+pub mod Streams
 use Rattle.std.proofs.Common.{◌≡◌, ℕ, zero, suc, ◌+◌, ◌-◌, ◌*◌, ◌<◌, ◌≤◌, ◌^◌, ◌⊎◌, ◌≢◌, inl, inr, Bool, true, false, ◌&&◌, List, [], ◌∷◌, ◌++◌, length, take, drop, slice_index, get_or, sym, ◌∙◌, ap, subst, refl, arith, length-append, append-nil, append_assoc, lit<, w16, w32}
 use Rattle.std.specs.Prelude.{◌==◌, nat_lt, nat_le, not, if◌then◌else◌}
 use Rattle.std.specs.Int.{to_be_bytes, from_be_bytes}

@@ -1,10 +1,14 @@
-mod TokenLemmas
-mod TextLemmas
-mod GrammarLemmas
-mod SchemaLemmas
-mod SchemaRuleLemmas
-mod SchemaTreeLemmas
-mod QueryLemmas
-mod QueryReadingLemmas
-mod ChannelLemmas
-mod MeaningLemmas
+pub mod TokenLemmas
+pub mod TextLemmas
+pub mod GrammarLemmas
+pub mod SchemaLemmas
+pub mod SchemaRuleLemmas
+pub mod SchemaTreeLemmas
+pub mod CatalogLemmas
+pub mod CatalogLengthLemmas
+pub mod CatalogSpellingLemmas
+pub mod QueryLemmas
+pub mod QueryReadingLemmas
+pub mod ChannelLemmas
+pub mod MeaningLemmas
+pub mod SessionLemmas

@@ -1,10 +1,14 @@
 -- What both sides of the channel know beforehand, as bytes. The canonical text of a schema has one line a table, names
--- in lower case, one space between words and HIDDEN at each hidden column. The catalog's bytes are `GHOSTDB`, the
+-- in lower case, one space between words, `REFERENCES` with the child's name and `(id)` at a foreign key, and then HIDDEN
+-- at each hidden column. The catalog's bytes are `GHOSTDB`, the
 -- version of the format, the generation, the length of the canonical text, that text, and each table's number of rows.
-use Rattle.std.specs.Prelude.{ℕ, Bool, true, false, List, [], ◌∷◌, ◌++◌, length, drop, flat_map, codes, decimal, Option, Some, None, slice_get}
+use Rattle.std.specs.Prelude.{ℕ, Bool, true, false, List, [], ◌∷◌, ◌++◌, length, drop, flat_map, codes, decimal, Option, Some, None, slice_get, ◌≡◌, ◌<◌, ◌^◌, nat_le}
+use Rattle.std.specs.List.{list_all}
 use Rattle.std.specs.Int.{to_be_bytes, w32}
 use Rattle.ghost_model.specs.Schema.{Schema, Table, Column, Kind, Integer, Chars}
 use Rattle.ghost_model.specs.Channel.{Catalog}
+use Rattle.ghost_model.specs.SchemaFaults.{MeansSchema}
+use Rattle.ghost_model.specs.LoadFaults.{most_rows}
 
 abbrev pub kind_text : Kind → List ℕ
 kind_text Integer = codes "INTEGER"
@@ -54,3 +58,23 @@ abbrev pub catalog_bytes : Catalog → List ℕ
 catalog_bytes cat =
     catalog_head cat.generation (length (canonical_text cat.schema))
     ++ (canonical_text cat.schema ++ counts_bytes cat.counts)
+
+-- a catalog that both sides may share: its text means its schema, each table has a number of rows of at most a million,
+-- and its generation is not 0 and has four bytes
+pub record IsCatalog (cat : Catalog) : Type 0 where
+  pub meant : MeansSchema (canonical_text cat.schema) cat.schema
+  pub counted : length cat.counts ≡ length cat.schema
+  pub few_rows : list_all (λ count. nat_le count most_rows) cat.counts ≡ true
+  pub some_generation : 0 < cat.generation
+  pub generation_fits : cat.generation < 2 ^ 32
+
+-- bytes that spell a catalog
+pub record SpellsCatalog (bytes : List ℕ) (cat : Catalog) : Type 0 where
+  pub proper : IsCatalog cat
+  pub spelled : bytes ≡ catalog_bytes cat
+
+-- bytes of which a prefix spells a catalog
+pub record BeginsWithCatalog (bytes : List ℕ) (cat : Catalog) : Type 0 where
+  pub proper : IsCatalog cat
+  pub rest : List ℕ
+  pub begins : bytes ≡ catalog_bytes cat ++ rest

@@ -1,6 +1,6 @@
--- An honest host: nothing breaks off, and what the key takes begins a stream that the public part decides. First come
--- WELCOME frames whose parts, joined, are the catalog's bytes; then, for each ask that the key sent, in order, ROWS
--- frames in any packing whose rows, joined, are the rows that meet the ask, and DONE with their number.
+-- An honest host: nothing breaks off, and what the key takes begins a stream that the public part decides but for its
+-- packing. First come WELCOME frames whose parts, joined, are the catalog's bytes; then, for each ask that the key sent,
+-- in order, ROWS frames in any packing whose rows, joined, are the rows that meet the ask, and DONE with their number.
 use Rattle.std.specs.Prelude.{◌≡◌, ℕ, ◌+◌, ◌*◌, Bool, true, false, ◌&&◌, nat_le, nat_lt, List, [], ◌∷◌, ◌++◌, length, map, flat_map, filter_map, Option, None}
 use Rattle.std.specs.List.{concat, list_any, list_all}
 use Rattle.ghost_model.specs.Schema.{Schema}

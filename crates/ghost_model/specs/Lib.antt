@@ -18,6 +18,7 @@ pub mod QueryMeaning
 pub mod QueryReading
 pub mod Cells
 pub mod Catalog
+pub mod CatalogLaws
 pub mod Database
 pub mod LoadFaults
 pub mod Split
@@ -32,4 +33,5 @@ pub mod Local
 pub mod Honest
 pub mod Replies
 pub mod Lines
+pub mod SessionLaws
 pub mod examples

@@ -2,7 +2,7 @@
 -- whose asks were not all ended by DONE has the line of what ended them. Each other text has the rows of its answer from
 -- the replies and their number, or, where the key's flash failed it or held a damaged slot, some rows from the front of
 -- these and the word for that.
-use Rattle.std.specs.Prelude.{◌≡◌, ℕ, Bool, true, false, ◌==◌, List, [], ◌∷◌, ◌++◌, length, map, filter, codes, Ok, Err, if◌then◌else◌}
+use Rattle.std.specs.Prelude.{◌≡◌, ℕ, Bool, true, false, ◌==◌, List, [], ◌∷◌, ◌++◌, length, map, filter, codes, Ok, Err, if◌then◌else◌, ◌+◌, slice_get, Some}
 use Rattle.std.specs.List.{list_any}
 use Rattle.ghost_model.specs.Schema.{Schema}
 use Rattle.ghost_model.specs.Values.{Row}
@@ -63,7 +63,6 @@ pub data Reason : Type 0 where
   WasAnswered : Reason
   MetFault : Fault → Reason
 
-
 pub record RefusedLines (schema : Schema) (text : ℕ) (written : List ℕ) (lines : List (List ℕ)) : Type 0 where
   pub refusal : Refusal
   pub refused : reading schema written ≡ Err refusal
@@ -97,7 +96,11 @@ AreLinesFor WasBroken catalog kept texts journal text written lines = BrokenLine
 AreLinesFor WasAnswered catalog kept texts journal text written lines = AnsweredLines catalog kept texts journal text written lines
 AreLinesFor (MetFault fault) catalog kept texts journal text written lines = FaultLines fault catalog kept texts journal text written lines
 
--- the lines of a text in a session that went by a journal
-pub record AreLines (catalog : Catalog) (kept : Hidden) (texts : List (List ℕ)) (journal : Journal) (text : ℕ) (written : List ℕ) (lines : List (List ℕ)) : Type 0 where
+-- the lines of text number `text` in a session that went by a journal
+pub record AreLines (catalog : Catalog) (kept : Hidden) (texts : List (List ℕ)) (journal : Journal) (text : ℕ) (lines : List (List ℕ)) : Type 0 where
+  pub place : ℕ
+  pub numbered : text ≡ place + 1
+  pub written : List ℕ
+  pub stands : slice_get texts place ≡ Some written
   pub reason : Reason
   pub lines_are : AreLinesFor reason catalog kept texts journal text written lines

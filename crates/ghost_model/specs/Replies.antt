@@ -13,7 +13,7 @@ use Rattle.ghost_model.specs.Channel.{Catalog, Ask, Journal}
 use Rattle.ghost_model.specs.Asks.{Asked, ReplyRow, kinds_of, rows_in}
 use Rattle.ghost_model.specs.Moves.{taken}
 use Rattle.ghost_model.specs.NextMove.{Ending, Answered, Refused, Ended, heard}
-use Rattle.ghost_model.specs.Database.{rows_or_none}
+use Rattle.ghost_model.specs.Database.{rows_or_none, row_numbered}
 use Rattle.ghost_model.specs.Split.{Hidden, Replied, value_at}
 use Rattle.ghost_model.specs.Meaning.{compares, others_of}
 
@@ -39,7 +39,7 @@ reply_of schema asked (Refused _) = None
 abbrev pub reply_for : Schema → (text : ℕ) → Ended → Option Reply
 reply_for schema text end = if end.asked.text == text then reply_of schema end.asked end.ending else None
 
--- the replies to a text's asks that DONE ended
+-- the replies to a text's asks that DONE ended; rows of an ask that is still running are none of these
 abbrev pub replies : Catalog → (asks : List Asked) → Journal → (text : ℕ) → List Reply
 replies catalog asks journal text = filter_map (reply_for catalog.schema text) (heard catalog asks (taken journal)).ended
 
@@ -65,15 +65,11 @@ replied_value given table identifier column =
 abbrev pub hidden_places : Schema → (table : ℕ) → List ℕ
 hidden_places schema table = places_from (λ column. column.hidden) 1 (drop 1 (columns_of schema table))
 
-abbrev pub row_at : {X : Type 0} → List X → (identifier : ℕ) → Option X
-row_at rows zero = None
-row_at rows (suc place) = slice_get rows place
-
 -- the value of a hidden column of a row
 abbrev pub hidden_value : Schema → Hidden → (table identifier column : ℕ) → Option Value
 hidden_value schema kept table identifier column =
     option_and_then (λ row. value_at (hidden_places schema table) row column)
-    (row_at (rows_or_none (slice_get kept.hidden table)) identifier)
+    (row_numbered (rows_or_none (slice_get kept.hidden table)) identifier)
 
 -- what the key knows of a row: its identifier, a replied value or a hidden one
 abbrev pub known_value : Schema → Hidden → List Reply → (table identifier column : ℕ) → Option Value

@@ -66,7 +66,7 @@ holders_of schema child = places_where (λ table. not (is_empty (keys_to child t
 abbrev pub parent : Schema → ℕ → Option ℕ
 parent schema table = first_of (holders_of schema table)
 
--- the places, from `at` on, of the tables whose parent is this one; the last list has one element for each of them
+-- the places, from `at` on, of the tables whose parent is this one; the last list has one element for each table from `at` on
 unfoldable pub children_from : Schema → (table at : ℕ) → List Table → List ℕ
 children_from schema table at [] = []
 children_from schema table at (_ ∷ later) =

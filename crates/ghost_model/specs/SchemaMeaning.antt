@@ -1,6 +1,6 @@
 -- The schema that the tree of a text means. A name stands in lower case, the length of a CHAR is the value of its
 -- digits, and a column with REFERENCES is hidden whether or not HIDDEN is written.
-use Rattle.std.specs.Prelude.{ℕ, ◌+◌, ◌-◌, ◌*◌, true, List, ◌∷◌, map, fold, position, bytes_eq, Option, Some, None}
+use Rattle.std.specs.Prelude.{ℕ, true, List, ◌∷◌, map, position, bytes_eq, Option, Some, None}
 use Rattle.ghost_model.specs.Tokens.{number_of}
 use Rattle.ghost_model.specs.Schema.{Integer, Chars, Column, Table, Schema}
 use Rattle.ghost_model.specs.SchemaGrammar.{To, ColumnText, CharColumn, IntegerColumn, TableText, SchemaText}

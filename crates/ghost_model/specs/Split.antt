@@ -8,7 +8,7 @@ use Rattle.ghost_model.specs.Schema.{Schema, Table, Column, Kind, columns_of, pl
 use Rattle.ghost_model.specs.Values.{Value, Number, Row, Rows, Database}
 use Rattle.ghost_model.specs.Database.{rows_or_none, row_counts, is_of_kind, holds, IsDatabase}
 use Rattle.ghost_model.specs.Cells.{encode_cell}
-use Rattle.ghost_model.specs.Catalog.{catalog_bytes}
+use Rattle.ghost_model.specs.Catalog.{catalog_bytes, IsCatalog}
 use Rattle.ghost_model.specs.Channel.{Catalog, Ask, Test}
 use Rattle.ghost_model.specs.Asks.{ReplyRow, row_bytes, kinds_of}
 
@@ -180,6 +180,7 @@ pub record IsPublic (cat : Catalog) (public : Public) : Type 0 where
 
 -- the bytes are the visible image of such a public part
 pub record SpellsImage (cat : Catalog) (public : Public) (bytes : List ℕ) : Type 0 where
+  pub catalog : IsCatalog cat
   pub goes_with : IsPublic cat public
   pub spelled : bytes ≡ image cat public
 

@@ -148,7 +148,7 @@ abbrev pub more_and : List ℕ → Read
 more_and [] = read More 1
 more_and (b ∷ _) = if b == 61 then read AtLeast 2 else read More 1
 
--- the symbols of one byte
+-- the symbol of a byte that is a token whatever follows it, or the bad one
 abbrev pub sign_of : ℕ → Symbol
 sign_of byte =
     if byte == 40 then Open

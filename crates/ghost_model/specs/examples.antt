@@ -7,3 +7,4 @@ pub mod Channel
 pub mod Meaning
 pub mod Databases
 pub mod Sessions
+pub mod Catalogs

@@ -5,17 +5,14 @@ ghost use Rattle.ghost_model.specs.examples.Cells.{CellsOfValues, TreeOfTheClini
 /// The cells of telling values, and what bytes spell no value.
 pub fn cells_of_values()
     ensures { CellsOfValues }
-{
-}
+{}
 
 /// Parents and children of the clinic's tables.
 pub fn tree_of_the_clinic()
     ensures { TreeOfTheClinic }
-{
-}
+{}
 
 /// Canonical texts and catalogs of the worked databases.
 pub fn catalogs_of_databases()
     ensures { CatalogsOfDatabases }
-{
-}
+{}

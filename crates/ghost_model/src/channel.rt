@@ -2,7 +2,7 @@
 
 ghost use Rattle.ghost_model.specs.Frames.{FramesArePrefixFree, FramesHaveOneSpelling};
 ghost use Rattle.ghost_model.specs.Asks.{AsksHaveOneSpelling, AsksAreVisible, AsksAreProper, RowsHaveOneSpelling};
-ghost use Rattle.ghost_model.specs.Host.{FramesAreCut, HostIsHonest, NothingIsLost};
+ghost use Rattle.ghost_model.specs.Host.{FramesAreCut, HostIsHonest, NothingIsLost, GreetingsAreHeard, RepliesAreHeard, HonestStreamsAreHeard};
 ghost use Rattle.ghost_model.specs.NextMove.{TwoWorlds, ReceivedIsSpelled, AwaitedIsHeard, SentIsDue};
 ghost use Rattle.ghost_model.specs.examples.Channel.{SpellingsOfFrames, ReadingsOfFrames, JournalOfTheNotes, AsksOfQueries, AsksOfBytes, JournalOfTheClinic, JournalWithoutAsks, InvalidFrames, FramesThatAreDue, AnswersOfTheHost};
 
@@ -71,6 +71,22 @@ pub fn host_is_honest()
 /// The WELCOME frames of a host spell its catalog, and the ROWS frames of a reply its rows.
 pub fn nothing_is_lost()
     ensures { NothingIsLost }
+{}
+
+/// WELCOME frames that spell the catalog, cut anywhere, are heard whole.
+pub fn greetings_are_heard()
+    ensures { GreetingsAreHeard }
+{}
+
+/// The whole reply to an ask, in any packing, is heard whole: the ask is ended with all its rows.
+pub fn replies_are_heard()
+    ensures { RepliesAreHeard }
+{}
+
+/// The stream of an honest host, in any packing, is heard to its end without an invalid frame, and each ask is ended with
+/// all its rows.
+pub fn honest_streams_are_heard()
+    ensures { HonestStreamsAreHeard }
 {}
 
 /// The spelling of each kind of frame.

@@ -4,10 +4,12 @@
 //! so are the worked examples, which the check computes.
 #![tactic(auto)]
 
+pub mod catalogs;
 pub mod cells;
 pub mod channel;
 pub mod meaning;
 pub mod query;
 pub mod schema;
+pub mod session_laws;
 pub mod sessions;
 pub mod tokens;

@@ -1,5 +1,5 @@
 -- Lemmas on the spelling of cells and of asks.
-use Rattle.std.proofs.Common.{◌≡◌, ℕ, zero, suc, ◌+◌, ◌-◌, ◌<◌, ◌≤◌, ◌^◌, Bool, true, false, ◌&&◌, List, [], ◌∷◌, ◌++◌, length, take, drop, slice_index, replicate, sym, ◌∙◌, ap, subst, refl, arith, length-append, Option, Some, None, pos, negsuc, ℤ}
+use Rattle.std.proofs.Common.{◌≡◌, ℕ, zero, suc, ◌+◌, ◌-◌, ◌<◌, ◌≤◌, ◌^◌, Bool, true, false, ◌&&◌, List, [], ◌∷◌, ◌++◌, length, take, drop, slice_index, replicate, ◌∙◌, ap, subst, refl, arith, length-append, Option, Some, None, pos, negsuc, ℤ}
 use Rattle.std.specs.Prelude.{◌==◌, nat_le, if◌then◌else◌, bytes_eq, flat_map}
 use Rattle.std.specs.List.{list_all, prefix_len}
 use Rattle.std.proofs.lemmas.List.{length-replicate}
@@ -7,7 +7,7 @@ use Rattle.std.proofs.lemmas.Nat.{from_be_bytes-to_be_bytes_8}
 use Rattle.std.proofs.lemmas.Bool.Decides.{nat_tests}
 use Rattle.std.proofs.lemmas.Bool.{ltb-true, leb-true}
 use Rattle.std.proofs.lemmas.Slice.Eq.{bytes_eq-Decides}
-use Rattle.std.proofs.Math.Seq.{take-append_seam, drop-append_seam}
+use Rattle.std.proofs.Math.Seq.{drop-append_seam}
 use Rattle.ghost_model.specs.Schema.{Schema, Kind, Integer, Chars}
 use Rattle.ghost_model.specs.Query.{Operator, Equal, Unequal, Less, AtMost, More, AtLeast}
 use Rattle.ghost_model.specs.Channel.{Ask, Test}
@@ -16,21 +16,7 @@ use Rattle.ghost_model.specs.Values.{Value, Number, Text}
 use Rattle.ghost_model.specs.Tokens.{is_printable}
 use Rattle.ghost_model.specs.Database.{is_of_kind, fits_integer}
 use Rattle.ghost_model.specs.Cells.{cell_width, encode_cell, decode_cell, above_lowest, from_lowest, text_in, is_text_cell, is_not_zero, padded}
-
-record BothHold (a b : Bool) : Type 0 where
-  one : a ≡ true
-  other : b ≡ true
-
-false_is_not : false ≡ true → ⊥
-false_is_not e = cc
-
-both_hold : (a b : Bool) → (a && b) ≡ true → BothHold a b
-both_hold true true e = record { one = refl; other = refl }
-both_hold true false e = absurd (false_is_not e)
-both_hold false b e = absurd (false_is_not e)
-
-hold_both : (a b : Bool) → a ≡ true → b ≡ true → (a && b) ≡ true
-hold_both a b p q = rw (p, q)
+use Rattle.ghost_model.proofs.ChannelLemmas.Tests.{false_is_not, both_hold, hold_both, take_front, drop_front, BothHold}
 
 -- an integer of 64 bits, its distance to the lowest and back
 distance_bound : (z : ℤ) → fits_integer z ≡ true → above_lowest z < 2 ^ 64
@@ -138,12 +124,6 @@ test_with column operator value = record { column = column; operator = operator;
 same_test : (test : Test) (operator : Operator) (value : Value) → operator ≡ test.operator → value ≡ test.value → test_with test.column operator value ≡ test
 same_test test operator value p q =
     ap (λ (o : Operator). test_with test.column o value) p ∙ ap (λ (v : Value). test_with test.column test.operator v) q
-
-take_front : (n : ℕ) (xs ys : List ℕ) → length xs ≡ n → take n (xs ++ ys) ≡ xs
-take_front n xs ys e = ap (λ (k : ℕ). take k (xs ++ ys)) (sym e) ∙ take-append_seam xs ys
-
-drop_front : (n : ℕ) (xs ys : List ℕ) → length xs ≡ n → drop n (xs ++ ys) ≡ ys
-drop_front n xs ys e = ap (λ (k : ℕ). drop k (xs ++ ys)) (sym e) ∙ drop-append_seam xs ys
 
 drop_two : (n : ℕ) (a b : ℕ) (xs : List ℕ) → drop (2 + n) (a ∷ b ∷ xs) ≡ drop n xs
 drop_two n a b xs = let two : 2 + n ≡ suc (suc n) = omega arith in ap (λ (k : ℕ). drop k (a ∷ b ∷ xs)) two

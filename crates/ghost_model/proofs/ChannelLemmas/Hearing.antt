@@ -28,7 +28,7 @@ judged_part : (short header part payload : Bool) (m n : ℕ) → short ≡ false
 judged_part short header part payload m n a b c = rw (a, b, c)
 
 -- what a header says, whatever follows it
-size_stays : (part more : List ℕ) → 8 ≤ length part → size_in (part ++ more) ≡ size_in part
+pub size_stays : (part more : List ℕ) → 8 ≤ length part → size_in (part ++ more) ≡ size_in part
 size_stays (a ∷ b ∷ c ∷ d ∷ part) more m = refl
 size_stays _ more m = absurd (omega (arith, m))
 
@@ -39,14 +39,14 @@ header_stays catalog Nothing part more m = refl
 header_stays catalog awaits _ more m = absurd (omega (arith, m))
 
 module _ (catalog : Catalog) (awaits : Awaits) (frame : Frame) (can : IsAwaited catalog awaits frame) where
-  size_of_frame : size_in (frame_bytes frame) ≡ length (payload_of frame)
+  pub size_of_frame : size_in (frame_bytes frame) ≡ length (payload_of frame)
   size_of_frame = ap size_in (sym (append-nil (frame_bytes frame))) ∙ size_is_read frame [] can.fits
 
-  read_again : frame_in (frame_bytes frame) ≡ frame
+  pub read_again : frame_in (frame_bytes frame) ≡ frame
   read_again = ap frame_in (sym (append-nil (frame_bytes frame))) ∙ frame_is_read frame [] can.fits
 
   -- the whole frame
-  whole : verdict catalog awaits (frame_bytes frame) ≡ Whole
+  pub whole : verdict catalog awaits (frame_bytes frame) ≡ Whole
   whole =
       let bytes : List ℕ = frame_bytes frame in
       judged_whole (nat_lt (length bytes) 8) (header_fits catalog awaits bytes) (nat_lt (length bytes) (8 + size_in bytes)) (payload_fits catalog awaits (frame_in bytes))
@@ -56,7 +56,7 @@ module _ (catalog : Catalog) (awaits : Awaits) (frame : Frame) (can : IsAwaited 
       (ap (λ (f : Frame). payload_fits catalog awaits f) read_again ∙ can.payload)
 
   -- a part of it
-  lacking : (part : List ℕ) (byte : ℕ) (more : List ℕ) → part ++ byte ∷ more ≡ frame_bytes frame → (n : ℕ) × (verdict catalog awaits part ≡ Short n)
+  pub lacking : (part : List ℕ) (byte : ℕ) (more : List ℕ) → part ++ byte ∷ more ≡ frame_bytes frame → (n : ℕ) × (verdict catalog awaits part ≡ Short n) × (n ≤ length (byte ∷ more))
   lacking part byte more e =
       let lengths : length part + length (byte ∷ more) ≡ length (frame_bytes frame) = sym (length-append part (byte ∷ more)) ∙ ap length e in
       elim (leb_tells 8 (length part)) [
@@ -69,20 +69,22 @@ module _ (catalog : Catalog) (awaits : Awaits) (frame : Frame) (can : IsAwaited 
               judged_part (nat_lt (length part) 8) (header_fits catalog awaits part) (nat_lt (length part) (8 + size_in part)) (payload_fits catalog awaits (frame_in part))
                   (8 - length part) (8 + size_in part - length part)
                   (le-ltb (length part) 8 p.1) header (lt-ltb (length part) (8 + size_in part) (omega (arith, size, lengths))),
+              omega (arith, size, lengths),
             ))
         | inr q ↦ (
           8 - length part,
           judged_head (nat_lt (length part) 8) (header_fits catalog awaits part) (nat_lt (length part) (8 + size_in part)) (payload_fits catalog awaits (frame_in part))
               (8 - length part) (8 + size_in part - length part) (lt-ltb (length part) 8 q.1),
+          omega (arith, lengths, q.1),
         )
       ]
 
   module _ (asks : List Asked) (frames due : List Frame) (rows : List ℕ) (ended : List Ended) where
     -- what was heard, with this part of the frame at hand
-    abbrev at_part : List ℕ → Heard
+    abbrev pub at_part : List ℕ → Heard
     at_part part = record { awaits = awaits; part = part; frames = frames; due = due; rows = rows; ended = ended; broken = false }
 
-    heard_on : (part : List ℕ) (byte : ℕ) (more : List ℕ) → part ++ byte ∷ more ≡ frame_bytes frame → hear_all catalog asks (at_part part) (byte ∷ more) ≡ heard_frame catalog asks (at_part []) frame
+    pub heard_on : (part : List ℕ) (byte : ℕ) (more : List ℕ) → part ++ byte ∷ more ≡ frame_bytes frame → hear_all catalog asks (at_part part) (byte ∷ more) ≡ heard_frame catalog asks (at_part []) frame
     unfolding hear_all
     heard_on part byte [] e =
         ap (λ (bs : List ℕ). heard_as catalog asks (at_part part) bs (verdict catalog awaits bs)) e
@@ -90,7 +92,7 @@ module _ (catalog : Catalog) (awaits : Awaits) (frame : Frame) (can : IsAwaited 
         ∙ ap (λ (f : Frame). heard_frame catalog asks (at_part []) f) read_again)
     heard_on part byte (next ∷ more) e =
         let joined : (part ++ byte ∷ []) ++ next ∷ more ≡ frame_bytes frame = append_assoc part (byte ∷ []) (next ∷ more) ∙ e in
-        let short : (n : ℕ) × (verdict catalog awaits (part ++ byte ∷ []) ≡ Short n) = lacking (part ++ byte ∷ []) next more joined in
+        let short : (n : ℕ) × (verdict catalog awaits (part ++ byte ∷ []) ≡ Short n) × (n ≤ length (next ∷ more)) = lacking (part ++ byte ∷ []) next more joined in
         ap (λ (v : Verdict). hear_all catalog asks (heard_as catalog asks (at_part part) (part ++ byte ∷ []) v) (next ∷ more)) short.1
         ∙ heard_on (part ++ byte ∷ []) next more joined
 

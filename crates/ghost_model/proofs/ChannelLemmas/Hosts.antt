@@ -12,12 +12,9 @@ use Rattle.std.proofs.Math.Seq.{drop-append_seam}
 use Rattle.ghost_model.proofs.ChannelLemmas.{spelled_is_found}
 use Rattle.ghost_model.specs.Channel.{Catalog, Ask, Frame, Hello, Asking, More, Bye}
 use Rattle.ghost_model.specs.Asks.{ReplyRow, row_bytes, ask_in}
-use Rattle.ghost_model.specs.Host.{Holding, Stand, Greeting, Listening, Replying, Over, Answered, welcomes, reply_to, replies_to, answers_ask, goes_on, after_reply, said_to, said_with, asks_in_frame, frames_within, frame_and, IsFront, groups_from, grouped, welcomes_of, welcome_part, rows_frame, honest_stream, host_says, frames_of}
+use Rattle.ghost_model.specs.Host.{Holding, Stand, Greeting, Listening, Replying, Over, Response, welcomes, reply_to, replies_to, answers_ask, goes_on, after_reply, said_to, said_with, asks_in_frame, frames_within, frame_and, IsFront, groups_from, grouped, welcomes_of, welcome_part, rows_frame, honest_stream, host_says, frames_of}
 
 module _ (held : Holding) where
-  asks_in : List Frame → List Ask
-  asks_in frames = flat_map (asks_in_frame held.catalog.schema) frames
-
   -- what an honest host would say from here on
   abbrev owed : List Frame → Stand → List Frame
   owed frames Greeting = welcomes held.catalog ++ replies_to held 1 (flat_map (asks_in_frame held.catalog.schema) frames)
@@ -51,7 +48,7 @@ module _ (held : Holding) where
       subst (λ (x : List Frame). IsFront (said_with (said_to held later) (goes_on serial (reply_to held serial ask))) x) refl
       (on_front serial (reply_to held serial ask) later h)
 
-  if_front : (b : Bool) (o : Option Answered) (later whole : List Frame) → (b ≡ true → IsFront (said_with (said_to held later) o) whole) → IsFront (said_with (said_to held later) (if b then o else None)) whole
+  if_front : (b : Bool) (o : Option Response) (later whole : List Frame) → (b ≡ true → IsFront (said_with (said_to held later) o) whole) → IsFront (said_with (said_to held later) (if b then o else None)) whole
   if_front true o later whole h = h refl
   if_front false o later whole h = nothing whole
 

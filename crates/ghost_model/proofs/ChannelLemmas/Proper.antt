@@ -25,21 +25,7 @@ use Rattle.ghost_model.specs.Asks as asks
 use Rattle.ghost_model.specs.QueryReading.{reading}
 use Rattle.ghost_model.proofs.TokenLemmas.{before_end}
 use Rattle.ghost_model.proofs.QueryReadingLemmas.{means_of}
-
-record BothHold (a b : Bool) : Type 0 where
-  one : a ≡ true
-  other : b ≡ true
-
-false_is_not : false ≡ true → ⊥
-false_is_not e = cc
-
-both_hold : (a b : Bool) → (a && b) ≡ true → BothHold a b
-both_hold true true e = record { one = refl; other = refl }
-both_hold true false e = absurd (false_is_not e)
-both_hold false b e = absurd (false_is_not e)
-
-hold_both : (a b : Bool) → a ≡ true → b ≡ true → (a && b) ≡ true
-hold_both a b p q = rw (p, q)
+use Rattle.ghost_model.proofs.ChannelLemmas.Tests.{false_is_not, both_hold, hold_both, BothHold}
 
 -- tests of lists
 filtered : {X : Type 0} (p q : X → Bool) (x : X) (xs : List X) (b : Bool) → q x ≡ b → (b ≡ true → p x ≡ true) → list_all p (filter q xs) ≡ true → list_all p (if b then x ∷ filter q xs else filter q xs) ≡ true

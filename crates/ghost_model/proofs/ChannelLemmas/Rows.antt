@@ -3,7 +3,6 @@ use Rattle.std.proofs.Common.{◌≡◌, ℕ, zero, suc, ◌+◌, ◌*◌, ◌/�
 use Rattle.std.specs.Prelude.{flat_map, All}
 use Rattle.std.specs.Int.{to_be_bytes, from_be_bytes}
 use Rattle.std.proofs.Math.Nat.{mul-suc, suc-mul, div-add-mod}
-use Rattle.std.proofs.Math.Seq.{take-append_seam, drop-append_seam}
 use Rattle.std.proofs.lemmas.List.{nil_from_length, length-take-le, length-drop, take-append-drop}
 use Rattle.std.proofs.lemmas.Nat.{from_be_bytes-to_be_bytes_4, be_bytes_4, div-mul-add}
 use Rattle.ghost_model.specs.Schema.{Schema}
@@ -11,12 +10,7 @@ use Rattle.ghost_model.specs.Channel.{Ask}
 use Rattle.ghost_model.specs.Frames.{AreBytes}
 use Rattle.ghost_model.specs.Asks.{ReplyRow, row_bytes, row_in, rows_from, rows_in, row_width, IsReplyRow}
 use Rattle.ghost_model.proofs.ChannelLemmas.{bytes_take, bytes_drop}
-
-take_front : (n : ℕ) (xs ys : List ℕ) → length xs ≡ n → take n (xs ++ ys) ≡ xs
-take_front n xs ys e = ap (λ (k : ℕ). take k (xs ++ ys)) (sym e) ∙ take-append_seam xs ys
-
-drop_front : (n : ℕ) (xs ys : List ℕ) → length xs ≡ n → drop n (xs ++ ys) ≡ ys
-drop_front n xs ys e = ap (λ (k : ℕ). drop k (xs ++ ys)) (sym e) ∙ drop-append_seam xs ys
+use Rattle.ghost_model.proofs.ChannelLemmas.Tests.{take_front, drop_front}
 
 abbrev row_of : ℕ → List ℕ → ReplyRow
 row_of identifier cells = record { identifier = identifier; cells = cells }
@@ -37,7 +31,7 @@ module _ (schema : Schema) (ask : Ask) where
   row_length : (row : ReplyRow) → IsReplyRow schema ask row → length (row_bytes row) ≡ row_width schema ask
   row_length row h = omega (arith, h.width)
 
-  rows_length : (rows : List ReplyRow) → All (IsReplyRow schema ask) rows → length (flat_map row_bytes rows) ≡ length rows * row_width schema ask
+  pub rows_length : (rows : List ReplyRow) → All (IsReplyRow schema ask) rows → length (flat_map row_bytes rows) ≡ length rows * row_width schema ask
   rows_length [] all = omega arith
   rows_length (row ∷ rows) all =
       let split : length (flat_map row_bytes (row ∷ rows)) ≡ length (row_bytes row) + length (flat_map row_bytes rows) = length-append (row_bytes row) (flat_map row_bytes rows) in

@@ -105,7 +105,7 @@ module _ (catalog : Catalog) (at : List ℕ) (asks : List Asked) where
       (due_judged h (h.part ++ byte ∷ []) (verdict catalog h.awaits (h.part ++ byte ∷ []))))
       (due_grows (hear catalog asks h byte) bytes)
 
-  heard_more : (h : Heard) (xs ys : List ℕ) → hear_all catalog asks h (xs ++ ys) ≡ hear_all catalog asks (hear_all catalog asks h xs) ys
+  pub heard_more : (h : Heard) (xs ys : List ℕ) → hear_all catalog asks h (xs ++ ys) ≡ hear_all catalog asks (hear_all catalog asks h xs) ys
   unfolding hear_all
   heard_more h [] ys = refl
   heard_more h (x ∷ xs) ys = heard_more (hear catalog asks h x) xs ys

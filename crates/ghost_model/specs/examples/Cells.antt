@@ -1,6 +1,6 @@
 -- Cells and catalogs of the worked databases.
-use Rattle.std.specs.Prelude.{◌≡◌, ℕ, pos, negsuc, List, [], ◌∷◌, ◌++◌, codes, length, map, replicate, Some, None}
-use Rattle.ghost_model.specs.Schema.{Integer, Chars, parent, children, places_where}
+use Rattle.std.specs.Prelude.{◌≡◌, pos, negsuc, [], ◌∷◌, ◌++◌, codes, length, map, replicate, Some, None}
+use Rattle.ghost_model.specs.Schema.{Integer, Chars, parent, children}
 use Rattle.ghost_model.specs.Values.{Number, Text}
 use Rattle.ghost_model.specs.Cells.{encode_cell, decode_cell}
 use Rattle.ghost_model.specs.Catalog.{canonical_text, table_text, catalog_bytes}

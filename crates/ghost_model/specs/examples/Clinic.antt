@@ -22,19 +22,22 @@ key_column name child = record { name = name; kind = Integer; hidden = true; chi
 abbrev pub doctor_table : Table
 doctor_table = record {
   name = codes "doctor";
-  columns = id_column ∷ text_column (codes "specialty") 8 ∷ hidden_text_column (codes "country") 2 ∷ [] }
+  columns = id_column ∷ text_column (codes "specialty") 8 ∷ hidden_text_column (codes "country") 2 ∷ [];
+}
 
 abbrev pub patient_table : Table
 patient_table = record {
   name = codes "patient";
-  columns = id_column ∷ number_column (codes "age") ∷ hidden_text_column (codes "name") 8 ∷ [] }
+  columns = id_column ∷ number_column (codes "age") ∷ hidden_text_column (codes "name") 8 ∷ [];
+}
 
 abbrev pub visit_table : Table
 visit_table = record {
   name = codes "visit";
   columns =
-    id_column ∷ number_column (codes "day") ∷ hidden_text_column (codes "purpose") 8 ∷ key_column (codes "doc") 0
-    ∷ key_column (codes "pat") 1 ∷ [] }
+      id_column ∷ number_column (codes "day") ∷ hidden_text_column (codes "purpose") 8 ∷ key_column (codes "doc") 0
+      ∷ key_column (codes "pat") 1 ∷ [];
+}
 
 abbrev pub clinic_schema : Schema
 clinic_schema = doctor_table ∷ patient_table ∷ visit_table ∷ []
@@ -66,7 +69,8 @@ clinic_catalog = record { schema = clinic_schema; counts = 3 ∷ 2 ∷ 4 ∷ [];
 abbrev pub note_table : Table
 note_table = record {
   name = codes "note";
-  columns = id_column ∷ text_column (codes "topic") 4 ∷ hidden_text_column (codes "body") 8 ∷ [] }
+  columns = id_column ∷ text_column (codes "topic") 4 ∷ hidden_text_column (codes "body") 8 ∷ [];
+}
 
 abbrev pub note_schema : Schema
 note_schema = note_table ∷ []

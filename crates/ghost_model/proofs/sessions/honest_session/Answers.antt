@@ -27,4 +27,9 @@ returns c = record {
     replies = cardio_reply;
     replied = (cardio_reply, [], record { packing = cardio_replied ∷ []; fits = refl; whole = refl; frames_are = refl }, refl, refl);
     rest = [];
-    taken_before = refl }; done = refl; rows = refl; plain = refl }
+    taken_before = refl;
+  };
+  done = refl;
+  rows = refl;
+  plain = refl;
+}

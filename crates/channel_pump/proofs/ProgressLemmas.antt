@@ -1,0 +1,138 @@
+-- What the events of a piece tell of the replies.
+use Rattle.std.proofs.Common.{◌≡◌, ℕ, ◌+◌, ◌*◌, ◌/◌, ◌%◌, ◌≤◌, Bool, true, false, ◌&&◌, ◌==◌, nat_le, List, [], ◌∷◌, ◌++◌, length, take, refl, ap, sym, ◌∙◌, subst, arith, append-nil}
+use Rattle.std.proofs.lemmas.Bool.Decides.{nat_tests}
+use Rattle.std.proofs.Math.Nat.{div-add-mod}
+use Rattle.ghost_model.specs.Channel as channel
+use Rattle.ghost_model.specs.Channel.{Catalog, Journal}
+use Rattle.ghost_model.specs.Frames as frames
+use Rattle.ghost_model.specs.Asks.{Asked, rows_in, row_width}
+use Rattle.ghost_model.specs.NextMove as next
+use Rattle.ghost_model.specs.NextMove.{Awaits, Missing, Nothing, Heard, Left, left, heard_as}
+use Rattle.channel_pump.specs.declared.rows.Tally.{Tally}
+use Rattle.channel_pump.specs.declared.state.Pump.{Pump}
+use Rattle.channel_pump.specs.declared.state.Event.{Event}
+use Rattle.channel_pump.specs.declared.state.Event.TheVariants as event
+use Rattle.channel_pump.specs.Here.{verdict_here, Stands}
+use Rattle.channel_pump.specs.State.{taken_entry}
+use Rattle.channel_pump.specs.Turning.{event_of, rows_of_frame}
+use Rattle.channel_pump.specs.Progress.{rows_on, ended_on, MayCome, RowsOf, Tells}
+use Rattle.channel_pump.proofs.RowLemmas.{rows_count}
+use Rattle.channel_pump.proofs.TurningLemmas.{payload_length, frame_of_kind}
+use Rattle.channel_pump.proofs.PlaceLemmas.{header_is, payload_is, rows_at_are}
+use Rattle.channel_pump.proofs.TookLemmas.{At, left_is, rows, done, sorry, kind_of_header, FrameKind, greets, replies}
+
+ended_is : (awaits : Awaits) (bytes : List ℕ) (n : ℕ) (frame : channel.Frame) → next.ended_by awaits bytes frame ≡ ended_on (event_of n frame) awaits bytes
+ended_is (Missing _) bytes n (channel.Hello _) = refl
+ended_is (Missing _) bytes n (channel.Asking _ _) = refl
+ended_is (Missing _) bytes n (channel.More _) = refl
+ended_is (Missing _) bytes n channel.Bye = refl
+ended_is (Missing _) bytes n (channel.Welcome _ _) = refl
+ended_is (Missing _) bytes n (channel.Replied _ _) = refl
+ended_is (Missing _) bytes n (channel.Done _ _) = refl
+ended_is (Missing _) bytes n (channel.Sorry _ _) = refl
+ended_is (next.Reply _ _ _ _ _) bytes n (channel.Hello _) = refl
+ended_is (next.Reply _ _ _ _ _) bytes n (channel.Asking _ _) = refl
+ended_is (next.Reply _ _ _ _ _) bytes n (channel.More _) = refl
+ended_is (next.Reply _ _ _ _ _) bytes n channel.Bye = refl
+ended_is (next.Reply _ _ _ _ _) bytes n (channel.Welcome _ _) = refl
+ended_is (next.Reply _ _ _ _ _) bytes n (channel.Replied _ _) = refl
+ended_is (next.Reply _ _ _ _ _) bytes n (channel.Done _ _) = refl
+ended_is (next.Reply _ _ _ _ _) bytes n (channel.Sorry _ _) = refl
+ended_is Nothing bytes n (channel.Hello _) = refl
+ended_is Nothing bytes n (channel.Asking _ _) = refl
+ended_is Nothing bytes n (channel.More _) = refl
+ended_is Nothing bytes n channel.Bye = refl
+ended_is Nothing bytes n (channel.Welcome _ _) = refl
+ended_is Nothing bytes n (channel.Replied _ _) = refl
+ended_is Nothing bytes n (channel.Done _ _) = refl
+ended_is Nothing bytes n (channel.Sorry _ _) = refl
+
+rows_whole : (version serial : Bool) (width kind size : ℕ) → kind ≡ 18 → (version && serial && next.reply_size_fits width kind size) ≡ true → size % width ≡ 0
+rows_whole version serial width kind size e t = grind (arith, nat_tests)
+
+not_greeting : (version kind serial size missing : ℕ) → kind ≡ 18
+    → (version == 1 && kind == 17 && serial == 0 && nat_le 2 size && nat_le size 2040 && nat_le size (missing + 1)) ≡ true → ⊥
+not_greeting version kind serial size missing e t = grind (arith, nat_tests)
+
+no_truth : false ≡ true → ⊥
+no_truth e = cc
+
+product : (width size n : ℕ) → n ≡ size / width → size % width ≡ 0 → size ≡ n * width
+product width size n e whole =
+    let all : width * (size / width) + size % width ≡ size = div-add-mod size width in
+    let q : ℕ = size / width in
+    subst (λ (k : ℕ). size ≡ k * width) (sym e) (omega (arith, all, whole))
+
+came_of : (catalog : Catalog) (awaits : Awaits) (part : List ℕ) (n : ℕ) → frames.kind_in part ≡ 18 → 8 + frames.size_in part ≤ length part
+    → next.header_fits catalog awaits part ≡ true → next.payload_fits catalog awaits (frames.frame_in part) ≡ true
+    → n ≡ length (rows_of_frame catalog awaits (frames.frame_in part)) → MayCome catalog awaits (frames.payload_in part) n
+came_of catalog (Missing bytes) part n kind whole header payload count =
+    not_greeting (frames.version_in part) (frames.kind_in part) (frames.serial_in part) (frames.size_in part) (length bytes) kind header
+came_of catalog (next.Reply asked serial later count last) part n kind whole header payload number =
+    let frame : frames.frame_in part ≡ channel.Replied (frames.serial_in part) (frames.payload_in part) = frame_of_kind part 18 kind in
+    let width : ℕ = row_width catalog.schema asked.ask in
+    let awaits : Awaits = next.Reply asked serial later count last in
+    let counted : n ≡ length (rows_in catalog.schema asked.ask (frames.payload_in part)) =
+    number ∙ ap (λ (f : channel.Frame). length (rows_of_frame catalog (next.Reply asked serial later count last) f)) frame in
+    record {
+      fit = subst (λ (f : channel.Frame). next.payload_fits catalog (next.Reply asked serial later count last) f ≡ true) frame payload;
+      count = counted;
+      size = payload_length part whole
+          ∙ product (row_width catalog.schema asked.ask) (frames.size_in part) n
+          (counted ∙ (rows_count (row_width catalog.schema asked.ask) (length (frames.payload_in part) / row_width catalog.schema asked.ask) (frames.payload_in part)
+          ∙ ap (λ (k : ℕ). k / row_width catalog.schema asked.ask) (payload_length part whole)))
+          (rows_whole (frames.version_in part == frames.frame_version) (frames.serial_in part == serial) (row_width catalog.schema asked.ask) (frames.kind_in part) (frames.size_in part) kind header);
+    }
+came_of catalog Nothing part n kind whole header payload count = absurd (no_truth header)
+
+module _ (catalog : Catalog) (asks : List Asked) (journal : Journal) (p : Pump) (page : List ℕ) (n : ℕ) where
+  abbrev part : List ℕ
+  part = take (p.have + n) page
+
+  tells_as : (result : Event) (v : next.Verdict) → At catalog asks journal p page n → verdict_here p part ≡ v
+      → Tells catalog page result (left catalog asks journal).heard (heard_as catalog asks (left catalog asks journal).heard part v)
+      → Tells catalog page result (left catalog asks journal).heard (left catalog asks (journal ++ taken_entry p page n ∷ [])).heard
+  tells_as result v h e t =
+      subst (λ (l : Left). Tells catalog page result (left catalog asks journal).heard l.heard) (sym (left_is catalog asks journal p page n h v e)) t
+
+  pub part_tells : (missing : ℕ) → At catalog asks journal p page n → verdict_here p part ≡ next.Short missing
+      → Tells catalog page event.Part (left catalog asks journal).heard (left catalog asks (journal ++ taken_entry p page n ∷ [])).heard
+  part_tells missing h e = tells_as event.Part (next.Short missing) h e (record { rows = refl; ended = sym (append-nil _); came = tt })
+
+  pub invalid_tells : (kind place : ℕ) → At catalog asks journal p page n → verdict_here p part ≡ next.Invalid
+      → Tells catalog page (event.Invalid kind place) (left catalog asks journal).heard (left catalog asks (journal ++ taken_entry p page n ∷ [])).heard
+  invalid_tells kind place h e = tells_as (event.Invalid kind place) next.Invalid h e (record { rows = refl; ended = sym (append-nil _); came = tt })
+
+  rows_are : (bytes : List ℕ) (count : ℕ) → FrameKind (frames.kind_in part) (frames.size_in part) → frames.payload_in part ≡ frames.payload_in page
+      → next.rows_after bytes (frames.frame_in part) ≡ rows_on (event_of count (frames.frame_in part)) page bytes
+  rows_are bytes count (greets k) same =
+      subst (λ (f : channel.Frame). next.rows_after bytes f ≡ rows_on (event_of count f) page bytes) (sym (frame_of_kind part 17 k)) refl
+  rows_are bytes count (replies (rows k)) same =
+      subst (λ (f : channel.Frame). next.rows_after bytes f ≡ rows_on (event_of count f) page bytes) (sym (frame_of_kind part 18 k)) (ap (λ (x : List ℕ). bytes ++ x) same)
+  rows_are bytes count (replies (done k z)) same =
+      subst (λ (f : channel.Frame). next.rows_after bytes f ≡ rows_on (event_of count f) page bytes) (sym (frame_of_kind part 19 k)) refl
+  rows_are bytes count (replies (sorry k z)) same =
+      subst (λ (f : channel.Frame). next.rows_after bytes f ≡ rows_on (event_of count f) page bytes) (sym (frame_of_kind part 20 k)) refl
+
+  came : (awaits : Awaits) (count : ℕ) → FrameKind (frames.kind_in part) (frames.size_in part) → (frames.kind_in part ≡ 18 → MayCome catalog awaits (frames.payload_in page) count)
+      → RowsOf catalog awaits page (event_of count (frames.frame_in part))
+  came awaits count (greets k) h = subst (λ (f : channel.Frame). RowsOf catalog awaits page (event_of count f)) (sym (frame_of_kind part 17 k)) tt
+  came awaits count (replies (rows k)) h = subst (λ (f : channel.Frame). RowsOf catalog awaits page (event_of count f)) (sym (frame_of_kind part 18 k)) (h k)
+  came awaits count (replies (done k z)) h = subst (λ (f : channel.Frame). RowsOf catalog awaits page (event_of count f)) (sym (frame_of_kind part 19 k)) tt
+  came awaits count (replies (sorry k z)) h = subst (λ (f : channel.Frame). RowsOf catalog awaits page (event_of count f)) (sym (frame_of_kind part 20 k)) tt
+
+  pub frame_tells : (tally : Tally) → At catalog asks journal p page n → Stands p part tally → verdict_here p part ≡ next.Whole → frames.payload_in part ≡ frames.payload_in page
+      → Tells catalog page (event_of tally.rows (frames.frame_in part)) (left catalog asks journal).heard (left catalog asks (journal ++ taken_entry p page n ∷ [])).heard
+  frame_tells tally h stands e same =
+      let l : Left = left catalog asks journal in
+      let kind : FrameKind (frames.kind_in part) (frames.size_in part) = kind_of_header p p.phase part stands.header in
+      tells_as (event_of tally.rows (frames.frame_in part)) next.Whole h e (record {
+        rows = rows_are (left catalog asks journal).heard.rows tally.rows kind same;
+        ended = ap (λ (x : List next.Ended). (left catalog asks journal).heard.ended ++ x) (ended_is (left catalog asks journal).heard.awaits (left catalog asks journal).heard.rows tally.rows (frames.frame_in part));
+        came = came (left catalog asks journal).heard.awaits tally.rows kind (λ k.
+            subst (λ (x : List ℕ). MayCome catalog (left catalog asks journal).heard.awaits x tally.rows) same
+            (came_of catalog (left catalog asks journal).heard.awaits part tally.rows k stands.whole
+            (sym (header_is catalog p p.phase (left catalog asks journal).heard.awaits part h.after.awaits) ∙ stands.header)
+            (sym (payload_is catalog p p.phase (left catalog asks journal).heard.awaits (frames.frame_in part) h.after.awaits) ∙ stands.payload)
+            (stands.rows.rows ∙ ap length (rows_at_are catalog p p.phase (left catalog asks journal).heard.awaits (frames.frame_in part) h.after.awaits))));
+      })

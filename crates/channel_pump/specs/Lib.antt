@@ -1,0 +1,9 @@
+pub mod Narrow
+pub mod Asked
+pub mod Rows
+pub mod Here
+pub mod Marks
+pub mod State
+pub mod Turning
+pub mod Progress
+pub mod Pages

@@ -1,0 +1,155 @@
+//! What a whole frame leads to.
+
+ghost use Rattle.std.specs.Prelude.{◌≡◌, ℕ, ◌+◌, ◌-◌, ◌≤◌, ◌<◌, ◌^◌, ◌≢◌, ◌==◌, true, List, ◌∷◌, length, drop, take_while};
+ghost use Rattle.ghost_model.specs.Channel.{Catalog};
+ghost use Rattle.ghost_model.specs.Asks.{Asked};
+ghost use Rattle.ghost_model.specs.Frames as frames;
+ghost use Rattle.ghost_model.specs.NextMove as next;
+ghost use Rattle.channel_pump.specs.Asked.{AreAsked};
+ghost use Rattle.channel_pump.specs.Here.{Stands, header_at, payload_at, frames_left, frames_for};
+ghost use Rattle.channel_pump.specs.State.{IsAwaiting, IsFresh, IsBefore, IsTurned, IsGoing};
+ghost use Rattle.channel_pump.specs.Marks.{marked_on};
+ghost use Rattle.channel_pump.specs.Turning.{forms_after, event_of};
+
+use crate::forms::AskForm;
+use crate::rows::Tally;
+use crate::state::{Event, Outgoing, Phase, Pump, Stage};
+use channel_codec::frame::HEADER_BYTES;
+use channel_codec::reading::{kind_in, size_in};
+
+/// How many asks at the front are of this text.
+fn count_of_text(text: u32, asks: &[AskForm]) -> usize
+    ensures { result ≡ length (take_while (λ form. form.text == text) asks.now) }
+{
+    asks.iter().take_while(|form| form.text == text).count()
+}
+
+/// These asks without those at their front that are of this text.
+fn after_text<'a>(text: u32, asks: &'a [AskForm<'a>]) -> &'a [AskForm<'a>]
+    ensures after { result.now ≡ forms_after text asks.now }
+    ensures fewer { length result.now ≤ length asks.now }
+{
+    let (_given_up, later) = asks.split_at(count_of_text(text, asks));
+    later
+}
+
+impl<'a> Pump<'a> {
+    /// Sends the first of these asks, which are those that are left, or BYE where there is none.
+    fn go_on_with(&mut self, serial: u32, asks: &'a [AskForm<'a>])
+        requires { serial + length asks.now < 2 ^ 32 }
+        ensures turned { (catalog : Catalog) (asked : List Asked) → AreAsked catalog asks.now asked
+            → IsTurned catalog self.new (next.on_with catalog.schema serial asked) }
+        ensures fresh { self.new.phase ≢ Phase.Greeting }
+        ensures going { IsGoing self.new.phase self.new.stage }
+        ensures frames { frames_left self.new ≡ frames_for asks.now }
+        ensures have { self.new.have ≡ self.old.have }
+        ensures lacks { self.new.lacks ≡ self.old.lacks }
+        ensures before { self.new.before ≡ self.old.before }
+        ensures generation { self.new.generation ≡ self.old.generation }
+        ensures refused { self.new.refused ≡ self.old.refused }
+    {
+        self.serial = serial;
+        self.rest = asks;
+        if asks.is_empty() {
+            self.phase = Phase::Over;
+            self.stage = Stage::Sending(Outgoing::Bye);
+        } else {
+            self.count = 0;
+            self.last = 0;
+            self.phase = Phase::Reply;
+            self.stage = Stage::Sending(Outgoing::Ask);
+        }
+    }
+
+    /// Hears a WELCOME frame.
+    fn greeted(&mut self, part: &[u8])
+        requires phase { self.old.phase ≡ Phase.Greeting }
+        requires whole { 8 + frames.size_in part.now ≤ length part.now }
+        requires header { header_at Phase.Greeting self.old part.now ≡ true }
+        ensures turned { (catalog : Catalog) (asks : List Asked) → IsBefore catalog asks self.old
+            → IsTurned catalog self.new (next.turn_of_greeting catalog.schema asks self.old.missing.now (frames.frame_in part.now)) }
+        ensures fresh { (catalog : Catalog) (asks : List Asked) → IsBefore catalog asks self.old → IsFresh catalog asks self.new self.new.phase }
+        ensures going { IsGoing self.new.phase self.new.stage }
+        ensures frames { frames_left self.new < frames_left self.old }
+        ensures have { self.new.have ≡ self.old.have }
+        ensures lacks { self.new.lacks ≡ self.old.lacks }
+        ensures before { self.new.before ≡ self.old.before }
+        ensures generation { self.new.generation ≡ self.old.generation }
+        ensures refused { self.new.refused ≡ self.old.refused }
+    {
+        let size = size_in(part) as usize - 1;
+        if size == self.missing.len() {
+            self.go_on_with(self.serial, self.rest);
+        } else {
+            let (_welcomed, missing) = self.missing.split_at(size);
+            self.missing = missing;
+            self.stage = Stage::Taking;
+        }
+    }
+
+    /// Hears a frame of the reply to the first of the asks that are left.
+    fn replied(&mut self, part: &[u8], tally: Tally) -> Event
+        requires phase { self.old.phase ≡ Phase.Reply }
+        requires stands { Stands self.old part.now tally }
+        ensures turned { (catalog : Catalog) (asked : Asked) (serial : ℕ) (later : List Asked) (count last : ℕ)
+            → IsAwaiting catalog self.old Phase.Reply (next.Reply asked serial later count last)
+            → IsTurned catalog self.new (next.turn_of_reply catalog.schema asked serial later count last (frames.frame_in part.now)) }
+        ensures fresh { self.new.phase ≢ Phase.Greeting }
+        ensures going { IsGoing self.new.phase self.new.stage }
+        ensures frames { frames_left self.new < frames_left self.old }
+        ensures have { self.new.have ≡ self.old.have }
+        ensures lacks { self.new.lacks ≡ self.old.lacks }
+        ensures before { self.new.before ≡ self.old.before }
+        ensures generation { self.new.generation ≡ self.old.generation }
+        ensures refused { self.new.refused ≡ marked_on result self.old.rest.now self.old.refused }
+        ensures event { result ≡ event_of tally.rows (frames.frame_in part.now) }
+    {
+        let Some((ended, later)) = self.rest.split_first() else {
+            unreachable!()
+        };
+        match kind_in(part) {
+            18 => {
+                self.count += tally.rows;
+                self.last = tally.last;
+                self.stage = Stage::Sending(Outgoing::More);
+                Event::Rows(tally.rows)
+            }
+            19 => {
+                self.go_on_with(self.serial + 1, later);
+                Event::Done
+            }
+            _ => {
+                self.refused[ended.text as usize] = true;
+                self.go_on_with(self.serial + 1, after_text(ended.text, later));
+                Event::Sorry(part[HEADER_BYTES])
+            }
+        }
+    }
+
+    /// Hears a whole frame that may stand here.
+    pub(crate) fn hear(&mut self, part: &[u8], tally: Tally) -> Event
+        requires stands { Stands self.old part.now tally }
+        ensures turned { (catalog : Catalog) (asks : List Asked) (awaits : next.Awaits)
+            → IsAwaiting catalog self.old self.old.phase awaits → IsFresh catalog asks self.old self.old.phase
+            → IsTurned catalog self.new (next.turn catalog asks awaits (frames.frame_in part.now)) }
+        ensures fresh { (catalog : Catalog) (asks : List Asked) → IsFresh catalog asks self.old self.old.phase
+            → IsFresh catalog asks self.new self.new.phase }
+        ensures going { IsGoing self.new.phase self.new.stage }
+        ensures frames { frames_left self.new < frames_left self.old }
+        ensures have { self.new.have ≡ self.old.have }
+        ensures lacks { self.new.lacks ≡ self.old.lacks }
+        ensures before { self.new.before ≡ self.old.before }
+        ensures generation { self.new.generation ≡ self.old.generation }
+        ensures refused { self.new.refused ≡ marked_on result self.old.rest.now self.old.refused }
+        ensures event { result ≡ event_of tally.rows (frames.frame_in part.now) }
+    {
+        match self.phase {
+            Phase::Greeting => {
+                self.greeted(part);
+                Event::Welcome
+            }
+            Phase::Reply => self.replied(part, tally),
+            Phase::Over => unreachable!(),
+        }
+    }
+}

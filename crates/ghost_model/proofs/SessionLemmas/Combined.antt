@@ -1,0 +1,482 @@
+-- That from the hidden part and whole replies follows the answer: combination by combination.
+use Rattle.std.proofs.Common.{◌≡◌, ℕ, zero, suc, ◌+◌, ◌<◌, ◌≤◌, inl, inr, Bool, true, false, not, ◌&&◌, ◌||◌, List, [], ◌∷◌, ◌++◌, length, map, filter, flat_map, sym, ◌∙◌, ap, subst, refl, arith, Option, Some, None, slice_get, unwrap_or}
+use Rattle.std.specs.Prelude.{◌==◌, filter_map, if◌then◌else◌, option_and_then}
+use Rattle.std.specs.List.{list_all, list_any, cons_option}
+use Rattle.std.proofs.lemmas.List.{length-map}
+use Rattle.std.proofs.lemmas.List.Folds.{list_all-append}
+use Rattle.std.proofs.lemmas.Bool.Decides.{nat_tests}
+use Rattle.std.proofs.lemmas.Bool.{eqb-true}
+use Rattle.ghost_model.specs.Schema.{Schema, is_visible, parent}
+use Rattle.ghost_model.specs.SchemaTrees.{IsTree}
+use Rattle.ghost_model.specs.Values.{Value, Row, Rows, Database}
+use Rattle.ghost_model.specs.Query.{Query, Field, Condition, Compare, Join, Operator}
+use Rattle.ghost_model.specs.Query as query
+use Rattle.ghost_model.specs.QueryMeaning.{top_of, only, is_some_among, Means}
+use Rattle.ghost_model.specs.Channel.{Test}
+use Rattle.ghost_model.specs.Asks.{test_of, tests_of, is_field}
+use Rattle.ghost_model.specs.Database.{rows_of, row_of, row_numbered, IsDatabase}
+use Rattle.ghost_model.specs.Split.{Hidden, hidden_values, hidden_of, public_of, meets_test}
+use Rattle.ghost_model.specs.Meaning.{Chosen, choice, Combination, combinations, row_in, value_in, compares, is_true_in, passes, projection, others_of, answer_of_row, answer_from_top, answer_or_none, answer}
+use Rattle.ghost_model.specs.Replies as replies
+use Rattle.ghost_model.specs.Replies.{Reply, Pick, pick, picks, identifiers_from, identifiers_of, known_value, known_in, is_true_or_asked, stands_in_reply, is_kept, answer_of_pick, answer_from}
+use Rattle.ghost_model.specs.SessionLaws.{whole_replies}
+use Rattle.ghost_model.proofs.ChannelLemmas.Tests.{false_is_not, BothHold, both_hold, hold_both}
+use Rattle.ghost_model.proofs.MeaningLemmas.OneRow.{Among, Distinct, among-filter, from_filter, not_equal}
+use Rattle.ghost_model.proofs.SessionLemmas.Values.{parts_at}
+use Rattle.ghost_model.proofs.SessionLemmas.Whole.{stands_by, stands_in_is, known_is}
+use Rattle.ghost_model.proofs.SessionLemmas.Accepted.{Each, each_is, ComparesFrom, JoinsUnseen, IsSound, query_is_sound}
+
+same_bool : (a b : Bool) → (a ≡ true → b ≡ true) → (b ≡ true → a ≡ true) → a ≡ b
+same_bool true true p q = refl
+same_bool true false p q = sym (p refl)
+same_bool false true p q = q refl
+same_bool false false p q = refl
+
+same_number : (n : ℕ) → (n == n) ≡ true
+same_number n = grind (arith, nat_tests)
+
+-- lists that correspond
+same_filtered :
+    {X Y Z : Type 0} (P : X → Type 0) (h : X → Y) (p : X → Bool) (q : Y → Bool) (f : X → Z) (g : Y → Z) (xs : List X)
+    → ((x : X) → P x → p x ≡ q (h x)) → ((x : X) → P x → q (h x) ≡ true → f x ≡ g (h x)) → Each P xs
+    → map f (filter p xs) ≡ map g (filter q (map h xs))
+same_filtered P h p q f g [] tests values each = refl
+same_filtered {Z} P h p q f g (x ∷ xs) tests values each =
+    let later = same_filtered P h p q f g xs tests values each.1 in
+    ap (λ (b : Bool). map f (if b then x ∷ filter p xs else filter p xs)) (tests x each.0)
+    ∙ (elim (q (h x)) as (λ v. q (h x) ≡ v → map f (if v then x ∷ filter p xs else filter p xs) ≡ map g (if v then h x ∷ filter q (map h xs) else filter q (map h xs))) [
+      | true ↦ λ e. ap (λ (z : Z). z ∷ map f (filter p xs)) (values x each.0 e) ∙ ap (λ (zs : List Z). g (h x) ∷ zs) later
+      | false ↦ λ e. later
+    ]) refl
+
+mapped_joined : {X Y : Type 0} (f : X → Y) (xs ys : List X) → map f (xs ++ ys) ≡ map f xs ++ map f ys
+mapped_joined f [] ys = refl
+mapped_joined {X} {Y} f (x ∷ xs) ys = ap (λ (zs : List Y). f x ∷ zs) (mapped_joined f xs ys)
+
+mapped_twice : {X Y Z W : Type 0} (f : X → Y) (g : Y → Z) (k : X → W) (l : W → Z) (xs : List X) → ((x : X) → g (f x) ≡ l (k x)) → map g (map f xs) ≡ map l (map k xs)
+mapped_twice f g k l [] h = refl
+mapped_twice {X} {Y} {Z} {W} f g k l (x ∷ xs) h = ap (λ (z : Z). z ∷ map g (map f xs)) (h x) ∙ ap (λ (zs : List Z). l (k x) ∷ zs) (mapped_twice f g k l xs h)
+
+each_joined : {X : Type 0} (P : X → Type 0) (xs ys : List X) → Each P xs → Each P ys → Each P (xs ++ ys)
+each_joined P [] ys e f = f
+each_joined P (x ∷ xs) ys e f = (e.0, each_joined P xs ys e.1 f)
+
+each_mapped : {X Y : Type 0} (P : Y → Type 0) (Q : X → Type 0) (f : X → Y) (xs : List X) → ((x : X) → Q x → P (f x)) → Each Q xs → Each P (map f xs)
+each_mapped P Q f [] h e = tt
+each_mapped P Q f (x ∷ xs) h e = (h x e.0, each_mapped P Q f xs h e.1)
+
+each_flat : {X Y : Type 0} (P : Y → Type 0) (Q : X → Type 0) (f : X → List Y) (xs : List X) → ((x : X) → Q x → Each P (f x)) → Each Q xs → Each P (flat_map f xs)
+each_flat P Q f [] h e = tt
+each_flat P Q f (x ∷ xs) h e = each_joined P (f x) (flat_map f xs) (h x e.0) (each_flat P Q f xs h e.1)
+
+distinct_filter : (p : ℕ → Bool) (xs : List ℕ) → Distinct xs → Distinct (filter p xs)
+distinct_filter p [] d = d
+distinct_filter p (x ∷ xs) d =
+    (elim (p x) as (λ v. Distinct (if v then x ∷ filter p xs else filter p xs)) [
+      | true ↦ (λ h. d.0 (from_filter p x xs h).0, distinct_filter p xs d.1)
+      | false ↦ distinct_filter p xs d.1
+    ])
+
+only_among : (xs : List ℕ) (x : ℕ) → only xs ≡ Some x → Among x xs
+only_among [] x e = absurd (cc)
+only_among (y ∷ []) x e = inl (ap (λ (o : Option ℕ). unwrap_or o y) e)
+only_among (y ∷ z ∷ xs) x e = absurd (cc)
+
+there_is : {X : Type 0} (xs : List X) (place : ℕ) (other : X) → place < length xs → slice_get xs place ≡ Some (unwrap_or (slice_get xs place) other)
+there_is [] place other h = absurd (omega (arith, h))
+there_is (x ∷ xs) zero other h = refl
+there_is (x ∷ xs) (suc place) other h = there_is xs place other (omega (arith, h))
+
+field_selected : (f : Field) (select : List Field) → Among f select → list_any (is_field f.table f.column) select ≡ true
+field_selected f [] h = absurd h
+field_selected f (first ∷ select) (inl same) =
+    ap (λ (b : Bool). b || list_any (is_field f.table f.column) select)
+    (ap (λ (g : Field). is_field f.table f.column g) same ∙ hold_both (f.table == f.table) (f.column == f.column) (same_number f.table) (same_number f.column))
+field_selected f (first ∷ select) (inr later) = either (is_field f.table f.column first) (list_any (is_field f.table f.column) select) (field_selected f select later)
+  where
+    either : (a b : Bool) → b ≡ true → (a || b) ≡ true
+    either true b h = refl
+    either false b h = h
+
+met_as : (column : ℕ) (operator : Operator) (value : Value) (found : Option Value) → meets_test (record { column = column; operator = operator; value = value }) found ≡ compares operator found (Some value)
+met_as column operator value None = refl
+met_as column operator value (Some found) = refl
+
+-- so many identifiers stand for these rows
+rows_from : (all rows : Rows) (before : ℕ) → ((place : ℕ) → slice_get all (before + place) ≡ slice_get rows place) → map (λ (identifier : ℕ). unwrap_or (row_numbered all identifier) []) (identifiers_from (suc before) (length rows)) ≡ rows
+unfolding identifiers_from
+rows_from all [] before at = refl
+rows_from all (row ∷ rows) before at =
+    let zeroth : before ≡ before + 0 = omega arith in
+    let one : unwrap_or (slice_get all before) [] ≡ row =
+    ap (λ (n : ℕ). unwrap_or (slice_get all n) []) zeroth ∙ ap (λ (o : Option Row). unwrap_or o []) (at 0) in
+    let next : suc before + 1 ≡ suc (suc before) = omega arith in
+    let later : map (λ (identifier : ℕ). unwrap_or (row_numbered all identifier) []) (identifiers_from (suc (suc before)) (length rows)) ≡ rows =
+    rows_from all rows (suc before) (λ place. let moved : suc before + place ≡ before + suc place = omega arith in ap (λ (n : ℕ). slice_get all n) moved ∙ at (suc place)) in
+    ap (λ (r : Row). r ∷ map (λ (identifier : ℕ). unwrap_or (row_numbered all identifier) []) (identifiers_from (suc before + 1) (length rows))) one
+    ∙ ap (λ (rs : Rows). row ∷ rs) (ap (λ (n : ℕ). map (λ (identifier : ℕ). unwrap_or (row_numbered all identifier) []) (identifiers_from n (length rows))) next ∙ later)
+
+module _ (schema : Schema) (database : Database) (is : IsDatabase schema database) (asked : Query) where
+  abbrev kept : Hidden
+  kept = hidden_of schema database
+
+  abbrev given : List Reply
+  given = whole_replies schema (public_of schema database) asked
+
+  -- the row of a pick
+  abbrev row_at : Pick → Row
+  row_at one = unwrap_or (row_of database one.table one.identifier) []
+
+  abbrev chosen : Pick → Chosen
+  chosen one = choice one.table (row_at one)
+
+  record IsThere (one : Pick) : Type 0 where
+    place : ℕ
+    numbered : one.identifier ≡ suc place
+    stands : slice_get (rows_of database one.table) place ≡ Some (row_at one)
+    from : Among one.table asked.from
+
+  -- a row of each of these tables
+  record IsPicked (tables : List ℕ) (combination : List Pick) : Type 0 where
+    there : Each IsThere combination
+    tables_are : map (λ (one : Pick). one.table) combination ≡ tables
+
+  abbrev Stands : Pick → Type 0
+  Stands one = stands_by schema database is asked one.table (row_at one) ≡ true
+
+  -- known values are those of the rows
+  known_one :
+      (one : Pick) (f : Field) → IsThere one → one.table ≡ f.table
+      → (is_visible schema f.table f.column ≡ true → Stands one × (list_any (is_field f.table f.column) asked.select ≡ true))
+      → known_value schema kept given one.table one.identifier f.column ≡ slice_get (row_at one) f.column
+  known_one one f there same told =
+      subst (λ (n : ℕ). known_value schema kept given one.table n f.column ≡ slice_get (row_at one) f.column) (sym there.numbered)
+      (known_is schema database is asked one.table there.place f.column (row_at one) there.stands
+      (λ v. let t = told (subst (λ (n : ℕ). is_visible schema n f.column ≡ true) same v) in
+      record { from = there.from; stands = t.0; selected = subst (λ (n : ℕ). list_any (is_field n f.column) asked.select ≡ true) (sym same) t.1 }))
+
+  known_agrees :
+      (combination : List Pick) (f : Field) → Each IsThere combination
+      → (is_visible schema f.table f.column ≡ true → Each Stands combination × (list_any (is_field f.table f.column) asked.select ≡ true))
+      → known_in schema kept given combination f ≡ value_in (map chosen combination) f
+  known_agrees [] f there told = refl
+  known_agrees (one ∷ others) f there told =
+      (elim (one.table == f.table) as (λ v. (one.table == f.table) ≡ v → (if v then known_value schema kept given one.table one.identifier f.column else known_in schema kept given others f) ≡ option_and_then (λ row. slice_get row f.column) (if v then Some (row_at one) else row_in (map chosen others) f.table)) [
+        | true ↦ λ e. known_one one f there.0 (eqb-true one.table f.table e) (λ v. let t = told v in (t.0.0, t.1))
+        | false ↦ λ e. known_agrees others f there.1 (λ v. let t = told v in (t.0.1, t.1))
+      ]) refl
+
+  unseen_agrees : (combination : List Pick) (f : Field) → Each IsThere combination → is_visible schema f.table f.column ≡ false → known_in schema kept given combination f ≡ value_in (map chosen combination) f
+  unseen_agrees combination f there e = known_agrees combination f there (λ v. absurd (false_is_not (sym e ∙ v)))
+
+  -- the row of a table in a combination
+  found_in : (combination : List Pick) (table : ℕ) → Among table (map (λ (one : Pick). one.table) combination) → (one : Pick) × Among one combination × (one.table ≡ table) × (row_in (map chosen combination) table ≡ Some (row_at one))
+  found_in [] table h = absurd h
+  found_in (one ∷ others) table h =
+      (elim (one.table == table) as (λ v. (one.table == table) ≡ v → (it : Pick) × Among it (one ∷ others) × (it.table ≡ table) × ((if v then Some (row_at one) else row_in (map chosen others) table) ≡ Some (row_at it))) [
+        | true ↦ λ e. (one, inl refl, eqb-true one.table table e, refl)
+        | false ↦ λ e. (let it = found_in others table (later_one e h) in (it.0, inr it.1, it.2, it.3))
+      ]) refl
+    where
+      later_one : (one.table == table) ≡ false → Among table (one.table ∷ map (λ (other : Pick). other.table) others) → Among table (map (λ (other : Pick). other.table) others)
+      later_one differs (inl same) = absurd (false_is_not (sym differs ∙ (ap (λ (n : ℕ). n == table) same ∙ same_number table)))
+      later_one differs (inr later) = later
+
+  tail_rows :
+      (one : Pick) (all some : List Pick) → (Among one.table (map (λ (other : Pick). other.table) some) → ⊥)
+      → Each (λ (other : Pick). row_in (map chosen all) other.table ≡ Some (row_at other)) some
+      → Each (λ (other : Pick). row_in (map chosen (one ∷ all)) other.table ≡ Some (row_at other)) some
+  tail_rows one all [] apart e = tt
+  tail_rows one all (first ∷ some) apart e = (
+    ap (λ (b : Bool). if b then Some (row_at one) else row_in (map chosen all) first.table) (not_equal one.table first.table (λ same. apart (inl (sym same)))) ∙ e.0,
+    tail_rows one all some (λ h. apart (inr h)) e.1,
+  )
+
+  own_rows : (combination : List Pick) → Distinct (map (λ (one : Pick). one.table) combination) → Each (λ (one : Pick). row_in (map chosen combination) one.table ≡ Some (row_at one)) combination
+  own_rows [] d = tt
+  own_rows (one ∷ others) d =
+      (ap (λ (b : Bool). if b then Some (row_at one) else row_in (map chosen others) one.table) (same_number one.table), tail_rows one others others d.0 (own_rows others d.1))
+
+  -- the conditions of a table, as tests
+  abbrev holds_in : Row → Test → Bool
+  holds_in row test = meets_test test (slice_get row test.column)
+
+  test_holds :
+      (table : ℕ) (row : Row) (conditions : List Condition) (f : Field) (operator : Operator) (value : Value)
+      → list_all (holds_in row) (tests_of schema table conditions) ≡ true → Among (Compare f operator value) conditions → f.table ≡ table
+      → is_visible schema table f.column ≡ true → compares operator (slice_get row f.column) (Some value) ≡ true
+  test_holds table row [] f operator value h among same v = absurd among
+  test_holds table row (first ∷ conditions) f operator value h (inr later) same v =
+      let both : BothHold (list_all (holds_in row) (test_of schema table first)) (list_all (holds_in row) (tests_of schema table conditions)) =
+      both_hold _ _ (sym (list_all-append (holds_in row) (test_of schema table first) (tests_of schema table conditions)) ∙ h) in
+      test_holds table row conditions f operator value both.other later same v
+  test_holds table row (first ∷ conditions) f operator value h (inl is_it) same v =
+      let both : BothHold (list_all (holds_in row) (test_of schema table first)) (list_all (holds_in row) (tests_of schema table conditions)) =
+      both_hold _ _ (sym (list_all-append (holds_in row) (test_of schema table first) (tests_of schema table conditions)) ∙ h) in
+      let this : list_all (holds_in row) (test_of schema table (Compare f operator value)) ≡ true =
+      subst (λ (c : Condition). list_all (holds_in row) (test_of schema table c) ≡ true) is_it both.one in
+      let meant : Test = record { column = f.column; operator = operator; value = value } in
+      let taken : (f.table == table && is_visible schema table f.column) ≡ true =
+      hold_both _ _ (ap (λ (n : ℕ). n == table) same ∙ same_number table) v in
+      let alone : BothHold (holds_in row meant) true = both_hold _ _ (sym (ap (λ (b : Bool). list_all (holds_in row) (if b then meant ∷ [] else [])) taken) ∙ this) in
+      sym (met_as f.column operator value (slice_get row f.column)) ∙ alone.one
+
+  tests_if : (row : Row) (b : Bool) (test : Test) → (b ≡ true → holds_in row test ≡ true) → list_all (holds_in row) (if b then test ∷ [] else []) ≡ true
+  tests_if row true test h = hold_both (holds_in row test) true (h refl) refl
+  tests_if row false test h = refl
+
+  test_from : (combination : List Pick) (one : Pick) → row_in (map chosen combination) one.table ≡ Some (row_at one) → (condition : Condition) → is_true_in (map chosen combination) condition ≡ true → list_all (holds_in (row_at one)) (test_of schema one.table condition) ≡ true
+  test_from combination one at (Join left right) h = refl
+  test_from combination one at (Compare f operator value) h =
+      tests_if (row_at one) (f.table == one.table && is_visible schema one.table f.column) (record { column = f.column; operator = operator; value = value })
+      (λ e.
+      let both : BothHold (f.table == one.table) (is_visible schema one.table f.column) = both_hold _ _ e in
+      let row : row_in (map chosen combination) f.table ≡ Some (row_at one) = ap (λ (n : ℕ). row_in (map chosen combination) n) (eqb-true f.table one.table both.one) ∙ at in
+      met_as f.column operator value (slice_get (row_at one) f.column)
+      ∙ (sym (ap (λ (o : Option Row). compares operator (option_and_then (λ r. slice_get r f.column) o) (Some value)) row) ∙ h))
+
+  stands_from : (combination : List Pick) (one : Pick) → row_in (map chosen combination) one.table ≡ Some (row_at one) → (conditions : List Condition) → list_all (is_true_in (map chosen combination)) conditions ≡ true → list_all (holds_in (row_at one)) (tests_of schema one.table conditions) ≡ true
+  stands_from combination one at [] h = refl
+  stands_from combination one at (condition ∷ conditions) h =
+      let both : BothHold (is_true_in (map chosen combination) condition) (list_all (is_true_in (map chosen combination)) conditions) = both_hold _ _ h in
+      list_all-append (holds_in (row_at one)) (test_of schema one.table condition) (tests_of schema one.table conditions)
+      ∙ hold_both _ _ (test_from combination one at condition both.one) (stands_from combination one at conditions both.other)
+
+  all_stand_from : (combination some : List Pick) → Each (λ (one : Pick). row_in (map chosen combination) one.table ≡ Some (row_at one)) some → passes asked.conditions (map chosen combination) ≡ true → Each Stands some
+  all_stand_from combination [] e h = tt
+  all_stand_from combination (one ∷ some) e h = (stands_from combination one e.0 asked.conditions h, all_stand_from combination some e.1 h)
+
+  -- standing in the replies
+  stands_is : (one : Pick) → IsThere one → stands_in_reply given one ≡ stands_by schema database is asked one.table (row_at one)
+  stands_is one there =
+      ap (λ (n : ℕ). replies.stands_in n (replies.reply_about one.table given)) there.numbered
+      ∙ stands_in_is schema database is asked one.table there.place (row_at one) there.stands there.from
+
+  all_stand : (combination : List Pick) → Each IsThere combination → list_all (stands_in_reply given) combination ≡ true → Each Stands combination
+  all_stand [] there h = tt
+  all_stand (one ∷ others) there h =
+      let both : BothHold (stands_in_reply given one) (list_all (stands_in_reply given) others) = both_hold _ _ h in
+      (sym (stands_is one there.0) ∙ both.one, all_stand others there.1 both.other)
+
+  stand_all : (combination : List Pick) → Each IsThere combination → Each Stands combination → list_all (stands_in_reply given) combination ≡ true
+  stand_all [] there h = refl
+  stand_all (one ∷ others) there h = hold_both _ _ (stands_is one there.0 ∙ h.0) (stand_all others there.1 h.1)
+
+  -- conditions
+  visible_true :
+      (combination : List Pick) (f : Field) (operator : Operator) (value : Value) → Each Stands combination
+      → Among f.table (map (λ (one : Pick). one.table) combination) → Among (Compare f operator value) asked.conditions
+      → is_visible schema f.table f.column ≡ true → is_true_in (map chosen combination) (Compare f operator value) ≡ true
+  visible_true combination f operator value stand h among v =
+      let it = found_in combination f.table h in
+      let stands : Stands it.0 = each_is Stands it.0 combination stand it.1 in
+      ap (λ (o : Option Row). compares operator (option_and_then (λ row. slice_get row f.column) o) (Some value)) it.3
+      ∙ test_holds it.0.table (row_at it.0) asked.conditions f operator value stands among (sym it.2)
+      (subst (λ (n : ℕ). is_visible schema n f.column ≡ true) (sym it.2) v)
+
+  compared_agrees : (combination : List Pick) (f : Field) (operator : Operator) (value : Value) → Each IsThere combination → is_visible schema f.table f.column ≡ false → compares operator (known_in schema kept given combination f) (Some value) ≡ compares operator (value_in (map chosen combination) f) (Some value)
+  compared_agrees combination f operator value there e = ap (λ (o : Option Value). compares operator o (Some value)) (unseen_agrees combination f there e)
+
+  join_agrees : (combination : List Pick) (one other : Field) → Each IsThere combination → is_visible schema one.table one.column ≡ false → is_visible schema other.table other.column ≡ false → is_true_or_asked schema kept given combination (Join one other) ≡ is_true_in (map chosen combination) (Join one other)
+  join_agrees combination one other there d e =
+      ap (λ (o : Option Value). compares query.Equal o (known_in schema kept given combination other)) (unseen_agrees combination one there d)
+      ∙ ap (λ (o : Option Value). compares query.Equal (value_in (map chosen combination) one) o) (unseen_agrees combination other there e)
+
+  condition_true :
+      (combination : List Pick) (condition : Condition) → Each IsThere combination → Each Stands combination
+      → (ComparesFrom schema (map (λ (one : Pick). one.table) combination) condition) → JoinsUnseen schema condition → Among condition asked.conditions
+      → is_true_or_asked schema kept given combination condition ≡ true → is_true_in (map chosen combination) condition ≡ true
+  condition_true combination (Compare f operator value) there stand from unseen among h =
+      (elim (is_visible schema f.table f.column) as (λ v. is_visible schema f.table f.column ≡ v → (if v then true else compares operator (known_in schema kept given combination f) (Some value)) ≡ true → is_true_in (map chosen combination) (Compare f operator value) ≡ true) [
+        | true ↦ λ e k. visible_true combination f operator value stand from among e
+        | false ↦ λ e k. sym (compared_agrees combination f operator value there e) ∙ k
+      ]) refl h
+  condition_true combination (Join one other) there stand from unseen among h = sym (join_agrees combination one other there unseen.0 unseen.1) ∙ h
+
+  condition_asked :
+      (combination : List Pick) (condition : Condition) → Each IsThere combination → JoinsUnseen schema condition
+      → is_true_in (map chosen combination) condition ≡ true → is_true_or_asked schema kept given combination condition ≡ true
+  condition_asked combination (Compare f operator value) there unseen h =
+      (elim (is_visible schema f.table f.column) as (λ v. is_visible schema f.table f.column ≡ v → (if v then true else compares operator (known_in schema kept given combination f) (Some value)) ≡ true) [
+        | true ↦ λ e. refl
+        | false ↦ λ e. compared_agrees combination f operator value there e ∙ h
+      ]) refl
+  condition_asked combination (Join one other) there unseen h = join_agrees combination one other there unseen.0 unseen.1 ∙ h
+
+  all_true :
+      (combination : List Pick) (conditions : List Condition) → Each IsThere combination → Each Stands combination
+      → Each (ComparesFrom schema (map (λ (one : Pick). one.table) combination)) conditions → Each (JoinsUnseen schema) conditions
+      → ((condition : Condition) → Among condition conditions → Among condition asked.conditions)
+      → list_all (is_true_or_asked schema kept given combination) conditions ≡ true → passes conditions (map chosen combination) ≡ true
+  all_true combination [] there stand from unseen among h = refl
+  all_true combination (condition ∷ conditions) there stand from unseen among h =
+      let both : BothHold (is_true_or_asked schema kept given combination condition) (list_all (is_true_or_asked schema kept given combination) conditions) = both_hold _ _ h in
+      hold_both _ _ (condition_true combination condition there stand from.0 unseen.0 (among condition (inl refl)) both.one)
+      (all_true combination conditions there stand from.1 unseen.1 (λ other a. among other (inr a)) both.other)
+
+  all_asked : (combination : List Pick) (conditions : List Condition) → Each IsThere combination → Each (JoinsUnseen schema) conditions → passes conditions (map chosen combination) ≡ true → list_all (is_true_or_asked schema kept given combination) conditions ≡ true
+  all_asked combination [] there unseen h = refl
+  all_asked combination (condition ∷ conditions) there unseen h =
+      let both : BothHold (is_true_in (map chosen combination) condition) (passes conditions (map chosen combination)) = both_hold _ _ h in
+      hold_both _ _ (condition_asked combination condition there unseen.0 both.one) (all_asked combination conditions there unseen.1 both.other)
+
+  compares_there : (tables : List ℕ) → ((table : ℕ) → Among table asked.from → Among table tables) → (conditions : List Condition) → Each (ComparesFrom schema asked.from) conditions → Each (ComparesFrom schema tables) conditions
+  compares_there tables within [] e = tt
+  compares_there tables within (Compare f operator value ∷ conditions) e = (within f.table e.0, compares_there tables within conditions e.1)
+  compares_there tables within (Join one other ∷ conditions) e = (tt, compares_there tables within conditions e.1)
+
+  module _ (sound : IsSound schema asked) (tables : List ℕ) (distinct : Distinct tables) (within : (table : ℕ) → Among table asked.from → Among table tables) where
+    -- the rows of a kept combination stand in their replies
+    kept_stands : (combination : List Pick) → IsPicked tables combination → passes asked.conditions (map chosen combination) ≡ true → Each Stands combination
+    kept_stands combination picked h =
+        all_stand_from combination combination
+        (own_rows combination (subst (λ (ts : List ℕ). Distinct ts) (sym picked.tables_are) distinct)) h
+
+    kept_is : (combination : List Pick) → IsPicked tables combination → is_kept schema kept given asked.conditions combination ≡ passes asked.conditions (map chosen combination)
+    kept_is combination picked =
+        same_bool _ _
+        (λ h.
+        let both : BothHold (list_all (stands_in_reply given) combination) (list_all (is_true_or_asked schema kept given combination) asked.conditions) = both_hold _ _ h in
+        all_true combination asked.conditions picked.there (all_stand combination picked.there both.one)
+        (subst (λ (ts : List ℕ). Each (ComparesFrom schema ts) asked.conditions) (sym picked.tables_are) (compares_there tables within asked.conditions sound.compared))
+        sound.joined (λ condition a. a) both.other)
+        (λ h. hold_both _ _ (stand_all combination picked.there (kept_stands combination picked h)) (all_asked combination asked.conditions picked.there sound.joined h))
+
+    values_are : (combination : List Pick) (select : List Field) → Each IsThere combination → Each Stands combination → ((f : Field) → Among f select → Among f asked.select) → filter_map (known_in schema kept given combination) select ≡ projection select (map chosen combination)
+    values_are combination [] there stand among = refl
+    values_are combination (f ∷ select) there stand among =
+        ap (λ (o : Option Value). cons_option o (filter_map (known_in schema kept given combination) select))
+        (known_agrees combination f there (λ v. (stand, field_selected f asked.select (among f (inl refl)))))
+        ∙ ap (λ (values : Row). cons_option (value_in (map chosen combination) f) values) (values_are combination select there stand (λ g a. among g (inr a)))
+
+    -- the same rows from picks and from rows
+    same_rows :
+        (combinations : List (List Pick)) → Each (IsPicked tables) combinations
+        → map (λ combination. filter_map (known_in schema kept given combination) asked.select) (filter (is_kept schema kept given asked.conditions) combinations)
+        ≡ map (projection asked.select) (filter (passes asked.conditions) (map (map chosen) combinations))
+    same_rows combinations each =
+        same_filtered (IsPicked tables) (map chosen) (is_kept schema kept given asked.conditions) (passes asked.conditions)
+        (λ combination. filter_map (known_in schema kept given combination) asked.select) (projection asked.select) combinations kept_is
+        (λ combination picked h. values_are combination asked.select picked.there (kept_stands combination picked h) (λ f a. a)) each
+
+  -- the identifiers of a table are those of its rows
+  abbrev row_numbered_so : ℕ → ℕ → Row
+  row_numbered_so table identifier = unwrap_or (row_of database table identifier) []
+
+  how_many : (table : ℕ) → identifiers_of kept table ≡ identifiers_from 1 (length (rows_of database table))
+  how_many table =
+      ap (λ (rows : Rows). identifiers_from 1 (length rows)) (parts_at hidden_values schema database is.tables table)
+      ∙ ap (λ (n : ℕ). identifiers_from 1 n) (length-map (rows_of database table) _)
+
+  rows_are : (table : ℕ) → map (row_numbered_so table) (identifiers_of kept table) ≡ rows_of database table
+  rows_are table =
+      ap (λ (identifiers : List ℕ). map (row_numbered_so table) identifiers) (how_many table)
+      ∙ rows_from (rows_of database table) (rows_of database table) 0 (λ place. let same : 0 + place ≡ place = omega arith in ap (λ (n : ℕ). slice_get (rows_of database table) n) same)
+
+  there_from : (table : ℕ) → Among table asked.from → (count before : ℕ) → before + count ≤ length (rows_of database table) → Each (λ (identifier : ℕ). IsThere (pick table identifier)) (identifiers_from (suc before) count)
+  unfolding identifiers_from
+  there_from table from zero before h = tt
+  there_from table from (suc count) before h =
+      let next : suc before + 1 ≡ suc (suc before) = omega arith in (
+        record { place = before; numbered = refl; stands = there_is (rows_of database table) before [] (omega (arith, h)); from = from },
+        subst (λ (n : ℕ). Each (λ (identifier : ℕ). IsThere (pick table identifier)) (identifiers_from n count)) (sym next)
+            (there_from table from count (suc before) (omega (arith, h))),
+      )
+
+  all_there : (table : ℕ) → Among table asked.from → Each (λ (identifier : ℕ). IsThere (pick table identifier)) (identifiers_of kept table)
+  all_there table from =
+      subst (λ (identifiers : List ℕ). Each (λ (identifier : ℕ). IsThere (pick table identifier)) identifiers) (sym (how_many table))
+      (there_from table from (length (rows_of database table)) 0 (omega arith))
+
+  picked_more : (table identifier : ℕ) (tables : List ℕ) (others : List Pick) → IsThere (pick table identifier) → IsPicked tables others → IsPicked (table ∷ tables) (pick table identifier ∷ others)
+  picked_more table identifier tables others there picked =
+      record { there = (there, picked.there); tables_are = ap (λ (ts : List ℕ). table ∷ ts) picked.tables_are }
+
+  all_picked : (tables : List ℕ) → ((table : ℕ) → Among table tables → Among table asked.from) → Each (IsPicked tables) (picks kept tables)
+  unfolding picks
+  all_picked [] from = (record { there = tt; tables_are = refl }, tt)
+  all_picked (table ∷ tables) from =
+      each_flat (IsPicked (table ∷ tables)) (λ (identifier : ℕ). IsThere (pick table identifier))
+      (λ identifier. map (λ others. pick table identifier ∷ others) (picks kept tables)) (identifiers_of kept table)
+      (λ identifier there.
+      each_mapped (IsPicked (table ∷ tables)) (IsPicked tables) (λ others. pick table identifier ∷ others) (picks kept tables)
+      (λ others picked. picked_more table identifier tables others there picked)
+      (all_picked tables (λ other a. from other (inr a))))
+      (all_there table (from table (inl refl)))
+
+  -- combinations of rows are those of picks
+  product_same :
+      (table : ℕ) (rest : List (List Pick)) (identifiers : List ℕ)
+      → flat_map (λ row. map (λ others. choice table row ∷ others) (map (map chosen) rest)) (map (row_numbered_so table) identifiers)
+      ≡ map (map chosen) (flat_map (λ identifier. map (λ others. pick table identifier ∷ others) rest) identifiers)
+  product_same table rest [] = refl
+  product_same table rest (identifier ∷ identifiers) =
+      ap (λ (xs : List Combination). xs ++ flat_map (λ row. map (λ others. choice table row ∷ others) (map (map chosen) rest)) (map (row_numbered_so table) identifiers))
+      (mapped_twice (map chosen) (λ others. choice table (row_numbered_so table identifier) ∷ others) (λ others. pick table identifier ∷ others) (map chosen) rest (λ others. refl))
+      ∙ (ap (λ (xs : List Combination). map (map chosen) (map (λ others. pick table identifier ∷ others) rest) ++ xs) (product_same table rest identifiers)
+      ∙ sym (mapped_joined (map chosen) (map (λ others. pick table identifier ∷ others) rest) (flat_map (λ other. map (λ others. pick table other ∷ others) rest) identifiers)))
+
+  combinations_are : (tables : List ℕ) → combinations database tables ≡ map (map chosen) (picks kept tables)
+  unfolding picks combinations
+  combinations_are [] = refl
+  combinations_are (table ∷ tables) =
+      ap (λ (rows : Rows). flat_map (λ row. map (λ others. choice table row ∷ others) (combinations database tables)) rows) (sym (rows_are table))
+      ∙ (ap (λ (rest : List Combination). flat_map (λ row. map (λ others. choice table row ∷ others) rest) (map (row_numbered_so table) (identifiers_of kept table))) (combinations_are tables)
+      ∙ product_same table (picks kept tables) (identifiers_of kept table))
+
+  -- the tables of a query with a top table
+  others_within : (top table : ℕ) → Among table asked.from → Among table (top ∷ others_of top asked.from)
+  others_within top table h =
+      (elim (table == top) as (λ v. (table == top) ≡ v → Among table (top ∷ others_of top asked.from)) [
+        | true ↦ λ e. inl (sym (eqb-true table top e))
+        | false ↦ λ e. inr (among-filter (λ other. not (other == top)) table asked.from h (ap not e))
+      ]) refl
+
+  others_distinct : (top : ℕ) → Distinct asked.from → Distinct (top ∷ others_of top asked.from)
+  others_distinct top d = (
+    λ h. false_is_not (ap not (sym (same_number top)) ∙ (from_filter (λ other. not (other == top)) top asked.from h).1),
+    distinct_filter (λ other. not (other == top)) asked.from d,
+  )
+
+  module _ (sound : IsSound schema asked) (top : ℕ) (from : Among top asked.from) where
+    abbrev others : List ℕ
+    others = others_of top asked.from
+
+    abbrev tables : List ℕ
+    tables = top ∷ others
+
+    same_answer_of : (identifier : ℕ) → IsThere (pick top identifier) → answer_of_pick schema kept asked given top identifier ≡ answer_of_row top database asked (row_numbered_so top identifier)
+    same_answer_of identifier there =
+        same_rows sound tables (others_distinct top sound.distinct) (others_within top)
+        (map (λ rest. pick top identifier ∷ rest) (picks kept others))
+        (each_mapped (IsPicked tables) (IsPicked others) (λ rest. pick top identifier ∷ rest) (picks kept others)
+        (λ rest picked. picked_more top identifier others rest there picked)
+        (all_picked others (λ table a. (from_filter (λ other. not (other == top)) table asked.from a).0)))
+        ∙ ap (λ (xs : List Combination). map (projection asked.select) (filter (passes asked.conditions) xs))
+        (sym (ap (λ (xs : List Combination). map (λ rest. choice top (row_numbered_so top identifier) ∷ rest) xs) (combinations_are others)
+        ∙ mapped_twice (map chosen) (λ rest. choice top (row_numbered_so top identifier) ∷ rest) (λ rest. pick top identifier ∷ rest) (map chosen) (picks kept others) (λ rest. refl)))
+
+    same_answers : (identifiers : List ℕ) → Each (λ (identifier : ℕ). IsThere (pick top identifier)) identifiers → flat_map (answer_of_pick schema kept asked given top) identifiers ≡ flat_map (answer_of_row top database asked) (map (row_numbered_so top) identifiers)
+    same_answers [] there = refl
+    same_answers (identifier ∷ identifiers) there =
+        ap (λ (rows : List Row). rows ++ flat_map (answer_of_pick schema kept asked given top) identifiers) (same_answer_of identifier there.0)
+        ∙ ap (λ (rows : List Row). answer_of_row top database asked (row_numbered_so top identifier) ++ rows) (same_answers identifiers there.1)
+
+    same_answer : replies.answer_from_top schema kept asked given (Some top) ≡ answer_from_top top database asked
+    same_answer =
+        same_answers (identifiers_of kept top) (all_there top from)
+        ∙ ap (λ (rows : Rows). flat_map (answer_of_row top database asked) rows) (rows_are top)
+
+  by_top : IsSound schema asked → (o : Option ℕ) → top_of schema asked ≡ o → replies.answer_from_top schema kept asked given o ≡ answer_or_none o database asked
+  by_top sound None e = refl
+  by_top sound (Some top) e =
+      same_answer sound top
+      (from_filter (λ table. not (is_some_among asked.from (parent schema table))) top asked.from
+      (only_among (filter (λ table. not (is_some_among asked.from (parent schema table))) asked.from) top e)).0
+
+pub whole_replies_answer :
+    (schema : Schema) → IsTree schema → (database : Database) → IsDatabase schema database → (text : List ℕ) (asked : Query)
+    → Means schema text asked
+    → answer_from schema (hidden_of schema database) asked (whole_replies schema (public_of schema database) asked) ≡ answer schema database asked
+whole_replies_answer schema tree database is text asked means =
+    by_top schema database is asked (query_is_sound schema text asked tree means) (top_of schema asked) refl

@@ -1,0 +1,174 @@
+-- That what this host sends is what an honest host sends.
+use Rattle.std.proofs.Common.{◌≡◌, ℕ, zero, suc, ◌+◌, ◌*◌, ◌/◌, ◌<◌, ◌≤◌, true, false, List, [], ◌∷◌, ◌++◌, length, map, sym, ◌∙◌, ap, subst, refl, arith, append-nil, append_assoc, Option, Some, None}
+use Rattle.std.specs.Prelude.{flat_map, filter_map, option_to_list, All}
+use Rattle.std.specs.List.{list_any, list_all, concat, cons_option}
+use Rattle.std.proofs.lemmas.Bool.{lt-ltb, le-leb}
+use Rattle.std.proofs.lemmas.Grind.{flat_map-append}
+use Rattle.std.proofs.lemmas.Nat.{le-div}
+use Rattle.std.proofs.Math.Nat.{mul-le-mul_left, div-add-mod}
+use Rattle.ghost_model.specs.Schema.{Schema}
+use Rattle.ghost_model.specs.Channel.{Catalog, Ask, Frame, Hello, Asking, More, Bye, Welcome, Replied, Done, Sorry, Journal}
+use Rattle.ghost_model.specs.Catalog.{catalog_bytes}
+use Rattle.ghost_model.specs.Frames.{IsFrame, got_of, frame_bytes, most_payload}
+use Rattle.ghost_model.specs.Asks.{Asked, asked_of, ReplyRow, ask_in, is_proper_ask, row_width}
+use Rattle.ghost_model.specs.Moves.{taken, sent, answers}
+use Rattle.ghost_model.specs.NextMove.{IsProper, IsDue, is_stop}
+use Rattle.ghost_model.specs.Split.{Public, reply_rows}
+use Rattle.ghost_model.specs.Host.{Holding, host_of, host_sends, host_says, honest_stream, frames_of, grouped, most_part, welcomes, reply_to, replies_to, asks_in_frame, IsFront}
+use Rattle.ghost_model.specs.Honest.{has_up_to, AreWelcomes, fits_frame, IsReply, AreReplies, ask_of_frame, ask_of_got, asks_sent, IsHonest}
+use Rattle.ghost_model.specs.SessionLaws.{IsSetting}
+use Rattle.ghost_model.proofs.ChannelLemmas.{spelled_is_found}
+use Rattle.ghost_model.proofs.ChannelLemmas.Tests.{BothHold, both_hold, hold_both}
+use Rattle.ghost_model.proofs.ChannelLemmas.Asks.{read_ask_is_proper}
+use Rattle.ghost_model.proofs.ChannelLemmas.Hosts.{host_is_honest, frames_are_cut}
+use Rattle.ghost_model.proofs.ChannelLemmas.Sending.{sent_is_due}
+use Rattle.ghost_model.proofs.SessionLemmas.Groups.{groups_are_joined, groups_pass, joined_parts}
+use Rattle.ghost_model.proofs.SessionLemmas.Limits.{IsSmall, schema_is_small, row_fits}
+use Rattle.ghost_model.proofs.SessionLemmas.SentFrames.{AreFrames, sent_are_frames, asks_are_good}
+
+-- the bytes of sent frames, and the asks in them
+joined_frames : (frames : List Frame) → concat (map frame_bytes frames) ≡ flat_map frame_bytes frames
+joined_frames [] = refl
+joined_frames (frame ∷ frames) = ap (λ (bytes : List ℕ). frame_bytes frame ++ bytes) (joined_frames frames)
+
+all_frames : (frames : List Frame) → AreFrames frames → All IsFrame frames
+all_frames [] h k d less = absurd (omega (arith, less))
+all_frames (frame ∷ frames) h zero d less = h.0
+all_frames (frame ∷ frames) h (suc k) d less = all_frames frames h.1 k d (omega (arith, less))
+
+module _ (schema : Schema) where
+  one_or_none : (o : Option Ask) (asks : List Ask) → cons_option o asks ≡ option_to_list o ++ asks
+  one_or_none None asks = refl
+  one_or_none (Some ask) asks = refl
+
+  asks_of_one : (frame : Frame) (asks : List Ask) → cons_option (ask_of_frame schema frame) asks ≡ asks_in_frame schema frame ++ asks
+  asks_of_one (Asking serial payload) asks = one_or_none (ask_in schema payload) asks
+  asks_of_one (Hello _) asks = refl
+  asks_of_one (More _) asks = refl
+  asks_of_one Bye asks = refl
+  asks_of_one (Welcome _ _) asks = refl
+  asks_of_one (Replied _ _) asks = refl
+  asks_of_one (Done _ _) asks = refl
+  asks_of_one (Sorry _ _) asks = refl
+
+  abbrev pub ask_of_bytes : List ℕ → Option Ask
+  ask_of_bytes bytes = ask_of_got schema (got_of bytes)
+
+  found_again : (frame : Frame) → IsFrame frame → ask_of_bytes (frame_bytes frame) ≡ ask_of_frame schema frame
+  found_again frame h =
+      ap ask_of_bytes (sym (append-nil (frame_bytes frame))) ∙ ap (ask_of_got schema) (spelled_is_found frame [] h)
+
+  pub asks_in_frames : (frames : List Frame) → AreFrames frames → filter_map ask_of_bytes (map frame_bytes frames) ≡ flat_map (asks_in_frame schema) frames
+  asks_in_frames [] h = refl
+  asks_in_frames (frame ∷ frames) h =
+      ap (λ (o : Option Ask). cons_option o (filter_map ask_of_bytes (map frame_bytes frames))) (found_again frame h.0)
+      ∙ (asks_of_one frame (filter_map ask_of_bytes (map frame_bytes frames))
+      ∙ ap (λ (asks : List Ask). asks_in_frame schema frame ++ asks) (asks_in_frames frames h.1))
+
+  abbrev AreAsks : List Ask → Type 0
+  AreAsks asks = list_all (is_proper_ask schema) asks ≡ true
+
+  proper_one : (payload : List ℕ) (o : Option Ask) (asks : List Ask) → ask_in schema payload ≡ o → AreAsks asks → AreAsks (option_to_list o ++ asks)
+  proper_one payload None asks e h = h
+  proper_one payload (Some ask) asks e h = hold_both _ _ (read_ask_is_proper schema payload ask e) h
+
+  proper_more : (frame : Frame) (asks : List Ask) → AreAsks asks → AreAsks (asks_in_frame schema frame ++ asks)
+  proper_more (Asking serial payload) asks h = proper_one payload (ask_in schema payload) asks refl h
+  proper_more (Hello _) asks h = h
+  proper_more (More _) asks h = h
+  proper_more Bye asks h = h
+  proper_more (Welcome _ _) asks h = h
+  proper_more (Replied _ _) asks h = h
+  proper_more (Done _ _) asks h = h
+  proper_more (Sorry _ _) asks h = h
+
+  -- every ask in a frame is one that a key may send
+  asks_are_asks : (frames : List Frame) → AreAsks (flat_map (asks_in_frame schema) frames)
+  asks_are_asks [] = refl
+  asks_are_asks (frame ∷ frames) = proper_more frame (flat_map (asks_in_frame schema) frames) (asks_are_asks frames)
+
+-- groups of rows that fit a frame
+group_fits : (width : ℕ) (group : List ReplyRow) → 0 < width → 0 < length group → length group ≤ most_payload / width → fits_frame width group ≡ true
+group_fits width group wide some few =
+    let product : width * length group ≤ width * (most_payload / width) = mul-le-mul_left width few in
+    let whole = div-add-mod most_payload width in
+    hold_both _ _ (lt-ltb 0 (length group) some) (le-leb (width * length group) most_payload (omega (arith, product, whole)))
+
+part_fits : (part : List ℕ) → 0 < length part → length part ≤ most_part → has_up_to most_part part ≡ true
+part_fits part some few = hold_both _ _ (lt-ltb 0 (length part) some) (le-leb (length part) most_part few)
+
+welcomes_greet : (catalog : Catalog) → AreWelcomes catalog (welcomes catalog)
+welcomes_greet catalog = record {
+  parts = grouped most_part (catalog_bytes catalog);
+  cut = groups_pass (has_up_to most_part) most_part (catalog_bytes catalog) (omega arith) part_fits;
+  whole = joined_parts (grouped most_part (catalog_bytes catalog)) ∙ groups_are_joined most_part (catalog_bytes catalog) (omega arith);
+  frames_are = refl;
+}
+
+module _ (catalog : Catalog) (public : Public) (small : IsSmall catalog.schema) where
+  reply_is_one : (serial : ℕ) (ask : Ask) → is_proper_ask catalog.schema ask ≡ true → IsReply catalog.schema serial ask (reply_rows catalog.schema public ask) (reply_to (host_of catalog public) serial ask)
+  reply_is_one serial ask e =
+      let width : ℕ = row_width catalog.schema ask in
+      let rows : List ReplyRow = reply_rows catalog.schema public ask in
+      let fits : row_width catalog.schema ask ≤ 2040 = row_fits catalog.schema small ask e in
+      let wide : 0 < row_width catalog.schema ask = omega arith in
+      let some : 1 ≤ most_payload / row_width catalog.schema ask = le-div 1 most_payload (row_width catalog.schema ask) wide (omega (arith, fits)) in
+      record {
+        packing = grouped (most_payload / width) rows;
+        fits = groups_pass (fits_frame width) (most_payload / width) rows some (λ group s f. group_fits width group wide s f);
+        whole = groups_are_joined (most_payload / width) rows some;
+        frames_are = refl;
+      }
+
+  replies_are_ones : (serial : ℕ) (asks : List Ask) → AreAsks catalog.schema asks → AreReplies catalog.schema public serial asks (replies_to (host_of catalog public) serial asks)
+  unfolding AreReplies
+  replies_are_ones serial [] h = refl
+  replies_are_ones serial (ask ∷ asks) h =
+      let both : BothHold (is_proper_ask catalog.schema ask) (list_all (is_proper_ask catalog.schema) asks) = both_hold _ _ h in
+      (reply_to (host_of catalog public) serial ask, replies_to (host_of catalog public) (serial + 1) asks, reply_is_one serial ask both.one, replies_are_ones (serial + 1) asks both.other, refl)
+
+  -- what was taken begins the whole stream
+  begins_stream : (begun rest : List ℕ) (said whole : List Frame) → IsFront said whole → begun ++ rest ≡ flat_map frame_bytes said → (later : List ℕ) × (begun ++ later ≡ flat_map frame_bytes whole)
+  begins_stream begun rest said whole front e = (
+    rest ++ flat_map frame_bytes front.rest,
+    sym (append_assoc begun rest (flat_map frame_bytes front.rest))
+        ∙ (ap (λ (bytes : List ℕ). bytes ++ flat_map frame_bytes front.rest) e
+        ∙ (sym (flat_map-append frame_bytes said front.rest) ∙ ap (flat_map frame_bytes) (sym front.joined))),
+  )
+
+  honest_with :
+      (journal : Journal) (rest : List ℕ) (frames : List Frame) → sent journal ≡ map frame_bytes frames → AreFrames frames
+      → list_any is_stop (answers journal) ≡ false → taken journal ++ rest ≡ host_sends (host_of catalog public) (concat (sent journal))
+      → IsHonest catalog public journal
+  honest_with journal rest frames are good whole said =
+      let held : Holding = host_of catalog public in
+      let key : concat (sent journal) ≡ flat_map frame_bytes frames = ap concat are ∙ joined_frames frames in
+      let cut : frames_of (concat (sent journal)) ≡ frames = ap frames_of key ∙ frames_are_cut frames (all_frames frames good) in
+      let asks : List Ask = flat_map (asks_in_frame catalog.schema) frames in
+      let same : asks_sent catalog.schema journal ≡ flat_map (asks_in_frame catalog.schema) frames =
+      ap (filter_map (ask_of_bytes catalog.schema)) are ∙ asks_in_frames catalog.schema frames good in
+      let front : IsFront (host_says held (concat (sent journal))) (honest_stream held frames) =
+      subst (λ (fs : List Frame). IsFront (host_says held (concat (sent journal))) (honest_stream held fs)) cut (host_is_honest held (concat (sent journal))) in
+      let later = begins_stream (taken journal) rest (host_says held (concat (sent journal))) (honest_stream held frames) front said in
+      record {
+        nothing_breaks_off = whole;
+        greeting = welcomes catalog;
+        greets = welcomes_greet catalog;
+        replies = replies_to held 1 asks;
+        replied = subst (λ (found : List Ask). AreReplies catalog.schema public 1 found (replies_to held 1 asks)) (sym same)
+            (replies_are_ones 1 asks (asks_are_asks catalog.schema frames));
+        rest = later.0;
+        taken_before = later.1;
+      }
+
+pub this_host_is_honest :
+    (catalog : Catalog) (public : Public) (at : List ℕ) (texts : List (List ℕ)) (journal : Journal) (rest : List ℕ)
+    → IsSetting catalog texts → IsProper catalog at texts journal → list_any is_stop (answers journal) ≡ false
+    → taken journal ++ rest ≡ host_sends (host_of catalog public) (concat (sent journal)) → IsHonest catalog public journal
+this_host_is_honest catalog public at texts journal rest setting goes whole said =
+    let small : IsSmall catalog.schema = schema_is_small setting.schema_text catalog.schema setting.accepted in
+    let asks : List Asked = asked_of catalog.schema texts in
+    let due : IsDue catalog asks journal = sent_is_due catalog at asks journal goes in
+    honest_with catalog public small journal rest due.frames due.sent_are
+    (sent_are_frames catalog small asks (asks_are_good catalog.schema texts) setting.serials_fit journal setting.generation_fits due)
+    whole said

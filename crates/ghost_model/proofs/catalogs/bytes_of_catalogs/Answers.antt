@@ -1,0 +1,78 @@
+use Rattle.std.proofs.Common.{◌≡◌, ℕ, List, [], ◌∷◌, ◌++◌, take, drop, get_or, Ok, refl, sym, ap, ◌∙◌, append-nil, arith}
+use Rattle.std.specs.Fmt.{digits}
+use Rattle.ghost_model.specs.Schema.{places_from}
+use Rattle.ghost_model.specs.Channel.{Catalog}
+use Rattle.ghost_model.specs.Tokens.{tokens_from, quoted_from}
+use Rattle.ghost_model.specs.SchemaPlaces.{syntax_from}
+use Rattle.ghost_model.specs.SchemaFaults.{ancestor, fields_from, schema_reading}
+use Rattle.ghost_model.specs.Catalog.{canonical_text, catalog_bytes, IsCatalog, SpellsCatalog}
+use Rattle.ghost_model.specs.examples.Clinic.{clinic_schema, clinic_catalog}
+use Rattle.ghost_model.specs.examples.Catalogs.{SpellsNone}
+use Rattle.ghost_model.proofs.SchemaRuleLemmas.{one_schema}
+use Rattle.ghost_model.proofs.CatalogSpellingLemmas.{catalogs_have_one_spelling}
+use Rattle.ghost_model.proofs.catalogs.bytes_of_catalogs.Goals as goal
+
+clinic_reads : schema_reading (canonical_text clinic_schema) ≡ Ok clinic_schema
+unfolding tokens_from quoted_from syntax_from places_from ancestor fields_from digits
+clinic_reads = refl
+
+the_clinic : IsCatalog clinic_catalog
+the_clinic = record {
+  meant = (one_schema.read (canonical_text clinic_schema) clinic_schema).0 clinic_reads;
+  counted = refl;
+  few_rows = refl;
+  some_generation = omega arith;
+  generation_fits = omega arith;
+}
+
+-- the first eight bytes of each catalog
+head_of : (cat : Catalog) → take 8 (catalog_bytes cat) ≡ 71 ∷ 72 ∷ 79 ∷ 83 ∷ 84 ∷ 68 ∷ 66 ∷ 1 ∷ []
+head_of cat = refl
+
+other_head : (bytes : List ℕ) (cat : Catalog) → SpellsCatalog bytes cat → take 8 bytes ≡ 71 ∷ 72 ∷ 79 ∷ 83 ∷ 84 ∷ 68 ∷ 66 ∷ 1 ∷ []
+other_head bytes cat spells = ap (take 8) spells.spelled ∙ head_of cat
+
+whole : catalog_bytes clinic_catalog ≡ take 364 (catalog_bytes clinic_catalog) ++ 4 ∷ []
+unfolding digits
+whole = refl
+
+-- what goes on after a catalog spells none, and what a catalog goes on after spells none
+no_front : (bytes rest : List ℕ) (cat : Catalog) → catalog_bytes clinic_catalog ≡ bytes ++ rest → SpellsCatalog bytes cat → [] ≡ rest
+no_front bytes rest cat e spells =
+    (catalogs_have_one_spelling.one_beginning (catalog_bytes clinic_catalog) clinic_catalog cat
+    (record { proper = the_clinic; rest = []; begins = sym (append-nil (catalog_bytes clinic_catalog)) })
+    (record { proper = spells.proper; rest = rest; begins = e ∙ ap (λ (xs : List ℕ). xs ++ rest) spells.spelled })).1
+
+no_more : (rest : List ℕ) (cat : Catalog) → SpellsCatalog (catalog_bytes clinic_catalog ++ rest) cat → rest ≡ []
+no_more rest cat spells =
+    (catalogs_have_one_spelling.one_beginning (catalog_bytes clinic_catalog ++ rest) clinic_catalog cat
+    (record { proper = the_clinic; rest = rest; begins = refl })
+    (record { proper = spells.proper; rest = []; begins = spells.spelled ∙ sym (append-nil (catalog_bytes cat)) })).1
+
+no_such_letter : ◌≡◌ {A = ℕ} 72 71 → ⊥
+no_such_letter e = omega (arith, e)
+
+no_such_version : ◌≡◌ {A = ℕ} 2 1 → ⊥
+no_such_version e = omega (arith, e)
+
+first_letter : SpellsNone (72 ∷ drop 1 (catalog_bytes clinic_catalog))
+first_letter cat spells =
+    no_such_letter (ap (λ (xs : List ℕ). get_or xs 0 0) (other_head (72 ∷ drop 1 (catalog_bytes clinic_catalog)) cat spells))
+
+second_version : SpellsNone (take 7 (catalog_bytes clinic_catalog) ++ 2 ∷ drop 8 (catalog_bytes clinic_catalog))
+second_version cat spells =
+    no_such_version
+    (ap (λ (xs : List ℕ). get_or xs 7 0) (other_head (take 7 (catalog_bytes clinic_catalog) ++ 2 ∷ drop 8 (catalog_bytes clinic_catalog)) cat spells))
+
+empty_or : (b : ℕ) (rest : List ℕ) → [] ≡ b ∷ rest → ⊥
+empty_or b rest e = absurd (cc)
+
+pub returns : goal.returns
+returns c = record {
+  another_first_letter = first_letter;
+  version_two = second_version;
+  the_last_byte_missing = λ cat spells. empty_or 4 [] (no_front (take 364 (catalog_bytes clinic_catalog)) (4 ∷ []) cat whole spells);
+  a_byte_more = λ cat spells. empty_or 0 [] (sym (no_more (0 ∷ []) cat spells));
+  a_byte_more_after_it = record { proper = the_clinic; rest = 0 ∷ []; begins = refl };
+  no_byte = λ cat spells. empty_or _ _ (other_head [] cat spells);
+}
