@@ -1,8 +1,11 @@
--- What the kinds and values of the code stand for, in the words of the definitions.
+-- What the kinds, values and operators of the code stand for, in the words of the definitions.
 use Rattle.ghost_model.specs.Schema as schema
 use Rattle.ghost_model.specs.Values as values
+use Rattle.ghost_model.specs.Query as query
 use Rattle.ghost_base.specs.declared.kind.Kind.{Kind}
 use Rattle.ghost_base.specs.declared.kind.Kind.TheVariants as kind
+use Rattle.ghost_base.specs.declared.operator.Operator.{Operator}
+use Rattle.ghost_base.specs.declared.operator.Operator.TheVariants as operator
 use Rattle.ghost_base.specs.declared.value.Value.{Value}
 use Rattle.ghost_base.specs.declared.value.Value.TheVariants as value
 
@@ -13,3 +16,11 @@ kind_of (kind.Chars most) = schema.Chars most
 abbrev pub value_of : Value → values.Value
 value_of (value.Int number) = values.Number number
 value_of (value.Chars text) = values.Text text
+
+abbrev pub operator_of : Operator → query.Operator
+operator_of operator.Equal = query.Equal
+operator_of operator.Unequal = query.Unequal
+operator_of operator.Less = query.Less
+operator_of operator.AtMost = query.AtMost
+operator_of operator.More = query.More
+operator_of operator.AtLeast = query.AtLeast

@@ -9,11 +9,13 @@ pub mod cells;
 pub mod kind;
 pub mod laws;
 pub mod limits;
+pub mod operator;
 pub mod text;
 pub mod value;
 
 pub use cells::{cell_width, decode_cell, encode_cell, is_of_kind, is_printable_text};
 pub use kind::Kind;
+pub use operator::Operator;
 pub use text::Text64;
 pub use value::{Value, compare};
 

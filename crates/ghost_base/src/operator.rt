@@ -1,0 +1,77 @@
+//! The operators between a column and a literal.
+
+ghost use Rattle.std.specs.Prelude.{◌≡◌};
+ghost use Rattle.ghost_model.specs.Database as database;
+ghost use Rattle.ghost_base.specs.Views.{operator_of, value_of};
+
+use crate::value::{Value, compare};
+use std::cmp::Ordering;
+
+/// An operator of a condition.
+#[derive(Clone, Copy, Debug, Default, PartialEq, Eq)]
+pub enum Operator {
+    /// `=`.
+    #[default]
+    Equal,
+
+    /// `<>`.
+    Unequal,
+
+    /// `<`.
+    Less,
+
+    /// `<=`.
+    AtMost,
+
+    /// `>`.
+    More,
+
+    /// `>=`.
+    AtLeast,
+}
+
+impl Operator {
+    /// Whether an order of two values meets the operator between them.
+    pub fn meets(self, order: Ordering) -> bool
+        ensures met { result ≡ database.meets (operator_of self) order }
+    {
+        match self {
+            Operator::Equal => order.is_eq(),
+            Operator::Unequal => order.is_ne(),
+            Operator::Less => order.is_lt(),
+            Operator::AtMost => order.is_le(),
+            Operator::More => order.is_gt(),
+            Operator::AtLeast => order.is_ge(),
+        }
+    }
+
+    /// Whether the operator holds between two values, a column's first.
+    pub fn holds(self, left: &Value, right: &Value) -> bool
+        ensures held { result ≡ database.holds (operator_of self) (value_of left.now) (value_of right.now) }
+    {
+        self.meets(compare(left, right))
+    }
+}
+
+#[cfg(test)]
+mod tests {
+    use super::*;
+
+    #[test]
+    fn operators_hold_between_values(rt: HostRuntime) {
+        let two = Value::Int(2);
+        let cases = [
+            (Operator::Equal, [false, true, false]),
+            (Operator::Unequal, [true, false, true]),
+            (Operator::Less, [true, false, false]),
+            (Operator::AtMost, [true, true, false]),
+            (Operator::More, [false, false, true]),
+            (Operator::AtLeast, [false, true, true]),
+        ];
+        for (operator, expected) in cases.iter() {
+            assert!(rt; operator.holds(&Value::Int(-3), &two) == expected[0], "below");
+            assert!(rt; operator.holds(&two, &two) == expected[1], "equal");
+            assert!(rt; operator.holds(&Value::Int(7), &two) == expected[2], "above");
+        }
+    }
+}
