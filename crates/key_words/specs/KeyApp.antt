@@ -1,0 +1,31 @@
+-- The program as `clap` knows it: a command is required, each of its options has one value, and there is no help and no
+-- version.
+use Rattle.std.specs.Prelude.{true, Some, codes}
+use Rattle.clap.specs.Words.{App, Rule, Text, new_app, new_rule, with_rule, with_subcommand}
+use Rattle.clap.specs.Simple.{on_top}
+
+-- an option that is to be given, and one that may be left out
+abbrev pub needed : Text → Rule
+needed name = record (new_rule name) { long = Some name; required = true }
+
+abbrev pub optional : Text → Rule
+optional name = record (new_rule name) { long = Some name }
+
+abbrev pub with_inputs : App → App
+with_inputs app = with_rule (with_rule app (needed (codes "schema"))) (needed (codes "data"))
+
+abbrev pub plain_app : App
+plain_app = with_rule (with_inputs (new_app (codes "plain"))) (needed (codes "script"))
+
+abbrev pub local_app : App
+local_app =
+    with_rule (with_rule (with_rule (with_rule (with_rule (with_inputs (new_app (codes "local"))) (needed (codes "flash")))
+    (needed (codes "script"))) (optional (codes "journal"))) (optional (codes "plan"))) (optional (codes "pace"))
+
+abbrev pub bare_app : App
+bare_app =
+    on_top (λ shape. record shape { disable_help_flag = true; disable_help_subcommand = true; subcommand_required = true })
+    (new_app (codes "key_program"))
+
+abbrev pub key_app : App
+key_app = with_subcommand (with_subcommand bare_app local_app.top) plain_app.top

@@ -1,0 +1,3 @@
+pub mod KeyApp
+pub mod Words
+pub mod Views

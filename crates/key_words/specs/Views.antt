@@ -1,0 +1,23 @@
+-- What the read words stand for.
+use Rattle.std.specs.Prelude.{option_map}
+use Rattle.key_words.specs.Words as words
+use Rattle.key_words.specs.declared.words.KeyWords.{KeyWords}
+use Rattle.key_words.specs.declared.words.KeyWords.TheVariants as key
+use Rattle.key_words.specs.declared.words.LocalWords.{LocalWords}
+use Rattle.key_words.specs.declared.words.PlainWords.{PlainWords}
+
+abbrev pub plain_view : PlainWords → words.Plain
+plain_view plain = record { schema = plain.schema.now; tables = plain.tables.now; script = plain.script.now }
+
+abbrev pub local_view : LocalWords → words.Local
+local_view local = record {
+  schema = local.schema.now;
+  tables = local.tables.now;
+  flash = local.flash.now;
+  script = local.script.now;
+  journal = option_map (λ name. name.now) local.journal;
+}
+
+abbrev pub words_view : KeyWords → words.Command
+words_view (key.Local local) = words.LocalCommand (local_view local)
+words_view (key.Plain plain) = words.PlainCommand (plain_view plain)

@@ -1,0 +1,73 @@
+//! What the words of the program say.
+
+use thiserror::Error;
+
+/// The words of `plain`.
+#[derive(Clone, Copy, Debug)]
+pub struct PlainWords<'a> {
+    /// The file of the schema.
+    pub schema: &'a str,
+
+    /// The folder of the tables' files.
+    pub tables: &'a str,
+
+    /// The file of the script.
+    pub script: &'a str,
+}
+
+/// The words of `local`.
+#[derive(Clone, Copy, Debug)]
+pub struct LocalWords<'a> {
+    /// The file of the schema.
+    pub schema: &'a str,
+
+    /// The folder of the tables' files.
+    pub tables: &'a str,
+
+    /// The file of the flash.
+    pub flash: &'a str,
+
+    /// The file of the script.
+    pub script: &'a str,
+
+    /// The file of the journal, where one is to be kept.
+    pub journal: Option<&'a str>,
+}
+
+/// A command with its words.
+#[derive(Clone, Copy, Debug)]
+pub enum KeyWords<'a> {
+    /// Both ends in one process.
+    Local(LocalWords<'a>),
+
+    /// The plain answer, with no key and no channel.
+    Plain(PlainWords<'a>),
+}
+
+/// What is wrong with the words.
+#[derive(Clone, Copy, Debug, Drop, Error, PartialEq, Eq)]
+pub enum UsageFault {
+    /// They are not those of a command.
+    #[error("these are not the words of a command")]
+    Words,
+
+    /// `--plan` has a value that it does not take.
+    #[error("--plan takes scan alone")]
+    Plan,
+
+    /// `--pace` has a value that it does not take.
+    #[error("--pace takes 0 alone")]
+    Pace,
+}
+
+/// Why no command was read.
+#[derive(Clone, Copy, Debug, Drop, Error, PartialEq, Eq)]
+pub enum WordsFault {
+    /// There was no memory.
+    #[error("out of memory")]
+    NoMemory,
+
+    /// The words are refused.
+    #[error("{0}")]
+    Usage(UsageFault),
+}
