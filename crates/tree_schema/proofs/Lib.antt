@@ -4,3 +4,4 @@ pub mod TokenSteps
 pub mod NoStep
 pub mod ReaderSteps
 pub mod Ancestors
+pub mod RuleSteps

@@ -1,4 +1,5 @@
 -- What the refusals of the code stand for, in the words of the definitions.
+use Rattle.std.specs.Prelude.{ℕ}
 use Rattle.ghost_model.specs.SchemaFaults as faults
 use Rattle.tree_schema.specs.declared.faults.SchemaFault.{SchemaFault}
 use Rattle.tree_schema.specs.declared.faults.SchemaFault.TheVariants as fault

@@ -6,6 +6,7 @@
 
 pub mod catalog;
 pub mod faults;
+mod rules;
 pub mod schema;
 mod syntax;
 pub mod tokens;
