@@ -5,3 +5,5 @@ pub mod NoStep
 pub mod ReaderSteps
 pub mod Ancestors
 pub mod RuleSteps
+pub mod TreeSteps
+pub mod BuildingSteps

@@ -1,4 +1,4 @@
-use Rattle.std.proofs.Common.{◌≡◌, ◌<◌, false, length, map, sym, ◌∙◌, arith}
+use Rattle.std.proofs.Common.{◌<◌, length, map, ◌∙◌, arith}
 use Rattle.std.proofs.lemmas.List.{length-map}
 use Rattle.ghost_model.specs.SchemaFaults as faults
 use Rattle.tree_schema.specs.Drafts.{table_of}

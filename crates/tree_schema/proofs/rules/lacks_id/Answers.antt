@@ -1,4 +1,4 @@
-use Rattle.std.proofs.Common.{◌≡◌, true, false, ◌∙◌, sym, ap, not}
+use Rattle.std.proofs.Common.{◌∙◌, sym, ap, not}
 use Rattle.std.specs.List.{list_any}
 use Rattle.ghost_model.specs.SchemaFaults as faults
 use Rattle.tree_schema.specs.Drafts.{column_of}

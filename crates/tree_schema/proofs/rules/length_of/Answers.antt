@@ -1,7 +1,6 @@
-use Rattle.std.proofs.Common.{◌≡◌, ◌+◌, ◌*◌, ◌<◌, subst, ap, sym, ◌∙◌, drop, drop-cons, add-one, arith}
-use Rattle.std.specs.List.{fold}
+use Rattle.std.proofs.Common.{◌+◌, ◌*◌, ◌<◌, subst, ap, ◌∙◌, drop}
 use Rattle.ghost_model.specs.Tokens as tokens
-use Rattle.tree_schema.proofs.RuleSteps.{with_digit, too_long, folds_on}
+use Rattle.tree_schema.proofs.RuleSteps.{too_long, folds_on}
 use Rattle.tree_schema.proofs.rules.length_of.Goals as goal
 
 pub returns-then-more-gt64 : goal.returns-then-more-gt64
