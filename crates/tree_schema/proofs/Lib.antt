@@ -4,3 +4,6 @@ pub mod TokenSteps
 pub mod NoStep
 pub mod ReaderSteps
 pub mod Ancestors
+pub mod RuleSteps
+pub mod TreeSteps
+pub mod BuildingSteps
