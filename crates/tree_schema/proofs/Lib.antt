@@ -4,3 +4,7 @@ pub mod TokenSteps
 pub mod NoStep
 pub mod ReaderSteps
 pub mod Ancestors
+pub mod WindowLemmas
+pub mod WindowFills
+pub mod CatalogLengths
+pub mod PartEquality

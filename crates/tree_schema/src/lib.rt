@@ -4,11 +4,14 @@
 //! here takes memory.
 #![tactic(auto)]
 
+mod canonical;
 pub mod catalog;
+pub mod catalog_bytes;
 pub mod faults;
 pub mod schema;
 mod syntax;
 pub mod tokens;
+mod window;
 
 pub use catalog::Catalog;
 pub use faults::SchemaFault;
