@@ -8,3 +8,4 @@ pub mod WindowLemmas
 pub mod WindowFills
 pub mod CatalogLengths
 pub mod PartEquality
+pub mod CountsLemmas

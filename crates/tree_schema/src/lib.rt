@@ -7,6 +7,7 @@
 mod canonical;
 pub mod catalog;
 pub mod catalog_bytes;
+mod catalog_reading;
 pub mod faults;
 pub mod schema;
 mod syntax;
