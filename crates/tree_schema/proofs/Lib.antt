@@ -9,3 +9,7 @@ pub mod WindowFills
 pub mod CatalogLengths
 pub mod PartEquality
 pub mod CountsLemmas
+pub mod RuleSteps
+pub mod TreeSteps
+pub mod BuildingSteps
+pub mod CatalogParts

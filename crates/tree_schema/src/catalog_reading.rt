@@ -8,6 +8,7 @@ ghost use Rattle.tree_schema.specs.Catalogs.{are_counts};
 ghost use Rattle.tree_schema.specs.CatalogParts.{HasParts, AreParts, BeginsWithCount};
 
 use crate::catalog_bytes::{HEAD_BYTES, catalog_len, is_catalog_part, is_short};
+use crate::reading::read_schema;
 use crate::{Catalog, Schema};
 use arrayvec::ArrayVec;
 use ghost_base::limits::{MAX_ROWS, MAX_TABLES};
@@ -123,5 +124,22 @@ fn catalog_with(bytes: &[u8], schema: Schema, generation: u32, counts: &[u8]) ->
         Some(cat)
     } else {
         None
+    }
+}
+
+/// The catalog with which bytes begin. There is none exactly where no front of the bytes spells a catalog; where there is
+/// one, it has `catalog_len` bytes, and what stands behind them is left alone.
+pub fn read_catalog(bytes: &[u8]) -> Option<Catalog>
+    ensures begins { IfSome result (λ cat. catalog.BeginsWithCatalog bytes.now cat) }
+    ensures none { IfNone result ((cat : channel.Catalog) → catalog.BeginsWithCatalog bytes.now cat → ⊥) }
+{
+    ghost_model::schema::one_schema_reading();
+    ghost_model::catalogs::no_catalog_is_long();
+    let Some(parts) = parts_of(bytes) else {
+        return None;
+    };
+    match read_schema(parts.text) {
+        Ok(schema) => catalog_with(bytes, schema, parts.generation, parts.later),
+        Err(_) => None,
     }
 }

@@ -1,8 +1,8 @@
-use Rattle.std.proofs.Common.{◌≡◌, ◌<◌, ◌≤◌, IsTrue, nat_le, List, [], ◌∷◌, ◌++◌, length, sym, ap, ◌∙◌, subst, arith}
+use Rattle.std.proofs.Common.{◌<◌, IsTrue, List, [], ◌∷◌, ◌++◌, length, sym, ap, ◌∙◌, subst, arith}
 use Rattle.std.proofs.lemmas.Bool.{le-leb}
 use Rattle.ghost_model.specs.Catalog.{counts_bytes}
 use Rattle.tree_schema.specs.Catalogs.{are_counts}
-use Rattle.tree_schema.proofs.CountsLemmas.{HasNext, next, all_found, counts_more}
+use Rattle.tree_schema.proofs.CountsLemmas.{next, counts_more}
 use Rattle.tree_schema.proofs.catalog_reading.counts_of.Goals as goal
 
 pub returns-in_default-clause-only : goal.returns-in_default-clause-only
