@@ -1,0 +1,5 @@
+pub mod Numerals
+pub mod ReadRecords
+pub mod KeptTexts
+pub mod CellValues
+pub mod TableRows

@@ -1,0 +1,6 @@
+pub mod Numbers
+pub mod Records
+pub mod Texts
+pub mod Faults
+pub mod Cells
+pub mod Tables
