@@ -4,3 +4,4 @@ pub mod Texts
 pub mod Faults
 pub mod Cells
 pub mod Tables
+pub mod Reading

@@ -8,7 +8,10 @@
 pub mod cells;
 pub mod faults;
 mod fields;
+mod header;
+mod reading;
 pub mod records;
+mod rows;
 pub mod table;
 pub mod tables;
 pub mod texts;

@@ -5,7 +5,8 @@ ghost use Rattle.ghost_model.specs.LoadFaults as faults;
 ghost use Rattle.ghost_model.specs.Values.{Number};
 ghost use Rattle.ghost_base.specs.Views.{value_of};
 ghost use Rattle.csv_split.specs.Cells.{values_in};
-ghost use Rattle.csv_split.specs.Tables.{IsColumn, column_values, value_in, value_of_columns};
+ghost use Rattle.csv_split.specs.Reading.{HaveAll};
+ghost use Rattle.csv_split.specs.Tables.{IsColumn, column_values, rows_in, value_in, value_of_columns};
 
 use crate::cells::Cells;
 use ghost_base::{Id, Value};
@@ -30,6 +31,15 @@ impl Model for Table {
 }
 
 impl Table {
+    /// The rows of columns that have so many values each.
+    pub(crate) fn of(rows: u32, columns: Vec<Cells>) -> Table
+        requires few { rows ≤ faults.most_rows }
+        requires all { HaveAll rows (column_values columns.items) }
+        ensures { result ≡ rows_in rows (column_values columns.items) }
+    {
+        Table { rows, columns }
+    }
+
     /// The number of rows.
     pub fn rows(&self) -> u32
         ensures count { result ≡ length self.now }
