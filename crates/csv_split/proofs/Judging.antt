@@ -1,0 +1,22 @@
+-- How a result judges the faults of a whole by those of its parts.
+use Rattle.std.proofs.Common.{◌≡◌, Bool, true, false, List, ◌++◌, Option, Some, None, Result, sym, ap, subst}
+use Rattle.ghost_model.specs.LoadFaults as faults
+use Rattle.ghost_model.specs.LoadFaults.{IsFirst, Judges, TellsFirst, unless}
+
+-- the first fault of a part is that of the whole that begins with it
+pub first_more : (told : Option faults.LoadFault) (part later : List faults.LoadFault) → TellsFirst told part → TellsFirst told (part ++ later)
+first_more None part later h = tt
+first_more (Some fault) part later h = record { later = h.later ++ later; first = ap (λ faults. faults ++ later) h.first }
+
+-- a rule that is broken comes first
+pub broken : (rule : Bool) (fault : faults.LoadFault) (later : List faults.LoadFault) → rule ≡ false → IsFirst fault (unless rule fault ++ later)
+broken rule fault later is = record { later = later; first = ap (λ b. unless b fault ++ later) is }
+
+-- and one that is kept leaves the rest
+pub kept : (rule : Bool) (fault : faults.LoadFault) (later : List faults.LoadFault) → rule ≡ true → unless rule fault ++ later ≡ later
+kept rule fault later is = ap (λ b. unless b fault ++ later) is
+
+-- a result that judges a list judges an equal one
+pub judges_same : {T E : Type 0} (told : E → Option faults.LoadFault) (result : Result T E) (part whole : List faults.LoadFault) → whole ≡ part
+    → Judges told result part → Judges told result whole
+judges_same told result part whole same h = let P : List faults.LoadFault → Type 0 = λ faults. Judges told result faults in subst P (sym same) h

@@ -1,0 +1,10 @@
+pub mod Numerals
+pub mod ReadRecords
+pub mod KeptTexts
+pub mod CellValues
+pub mod TableRows
+pub mod Judging
+pub mod FieldPlaces
+pub mod TakenFields
+pub mod ReadRows
+pub mod Headers

@@ -1,0 +1,126 @@
+//! The cells of one column of a table.
+
+ghost use Rattle.std.specs.Prelude.{◌≡◌, ◌<◌, ◌≤◌, ◌^◌, ◌++◌, ◌∷◌, [], length, map, slice_get, option_map, OnOk};
+ghost use Rattle.ghost_model.specs.Schema as schema;
+ghost use Rattle.ghost_model.specs.Values.{Number, Text};
+ghost use Rattle.ghost_model.specs.Cells as cells;
+ghost use Rattle.ghost_model.specs.Database as database;
+ghost use Rattle.ghost_model.specs.LoadFaults as faults;
+ghost use Rattle.ghost_base.specs.Views.{kind_of, value_of};
+ghost use Rattle.csv_split.specs.Cells.{kind_in, values_in};
+ghost use Rattle.csv_split.specs.Faults.{place_of, told};
+
+use crate::faults::{LoadFault, Place};
+use crate::fields::{integer_of, is_text};
+use crate::texts::Texts;
+use ghost_base::{Kind, Text64, Value};
+use std::alloc::Global;
+
+/// The values of one column, in the order of the rows.
+#[derive(Drop)]
+pub enum Cells {
+    /// Those of an INTEGER column.
+    Numbers(Vec<i64>),
+
+    /// Those of a CHAR column.
+    Texts(Texts),
+}
+
+impl Cells {
+    /// No values of a kind.
+    pub fn new(alloc: Global, kind: Kind) -> Cells
+        requires { cells.cell_width (kind_of kind) ≤ 64 }
+        ensures kind { kind_in result ≡ kind_of kind }
+        ensures values { values_in result ≡ [] }
+    {
+        match kind {
+            Kind::Integer => Cells::Numbers(Vec::new(alloc)),
+            Kind::Chars(most) => Cells::Texts(Texts::new(alloc, most as usize)),
+        }
+    }
+
+    /// The number of values.
+    pub fn len(&self) -> usize
+        ensures { result ≡ length (values_in self.now) }
+    {
+        match self {
+            Cells::Numbers(numbers) => numbers.len(),
+            Cells::Texts(texts) => texts.len(),
+        }
+    }
+
+    /// The value at a place, the first having place 0.
+    pub fn get(&self, place: usize) -> Option<Value>
+        ensures { option_map value_of result ≡ slice_get (values_in self.now) place }
+    {
+        match self {
+            Cells::Numbers(numbers) => number_at(numbers, place),
+            Cells::Texts(texts) => text_at(texts, place),
+        }
+    }
+
+    /// Puts the value that a field spells at the end, unless the field breaks the rule of the column's kind.
+    pub fn take(&mut self, at: Place, field: &[u8]) -> Result<(), LoadFault>
+        requires room { length (values_in self.old) < 2 ^ 32 }
+        ensures judged { faults.Judges told result (faults.value_faults (place_of at) (kind_in self.old) field.now) }
+        ensures values { OnOk result (values_in self.new ≡ values_in self.old ++ database.value_of (kind_in self.old) field.now ∷ []) }
+        ensures kind { kind_in self.new ≡ kind_in self.old }
+    {
+        match self {
+            Cells::Numbers(numbers) => take_number(numbers, at, field),
+            Cells::Texts(texts) => take_text(texts, at, field),
+        }
+    }
+}
+
+/// Puts the integer that a field spells at the end.
+fn take_number(numbers: &mut Vec<i64>, at: Place, field: &[u8]) -> Result<(), LoadFault>
+    ensures judged { faults.Judges told result (faults.value_faults (place_of at) schema.Integer field.now) }
+    ensures values { OnOk result (map Number numbers.new.items ≡ map Number numbers.old.items ++ database.value_of schema.Integer field.now ∷ []) }
+{
+    let Some(number) = integer_of(field) else {
+        return Err(LoadFault::BadInt(at));
+    };
+    match numbers.push(number) {
+        Ok(()) => Ok(()),
+        Err(_) => Err(LoadFault::NoMemory),
+    }
+}
+
+/// Puts the text that a field is at the end.
+fn take_text(texts: &mut Texts, at: Place, field: &[u8]) -> Result<(), LoadFault>
+    requires room { length texts.old.texts < 2 ^ 32 }
+    ensures judged { faults.Judges told result (faults.value_faults (place_of at) (schema.Chars texts.old.width) field.now) }
+    ensures values { OnOk result (map Text texts.new.texts ≡ map Text texts.old.texts ++ Text field.now ∷ []) }
+    ensures width { texts.new.width ≡ texts.old.width }
+{
+    if !is_text(texts.width(), field) {
+        return Err(LoadFault::BadChars(at));
+    }
+    match texts.push(field) {
+        Ok(()) => Ok(()),
+        Err(_) => Err(LoadFault::NoMemory),
+    }
+}
+
+/// The integer at a place.
+#[tactic(auto, using(crate::proofs::CellValues::found, crate::proofs::CellValues::past))]
+fn number_at(numbers: &[i64], place: usize) -> Option<Value>
+    ensures { option_map value_of result ≡ slice_get (map Number numbers.now) place }
+{
+    if place >= numbers.len() {
+        return None;
+    }
+    Some(Value::Int(numbers[place]))
+}
+
+/// The text at a place.
+#[tactic(auto, using(crate::proofs::CellValues::found_text, crate::proofs::CellValues::past))]
+fn text_at(texts: &Texts, place: usize) -> Option<Value>
+    ensures { option_map value_of result ≡ slice_get (map Text texts.now.texts) place }
+{
+    if place >= texts.len() {
+        return None;
+    }
+    Some(Value::Chars(Text64::of(texts.get(place))))
+}

@@ -1,0 +1,23 @@
+//! Tables from CSV files, column by column.
+//!
+//! A table's rows stand in columns of flat cells: an INTEGER takes 8 bytes a row, a CHAR(n) n bytes, and the identifier,
+//! which is the row's number, nothing. A clause sees a table as the list of its rows, the identifier first, and tables
+//! as the database. `docs/DATA.md` states what a file may hold and which fault is told.
+#![tactic(auto)]
+
+pub mod cells;
+pub mod faults;
+mod fields;
+mod header;
+mod reading;
+pub mod records;
+mod rows;
+pub mod table;
+pub mod tables;
+pub mod texts;
+
+pub use cells::Cells;
+pub use faults::{LoadFault, Place};
+pub use table::Table;
+pub use tables::Tables;
+pub use texts::Texts;

@@ -1,0 +1,51 @@
+//! The records of a CSV file, one after another into one record that is used again.
+
+ghost use Rattle.std.specs.Prelude.{◌≡◌, IfOk};
+ghost use Rattle.csv.specs.Records.{fields_of};
+ghost use Rattle.ghost_model.specs.Database.{records_of};
+ghost use Rattle.csv_split.specs.Records.{Reads};
+
+use csv::{ByteRecord, Reader, ReaderBuilder};
+use std::alloc::{AllocError, Global};
+use std::marker::Model;
+
+/// The records of a text that are left, which a clause sees as their list.
+#[derive(Drop)]
+pub struct Records<'a> {
+    reader: Reader<&'a [u8]>,
+}
+
+impl<'a> Model for Records<'a> {
+    ghost use Rattle.std.specs.Prelude.{ℕ, List, Some};
+    ghost use Rattle.csv_split.specs.Records.{left_of, IsReading};
+
+    ghost Value = { List (List (List ℕ)) };
+
+    ghost view = { λ records. left_of (λ bytes. Some bytes.now) records.reader };
+
+    ghost invariant = { λ records. IsReading records.reader };
+}
+
+impl<'a> Records<'a> {
+    /// All records of a text.
+    pub fn open(alloc: Global, text: &'a [u8]) -> Records<'a>
+        ensures { result ≡ records_of text.now }
+    {
+        Records {
+            reader: ReaderBuilder::new()
+                .has_headers(false)
+                .flexible(true)
+                .from_reader(alloc, text),
+        }
+    }
+
+    /// Takes the next record, where there is one.
+    pub fn read(&mut self, row: &mut ByteRecord) -> Result<bool, AllocError>
+        ensures { IfOk result (λ found. Reads found self.old (fields_of row.new) self.new) }
+    {
+        let Ok(found) = self.reader.read_byte_record(row) else {
+            return Err(AllocError);
+        };
+        Ok(found)
+    }
+}
