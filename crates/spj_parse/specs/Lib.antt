@@ -1,0 +1,3 @@
+pub mod Items
+pub mod Drafts
+pub mod Walks
