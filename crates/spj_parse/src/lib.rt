@@ -5,6 +5,14 @@
 #![tactic(auto)]
 
 mod drafts;
+mod limits;
+mod names;
+mod query;
+pub mod refusal;
+mod rules;
 mod spots;
 mod syntax;
 mod walk;
+
+pub use query::{Condition, Field};
+pub use refusal::Refusal;
