@@ -1,0 +1,6 @@
+pub mod Items
+pub mod Drafts
+pub mod Walks
+pub mod Views
+pub mod Names
+pub mod Rules

@@ -1,0 +1,52 @@
+-- The rules of a query, of each thing that a text names: those of names, and the limits, which count.
+use Rattle.std.specs.Prelude.{ℕ, Bool, false, ◌||◌, nat_lt, List, length, Option, None, Some, is_none}
+use Rattle.std.specs.List.{list_any}
+use Rattle.ghost_model.specs.Schema.{Schema, columns_of, is_empty}
+use Rattle.ghost_model.specs.QueryGrammar.{ColumnText}
+use Rattle.ghost_model.specs.QueryMeaning.{table_named, meanings, condition_columns, qualifier_of, column_name, literal_conditions}
+use Rattle.spj_parse.specs.Items.{Item, AllColumns, Selected, From, Where}
+use Rattle.spj_parse.specs.declared.rules.NameRule.{NameRule}
+use Rattle.spj_parse.specs.declared.rules.NameRule.TheVariants as rule
+use Rattle.spj_parse.specs.declared.limits.Count.{Count}
+use Rattle.spj_parse.specs.declared.limits.Count.TheVariants as count
+
+abbrev pub is_long : List ℕ → Bool
+is_long name = nat_lt 32 (length name)
+
+abbrev pub is_unknown : Schema → List ℕ → Bool
+is_unknown schema name = is_none (table_named schema name)
+
+-- the name of a FROM table, and a column, break a rule
+abbrev pub name_breaks : NameRule → Schema → List ℕ → Bool
+name_breaks rule.LongName schema name = is_long name
+name_breaks rule.NoTable schema name = is_unknown schema name
+name_breaks rule.NoMeaning schema name = false
+name_breaks rule.SeveralMeanings schema name = false
+
+abbrev pub column_breaks : NameRule → Schema → (from : List ℕ) → ColumnText → Bool
+column_breaks rule.LongName schema from column = is_long (column_name column) || list_any is_long (qualifier_of column)
+column_breaks rule.NoTable schema from column = list_any (is_unknown schema) (qualifier_of column)
+column_breaks rule.NoMeaning schema from column = is_empty (meanings schema from column)
+column_breaks rule.SeveralMeanings schema from column = nat_lt 1 (length (meanings schema from column))
+
+abbrev pub breaks_rule : NameRule → Schema → (from : List ℕ) → Item → Bool
+breaks_rule rule schema from AllColumns = false
+breaks_rule rule schema from (Selected column) = column_breaks rule schema from column
+breaks_rule rule schema from (From table) = name_breaks rule schema table
+breaks_rule rule schema from (Where condition) = list_any (column_breaks rule schema from) (condition_columns condition)
+
+-- how many columns the table of this name has, none where there is no such table
+abbrev pub columns_or_none : Schema → Option ℕ → ℕ
+columns_or_none schema None = 0
+columns_or_none schema (Some table) = length (columns_of schema table)
+
+abbrev pub width_of : Schema → List ℕ → ℕ
+width_of schema name = columns_or_none schema (table_named schema name)
+
+-- how much a thing counts: FROM tables, conditions with a literal, selected columns, or those that `*` stands for
+abbrev pub weight_of : Count → Schema → Item → ℕ
+weight_of count.Tables schema (From table) = 1
+weight_of count.Literals schema (Where condition) = literal_conditions condition
+weight_of count.Columns schema (Selected column) = 1
+weight_of count.AllColumns schema (From table) = width_of schema table
+weight_of _ schema _ = 0

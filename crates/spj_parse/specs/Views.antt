@@ -1,0 +1,27 @@
+-- What the queries and refusals of the code stand for, in the words of the definitions.
+use Rattle.ghost_model.specs.Query as query
+use Rattle.ghost_model.specs.QueryMeaning as refusal
+use Rattle.ghost_base.specs.Views.{operator_of, value_of}
+use Rattle.spj_parse.specs.declared.query.Field.{Field}
+use Rattle.spj_parse.specs.declared.query.Condition.{Condition}
+use Rattle.spj_parse.specs.declared.query.Condition.TheVariants as condition
+use Rattle.spj_parse.specs.declared.refusal.Refusal.{Refusal}
+use Rattle.spj_parse.specs.declared.refusal.Refusal.TheVariants as told
+
+abbrev pub field_of : Field → query.Field
+field_of field = record { table = field.table; column = field.column }
+
+abbrev pub condition_of : Condition → query.Condition
+condition_of (condition.Compare field operator value) =
+    query.Compare (field_of field) (operator_of operator) (value_of value)
+condition_of (condition.Join left right) = query.Join (field_of left) (field_of right)
+
+abbrev pub refusal_of : Refusal → refusal.Refusal
+refusal_of (told.Syntax at) = refusal.Syntax at
+refusal_of told.Limit = refusal.Limit
+refusal_of told.UnknownTable = refusal.UnknownTable
+refusal_of told.UnknownColumn = refusal.UnknownColumn
+refusal_of told.Ambiguous = refusal.Ambiguous
+refusal_of told.KindMismatch = refusal.KindMismatch
+refusal_of told.BadLiteral = refusal.BadLiteral
+refusal_of told.NotLinked = refusal.NotLinked

@@ -1,0 +1,41 @@
+//! The parts of a query text as they are written: names and literals by their bytes in the text.
+
+use ghost_base::Operator;
+
+/// A column, alone or after its table.
+#[derive(Clone, Copy)]
+pub(crate) enum ColumnDraft<'a> {
+    Bare(&'a [u8]),
+    Qualified(&'a [u8], &'a [u8]),
+}
+
+#[derive(Clone, Copy)]
+pub(crate) enum Sign {
+    Positive,
+    Negative,
+}
+
+/// A number by its digits, with or without a sign, or a text literal with its quotes.
+#[derive(Clone, Copy)]
+pub(crate) enum LiteralDraft<'a> {
+    Unsigned(&'a [u8]),
+    Signed(Sign, &'a [u8]),
+    Written(&'a [u8]),
+}
+
+/// A column and a literal, a column between two literals, or two columns that are equal.
+#[derive(Clone, Copy)]
+pub(crate) enum ConditionDraft<'a> {
+    Compares(ColumnDraft<'a>, Operator, LiteralDraft<'a>),
+    LiesBetween(ColumnDraft<'a>, LiteralDraft<'a>, LiteralDraft<'a>),
+    Joins(ColumnDraft<'a>, ColumnDraft<'a>),
+}
+
+/// One thing that a text names: all columns, a selected column, a table or a condition.
+#[derive(Clone, Copy)]
+pub(crate) enum Item<'a> {
+    Star,
+    Selected(ColumnDraft<'a>),
+    From(&'a [u8]),
+    Where(ConditionDraft<'a>),
+}

@@ -1,0 +1,18 @@
+//! Query texts: the texts of a script, and the query that a text means over a schema.
+//!
+//! A query lies in itself, and none of the calls here takes memory. A text is read in passes over its tokens: whether it
+//! is in the grammar, then one rule after another, each over the whole text, then the query.
+#![tactic(auto)]
+
+mod drafts;
+mod limits;
+mod names;
+mod query;
+pub mod refusal;
+mod rules;
+mod spots;
+mod syntax;
+mod walk;
+
+pub use query::{Condition, Field};
+pub use refusal::Refusal;
