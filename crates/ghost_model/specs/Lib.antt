@@ -34,4 +34,6 @@ pub mod Honest
 pub mod Replies
 pub mod Lines
 pub mod SessionLaws
+pub mod Runs
+pub mod Layout
 pub mod examples
