@@ -36,4 +36,6 @@ pub mod Lines
 pub mod SessionLaws
 pub mod Runs
 pub mod Layout
+pub mod Flash
+pub mod Work
 pub mod examples

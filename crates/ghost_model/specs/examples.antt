@@ -9,3 +9,4 @@ pub mod Databases
 pub mod Sessions
 pub mod Catalogs
 pub mod Layout
+pub mod Flash
