@@ -38,4 +38,5 @@ pub mod Runs
 pub mod Layout
 pub mod Flash
 pub mod Work
+pub mod LayoutLaws
 pub mod examples
