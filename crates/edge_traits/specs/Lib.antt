@@ -2,3 +2,5 @@ pub mod Written
 pub mod Files
 pub mod Scripts
 pub mod Slots
+pub mod Devices
+pub mod Marks

@@ -6,6 +6,8 @@
 #![tactic(auto)]
 
 pub mod depot;
+pub mod flash;
+pub mod marks;
 pub mod mem_depot;
 pub mod mem_sink;
 pub mod reading;
