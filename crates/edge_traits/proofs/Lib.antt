@@ -5,3 +5,4 @@ pub mod InSlots
 pub mod Inserts
 pub mod MarkLemmas
 pub mod DeviceFrames
+pub mod PageLemmas

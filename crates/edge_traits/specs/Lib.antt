@@ -4,3 +4,5 @@ pub mod Scripts
 pub mod Slots
 pub mod Devices
 pub mod Marks
+pub mod Pages
+pub mod MemDevices

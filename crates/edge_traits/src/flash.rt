@@ -3,6 +3,7 @@
 ghost use Rattle.std.specs.Prelude.{◌≡◌, ◌<◌, ◌≤◌, ◌+◌, ◌*◌, ◌%◌, Bool, true, false, IfOk, OnOk, OnErr, nat_le};
 ghost use Rattle.ghost_model.specs.Causes.{HasCause};
 ghost use Rattle.edge_traits.specs.Devices.{Device, next, next_if, since_call, since_attach, AttachCause, KeepsPages, ChangesOnly, IsErased, NotBlank};
+ghost use Rattle.edge_traits.specs.declared.flash.AttachFault.TheVariants.{Failed as call_failed, NoMemory as no_memory};
 
 use crate::Failed;
 use std::alloc::{AllocError, Global};
@@ -20,6 +21,22 @@ pub enum AttachFault {
     Failed,
     /// There was no memory for what is known of its pages.
     NoMemory,
+}
+
+impl From<Failed> for AttachFault {
+    ghost from_gives = { λ _ fault. fault ≡ call_failed };
+
+    fn from(_failed: Failed) -> AttachFault {
+        AttachFault::Failed
+    }
+}
+
+impl From<AllocError> for AttachFault {
+    ghost from_gives = { λ _ fault. fault ≡ no_memory };
+
+    fn from(_error: AllocError) -> AttachFault {
+        AttachFault::NoMemory
+    }
 }
 
 /// A device of whole blocks of 64 pages, each of 2,048 bytes.
