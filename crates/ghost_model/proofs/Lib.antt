@@ -12,3 +12,4 @@ pub mod QueryReadingLemmas
 pub mod ChannelLemmas
 pub mod MeaningLemmas
 pub mod SessionLemmas
+pub mod LayoutLemmas

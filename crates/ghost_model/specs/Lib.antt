@@ -34,4 +34,9 @@ pub mod Honest
 pub mod Replies
 pub mod Lines
 pub mod SessionLaws
+pub mod Runs
+pub mod Layout
+pub mod Flash
+pub mod Work
+pub mod LayoutLaws
 pub mod examples

@@ -8,3 +8,5 @@ pub mod Meaning
 pub mod Databases
 pub mod Sessions
 pub mod Catalogs
+pub mod Layout
+pub mod Flash

@@ -7,6 +7,8 @@
 pub mod catalogs;
 pub mod cells;
 pub mod channel;
+pub mod flash;
+pub mod layout;
 pub mod meaning;
 pub mod query;
 pub mod schema;

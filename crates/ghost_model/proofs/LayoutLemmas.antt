@@ -1,0 +1,5 @@
+-- Lemmas on the layout of the flash.
+pub mod Numbers
+pub mod Following
+pub mod Order
+pub mod Small

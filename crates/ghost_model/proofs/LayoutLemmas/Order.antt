@@ -1,0 +1,79 @@
+-- Where the files of tables and columns lie to one another.
+use Rattle.std.proofs.Common.{◌≡◌, ap, sym, ◌∙◌, ℕ, zero, suc, ◌+◌, ◌<◌, ◌≤◌, true, false, cond, inl, inr, length, sum_by, slice_get, arith}
+use Rattle.std.proofs.lemmas.Bool.{cases_lt}
+use Rattle.std.proofs.lemmas.Option.{slice_get_past}
+use Rattle.ghost_model.specs.Schema.{Schema, columns_or_none, columns_of}
+use Rattle.ghost_model.specs.Channel.{Catalog}
+use Rattle.ghost_model.specs.Runs.{run_pages, run_end}
+use Rattle.ghost_model.specs.Layout.{below, hidden_or_none, is_hidden, column_count, column_pages, column_pages_before, index_pages, table_pages, table_begin, subtree_begin, column_file, spool_pages}
+use Rattle.ghost_model.specs.LayoutLaws.{LieInOrder}
+use Rattle.ghost_model.proofs.LayoutLemmas.Following.{sum_below}
+
+sum_next : (g : ℕ → ℕ) (n : ℕ) → sum_by g (below (n + 1)) ≡ sum_by g (below n) + g n
+sum_next g n = let e : n + 1 ≡ suc n = omega arith in ap (λ k. sum_by g (below k)) e ∙ sum_below g n
+
+pub sums_rise : (g : ℕ → ℕ) (n m : ℕ) → n ≤ m → sum_by g (below n) ≤ sum_by g (below m)
+sums_rise g n zero low = let e : n ≡ 0 = omega (arith, low) in let same = ap (λ k. sum_by g (below k)) e in omega (arith, same)
+sums_rise g n (suc m) low =
+    elim (cases_lt n (suc m)) [
+      | inl less ↦ (let before = sums_rise g n m (omega (arith, less)) in let last = sum_below g m in omega (arith, before, last))
+      | inr more ↦ (let e : n ≡ suc m = omega (arith, low, more) in let same = ap (λ k. sum_by g (below k)) e in omega (arith, same))
+    ]
+
+table_there : (schema : Schema) (table column : ℕ) → is_hidden schema table column ≡ true → table < length schema
+table_there schema table column h =
+    elim (cases_lt table (length schema)) [
+      | inl less ↦ less
+      | inr past ↦ (let none : is_hidden schema table column ≡ false = ap (λ held. hidden_or_none (slice_get (columns_or_none held) column)) (slice_get_past schema table past) in
+          let clash : false ≡ true = sym none ∙ h in absurd (cc (clash)))
+    ]
+
+column_there : (schema : Schema) (table column : ℕ) → is_hidden schema table column ≡ true → column < column_count schema table
+column_there schema table column h =
+    elim (cases_lt column (column_count schema table)) [
+      | inl less ↦ less
+      | inr past ↦ (let none : is_hidden schema table column ≡ false = ap hidden_or_none (slice_get_past (columns_of schema table) column past) in
+          let clash : false ≡ true = sym none ∙ h in absurd (cc (clash)))
+    ]
+
+module _ (cat : Catalog) where
+  its_pages : (table column : ℕ) → is_hidden cat.schema table column ≡ true → column_pages cat table column ≡ run_pages (column_file cat table column)
+  its_pages table column h = ap (λ b. cond b (run_pages (column_file cat table column)) 0) h
+
+  ends_before : (table column later : ℕ) → is_hidden cat.schema table column ≡ true → column < later
+      → run_end (column_file cat table column) ≤ table_begin cat table + column_pages_before cat table later
+  ends_before table column later h low =
+      let pages = its_pages table column h in
+      let next = sum_next (column_pages cat table) column in
+      let rise = sums_rise (column_pages cat table) (column + 1) later (omega (arith, low)) in
+      omega (arith, pages, next, rise)
+
+  ends_within : (table column : ℕ) → is_hidden cat.schema table column ≡ true → run_end (column_file cat table column) ≤ subtree_begin cat table
+  ends_within table column h = ends_before table column (column_count cat.schema table) h (column_there cat.schema table column h)
+
+  ends_before_tables : (table later column : ℕ) → is_hidden cat.schema table column ≡ true → table < later
+      → run_end (column_file cat table column) ≤ table_begin cat later
+  ends_before_tables table later column h low =
+      let within = ends_within table column h in
+      let next = sum_next (table_pages cat) table in
+      let rise = sums_rise (table_pages cat) (table + 1) later (omega (arith, low)) in
+      omega (arith, within, next, rise)
+
+  pub lie_in_order : LieInOrder cat
+  lie_in_order = record {
+    there_are = λ table column h. (table_there cat.schema table column h, column_there cat.schema table column h);
+    next_table = λ table. let next = sum_next (table_pages cat) table in omega (arith, next);
+    tables = λ table later low. let rise = sums_rise (table_pages cat) table later low in omega (arith, rise);
+    next_column = λ table column. sum_next (column_pages cat table) column;
+    next_index = λ table column. sum_next (index_pages cat table) column;
+    next_spool = λ table. sum_next (spool_pages cat) table;
+    column_files = ends_before;
+    within_table = ends_within;
+    before_tables = ends_before_tables;
+    after_public = λ table column. omega arith;
+    within = λ table column h. ends_before_tables table (length cat.schema) column h (table_there cat.schema table column h);
+    static = omega arith;
+    spool = omega arith;
+    scratch = omega arith;
+    some = omega arith;
+  }

@@ -1,0 +1,244 @@
+-- Within the limits of schemas and rows the widths of records fit a page, and page numbers 32 bits.
+use Rattle.std.proofs.Common.{◌≡◌, refl, ℕ, zero, suc, ◌*◌, ◌<◌, ◌≤◌, max, Bool, true, false, cond, List, [], ◌∷◌, length, drop, filter, filter_map, fold, sum_by, slice_index, slice_index_or, nat_le, Option, Some, None, arith, leb-true}
+use Rattle.std.specs.List.{list_all, cons_option}
+use Rattle.std.proofs.lemmas.Bool.{and_parts}
+use Rattle.std.proofs.lemmas.List.FromFn.{length-range_with_len}
+use Rattle.std.proofs.lemmas.List.Sums.{sum_by-le, length-filter, count_by-le-length}
+use Rattle.ghost_model.specs.Schema.{Column, Kind, Integer, Chars, column_at, is_empty, is_visible}
+use Rattle.ghost_model.specs.Channel.{Catalog}
+use Rattle.ghost_model.specs.SchemaFaults.{ancestor}
+use Rattle.ghost_model.specs.SchemaTrees.{IsTree}
+use Rattle.ghost_model.specs.LoadFaults.{most_rows}
+use Rattle.ghost_model.specs.Cells.{cell_width}
+use Rattle.ghost_model.specs.Runs.{pages_of}
+use Rattle.ghost_model.specs.Layout
+use Rattle.ghost_model.specs.LayoutLaws.{IsLimited, AreNarrow, AreFew}
+use Rattle.ghost_model.proofs.LayoutLemmas.Numbers.{pages_few}
+
+-- lengths
+length_kept_by : (o : Option ℕ) (xs : List ℕ) → length (cons_option o xs) ≤ suc (length xs)
+length_kept_by None xs = omega arith
+length_kept_by (Some x) xs = omega arith
+
+length_kept : (h : ℕ → Option ℕ) (xs : List ℕ) → length (filter_map h xs) ≤ length xs
+length_kept h [] = omega arith
+length_kept h (x ∷ xs) = let rest = length_kept h xs in let one = length_kept_by (h x) (filter_map h xs) in omega (arith, rest, one)
+
+length_rest : (xs : List ℕ) → length (drop 1 xs) ≤ length xs
+length_rest [] = omega arith
+length_rest (x ∷ xs) = omega arith
+
+length_filtered : (test : ℕ → Bool) (n : ℕ) → length (filter test (Layout.below n)) ≤ n
+length_filtered test n =
+    let same = length-filter test (Layout.below n) in
+    let few = count_by-le-length test (Layout.below n) in
+    let size = length-range_with_len 0 n in
+    omega (arith, same, few, size)
+
+-- widths
+kind_fits : (kind : Kind) → ((most : ℕ) → kind ≡ Chars most → (1 ≤ most) × (most ≤ 64)) → (0 < cell_width kind) × (cell_width kind ≤ 64)
+kind_fits Integer h = (omega arith, omega arith)
+kind_fits (Chars most) h = let fits = h most refl in let least = fits.0 in (omega (arith, least), fits.1)
+
+width_most : (o : Option Column) → ((held : Column) → o ≡ Some held → cell_width held.kind ≤ 64) → Layout.width_or_none o ≤ 64
+width_most None h = omega arith
+width_most (Some held) h = h held refl
+
+width_least : (o : Option Column) → ((held : Column) → o ≡ Some held → 0 < cell_width held.kind) → Layout.hidden_or_none o ≡ true → 0 < Layout.width_or_none o
+width_least None h e = absurd (cc (e))
+width_least (Some held) h e = h held refl
+
+module _ (cat : Catalog) (tree : IsTree cat.schema) where
+  fits : (table column : ℕ) (held : Column) → column_at cat.schema table column ≡ Some held → (0 < cell_width held.kind) × (cell_width held.kind ≤ 64)
+  fits table column held there = kind_fits held.kind (λ most e. tree.text_lengths table column most held there e)
+
+  most : (table column : ℕ) → Layout.width_at cat.schema table column ≤ 64
+  most table column = width_most (column_at cat.schema table column) (λ held there. (fits table column held there).1)
+
+  least : (table column : ℕ) → Layout.is_hidden cat.schema table column ≡ true → 0 < Layout.width_at cat.schema table column
+  least table column h = width_least (column_at cat.schema table column) (λ held there. (fits table column held there).0) h
+
+  few_levels : (table : ℕ) → length (Layout.levels_of cat.schema table) ≤ 12
+  few_levels table =
+      let kept = length_kept (λ steps. ancestor cat.schema steps table) (Layout.below (length cat.schema)) in
+      let size = length-range_with_len 0 (length cat.schema) in
+      omega (arith, kept, size, tree.few_tables)
+
+  few_above : (table : ℕ) → length (Layout.above_of cat.schema table) ≤ 12
+  few_above table = let rest = length_rest (Layout.levels_of cat.schema table) in let few = few_levels table in omega (arith, rest, few)
+
+  few_descendants : (table : ℕ) → length (Layout.descendants_of cat.schema table) ≤ 12
+  few_descendants table = let few = length_filtered (Layout.is_below cat.schema table) (length cat.schema) in omega (arith, few, tree.few_tables)
+
+  narrow_spool : (table : ℕ) → Layout.spool_width cat.schema table ≤ 1540
+  narrow_spool table =
+      let few = length_filtered (is_visible cat.schema table) (Layout.column_count cat.schema table) in
+      let columns = tree.few_columns table in
+      let cells = sum_by-le (Layout.width_at cat.schema table) 64 (Layout.visible_columns cat.schema table)
+      (λ k d low. most table (slice_index_or (Layout.visible_columns cat.schema table) k d)) in
+      omega (arith, few, columns, cells)
+
+  pub are_narrow : AreNarrow cat
+  are_narrow = record {
+    columns = tree.few_columns;
+    levels = few_levels;
+    above = few_above;
+    descendants = few_descendants;
+    most = most;
+    least = least;
+    subtree = λ table. let few = few_descendants table in omega (arith, few);
+    directory = λ table column. let few = few_levels table in let wide = most table column in omega (arith, few, wide);
+    id_directory = λ table. let few = few_above table in omega (arith, few);
+    spool = narrow_spool;
+  }
+
+-- numbers of rows
+few_at : (counts : List ℕ) → list_all (λ count. nat_le count most_rows) counts ≡ true → (table : ℕ) → slice_index counts table ≤ 1000000
+few_at [] e table = omega arith
+few_at (count ∷ counts) e zero = leb-true count most_rows (and_parts (nat_le count most_rows) (list_all (λ count. nat_le count most_rows) counts) e).0
+few_at (count ∷ counts) e (suc table) = few_at counts (and_parts (nat_le count most_rows) (list_all (λ count. nat_le count most_rows) counts) e).1 table
+
+few_at_most : (counts : List ℕ) (so_far : ℕ) → so_far ≤ 1000000 → list_all (λ count. nat_le count most_rows) counts ≡ true → fold max so_far counts ≤ 1000000
+few_at_most [] so_far low e = low
+few_at_most (count ∷ counts) so_far low e =
+    let both = and_parts (nat_le count most_rows) (list_all (λ count. nat_le count most_rows) counts) e in
+    let one : count ≤ 1000000 = leb-true count most_rows both.0 in
+    few_at_most counts (max so_far count) (omega (arith, low, one)) both.1
+
+when : (b : Bool) (n m : ℕ) → (b ≡ true → n ≤ m) → cond b n 0 ≤ m
+when true n m h = h refl
+when false n m h = omega arith
+
+unless : (b : Bool) (n m : ℕ) → (b ≡ false → n ≤ m) → cond b 0 n ≤ m
+unless true n m h = omega arith
+unless false n m h = h refl
+
+some_in : (xs : List ℕ) → is_empty xs ≡ false → 0 < length xs
+some_in [] e = absurd (cc (e))
+some_in (x ∷ xs) e = omega arith
+
+sum_few : (f : ℕ → ℕ) (m : ℕ) → ((k : ℕ) → f k ≤ m) → (xs : List ℕ) → sum_by f xs ≤ length xs * m
+sum_few f m few xs = sum_by-le f m xs (λ k d low. few (slice_index_or xs k d))
+
+module _ (cat : Catalog) (limited : IsLimited cat) where
+  narrow : AreNarrow cat
+  narrow = are_narrow cat limited.tree
+
+  rows : (table : ℕ) → Layout.count_of cat table ≤ 1000000
+  rows table = few_at cat.counts limited.few_rows table
+
+  pages : (table width : ℕ) → 0 < width → width ≤ 2048 → pages_of (Layout.count_of cat table) width ≤ 1000000
+  pages table width some fit = let few = pages_few (Layout.count_of cat table) width some fit in let count = rows table in omega (arith, few, count)
+
+  column_few : (table column : ℕ) → Layout.column_pages cat table column ≤ 1000000
+  column_few table column =
+      when (Layout.is_hidden cat.schema table column) _ 1000000
+      (λ h. let wide = narrow.most table column in pages table (Layout.width_at cat.schema table column) (narrow.least table column h) (omega (arith, wide)))
+
+  columns_before : (table column : ℕ) → column ≤ 24 → Layout.column_pages_before cat table column ≤ 24000000
+  columns_before table upto low =
+      let all = sum_few (Layout.column_pages cat table) 1000000 (column_few table) (Layout.below upto) in
+      let size = length-range_with_len 0 upto in
+      omega (arith, all, size, low)
+
+  subtree : (table : ℕ) → Layout.subtree_pages cat table ≤ 1000000
+  subtree table =
+      unless (is_empty (Layout.descendants_of cat.schema table)) _ 1000000
+      (λ e. let some = some_in (Layout.descendants_of cat.schema table) e in let few = narrow.descendants table in
+      pages table (Layout.subtree_width cat.schema table) (omega (arith, some)) (omega (arith, few)))
+
+  level : (table : ℕ) → Layout.level_pages cat table ≤ 1954
+  level table = let count = rows table in omega (arith, count)
+
+  levels : (tables : List ℕ) → length tables ≤ 12 → Layout.levels_pages cat tables ≤ 23448
+  levels tables few = let all = sum_few (Layout.level_pages cat) 1954 level tables in omega (arith, all, few)
+
+  index_few : (table column : ℕ) → Layout.index_pages cat table column ≤ 1023449
+  index_few table column =
+      when (Layout.is_hidden cat.schema table column) _ 1023449
+      (λ h.
+      let wide = narrow.directory table column in
+      let some = narrow.least table column h in
+      let directory = pages table (Layout.directory_width cat.schema table column) (omega (arith, some)) (omega (arith, wide)) in
+      let files = levels (Layout.levels_of cat.schema table) (narrow.levels table) in
+      omega (arith, directory, files))
+
+  indexes_before : (table column : ℕ) → column ≤ 24 → Layout.index_pages_before cat table column ≤ 24562776
+  indexes_before table upto low =
+      let all = sum_few (Layout.index_pages cat table) 1023449 (index_few table) (Layout.below upto) in
+      let size = length-range_with_len 0 upto in
+      omega (arith, all, size, low)
+
+  id_index : (table : ℕ) → Layout.id_index_pages cat table ≤ 1023448
+  id_index table =
+      unless (is_empty (Layout.above_of cat.schema table)) _ 1023448
+      (λ e.
+      let some = some_in (Layout.above_of cat.schema table) e in
+      let wide = narrow.id_directory table in
+      let directory = pages table (Layout.id_directory_width cat.schema table) (omega (arith, some)) (omega (arith, wide)) in
+      let files = levels (Layout.above_of cat.schema table) (narrow.above table) in
+      omega (arith, directory, files))
+
+  table_few : (table : ℕ) → Layout.table_pages cat table ≤ 50586224
+  table_few table =
+      let first = columns_before table (Layout.column_count cat.schema table) (narrow.columns table) in
+      let second = subtree table in
+      let third = indexes_before table (Layout.column_count cat.schema table) (narrow.columns table) in
+      let fourth = id_index table in
+      omega (arith, first, second, third, fourth)
+
+  table_begin : (table : ℕ) → table ≤ 12 → Layout.table_begin cat table ≤ 607034752
+  table_begin table low =
+      let all = sum_few (Layout.table_pages cat) 50586224 table_few (Layout.below table) in
+      let size = length-range_with_len 0 table in
+      omega (arith, all, size, low)
+
+  files : Layout.files_end cat ≤ 607034752
+  files = table_begin (length cat.schema) limited.tree.few_tables
+
+  spool : (table : ℕ) → Layout.spool_pages cat table ≤ 1000064
+  spool table =
+      unless (is_empty (Layout.visible_columns cat.schema table)) _ 1000064
+      (λ e.
+      let wide = narrow.spool table in
+      let few = pages table (Layout.spool_width cat.schema table) (omega arith) (omega (arith, wide)) in
+      omega (arith, few))
+
+  half : Layout.half_pages cat ≤ 12000768
+  half =
+      let all = sum_few (Layout.spool_pages cat) 1000064 spool (Layout.below (length cat.schema)) in
+      let size = length-range_with_len 0 (length cat.schema) in
+      omega (arith, all, size, limited.tree.few_tables)
+
+  largest : Layout.largest_count cat ≤ 1000000
+  largest = few_at_most cat.counts 0 (omega arith) limited.few_rows
+
+  scratch : Layout.scratch_pages cat ≤ 1984
+  scratch = omega (arith, largest)
+
+  static : Layout.static_end cat ≤ 607034815
+  static = omega (arith, files)
+
+  pub are_few : AreFew cat
+  are_few = record {
+    rows = rows;
+    largest = largest;
+    column = column_few;
+    columns_before = columns_before;
+    columns = λ table. columns_before table (Layout.column_count cat.schema table) (narrow.columns table);
+    subtree = subtree;
+    level = level;
+    levels = levels;
+    index = index_few;
+    indexes_before = indexes_before;
+    indexes = λ table. indexes_before table (Layout.column_count cat.schema table) (narrow.columns table);
+    id_index = id_index;
+    table = table_few;
+    table_begin = table_begin;
+    files = files;
+    static = static;
+    spool = spool;
+    half = half;
+    scratch = scratch;
+    need = omega (arith, static, half, scratch);
+  }

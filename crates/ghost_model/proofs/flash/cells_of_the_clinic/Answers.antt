@@ -1,0 +1,5 @@
+use Rattle.std.proofs.Common.{refl}
+use Rattle.ghost_model.proofs.flash.cells_of_the_clinic.Goals as goal
+
+pub returns : goal.returns
+returns c = record { country = refl; name = refl; purpose = refl; doctor = refl; patient = refl }

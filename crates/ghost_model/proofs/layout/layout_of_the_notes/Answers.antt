@@ -1,0 +1,15 @@
+use Rattle.std.proofs.Common.{refl}
+use Rattle.ghost_model.specs.SchemaFaults.{ancestor}
+use Rattle.ghost_model.specs.Schema.{places_from}
+use Rattle.ghost_model.proofs.layout.layout_of_the_notes.Goals as goal
+
+pub returns : goal.returns
+unfolding ancestor places_from
+returns c = record {
+  pages = refl;
+  files_end = refl;
+  static_end = refl;
+  spool = refl;
+  scratch = refl;
+  need = refl;
+}

@@ -1,0 +1,178 @@
+-- What the flash holds once it is loaded: on its public pages the catalog, and in each static file what follows from the
+-- hidden part of a database. A column file has the column's cells, row by row. A subtree key table has, for each row, the
+-- identifiers of the rows that it leads to in the tables below. A climbing index has, for each value of its column, the
+-- rows that have it and the rows of each table above that lead to such a row; an id index has the same for each
+-- identifier. At one level the lists of all entries stand one after another, and an entry of the directory says where
+-- its own begins and how long it is. The part that each file kind has is a word of its own; `Holds` is all of them.
+use Rattle.std.specs.Prelude.{◌≡◌, ℕ, ◌-◌, ◌*◌, ◌<◌, pos, true, false, List, [], ◌∷◌, ◌++◌, length, take, drop, map, filter, flat_map, replicate, get_or, slice_index, count_by, Contains, bytes_eq, Option, Some, None, slice_get, unwrap_or}
+use Rattle.std.specs.List.Sorted.{IsStrictlySortedBy}
+use Rattle.std.specs.List.{range_with_len}
+use Rattle.std.specs.Option.{option_map_or}
+use Rattle.std.specs.Cmp.Lexicographic.{slice_cmp}
+use Rattle.std.specs.Ordering.{nat_cmp}
+use Rattle.ghost_model.specs.Schema.{Schema, Column, Kind, Integer, column_at, is_empty, is_table}
+use Rattle.ghost_model.specs.Values.{Value, Number, Row, Rows, Database}
+use Rattle.ghost_model.specs.Channel.{Catalog}
+use Rattle.ghost_model.specs.Database.{rows_or_none, leads}
+use Rattle.ghost_model.specs.Cells.{encode_cell}
+use Rattle.ghost_model.specs.Catalog.{catalog_bytes}
+use Rattle.ghost_model.specs.Split.{Hidden, rejoined}
+use Rattle.ghost_model.specs.Runs.{page_bytes, number_cell, Stores}
+use Rattle.ghost_model.specs.Layout.{below, is_hidden, count_of, levels_of, above_of, descendants_of, public_pages, column_file, subtree_table, index_header, index_directory, index_level, id_directory, id_level}
+
+-- The public pages: a page of the catalog's bytes, and 0xFF where there are none.
+abbrev pub catalog_part : Catalog → (place : ℕ) → List ℕ
+catalog_part cat place = take page_bytes (drop (place * page_bytes) (catalog_bytes cat))
+
+abbrev pub catalog_page : Catalog → (place : ℕ) → List ℕ
+catalog_page cat place = catalog_part cat place ++ replicate (page_bytes - length (catalog_part cat place)) 0xff
+
+abbrev pub HoldsCatalog : (ℕ → List ℕ) → Catalog → Type 0
+HoldsCatalog page cat = (place : ℕ) → place < public_pages → page place ≡ catalog_page cat place
+
+-- Column files. A row of the hidden part has a value for each hidden column in order.
+abbrev pub hidden_rows : Hidden → (table : ℕ) → Rows
+hidden_rows hidden table = rows_or_none (slice_get hidden.hidden table)
+
+-- how many hidden columns a table has before a column: where such a row has that column's value
+abbrev pub hidden_before : Schema → (table column : ℕ) → ℕ
+hidden_before schema table column = count_by (is_hidden schema table) (below column)
+
+abbrev pub kind_or_integer : Option Column → Kind
+kind_or_integer None = Integer
+kind_or_integer (Some column) = column.kind
+
+abbrev pub kind_at : Schema → (table column : ℕ) → Kind
+kind_at schema table column = kind_or_integer (column_at schema table column)
+
+abbrev pub cell_or_none : Kind → Option Value → List ℕ
+cell_or_none kind None = []
+cell_or_none kind (Some value) = encode_cell kind value
+
+-- the cell of a hidden column for a row of the hidden part
+abbrev pub hidden_cell : Schema → (table column : ℕ) → Row → List ℕ
+hidden_cell schema table column row =
+    cell_or_none (kind_at schema table column) (slice_get row (hidden_before schema table column))
+
+-- the cells of a hidden column, row by row
+abbrev pub hidden_cells : Schema → Hidden → (table column : ℕ) → List (List ℕ)
+hidden_cells schema hidden table column = map (hidden_cell schema table column) (hidden_rows hidden table)
+
+abbrev pub HoldsColumns : (ℕ → List ℕ) → Catalog → Hidden → Type 0
+HoldsColumns page cat hidden =
+    (table column : ℕ) → is_hidden cat.schema table column ≡ true
+    → Stores page (column_file cat table column) (hidden_cells cat.schema hidden table column)
+
+-- Rows lead to rows along the foreign keys, which are hidden. So the hidden part tells it, whatever the visible values
+-- are: here 0 stands for each of them, of which a row has at most 24.
+abbrev pub zeros : Row
+zeros = replicate 24 (Number (pos 0))
+
+abbrev pub zero_rows : Rows → Rows
+zero_rows rows = map (λ _. zeros) rows
+
+abbrev pub hidden_database : Schema → Hidden → Database
+hidden_database schema hidden = rejoined schema (record { visible = map zero_rows hidden.hidden }) hidden
+
+abbrev pub leads_to : Schema → Hidden → (from identifier to : ℕ) → Option ℕ
+leads_to schema hidden from identifier to = leads schema (hidden_database schema hidden) from identifier to
+
+-- the identifiers of so many rows
+abbrev pub ids : (count : ℕ) → List ℕ
+ids count = range_with_len 1 count
+
+-- Subtree key tables.
+abbrev pub subtree_record : Schema → Hidden → (table identifier : ℕ) → List ℕ
+subtree_record schema hidden table identifier =
+    flat_map (λ to. number_cell (unwrap_or (leads_to schema hidden table identifier to) 0)) (descendants_of schema table)
+
+abbrev pub HoldsSubtrees : (ℕ → List ℕ) → Catalog → Hidden → Type 0
+HoldsSubtrees page cat hidden =
+    (table : ℕ) → table < length cat.schema → is_empty (descendants_of cat.schema table) ≡ false
+    → Stores page (subtree_table cat table) (map (subtree_record cat.schema hidden table) (ids (count_of cat table)))
+
+-- Lists in level files: `lists` gives the list of each entry. The bytes that say where the list of an entry begins,
+-- after those of the entries before it, and how long it is; and a whole level file.
+abbrev pub list_place : {X : Type 0} → (lists : X → List ℕ) → (before : List X) → X → List ℕ
+list_place lists before entry = number_cell (length (flat_map lists before)) ++ number_cell (length (lists entry))
+
+abbrev pub level_records : {X : Type 0} → (lists : X → List ℕ) → (entries : List X) → List (List ℕ)
+level_records lists entries = map number_cell (flat_map lists entries)
+
+-- Climbing indexes. The cell of a hidden column in a row of its table
+abbrev pub cell_of_row : Schema → Hidden → (table column identifier : ℕ) → List ℕ
+cell_of_row schema hidden table column identifier =
+    get_or (hidden_cells schema hidden table column) (identifier - 1) []
+
+-- the cell of a hidden column in the row of its table that a row leads to
+abbrev pub cell_led_to : Schema → Hidden → (table column from identifier : ℕ) → List ℕ
+cell_led_to schema hidden table column from identifier =
+    option_map_or (cell_of_row schema hidden table column) (leads_to schema hidden from identifier table) []
+
+-- the list of a value at the level of a table: that table's rows which lead to a row that has the value, ascending
+abbrev pub rows_with : Catalog → Hidden → (table column from : ℕ) → (value : List ℕ) → List ℕ
+rows_with cat hidden table column from value =
+    filter (λ identifier. bytes_eq (cell_led_to cat.schema hidden table column from identifier) value)
+    (ids (count_of cat from))
+
+-- the values of a column: each of its cells once, ascending
+pub record AreValues (cells values : List (List ℕ)) : Type 0 where
+  pub ascending : IsStrictlySortedBy (slice_cmp nat_cmp) values
+  pub only : (value : List ℕ) → Contains values value → Contains cells value
+  pub all : (cell : List ℕ) → Contains cells cell → Contains values cell
+
+abbrev pub directory_record : Catalog → Hidden → (table column : ℕ) → (values : List (List ℕ)) → (entry : ℕ) → List ℕ
+directory_record cat hidden table column values entry =
+    get_or values entry []
+    ++ flat_map (λ from. list_place (rows_with cat hidden table column from) (take entry values) (get_or values entry []))
+    (levels_of cat.schema table)
+
+abbrev pub directory_records : Catalog → Hidden → (table column : ℕ) → (values : List (List ℕ)) → List (List ℕ)
+directory_records cat hidden table column values =
+    map (directory_record cat hidden table column values) (below (length values))
+
+pub record HoldsIndex (page : ℕ → List ℕ) (cat : Catalog) (hidden : Hidden) (table column : ℕ) : Type 0 where
+  pub values : List (List ℕ)
+  pub are_values : AreValues (hidden_cells cat.schema hidden table column) values
+  pub header : Stores page (index_header cat table column) (number_cell (length values) ∷ [])
+  -- it has one record for each value, at most as many as there is room for
+  pub directory :
+      Stores page (record (index_directory cat table column) { count = length values })
+      (directory_records cat hidden table column values)
+  pub levels :
+      (level : ℕ) → level < length (levels_of cat.schema table)
+      → Stores page (index_level cat table column level)
+      (level_records (rows_with cat hidden table column (slice_index (levels_of cat.schema table) level)) values)
+
+abbrev pub HoldsIndexes : (ℕ → List ℕ) → Catalog → Hidden → Type 0
+HoldsIndexes page cat hidden =
+    (table column : ℕ) → is_hidden cat.schema table column ≡ true → HoldsIndex page cat hidden table column
+
+-- Id indexes. The list of an identifier at the level of a table: that table's rows which lead to it, ascending
+abbrev pub rows_leading_to : Catalog → Hidden → (table from identifier : ℕ) → List ℕ
+rows_leading_to cat hidden table from identifier =
+    filter (λ other. is_table identifier (leads_to cat.schema hidden from other table)) (ids (count_of cat from))
+
+abbrev pub id_record : Catalog → Hidden → (table identifier : ℕ) → List ℕ
+id_record cat hidden table identifier =
+    flat_map (λ from. list_place (rows_leading_to cat hidden table from) (ids (identifier - 1)) identifier)
+    (above_of cat.schema table)
+
+pub record HoldsIdIndex (page : ℕ → List ℕ) (cat : Catalog) (hidden : Hidden) (table : ℕ) : Type 0 where
+  pub directory : Stores page (id_directory cat table) (map (id_record cat hidden table) (ids (count_of cat table)))
+  pub levels :
+      (level : ℕ) → level < length (above_of cat.schema table)
+      → Stores page (id_level cat table level)
+      (level_records (rows_leading_to cat hidden table (slice_index (above_of cat.schema table) level)) (ids (count_of cat table)))
+
+abbrev pub HoldsIdIndexes : (ℕ → List ℕ) → Catalog → Hidden → Type 0
+HoldsIdIndexes page cat hidden =
+    (table : ℕ) → table < length cat.schema → is_empty (above_of cat.schema table) ≡ false → HoldsIdIndex page cat hidden table
+
+-- the pages hold the catalog and the hidden part
+pub record Holds (page : ℕ → List ℕ) (cat : Catalog) (hidden : Hidden) : Type 0 where
+  pub catalog : HoldsCatalog page cat
+  pub columns : HoldsColumns page cat hidden
+  pub subtrees : HoldsSubtrees page cat hidden
+  pub indexes : HoldsIndexes page cat hidden
+  pub id_indexes : HoldsIdIndexes page cat hidden

@@ -1,0 +1,158 @@
+-- Laws of the layout: files and areas follow one another without a gap but for rounding to blocks, so no two share a
+-- page; a device has whole blocks; each page of a record lies within its run; and within the limits of schemas and rows
+-- all widths fit a page and all page numbers fit 32 bits.
+use Rattle.std.specs.Prelude.{◌≡◌, ℕ, ◌+◌, ◌*◌, ◌%◌, ◌^◌, ◌<◌, ◌≤◌, nat_le, true, List, [], ◌∷◌, length, Some, slice_get}
+use Rattle.std.specs.List.{list_all}
+use Rattle.ghost_model.specs.Channel.{Catalog}
+use Rattle.ghost_model.specs.SchemaTrees.{IsTree}
+use Rattle.ghost_model.specs.LoadFaults.{most_rows}
+use Rattle.ghost_model.specs.Catalog.{IsCatalog}
+use Rattle.ghost_model.specs.Runs.{Run, per_page, run_pages, run_end, page_of, slot_of, page_bytes}
+use Rattle.ghost_model.specs.Layout
+
+-- runs of which the first begins at a page and each later one where the one before ends, up to a page; `room` says how
+-- many pages each takes
+abbrev pub Follow : (room : Run → ℕ) → (begin : ℕ) → List Run → (after : ℕ) → Type 0
+Follow room begin [] after = begin ≡ after
+Follow room begin (run ∷ runs) after = (run.first ≡ begin) × Follow room (begin + room run) runs after
+
+abbrev pub block_room : Run → ℕ
+block_room run = Layout.in_blocks (run_pages run)
+
+pub record FollowOneAnother (cat : Catalog) : Type 0 where
+  pub files : Follow run_pages Layout.public_pages (Layout.static_files cat) (Layout.files_end cat)
+  pub rounded : Layout.files_end cat ≤ Layout.static_end cat
+  pub first_half :
+      Follow block_room (Layout.static_end cat) (Layout.spool_areas cat 0) (Layout.static_end cat + Layout.half_pages cat)
+  pub second_half :
+      Follow block_room (Layout.static_end cat + Layout.half_pages cat) (Layout.spool_areas cat 1) (Layout.spool_end cat)
+  pub scratch : Follow block_room (Layout.spool_end cat) (Layout.scratch_areas cat) (Layout.need cat)
+
+abbrev pub FilesFollow : Type 0
+FilesFollow = (cat : Catalog) → FollowOneAnother cat
+
+-- such runs lie between the two pages, and none reaches into a later one
+pub record StandApart (room : Run → ℕ) (begin : ℕ) (runs : List Run) (after : ℕ) : Type 0 where
+  pub order : begin ≤ after
+  pub inside :
+      (place : ℕ) (run : Run) → slice_get runs place ≡ Some run → (begin ≤ run.first) × (run.first + room run ≤ after)
+  pub apart :
+      (place later : ℕ) (run other : Run) → place < later
+      → slice_get runs place ≡ Some run → slice_get runs later ≡ Some other → run.first + room run ≤ other.first
+
+abbrev pub FollowingRunsStandApart : Type 0
+FollowingRunsStandApart =
+    (room : Run → ℕ) (begin : ℕ) (runs : List Run) (after : ℕ) → Follow room begin runs after
+    → StandApart room begin runs after
+
+-- where the files of tables and columns lie, one by one: the same facts for those who go by table and column
+pub record LieInOrder (cat : Catalog) : Type 0 where
+  -- only columns that there are, are hidden
+  pub there_are :
+      (table column : ℕ) → Layout.is_hidden cat.schema table column ≡ true
+      → (table < length cat.schema) × (column < Layout.column_count cat.schema table)
+  pub next_table : (table : ℕ) → Layout.table_begin cat (table + 1) ≡ Layout.table_begin cat table + Layout.table_pages cat table
+  pub tables : (table later : ℕ) → table ≤ later → Layout.table_begin cat table ≤ Layout.table_begin cat later
+  pub next_column :
+      (table column : ℕ)
+      → Layout.column_pages_before cat table (column + 1)
+      ≡ Layout.column_pages_before cat table column + Layout.column_pages cat table column
+  pub next_index :
+      (table column : ℕ)
+      → Layout.index_pages_before cat table (column + 1)
+      ≡ Layout.index_pages_before cat table column + Layout.index_pages cat table column
+  pub next_spool :
+      (table : ℕ) → Layout.spool_pages_before cat (table + 1) ≡ Layout.spool_pages_before cat table + Layout.spool_pages cat table
+  -- the column files of one table
+  pub column_files :
+      (table column later : ℕ) → Layout.is_hidden cat.schema table column ≡ true → column < later
+      → run_end (Layout.column_file cat table column) ≤ (Layout.column_file cat table later).first
+  -- those of a table before its other files
+  pub within_table :
+      (table column : ℕ) → Layout.is_hidden cat.schema table column ≡ true
+      → run_end (Layout.column_file cat table column) ≤ Layout.subtree_begin cat table
+  -- those of a table before the files of a later one, and before the end
+  pub before_tables :
+      (table later column : ℕ) → Layout.is_hidden cat.schema table column ≡ true → table < later
+      → run_end (Layout.column_file cat table column) ≤ Layout.table_begin cat later
+  pub after_public : (table column : ℕ) → Layout.public_pages ≤ (Layout.column_file cat table column).first
+  pub within :
+      (table column : ℕ) → Layout.is_hidden cat.schema table column ≡ true
+      → run_end (Layout.column_file cat table column) ≤ Layout.files_end cat
+  pub static : Layout.files_end cat ≤ Layout.static_end cat
+  pub spool : Layout.static_end cat ≤ Layout.spool_end cat
+  pub scratch : Layout.spool_end cat ≤ Layout.need cat
+  pub some : Layout.public_pages ≤ Layout.files_end cat
+
+abbrev pub FilesLieInOrder : Type 0
+FilesLieInOrder = (cat : Catalog) → LieInOrder cat
+
+-- areas begin at blocks, and a device has whole blocks
+pub record AreWholeBlocks (cat : Catalog) : Type 0 where
+  pub static : Layout.static_end cat % 64 ≡ 0
+  pub spool_area : (half table : ℕ) → (Layout.spool_area cat half table).first % 64 ≡ 0
+  pub spool : Layout.spool_end cat % 64 ≡ 0
+  pub scratch_area : (area : ℕ) → (Layout.scratch_area cat area).first % 64 ≡ 0
+  pub need : Layout.need cat % 64 ≡ 0
+
+abbrev pub AreasAreWholeBlocks : Type 0
+AreasAreWholeBlocks = (cat : Catalog) → AreWholeBlocks cat
+
+-- where records of a width that fits a page stand
+pub record StandWithin (run : Run) : Type 0 where
+  pub some : 0 < per_page run.width
+  pub page : (place : ℕ) → place < run.count → page_of run place < run_end run
+  pub slot : (place : ℕ) → slot_of run place < per_page run.width
+  pub bytes : (slot : ℕ) → slot < per_page run.width → slot * run.width + run.width ≤ page_bytes
+  pub few : run_pages run ≤ run.count
+
+abbrev pub RecordsStandWithin : Type 0
+RecordsStandWithin = (run : Run) → 0 < run.width → run.width ≤ page_bytes → StandWithin run
+
+-- a catalog within the limits: its schema is a tree, and no table has more than a million rows
+pub record IsLimited (cat : Catalog) : Type 0 where
+  pub tree : IsTree cat.schema
+  pub few_rows : list_all (λ count. nat_le count most_rows) cat.counts ≡ true
+
+abbrev pub CatalogsAreLimited : Type 0
+CatalogsAreLimited = (cat : Catalog) → IsCatalog cat → IsLimited cat
+
+-- the widths of records
+pub record AreNarrow (cat : Catalog) : Type 0 where
+  pub columns : (table : ℕ) → Layout.column_count cat.schema table ≤ 24
+  pub levels : (table : ℕ) → length (Layout.levels_of cat.schema table) ≤ 12
+  pub above : (table : ℕ) → length (Layout.above_of cat.schema table) ≤ 12
+  pub descendants : (table : ℕ) → length (Layout.descendants_of cat.schema table) ≤ 12
+  pub most : (table column : ℕ) → Layout.width_at cat.schema table column ≤ 64
+  pub least : (table column : ℕ) → Layout.is_hidden cat.schema table column ≡ true → 0 < Layout.width_at cat.schema table column
+  pub subtree : (table : ℕ) → Layout.subtree_width cat.schema table ≤ 48
+  pub directory : (table column : ℕ) → Layout.directory_width cat.schema table column ≤ 160
+  pub id_directory : (table : ℕ) → Layout.id_directory_width cat.schema table ≤ 96
+  pub spool : (table : ℕ) → Layout.spool_width cat.schema table ≤ 1540
+
+-- the numbers of pages
+pub record AreFew (cat : Catalog) : Type 0 where
+  pub rows : (table : ℕ) → Layout.count_of cat table ≤ 1000000
+  pub largest : Layout.largest_count cat ≤ 1000000
+  pub column : (table column : ℕ) → Layout.column_pages cat table column ≤ 1000000
+  pub columns_before : (table column : ℕ) → column ≤ 24 → Layout.column_pages_before cat table column ≤ 24000000
+  pub columns : (table : ℕ) → Layout.columns_pages cat table ≤ 24000000
+  pub subtree : (table : ℕ) → Layout.subtree_pages cat table ≤ 1000000
+  pub level : (table : ℕ) → Layout.level_pages cat table ≤ 1954
+  pub levels : (tables : List ℕ) → length tables ≤ 12 → Layout.levels_pages cat tables ≤ 23448
+  pub index : (table column : ℕ) → Layout.index_pages cat table column ≤ 1023449
+  pub indexes_before : (table column : ℕ) → column ≤ 24 → Layout.index_pages_before cat table column ≤ 24562776
+  pub indexes : (table : ℕ) → Layout.indexes_pages cat table ≤ 24562776
+  pub id_index : (table : ℕ) → Layout.id_index_pages cat table ≤ 1023448
+  pub table : (table : ℕ) → Layout.table_pages cat table ≤ 50586224
+  pub table_begin : (table : ℕ) → table ≤ 12 → Layout.table_begin cat table ≤ 607034752
+  pub files : Layout.files_end cat ≤ 607034752
+  pub static : Layout.static_end cat ≤ 607034815
+  pub spool : (table : ℕ) → Layout.spool_pages cat table ≤ 1000064
+  pub half : Layout.half_pages cat ≤ 12000768
+  pub scratch : Layout.scratch_pages cat ≤ 1984
+  pub need : Layout.need cat < 2 ^ 30
+
+pub record LayoutIsSmall : Type 0 where
+  pub narrow : (cat : Catalog) → IsTree cat.schema → AreNarrow cat
+  pub few : (cat : Catalog) → IsLimited cat → AreFew cat

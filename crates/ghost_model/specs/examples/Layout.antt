@@ -1,0 +1,61 @@
+-- The layouts of the worked catalogs.
+use Rattle.std.specs.Prelude.{◌≡◌, ℕ, [], ◌∷◌, map, ◌++◌}
+use Rattle.ghost_model.specs.Runs.{Run}
+use Rattle.ghost_model.specs.Layout.{levels_of, descendants_of, hidden_places, column_file, subtree_table, index_header, index_directory, index_level, id_directory, id_level, static_files, files_end, static_end, spool_area, spool_areas, scratch_areas, need}
+use Rattle.ghost_model.specs.examples.Clinic.{clinic_schema, clinic_catalog, note_catalog}
+
+abbrev pub first_page : Run → ℕ
+first_page run = run.first
+
+abbrev pub records_of_run : Run → ℕ
+records_of_run run = run.count
+
+abbrev pub width_of_run : Run → ℕ
+width_of_run run = run.width
+
+abbrev pub visit : ℕ
+visit = 2
+
+pub record LayoutOfTheClinic : Type 0 where
+  pub levels_of_doctor : levels_of clinic_schema 0 ≡ 0 ∷ 2 ∷ []
+  pub levels_of_visit : levels_of clinic_schema 2 ≡ 2 ∷ []
+  pub below_visit : descendants_of clinic_schema 2 ≡ 0 ∷ 1 ∷ []
+  pub below_doctor : descendants_of clinic_schema 0 ≡ []
+  pub hidden_of_visit : hidden_places clinic_schema 2 ≡ 2 ∷ 3 ∷ 4 ∷ []
+  pub country : column_file clinic_catalog 0 2 ≡ record { first = 64; count = 3; width = 2 }
+  pub country_header : index_header clinic_catalog 0 2 ≡ record { first = 65; count = 1; width = 4 }
+  pub country_directory : index_directory clinic_catalog 0 2 ≡ record { first = 66; count = 3; width = 18 }
+  pub country_of_doctors : index_level clinic_catalog 0 2 0 ≡ record { first = 67; count = 3; width = 4 }
+  pub country_of_visits : index_level clinic_catalog 0 2 1 ≡ record { first = 68; count = 4; width = 4 }
+  pub doctors : id_directory clinic_catalog 0 ≡ record { first = 69; count = 3; width = 8 }
+  pub doctors_of_visits : id_level clinic_catalog 0 0 ≡ record { first = 70; count = 4; width = 4 }
+  pub name : column_file clinic_catalog 1 2 ≡ record { first = 71; count = 2; width = 8 }
+  pub purpose : column_file clinic_catalog 2 2 ≡ record { first = 78; count = 4; width = 8 }
+  pub doctor_key : column_file clinic_catalog 2 3 ≡ record { first = 79; count = 4; width = 8 }
+  pub patient_key : column_file clinic_catalog 2 4 ≡ record { first = 80; count = 4; width = 8 }
+  pub below_visits : subtree_table clinic_catalog 2 ≡ record { first = 81; count = 4; width = 8 }
+  pub patient_key_header : index_header clinic_catalog 2 4 ≡ record { first = 88; count = 1; width = 4 }
+  pub pages :
+      map first_page (static_files clinic_catalog)
+      ≡ 64 ∷ 65 ∷ 66 ∷ 67 ∷ 68 ∷ 69 ∷ 70 ∷ 71 ∷ 72 ∷ 73 ∷ 74 ∷ 75 ∷ 76 ∷ 77 ∷ 78 ∷ 79 ∷ 80 ∷ 81 ∷ 82 ∷ 83 ∷ 84 ∷ 85
+      ∷ 86 ∷ 87 ∷ 88 ∷ 89 ∷ 90 ∷ []
+  pub counts :
+      map records_of_run (static_files clinic_catalog)
+      ≡ 3 ∷ 1 ∷ 3 ∷ 3 ∷ 4 ∷ 3 ∷ 4 ∷ 2 ∷ 1 ∷ 2 ∷ 2 ∷ 4 ∷ 2 ∷ 4 ∷ 4 ∷ 4 ∷ 4 ∷ 4 ∷ 1 ∷ 4 ∷ 4 ∷ 1 ∷ 4 ∷ 4 ∷ 1 ∷ 4 ∷ 4 ∷ []
+  pub widths :
+      map width_of_run (static_files clinic_catalog)
+      ≡ 2 ∷ 4 ∷ 18 ∷ 4 ∷ 4 ∷ 8 ∷ 4 ∷ 8 ∷ 4 ∷ 24 ∷ 4 ∷ 4 ∷ 8 ∷ 4 ∷ 8 ∷ 8 ∷ 8 ∷ 8 ∷ 4 ∷ 16 ∷ 4 ∷ 4 ∷ 16 ∷ 4 ∷ 4 ∷ 16 ∷ 4 ∷ []
+  pub files_end : files_end clinic_catalog ≡ 91
+  pub static_end : static_end clinic_catalog ≡ 128
+  pub spool : map first_page (spool_areas clinic_catalog 0 ++ spool_areas clinic_catalog 1) ≡ 128 ∷ 192 ∷ 256 ∷ 320 ∷ 384 ∷ 448 ∷ []
+  pub spool_of_doctors : spool_area clinic_catalog 0 0 ≡ record { first = 128; count = 3; width = 12 }
+  pub scratch : map first_page (scratch_areas clinic_catalog) ≡ 512 ∷ 576 ∷ 640 ∷ 704 ∷ 768 ∷ 832 ∷ []
+  pub need : need clinic_catalog ≡ 896
+
+pub record LayoutOfTheNotes : Type 0 where
+  pub pages : map first_page (static_files note_catalog) ≡ 64 ∷ 65 ∷ 66 ∷ 67 ∷ []
+  pub files_end : files_end note_catalog ≡ 68
+  pub static_end : static_end note_catalog ≡ 128
+  pub spool : map first_page (spool_areas note_catalog 0 ++ spool_areas note_catalog 1) ≡ 128 ∷ 192 ∷ []
+  pub scratch : map first_page (scratch_areas note_catalog) ≡ 256 ∷ 320 ∷ 384 ∷ 448 ∷ 512 ∷ 576 ∷ []
+  pub need : need note_catalog ≡ 640

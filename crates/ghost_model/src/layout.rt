@@ -1,0 +1,49 @@
+//! Examples and laws of the layout of the flash.
+
+ghost use Rattle.ghost_model.specs.LayoutLaws.{FilesFollow, FollowingRunsStandApart, FilesLieInOrder, AreasAreWholeBlocks, RecordsStandWithin, CatalogsAreLimited, LayoutIsSmall};
+ghost use Rattle.ghost_model.specs.examples.Layout.{LayoutOfTheClinic, LayoutOfTheNotes};
+
+/// Files and areas follow one another.
+pub fn files_follow()
+    ensures { FilesFollow }
+{}
+
+/// Runs that follow one another share no page.
+pub fn following_runs_stand_apart()
+    ensures { FollowingRunsStandApart }
+{}
+
+/// Where the files of tables and columns lie to one another, and that they lie on the device.
+pub fn files_lie_in_order()
+    ensures { FilesLieInOrder }
+{}
+
+/// The areas of spool and scratch begin at blocks, and a device is of whole blocks.
+pub fn areas_are_whole_blocks()
+    ensures { AreasAreWholeBlocks }
+{}
+
+/// Each record of a run stands on the run's pages, whole.
+pub fn records_stand_within()
+    ensures { RecordsStandWithin }
+{}
+
+/// A catalog is within the limits.
+pub fn catalogs_are_limited()
+    ensures { CatalogsAreLimited }
+{}
+
+/// Within the limits records fit pages, and a device has less than 2^30 pages.
+pub fn layout_is_small()
+    ensures { LayoutIsSmall }
+{}
+
+/// Where each file and area of the clinic lies.
+pub fn layout_of_the_clinic()
+    ensures { LayoutOfTheClinic }
+{}
+
+/// Where each file and area of the notes lies.
+pub fn layout_of_the_notes()
+    ensures { LayoutOfTheNotes }
+{}
