@@ -4,6 +4,7 @@
 #![tactic(auto)]
 
 pub mod dir_depot;
+pub mod file_flash;
 pub mod std_sink;
 #[cfg(test)]
 mod tests;

@@ -1,9 +1,11 @@
 //! What the real objects do, by one example each.
 
 use crate::dir_depot::DirDepot;
+use crate::file_flash::FileFlash;
 use crate::std_sink::StdSink;
 use edge_traits::Failed;
 use edge_traits::depot::Depot;
+use edge_traits::flash::{AttachFault, Flash};
 use edge_traits::sink::Sink;
 use std::alloc::AllocError;
 use std::cell::{Cell, RefCell};
@@ -87,4 +89,32 @@ fn files_lie_in_the_file_system(rt: HostRuntime) {
         assert_eq!(rt; buf.as_slice(), read.as_bytes(), "{name} {at}");
     }
     assert_eq!(rt; depot.append("none/note", b"8"), Err(Failed));
+}
+
+#[test]
+fn a_device_lies_in_a_file(rt: HostRuntime) -> Result<(), AttachFault> {
+    let mut flash = FileFlash::new(rt.alloc(), &rt);
+    let mut page = [0; 2048];
+    flash.make(rt.alloc(), "key", 2)?;
+    flash.write_page(64, &[7; 2048])?;
+    flash.write_page(0, &[8; 2048])?;
+    flash.erase_block(1)?;
+    flash.write_page(127, &[9; 2048])?;
+    for (number, byte) in [(0u32, 8u8), (1, 0xFF), (64, 0xFF), (127, 9)] {
+        let mut other = FileFlash::new(rt.alloc(), &rt);
+        let pages = other.attach(rt.alloc(), "key")?;
+        assert_eq!(rt; pages, 128);
+        if number < pages {
+            other.read_page(number, &mut page)?;
+        }
+        assert!(rt; page.iter().all(|b| *b == byte), "page {number}");
+    }
+    let mut depot = DirDepot::new(&rt);
+    assert_eq!(rt; depot.append("key", b"1"), Ok(()));
+    for name in ["key", "none"] {
+        let answer = flash.attach(rt.alloc(), name);
+        assert_eq!(rt; answer, Err(AttachFault::Failed), "{name}");
+        assert_eq!(rt; flash.pages(), 0, "{name}");
+    }
+    Ok(())
 }

@@ -3,3 +3,6 @@ pub mod WholeFile
 pub mod Filling
 pub mod InSlots
 pub mod Inserts
+pub mod MarkLemmas
+pub mod DeviceFrames
+pub mod PageLemmas

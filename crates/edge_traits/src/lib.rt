@@ -5,8 +5,12 @@
 //! is told by objects in memory alone; the real ones tell nothing, and then no clause on contents claims anything.
 #![tactic(auto)]
 
+pub mod counting;
 pub mod depot;
+pub mod flash;
+pub mod marks;
 pub mod mem_depot;
+pub mod mem_flash;
 pub mod mem_sink;
 pub mod reading;
 pub mod room;

@@ -33,6 +33,7 @@ impl Script {
     /// Begins a call, which fails where the script names its number.
     pub fn begin(&mut self) -> Result<(), Failed>
         ensures cause { HasCause self.old.faults self.new.faults result }
+        ensures one_fault { self.new.faults ≤ self.old.faults + 1 }
         ensures failed { OnErr result (IsNamed self.old.fails.items self.new.calls) }
         ensures passed { OnOk result (IsNamed self.old.fails.items self.new.calls → ⊥) }
         ensures calls { self.new.calls ≡ min (self.old.calls + 1) last_count }
@@ -49,6 +50,7 @@ impl Script {
     pub fn fault(&mut self) -> Failed
         ensures rose { Rose self.old.faults self.new.faults }
         ensures never_falls { self.old.faults ≤ self.new.faults }
+        ensures one_fault { self.new.faults ≤ self.old.faults + 1 }
         ensures calls { self.new.calls ≡ self.old.calls }
         ensures fails { self.new.fails ≡ self.old.fails }
     {

@@ -1,8 +1,12 @@
 //! What the objects in memory do, by examples.
 
+ghost use Rattle.std.specs.Prelude.{◌≡◌, true};
+
 use crate::Failed;
 use crate::depot::Depot;
+use crate::flash::{AttachFault, Flash};
 use crate::mem_depot::{MemDepot, Room};
+use crate::mem_flash::MemFlash;
 use crate::mem_sink::MemSink;
 use crate::reading::{ReadFault, read_file};
 use crate::script::Script;
@@ -151,5 +155,80 @@ fn a_count_stays_at_its_last_value(rt: HostRuntime) -> Result<(), AllocError> {
     assert_eq!(rt; script.begin(), Err(Failed));
     assert_eq!(rt; script.begin(), Err(Failed));
     assert_eq!(rt; script.faults, u64::MAX);
+    Ok(())
+}
+
+/// Whether all bytes of a page are the same.
+fn is_all(page: &[u8; 2048], byte: u8) -> bool {
+    page.iter().all(|b| *b == byte)
+}
+
+#[test]
+fn a_page_is_written_read_and_erased(rt: HostRuntime) -> Result<(), AttachFault> {
+    let mut flash = MemFlash::new(rt.alloc(), 2, &[])?;
+    let mut page = [0; 2048];
+    assert_eq!(rt; flash.pages(), 0);
+    flash.make(rt.alloc(), "key", 2)?;
+    flash.read_page(127, &mut page)?;
+    assert!(rt; is_all(&page, 0xFF));
+    flash.write_page(64, &[7; 2048])?;
+    flash.read_page(64, &mut page)?;
+    assert!(rt; is_all(&page, 7));
+    flash.erase_block(1)?;
+    flash.write_page(65, &[8; 2048])?;
+    flash.read_page(63, &mut page)?;
+    flash.read_page(64, &mut page)?;
+    assert!(rt; is_all(&page, 0xFF));
+    assert_eq!(rt; flash.attach(rt.alloc(), "key"), Ok(128));
+    assert_eq!(rt; flash.pages(), 128);
+    assert_eq!(rt; flash.script.calls, 9);
+    assert_eq!(rt; flash.deep_reads(), 3);
+    Ok(())
+}
+
+#[test]
+fn a_device_is_made_within_its_room(rt: HostRuntime) -> Result<(), AllocError> {
+    let mut flash = MemFlash::new(rt.alloc(), 1, &[])?;
+    assert_eq!(rt; flash.attach(rt.alloc(), "key"), Ok(0));
+    assert_eq!(rt; flash.make(rt.alloc(), "key", 1), Ok(()));
+    assert_eq!(rt; flash.make(rt.alloc(), "key", 2), Err(AttachFault::Failed));
+    assert_eq!(rt; flash.pages(), 0);
+    assert_eq!(rt; flash.script.faults, 1);
+    assert_eq!(rt; flash.attach(rt.alloc(), "key"), Ok(64));
+    Ok(())
+}
+
+/// Whether of a write, a read and an erasing that follow the making of a device that one fails which its script names, and
+/// leaves the page and the buffer as it should.
+fn fails_at(flash: &mut MemFlash, call: u64) -> bool
+    requires pages { (⟦<MemFlash as Flash>⟧.state flash.old).page_count ≡ 64 }
+    requires blank { (⟦<MemFlash as Flash>⟧.state flash.old).blank 3 ≡ true }
+{
+    let mut page = [1; 2048];
+    let write = flash.write_page(3, &[7; 2048]).is_err() == (call == 2);
+    let read = flash.read_page(3, &mut page).is_err() == (call == 3);
+    let half = page[1023] == if call == 3 { 1 } else { 7 };
+    let rest = page[1024] == if call == 2 { 255 } else { page[1023] };
+    let erase = flash.erase_block(0).is_err() == (call == 4);
+    match flash.page(3) {
+        Some(page) => write && read && half && rest && erase && (call == 4 || is_all(page, 255)),
+        None => false,
+    }
+}
+
+#[test]
+fn each_call_of_a_device_may_fail(rt: HostRuntime) -> Result<(), AllocError> {
+    for call in 1..6u64 {
+        let mut flash = MemFlash::new(rt.alloc(), 1, &[call])?;
+        match flash.make(rt.alloc(), "key", 1) {
+            Err(fault) => {
+                assert_eq!(rt; (call, fault), (1, AttachFault::Failed));
+                assert_eq!(rt; flash.pages(), 0);
+                assert_eq!(rt; flash.attach(rt.alloc(), "key"), Ok(0));
+            }
+            Ok(()) => assert!(rt; fails_at(&mut flash, call), "call {call}"),
+        }
+        assert_eq!(rt; flash.script.faults, u64::from(call < 5), "call {call}");
+    }
     Ok(())
 }

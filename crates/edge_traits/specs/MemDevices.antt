@@ -1,0 +1,17 @@
+-- What a device in memory tells.
+use Rattle.std.specs.Prelude.{if◌then◌else◌, vec_len}
+use Rattle.edge_traits.specs.Devices.{Device}
+use Rattle.edge_traits.specs.Marks.{is_marked}
+use Rattle.edge_traits.specs.Pages.{page_at}
+use Rattle.edge_traits.specs.declared.mem_flash.MemFlash.{MemFlash}
+
+abbrev pub device_of : MemFlash → Device
+device_of flash = record {
+  page_count = if flash.is_open then vec_len flash.pages else 0;
+  page = page_at flash.pages.items;
+  blank = is_marked flash.marks.items;
+  calls = flash.script.calls;
+  deep_reads = flash.deep_reads;
+  faults = flash.script.faults;
+  since_fault = flash.since_fault;
+}

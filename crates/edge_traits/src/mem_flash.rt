@@ -1,0 +1,223 @@
+//! A flash device in memory.
+
+ghost use Rattle.std.specs.Prelude.{◌≡◌, ◌≤◌, ◌<◌, ◌*◌, ◌+◌, ◌++◌, ℕ, true, false, take, drop, IfOk, IsTrue, ◌↔◌, MatchOption, [], slice_set, length, replicate, vec_len};
+ghost use Rattle.ghost_model.specs.Causes.{HasCause, Rose};
+ghost use Rattle.edge_traits.specs.Devices.{next, since_call};
+ghost use Rattle.edge_traits.specs.Scripts.{IsFresh};
+ghost use Rattle.edge_traits.specs.Pages.{page_at};
+
+use crate::flash::{AttachFault, Flash};
+use crate::script::Script;
+use crate::{Failed, counting, marks};
+use std::alloc::{AllocError, Global};
+
+/// One device, whatever it is called, whose pages lie in memory.
+///
+/// It is empty until it is made. To make it with more blocks than it has room for is a fault, and so is each call that its
+/// script names. A failed read leaves the buffer as it was. After a failed write the page has the first half of what was to
+/// be written; its other half, and all pages of a block after a failed erase, are as they were.
+#[derive(Drop)]
+pub struct MemFlash {
+    /// Which calls fail.
+    pub script: Script,
+    room: u32,
+    deep_reads: u64,
+    since_fault: u64,
+    is_open: bool,
+    pages: Vec<[u8; 2048]>,
+    marks: Vec<u64>,
+    ghost sized: { vec_len pages ≡ 64 * vec_len marks },
+    ghost small: { vec_len marks ≤ 60000000 },
+}
+
+impl MemFlash {
+    /// A device with room for `room` blocks that fails at the calls numbered in `fails`, from 1. It is empty, and not open.
+    pub fn new(alloc: Global, room: u32, fails: &[u64]) -> Result<MemFlash, AllocError>
+        ensures script { IfOk result (λ flash. IsFresh fails.now flash.script) }
+        ensures room { IfOk result (λ flash. flash.room ≡ room) }
+        ensures closed { IfOk result (λ flash. flash.is_open ≡ false) }
+        ensures empty { IfOk result (λ flash. vec_len flash.pages ≡ 0) }
+        ensures no_deep_read { IfOk result (λ flash. flash.deep_reads ≡ 0) }
+        ensures no_call { IfOk result (λ flash. flash.since_fault ≡ 0) }
+    {
+        Ok(MemFlash {
+            script: Script::new(alloc, fails)?,
+            room,
+            deep_reads: 0,
+            since_fault: 0,
+            is_open: false,
+            pages: Vec::new(alloc),
+            marks: Vec::new(alloc),
+        })
+    }
+
+    /// The bytes of a page, whether the device is open or not, with no call that is counted.
+    pub fn page(&self, page: u32) -> Option<&[u8; 2048]>
+        ensures { MatchOption result (page_at self.now.pages.items page ≡ []) (λ bytes. page_at self.now.pages.items page ≡ bytes.now) }
+    {
+        self.pages.get(page as usize)
+    }
+
+    /// Puts other bytes into a page, blank or not, with no call that is counted, and answers whether there is such a page.
+    pub fn put_page(&mut self, page: u32, bytes: &[u8; 2048]) -> bool
+        ensures there { IsTrue result ↔ page < vec_len self.old.pages }
+        ensures put { self.new.pages.items ≡ slice_set self.old.pages.items page bytes.now }
+        ensures marks { self.new.marks ≡ self.old.marks }
+        ensures script { self.new.script ≡ self.old.script }
+        ensures deep_reads { self.new.deep_reads ≡ self.old.deep_reads }
+        ensures since_fault { self.new.since_fault ≡ self.old.since_fault }
+        ensures open { self.new.is_open ≡ self.old.is_open }
+    {
+        if (page as usize) < self.pages.len() {
+            self.pages[page as usize] = *bytes;
+            return true;
+        }
+        false
+    }
+
+    /// How many reads there were of page 64 or a later one.
+    pub fn deep_reads(&self) -> u64
+        ensures { result ≡ (⟦<MemFlash as Flash>⟧.state self.now).deep_reads }
+    {
+        self.deep_reads
+    }
+
+    /// Begins a call, which fails where the script names its number.
+    fn begin(&mut self) -> Result<(), Failed>
+        ensures cause { HasCause self.old.script.faults self.new.script.faults result }
+        ensures one_fault { self.new.script.faults ≤ self.old.script.faults + 1 }
+        ensures calls { self.new.script.calls ≡ next self.old.script.calls }
+        ensures since_fault { self.new.since_fault ≡ since_call self.old.since_fault result }
+        ensures pages { self.new.pages ≡ self.old.pages }
+        ensures marks { self.new.marks ≡ self.old.marks }
+        ensures open { self.new.is_open ≡ self.old.is_open }
+        ensures room { self.new.room ≡ self.old.room }
+        ensures deep_reads { self.new.deep_reads ≡ self.old.deep_reads }
+    {
+        match self.script.begin() {
+            Ok(()) => {
+                self.since_fault = counting::one_more(self.since_fault);
+                Ok(())
+            }
+            Err(failed) => {
+                self.since_fault = 0;
+                Err(failed)
+            }
+        }
+    }
+
+    /// Counts a fault of the call that began.
+    fn fault(&mut self) -> Failed
+        ensures rose { Rose self.old.script.faults self.new.script.faults }
+        ensures never_falls { self.old.script.faults ≤ self.new.script.faults }
+        ensures one_fault { self.new.script.faults ≤ self.old.script.faults + 1 }
+        ensures calls { self.new.script.calls ≡ self.old.script.calls }
+        ensures since_fault { self.new.since_fault ≡ 0 }
+        ensures open { self.new.is_open ≡ self.old.is_open }
+        ensures deep_reads { self.new.deep_reads ≡ self.old.deep_reads }
+    {
+        self.since_fault = 0;
+        self.script.fault()
+    }
+}
+
+/// So many blocks of pages, all of them bytes 0xFF.
+fn blank_pages(alloc: Global, blocks: u32) -> Result<Vec<[u8; 2048]>, AllocError>
+    requires { blocks ≤ 60000000 }
+    ensures pages { IfOk result (λ pages. vec_len pages ≡ 64 * blocks) }
+    ensures blank { IfOk result (λ pages. (page : ℕ) → page < 64 * blocks → page_at pages.items page ≡ replicate 2048 255) }
+{
+    let mut pages = Vec::new(alloc);
+    for _ in 0..64 * blocks {
+        pages.push([0xFF; 2048])?;
+    }
+    Ok(pages)
+}
+
+/// Makes the pages of a block bytes 0xFF.
+fn erase_pages(pages: &mut [[u8; 2048]], first: usize)
+    requires { first + 64 ≤ length pages.old }
+    ensures erased { (page : ℕ) → first ≤ page → page < first + 64 → page_at pages.new page ≡ replicate 2048 255 }
+    ensures below { (page : ℕ) → page < first → page_at pages.new page ≡ page_at pages.old page }
+    ensures above { (page : ℕ) → first + 64 ≤ page → page_at pages.new page ≡ page_at pages.old page }
+{
+    for page in first..first + 64 {
+        pages[page] = [0xFF; 2048];
+    }
+}
+
+/// Writes the first half of a page.
+fn write_half(page: &mut [u8; 2048], bytes: &[u8; 2048])
+    ensures { page.new ≡ take 1024 bytes.now ++ drop 1024 page.old }
+{
+    page[..1024].copy_from_slice(&bytes[..1024]);
+}
+
+impl Flash for MemFlash {
+    ghost use Rattle.edge_traits.specs.MemDevices.{device_of};
+
+    ghost told = { true };
+
+    ghost state = { device_of };
+
+    fn make(&mut self, alloc: Global, _name: &str, blocks: u32) -> Result<(), AttachFault> {
+        self.is_open = false;
+        self.begin()?;
+        if blocks > self.room {
+            return Err(AttachFault::from(self.fault()));
+        }
+        let pages = blank_pages(alloc, blocks)?;
+        let marks = marks::all_set(alloc, blocks)?;
+        self.pages = pages;
+        self.marks = marks;
+        self.is_open = true;
+        Ok(())
+    }
+
+    fn attach(&mut self, _alloc: Global, _name: &str) -> Result<u32, AttachFault> {
+        self.is_open = false;
+        self.begin()?;
+        marks::clear_all(&mut self.marks);
+        self.is_open = true;
+        Ok(self.pages.len() as u32)
+    }
+
+    fn read_page(&mut self, page: u32, buf: &mut [u8; 2048]) -> Result<(), Failed> {
+        self.deep_reads = counting::one_more_if(page >= 64, self.deep_reads);
+        self.begin()?;
+        *buf = self.pages[page as usize];
+        Ok(())
+    }
+
+    fn write_page(&mut self, page: u32, bytes: &[u8; 2048]) -> Result<(), Failed> {
+        marks::clear(&mut self.marks, page);
+        match self.begin() {
+            Ok(()) => {
+                self.pages[page as usize] = *bytes;
+                Ok(())
+            }
+            Err(failed) => {
+                write_half(&mut self.pages[page as usize], bytes);
+                Err(failed)
+            }
+        }
+    }
+
+    fn erase_block(&mut self, block: u32) -> Result<(), Failed> {
+        if let Err(failed) = self.begin() {
+            marks::clear_block(&mut self.marks, block);
+            return Err(failed);
+        }
+        erase_pages(&mut self.pages, block as usize * 64);
+        marks::set_block(&mut self.marks, block);
+        Ok(())
+    }
+
+    fn pages(&self) -> u32 {
+        if self.is_open {
+            self.pages.len() as u32
+        } else {
+            0
+        }
+    }
+}
