@@ -2,3 +2,4 @@ pub mod Written
 pub mod Files
 pub mod Scripts
 pub mod Slots
+pub mod Links

@@ -6,6 +6,7 @@
 #![tactic(auto)]
 
 pub mod depot;
+pub mod link;
 pub mod mem_depot;
 pub mod mem_sink;
 pub mod reading;
