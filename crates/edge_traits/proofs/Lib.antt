@@ -3,3 +3,4 @@ pub mod WholeFile
 pub mod Filling
 pub mod InSlots
 pub mod Inserts
+pub mod ToldEntries

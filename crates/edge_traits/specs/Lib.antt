@@ -3,3 +3,5 @@ pub mod Files
 pub mod Scripts
 pub mod Slots
 pub mod Links
+pub mod Told
+pub mod MemLinks

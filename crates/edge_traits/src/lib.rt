@@ -8,12 +8,15 @@
 pub mod depot;
 pub mod link;
 pub mod mem_depot;
+pub mod mem_link;
 pub mod mem_sink;
+pub mod peer;
 pub mod reading;
 pub mod room;
 pub mod script;
 pub mod sink;
 mod slots;
+pub mod told;
 pub mod writing;
 
 /// A call on the outside failed, and the object counted it as a fault.
