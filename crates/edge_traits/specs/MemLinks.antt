@@ -1,6 +1,8 @@
 -- What a link in memory tells, and what its other end gives.
-use Rattle.std.specs.Prelude.{◌≡◌, ℕ, ◌+◌, Bool, true, false, ◌&&◌, nat_lt, nat_le, List, drop, length, min, max, Option, None, Some, slice_index_or, vec_len, vec_capacity}
+use Rattle.std.specs.Prelude.{◌≡◌, ℕ, ◌+◌, Bool, true, false, ◌&&◌, nat_lt, nat_le, List, drop, length, min, max, Option, None, Some, Result, OnOk, OnErr, ◌⊎◌, slice_get, slice_index_or, vec_len, vec_capacity}
+use Rattle.ghost_model.specs.Causes.{last_count}
 use Rattle.ghost_model.specs.Channel.{Journal}
+use Rattle.edge_traits.specs.Scripts.{IsNamed}
 use Rattle.edge_traits.specs.Links.{appended}
 use Rattle.edge_traits.specs.Told.{entries}
 use Rattle.edge_traits.specs.declared.told.ToldMoves.{ToldMoves}
@@ -26,10 +28,17 @@ abbrev pub told_within : (room : Bool) → Option Journal → Journal → Option
 told_within true before more = appended before more
 told_within false before more = None
 
+-- how many moves have room, and how many bytes of them
+abbrev pub move_room : ToldMoves → ℕ
+move_room moves = vec_capacity moves.list
+
+abbrev pub byte_room : ToldMoves → ℕ
+byte_room moves = vec_capacity moves.bytes
+
 -- the room is as it was
 pub record SameRoom (old new : ToldMoves) : Type 0 where
-  pub moves : vec_capacity new.list ≡ vec_capacity old.list
-  pub bytes : vec_capacity new.bytes ≡ vec_capacity old.bytes
+  pub moves : move_room new ≡ move_room old
+  pub bytes : byte_room new ≡ byte_room old
 
 -- the journal that a link tells
 abbrev pub journal_of : MemLink → Option Journal
@@ -55,3 +64,17 @@ pub record IsNew (script : PeerScript) (peer : Peer) : Type 0 where
 pub record SamePlan (old new : Peer) : Type 0 where
   pub pieces : new.pieces.items ≡ old.pieces.items
   pub ports : new.ports.items ≡ old.ports.items
+
+-- the port that the next listening is given
+abbrev pub next_port : Peer → Option ℕ
+next_port peer = slice_get peer.ports.items peer.listens
+
+-- a call of a link that keeps so many bytes goes well exactly where the list of failing calls does not name it, it has
+-- room, and there is no other reason to fail
+pub record Passes {T E : Type 0} (old : MemLink) (size : ℕ) (Other : Type 0) (result : Result T E) (new : MemLink) : Type 0 where
+  pub failed : OnErr result (IsNamed old.script.fails.items new.script.calls ⊎ ((has_room old.moves size ≡ false) ⊎ Other))
+  pub unnamed : OnOk result (IsNamed old.script.fails.items new.script.calls → ⊥)
+  pub roomy : OnOk result (has_room old.moves size ≡ true)
+  pub free : OnOk result (Other → ⊥)
+  pub calls : new.script.calls ≡ min (old.script.calls + 1) last_count
+  pub fails : new.script.fails ≡ old.script.fails

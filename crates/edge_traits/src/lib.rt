@@ -24,4 +24,6 @@ pub mod writing;
 pub struct Failed;
 
 #[cfg(test)]
+mod link_tests;
+#[cfg(test)]
 mod tests;

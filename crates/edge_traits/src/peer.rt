@@ -19,19 +19,25 @@ pub struct PeerScript<'a> {
 /// The other end, as far as it has come.
 #[derive(Drop)]
 pub struct Peer {
-    bytes: Vec<u8>,
-    at: usize,
-    pieces: Vec<usize>,
-    takes: usize,
-    ports: Vec<u16>,
-    listens: usize,
-    ghost within: { at ≤ vec_len bytes },
+    /// All bytes that it sends.
+    pub bytes: Vec<u8>,
+    /// How many of them were taken.
+    pub at: usize,
+    /// How many bytes each take gives at most.
+    pub pieces: Vec<usize>,
+    /// How many takes gave a piece or the end; it stays at its last value.
+    pub takes: usize,
+    /// The ports.
+    pub ports: Vec<u16>,
+    /// How many ports were asked for; it stays at its last value.
+    pub listens: usize,
+    pub ghost within: { at ≤ vec_len bytes },
 }
 
 impl Peer {
     ghost use Rattle.std.specs.Prelude.{◌≡◌, ◌+◌, length, take, drop, min, IfOk, slice_get};
     ghost use Rattle.ghost_model.specs.Causes.{last_count};
-    ghost use Rattle.edge_traits.specs.MemLinks.{left_of, next_size, IsNew, SamePlan};
+    ghost use Rattle.edge_traits.specs.MemLinks.{left_of, next_port, next_size, IsNew, SamePlan};
 
     /// The other end that did nothing yet.
     pub fn new(alloc: Global, script: &PeerScript) -> Result<Peer, AllocError>
@@ -77,7 +83,7 @@ impl Peer {
 
     /// The port that the next listening is given, if there is one.
     pub fn next_port(&mut self) -> Option<u16>
-        ensures port { result ≡ slice_get self.old.ports.items self.old.listens }
+        ensures port { result ≡ next_port self.old }
         ensures turn { self.new.listens ≡ min (self.old.listens + 1) last_count }
         ensures plan { SamePlan self.old self.new }
         ensures left { left_of self.new ≡ left_of self.old }

@@ -65,15 +65,15 @@ pub struct ToldMoves {
 }
 
 impl ToldMoves {
-    ghost use Rattle.std.specs.Prelude.{◌∷◌, [], Some, None, IfOk, MatchOption, length, vec_capacity};
+    ghost use Rattle.std.specs.Prelude.{◌∷◌, [], Some, None, IfOk, MatchOption, length};
     ghost use Rattle.edge_traits.specs.Told.{entries, entry_of, size_of};
-    ghost use Rattle.edge_traits.specs.MemLinks.{told_in, has_room, told_within, SameRoom};
+    ghost use Rattle.edge_traits.specs.MemLinks.{told_in, has_room, told_within, move_room, byte_room, SameRoom};
 
     /// Room for so many moves with so many bytes in all, and no move yet.
     pub fn new(alloc: Global, moves: usize, bytes: usize) -> Result<ToldMoves, AllocError>
         ensures none { IfOk result (λ told. told_in told ≡ Some []) }
-        ensures moves { IfOk result (λ told. vec_capacity told.list ≡ moves) }
-        ensures bytes { IfOk result (λ told. vec_capacity told.bytes ≡ bytes) }
+        ensures moves { IfOk result (λ told. move_room told ≡ moves) }
+        ensures bytes { IfOk result (λ told. byte_room told ≡ bytes) }
     {
         Ok(ToldMoves {
             list: Vec::with_capacity(alloc, moves)?,
