@@ -21,12 +21,13 @@ const SILENT: PeerScript = PeerScript {
 
 /// Takes until the stream ends, and answers how many takes that were.
 fn take_all<L: Link>(link: &mut L) -> Result<u64, Failed> {
-    let mut takes = 1;
     let mut buf = [0; 8];
-    while link.take(&mut buf)? > 0 && takes < 100 {
-        takes += 1;
+    for takes in 1..100 {
+        if link.take(&mut buf)? == 0 {
+            return Ok(takes);
+        }
     }
-    Ok(takes)
+    Ok(0)
 }
 
 #[test]
