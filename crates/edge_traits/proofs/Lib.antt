@@ -6,3 +6,4 @@ pub mod Inserts
 pub mod MarkLemmas
 pub mod DeviceFrames
 pub mod PageLemmas
+pub mod ToldEntries

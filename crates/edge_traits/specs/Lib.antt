@@ -6,3 +6,6 @@ pub mod Devices
 pub mod Marks
 pub mod Pages
 pub mod MemDevices
+pub mod Links
+pub mod Told
+pub mod MemLinks

@@ -11,17 +11,24 @@ pub mod flash;
 pub mod marks;
 pub mod mem_depot;
 pub mod mem_flash;
+pub mod link;
+pub mod mem_depot;
+pub mod mem_link;
 pub mod mem_sink;
+pub mod peer;
 pub mod reading;
 pub mod room;
 pub mod script;
 pub mod sink;
 mod slots;
+pub mod told;
 pub mod writing;
 
 /// A call on the outside failed, and the object counted it as a fault.
 #[derive(Clone, Copy, Debug, PartialEq, Eq)]
 pub struct Failed;
 
+#[cfg(test)]
+mod link_tests;
 #[cfg(test)]
 mod tests;
