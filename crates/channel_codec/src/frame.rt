@@ -70,7 +70,7 @@ fn serial(frame: &Frame) -> u32
 
 /// Writes bytes over those at a place.
 #[tactic(auto, using(crate::proofs::Writing::front_grows, crate::proofs::Writing::rest_stays))]
-fn put_at(out: &mut [u8], at: usize, bytes: &[u8])
+pub(crate) fn put_at(out: &mut [u8], at: usize, bytes: &[u8])
     requires { at + length bytes.now ≤ length out.old }
     ensures front { take (at + length bytes.now) out.new ≡ take at out.old ++ bytes.now }
     ensures rest { drop (at + length bytes.now) out.new ≡ drop (at + length bytes.now) out.old }

@@ -1,0 +1,15 @@
+use Rattle.std.proofs.Common.{◌≡◌, ◌≤◌, ◌+◌, ◌*◌, length, map, sum}
+use Rattle.ghost_model.specs.Asks as asks
+use Rattle.ghost_model.specs.Cells.{cell_width}
+use Rattle.channel_codec.specs.AskViews.{ask_view}
+use Rattle.channel_codec.proofs.ask.row_width.Given as goal
+
+abbrev pub invariant-columns : goal.invariant-columns
+invariant-columns l = record {
+  counted : l.width + sum (map cell_width (map (asks.kind_at l.schema l.ask.table) l.rest)) ≡ asks.row_width l.schema (ask_view l.ask);
+  some : 4 ≤ l.width;
+  most : l.width + 64 * length l.rest ≤ 1540;
+}
+
+abbrev pub decreases-columns : goal.decreases-columns
+decreases-columns l = length l.rest
