@@ -3,3 +3,4 @@ pub mod Numbers
 pub mod Following
 pub mod Order
 pub mod Small
+pub mod Levels

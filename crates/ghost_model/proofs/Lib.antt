@@ -13,3 +13,4 @@ pub mod ChannelLemmas
 pub mod MeaningLemmas
 pub mod SessionLemmas
 pub mod LayoutLemmas
+pub mod FlashLemmas

@@ -4,19 +4,21 @@
 -- rows that have it and the rows of each table above that lead to such a row; an id index has the same for each
 -- identifier. At one level the lists of all entries stand one after another, and an entry of the directory says where
 -- its own begins and how long it is. The part that each file kind has is a word of its own; `Holds` is all of them.
-use Rattle.std.specs.Prelude.{◌≡◌, ℕ, ◌-◌, ◌*◌, ◌<◌, pos, true, false, List, [], ◌∷◌, ◌++◌, length, take, drop, map, filter, flat_map, replicate, get_or, slice_index, count_by, Contains, bytes_eq, Option, Some, None, slice_get, unwrap_or}
+use Rattle.std.specs.Prelude.{◌≡◌, ℕ, ◌-◌, ◌*◌, ◌<◌, pos, true, false, List, [], ◌∷◌, ◌++◌, length, take, drop, map, filter, flat_map, replicate, get_or, slice_index, Contains, bytes_eq, Option, Some, None, slice_get, unwrap_or, IsTrue}
 use Rattle.std.specs.List.Sorted.{IsStrictlySortedBy}
 use Rattle.std.specs.List.{range_with_len}
 use Rattle.std.specs.Option.{option_map_or}
 use Rattle.std.specs.Cmp.Lexicographic.{slice_cmp}
 use Rattle.std.specs.Ordering.{nat_cmp}
-use Rattle.ghost_model.specs.Schema.{Schema, Column, Kind, Integer, column_at, is_empty, is_table}
+use Rattle.ghost_model.specs.Schema.{Schema, Table, Kind, is_empty, is_table}
 use Rattle.ghost_model.specs.Values.{Value, Number, Row, Rows, Database}
 use Rattle.ghost_model.specs.Channel.{Catalog}
 use Rattle.ghost_model.specs.Database.{rows_or_none, leads}
 use Rattle.ghost_model.specs.Cells.{encode_cell}
 use Rattle.ghost_model.specs.Catalog.{catalog_bytes}
-use Rattle.ghost_model.specs.Split.{Hidden, rejoined}
+use Rattle.ghost_model.specs.Asks.{kind_at}
+use Rattle.ghost_model.specs.Split.{Hidden, rejoined, value_at, kind_of, are_of_kinds}
+use Rattle.ghost_model.specs.Replies.{hidden_places}
 use Rattle.ghost_model.specs.Runs.{page_bytes, number_cell, Stores}
 use Rattle.ghost_model.specs.Layout.{below, is_hidden, count_of, levels_of, above_of, descendants_of, public_pages, column_file, subtree_table, index_header, index_directory, index_level, id_directory, id_level}
 
@@ -34,16 +36,15 @@ HoldsCatalog page cat = (place : ℕ) → place < public_pages → page place �
 abbrev pub hidden_rows : Hidden → (table : ℕ) → Rows
 hidden_rows hidden table = rows_or_none (slice_get hidden.hidden table)
 
--- how many hidden columns a table has before a column: where such a row has that column's value
-abbrev pub hidden_before : Schema → (table column : ℕ) → ℕ
-hidden_before schema table column = count_by (is_hidden schema table) (below column)
+abbrev pub hidden_kinds : Table → List Kind
+hidden_kinds table = map kind_of (filter (λ column. column.hidden) (drop 1 table.columns))
 
-abbrev pub kind_or_integer : Option Column → Kind
-kind_or_integer None = Integer
-kind_or_integer (Some column) = column.kind
-
-abbrev pub kind_at : Schema → (table column : ℕ) → Kind
-kind_at schema table column = kind_or_integer (column_at schema table column)
+-- a hidden part that goes with a catalog: each table has as many rows as the catalog says, and a row one value for each
+-- hidden column, of its kind
+pub record IsHidden (cat : Catalog) (hidden : Hidden) : Type 0 where
+  pub counted : map length hidden.hidden ≡ cat.counts
+  pub kinds : (table place : ℕ) (declared : Table) (row : Row) → slice_get cat.schema table ≡ Some declared
+      → slice_get (hidden_rows hidden table) place ≡ Some row → IsTrue (are_of_kinds (hidden_kinds declared) row)
 
 abbrev pub cell_or_none : Kind → Option Value → List ℕ
 cell_or_none kind None = []
@@ -52,7 +53,7 @@ cell_or_none kind (Some value) = encode_cell kind value
 -- the cell of a hidden column for a row of the hidden part
 abbrev pub hidden_cell : Schema → (table column : ℕ) → Row → List ℕ
 hidden_cell schema table column row =
-    cell_or_none (kind_at schema table column) (slice_get row (hidden_before schema table column))
+    cell_or_none (kind_at schema table column) (value_at (hidden_places schema table) row column)
 
 -- the cells of a hidden column, row by row
 abbrev pub hidden_cells : Schema → Hidden → (table column : ℕ) → List (List ℕ)

@@ -39,8 +39,8 @@ abbrev pub is_hidden : Schema → (table column : ℕ) → Bool
 is_hidden schema table column = hidden_or_none (column_at schema table column)
 
 -- the hidden columns of a table
-abbrev pub hidden_places : Schema → (table : ℕ) → List ℕ
-hidden_places schema table = columns_that is_hidden schema table
+abbrev pub hidden_columns : Schema → (table : ℕ) → List ℕ
+hidden_columns schema table = columns_that is_hidden schema table
 
 abbrev pub width_or_none : Option Column → ℕ
 width_or_none None = 0
@@ -199,7 +199,7 @@ id_level cat table level =
 
 -- The static files in the order of their pages.
 abbrev pub column_files : Catalog → (table : ℕ) → List Run
-column_files cat table = map (column_file cat table) (hidden_places cat.schema table)
+column_files cat table = map (column_file cat table) (hidden_columns cat.schema table)
 
 abbrev pub subtree_files : Catalog → (table : ℕ) → List Run
 subtree_files cat table = if is_empty (descendants_of cat.schema table) then [] else subtree_table cat table ∷ []
@@ -217,7 +217,7 @@ id_index_files cat table =
 abbrev pub files_of_table : Catalog → (table : ℕ) → List Run
 files_of_table cat table =
     column_files cat table ++ (subtree_files cat table
-    ++ (flat_map (index_files cat table) (hidden_places cat.schema table) ++ id_index_files cat table))
+    ++ (flat_map (index_files cat table) (hidden_columns cat.schema table) ++ id_index_files cat table))
 
 abbrev pub static_files : Catalog → List Run
 static_files cat = flat_map (files_of_table cat) (tables_of cat.schema)

@@ -3,7 +3,9 @@
 -- all widths fit a page and all page numbers fit 32 bits.
 use Rattle.std.specs.Prelude.{◌≡◌, ℕ, ◌+◌, ◌*◌, ◌%◌, ◌^◌, ◌<◌, ◌≤◌, nat_le, true, List, [], ◌∷◌, length, Some, slice_get}
 use Rattle.std.specs.List.{list_all}
+use Rattle.ghost_model.specs.Schema.{Schema}
 use Rattle.ghost_model.specs.Channel.{Catalog}
+use Rattle.ghost_model.specs.SchemaFaults.{ancestor}
 use Rattle.ghost_model.specs.SchemaTrees.{IsTree}
 use Rattle.ghost_model.specs.LoadFaults.{most_rows}
 use Rattle.ghost_model.specs.Catalog.{IsCatalog}
@@ -156,3 +158,9 @@ pub record AreFew (cat : Catalog) : Type 0 where
 pub record LayoutIsSmall : Type 0 where
   pub narrow : (cat : Catalog) → IsTree cat.schema → AreNarrow cat
   pub few : (cat : Catalog) → IsLimited cat → AreFew cat
+
+-- the levels of a table, by their places, are the tables on its way up
+abbrev pub LevelsAreAncestors : Type 0
+LevelsAreAncestors =
+    (schema : Schema) → IsTree schema → (table steps : ℕ) → table < length schema
+    → slice_get (Layout.levels_of schema table) steps ≡ ancestor schema steps table

@@ -39,4 +39,5 @@ pub mod Layout
 pub mod Flash
 pub mod Work
 pub mod LayoutLaws
+pub mod FlashLaws
 pub mod examples

@@ -1,6 +1,32 @@
-//! Examples of what the flash holds.
+//! Examples and laws of what the flash holds.
 
+ghost use Rattle.ghost_model.specs.FlashLaws.{HiddenValuesByPlace, HiddenPartsGoWithCatalogs, HiddenCellsFit, HiddenCellsOfDatabases, RowsLeadByHiddenValues};
 ghost use Rattle.ghost_model.specs.examples.Flash.{CellsOfTheClinic, IndexesOfTheClinic, PagesOfTheClinic};
+
+/// Where a row of the hidden part has the value of a hidden column.
+pub fn hidden_values_by_place()
+    ensures { HiddenValuesByPlace }
+{}
+
+/// The hidden part of a database goes with its catalog.
+pub fn hidden_parts_go_with_catalogs()
+    ensures { HiddenPartsGoWithCatalogs }
+{}
+
+/// The cells of such a part are as many as rows, as wide as their column, and read as its values.
+pub fn hidden_cells_fit()
+    ensures { HiddenCellsFit }
+{}
+
+/// The cells of the hidden part of a database are those of its values.
+pub fn hidden_cells_of_databases()
+    ensures { HiddenCellsOfDatabases }
+{}
+
+/// Rows lead to the same rows by the hidden part of a database as by the whole.
+pub fn rows_lead_by_hidden_values()
+    ensures { RowsLeadByHiddenValues }
+{}
 
 /// The column files of the clinic.
 pub fn cells_of_the_clinic()

@@ -6,7 +6,7 @@ use Rattle.std.proofs.lemmas.List.Sums.{sum_by-cons, sum_by_more}
 use Rattle.ghost_model.specs.Schema.{is_empty}
 use Rattle.ghost_model.specs.Channel.{Catalog}
 use Rattle.ghost_model.specs.Runs.{Run, run_pages}
-use Rattle.ghost_model.specs.Layout.{below, is_hidden, hidden_places, column_count, levels_of, above_of, descendants_of, level_pages, levels_pages, column_pages, directory_pages, index_pages, id_directory_pages, id_index_pages, public_pages, table_pages, table_begin, subtree_begin, indexes_begin, index_begin, id_index_begin, files_end, column_file, subtree_table, level_file_among, index_level, id_directory, id_level, column_files, subtree_files, index_files, id_index_files, files_of_table, static_files, static_end, spool_pages, half_pages, spool_area, has_spool, visible_columns, spool_areas, spool_end, scratch_areas, need}
+use Rattle.ghost_model.specs.Layout.{below, is_hidden, hidden_columns, column_count, levels_of, above_of, descendants_of, level_pages, levels_pages, column_pages, directory_pages, index_pages, id_directory_pages, id_index_pages, public_pages, table_pages, table_begin, subtree_begin, indexes_begin, index_begin, id_index_begin, files_end, column_file, subtree_table, level_file_among, index_level, id_directory, id_level, column_files, subtree_files, index_files, id_index_files, files_of_table, static_files, static_end, spool_pages, half_pages, spool_area, has_spool, visible_columns, spool_areas, spool_end, scratch_areas, need}
 use Rattle.ghost_model.specs.LayoutLaws.{Follow, block_room, FollowOneAnother}
 
 -- the sum over one number more
@@ -135,7 +135,7 @@ module _ (cat : Catalog) where
         ),
       )
 
-  follow_indexes : (table : ℕ) → Follow run_pages (indexes_begin cat table) (flat_map (index_files cat table) (hidden_places cat.schema table)) (id_index_begin cat table)
+  follow_indexes : (table : ℕ) → Follow run_pages (indexes_begin cat table) (flat_map (index_files cat table) (hidden_columns cat.schema table)) (id_index_begin cat table)
   follow_indexes table =
       follow_kept run_pages (index_files cat table) (is_hidden cat.schema table)
       (λ column. 1 + (directory_pages cat table column + levels_pages cat (levels_of cat.schema table))) (index_pages cat table)
@@ -159,7 +159,7 @@ module _ (cat : Catalog) where
       let after : id_index_begin cat table + id_index_pages cat table ≡ table_begin cat table + table_pages cat table = omega arith in
       follow_on run_pages (column_files cat table) _ (table_begin cat table) (subtree_begin cat table) (table_begin cat table + table_pages cat table) (follow_columns table)
       (follow_on run_pages (subtree_files cat table) _ (subtree_begin cat table) (indexes_begin cat table) (table_begin cat table + table_pages cat table) (follow_subtree_by table (is_empty (descendants_of cat.schema table)) (subtree_begin cat table) refl)
-      (follow_on run_pages (flat_map (index_files cat table) (hidden_places cat.schema table)) (id_index_files cat table) (indexes_begin cat table) (id_index_begin cat table) (table_begin cat table + table_pages cat table) (follow_indexes table)
+      (follow_on run_pages (flat_map (index_files cat table) (hidden_columns cat.schema table)) (id_index_files cat table) (indexes_begin cat table) (id_index_begin cat table) (table_begin cat table + table_pages cat table) (follow_indexes table)
       (subst (λ end. Follow run_pages (id_index_begin cat table) (id_index_files cat table) end) after (follow_id_by table (is_empty (above_of cat.schema table))))))
 
   follow_files : Follow run_pages public_pages (static_files cat) (files_end cat)

@@ -20,7 +20,7 @@ sums_rise g n (suc m) low =
       | inr more ↦ (let e : n ≡ suc m = omega (arith, low, more) in let same = ap (λ k. sum_by g (below k)) e in omega (arith, same))
     ]
 
-table_there : (schema : Schema) (table column : ℕ) → is_hidden schema table column ≡ true → table < length schema
+pub table_there : (schema : Schema) (table column : ℕ) → is_hidden schema table column ≡ true → table < length schema
 table_there schema table column h =
     elim (cases_lt table (length schema)) [
       | inl less ↦ less
@@ -28,7 +28,7 @@ table_there schema table column h =
           let clash : false ≡ true = sym none ∙ h in absurd (cc (clash)))
     ]
 
-column_there : (schema : Schema) (table column : ℕ) → is_hidden schema table column ≡ true → column < column_count schema table
+pub column_there : (schema : Schema) (table column : ℕ) → is_hidden schema table column ≡ true → column < column_count schema table
 column_there schema table column h =
     elim (cases_lt column (column_count schema table)) [
       | inl less ↦ less

@@ -20,7 +20,7 @@ length_kept_by : (o : Option ℕ) (xs : List ℕ) → length (cons_option o xs) 
 length_kept_by None xs = omega arith
 length_kept_by (Some x) xs = omega arith
 
-length_kept : (h : ℕ → Option ℕ) (xs : List ℕ) → length (filter_map h xs) ≤ length xs
+pub length_kept : (h : ℕ → Option ℕ) (xs : List ℕ) → length (filter_map h xs) ≤ length xs
 length_kept h [] = omega arith
 length_kept h (x ∷ xs) = let rest = length_kept h xs in let one = length_kept_by (h x) (filter_map h xs) in omega (arith, rest, one)
 

@@ -79,7 +79,7 @@ among_range at (suc count) x low high =
       | inr more ↦ inr (among_range (at + 1) count x (omega arith) (omega arith))
     ])
 
-way_is_short : (schema : Schema) → IsTree schema → (steps from to : ℕ) → to < length schema
+pub way_is_short : (schema : Schema) → IsTree schema → (steps from to : ℕ) → to < length schema
     → ancestor schema steps to ≡ Some from → steps < length schema
 way_is_short schema tree steps from to within h =
     let all = range_with_len 0 (length schema) in
@@ -134,7 +134,7 @@ leads_alike schema database tree (suc steps) (x ∷ one) (y ∷ other) from iden
     ∙ sym (along_within schema database y other from identifier to up.0 differ up.1)
 
 -- a place that is told has an element that passes
-told_place : {X : Type 0} (p : X → Bool) (at : ℕ) (xs : List X) (i : ℕ) → first_of (places_from p at xs) ≡ Some i
+pub told_place : {X : Type 0} (p : X → Bool) (at : ℕ) (xs : List X) (i : ℕ) → first_of (places_from p at xs) ≡ Some i
     → (k : ℕ) × (x : X) × (i ≡ at + k) × (slice_get xs k ≡ Some x) × (p x ≡ true)
 unfolding places_from
 told_place p at [] i h = let bad : ⊥ = cc in absurd bad
@@ -158,7 +158,7 @@ place_within [] k x h = let bad : ⊥ = cc in absurd bad
 place_within (y ∷ ys) zero x h = omega arith
 place_within (y ∷ ys) (suc k) x h = let later = place_within ys k x h in omega arith
 
-get_within : {X : Type 0} (xs : List X) (k : ℕ) → k < length xs → (x : X) × (slice_get xs k ≡ Some x)
+pub get_within : {X : Type 0} (xs : List X) (k : ℕ) → k < length xs → (x : X) × (slice_get xs k ≡ Some x)
 get_within [] k h = let bad : ⊥ = omega arith in absurd bad
 get_within (y ∷ ys) zero h = (y, refl)
 get_within (y ∷ ys) (suc k) h = get_within ys k (omega arith)

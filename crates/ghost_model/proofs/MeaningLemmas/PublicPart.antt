@@ -10,7 +10,7 @@ use Rattle.ghost_model.specs.Database.{IsDatabase, is_of_kind, rows_or_none, row
 use Rattle.ghost_model.specs.Split.{hidden_flags, visible_values, rows_by, tables_by, public_of, is_open, kind_of, visible_kinds, are_of_kinds, IsPublic}
 
 -- each value is of its column's kind
-abbrev AreOfKinds : List Column → Row → Type 0
+abbrev pub AreOfKinds : List Column → Row → Type 0
 AreOfKinds columns values = (place : ℕ) (value : Value) (declared : Column) → slice_get values place ≡ Some value → slice_get columns place ≡ Some declared → is_of_kind declared.kind value ≡ true
 
 kinds_of_visible : (columns : List Column) (values : Row) → length values ≡ length columns → AreOfKinds columns values
@@ -28,14 +28,14 @@ kinds_of_visible (c ∷ cs) (v ∷ vs) same are =
     ])
 
 -- the kinds of a row without its identifier
-row_without : (columns : List Column) (row : Row) → length row ≡ length columns → AreOfKinds columns row
+pub row_without : (columns : List Column) (row : Row) → length row ≡ length columns → AreOfKinds columns row
     → AreOfKinds (drop 1 columns) (drop 1 row)
 row_without [] [] same are = are
 row_without [] (v ∷ vs) same are = let bad : ⊥ = cc in absurd bad
 row_without (c ∷ cs) [] same are = let bad : ⊥ = cc in absurd bad
 row_without (c ∷ cs) (v ∷ vs) same are = λ place. are (suc place)
 
-rows_in_tables : (part : List Bool → Row → Row) (schema : Schema) (database : Database) (table : ℕ) (declared : Table)
+pub rows_in_tables : (part : List Bool → Row → Row) (schema : Schema) (database : Database) (table : ℕ) (declared : Table)
     → slice_get schema table ≡ Some declared
     → rows_or_none (slice_get (tables_by part schema database) table) ≡ rows_by part declared.columns (rows_of database table)
 rows_in_tables part [] database table declared h = let bad : ⊥ = cc in absurd bad
@@ -44,7 +44,7 @@ rows_in_tables part (t ∷ ts) (rows ∷ later) zero declared h =
     ap (λ (w : Table). rows_by part w.columns rows) (ap (λ o. unwrap_or o t) h)
 rows_in_tables part (t ∷ ts) (rows ∷ later) (suc table) declared h = rows_in_tables part ts later table declared h
 
-counts_of_tables : (part : List Bool → Row → Row) (schema : Schema) (database : Database)
+pub counts_of_tables : (part : List Bool → Row → Row) (schema : Schema) (database : Database)
     → length database ≡ length schema → map length (tables_by part schema database) ≡ map length database
 counts_of_tables part [] [] same = refl
 counts_of_tables part [] (r ∷ rs) same = cc
@@ -54,7 +54,7 @@ counts_of_tables part (t ∷ ts) (rows ∷ later) same =
     let others = counts_of_tables part ts later (omega arith) in
     λ i. one i ∷ others i
 
-mapped_row : (f : Row → Row) (o : Option Row) (row : Row) → option_map f o ≡ Some row
+pub mapped_row : (f : Row → Row) (o : Option Row) (row : Row) → option_map f o ≡ Some row
     → (whole : Row) × (o ≡ Some whole) × (f whole ≡ row)
 mapped_row f None row h = let bad : ⊥ = cc in absurd bad
 mapped_row f (Some whole) row h = (whole, refl, ap (λ o. unwrap_or o (f whole)) h)

@@ -18,10 +18,10 @@ use Rattle.ghost_model.proofs.ChannelLemmas.Tests.{false_is_not}
 same_number : (n : ℕ) → (n == n) ≡ true
 same_number n = grind (arith, nat_tests)
 
-at_itself : (n : ℕ) → (n == n + 0) ≡ true
+pub at_itself : (n : ℕ) → (n == n + 0) ≡ true
 at_itself n = grind (arith, nat_tests)
 
-not_later : (n k : ℕ) → (n == n + suc k) ≡ false
+pub not_later : (n k : ℕ) → (n == n + suc k) ≡ false
 not_later n k = grind (arith, nat_tests)
 
 -- the rows of one part of a database
@@ -82,7 +82,7 @@ visible_at at (column ∷ columns) (value ∷ values) (suc place) same h =
       | false ↦ value_if (at == at + suc place) value _ (slice_get values place) (λ yes. absurd (false_is_not (sym (not_later at place) ∙ yes))) (λ _. later)
     ])
 
-hidden_of_row :
+pub hidden_of_row :
     (columns : List Column) (row : Row) (column : ℕ) → length row ≡ length columns → is_shown (slice_get columns (suc column)) ≡ false
     → value_at (places_from (λ (c : Column). c.hidden) 1 (drop 1 columns)) (hidden_values (hidden_flags columns) (drop 1 row)) (suc column) ≡ slice_get row (suc column)
 unfolding places_from

@@ -1,7 +1,7 @@
 -- The layouts of the worked catalogs.
 use Rattle.std.specs.Prelude.{◌≡◌, ℕ, [], ◌∷◌, map, ◌++◌}
 use Rattle.ghost_model.specs.Runs.{Run}
-use Rattle.ghost_model.specs.Layout.{levels_of, descendants_of, hidden_places, column_file, subtree_table, index_header, index_directory, index_level, id_directory, id_level, static_files, files_end, static_end, spool_area, spool_areas, scratch_areas, need}
+use Rattle.ghost_model.specs.Layout.{levels_of, descendants_of, hidden_columns, column_file, subtree_table, index_header, index_directory, index_level, id_directory, id_level, static_files, files_end, static_end, spool_area, spool_areas, scratch_areas, need}
 use Rattle.ghost_model.specs.examples.Clinic.{clinic_schema, clinic_catalog, note_catalog}
 
 abbrev pub first_page : Run → ℕ
@@ -21,7 +21,7 @@ pub record LayoutOfTheClinic : Type 0 where
   pub levels_of_visit : levels_of clinic_schema 2 ≡ 2 ∷ []
   pub below_visit : descendants_of clinic_schema 2 ≡ 0 ∷ 1 ∷ []
   pub below_doctor : descendants_of clinic_schema 0 ≡ []
-  pub hidden_of_visit : hidden_places clinic_schema 2 ≡ 2 ∷ 3 ∷ 4 ∷ []
+  pub hidden_of_visit : hidden_columns clinic_schema 2 ≡ 2 ∷ 3 ∷ 4 ∷ []
   pub country : column_file clinic_catalog 0 2 ≡ record { first = 64; count = 3; width = 2 }
   pub country_header : index_header clinic_catalog 0 2 ≡ record { first = 65; count = 1; width = 4 }
   pub country_directory : index_directory clinic_catalog 0 2 ≡ record { first = 66; count = 3; width = 18 }

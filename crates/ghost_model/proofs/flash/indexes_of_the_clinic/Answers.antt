@@ -12,13 +12,13 @@ country_cells : List (List ℕ)
 country_cells = hidden_cells clinic_schema hidden_clinic 0 2
 
 only : (value : List ℕ) (k : ℕ) → k < 2 → slice_index_or countries k value ≡ value → Contains country_cells value
-unfolding country_cells
+unfolding country_cells places_from
 only value zero low is = (1, omega arith, is)
 only value (suc zero) low is = (0, omega arith, is)
 only value (suc (suc k)) low is = absurd (omega (arith, low))
 
 all : (cell : List ℕ) (k : ℕ) → k < 3 → slice_index_or country_cells k cell ≡ cell → Contains countries cell
-unfolding country_cells
+unfolding country_cells places_from
 all cell zero low is = (1, omega arith, is)
 all cell (suc zero) low is = (0, omega arith, is)
 all cell (suc (suc zero)) low is = (0, omega arith, is)

@@ -1,5 +1,6 @@
 use Rattle.std.proofs.Common.{◌≡◌, refl, ap, ℕ, zero, suc, ◌<◌, List, [], slice_index, get_or, arith}
 use Rattle.std.specs.Fmt.{digits}
+use Rattle.ghost_model.specs.Schema.{places_from}
 use Rattle.ghost_model.specs.Runs.{Run, record_at, HasBlankRest}
 use Rattle.ghost_model.specs.Layout.{column_file}
 use Rattle.ghost_model.specs.Flash.{hidden_cells}
@@ -15,7 +16,7 @@ country : Run
 country = column_file clinic_catalog 0 2
 
 each : (i : ℕ) → i < 3 → record_at (λ _. country_page) country i ≡ get_or country_cells i []
-unfolding country country_cells record_at
+unfolding country country_cells record_at places_from
 each zero low = refl
 each (suc zero) low = refl
 each (suc (suc zero)) low = refl
@@ -27,7 +28,7 @@ rest zero low = refl
 rest (suc i) low = absurd (omega (arith, low))
 
 pub returns : goal.returns
-unfolding country country_cells ancestor digits record_at
+unfolding country country_cells ancestor digits record_at places_from
 returns c = record {
   first_page_is_whole = refl;
   second_page = refl;

@@ -1,0 +1,4 @@
+-- Lemmas on the hidden part as the flash holds it.
+pub mod Values
+pub mod Parts
+pub mod Keys

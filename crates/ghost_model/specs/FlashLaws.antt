@@ -1,0 +1,61 @@
+-- Laws of the hidden part as the flash holds it: the hidden part of a database goes with its catalog, its cells are as
+-- wide as their columns and read as its values, and rows lead to the same rows by it as by the whole database.
+use Rattle.std.specs.Prelude.{◌≡◌, ℕ, suc, true, List, length, map, count_by, Some, slice_get}
+use Rattle.ghost_model.specs.Schema.{Schema}
+use Rattle.ghost_model.specs.Values.{Row, Database}
+use Rattle.ghost_model.specs.Channel.{Catalog}
+use Rattle.ghost_model.specs.SchemaTrees.{IsTree}
+use Rattle.ghost_model.specs.Database.{IsDatabase, rows_of, row_counts, leads}
+use Rattle.ghost_model.specs.Cells.{decode_cell}
+use Rattle.ghost_model.specs.Asks.{kind_at}
+use Rattle.ghost_model.specs.Split.{Hidden, hidden_of, value_at}
+use Rattle.ghost_model.specs.Replies.{hidden_places, hidden_value}
+use Rattle.ghost_model.specs.Layout.{below, is_hidden, width_at, count_of}
+use Rattle.ghost_model.specs.Flash.{IsHidden, hidden_cells, cell_or_none, leads_to}
+
+-- how many hidden columns a table has before a column
+abbrev pub hidden_before : Schema → (table column : ℕ) → ℕ
+hidden_before schema table column = count_by (is_hidden schema table) (below column)
+
+-- a row of the hidden part has the value of a hidden column after those of the hidden columns before it
+abbrev pub HiddenValuesByPlace : Type 0
+HiddenValuesByPlace =
+    (schema : Schema) → IsTree schema → (table column : ℕ) → is_hidden schema table column ≡ true → (row : Row)
+    → value_at (hidden_places schema table) row column ≡ slice_get row (hidden_before schema table column)
+
+abbrev pub HiddenPartsGoWithCatalogs : Type 0
+HiddenPartsGoWithCatalogs =
+    (cat : Catalog) (database : Database) → IsDatabase cat.schema database → row_counts database ≡ cat.counts
+    → IsHidden cat (hidden_of cat.schema database)
+
+-- the cells of a hidden part that goes with a catalog: one for each row, each as wide as its column, and each reads as
+-- the value of its row
+pub record CellsFit (cat : Catalog) (hidden : Hidden) : Type 0 where
+  pub count :
+      (table column : ℕ) → is_hidden cat.schema table column ≡ true
+      → length (hidden_cells cat.schema hidden table column) ≡ count_of cat table
+  pub width :
+      (table column place : ℕ) (cell : List ℕ) → is_hidden cat.schema table column ≡ true
+      → slice_get (hidden_cells cat.schema hidden table column) place ≡ Some cell
+      → length cell ≡ width_at cat.schema table column
+  pub value :
+      (table column place : ℕ) (cell : List ℕ) → is_hidden cat.schema table column ≡ true
+      → slice_get (hidden_cells cat.schema hidden table column) place ≡ Some cell
+      → decode_cell (kind_at cat.schema table column) cell ≡ hidden_value cat.schema hidden table (suc place) column
+
+abbrev pub HiddenCellsFit : Type 0
+HiddenCellsFit = (cat : Catalog) (hidden : Hidden) → IsTree cat.schema → IsHidden cat hidden → CellsFit cat hidden
+
+-- the cells of the hidden part of a database are those of its values
+abbrev pub HiddenCellsOfDatabases : Type 0
+HiddenCellsOfDatabases =
+    (schema : Schema) (database : Database) → IsTree schema → IsDatabase schema database
+    → (table column : ℕ) → is_hidden schema table column ≡ true
+    → hidden_cells schema (hidden_of schema database) table column
+    ≡ map (λ row. cell_or_none (kind_at schema table column) (slice_get row column)) (rows_of database table)
+
+-- what rows lead to is told by the hidden part of the database
+abbrev pub RowsLeadByHiddenValues : Type 0
+RowsLeadByHiddenValues =
+    (schema : Schema) (database : Database) → IsTree schema → IsDatabase schema database → (from identifier to : ℕ)
+    → leads_to schema (hidden_of schema database) from identifier to ≡ leads schema database from identifier to
