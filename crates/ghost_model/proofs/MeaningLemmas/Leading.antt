@@ -28,7 +28,7 @@ first_step schema (suc steps) from to h =
     by one (Some middle) e g = (let r = one middle e in (r.0, r.1, ap (option_and_then (parent schema)) r.2 ∙ g))
 
 -- the steps from a way's end on
-one_step_more : (schema : Schema) (steps from to above : ℕ) → parent schema to ≡ Some above
+pub one_step_more : (schema : Schema) (steps from to above : ℕ) → parent schema to ≡ Some above
     → ancestor schema steps above ≡ Some from → ancestor schema (suc steps) to ≡ Some from
 unfolding ancestor
 one_step_more schema zero from to above up h = up ∙ h
@@ -41,11 +41,11 @@ one_step_more schema (suc steps) from to above up h =
     by more None e g = let bad : ⊥ = cc in absurd bad
     by more (Some middle) e g = ap (option_and_then (parent schema)) (more middle e) ∙ g
 
-parent_is_table : (schema : Schema) (table above : ℕ) → parent schema table ≡ Some above → above < length schema
+pub parent_is_table : (schema : Schema) (table above : ℕ) → parent schema table ≡ Some above → above < length schema
 parent_is_table schema table above h = parent_below schema table above h
 
 -- a way up is shorter than the number of tables; `left` has the tables from which the table is not reached
-short_way : (schema : Schema) → IsTree schema → (n : ℕ) (left : List ℕ) (steps from to : ℕ) → length left ≤ n
+pub short_way : (schema : Schema) → IsTree schema → (n : ℕ) (left : List ℕ) (steps from to : ℕ) → length left ≤ n
     → to < length schema
     → ((other : ℕ) → other < length schema → Among other left ⊎ LeadsUp schema other to)
     → ancestor schema steps to ≡ Some from → steps < n
@@ -71,7 +71,7 @@ short_way schema tree (suc n) left (suc steps) from to short within cover h =
           omega arith)
     ])
 
-among_range : (at count x : ℕ) → at ≤ x → x < at + count → Among x (range_with_len at count)
+pub among_range : (at count x : ℕ) → at ≤ x → x < at + count → Among x (range_with_len at count)
 among_range at zero x low high = let bad : ⊥ = omega arith in bad
 among_range at (suc count) x low high =
     (elim (eq-or-lt_of_le low) [
@@ -87,10 +87,10 @@ way_is_short schema tree steps from to within h =
     short_way schema tree (length schema) all steps from to (omega arith) within (λ other ho. inl (among_range 0 (length schema) other (omega arith) (omega arith))) h
 
 -- the end of a key, after a row that was reached
-abbrev onwards : Schema → Database → (above to : ℕ) → Option ℕ → Option ℕ
+abbrev pub onwards : Schema → Database → (above to : ℕ) → Option ℕ → Option ℕ
 onwards schema database above to o = option_and_then (λ reached. points_to schema database above reached to) o
 
-to_itself_within : (schema : Schema) (database : Database) (steps : Schema) (from identifier to : ℕ) → from ≡ to
+pub to_itself_within : (schema : Schema) (database : Database) (steps : Schema) (from identifier to : ℕ) → from ≡ to
     → leads_within steps schema database from identifier to ≡ Some identifier
 unfolding leads_within
 to_itself_within schema database [] from identifier to same =
@@ -98,7 +98,7 @@ to_itself_within schema database [] from identifier to same =
 to_itself_within schema database (x ∷ steps) from identifier to same =
     ap (λ v. if v then Some identifier else option_and_then (λ above. onwards schema database above to (leads_within steps schema database from identifier above)) (parent schema to)) (eq-eqb from to same)
 
-along_within : (schema : Schema) (database : Database) (x : Table) (steps : Schema) (from identifier to above : ℕ)
+pub along_within : (schema : Schema) (database : Database) (x : Table) (steps : Schema) (from identifier to above : ℕ)
     → from ≢ to → parent schema to ≡ Some above
     → leads_within (x ∷ steps) schema database from identifier to ≡ onwards schema database above to (leads_within steps schema database from identifier above)
 unfolding leads_within
@@ -106,17 +106,17 @@ along_within schema database x steps from identifier to above differ up =
     ap (λ v. if v then Some identifier else option_and_then (λ above. onwards schema database above to (leads_within steps schema database from identifier above)) (parent schema to)) (not_equal from to differ)
     ∙ ap (option_and_then (λ above. onwards schema database above to (leads_within steps schema database from identifier above))) up
 
-no_step : (schema : Schema) (from to : ℕ) → ancestor schema 0 to ≡ Some from → from ≡ to
+pub no_step : (schema : Schema) (from to : ℕ) → ancestor schema 0 to ≡ Some from → from ≡ to
 unfolding ancestor
 no_step schema from to h = sym (ap (λ o. unwrap_or o from) h)
 
-different : (schema : Schema) → IsTree schema → (steps from to : ℕ) → ancestor schema (suc steps) to ≡ Some from
+pub different : (schema : Schema) → IsTree schema → (steps from to : ℕ) → ancestor schema (suc steps) to ≡ Some from
     → from ≢ to
 different schema tree steps from to h same =
     tree.no_cycle to (record { steps = suc steps; moves = omega arith; back = h ∙ ap Some same })
 
 -- the number of steps that may be taken does not matter where it suffices
-leads_alike : (schema : Schema) (database : Database) → IsTree schema
+pub leads_alike : (schema : Schema) (database : Database) → IsTree schema
     → (steps : ℕ) (one other : Schema) (from identifier to : ℕ) → steps ≤ length one → steps ≤ length other
     → ancestor schema steps to ≡ Some from
     → leads_within one schema database from identifier to ≡ leads_within other schema database from identifier to
@@ -145,15 +145,15 @@ told_place {X = X} p at (y ∷ ys) i h =
       | false ↦ λ e g. (let r = told_place p (at + 1) ys i g in let further = r.2 in let same : i ≡ at + suc r.0 = omega arith in (suc r.0, r.1, same, r.3, r.4))
     ]) refl h
 
-first_some : {X : Type 0} (xs : List X) → is_empty xs ≡ false → (x : X) × (first_of xs ≡ Some x)
+pub first_some : {X : Type 0} (xs : List X) → is_empty xs ≡ false → (x : X) × (first_of xs ≡ Some x)
 first_some [] h = let bad : ⊥ = cc in absurd bad
 first_some (x ∷ xs) h = (x, refl)
 
-not_to_false : (b : Bool) → not b ≡ true → b ≡ false
+pub not_to_false : (b : Bool) → not b ≡ true → b ≡ false
 not_to_false true h = sym h
 not_to_false false h = refl
 
-place_within : {X : Type 0} (xs : List X) (k : ℕ) (x : X) → slice_get xs k ≡ Some x → k < length xs
+pub place_within : {X : Type 0} (xs : List X) (k : ℕ) (x : X) → slice_get xs k ≡ Some x → k < length xs
 place_within [] k x h = let bad : ⊥ = cc in absurd bad
 place_within (y ∷ ys) zero x h = omega arith
 place_within (y ∷ ys) (suc k) x h = let later = place_within ys k x h in omega arith
@@ -164,7 +164,7 @@ get_within (y ∷ ys) zero h = (y, refl)
 get_within (y ∷ ys) (suc k) h = get_within ys k (omega arith)
 
 -- a table with a parent is one of the schema
-table_with_parent : (schema : Schema) → IsTree schema → (table above : ℕ) → parent schema table ≡ Some above
+pub table_with_parent : (schema : Schema) → IsTree schema → (table above : ℕ) → parent schema table ≡ Some above
     → table < length schema
 table_with_parent schema tree table above up =
     let f = told_place (λ (t : Table). not (is_empty (keys_to table t))) 0 schema above up in
@@ -173,7 +173,7 @@ table_with_parent schema tree table above up =
     tree.keys_name_tables f.0 k.0 table k.1 (ap (λ o. slice_get (columns_or_none o) k.0) f.3 ∙ k.3) (child_is table k.1.child k.4)
 
 -- a value that is the identifier of a row, and that row
-row_among : (rows : Rows) (v : Value) → is_row_among (length rows) v ≡ true
+pub row_among : (rows : Rows) (v : Value) → is_row_among (length rows) v ≡ true
     → (m : ℕ) × (row : Row) × (identifier_in (Some v) ≡ Some m) × (row_numbered rows m ≡ Some row)
 row_among rows (Text text) h = let bad : ⊥ = cc in absurd bad
 row_among rows (Number (negsuc n)) h = let bad : ⊥ = cc in absurd bad
@@ -185,7 +185,7 @@ row_among rows (Number (pos (suc m))) h =
     (suc m, r.0, refl, r.1)
 
 -- the row to which the key of a row of the parent points
-points_somewhere : (schema : Schema) (database : Database) → IsTree schema → IsDatabase schema database
+pub points_somewhere : (schema : Schema) (database : Database) → IsTree schema → IsDatabase schema database
     → (above to identifier : ℕ) (row : Row) → parent schema to ≡ Some above
     → row_of database above identifier ≡ Some row
     → (m : ℕ) × (other : Row) × (points_to schema database above identifier to ≡ Some m) × (row_of database to m ≡ Some other)
@@ -211,7 +211,7 @@ points_somewhere schema database tree is above to identifier row up hr =
 
 -- the two laws and the rows
 
-along : (schema : Schema) (database : Database) → IsTree schema → (steps from above to identifier : ℕ)
+pub along : (schema : Schema) (database : Database) → IsTree schema → (steps from above to identifier : ℕ)
     → ancestor schema steps above ≡ Some from → parent schema to ≡ Some above
     → leads schema database from identifier to ≡ onwards schema database above to (leads schema database from identifier above)
 along schema database tree steps from above to identifier h up =
@@ -227,7 +227,7 @@ along schema database tree steps from above to identifier h up =
         along_within schema database x rest from identifier to above differ up
         ∙ ap (onwards schema database above to) (leads_alike schema database tree steps rest (x ∷ rest) from identifier above (omega arith) (omega arith) h)
 
-landing : (schema : Schema) (database : Database) → IsTree schema → IsDatabase schema database
+pub landing : (schema : Schema) (database : Database) → IsTree schema → IsDatabase schema database
     → (steps from to identifier : ℕ) (row : Row) → ancestor schema steps to ≡ Some from
     → row_of database from identifier ≡ Some row → Lands schema database from identifier to
 landing schema database tree is zero from to identifier row h hr =

@@ -27,29 +27,29 @@ pub kept : (rule : Bool) (fault : LoadFault) → unless rule fault ≡ [] → ru
 kept true fault h = refl
 kept false fault h = let no : ⊥ = cc in absurd no
 
-if_some : {X : Type 0} (b : Bool) (x z : X) → (if b then Some x else None) ≡ Some z → (b ≡ true) × (x ≡ z)
+pub if_some : {X : Type 0} (b : Bool) (x z : X) → (if b then Some x else None) ≡ Some z → (b ≡ true) × (x ≡ z)
 if_some true x z h = (refl, ap (λ o. unwrap_or o x) h)
 if_some false x z h = let no : ⊥ = cc in absurd no
 
 -- the parts of a digits' number with a sign
-within : (greatest : ℕ) (sign : ℕ → ℤ) (digits : List ℕ) (z : ℤ) → signed_within greatest sign digits ≡ Some z
+pub within : (greatest : ℕ) (sign : ℕ → ℤ) (digits : List ℕ) (z : ℤ) → signed_within greatest sign digits ≡ Some z
     → (number_of digits ≤ greatest) × (sign (number_of digits) ≡ z)
 within greatest sign digits z h =
     let p = if_some (is_numeral digits && nat_le (number_of digits) greatest) (sign (number_of digits)) z h in
     let q = both_true (is_numeral digits) (nat_le (number_of digits) greatest) p.0 in
     (leb-true (number_of digits) greatest q.1, p.1)
 
-plus_fits : (digits : List ℕ) (z : ℤ) → signed_within (2 ^ 63 - 1) pos digits ≡ Some z → fits_integer z ≡ true
+pub plus_fits : (digits : List ℕ) (z : ℤ) → signed_within (2 ^ 63 - 1) pos digits ≡ Some z → fits_integer z ≡ true
 plus_fits digits z h =
     let p = within (2 ^ 63 - 1) pos digits z h in
     let small = p.0 in
     subst (λ w. fits_integer w ≡ true) p.1 (le-leb (suc (number_of digits)) (2 ^ 63) (omega arith))
 
-neg_fits : (n : ℕ) → n ≤ 2 ^ 63 → fits_integer (neg_ℤ (pos n)) ≡ true
+pub neg_fits : (n : ℕ) → n ≤ 2 ^ 63 → fits_integer (neg_ℤ (pos n)) ≡ true
 neg_fits zero h = refl
 neg_fits (suc n) h = le-leb (suc n) (2 ^ 63) h
 
-minus_fits : (digits : List ℕ) (z : ℤ) → signed_within (2 ^ 63) (λ number. neg_ℤ (pos number)) digits ≡ Some z
+pub minus_fits : (digits : List ℕ) (z : ℤ) → signed_within (2 ^ 63) (λ number. neg_ℤ (pos number)) digits ≡ Some z
     → fits_integer z ≡ true
 minus_fits digits z h =
     let p = within (2 ^ 63) (λ number. neg_ℤ (pos number)) digits z h in
@@ -71,7 +71,7 @@ integer_fits (b ∷ bs) z h =
           ]) e
     ]) h
 
-some_fits : (text : List ℕ) (o : Option ℤ) → integer_of text ≡ o → is_some o ≡ true
+pub some_fits : (text : List ℕ) (o : Option ℤ) → integer_of text ≡ o → is_some o ≡ true
     → fits_integer (unwrap_or o (pos 0)) ≡ true
 some_fits text None e h = let no : ⊥ = cc in absurd no
 some_fits text (Some z) e h = integer_fits text z e
@@ -114,11 +114,11 @@ pub record IsRow (columns : List Column) (identifier : ℕ) (row : Row) : Type 0
   pub number : slice_get row 0 ≡ Some (Number (pos identifier))
   pub kinds : (column : ℕ) (value : Value) (declared : Column) → slice_get row column ≡ Some value → slice_get columns column ≡ Some declared → is_of_kind declared.kind value ≡ true
 
-number_is : (n : ℕ) (o : Option ℤ) → is_number n o ≡ true → o ≡ Some (pos n)
+pub number_is : (n : ℕ) (o : Option ℤ) → is_number n o ≡ true → o ≡ Some (pos n)
 number_is n None h = cc
 number_is n (Some z) h = ap Some ((Decides-int_eq z (pos n)).0 h)
 
-row_kinds : (table rec : ℕ) (k : Column) (ks : List Column) (f : List ℕ) (fs : List (List ℕ))
+pub row_kinds : (table rec : ℕ) (k : Column) (ks : List Column) (f : List ℕ) (fs : List (List ℕ))
     → is_of_kind k.kind (value_of k.kind f) ≡ true → field_faults table rec 1 ks fs ≡ []
     → (column : ℕ) (value : Value) (declared : Column) → slice_get (row_spelled (k ∷ ks) (f ∷ fs)) column ≡ Some value
     → slice_get (k ∷ ks) column ≡ Some declared → is_of_kind declared.kind value ≡ true
@@ -153,7 +153,7 @@ row_is table n (k ∷ ks) fields b h =
         }
 
 -- the rows of a file without a fault
-rows_are : (table n : ℕ) (columns : List Column) (records : List (List (List ℕ))) → slice_get columns 0 ≡ Some identifier
+pub rows_are : (table n : ℕ) (columns : List Column) (records : List (List (List ℕ))) → slice_get columns 0 ≡ Some identifier
     → rows_faults table n columns records ≡ []
     → (place : ℕ) (row : Row) → slice_get (map (row_spelled columns) records) place ≡ Some row
     → IsRow columns (n + place) row
@@ -169,7 +169,7 @@ rows_are table n columns (r ∷ rs) b h (suc place) row hr =
     let e : n + 1 + place ≡ n + suc place = omega arith in
     subst (λ m. IsRow columns m row) e (rows_are table (n + 1) columns rs b p.1 place row hr)
 
-records_are : (table : ℕ) (columns : List Column) (records : List (List (List ℕ))) → slice_get columns 0 ≡ Some identifier
+pub records_are : (table : ℕ) (columns : List Column) (records : List (List (List ℕ))) → slice_get columns 0 ≡ Some identifier
     → record_faults table columns records ≡ []
     → (place : ℕ) (row : Row) → slice_get (map (row_spelled columns) (drop 1 records)) place ≡ Some row
     → IsRow columns (1 + place) row
@@ -179,7 +179,7 @@ records_are table columns (header ∷ rows) b h place row hr =
     rows_are table 1 columns rows b p.1 place row hr
 
 -- the rows of all files without a fault
-tables_are : (table : ℕ) (schema : Schema) (files : List (List ℕ))
+pub tables_are : (table : ℕ) (schema : Schema) (files : List (List ℕ))
     → ((at : ℕ) → at < length schema → column_at schema at 0 ≡ Some identifier) → files_faults table schema files ≡ []
     → (at place : ℕ) (row : Row) → slice_get (rows_of (database_of schema files) at) place ≡ Some row
     → IsRow (columns_of schema at) (1 + place) row
@@ -201,7 +201,7 @@ length-database_of (d ∷ ds) [] h = cc
 length-database_of (d ∷ ds) (f ∷ fs) h = ap suc (length-database_of ds fs (omega arith))
 
 -- keys without a fault are identifiers of rows: of a row, of a table, of all tables
-keys_are : (database : Database) (table rec at : ℕ) (columns : List Column) (row : Row)
+pub keys_are : (database : Database) (table rec at : ℕ) (columns : List Column) (row : Row)
     → keys_faults database table rec at columns row ≡ []
     → (column child : ℕ) (value : Value) (declared : Column) → slice_get row column ≡ Some value
     → slice_get columns column ≡ Some declared → declared.child ≡ Some child
@@ -221,7 +221,7 @@ keys_are database table rec at (k ∷ ks) (v ∷ vs) h (suc column) child value 
     let p = both_empty (key_faults database (LoadFaults.place table rec at) k.child v) (keys_faults database table rec (at + 1) ks vs) h in
     keys_are database table rec (at + 1) ks vs p.1 column child value declared hv hd hc
 
-row_keys_are : (database : Database) (table rec : ℕ) (columns : List Column) (rows : Rows)
+pub row_keys_are : (database : Database) (table rec : ℕ) (columns : List Column) (rows : Rows)
     → table_references database table rec columns rows ≡ []
     → (place : ℕ) (row : Row) → slice_get rows place ≡ Some row
     → (column child : ℕ) (value : Value) (declared : Column) → slice_get row column ≡ Some value
@@ -237,7 +237,7 @@ row_keys_are database table rec columns (r ∷ rs) h (suc place) row hr column c
     let p = both_empty (keys_faults database table rec 0 columns r) (table_references database table (rec + 1) columns rs) h in
     row_keys_are database table (rec + 1) columns rs p.1 place row hr column child value declared hv hd hc
 
-table_keys_are : (database : Database) (table : ℕ) (schema : Schema) (later : Database)
+pub table_keys_are : (database : Database) (table : ℕ) (schema : Schema) (later : Database)
     → references_from database table schema later ≡ []
     → (at place : ℕ) (row : Row) → slice_get (rows_of later at) place ≡ Some row
     → (column child : ℕ) (value : Value) (declared : Column) → slice_get row column ≡ Some value
@@ -261,7 +261,7 @@ pub record Found (database : Database) (table identifier column : ℕ) (value : 
   pub stands : slice_get (rows_of database table) place ≡ Some row
   pub holds : slice_get row column ≡ Some value
 
-in_row : (o : Option Row) (column : ℕ) (value : Value) → option_and_then (λ row. slice_get row column) o ≡ Some value
+pub in_row : (o : Option Row) (column : ℕ) (value : Value) → option_and_then (λ row. slice_get row column) o ≡ Some value
     → (row : Row) × (o ≡ Some row) × (slice_get row column ≡ Some value)
 in_row None column value h = let no : ⊥ = cc in absurd no
 in_row (Some row) column value h = (row, refl, h)
@@ -274,7 +274,7 @@ found database table (suc place) column value h =
     record { place = place; row = p.0; number = refl; stands = p.1; holds = p.2 }
 
 -- the facts of a row by its identifier
-by_identifier : (schema : Schema) (database : Database)
+pub by_identifier : (schema : Schema) (database : Database)
     → ((table place : ℕ) (row : Row) → slice_get (rows_of database table) place ≡ Some row → IsRow (columns_of schema table) (1 + place) row)
     → (table identifier : ℕ) (row : Row) → row_of database table identifier ≡ Some row
     → IsRow (columns_of schema table) identifier row
@@ -304,7 +304,7 @@ files_are schema files tree many none =
 
 -- no table has more rows than it may have
 
-row_count_from : (table n : ℕ) (columns : List Column) (records : List (List (List ℕ))) → n ≤ most_rows + 1
+pub row_count_from : (table n : ℕ) (columns : List Column) (records : List (List (List ℕ))) → n ≤ most_rows + 1
     → rows_faults table n columns records ≡ [] → n + length records ≤ most_rows + 1
 unfolding rows_faults
 row_count_from table n columns [] within h = omega arith
@@ -316,7 +316,7 @@ row_count_from table n columns (r ∷ rs) within h =
     let later = row_count_from table (n + 1) columns rs (omega arith) p.1 in
     omega arith
 
-rows_within : (table : ℕ) (columns : List Column) (records : List (List (List ℕ)))
+pub rows_within : (table : ℕ) (columns : List Column) (records : List (List (List ℕ)))
     → record_faults table columns records ≡ [] → length (map (row_spelled columns) (drop 1 records)) ≤ most_rows
 rows_within table columns [] h = omega arith
 rows_within table columns (header ∷ rows) h =
@@ -325,7 +325,7 @@ rows_within table columns (header ∷ rows) h =
     let same = length-map rows (row_spelled columns) in
     omega arith
 
-tables_within : (table : ℕ) (schema : Schema) (files : List (List ℕ)) → files_faults table schema files ≡ [] → (at : ℕ)
+pub tables_within : (table : ℕ) (schema : Schema) (files : List (List ℕ)) → files_faults table schema files ≡ [] → (at : ℕ)
     → row_count (database_of schema files) at ≤ most_rows
 unfolding files_faults
 tables_within table [] files h at = omega arith

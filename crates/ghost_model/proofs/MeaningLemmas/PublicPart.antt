@@ -13,7 +13,7 @@ use Rattle.ghost_model.specs.Split.{hidden_flags, visible_values, rows_by, table
 abbrev pub AreOfKinds : List Column → Row → Type 0
 AreOfKinds columns values = (place : ℕ) (value : Value) (declared : Column) → slice_get values place ≡ Some value → slice_get columns place ≡ Some declared → is_of_kind declared.kind value ≡ true
 
-kinds_of_visible : (columns : List Column) (values : Row) → length values ≡ length columns → AreOfKinds columns values
+pub kinds_of_visible : (columns : List Column) (values : Row) → length values ≡ length columns → AreOfKinds columns values
     → are_of_kinds (map kind_of (filter is_open columns)) (visible_values (map (λ (column : Column). column.hidden) columns) values) ≡ true
 kinds_of_visible [] [] same are = refl
 kinds_of_visible [] (v ∷ vs) same are = let bad : ⊥ = cc in absurd bad
