@@ -1,0 +1,94 @@
+-- What the results of an opening tell.
+use Rattle.std.specs.Prelude.{◌≡◌, ℕ, List, [], length, slice_get, Option, Some, None, Result, Ok, Err, ⊤, Vec}
+use Rattle.std.specs.FinMap as map
+use Rattle.ghost_model.specs.LoadFaults as load
+use Rattle.ghost_model.specs.Database.{database_of, rows_spelled}
+use Rattle.ghost_model.specs.Schema.{Schema, Table, Column, columns_of}
+use Rattle.ghost_model.specs.Values.{Rows, Database}
+use Rattle.tree_schema.specs.Faults.{fault_of}
+use Rattle.csv_split.specs.Faults.{told}
+use Rattle.edge_traits.specs.Files.{Files, HasFile}
+use Rattle.key_inputs.specs.Openings.{InputFault, SchemaBytes, SchemaRule, TableRule, ScriptBytes, ScriptTexts, Opening, Spelled, Broken, TablesInput, on_table, table_file, after_tables, tables_from, tables_opening}
+use Rattle.key_inputs.specs.Scripts.{script_opening}
+use Rattle.key_inputs.specs.declared.faults.InputFault.{InputFault as Fault}
+use Rattle.key_inputs.specs.declared.faults.InputFault.TheVariants as fault
+use Rattle.key_inputs.specs.declared.faults.OpenFault.{OpenFault}
+use Rattle.key_inputs.specs.declared.faults.OpenFault.TheVariants as open_fault
+use Rattle.key_inputs.specs.declared.opening.Input.{Input}
+
+-- the broken rule that a fault tells
+abbrev pub rule_or : Option load.LoadFault → Option InputFault
+rule_or None = None
+rule_or (Some rule) = Some (TableRule rule)
+
+abbrev pub rule_of : Fault → Option InputFault
+rule_of fault.SchemaBytes = Some SchemaBytes
+rule_of (fault.Schema other) = Some (SchemaRule (fault_of other))
+rule_of (fault.Table other) = rule_or (told other)
+rule_of fault.ScriptBytes = Some ScriptBytes
+rule_of fault.ScriptTexts = Some ScriptTexts
+
+abbrev pub rule_in : OpenFault → Option InputFault
+rule_in open_fault.NoMemory = None
+rule_in open_fault.Depot = None
+rule_in (open_fault.Input fault) = rule_of fault
+
+-- a rule that is told is that of the first of some faults
+abbrev pub TellsRule : Option InputFault → List load.LoadFault → Type 0
+TellsRule None faults = ⊤
+TellsRule (Some rule) faults = (fault : load.LoadFault) × (rule ≡ TableRule fault) × load.IsFirst fault faults
+
+abbrev pub IsBroken : {X : Type 0} → Opening X → Option InputFault → Type 0
+IsBroken opening None = ⊤
+IsBroken opening (Some rule) = opening ≡ Broken rule
+
+-- an error that tells a broken rule tells the one that is broken first; the others say nothing of the files
+abbrev pub Tells : {X : Type 0} → Opening X → OpenFault → Type 0
+Tells opening fault = IsBroken opening (rule_in fault)
+
+-- the tables that were read are those that the files spell
+pub record AreSpelled (opening : Opening TablesInput) (input : Input) : Type 0 where
+  pub files : List (List ℕ)
+  pub spelled : opening ≡ Spelled (record { schema = input.schema; files = files })
+  pub tables : input.tables ≡ database_of input.schema files
+
+abbrev pub OpensTables : Opening TablesInput → Result Input OpenFault → Type 0
+OpensTables opening (Ok input) = AreSpelled opening input
+OpensTables opening (Err fault) = Tells opening fault
+
+abbrev pub OpensScript : Opening (List ℕ) → Result (Vec ℕ) OpenFault → Type 0
+OpensScript opening (Ok script) = opening ≡ Spelled script.items
+OpensScript opening (Err fault) = Tells opening fault
+
+-- a table's rows were read from its file, which keeps every rule
+pub record ReadsTable (contents : Option Files) (name : List ℕ) (columns : List Column) (table : ℕ) (rows : Rows) : Type 0 where
+  pub file : List ℕ
+  pub read : HasFile contents name file
+  pub clean : load.file_faults table columns file ≡ []
+  pub spelled : rows ≡ rows_spelled columns file
+
+-- the files of all tables were read, and keep every rule but, perhaps, that of foreign keys
+pub record ReadsFiles (contents : Option Files) (folder : List ℕ) (schema : Schema) (tables : Database) : Type 0 where
+  pub read : List (List ℕ)
+  pub many : length read ≡ length schema
+  pub clean : load.files_faults 0 schema read ≡ []
+  pub spelled : tables ≡ database_of schema read
+  pub told : (files : Files) → contents ≡ Some files → tables_from files folder schema 0 schema [] ≡ after_tables schema read
+
+-- after a schema was read the tables' files are left
+abbrev pub OpensSchema : Files → (name folder : List ℕ) → Result Schema OpenFault → Type 0
+OpensSchema files name folder (Ok schema) = tables_opening files name folder ≡ tables_from files folder schema 0 schema []
+OpensSchema files name folder (Err fault) = Tells (tables_opening files name folder) fault
+
+abbrev pub name_or_none : Option Table → List ℕ
+name_or_none None = []
+name_or_none (Some declared) = declared.name
+
+-- the name of a table
+abbrev pub name_at : Schema → (table : ℕ) → List ℕ
+name_at schema table = name_or_none (slice_get schema table)
+
+-- the opening at a table, whatever comes after it
+abbrev pub opening_at : Files → (folder : List ℕ) → Schema → (table : ℕ) → (List ℕ → Opening TablesInput) → Opening TablesInput
+opening_at files folder schema table next =
+    on_table next (load.file_faults table (columns_of schema table)) (map.get files (table_file folder (name_at schema table)))

@@ -1,0 +1,183 @@
+//! The reading of inputs.
+
+ghost use Rattle.std.specs.Prelude.{◌≡◌, ◌≤◌, ◌<◌, ℕ, List, [], Some, Err, IfOk, IfErr, MatchResult, length, string_bytes};
+ghost use Rattle.ghost_model.specs.Causes.{Rose};
+ghost use Rattle.ghost_model.specs.Database as database;
+ghost use Rattle.edge_traits.specs.Files.{Files};
+ghost use Rattle.key_inputs.specs.Openings.{tables_opening, tables_from};
+ghost use Rattle.key_inputs.specs.Views.{OpensTables, OpensSchema, ReadsFiles, ReadsTable, Tells, TellsRule, rule_in, rule_or, name_at, opening_at};
+ghost use Rattle.ghost_model.specs.LoadFaults as load;
+ghost use Rattle.ghost_model.specs.Schema as schemas;
+ghost use Rattle.csv_split.specs.Faults.{told};
+ghost use Rattle.key_inputs.specs.Openings as openings;
+ghost use Rattle.key_inputs.specs.Openings.{Opening, TablesInput};
+
+use crate::faults::{InputFault, OpenFault};
+use crate::names::table_file;
+use csv_split::{LoadFault, Place, Table, Tables, check_references, read_table};
+use edge_traits::depot::Depot;
+use edge_traits::reading::{ReadFault, read_file};
+use ghost_base::limits::MAX_CSV;
+use std::alloc::{AllocError, Global};
+use tree_schema::schema::schemas_are_trees;
+use tree_schema::{Schema, read_schema};
+
+/// The most bytes of a schema's or a script's file.
+pub const MAX_TEXT: usize = 65_536;
+
+/// A schema and its tables.
+#[derive(Drop)]
+pub struct Input {
+    /// The schema.
+    pub schema: Schema,
+
+    /// The tables.
+    pub tables: Tables,
+}
+
+/// Reads a schema and the files of its tables, which lie in a folder.
+pub fn open_tables<D: Depot>(
+    alloc: Global,
+    schema: &str,
+    folder: &str,
+    depot: &mut D,
+) -> Result<Input, OpenFault>
+    ensures opened { (files : Files) → D.contents depot.old ≡ Some files → OpensTables (tables_opening files schema.now folder.now) result }
+    ensures database { IfOk result (λ input. database.IsDatabase input.schema input.tables) }
+    ensures never_falls { D.faults depot.old ≤ D.faults depot.new }
+    ensures failed { result ≡ Err OpenFault.Depot → Rose (D.faults depot.old) (D.faults depot.new) }
+    ensures other { (result ≡ Err OpenFault.Depot → ⊥) → D.faults depot.new ≡ D.faults depot.old }
+    ensures appends { D.append_faults depot.new ≡ D.append_faults depot.old }
+    ensures same { D.contents depot.new ≡ D.contents depot.old }
+{
+    let schema = open_schema(alloc, schema, depot)?;
+    let tables = open_files(alloc, &schema, folder, depot)?;
+    check_keys(&schema, &tables)?;
+    Ok(Input { schema, tables })
+}
+
+/// Reads a schema.
+fn open_schema<D: Depot>(alloc: Global, name: &str, depot: &mut D) -> Result<Schema, OpenFault>
+    ensures opened { (files : Files) → D.contents depot.old ≡ Some files → (folder : List ℕ) → OpensSchema files name.now folder result }
+    ensures never_falls { D.faults depot.old ≤ D.faults depot.new }
+    ensures failed { result ≡ Err OpenFault.Depot → Rose (D.faults depot.old) (D.faults depot.new) }
+    ensures other { (result ≡ Err OpenFault.Depot → ⊥) → D.faults depot.new ≡ D.faults depot.old }
+    ensures appends { D.append_faults depot.new ≡ D.append_faults depot.old }
+    ensures same { D.contents depot.new ≡ D.contents depot.old }
+{
+    let text = match read_file(alloc, depot, name, MAX_TEXT) {
+        Ok(text) => text,
+        Err(ReadFault::Depot) => return Err(OpenFault::Depot),
+        Err(ReadFault::NoMemory) => return Err(OpenFault::NoMemory),
+        Err(ReadFault::TooLong) => return Err(OpenFault::Input(InputFault::SchemaBytes)),
+    };
+    match read_schema(&text) {
+        Ok(schema) => Ok(schema),
+        Err(fault) => Err(OpenFault::Input(InputFault::Schema(fault))),
+    }
+}
+
+/// Reads the files of a schema's tables.
+fn open_files<D: Depot>(
+    alloc: Global,
+    schema: &Schema,
+    folder: &str,
+    depot: &mut D,
+) -> Result<Tables, OpenFault>
+    ensures read { IfOk result (λ tables. ReadsFiles (D.contents depot.old) folder.now schema.now tables) }
+    ensures told { IfErr result (λ fault. (files : Files) → D.contents depot.old ≡ Some files → Tells (tables_from files folder.now schema.now 0 schema.now []) fault) }
+    ensures never_falls { D.faults depot.old ≤ D.faults depot.new }
+    ensures failed { result ≡ Err OpenFault.Depot → Rose (D.faults depot.old) (D.faults depot.new) }
+    ensures other { (result ≡ Err OpenFault.Depot → ⊥) → D.faults depot.new ≡ D.faults depot.old }
+    ensures appends { D.append_faults depot.new ≡ D.append_faults depot.old }
+    ensures same { D.contents depot.new ≡ D.contents depot.old }
+{
+    let mut tables = Tables::new(alloc);
+    for table in 0..schema.tables() {
+        let read = open_table(alloc, schema, table, folder, depot)?;
+        if tables.push(read).is_err() {
+            return Err(OpenFault::NoMemory);
+        }
+    }
+    Ok(tables)
+}
+
+/// Reads the file of one table.
+fn open_table<D: Depot>(
+    alloc: Global,
+    schema: &Schema,
+    table: usize,
+    folder: &str,
+    depot: &mut D,
+) -> Result<Table, OpenFault>
+    requires within { table < length schema.now }
+    ensures read { IfOk result (λ rows. ReadsTable (D.contents depot.old) (openings.table_file folder.now (name_at schema.now table)) (schemas.columns_of schema.now table) table rows) }
+    ensures told { IfErr result (λ fault. (files : Files) → D.contents depot.old ≡ Some files → (next : List ℕ → Opening TablesInput) → Tells (opening_at files folder.now schema.now table next) fault) }
+    ensures never_falls { D.faults depot.old ≤ D.faults depot.new }
+    ensures failed { result ≡ Err OpenFault.Depot → Rose (D.faults depot.old) (D.faults depot.new) }
+    ensures other { (result ≡ Err OpenFault.Depot → ⊥) → D.faults depot.new ≡ D.faults depot.old }
+    ensures appends { D.append_faults depot.new ≡ D.append_faults depot.old }
+    ensures same { D.contents depot.new ≡ D.contents depot.old }
+{
+    let Ok(name) = file_of(alloc, schema, table, folder) else {
+        return Err(OpenFault::NoMemory);
+    };
+    let file = match read_file(alloc, depot, name.as_str(), MAX_CSV) {
+        Ok(file) => file,
+        Err(ReadFault::Depot) => return Err(OpenFault::Depot),
+        Err(ReadFault::NoMemory) => return Err(OpenFault::NoMemory),
+        Err(ReadFault::TooLong) => return Err(too_long(table as u8)),
+    };
+    match read_table(alloc, schema, table, &file) {
+        Ok(read) => Ok(read),
+        Err(fault) => Err(of_load(fault)),
+    }
+}
+
+/// That the file of a table is too long.
+fn too_long(table: u8) -> OpenFault
+    ensures rule { rule_in result ≡ Some (openings.TableRule (load.FileLimit (load.place table 0 0))) }
+    ensures not_depot { result ≡ OpenFault.Depot → ⊥ }
+{
+    let at = Place {
+        table,
+        rec: 0,
+        column: 0,
+    };
+    OpenFault::Input(InputFault::Table(LoadFault::FileLimit(at)))
+}
+
+/// What a fault of a table's file is to the input.
+fn of_load(fault: LoadFault) -> OpenFault
+    ensures rule { rule_in result ≡ rule_or (told fault) }
+    ensures not_depot { result ≡ OpenFault.Depot → ⊥ }
+{
+    match fault {
+        LoadFault::NoMemory => OpenFault::NoMemory,
+        broken => OpenFault::Input(InputFault::Table(broken)),
+    }
+}
+
+/// The name of the file of a table's rows.
+fn file_of(alloc: Global, schema: &Schema, table: usize, folder: &str) -> Result<String, AllocError>
+    requires within { table < length schema.now }
+    ensures name { IfOk result (λ name. string_bytes name ≡ openings.table_file folder.now (name_at schema.now table)) }
+{
+    let _tables = schema.tables();
+    schemas_are_trees();
+    match schema.table(table) {
+        Some(found) => table_file(alloc, folder, &found.name),
+        None => unreachable!(),
+    }
+}
+
+/// Judges the foreign keys.
+fn check_keys(schema: &Schema, tables: &Tables) -> Result<(), OpenFault>
+    ensures judged { MatchResult result (λ _. load.reference_faults schema.now tables.now ≡ []) (λ fault. TellsRule (rule_in fault) (load.reference_faults schema.now tables.now)) }
+    ensures not_depot { result ≡ Err OpenFault.Depot → ⊥ }
+{
+    match check_references(schema, tables) {
+        Ok(()) => Ok(()),
+        Err(fault) => Err(of_load(fault)),
+    }
+}
