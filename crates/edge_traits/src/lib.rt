@@ -12,7 +12,6 @@ pub mod marks;
 pub mod mem_depot;
 pub mod mem_flash;
 pub mod link;
-pub mod mem_depot;
 pub mod mem_link;
 pub mod mem_sink;
 pub mod peer;
