@@ -13,3 +13,4 @@ pub mod RuleSteps
 pub mod TreeSteps
 pub mod BuildingSteps
 pub mod CatalogParts
+pub mod ByteLemmas

@@ -27,4 +27,6 @@ pub use schema::{Column, Schema, Table};
 pub use tokens::{Cursor, Mark, Token};
 
 #[cfg(test)]
+mod catalog_tests;
+#[cfg(test)]
 mod tests;
