@@ -7,4 +7,6 @@ pub mod Judging
 pub mod FieldPlaces
 pub mod TakenFields
 pub mod ReadRows
+pub mod DeclaredColumns
+pub mod CheckedKeys
 pub mod Headers

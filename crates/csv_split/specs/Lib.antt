@@ -5,3 +5,5 @@ pub mod Faults
 pub mod Cells
 pub mod Tables
 pub mod Reading
+pub mod References
+pub mod Loading
