@@ -1,9 +1,9 @@
 -- The faults of foreign keys that are left: of the columns of a row, of the rows of a table, of the tables of a schema.
-use Rattle.std.proofs.Common.{◌≡◌, ◌≤◌, ◌<◌, ◌+◌, ◌-◌, ◌∙◌, ℕ, zero, suc, List, [], ◌∷◌, ◌++◌, map, length, drop, get_or, Option, Some, None, sym, ap, ap₂, refl, subst, arith, append-nil, lit<, inl, inr, ◌⊎◌}
+use Rattle.std.proofs.Common.{◌≡◌, ◌≤◌, ◌<◌, ◌+◌, ◌∙◌, ℕ, suc, List, [], ◌∷◌, ◌++◌, map, length, drop, get_or, Option, Some, None, sym, ap, ap₂, refl, arith, inl, inr, ◌⊎◌}
 use Rattle.std.specs.Prelude.{slice_get, option_and_then}
-use Rattle.std.proofs.lemmas.List.{drop_all, get_or-map, length-map}
+use Rattle.std.proofs.lemmas.List.{drop_all, length-map}
 use Rattle.std.proofs.lemmas.Option.{slice_get-get_or, slice_get_past, slice_get_cases}
-use Rattle.ghost_model.specs.LoadFaults.{LoadFault, key_faults, keys_faults, place, references_from, table_references}
+use Rattle.ghost_model.specs.LoadFaults.{keys_faults, place, references_from, table_references}
 use Rattle.ghost_model.specs.Schema as schema
 use Rattle.ghost_model.specs.SchemaTrees.{identifier}
 use Rattle.ghost_model.specs.Values.{Value, Row, Rows, Database}

@@ -6,4 +6,3 @@ pub mod Cells
 pub mod Tables
 pub mod Reading
 pub mod References
-pub mod Loading
