@@ -1,5 +1,5 @@
 -- How a result judges the faults of a whole by those of its parts.
-use Rattle.std.proofs.Common.{◌≡◌, Bool, true, false, List, ◌++◌, Option, Some, None, Result, sym, ap, subst}
+use Rattle.std.proofs.Common.{◌≡◌, Bool, true, false, List, [], ◌++◌, Option, Some, None, Result, sym, ap, subst}
 use Rattle.ghost_model.specs.LoadFaults as faults
 use Rattle.ghost_model.specs.LoadFaults.{IsFirst, Judges, TellsFirst, unless}
 
@@ -20,3 +20,7 @@ kept rule fault later is = ap (λ b. unless b fault ++ later) is
 pub judges_same : {T E : Type 0} (told : E → Option faults.LoadFault) (result : Result T E) (part whole : List faults.LoadFault) → whole ≡ part
     → Judges told result part → Judges told result whole
 judges_same told result part whole same h = let P : List faults.LoadFault → Type 0 = λ faults. Judges told result faults in subst P (sym same) h
+
+-- a part without faults leaves the rest
+pub none_first : (part later : List faults.LoadFault) → part ≡ [] → part ++ later ≡ later
+none_first part later none = ap (λ faults. faults ++ later) none

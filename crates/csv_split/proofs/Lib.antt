@@ -7,4 +7,7 @@ pub mod Judging
 pub mod FieldPlaces
 pub mod TakenFields
 pub mod ReadRows
+pub mod LoadedFiles
+pub mod DeclaredColumns
+pub mod CheckedKeys
 pub mod Headers

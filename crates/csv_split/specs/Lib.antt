@@ -5,3 +5,4 @@ pub mod Faults
 pub mod Cells
 pub mod Tables
 pub mod Reading
+pub mod References
