@@ -1,10 +1,13 @@
-//! The outside as it is: files in the file system and lines on the standard output.
+//! The outside as it is: files in the file system, lines on the standard output and connections over TCP.
 //!
 //! These objects tell nothing of what they hold. What is proved of them is how they count their faults.
 #![tactic(auto)]
 
 pub mod dir_depot;
 pub mod file_flash;
+#[cfg(test)]
+mod link_tests;
 pub mod std_sink;
+pub mod tcp_link;
 #[cfg(test)]
 mod tests;

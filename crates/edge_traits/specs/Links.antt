@@ -1,7 +1,8 @@
 -- By which moves a link goes, and what its calls' answers are in a journal. A link in memory tells the journal of all its
 -- moves so far; any other link can say what one move does to it.
-use Rattle.std.specs.Prelude.{◌≡◌, ℕ, zero, suc, ⊤, refl, List, [], ◌∷◌, ◌++◌, take, Option, None, Some, Result, Ok, Err}
+use Rattle.std.specs.Prelude.{◌≡◌, ℕ, zero, suc, ◌+◌, min, ⊤, refl, List, [], ◌∷◌, ◌++◌, take, Option, None, Some, Result, Ok, Err}
 use Rattle.std.proofs.Common.{sym, ◌∙◌, ap, subst, append-nil, append_assoc}
+use Rattle.ghost_model.specs.Causes.{last_count}
 use Rattle.ghost_model.specs.Channel.{Move, Answer, Made, Port, Piece, End, Failed, Entry, Journal}
 
 abbrev pub entry : Move → Answer → Entry
@@ -47,6 +48,14 @@ grew_joins old between None first more start later = tt
 grew_joins old None (Some journal) first more start later = cc
 grew_joins old (Some told) (Some journal) first more start later = later ∙ ap (λ t. appended t more) start ∙ appended_twice old first more
 
+-- the count of faults after a move with that answer
+abbrev pub faults_after : Answer → (before : ℕ) → ℕ
+faults_after Made before = before
+faults_after (Port _) before = before
+faults_after (Piece _) before = before
+faults_after End before = before
+faults_after Failed before = min (before + 1) last_count
+
 -- one move leads to some state, and the moves after it lead on from there
 pub record LeadsOn {S : Type 0} (one : S → Entry → S → Type 0) (old : S) (first : Entry) (Later : S → Type 0) : Type 0 where
   pub between : S
@@ -57,6 +66,9 @@ pub record LeadsOn {S : Type 0} (one : S → Entry → S → Type 0) (old : S) (
 abbrev pub Steps : {S : Type 0} → (S → Entry → S → Type 0) → (old : S) → Journal → (new : S) → Type 0
 Steps one old [] new = old ≡ new
 Steps one old (first ∷ more) new = LeadsOn one old first (λ between. Steps one between more new)
+
+pub one_step : {S : Type 0} (one : S → Entry → S → Type 0) (old : S) (made : Entry) (new : S) → one old made new → Steps one old (made ∷ []) new
+one_step one old made new moved = record { between = new; moved = moved; later = refl }
 
 pub steps_stay : {S : Type 0} (one : S → Entry → S → Type 0) (link : S) → Steps one link [] link
 steps_stay one link = refl
