@@ -1,0 +1,4 @@
+pub mod Runs
+pub mod Faults
+pub mod Holding
+pub mod Cursors

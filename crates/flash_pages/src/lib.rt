@@ -1,0 +1,12 @@
+//! Runs of records on a flash device: one record by its number, a list of ascending identifiers, and a run that is written.
+//!
+//! A reader takes a buffer of one page and remembers which page stands in it, so that neighbouring records of one page cost
+//! one read. A writer gathers the records of a page in such a buffer and writes it when it is full.
+#![tactic(auto)]
+
+pub mod cells;
+pub mod cursor;
+pub mod fault;
+pub mod fixed;
+pub mod held;
+pub mod run;
