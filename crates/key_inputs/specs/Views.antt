@@ -1,5 +1,5 @@
 -- What the results of an opening tell.
-use Rattle.std.specs.Prelude.{◌≡◌, ℕ, List, [], length, slice_get, Option, Some, None, Result, Ok, Err, ⊤, Vec}
+use Rattle.std.specs.Prelude.{◌≡◌, ℕ, List, [], length, slice_get, Option, Some, None, Result, Ok, Err, ⊤}
 use Rattle.std.specs.FinMap as map
 use Rattle.ghost_model.specs.LoadFaults as load
 use Rattle.ghost_model.specs.Database.{database_of, rows_spelled}
@@ -9,7 +9,6 @@ use Rattle.tree_schema.specs.Faults.{fault_of}
 use Rattle.csv_split.specs.Faults.{told}
 use Rattle.edge_traits.specs.Files.{Files, HasFile}
 use Rattle.key_inputs.specs.Openings.{InputFault, SchemaBytes, SchemaRule, TableRule, ScriptBytes, ScriptTexts, Opening, Spelled, Broken, TablesInput, on_table, table_file, after_tables, tables_from, tables_opening}
-use Rattle.key_inputs.specs.Scripts.{script_opening}
 use Rattle.key_inputs.specs.declared.faults.InputFault.{InputFault as Fault}
 use Rattle.key_inputs.specs.declared.faults.InputFault.TheVariants as fault
 use Rattle.key_inputs.specs.declared.faults.OpenFault.{OpenFault}
@@ -55,10 +54,6 @@ pub record AreSpelled (opening : Opening TablesInput) (input : Input) : Type 0 w
 abbrev pub OpensTables : Opening TablesInput → Result Input OpenFault → Type 0
 OpensTables opening (Ok input) = AreSpelled opening input
 OpensTables opening (Err fault) = Tells opening fault
-
-abbrev pub OpensScript : Opening (List ℕ) → Result (Vec ℕ) OpenFault → Type 0
-OpensScript opening (Ok script) = opening ≡ Spelled script.items
-OpensScript opening (Err fault) = Tells opening fault
 
 -- a table's rows were read from its file, which keeps every rule
 pub record ReadsTable (contents : Option Files) (name : List ℕ) (columns : List Column) (table : ℕ) (rows : Rows) : Type 0 where

@@ -119,6 +119,7 @@ fn open_table<D: Depot>(
     ensures appends { D.append_faults depot.new ≡ D.append_faults depot.old }
     ensures same { D.contents depot.new ≡ D.contents depot.old }
 {
+    let _tables = schema.tables();
     let Ok(name) = file_of(alloc, schema, table, folder) else {
         return Err(OpenFault::NoMemory);
     };
