@@ -2,3 +2,4 @@
 pub mod Values
 pub mod Parts
 pub mod Keys
+pub mod Held

@@ -1,7 +1,7 @@
 //! Examples and laws of the layout of the flash.
 
 ghost use Rattle.ghost_model.specs.LayoutLaws.{FilesFollow, FollowingRunsStandApart, FilesLieInOrder, AreasAreWholeBlocks, RecordsStandWithin, CatalogsAreLimited, LayoutIsSmall, LevelsAreAncestors};
-ghost use Rattle.ghost_model.specs.examples.Layout.{LayoutOfTheClinic, LayoutOfTheNotes};
+ghost use Rattle.ghost_model.specs.examples.Layout.{LayoutOfTheClinic, LayoutOfTheNotes, LayoutsOfLargerDatabases};
 
 /// Files and areas follow one another.
 pub fn files_follow()
@@ -51,4 +51,9 @@ pub fn layout_of_the_clinic()
 /// Where each file and area of the notes lies.
 pub fn layout_of_the_notes()
     ensures { LayoutOfTheNotes }
+{}
+
+/// Where the parts of two larger databases lie.
+pub fn layouts_of_larger_databases()
+    ensures { LayoutsOfLargerDatabases }
 {}
