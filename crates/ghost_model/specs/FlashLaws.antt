@@ -1,6 +1,6 @@
 -- Laws of the hidden part as the flash holds it: the hidden part of a database goes with its catalog, its cells are as
 -- wide as their columns and read as its values, and rows lead to the same rows by it as by the whole database.
-use Rattle.std.specs.Prelude.{◌≡◌, ℕ, suc, ◌<◌, true, List, length, map, count_by, Some, slice_get}
+use Rattle.std.specs.Prelude.{◌≡◌, ℕ, suc, ◌<◌, true, List, [], length, get_or, map, count_by, Some, slice_get}
 use Rattle.ghost_model.specs.Schema.{Schema}
 use Rattle.ghost_model.specs.Values.{Row, Database}
 use Rattle.ghost_model.specs.Channel.{Catalog}
@@ -10,10 +10,10 @@ use Rattle.ghost_model.specs.Cells.{decode_cell}
 use Rattle.ghost_model.specs.Asks.{kind_at}
 use Rattle.ghost_model.specs.Split.{Hidden, hidden_of, value_at}
 use Rattle.ghost_model.specs.Replies.{hidden_places, hidden_value}
-use Rattle.ghost_model.specs.Runs.{record_at}
+use Rattle.ghost_model.specs.Runs.{number_cell, record_at}
 use Rattle.ghost_model.specs.RunLaws.{AgreeOn}
-use Rattle.ghost_model.specs.Layout.{below, is_hidden, width_at, count_of, public_pages, files_end, column_file}
-use Rattle.ghost_model.specs.Flash.{IsHidden, HoldsCatalog, HoldsColumns, hidden_cells, cell_or_none, leads_to}
+use Rattle.ghost_model.specs.Layout.{below, is_hidden, width_at, count_of, public_pages, files_end, column_file, subtree_table, index_directory, id_directory}
+use Rattle.ghost_model.specs.Flash.{IsHidden, HoldsCatalog, HoldsColumns, hidden_cells, cell_or_none, leads_to, subtree_record, directory_record, id_record}
 
 -- how many hidden columns a table has before a column
 abbrev pub hidden_before : Schema → (table column : ℕ) → ℕ
@@ -86,3 +86,17 @@ pub record HoldingsAreKept : Type 0 where
   pub catalog :
       (page other : ℕ → List ℕ) (cat : Catalog) → AgreeOn page other 0 public_pages
       → HoldsCatalog page cat → HoldsCatalog other cat
+
+-- records are as wide as the layout says
+pub record RecordsAreAsWide : Type 0 where
+  pub subtree :
+      (cat : Catalog) (hidden : Hidden) (table identifier : ℕ)
+      → length (subtree_record cat.schema hidden table identifier) ≡ (subtree_table cat table).width
+  pub directory :
+      (cat : Catalog) (hidden : Hidden) (table column : ℕ) (values : List (List ℕ)) (entry : ℕ)
+      → length (get_or values entry []) ≡ width_at cat.schema table column
+      → length (directory_record cat hidden table column values entry) ≡ (index_directory cat table column).width
+  pub id_directory :
+      (cat : Catalog) (hidden : Hidden) (table identifier : ℕ)
+      → length (id_record cat hidden table identifier) ≡ (id_directory cat table).width
+  pub number : (number : ℕ) → length (number_cell number) ≡ 4

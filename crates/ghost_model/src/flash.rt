@@ -1,6 +1,6 @@
 //! Examples and laws of what the flash holds.
 
-ghost use Rattle.ghost_model.specs.FlashLaws.{HiddenValuesByPlace, HiddenPartsGoWithCatalogs, HiddenCellsFit, HiddenCellsOfDatabases, RowsLeadByHiddenValues, HiddenValuesOfDatabases, ColumnFilesGiveValues, HoldingsAreKept};
+ghost use Rattle.ghost_model.specs.FlashLaws.{HiddenValuesByPlace, HiddenPartsGoWithCatalogs, HiddenCellsFit, HiddenCellsOfDatabases, RowsLeadByHiddenValues, HiddenValuesOfDatabases, ColumnFilesGiveValues, HoldingsAreKept, RecordsAreAsWide};
 ghost use Rattle.ghost_model.specs.examples.Flash.{CellsOfTheClinic, IndexesOfTheClinic, PagesOfTheClinic};
 
 /// Where a row of the hidden part has the value of a hidden column.
@@ -36,6 +36,11 @@ pub fn column_files_give_values()
 /// Column files and the catalog are held as long as their pages stay.
 pub fn holdings_are_kept()
     ensures { HoldingsAreKept }
+{}
+
+/// The records of subtree key tables and directories are as wide as the layout says.
+pub fn records_are_as_wide()
+    ensures { RecordsAreAsWide }
 {}
 
 /// Rows lead to the same rows by the hidden part of a database as by the whole.
