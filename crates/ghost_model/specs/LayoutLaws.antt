@@ -175,3 +175,10 @@ abbrev pub LevelsAreAncestors : Type 0
 LevelsAreAncestors =
     (schema : Schema) → IsTree schema → (table steps : ℕ) → table < length schema
     → slice_get (Layout.levels_of schema table) steps ≡ ancestor schema steps table
+
+-- sums over places: one place more, and more places
+pub record SumsByPlace : Type 0 where
+  pub none : (pages : ℕ → ℕ) → sum_by pages (Layout.below 0) ≡ 0
+  pub next : (pages : ℕ → ℕ) (place : ℕ) → sum_by pages (Layout.below (place + 1)) ≡ sum_by pages (Layout.below place) + pages place
+  pub rise :
+      (pages : ℕ → ℕ) (place later : ℕ) → place ≤ later → sum_by pages (Layout.below place) ≤ sum_by pages (Layout.below later)

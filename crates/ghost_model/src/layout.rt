@@ -1,6 +1,6 @@
 //! Examples and laws of the layout of the flash.
 
-ghost use Rattle.ghost_model.specs.LayoutLaws.{FilesFollow, FollowingRunsStandApart, FilesLieInOrder, AreasAreWholeBlocks, RecordsStandWithin, CatalogsAreLimited, LayoutIsSmall, LevelsAreAncestors};
+ghost use Rattle.ghost_model.specs.LayoutLaws.{FilesFollow, FollowingRunsStandApart, FilesLieInOrder, AreasAreWholeBlocks, RecordsStandWithin, CatalogsAreLimited, LayoutIsSmall, LevelsAreAncestors, SumsByPlace};
 ghost use Rattle.ghost_model.specs.examples.Layout.{LayoutOfTheClinic, LayoutOfTheNotes, LayoutsOfLargerDatabases};
 
 /// Files and areas follow one another.
@@ -36,6 +36,11 @@ pub fn catalogs_are_limited()
 /// Within the limits records fit pages, and a device has less than 2^30 pages.
 pub fn layout_is_small()
     ensures { LayoutIsSmall }
+{}
+
+/// Sums over the places before one.
+pub fn sums_by_place()
+    ensures { SumsByPlace }
 {}
 
 /// The levels of a table are the tables on its way up to the root.

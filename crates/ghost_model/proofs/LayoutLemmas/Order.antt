@@ -13,7 +13,7 @@ use Rattle.ghost_model.specs.Layout.{below, hidden_or_none, is_hidden, is_below,
 use Rattle.ghost_model.specs.LayoutLaws.{LieInOrder}
 use Rattle.ghost_model.proofs.LayoutLemmas.Following.{sum_below}
 
-sum_next : (g : ℕ → ℕ) (n : ℕ) → sum_by g (below (n + 1)) ≡ sum_by g (below n) + g n
+pub sum_next : (g : ℕ → ℕ) (n : ℕ) → sum_by g (below (n + 1)) ≡ sum_by g (below n) + g n
 sum_next g n = let e : n + 1 ≡ suc n = omega arith in ap (λ k. sum_by g (below k)) e ∙ sum_below g n
 
 pub sums_rise : (g : ℕ → ℕ) (n m : ℕ) → n ≤ m → sum_by g (below n) ≤ sum_by g (below m)
