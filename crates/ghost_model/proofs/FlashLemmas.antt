@@ -3,3 +3,4 @@ pub mod Values
 pub mod Parts
 pub mod Keys
 pub mod Held
+pub mod Lists

@@ -41,4 +41,5 @@ pub mod Work
 pub mod RunLaws
 pub mod LayoutLaws
 pub mod FlashLaws
+pub mod ListLaws
 pub mod examples

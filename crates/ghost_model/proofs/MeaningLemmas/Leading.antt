@@ -153,7 +153,7 @@ not_to_false : (b : Bool) → not b ≡ true → b ≡ false
 not_to_false true h = sym h
 not_to_false false h = refl
 
-place_within : {X : Type 0} (xs : List X) (k : ℕ) (x : X) → slice_get xs k ≡ Some x → k < length xs
+pub place_within : {X : Type 0} (xs : List X) (k : ℕ) (x : X) → slice_get xs k ≡ Some x → k < length xs
 place_within [] k x h = let bad : ⊥ = cc in absurd bad
 place_within (y ∷ ys) zero x h = omega arith
 place_within (y ∷ ys) (suc k) x h = let later = place_within ys k x h in omega arith
