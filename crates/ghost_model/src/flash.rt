@@ -1,7 +1,7 @@
 //! Examples and laws of what the flash holds.
 
 ghost use Rattle.ghost_model.specs.FlashLaws.{HiddenValuesByPlace, HiddenPartsGoWithCatalogs, HiddenCellsFit, HiddenCellsOfDatabases, RowsLeadByHiddenValues, HiddenValuesOfDatabases, ColumnFilesGiveValues, HoldingsAreKept, RecordsAreAsWide};
-ghost use Rattle.ghost_model.specs.ListLaws.{ListsPartition};
+ghost use Rattle.ghost_model.specs.ListLaws.{ListsPartition, IdListsPartition};
 ghost use Rattle.ghost_model.specs.examples.Flash.{CellsOfTheClinic, IndexesOfTheClinic, PagesOfTheClinic};
 
 /// Where a row of the hidden part has the value of a hidden column.
@@ -44,9 +44,14 @@ pub fn records_are_as_wide()
     ensures { RecordsAreAsWide }
 {}
 
-/// The lists of a level have each row of its table once.
+/// The lists of a level of a climbing index have each row of its table once.
 pub fn lists_partition()
     ensures { ListsPartition }
+{}
+
+/// So have those of an id index.
+pub fn id_lists_partition()
+    ensures { IdListsPartition }
 {}
 
 /// Rows lead to the same rows by the hidden part of a database as by the whole.

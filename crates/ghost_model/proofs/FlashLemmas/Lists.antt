@@ -1,6 +1,11 @@
 -- The lists of a level partition it.
-use Rattle.std.proofs.Common.{◌≡◌, refl, sym, ap, ◌∙◌, subst, ℕ, zero, suc, ◌+◌, ◌-◌, ◌<◌, ◌≤◌, Bool, true, false, not, cond, ◌||◌, List, [], ◌∷◌, ◌++◌, length, filter, flat_map, get_or, Contains, bytes_eq, Some, arith}
+use Rattle.std.proofs.Common.{◌≡◌, refl, sym, ap, ◌∙◌, subst, ℕ, zero, suc, ◌+◌, ◌-◌, ◌<◌, ◌≤◌, Bool, true, false, not, cond, ◌||◌, inl, inr, List, [], ◌∷◌, ◌++◌, length, filter, flat_map, get_or, Contains, bytes_eq, Option, Some, arith}
+use Rattle.std.specs.Prelude.{◌==◌}
 use Rattle.std.specs.List.{range_with_len, list_any, AllByRecursion}
+use Rattle.std.proofs.lemmas.Bool.{cases_lt}
+use Rattle.std.proofs.lemmas.Bool.Decides.{nat_tests}
+use Rattle.ghost_model.specs.Schema.{is_table}
+use Rattle.ghost_model.proofs.MeaningLemmas.OneRow.{child_is}
 use Rattle.std.specs.List.Sorted.{IsPermutation, IsStrictlySortedBy}
 use Rattle.std.specs.Option.{option_map_or}
 use Rattle.std.specs.Cmp.Lexicographic.{slice_cmp}
@@ -16,7 +21,7 @@ use Rattle.ghost_model.specs.SchemaTrees.{IsTree}
 use Rattle.ghost_model.specs.Database.{IsDatabase, IsAtOrBelow, Lands, LeadsFollowKeys, rows_of, row_of, row_counts}
 use Rattle.ghost_model.specs.Split.{hidden_of}
 use Rattle.ghost_model.specs.Layout.{is_hidden, count_of}
-use Rattle.ghost_model.specs.Flash.{hidden_cells, ids, cell_of_row, cell_led_to, leads_to, rows_with, AreValues}
+use Rattle.ghost_model.specs.Flash.{hidden_cells, ids, cell_of_row, cell_led_to, leads_to, rows_with, rows_leading_to, AreValues}
 use Rattle.ghost_model.specs.FlashLaws.{CellsFit}
 use Rattle.ghost_model.proofs.MeaningLemmas.Leading.{rows_lead, get_within, place_within}
 use Rattle.ghost_model.proofs.FlashLemmas.Values.{count_there, cells_fit}
@@ -104,6 +109,28 @@ all_of_range P a zero h = tt
 all_of_range P a (suc n) h =
     (h a (omega arith) (omega arith), all_of_range P (a + 1) n (λ k low high. h k (omega (arith, low)) (omega (arith, high))))
 
+-- identifiers exclude each other
+numbers_apart : (o : Option ℕ) (v w : ℕ) → v < w → is_table v o ≡ true → is_table w o ≡ false
+numbers_apart o v w less e =
+    let differ : (v == w) ≡ false = grind (arith, nat_tests) in ap (is_table w) (child_is v o e) ∙ differ
+
+exclusive_range : (key : ℕ → Option ℕ) (a n : ℕ) → Exclusive (λ v k. is_table v (key k)) (range_with_len a n)
+exclusive_range key a zero = tt
+exclusive_range key a (suc n) = (
+  all_of_range (λ w. (k : ℕ) → is_table a (key k) ≡ true → is_table w (key k) ≡ false) (a + 1) n (λ w low high k e. numbers_apart (key k) a w (omega (arith, low)) e),
+  exclusive_range key (a + 1) n,
+)
+
+found_in_range : (x a n : ℕ) → a ≤ x → x < a + n → list_any (λ v. x == v) (range_with_len a n) ≡ true
+found_in_range x a zero low high = absurd (omega (arith, low, high))
+found_in_range x a (suc n) low high =
+    elim (cases_lt a x) [
+      | inl less ↦ (let differ : (x == a) ≡ false = grind (arith, nat_tests) in
+          ap (λ b. b || list_any (λ v. x == v) (range_with_len (a + 1) n)) differ ∙ found_in_range x (a + 1) n (omega (arith, less)) (omega (arith, high)))
+      | inr more ↦ (let same : (x == a) ≡ true = grind (arith, nat_tests) in
+          ap (λ b. b || list_any (λ v. x == v) (range_with_len (a + 1) n)) same)
+    ]
+
 module _ (cat : Catalog) (database : Database) (tree : IsTree cat.schema) (is : IsDatabase cat.schema database) (counts : row_counts database ≡ cat.counts) where
   count_is : (table : ℕ) → count_of cat table ≡ length (rows_of database table)
   count_is table = sym (ap (λ (ns : List ℕ). get_or ns table 0) counts) ∙ count_there database table
@@ -150,3 +177,30 @@ module _ (cat : Catalog) (database : Database) (tree : IsTree cat.schema) (is : 
       let key = cell_led_to cat.schema (hidden_of cat.schema database) table column from in
       partitioned (λ v k. bytes_eq (key k) v) values (ids (count_of cat from)) (exclusive key values are.ascending)
       (all_of_range (λ k. list_any (bytes_eq (key k)) values ≡ true) 1 (count_of cat from) (covered table column from h under values are))
+
+  covered_id : (table from : ℕ) → IsAtOrBelow cat.schema from table → (k : ℕ) → 1 ≤ k → k < 1 + count_of cat from
+      → list_any (λ v. is_table v (leads_to cat.schema (hidden_of cat.schema database) from k table)) (ids (count_of cat table)) ≡ true
+  covered_id table from under zero low high = absurd (omega (arith, low))
+  covered_id table from under (suc place) low high =
+      let size = count_is from in
+      let held = get_within (rows_of database from) place (omega (arith, size, high)) in
+      let follow : LeadsFollowKeys cat.schema database = rows_lead cat.schema database tree is in
+      let lands : Lands cat.schema database from (suc place) table = follow.lands from table (suc place) held.0 under held.1 in
+      by_reached lands.reached lands.row (lead_alike cat.schema database tree is from (suc place) table ∙ lands.led) lands.stands
+    where
+      by_reached : (reached : ℕ) (row : Row) → leads_to cat.schema (hidden_of cat.schema database) from (suc place) table ≡ Some reached
+          → row_of database table reached ≡ Some row
+          → list_any (λ v. is_table v (leads_to cat.schema (hidden_of cat.schema database) from (suc place) table)) (ids (count_of cat table)) ≡ true
+      by_reached zero row led stands = absurd (cc (stands))
+      by_reached (suc j) row led stands =
+          let rows = count_is table in
+          let near = place_within (rows_of database table) j row stands in
+          ap (λ o. list_any (λ v. is_table v o) (ids (count_of cat table))) led
+          ∙ found_in_range (suc j) 1 (count_of cat table) (omega arith) (omega (arith, rows, near))
+
+  pub id_lists_partition : (table from : ℕ) → IsAtOrBelow cat.schema from table
+      → IsPermutation (ids (count_of cat from)) (flat_map (rows_leading_to cat (hidden_of cat.schema database) table from) (ids (count_of cat table)))
+  id_lists_partition table from under =
+      let key = λ (k : ℕ). leads_to cat.schema (hidden_of cat.schema database) from k table in
+      partitioned (λ v k. is_table v (key k)) (ids (count_of cat table)) (ids (count_of cat from)) (exclusive_range key 1 (count_of cat table))
+      (all_of_range (λ k. list_any (λ v. is_table v (key k)) (ids (count_of cat table)) ≡ true) 1 (count_of cat from) (covered_id table from under))
