@@ -2,3 +2,5 @@
 pub mod Values
 pub mod Parts
 pub mod Keys
+pub mod Held
+pub mod Lists

@@ -12,5 +12,6 @@ pub mod QueryReadingLemmas
 pub mod ChannelLemmas
 pub mod MeaningLemmas
 pub mod SessionLemmas
+pub mod RunLemmas
 pub mod LayoutLemmas
 pub mod FlashLemmas

@@ -1,17 +1,19 @@
 -- Laws of the hidden part as the flash holds it: the hidden part of a database goes with its catalog, its cells are as
 -- wide as their columns and read as its values, and rows lead to the same rows by it as by the whole database.
-use Rattle.std.specs.Prelude.{◌≡◌, ℕ, suc, true, List, length, map, count_by, Some, slice_get}
+use Rattle.std.specs.Prelude.{◌≡◌, ℕ, suc, ◌<◌, true, List, [], length, get_or, map, count_by, Some, slice_get}
 use Rattle.ghost_model.specs.Schema.{Schema}
 use Rattle.ghost_model.specs.Values.{Row, Database}
 use Rattle.ghost_model.specs.Channel.{Catalog}
 use Rattle.ghost_model.specs.SchemaTrees.{IsTree}
-use Rattle.ghost_model.specs.Database.{IsDatabase, rows_of, row_counts, leads}
+use Rattle.ghost_model.specs.Database.{IsDatabase, rows_of, row_counts, field, leads}
 use Rattle.ghost_model.specs.Cells.{decode_cell}
 use Rattle.ghost_model.specs.Asks.{kind_at}
 use Rattle.ghost_model.specs.Split.{Hidden, hidden_of, value_at}
 use Rattle.ghost_model.specs.Replies.{hidden_places, hidden_value}
-use Rattle.ghost_model.specs.Layout.{below, is_hidden, width_at, count_of}
-use Rattle.ghost_model.specs.Flash.{IsHidden, hidden_cells, cell_or_none, leads_to}
+use Rattle.ghost_model.specs.Runs.{number_cell, record_at}
+use Rattle.ghost_model.specs.RunLaws.{AgreeOn}
+use Rattle.ghost_model.specs.Layout.{below, is_hidden, width_at, count_of, public_pages, files_end, column_file, subtree_table, index_directory, id_directory}
+use Rattle.ghost_model.specs.Flash.{IsHidden, HoldsCatalog, HoldsColumns, hidden_cells, cell_or_none, leads_to, subtree_record, directory_record, id_record}
 
 -- how many hidden columns a table has before a column
 abbrev pub hidden_before : Schema → (table column : ℕ) → ℕ
@@ -59,3 +61,42 @@ abbrev pub RowsLeadByHiddenValues : Type 0
 RowsLeadByHiddenValues =
     (schema : Schema) (database : Database) → IsTree schema → IsDatabase schema database → (from identifier to : ℕ)
     → leads_to schema (hidden_of schema database) from identifier to ≡ leads schema database from identifier to
+
+-- the values of the hidden part of a database are the database's
+abbrev pub HiddenValuesOfDatabases : Type 0
+HiddenValuesOfDatabases =
+    (schema : Schema) (database : Database) → IsTree schema → IsDatabase schema database
+    → (table identifier column : ℕ) → is_hidden schema table column ≡ true
+    → hidden_value schema (hidden_of schema database) table identifier column ≡ field database table identifier column
+
+-- what column files give: the record of each row reads as the row's value
+abbrev pub ColumnFilesGiveValues : Type 0
+ColumnFilesGiveValues =
+    (page : ℕ → List ℕ) (cat : Catalog) (hidden : Hidden) → IsTree cat.schema → IsHidden cat hidden
+    → HoldsColumns page cat hidden → (table column : ℕ) → is_hidden cat.schema table column ≡ true
+    → (place : ℕ) → place < count_of cat table
+    → decode_cell (kind_at cat.schema table column) (record_at page (column_file cat table column) place)
+    ≡ hidden_value cat.schema hidden table (suc place) column
+
+-- column files are held as long as the static pages stay, the catalog as long as the public ones do
+pub record HoldingsAreKept : Type 0 where
+  pub columns :
+      (page other : ℕ → List ℕ) (cat : Catalog) (hidden : Hidden) → IsTree cat.schema
+      → AgreeOn page other public_pages (files_end cat) → HoldsColumns page cat hidden → HoldsColumns other cat hidden
+  pub catalog :
+      (page other : ℕ → List ℕ) (cat : Catalog) → AgreeOn page other 0 public_pages
+      → HoldsCatalog page cat → HoldsCatalog other cat
+
+-- records are as wide as the layout says
+pub record RecordsAreAsWide : Type 0 where
+  pub subtree :
+      (cat : Catalog) (hidden : Hidden) (table identifier : ℕ)
+      → length (subtree_record cat.schema hidden table identifier) ≡ (subtree_table cat table).width
+  pub directory :
+      (cat : Catalog) (hidden : Hidden) (table column : ℕ) (values : List (List ℕ)) (entry : ℕ)
+      → length (get_or values entry []) ≡ width_at cat.schema table column
+      → length (directory_record cat hidden table column values entry) ≡ (index_directory cat table column).width
+  pub id_directory :
+      (cat : Catalog) (hidden : Hidden) (table identifier : ℕ)
+      → length (id_record cat hidden table identifier) ≡ (id_directory cat table).width
+  pub number : (number : ℕ) → length (number_cell number) ≡ 4

@@ -1,9 +1,9 @@
 -- Laws of the layout: files and areas follow one another without a gap but for rounding to blocks, so no two share a
 -- page; a device has whole blocks; each page of a record lies within its run; and within the limits of schemas and rows
 -- all widths fit a page and all page numbers fit 32 bits.
-use Rattle.std.specs.Prelude.{◌≡◌, ℕ, ◌+◌, ◌*◌, ◌%◌, ◌^◌, ◌<◌, ◌≤◌, nat_le, true, List, [], ◌∷◌, length, Some, slice_get}
+use Rattle.std.specs.Prelude.{◌≡◌, ℕ, ◌+◌, ◌*◌, ◌%◌, ◌^◌, ◌<◌, ◌≤◌, nat_le, true, cond, filter, sum_by, List, [], ◌∷◌, length, Some, slice_get}
 use Rattle.std.specs.List.{list_all}
-use Rattle.ghost_model.specs.Schema.{Schema}
+use Rattle.ghost_model.specs.Schema.{Schema, is_visible}
 use Rattle.ghost_model.specs.Channel.{Catalog}
 use Rattle.ghost_model.specs.SchemaFaults.{ancestor}
 use Rattle.ghost_model.specs.SchemaTrees.{IsTree}
@@ -65,6 +65,17 @@ pub record LieInOrder (cat : Catalog) : Type 0 where
       ≡ Layout.index_pages_before cat table column + Layout.index_pages cat table column
   pub next_spool :
       (table : ℕ) → Layout.spool_pages_before cat (table + 1) ≡ Layout.spool_pages_before cat table + Layout.spool_pages cat table
+  -- one column more of those that a spool row has, and one table more of those below another
+  pub next_visible :
+      (table column : ℕ)
+      → sum_by (Layout.width_at cat.schema table) (filter (is_visible cat.schema table) (Layout.below (column + 1)))
+      ≡ sum_by (Layout.width_at cat.schema table) (filter (is_visible cat.schema table) (Layout.below column))
+      + cond (is_visible cat.schema table column) (Layout.width_at cat.schema table column) 0
+  pub next_descendant :
+      (table other : ℕ)
+      → length (filter (Layout.is_below cat.schema table) (Layout.below (other + 1)))
+      ≡ length (filter (Layout.is_below cat.schema table) (Layout.below other))
+      + cond (Layout.is_below cat.schema table other) 1 0
   -- the column files of one table
   pub column_files :
       (table column later : ℕ) → Layout.is_hidden cat.schema table column ≡ true → column < later
@@ -164,3 +175,10 @@ abbrev pub LevelsAreAncestors : Type 0
 LevelsAreAncestors =
     (schema : Schema) → IsTree schema → (table steps : ℕ) → table < length schema
     → slice_get (Layout.levels_of schema table) steps ≡ ancestor schema steps table
+
+-- sums over places: one place more, and more places
+pub record SumsByPlace : Type 0 where
+  pub none : (pages : ℕ → ℕ) → sum_by pages (Layout.below 0) ≡ 0
+  pub next : (pages : ℕ → ℕ) (place : ℕ) → sum_by pages (Layout.below (place + 1)) ≡ sum_by pages (Layout.below place) + pages place
+  pub rise :
+      (pages : ℕ → ℕ) (place later : ℕ) → place ≤ later → sum_by pages (Layout.below place) ≤ sum_by pages (Layout.below later)

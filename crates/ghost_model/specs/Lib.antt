@@ -38,6 +38,8 @@ pub mod Runs
 pub mod Layout
 pub mod Flash
 pub mod Work
+pub mod RunLaws
 pub mod LayoutLaws
 pub mod FlashLaws
+pub mod ListLaws
 pub mod examples

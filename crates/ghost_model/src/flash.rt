@@ -1,6 +1,7 @@
 //! Examples and laws of what the flash holds.
 
-ghost use Rattle.ghost_model.specs.FlashLaws.{HiddenValuesByPlace, HiddenPartsGoWithCatalogs, HiddenCellsFit, HiddenCellsOfDatabases, RowsLeadByHiddenValues};
+ghost use Rattle.ghost_model.specs.FlashLaws.{HiddenValuesByPlace, HiddenPartsGoWithCatalogs, HiddenCellsFit, HiddenCellsOfDatabases, RowsLeadByHiddenValues, HiddenValuesOfDatabases, ColumnFilesGiveValues, HoldingsAreKept, RecordsAreAsWide};
+ghost use Rattle.ghost_model.specs.ListLaws.{ListsPartition, IdListsPartition};
 ghost use Rattle.ghost_model.specs.examples.Flash.{CellsOfTheClinic, IndexesOfTheClinic, PagesOfTheClinic};
 
 /// Where a row of the hidden part has the value of a hidden column.
@@ -21,6 +22,36 @@ pub fn hidden_cells_fit()
 /// The cells of the hidden part of a database are those of its values.
 pub fn hidden_cells_of_databases()
     ensures { HiddenCellsOfDatabases }
+{}
+
+/// Its values are the database's.
+pub fn hidden_values_of_databases()
+    ensures { HiddenValuesOfDatabases }
+{}
+
+/// Where pages hold the column files, the record of each row reads as its value.
+pub fn column_files_give_values()
+    ensures { ColumnFilesGiveValues }
+{}
+
+/// Column files and the catalog are held as long as their pages stay.
+pub fn holdings_are_kept()
+    ensures { HoldingsAreKept }
+{}
+
+/// The records of subtree key tables and directories are as wide as the layout says.
+pub fn records_are_as_wide()
+    ensures { RecordsAreAsWide }
+{}
+
+/// The lists of a level of a climbing index have each row of its table once.
+pub fn lists_partition()
+    ensures { ListsPartition }
+{}
+
+/// So have those of an id index.
+pub fn id_lists_partition()
+    ensures { IdListsPartition }
 {}
 
 /// Rows lead to the same rows by the hidden part of a database as by the whole.

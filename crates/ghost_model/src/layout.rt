@@ -1,7 +1,7 @@
 //! Examples and laws of the layout of the flash.
 
-ghost use Rattle.ghost_model.specs.LayoutLaws.{FilesFollow, FollowingRunsStandApart, FilesLieInOrder, AreasAreWholeBlocks, RecordsStandWithin, CatalogsAreLimited, LayoutIsSmall, LevelsAreAncestors};
-ghost use Rattle.ghost_model.specs.examples.Layout.{LayoutOfTheClinic, LayoutOfTheNotes};
+ghost use Rattle.ghost_model.specs.LayoutLaws.{FilesFollow, FollowingRunsStandApart, FilesLieInOrder, AreasAreWholeBlocks, RecordsStandWithin, CatalogsAreLimited, LayoutIsSmall, LevelsAreAncestors, SumsByPlace};
+ghost use Rattle.ghost_model.specs.examples.Layout.{LayoutOfTheClinic, LayoutOfTheNotes, LayoutsOfLargerDatabases};
 
 /// Files and areas follow one another.
 pub fn files_follow()
@@ -38,6 +38,11 @@ pub fn layout_is_small()
     ensures { LayoutIsSmall }
 {}
 
+/// Sums over the places before one.
+pub fn sums_by_place()
+    ensures { SumsByPlace }
+{}
+
 /// The levels of a table are the tables on its way up to the root.
 pub fn levels_are_ancestors()
     ensures { LevelsAreAncestors }
@@ -51,4 +56,9 @@ pub fn layout_of_the_clinic()
 /// Where each file and area of the notes lies.
 pub fn layout_of_the_notes()
     ensures { LayoutOfTheNotes }
+{}
+
+/// Where the parts of two larger databases lie.
+pub fn layouts_of_larger_databases()
+    ensures { LayoutsOfLargerDatabases }
 {}

@@ -92,7 +92,7 @@ by_row : (f : Row → Option Value) (part : Row → Row) (g : Row → Option Val
 by_row f part g None same = refl
 by_row f part g (Some row) same = same row refl
 
-field_hidden : (schema : Schema) (database : Database) → IsTree schema → IsDatabase schema database → (table identifier column : ℕ)
+pub field_hidden : (schema : Schema) (database : Database) → IsTree schema → IsDatabase schema database → (table identifier column : ℕ)
     → is_hidden schema table column ≡ true
     → hidden_value schema (hidden_of schema database) table identifier column ≡ field database table identifier column
 field_hidden schema database tree is table zero column h = refl

@@ -187,7 +187,7 @@ value_there (id ∷ columns) first (suc place) h row are =
     ap (value_at (places_from (λ (c : Column). c.hidden) 1 columns) row) e ∙ value_by_place 1 columns place h row in
     subst (λ o. HasValue o (kind_or_none (slice_get columns place))) (sym same) (kinds_there columns place h row are)
 
-count_there : (tables : List Rows) (table : ℕ) → slice_index (map length tables) table ≡ length (rows_or_none (slice_get tables table))
+pub count_there : (tables : List Rows) (table : ℕ) → slice_index (map length tables) table ≡ length (rows_or_none (slice_get tables table))
 count_there [] table = refl
 count_there (rows ∷ tables) zero = refl
 count_there (rows ∷ tables) (suc table) = count_there tables table

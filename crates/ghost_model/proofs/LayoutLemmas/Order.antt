@@ -1,15 +1,19 @@
 -- Where the files of tables and columns lie to one another.
-use Rattle.std.proofs.Common.{◌≡◌, ap, sym, ◌∙◌, ℕ, zero, suc, ◌+◌, ◌<◌, ◌≤◌, true, false, cond, inl, inr, length, sum_by, slice_get, arith}
+use Rattle.std.proofs.Common.{◌≡◌, refl, ap, sym, ◌∙◌, ℕ, zero, suc, ◌+◌, ◌<◌, ◌≤◌, Bool, true, false, cond, inl, inr, [], ◌∷◌, ◌++◌, length, filter, sum_by, slice_get, arith}
+use Rattle.std.specs.List.{range_with_len}
+use Rattle.std.proofs.lemmas.List.{length-append}
+use Rattle.std.proofs.lemmas.List.Elements.{filter-append}
+use Rattle.std.proofs.lemmas.List.Sums.{sum_by-cons, sum_by-append}
 use Rattle.std.proofs.lemmas.Bool.{cases_lt}
 use Rattle.std.proofs.lemmas.Option.{slice_get_past}
-use Rattle.ghost_model.specs.Schema.{Schema, columns_or_none, columns_of}
+use Rattle.ghost_model.specs.Schema.{Schema, columns_or_none, columns_of, is_visible}
 use Rattle.ghost_model.specs.Channel.{Catalog}
 use Rattle.ghost_model.specs.Runs.{run_pages, run_end}
-use Rattle.ghost_model.specs.Layout.{below, hidden_or_none, is_hidden, column_count, column_pages, column_pages_before, index_pages, table_pages, table_begin, subtree_begin, column_file, spool_pages}
+use Rattle.ghost_model.specs.Layout.{below, hidden_or_none, is_hidden, is_below, width_at, column_count, column_pages, column_pages_before, index_pages, table_pages, table_begin, subtree_begin, column_file, spool_pages}
 use Rattle.ghost_model.specs.LayoutLaws.{LieInOrder}
 use Rattle.ghost_model.proofs.LayoutLemmas.Following.{sum_below}
 
-sum_next : (g : ℕ → ℕ) (n : ℕ) → sum_by g (below (n + 1)) ≡ sum_by g (below n) + g n
+pub sum_next : (g : ℕ → ℕ) (n : ℕ) → sum_by g (below (n + 1)) ≡ sum_by g (below n) + g n
 sum_next g n = let e : n + 1 ≡ suc n = omega arith in ap (λ k. sum_by g (below k)) e ∙ sum_below g n
 
 pub sums_rise : (g : ℕ → ℕ) (n m : ℕ) → n ≤ m → sum_by g (below n) ≤ sum_by g (below m)
@@ -19,6 +23,41 @@ sums_rise g n (suc m) low =
       | inl less ↦ (let before = sums_rise g n m (omega (arith, less)) in let last = sum_below g m in omega (arith, before, last))
       | inr more ↦ (let e : n ≡ suc m = omega (arith, low, more) in let same = ap (λ k. sum_by g (below k)) e in omega (arith, same))
     ]
+
+-- one number more among those that pass a test
+range_more : (a n : ℕ) → range_with_len a (suc n) ≡ range_with_len a n ++ (a + n) ∷ []
+range_more a zero = let e : a ≡ a + 0 = omega arith in ap (λ k. k ∷ []) e
+range_more a (suc n) =
+    let e : a + 1 + n ≡ a + suc n = omega arith in
+    ap (λ ks. a ∷ ks) (range_more (a + 1) n ∙ ap (λ k. range_with_len (a + 1) n ++ k ∷ []) e)
+
+below_more : (n : ℕ) → below (n + 1) ≡ below n ++ n ∷ []
+below_more n =
+    let e : n + 1 ≡ suc n = omega arith in
+    let f : 0 + n ≡ n = omega arith in
+    ap below e ∙ (range_more 0 n ∙ ap (λ k. below n ++ k ∷ []) f)
+
+kept_sum : (g : ℕ → ℕ) (b : Bool) (k : ℕ) → sum_by g (cond b (k ∷ []) []) ≡ cond b (g k) 0
+kept_sum g true k = let one = sum_by-cons g k [] in omega (arith, one)
+kept_sum g false k = refl
+
+kept_length : (b : Bool) (k : ℕ) → length (cond b (k ∷ []) []) ≡ cond b 1 0
+kept_length true k = refl
+kept_length false k = refl
+
+next_sum : (test : ℕ → Bool) (g : ℕ → ℕ) (n : ℕ) → sum_by g (filter test (below (n + 1))) ≡ sum_by g (filter test (below n)) + cond (test n) (g n) 0
+next_sum test g n =
+    ap (λ ks. sum_by g (filter test ks)) (below_more n)
+    ∙ (ap (sum_by g) (filter-append test (below n) (n ∷ []))
+    ∙ (sum_by-append g (filter test (below n)) (filter test (n ∷ []))
+    ∙ ap (λ k. sum_by g (filter test (below n)) + k) (kept_sum g (test n) n)))
+
+next_length : (test : ℕ → Bool) (n : ℕ) → length (filter test (below (n + 1))) ≡ length (filter test (below n)) + cond (test n) 1 0
+next_length test n =
+    ap (λ ks. length (filter test ks)) (below_more n)
+    ∙ (ap length (filter-append test (below n) (n ∷ []))
+    ∙ (length-append (filter test (below n)) (filter test (n ∷ []))
+    ∙ ap (λ k. length (filter test (below n)) + k) (kept_length (test n) n)))
 
 pub table_there : (schema : Schema) (table column : ℕ) → is_hidden schema table column ≡ true → table < length schema
 table_there schema table column h =
@@ -67,6 +106,8 @@ module _ (cat : Catalog) where
     next_column = λ table column. sum_next (column_pages cat table) column;
     next_index = λ table column. sum_next (index_pages cat table) column;
     next_spool = λ table. sum_next (spool_pages cat) table;
+    next_visible = λ table column. next_sum (is_visible cat.schema table) (width_at cat.schema table) column;
+    next_descendant = λ table other. next_length (is_below cat.schema table) other;
     column_files = ends_before;
     within_table = ends_within;
     before_tables = ends_before_tables;

@@ -1,8 +1,11 @@
 -- The layouts of the worked catalogs.
-use Rattle.std.specs.Prelude.{◌≡◌, ℕ, [], ◌∷◌, map, ◌++◌}
+use Rattle.std.specs.Prelude.{◌≡◌, ℕ, true, [], ◌∷◌, ◌++◌, length, map, codes, None}
+use Rattle.ghost_model.specs.Schema.{Table, Integer}
+use Rattle.ghost_model.specs.Channel.{Catalog}
+use Rattle.ghost_model.specs.Catalog.{catalog_bytes}
 use Rattle.ghost_model.specs.Runs.{Run}
 use Rattle.ghost_model.specs.Layout.{levels_of, descendants_of, hidden_columns, column_file, subtree_table, index_header, index_directory, index_level, id_directory, id_level, static_files, files_end, static_end, spool_area, spool_areas, scratch_areas, need}
-use Rattle.ghost_model.specs.examples.Clinic.{clinic_schema, clinic_catalog, note_catalog}
+use Rattle.ghost_model.specs.examples.Clinic.{id_column, number_column, key_column, clinic_schema, clinic_catalog, note_catalog}
 
 abbrev pub first_page : Run → ℕ
 first_page run = run.first
@@ -59,3 +62,40 @@ pub record LayoutOfTheNotes : Type 0 where
   pub spool : map first_page (spool_areas note_catalog 0 ++ spool_areas note_catalog 1) ≡ 128 ∷ 192 ∷ []
   pub scratch : map first_page (scratch_areas note_catalog) ≡ 256 ∷ 320 ∷ 384 ∷ 448 ∷ 512 ∷ 576 ∷ []
   pub need : need note_catalog ≡ 640
+
+-- two databases of one schema of a leaf and a top table: one with many top rows, one with many leaf rows
+abbrev pub leaf_table : Table
+leaf_table = record {
+  name = codes "leaf";
+  columns =
+      id_column ∷ number_column (codes "tag") ∷ record { name = codes "mark"; kind = Integer; hidden = true; child = None } ∷ [];
+}
+
+abbrev pub top_table : Table
+top_table = record {
+  name = codes "top";
+  columns =
+      id_column ∷ number_column (codes "num") ∷ record { name = codes "val"; kind = Integer; hidden = true; child = None }
+      ∷ key_column (codes "lf") 0 ∷ [];
+}
+
+abbrev pub remainders_catalog : Catalog
+remainders_catalog = record { schema = leaf_table ∷ top_table ∷ []; counts = 50 ∷ 12000 ∷ []; generation = 1 }
+
+abbrev pub saturated_catalog : Catalog
+saturated_catalog = record { schema = leaf_table ∷ top_table ∷ []; counts = 41000 ∷ 100 ∷ []; generation = 1 }
+
+pub record LayoutsOfLargerDatabases : Type 0 where
+  pub catalog : length (catalog_bytes remainders_catalog) ≡ 217
+  pub remainders_files : files_end remainders_catalog ≡ 473
+  pub remainders_static : static_end remainders_catalog ≡ 512
+  pub remainders_spool :
+      map first_page (spool_areas remainders_catalog 0 ++ spool_areas remainders_catalog 1) ≡ 512 ∷ 576 ∷ 704 ∷ 768 ∷ []
+  pub remainders_scratch : map first_page (scratch_areas remainders_catalog) ≡ 896 ∷ 960 ∷ 1024 ∷ 1088 ∷ 1152 ∷ 1216 ∷ []
+  pub remainders_need : need remainders_catalog ≡ 1280
+  pub saturated_files : files_end saturated_catalog ≡ 962
+  pub saturated_static : static_end saturated_catalog ≡ 1024
+  pub saturated_spool :
+      map first_page (spool_areas saturated_catalog 0 ++ spool_areas saturated_catalog 1) ≡ 1024 ∷ 1280 ∷ 1344 ∷ 1600 ∷ []
+  pub saturated_scratch : map first_page (scratch_areas saturated_catalog) ≡ 1664 ∷ 1792 ∷ 1920 ∷ 2048 ∷ 2176 ∷ 2304 ∷ []
+  pub saturated_need : need saturated_catalog ≡ 2432

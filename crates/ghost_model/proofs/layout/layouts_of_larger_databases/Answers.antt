@@ -1,0 +1,21 @@
+use Rattle.std.proofs.Common.{refl}
+use Rattle.std.specs.Fmt.{digits}
+use Rattle.ghost_model.specs.SchemaFaults.{ancestor}
+use Rattle.ghost_model.specs.Schema.{places_from}
+use Rattle.ghost_model.proofs.layout.layouts_of_larger_databases.Goals as goal
+
+pub returns : goal.returns
+unfolding ancestor places_from digits
+returns c = record {
+  catalog = refl;
+  remainders_files = refl;
+  remainders_static = refl;
+  remainders_spool = refl;
+  remainders_scratch = refl;
+  remainders_need = refl;
+  saturated_files = refl;
+  saturated_static = refl;
+  saturated_spool = refl;
+  saturated_scratch = refl;
+  saturated_need = refl;
+}
