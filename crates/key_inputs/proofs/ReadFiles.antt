@@ -13,6 +13,7 @@ use Rattle.key_inputs.specs.Views.{ReadsTable, ReadsFiles, name_or_none, name_at
 pub record ReadSoFar (contents : Option Files) (folder : List ℕ) (schema : Schema) (i : ℕ) (tables : Database) : Type 0 where
   pub read : List (List ℕ)
   pub many : length read ≡ i
+  pub within : i ≤ length schema
   pub faults : (later : List (List ℕ)) → files_faults 0 schema (read ++ later) ≡ files_faults i (drop i schema) later
   pub spelled : (later : List (List ℕ)) → database_of schema (read ++ later) ≡ tables ++ database_of (drop i schema) later
   pub told : (files : Files) → contents ≡ Some files → tables_from files folder schema 0 schema [] ≡ tables_from files folder schema i (drop i schema) read
@@ -37,6 +38,7 @@ pub nothing_read : (contents : Option Files) (folder : List ℕ) (schema : Schem
 nothing_read contents folder schema = record {
   read = [];
   many = refl;
+  within = omega arith;
   faults = λ later. refl;
   spelled = λ later. refl;
   told = λ files h. refl;
@@ -67,6 +69,7 @@ file_read contents folder schema i tables now rows so_far within one pushed =
     record {
       read = so_far.read ++ one.file ∷ [];
       many = let n = so_far.many in let m = length-snoc so_far.read one.file in m ∙ ap (λ k. k + 1) n;
+      within = omega (arith, within);
       faults = λ later.
           ap (files_faults 0 schema) (append_assoc so_far.read (one.file ∷ []) later)
           ∙ so_far.faults (one.file ∷ later)
@@ -98,10 +101,11 @@ drop_all (declared ∷ schema) (suc i) h = drop_all schema i (omega (arith, h))
 
 -- all files were read
 pub all_read : (contents : Option Files) (folder : List ℕ) (schema : Schema) (i : ℕ) (tables : Database)
-    → ReadSoFar contents folder schema i tables → i ≡ length schema → ReadsFiles contents folder schema tables
+    → ReadSoFar contents folder schema i tables → length schema ≤ i → ReadsFiles contents folder schema tables
 unfolding files_faults tables_from
-all_read contents folder schema i tables so_far end =
-    let none : drop i schema ≡ [] = drop_all schema i (omega (arith, end)) in
+all_read contents folder schema i tables so_far past =
+    let none : drop i schema ≡ [] = drop_all schema i past in
+    let end : i ≡ length schema = omega (arith, past, so_far.within) in
     record {
       read = so_far.read;
       many = so_far.many ∙ end;

@@ -1,5 +1,5 @@
 -- What faults tell of an opening.
-use Rattle.std.proofs.Common.{◌≡◌, ℕ, ◌<◌, Bool, true, List, [], ◌∷◌, Option, Some, None, ⊤, ◌&&◌, not, refl, sym, ap, ◌∙◌, subst, length, nat_le, arith, bytes_eq, slice_get}
+use Rattle.std.proofs.Common.{◌≡◌, ℕ, ◌<◌, Bool, true, List, [], ◌∷◌, Option, Some, None, ◌&&◌, not, refl, sym, ap, ◌∙◌, subst, length, nat_le, arith, bytes_eq, slice_get}
 use Rattle.std.specs.List.{list_all}
 use Rattle.std.specs.FinMap as map
 use Rattle.ghost_model.specs.Schema.{Schema, Table}
@@ -7,15 +7,18 @@ use Rattle.ghost_model.specs.Spelled.{is_name, begins_as_name, is_reserved}
 use Rattle.ghost_model.specs.Tokens.{is_name_byte, in_lower_case}
 use Rattle.ghost_model.specs.LoadFaults as load
 use Rattle.ghost_model.proofs.MeaningLemmas.OneRow.{both_true}
-use Rattle.key_inputs.specs.Openings.{InputFault, TableRule, Opening, Spelled, Broken, TablesInput, on_table, unless_broken}
+use Rattle.ghost_model.specs.Values.{Database}
+use Rattle.ghost_model.specs.Database.{database_of}
+use Rattle.key_inputs.specs.Openings.{InputFault, TableRule, Opening, Spelled, Broken, TablesInput, unless_broken, after_tables}
 use Rattle.key_inputs.specs.Views.{TellsRule, IsBroken, rule_or}
 
 -- the bytes of a name may stand in a word
 pub name_bytes : (name : List ℕ) → is_name name ≡ true → list_all is_name_byte name ≡ true
 unfolding is_name
 name_bytes name h =
-    let later = both_true (begins_as_name name) (list_all is_name_byte name && (bytes_eq (in_lower_case name) name && not (is_reserved name))) h in
-    (both_true (list_all is_name_byte name) (bytes_eq (in_lower_case name) name && not (is_reserved name)) later.1).0
+    let first = both_true (begins_as_name name && list_all is_name_byte name && bytes_eq (in_lower_case name) name) (not (is_reserved name)) h in
+    let second = both_true (begins_as_name name && list_all is_name_byte name) (bytes_eq (in_lower_case name) name) first.0 in
+    (both_true (begins_as_name name) (list_all is_name_byte name) second.0).1
 
 -- the rule that is told of some faults breaks an opening that goes on only without faults
 pub broken_by : {X : Type 0} (next : Opening X) (rule : Option InputFault) (faults : List load.LoadFault) → TellsRule rule faults
@@ -29,3 +32,17 @@ pub told_first : (told : Option load.LoadFault) (faults : List load.LoadFault) �
     → TellsRule (rule_or told) faults
 told_first None faults h = tt
 told_first (Some fault) faults h = (fault, refl, h)
+
+-- keys that are good: the opening is that of the files
+pub keys_are_good : (schema : Schema) (read : List (List ℕ)) (tables : Database) → tables ≡ database_of schema read
+    → load.reference_faults schema tables ≡ [] → after_tables schema read ≡ Spelled (record { schema = schema; files = read })
+keys_are_good schema read tables is good =
+    ap (λ database. unless_broken (Spelled (record { schema = schema; files = read })) (load.reference_faults schema database)) (sym is)
+    ∙ ap (unless_broken (Spelled (record { schema = schema; files = read }))) good
+
+-- a key that is not
+pub keys_are_told : (schema : Schema) (read : List (List ℕ)) (tables : Database) (rule : Option InputFault) → tables ≡ database_of schema read
+    → TellsRule rule (load.reference_faults schema tables) → IsBroken (after_tables schema read) rule
+keys_are_told schema read tables rule is h =
+    subst (λ (database : Database). IsBroken {X = TablesInput} (unless_broken (Spelled (record { schema = schema; files = read })) (load.reference_faults schema database)) rule) is
+    (broken_by (Spelled (record { schema = schema; files = read })) rule (load.reference_faults schema tables) h)

@@ -18,6 +18,7 @@ use csv_split::{LoadFault, Place, Table, Tables, check_references, read_table};
 use edge_traits::depot::Depot;
 use edge_traits::reading::{ReadFault, read_file};
 use ghost_base::limits::MAX_CSV;
+use ghost_model::meaning::files_spell_a_database;
 use std::alloc::{AllocError, Global};
 use tree_schema::schema::schemas_are_trees;
 use tree_schema::{Schema, read_schema};
@@ -53,6 +54,9 @@ pub fn open_tables<D: Depot>(
     let schema = open_schema(alloc, schema, depot)?;
     let tables = open_files(alloc, &schema, folder, depot)?;
     check_keys(&schema, &tables)?;
+    let _tables = schema.tables();
+    schemas_are_trees();
+    files_spell_a_database();
     Ok(Input { schema, tables })
 }
 
@@ -95,9 +99,9 @@ fn open_files<D: Depot>(
     let mut tables = Tables::new(alloc);
     for table in 0..schema.tables() {
         let read = open_table(alloc, schema, table, folder, depot)?;
-        if tables.push(read).is_err() {
+        let Ok(()) = tables.push(read) else {
             return Err(OpenFault::NoMemory);
-        }
+        };
     }
     Ok(tables)
 }

@@ -1,0 +1,54 @@
+use Rattle.std.proofs.Common.{◌≡◌, ◌++◌, ◌∷◌, [], ◌∙◌, refl, sym, subst, ap, ap₂, Some, Ok, Err, arith, ℕ, List}
+use Rattle.std.proofs.lemmas.Result.{err_from_is_err_and}
+use Rattle.ghost_model.specs.Database as database
+use Rattle.ghost_model.specs.LoadFaults as faults
+use Rattle.ghost_model.specs.Values.{Database}
+use Rattle.edge_traits.specs.Files.{Files}
+use Rattle.key_inputs.specs.Openings.{Opening, TablesInput}
+use Rattle.key_inputs.specs.Views.{Tells, IsBroken, rule_in}
+use Rattle.key_inputs.proofs.Telling.{keys_are_good, keys_are_told}
+use Rattle.key_inputs.proofs.opening.open_tables.Goals as goal
+
+pub returns-in_err-schema-clause-opened : goal.returns-in_err-schema-clause-opened
+returns-in_err-schema-clause-opened g c =
+    let p = err_from_is_err_and c.from_residual.result c.from_residual.ensures.1 in
+    let told = λ (files : Files) (h : g.D.Depot.contents c.args.depot.now ≡ Some files). c.in_err-schema.ensures.opened files h c.args.folder.now in
+    rw (p.1, p.2) told
+
+pub returns-in_err-tables-clause-opened : goal.returns-in_err-tables-clause-opened
+returns-in_err-tables-clause-opened g c =
+    let p = err_from_is_err_and c.from_residual-in_err-tables.result c.from_residual-in_err-tables.ensures.1 in
+    let told = λ (files : Files) (h : g.D.Depot.contents c.args.depot.now ≡ Some files).
+    subst (λ (o : Opening TablesInput). Tells o c.in_err-tables.field-0.0) (sym (c.in_ok-schema.ensures.opened files h c.args.folder.now))
+    (c.in_err-tables.ensures.told files (c.open_schema.ensures.same ∙ h)) in
+    rw (p.1, p.2) told
+
+pub returns-in_err-check_keys-clause-opened : goal.returns-in_err-check_keys-clause-opened
+returns-in_err-check_keys-clause-opened g c =
+    let p = err_from_is_err_and c.from_residual-in_err-check_keys.result c.from_residual-in_err-check_keys.ensures.1 in
+    let read = c.in_ok-tables.ensures.read in
+    let told = λ (files : Files) (h : g.D.Depot.contents c.args.depot.now ≡ Some files).
+    subst (λ (o : Opening TablesInput). Tells o c.in_err-check_keys.field-0.0)
+    (sym (c.in_ok-schema.ensures.opened files h c.args.folder.now ∙ read.told files (c.open_schema.ensures.same ∙ h)))
+    (keys_are_told c.in_ok-schema.schema read.read c.in_ok-tables.tables (rule_in c.in_err-check_keys.field-0.0) read.spelled c.in_err-check_keys.ensures.judged) in
+    rw (p.1, p.2) told
+
+pub returns-clause-opened : goal.returns-clause-opened
+returns-clause-opened g c files h =
+    let read = c.in_ok-tables.ensures.read in
+    record {
+      files = read.read;
+      spelled = c.in_ok-schema.ensures.opened files h c.args.folder.now ∙ read.told files (c.open_schema.ensures.same ∙ h)
+          ∙ keys_are_good c.in_ok-schema.schema read.read c.in_ok-tables.tables read.spelled c.in_ok-check_keys.ensures.judged;
+      tables = read.spelled;
+    }
+
+pub returns-clause-database : goal.returns-clause-database
+returns-clause-database g c =
+    let read = c.in_ok-tables.ensures.read in
+    let tree = c.schemas_are_trees.ensures c.in_ok-schema.schema c.tables-tables.ensures.declared in
+    let are : database.database_of c.in_ok-schema.schema read.read ≡ c.in_ok-tables.tables = sym read.spelled in
+    let keys : faults.reference_faults c.in_ok-schema.schema (database.database_of c.in_ok-schema.schema read.read) ≡ [] = rw are c.in_ok-check_keys.ensures.judged in
+    let none : faults.load_faults c.in_ok-schema.schema read.read ≡ [] = ap₂ (λ front back. front ++ back) read.clean keys in
+    let P : Database → Type 0 = λ tables. database.IsDatabase c.in_ok-schema.schema tables in
+    subst P are (c.files_spell_a_database.ensures c.in_ok-schema.schema read.read tree read.many none)
