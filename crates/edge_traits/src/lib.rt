@@ -8,10 +8,10 @@
 pub mod counting;
 pub mod depot;
 pub mod flash;
+pub mod link;
 pub mod marks;
 pub mod mem_depot;
 pub mod mem_flash;
-pub mod link;
 pub mod mem_link;
 pub mod mem_sink;
 pub mod peer;

@@ -69,9 +69,15 @@ mod tests {
             (Operator::AtLeast, [false, true, true]),
         ];
         for (operator, expected) in cases.iter() {
-            assert!(rt; operator.holds(&Value::Int(-3), &two) == expected[0], "below");
+            assert!(rt;
+                operator.holds(&Value::Int(-3), &two) == expected[0],
+                "below"
+            );
             assert!(rt; operator.holds(&two, &two) == expected[1], "equal");
-            assert!(rt; operator.holds(&Value::Int(7), &two) == expected[2], "above");
+            assert!(rt;
+                operator.holds(&Value::Int(7), &two) == expected[2],
+                "above"
+            );
         }
     }
 }
