@@ -7,6 +7,8 @@
 pub mod faults;
 pub mod names;
 pub mod opening;
+#[cfg(test)]
+mod tests;
 
 pub use faults::{InputFault, OpenFault};
 pub use opening::{Input, open_tables};
