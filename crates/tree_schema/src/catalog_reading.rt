@@ -7,7 +7,7 @@ ghost use Rattle.ghost_model.specs.Catalog as catalog;
 ghost use Rattle.tree_schema.specs.Catalogs.{are_counts};
 ghost use Rattle.tree_schema.specs.CatalogParts.{HasParts, AreParts, BeginsWithCount};
 
-use crate::catalog_bytes::{HEAD_BYTES, catalog_len, is_catalog_part, is_short};
+use crate::catalog_bytes::{HEAD_BYTES, catalog_len, is_catalog_part, a_catalog_is_short};
 use crate::reading::read_schema;
 use crate::{Catalog, Schema};
 use arrayvec::ArrayVec;
@@ -119,7 +119,7 @@ fn catalog_with(bytes: &[u8], schema: Schema, generation: u32, counts: &[u8]) ->
         return None;
     };
     let cat = Catalog::of(schema, counts, generation);
-    is_short(&cat);
+    a_catalog_is_short(&cat);
     if begins_with(bytes, &cat) {
         Some(cat)
     } else {

@@ -1,5 +1,5 @@
 use Rattle.std.proofs.Common.{arith}
-use Rattle.tree_schema.proofs.catalog_bytes.is_short.Goals as goal
+use Rattle.tree_schema.proofs.catalog_bytes.a_catalog_is_short.Goals as goal
 
 pub returns : goal.returns
 returns c =
