@@ -16,7 +16,7 @@ use ghost_base::limits::{MAX_NAME, MAX_TABLES};
 
 /// The number that digits write, where a CHAR may have this length.
 pub(crate) fn length_of(digits: &[u8]) -> Option<u8>
-    ensures { MatchOption result (tokens.is_between 1 64 (tokens.number_of digits.now) ≡ false) (λ most. (most ≡ tokens.number_of digits.now) × (tokens.is_between 1 64 (tokens.number_of digits.now) ≡ true)) }
+    ensures value { MatchOption result (tokens.is_between 1 64 (tokens.number_of digits.now) ≡ false) (λ most. (most ≡ tokens.number_of digits.now) × (tokens.is_between 1 64 (tokens.number_of digits.now) ≡ true)) }
 {
     let mut number = 0u8;
     for digit in digits {
@@ -31,7 +31,7 @@ pub(crate) fn length_of(digits: &[u8]) -> Option<u8>
 
 /// Whether a column is beyond the limits.
 fn is_column_over(column: &ColumnDraft) -> bool
-    ensures { result ≡ faults.is_column_over (column_of column.now) }
+    ensures over { result ≡ faults.is_column_over (column_of column.now) }
 {
     match *column {
         ColumnDraft::Chars(name, digits, _) => name.len() > MAX_NAME || length_of(digits).is_none(),
@@ -44,14 +44,14 @@ fn is_column_over(column: &ColumnDraft) -> bool
 
 /// Whether one of the columns is beyond the limits.
 fn is_one_over(columns: &[ColumnDraft]) -> bool
-    ensures { result ≡ list_any (λ column. faults.is_column_over (column_of column)) columns.now }
+    ensures over { result ≡ list_any (λ column. faults.is_column_over (column_of column)) columns.now }
 {
     columns.iter().any(|column| is_column_over(column))
 }
 
 /// Whether a table is beyond the limits.
 fn is_table_over(table: &TableDraft) -> bool
-    ensures { result ≡ faults.is_table_over (table_of table.now) }
+    ensures over { result ≡ faults.is_table_over (table_of table.now) }
 {
     if table.name.len() > MAX_NAME {
         return true;
@@ -64,21 +64,21 @@ fn is_table_over(table: &TableDraft) -> bool
 
 /// Whether one of the tables is beyond the limits.
 fn is_one_table_over(tables: &[TableDraft]) -> bool
-    ensures { result ≡ list_any (λ table. faults.is_table_over (table_of table)) tables.now }
+    ensures over { result ≡ list_any (λ table. faults.is_table_over (table_of table)) tables.now }
 {
     tables.iter().any(|table| is_table_over(table))
 }
 
 /// Whether the tables are beyond the limits.
 fn is_over(tables: &[TableDraft]) -> bool
-    ensures { result ≡ faults.is_over (map table_of tables.now) }
+    ensures over { result ≡ faults.is_over (map table_of tables.now) }
 {
     tables.len() > MAX_TABLES || is_one_table_over(tables)
 }
 
 /// Whether a column is the identifier, without REFERENCES and HIDDEN.
 fn is_identifier(column: &ColumnDraft) -> bool
-    ensures { result ≡ faults.is_identifier (column_of column.now) }
+    ensures identifier { result ≡ faults.is_identifier (column_of column.now) }
 {
     match *column {
         ColumnDraft::Chars(_, _, _) => false,
@@ -91,7 +91,7 @@ fn is_identifier(column: &ColumnDraft) -> bool
 
 /// Whether a column has PRIMARY KEY.
 fn is_primary(column: &ColumnDraft) -> bool
-    ensures { result ≡ faults.is_primary (column_of column.now) }
+    ensures primary { result ≡ faults.is_primary (column_of column.now) }
 {
     match *column {
         ColumnDraft::Chars(_, _, _) => false,
@@ -101,21 +101,21 @@ fn is_primary(column: &ColumnDraft) -> bool
 
 /// Whether one of the columns has PRIMARY KEY.
 fn is_one_primary(columns: &[ColumnDraft]) -> bool
-    ensures { result ≡ list_any (λ column. faults.is_primary (column_of column)) columns.now }
+    ensures primary { result ≡ list_any (λ column. faults.is_primary (column_of column)) columns.now }
 {
     columns.iter().any(|column| is_primary(column))
 }
 
 /// Whether a table does not begin with its one identifier.
 fn lacks_id(table: &TableDraft) -> bool
-    ensures { result ≡ faults.table_lacks_id (Some (table_of table.now)) }
+    ensures lacks { result ≡ faults.table_lacks_id (Some (table_of table.now)) }
 {
     !is_identifier(&table.first) || is_one_primary(&table.others)
 }
 
 /// Whether the table at a place does not begin with its one identifier.
 fn lacks_id_at(tables: &[TableDraft], place: usize) -> bool
-    ensures { result ≡ faults.lacks_id (map table_of tables.now) place }
+    ensures lacks { result ≡ faults.lacks_id (map table_of tables.now) place }
 {
     match tables.get(place) {
         None => false,
@@ -125,7 +125,7 @@ fn lacks_id_at(tables: &[TableDraft], place: usize) -> bool
 
 /// The first table that does not begin with its one identifier.
 fn first_without_id(tables: &[TableDraft]) -> Option<usize>
-    ensures { result ≡ find (faults.lacks_id (map table_of tables.now)) (faults.places_of (map table_of tables.now)) }
+    ensures first { result ≡ find (faults.lacks_id (map table_of tables.now)) (faults.places_of (map table_of tables.now)) }
 {
     for place in 0..tables.len() {
         if lacks_id_at(tables, place) {
@@ -137,14 +137,14 @@ fn first_without_id(tables: &[TableDraft]) -> Option<usize>
 
 /// Whether one of the tables has this name.
 fn has_table(tables: &[TableDraft], name: &[u8]) -> bool
-    ensures { result ≡ list_any (λ table. bytes_eq (tokens.in_lower_case name.now) (tokens.in_lower_case table.name.now)) tables.now }
+    ensures has { result ≡ list_any (λ table. bytes_eq (tokens.in_lower_case name.now) (tokens.in_lower_case table.name.now)) tables.now }
 {
     tables.iter().any(|table| is_word(name, table.name))
 }
 
 /// Whether an earlier table has the name of the table at a place.
 fn table_repeats(tables: &[TableDraft], place: usize) -> bool
-    ensures { result ≡ faults.table_repeats (map table_of tables.now) place }
+    ensures repeats { result ≡ faults.table_repeats (map table_of tables.now) place }
 {
     match tables.get(place) {
         None => false,
@@ -154,7 +154,7 @@ fn table_repeats(tables: &[TableDraft], place: usize) -> bool
 
 /// The name of a column, as it is written.
 pub(crate) fn column_name<'a>(column: ColumnDraft<'a>) -> &'a [u8]
-    ensures { tokens.in_lower_case result.now ≡ faults.column_name (column_of column.entry) }
+    ensures name { tokens.in_lower_case result.now ≡ faults.column_name (column_of column.entry) }
 {
     match column {
         ColumnDraft::Chars(name, _, _) => name,
@@ -164,7 +164,7 @@ pub(crate) fn column_name<'a>(column: ColumnDraft<'a>) -> &'a [u8]
 
 /// Whether one of the columns has this name.
 fn has_column(columns: &[ColumnDraft], name: &[u8]) -> bool
-    ensures { result ≡ list_any (λ column. bytes_eq (tokens.in_lower_case name.now) (faults.column_name (column_of column))) columns.now }
+    ensures has { result ≡ list_any (λ column. bytes_eq (tokens.in_lower_case name.now) (faults.column_name (column_of column))) columns.now }
 {
     columns
         .iter()
@@ -173,7 +173,7 @@ fn has_column(columns: &[ColumnDraft], name: &[u8]) -> bool
 
 /// Whether an earlier column of a table has the name of the column at a place.
 fn column_repeats(table: &TableDraft, place: usize) -> bool
-    ensures { result ≡ faults.repeats (map faults.column_name (columns_written (table_of table.now))) place }
+    ensures repeats { result ≡ faults.repeats (map faults.column_name (columns_written (table_of table.now))) place }
 {
     if place == 0 {
         return false;
@@ -192,7 +192,7 @@ fn column_repeats(table: &TableDraft, place: usize) -> bool
 
 /// Whether column 0 stands for a table's name that an earlier table has.
 fn name_repeats(tables: &[TableDraft], table: usize, column: usize) -> bool
-    ensures { result ≡ (column == 0 && faults.table_repeats (map table_of tables.now) table) }
+    ensures repeats { result ≡ (column == 0 && faults.table_repeats (map table_of tables.now) table) }
 {
     if column > 0 {
         return false;
@@ -203,7 +203,7 @@ fn name_repeats(tables: &[TableDraft], table: usize, column: usize) -> bool
 /// Whether the name of a column stands at an earlier one of its table, or, for column 0, that of the table at an earlier
 /// table.
 fn is_duplicate(tables: &[TableDraft], table: usize, column: usize) -> bool
-    ensures { result ≡ faults.is_duplicate (map table_of tables.now) (field_at table column) }
+    ensures duplicate { result ≡ faults.is_duplicate (map table_of tables.now) (field_at table column) }
 {
     match tables.get(table) {
         None => false,
@@ -218,21 +218,21 @@ fn is_duplicate(tables: &[TableDraft], table: usize, column: usize) -> bool
 
 /// The place of the first table whose name is a word.
 fn place_of_word(tables: &[TableDraft], name: &[u8]) -> Option<usize>
-    ensures { result ≡ position (λ table. bytes_eq (tokens.in_lower_case name.now) (tokens.in_lower_case table.name.now)) tables.now }
+    ensures place { result ≡ position (λ table. bytes_eq (tokens.in_lower_case name.now) (tokens.in_lower_case table.name.now)) tables.now }
 {
     tables.iter().position(|table| is_word(name, table.name))
 }
 
 /// The place of the first table with this name.
 pub(crate) fn place_named(tables: &[TableDraft], name: &[u8]) -> Option<usize>
-    ensures { result ≡ meaning.table_named (map table_of tables.now) (tokens.in_lower_case name.now) }
+    ensures place { result ≡ meaning.table_named (map table_of tables.now) (tokens.in_lower_case name.now) }
 {
     place_of_word(tables, name)
 }
 
 /// Whether a column's REFERENCES names no table.
 fn refers_nowhere(tables: &[TableDraft], column: ColumnDraft) -> bool
-    ensures { result ≡ faults.refers_nowhere (map table_of tables.now) (Some (column_of column.entry)) }
+    ensures nowhere { result ≡ faults.refers_nowhere (map table_of tables.now) (Some (column_of column.entry)) }
 {
     match column {
         ColumnDraft::Chars(_, _, _) => false,
@@ -245,7 +245,7 @@ fn refers_nowhere(tables: &[TableDraft], column: ColumnDraft) -> bool
 
 /// A column of a table by its place.
 fn column_at<'a>(table: &TableDraft<'a>, place: usize) -> Option<ColumnDraft<'a>>
-    ensures { option_map column_of result ≡ slice_get (columns_written (table_of table.now)) place }
+    ensures column { option_map column_of result ≡ slice_get (columns_written (table_of table.now)) place }
 {
     if place == 0 {
         return Some(table.first);
@@ -258,7 +258,7 @@ fn column_at<'a>(table: &TableDraft<'a>, place: usize) -> Option<ColumnDraft<'a>
 
 /// Whether the REFERENCES of a column names no table.
 fn is_unknown(tables: &[TableDraft], table: usize, column: usize) -> bool
-    ensures { result ≡ faults.is_unknown (map table_of tables.now) (field_at table column) }
+    ensures unknown { result ≡ faults.is_unknown (map table_of tables.now) (field_at table column) }
 {
     match tables.get(table) {
         None => false,
@@ -271,7 +271,7 @@ fn is_unknown(tables: &[TableDraft], table: usize, column: usize) -> bool
 
 /// The number of columns of a table, and 0 where there is no such table.
 fn columns_len(tables: &[TableDraft], table: usize) -> usize
-    ensures { result ≡ length (faults.columns_at (slice_get (map table_of tables.now) table)) }
+    ensures count { result ≡ length (faults.columns_at (slice_get (map table_of tables.now) table)) }
 {
     match tables.get(table) {
         None => 0,
@@ -281,7 +281,7 @@ fn columns_len(tables: &[TableDraft], table: usize) -> usize
 
 /// The first column of a table that repeats a name.
 fn first_duplicate_in(tables: &[TableDraft], table: usize) -> Option<usize>
-    ensures { result ≡ find (λ column. faults.is_duplicate (map table_of tables.now) (field_at table column)) (faults.places_of (faults.columns_at (slice_get (map table_of tables.now) table))) }
+    ensures first { result ≡ find (λ column. faults.is_duplicate (map table_of tables.now) (field_at table column)) (faults.places_of (faults.columns_at (slice_get (map table_of tables.now) table))) }
 {
     for column in 0..columns_len(tables, table) {
         if is_duplicate(tables, table, column) {
@@ -293,7 +293,7 @@ fn first_duplicate_in(tables: &[TableDraft], table: usize) -> Option<usize>
 
 /// The first table and column that repeat a name.
 fn first_duplicate(tables: &[TableDraft]) -> Option<(usize, usize)>
-    ensures { option_map field_of result ≡ find (faults.is_duplicate (map table_of tables.now)) (faults.fields (map table_of tables.now)) }
+    ensures first { option_map field_of result ≡ find (faults.is_duplicate (map table_of tables.now)) (faults.fields (map table_of tables.now)) }
 {
     for table in 0..tables.len() {
         if let Some(column) = first_duplicate_in(tables, table) {
@@ -305,7 +305,7 @@ fn first_duplicate(tables: &[TableDraft]) -> Option<(usize, usize)>
 
 /// The first column of a table whose REFERENCES names no table.
 fn first_unknown_in(tables: &[TableDraft], table: usize) -> Option<usize>
-    ensures { result ≡ find (λ column. faults.is_unknown (map table_of tables.now) (field_at table column)) (faults.places_of (faults.columns_at (slice_get (map table_of tables.now) table))) }
+    ensures first { result ≡ find (λ column. faults.is_unknown (map table_of tables.now) (field_at table column)) (faults.places_of (faults.columns_at (slice_get (map table_of tables.now) table))) }
 {
     for column in 0..columns_len(tables, table) {
         if is_unknown(tables, table, column) {
@@ -317,7 +317,7 @@ fn first_unknown_in(tables: &[TableDraft], table: usize) -> Option<usize>
 
 /// The first table and column whose REFERENCES names no table.
 fn first_unknown(tables: &[TableDraft]) -> Option<(usize, usize)>
-    ensures { option_map field_of result ≡ find (faults.is_unknown (map table_of tables.now)) (faults.fields (map table_of tables.now)) }
+    ensures first { option_map field_of result ≡ find (faults.is_unknown (map table_of tables.now)) (faults.fields (map table_of tables.now)) }
 {
     for table in 0..tables.len() {
         if let Some(column) = first_unknown_in(tables, table) {
@@ -329,7 +329,7 @@ fn first_unknown(tables: &[TableDraft]) -> Option<(usize, usize)>
 
 /// Tests the rules that speak of the text alone: the limits, then the names, then the identifiers, then the references.
 pub(crate) fn check_texts(tables: &[TableDraft]) -> Result<(), SchemaFault>
-    ensures { refused result ≡ fault_of_texts (map table_of tables.now) }
+    ensures refused { refused result ≡ fault_of_texts (map table_of tables.now) }
 {
     if is_over(tables) {
         return Err(SchemaFault::Limit);

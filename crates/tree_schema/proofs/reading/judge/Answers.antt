@@ -9,13 +9,13 @@ use Rattle.tree_schema.proofs.reading.judge.Goals as goal
 
 pub returns-in_err-check_tree : goal.returns-in_err-check_tree
 returns-in_err-check_tree c =
-    let decided : faults.schema_fault (map table_of c.args.drafts.now) ≡ fault_of_tree (views.schema_of c.deref.result.now) = tree_decides _ (sym c.in_ok-check_texts.ensures)
+    let decided : faults.schema_fault (map table_of c.args.drafts.now) ≡ fault_of_tree (views.schema_of c.deref.result.now) = tree_decides _ (sym c.in_ok-check_texts.ensures.refused)
     ∙ ap fault_of_tree (sym c.tables_of-tables.ensures.tables ∙ ap views.schema_of (sym c.deref.ensures.0)) in
     record { reading = rw decided (search rules) }
 
 pub of-requires : goal.of-requires
 of-requires c =
-    let decided : faults.schema_fault (map table_of c.args.drafts.now) ≡ None = tree_decides _ (sym c.in_ok-check_texts.ensures)
+    let decided : faults.schema_fault (map table_of c.args.drafts.now) ≡ None = tree_decides _ (sym c.in_ok-check_texts.ensures.refused)
     ∙ ap fault_of_tree (sym c.tables_of-tables.ensures.tables ∙ ap views.schema_of (sym c.deref.ensures.0)) ∙ sym c.in_ok-check_tree.ensures.refused in
     record {
       declared = record {
@@ -26,7 +26,7 @@ of-requires c =
 
 pub returns : goal.returns
 returns c =
-    let decided : faults.schema_fault (map table_of c.args.drafts.now) ≡ None = tree_decides _ (sym c.in_ok-check_texts.ensures)
+    let decided : faults.schema_fault (map table_of c.args.drafts.now) ≡ None = tree_decides _ (sym c.in_ok-check_texts.ensures.refused)
     ∙ ap fault_of_tree (sym c.tables_of-tables.ensures.tables ∙ ap views.schema_of (sym c.deref.ensures.0)) ∙ sym c.in_ok-check_tree.ensures.refused in
     record {
       reading = ap Ok (c.of.ensures.schema ∙ c.tables_of-tables.ensures.tables) ∙ sym (ap (faults.schema_or (meaning.schema_of (map table_of c.args.drafts.now))) decided);

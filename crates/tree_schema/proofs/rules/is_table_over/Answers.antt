@@ -14,6 +14,8 @@ returns c =
     let name : length (in_lower_case c.args.table.now.name.now) < 33 = omega (arith, short, length-map c.args.table.now.name.now to_ascii_lowercase) in
     let few : length c.deref.result.now ≤ 23 = c.deref.ensures.1 in
     let columns : suc (length (map column_of c.args.table.now.others.items)) < 25 = omega (arith, few, ap length c.deref.ensures.0, length-map c.args.table.now.others.items column_of) in
-    too_wide_by _ _ _ _ _ (not_le 33 (length (in_lower_case c.args.table.now.name.now)) name) (not_le 25 (suc (length (map column_of c.args.table.now.others.items))) columns)
-    (sym c.is_column_over.ensures ∙ c.if-is_column_over.false)
-    (c.is_one_over.ensures ∙ ap (λ columns. list_any (λ column. faults.is_column_over (column_of column)) columns) c.deref.ensures.0 ∙ any_mapped column_of faults.is_column_over c.args.table.now.others.items)
+    record {
+      over = too_wide_by _ _ _ _ _ (not_le 33 (length (in_lower_case c.args.table.now.name.now)) name) (not_le 25 (suc (length (map column_of c.args.table.now.others.items))) columns)
+          (sym c.is_column_over.ensures.over ∙ c.if-is_column_over.false)
+          (c.is_one_over.ensures.over ∙ ap (λ columns. list_any (λ column. faults.is_column_over (column_of column)) columns) c.deref.ensures.0 ∙ any_mapped column_of faults.is_column_over c.args.table.now.others.items);
+    }

@@ -7,5 +7,7 @@ use Rattle.tree_schema.proofs.rules.lacks_id.Goals as goal
 
 pub returns-else-not-is_identifier : goal.returns-else-not-is_identifier
 returns-else-not-is_identifier c =
-    or_right _ _ _ (c.is_one_primary.ensures ∙ ap (λ columns. list_any (λ column. faults.is_primary (column_of column)) columns) c.deref.ensures.0 ∙ any_mapped column_of faults.is_primary c.args.table.now.others.items)
-    (ap not (sym c.is_identifier.ensures ∙ c.if-not-is_identifier.false))
+    record {
+      lacks = or_right _ _ _ (c.is_one_primary.ensures.primary ∙ ap (λ columns. list_any (λ column. faults.is_primary (column_of column)) columns) c.deref.ensures.0 ∙ any_mapped column_of faults.is_primary c.args.table.now.others.items)
+          (ap not (sym c.is_identifier.ensures.identifier ∙ c.if-not-is_identifier.false));
+    }

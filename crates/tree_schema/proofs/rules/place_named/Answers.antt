@@ -6,4 +6,5 @@ use Rattle.tree_schema.proofs.FirstPlaces.{position_mapped}
 use Rattle.tree_schema.proofs.rules.place_named.Goals as goal
 
 pub returns : goal.returns
-returns c = c.place_of_word.ensures ∙ position_mapped table_of (λ (table : TableText). bytes_eq (tokens.in_lower_case c.args.name.now) table.name) c.args.tables.now
+returns c =
+    record { place = c.place_of_word.ensures.place ∙ position_mapped table_of (λ (table : TableText). bytes_eq (tokens.in_lower_case c.args.name.now) table.name) c.args.tables.now }

@@ -9,10 +9,12 @@ use Rattle.tree_schema.proofs.rules.table_repeats.Goals as goal
 
 pub returns-in-None : goal.returns-in-None
 returns-in-None c =
-    sym (repeats_past (λ (table : TableText). table.name) _ c.args.place (mapped_item table_of c.args.tables.now c.args.place _ (no_item _ _ c.in-None.ensures.lookup)))
+    record { repeats = sym (repeats_past (λ (table : TableText). table.name) _ c.args.place (mapped_item table_of c.args.tables.now c.args.place _ (no_item _ _ c.in-None.ensures.lookup))) }
 
 pub returns-in-Some : goal.returns-in-Some
 returns-in-Some c =
-    c.has_table.ensures
-    ∙ repeats_at (λ (table : TableDraft). tokens.in_lower_case table.name.now) c.args.tables.now c.args.place c.in-Some.table.now (item_at c.args.tables.now c.args.place c.in-Some.table c.in-Some.ensures.lookup)
-    ∙ ap (λ names. faults.repeats names c.args.place) (sym (map_twice (λ (table : TableText). table.name) table_of c.args.tables.now))
+    record {
+      repeats = c.has_table.ensures.has
+          ∙ repeats_at (λ (table : TableDraft). tokens.in_lower_case table.name.now) c.args.tables.now c.args.place c.in-Some.table.now (item_at c.args.tables.now c.args.place c.in-Some.table c.in-Some.ensures.lookup)
+          ∙ ap (λ names. faults.repeats names c.args.place) (sym (map_twice (λ (table : TableText). table.name) table_of c.args.tables.now));
+    }
