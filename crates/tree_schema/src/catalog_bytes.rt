@@ -23,7 +23,7 @@ pub const VERSION: u8 = 1;
 
 /// Each catalog is one that both sides may share, and has at most 16,640 bytes.
 pub fn catalogs_are_short()
-    ensures { CatalogsAreShort }
+    ensures short { CatalogsAreShort }
 {
     ghost_model::schema::one_schema_reading();
     ghost_model::catalogs::a_catalog_of_each_text();
@@ -32,7 +32,7 @@ pub fn catalogs_are_short()
 
 /// The bytes of a catalog whose schema some text means are bytes.
 pub fn catalogs_are_bytes()
-    ensures { CatalogsAreBytes }
+    ensures bytes { CatalogsAreBytes }
 {
     ghost_model::schema::schemas_are_trees();
 }
@@ -120,8 +120,8 @@ pub fn catalog_part(cat: &Catalog, at: usize, out: &mut [u8]) -> usize
 
 /// Whether bytes that a page holds are those of a catalog from place `at` on.
 fn is_page_of_catalog(cat: &Catalog, at: usize, bytes: &[u8]) -> bool
-    requires { length bytes.now ≤ 2048 }
-    ensures { result ≡ bytes_eq bytes.now (take (length bytes.now) (drop at (catalog.catalog_bytes cat.now))) }
+    requires fits { length bytes.now ≤ 2048 }
+    ensures same { result ≡ bytes_eq bytes.now (take (length bytes.now) (drop at (catalog.catalog_bytes cat.now))) }
 {
     let mut page = [0; PAGE_BYTES];
     let (out, _rest) = page.split_at_mut(bytes.len());
@@ -130,7 +130,7 @@ fn is_page_of_catalog(cat: &Catalog, at: usize, bytes: &[u8]) -> bool
 
 /// Whether bytes are those of a catalog from place `at` on.
 pub fn is_catalog_part(cat: &Catalog, at: usize, bytes: &[u8]) -> bool
-    ensures { result ≡ bytes_eq bytes.now (take (length bytes.now) (drop at (catalog.catalog_bytes cat.now))) }
+    ensures same { result ≡ bytes_eq bytes.now (take (length bytes.now) (drop at (catalog.catalog_bytes cat.now))) }
 {
     a_catalog_is_short(cat);
     let mut rest = bytes;
