@@ -15,9 +15,6 @@ pub const MAX_CATALOG: usize = 16_640;
 /// The bytes of a catalog before its canonical text.
 pub const HEAD_BYTES: usize = 16;
 
-/// The mark at the beginning.
-pub const MARK: &[u8; 7] = b"GHOSTDB";
-
 /// The bytes that are compared at a time.
 const PAGE_BYTES: usize = 2048;
 
@@ -26,7 +23,7 @@ pub const VERSION: u8 = 1;
 
 /// Each catalog is one that both sides may share, and has at most 16,640 bytes.
 pub fn catalogs_are_short()
-    ensures { CatalogsAreShort }
+    ensures short { CatalogsAreShort }
 {
     ghost_model::schema::one_schema_reading();
     ghost_model::catalogs::a_catalog_of_each_text();
@@ -35,13 +32,13 @@ pub fn catalogs_are_short()
 
 /// The bytes of a catalog whose schema some text means are bytes.
 pub fn catalogs_are_bytes()
-    ensures { CatalogsAreBytes }
+    ensures bytes { CatalogsAreBytes }
 {
     ghost_model::schema::schemas_are_trees();
 }
 
 /// A catalog is one that both sides may share, and has at most 16,640 bytes.
-pub fn is_short(cat: &Catalog)
+pub fn a_catalog_is_short(cat: &Catalog)
     ensures catalog { catalog.IsCatalog cat.now }
     ensures most { length (catalog.catalog_bytes cat.now) ≤ 16_640 }
 {
@@ -77,7 +74,7 @@ fn text_len(cat: &Catalog) -> u32
     ensures value { result ≡ length (catalog.canonical_text cat.now.schema) }
     ensures most { result ≤ 16_640 }
 {
-    is_short(cat);
+    a_catalog_is_short(cat);
     let mut window = Window {
         skip: MAX_CATALOG,
         filled: 0,
@@ -92,7 +89,7 @@ pub fn catalog_len(cat: &Catalog) -> u16
     ensures most { result ≤ 16_640 }
     ensures catalog { catalog.IsCatalog cat.now }
 {
-    is_short(cat);
+    a_catalog_is_short(cat);
     let tables = cat.schema().tables() as u32;
     (HEAD_BYTES as u32 + text_len(cat) + 4 * tables) as u16
 }
@@ -123,8 +120,8 @@ pub fn catalog_part(cat: &Catalog, at: usize, out: &mut [u8]) -> usize
 
 /// Whether bytes that a page holds are those of a catalog from place `at` on.
 fn is_page_of_catalog(cat: &Catalog, at: usize, bytes: &[u8]) -> bool
-    requires { length bytes.now ≤ 2048 }
-    ensures { result ≡ bytes_eq bytes.now (take (length bytes.now) (drop at (catalog.catalog_bytes cat.now))) }
+    requires fits { length bytes.now ≤ 2048 }
+    ensures same { result ≡ bytes_eq bytes.now (take (length bytes.now) (drop at (catalog.catalog_bytes cat.now))) }
 {
     let mut page = [0; PAGE_BYTES];
     let (out, _rest) = page.split_at_mut(bytes.len());
@@ -133,9 +130,9 @@ fn is_page_of_catalog(cat: &Catalog, at: usize, bytes: &[u8]) -> bool
 
 /// Whether bytes are those of a catalog from place `at` on.
 pub fn is_catalog_part(cat: &Catalog, at: usize, bytes: &[u8]) -> bool
-    ensures { result ≡ bytes_eq bytes.now (take (length bytes.now) (drop at (catalog.catalog_bytes cat.now))) }
+    ensures same { result ≡ bytes_eq bytes.now (take (length bytes.now) (drop at (catalog.catalog_bytes cat.now))) }
 {
-    is_short(cat);
+    a_catalog_is_short(cat);
     let mut rest = bytes;
     let mut at = at;
     while !rest.is_empty() {

@@ -7,7 +7,7 @@ ghost use Rattle.ghost_model.specs.Catalog as catalog;
 ghost use Rattle.tree_schema.specs.Catalogs.{are_counts};
 ghost use Rattle.tree_schema.specs.CatalogParts.{HasParts, AreParts, BeginsWithCount};
 
-use crate::catalog_bytes::{HEAD_BYTES, catalog_len, is_catalog_part, is_short};
+use crate::catalog_bytes::{HEAD_BYTES, a_catalog_is_short, catalog_len, is_catalog_part};
 use crate::reading::read_schema;
 use crate::{Catalog, Schema};
 use arrayvec::ArrayVec;
@@ -31,8 +31,8 @@ pub struct Parts<'a> {
 
 /// The number that four bytes spell.
 fn number_of(bytes: &[u8]) -> u32
-    requires { length bytes.now ≡ 4 }
-    ensures { result ≡ from_be_bytes w32 bytes.now }
+    requires four { length bytes.now ≡ 4 }
+    ensures value { result ≡ from_be_bytes w32 bytes.now }
 {
     u32::from_be_bytes([bytes[0], bytes[1], bytes[2], bytes[3]])
 }
@@ -77,7 +77,7 @@ fn count_of<'a>(bytes: &'a [u8]) -> Option<(u32, &'a [u8])>
 
 /// The numbers of rows of so many tables at the front of bytes.
 fn counts_of(bytes: &[u8], tables: usize) -> Option<ArrayVec<u32, MAX_TABLES>>
-    requires { tables ≤ MAX_TABLES }
+    requires few { tables ≤ MAX_TABLES }
     ensures one_each { IfSome result (λ counts. length counts.items ≡ tables) }
     ensures within { IfSome result (λ counts. IsTrue (are_counts counts.items)) }
     ensures only { (counts later : List ℕ) → length counts ≡ tables → IsTrue (are_counts counts) → bytes.now ≡ catalog.counts_bytes counts ++ later → IsSomeAnd result (λ found. found.items ≡ counts) }
@@ -119,7 +119,7 @@ fn catalog_with(bytes: &[u8], schema: Schema, generation: u32, counts: &[u8]) ->
         return None;
     };
     let cat = Catalog::of(schema, counts, generation);
-    is_short(&cat);
+    a_catalog_is_short(&cat);
     if begins_with(bytes, &cat) {
         Some(cat)
     } else {

@@ -14,4 +14,4 @@ pub returns-clause-most : goal.returns-clause-most
 returns-clause-most c =
     let cat = c.args.cat.now in
     let tables : c.tables-tables.result ≡ length cat.schema = c.tables-tables.ensures.count ∙ ap (λ (schema : Schema). length schema) c.schema.ensures.value in
-    omega (arith, c.text_len.ensures.value, tables, catalog_length cat c.schema.ensures.catalog.one_each, c.is_short.ensures.most)
+    omega (arith, c.text_len.ensures.value, tables, catalog_length cat c.schema.ensures.catalog.one_each, c.a_catalog_is_short.ensures.most)

@@ -15,7 +15,7 @@ returns-then-not-is_page_of_catalog c =
     let later = c.split_at.result.1.now in
     let whole = piece_by_piece c.loop-rest.rest.now piece later text c.loop-rest.at (joins c.loop-rest.rest.now piece later c.min.result c.split_at.ensures.front c.split_at.ensures.back) in
     let others = bytes_eq later (take (length later) (drop (c.loop-rest.at + length piece) text)) in
-    sym (c.loop-rest.invariant ∙ (whole ∙ ap (λ b. b && others) (sym c.is_page_of_catalog.ensures ∙ c.if-not-is_page_of_catalog.true)))
+    record { same = sym (c.loop-rest.invariant ∙ (whole ∙ ap (λ b. b && others) (sym c.is_page_of_catalog.ensures.same ∙ c.if-not-is_page_of_catalog.true))) }
 
 pub loop-rest-preserved : goal.loop-rest-preserved
 loop-rest-preserved c =
@@ -24,4 +24,4 @@ loop-rest-preserved c =
     let later = c.split_at.result.1.now in
     let whole = piece_by_piece c.loop-rest.rest.now piece later text c.loop-rest.at (joins c.loop-rest.rest.now piece later c.min.result c.split_at.ensures.front c.split_at.ensures.back) in
     let others = bytes_eq later (take (length later) (drop (c.loop-rest.at + length piece) text)) in
-    c.loop-rest.invariant ∙ (whole ∙ ap (λ b. b && others) (sym c.is_page_of_catalog.ensures ∙ c.if-not-is_page_of_catalog.false))
+    c.loop-rest.invariant ∙ (whole ∙ ap (λ b. b && others) (sym c.is_page_of_catalog.ensures.same ∙ c.if-not-is_page_of_catalog.false))

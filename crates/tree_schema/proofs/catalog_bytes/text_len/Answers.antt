@@ -20,5 +20,5 @@ returns-clause-value c =
     let same : length (canonical_text c.schema.result.now) ≡ length (canonical_text cat.schema) =
     ap (λ (schema : Schema). length (canonical_text schema)) c.schema.ensures.value in
     let proper = c.schema.ensures.catalog in
-    let short = text_is_short cat proper.one_each c.is_short.ensures.most in
+    let short = text_is_short cat proper.one_each c.a_catalog_is_short.ensures.most in
     omega (arith, part.skip, same, short)

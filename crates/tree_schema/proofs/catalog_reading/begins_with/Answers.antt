@@ -26,10 +26,10 @@ pub returns-clause-yes : goal.returns-clause-yes
 returns-clause-yes c = λ e.
     let text = catalog_bytes c.args.cat.now in
     let n = c.catalog_len-count.result in
-    (drop n c.args.bytes.now, begins c.args.bytes.now c.split_at.result.0.now text n c.split_at.ensures.front (c.split_at.ensures.front_len ∙ c.catalog_len-count.ensures.value) (sym c.is_catalog_part.ensures ∙ e))
+    (drop n c.args.bytes.now, begins c.args.bytes.now c.split_at.result.0.now text n c.split_at.ensures.front (c.split_at.ensures.front_len ∙ c.catalog_len-count.ensures.value) (sym c.is_catalog_part.ensures.same ∙ e))
 
 pub returns-clause-no : goal.returns-clause-no
 returns-clause-no c = λ e rest k.
     let text = catalog_bytes c.args.cat.now in
     let n = c.catalog_len-count.result in
-    differs c.args.bytes.now c.split_at.result.0.now text rest n c.split_at.ensures.front c.catalog_len-count.ensures.value (c.split_at.ensures.front_len ∙ c.catalog_len-count.ensures.value) (sym c.is_catalog_part.ensures ∙ e) k
+    differs c.args.bytes.now c.split_at.result.0.now text rest n c.split_at.ensures.front c.catalog_len-count.ensures.value (c.split_at.ensures.front_len ∙ c.catalog_len-count.ensures.value) (sym c.is_catalog_part.ensures.same ∙ e) k

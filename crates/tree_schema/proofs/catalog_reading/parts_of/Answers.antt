@@ -14,9 +14,9 @@ returns c = record {
       let number : c.split_at-3.result.0.now ≡ to_be_bytes w32 generation = c.split_at-3.ensures.front ∙ ap (take 4) numbers in
       let size : c.split_at-3.result.1.now ≡ to_be_bytes w32 (length text) = c.split_at-3.ensures.back ∙ ap (drop 4) numbers in
       let count : c.number_of-text_len.result ≡ length text =
-      c.number_of-text_len.ensures ∙ (ap (from_be_bytes w32) size ∙ from_be_bytes-to_be_bytes_4 (length text) h.text_fits) in
+      c.number_of-text_len.ensures.value ∙ (ap (from_be_bytes w32) size ∙ from_be_bytes-to_be_bytes_4 (length text) h.text_fits) in
       record {
-        same_generation = c.number_of.ensures ∙ (ap (from_be_bytes w32) number ∙ from_be_bytes-to_be_bytes_4 generation h.generation_fits);
+        same_generation = c.number_of.ensures.value ∙ (ap (from_be_bytes w32) number ∙ from_be_bytes-to_be_bytes_4 generation h.generation_fits);
         same_text = c.split_at-4.ensures.front ∙ (ap (λ (bytes : List _). take c.number_of-text_len.result bytes) body
             ∙ (ap (λ n. take n (text ++ later)) count ∙ take-append_seam text later));
         same_later = c.split_at-4.ensures.back ∙ (ap (λ (bytes : List _). drop c.number_of-text_len.result bytes) body
