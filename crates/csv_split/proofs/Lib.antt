@@ -11,3 +11,4 @@ pub mod LoadedFiles
 pub mod DeclaredColumns
 pub mod CheckedKeys
 pub mod Headers
+pub mod AddedFiles

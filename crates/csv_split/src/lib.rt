@@ -9,6 +9,7 @@ pub mod cells;
 pub mod faults;
 mod fields;
 mod header;
+pub mod laws;
 pub mod loading;
 mod reading;
 pub mod records;
