@@ -4,3 +4,4 @@ pub mod Filling
 pub mod InSlots
 pub mod Inserts
 pub mod ToldEntries
+pub mod Takes

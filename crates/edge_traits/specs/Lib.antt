@@ -5,3 +5,4 @@ pub mod Slots
 pub mod Links
 pub mod Told
 pub mod MemLinks
+pub mod Filling

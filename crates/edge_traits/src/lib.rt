@@ -16,6 +16,7 @@ pub mod room;
 pub mod script;
 pub mod sink;
 mod slots;
+pub mod taking;
 pub mod told;
 pub mod writing;
 
