@@ -25,7 +25,7 @@ pub struct TcpLink<R: Net> {
 impl<R: Net + Drop> TcpLink<R> {
     /// A link that is not connected, over the network that `net` reaches.
     pub fn new(net: R) -> TcpLink<R>
-        ensures { result.faults ≡ 0 }
+        ensures faults { result.faults ≡ 0 }
     {
         TcpLink {
             net,

@@ -7,3 +7,4 @@ pub mod MarkLemmas
 pub mod DeviceFrames
 pub mod PageLemmas
 pub mod ToldEntries
+pub mod Takes

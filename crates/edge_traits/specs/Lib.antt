@@ -9,3 +9,4 @@ pub mod MemDevices
 pub mod Links
 pub mod Told
 pub mod MemLinks
+pub mod Filling

@@ -1,8 +1,9 @@
-//! The outside of the product: where files lie and where lines go.
+//! The outside of the product: where files lie, where lines go, and links to the other end of a channel.
 //!
 //! Each object of the outside counts its faults. The count never falls, and it stays at its last value, 2^64 - 1.
-//! A call answers `Failed` exactly where the count rose in that call, or stands at its last value. What an object holds
-//! is told by objects in memory alone; the real ones tell nothing, and then no clause on contents claims anything.
+//! A call answers `Failed` exactly where the count rose in that call, or stands at its last value. What an object holds,
+//! or how it moved, is told by objects in memory alone; the real ones tell nothing, and then no clause on contents claims
+//! anything.
 #![tactic(auto)]
 
 pub mod counting;
@@ -20,6 +21,7 @@ pub mod room;
 pub mod script;
 pub mod sink;
 mod slots;
+pub mod taking;
 pub mod told;
 pub mod writing;
 

@@ -4,6 +4,7 @@ use crate::Failed;
 use crate::link::Link;
 use crate::mem_link::{MemLink, Room};
 use crate::peer::PeerScript;
+use crate::taking::fill;
 use crate::told::{Told, ToldJournal};
 use std::alloc::AllocError;
 
@@ -18,17 +19,6 @@ const SILENT: PeerScript = PeerScript {
     pieces: &[],
     ports: &[],
 };
-
-/// Takes until the stream ends, and answers how many takes that were.
-fn take_all<L: Link>(link: &mut L) -> Result<u64, Failed> {
-    let mut buf = [0; 8];
-    for takes in 1..100 {
-        if link.take(&mut buf)? == 0 {
-            return Ok(takes);
-        }
-    }
-    Ok(0)
-}
 
 #[test]
 fn moves_are_told_with_their_answers(rt: HostRuntime) -> Result<(), AllocError> {
@@ -104,17 +94,32 @@ fn moves_are_told_with_their_answers(rt: HostRuntime) -> Result<(), AllocError> 
 }
 
 #[test]
-fn a_stream_comes_byte_by_byte(rt: HostRuntime) -> Result<(), AllocError> {
-    for (pieces, takes) in [([1usize; 10].as_slice(), 11u64), (&[], 3), (&[3, 4], 4)] {
+fn a_buffer_is_filled_from_pieces(rt: HostRuntime) -> Result<(), AllocError> {
+    for (size, pieces, fails, answer, takes, filled) in [
+        (
+            12usize,
+            [1usize; 10].as_slice(),
+            0u64,
+            Ok(10usize),
+            11usize,
+            "0123456789??",
+        ),
+        (12, &[3, 4], 0, Ok(10), 4, "0123456789??"),
+        (12, &[3, 4], 3, Err(Failed), 3, "0123456?????"),
+        (10, &[3, 4], 0, Ok(10), 3, "0123456789??"),
+        (0, &[3, 4], 0, Ok(0), 0, "????????????"),
+    ] {
         let peer = PeerScript {
             bytes: b"0123456789",
             pieces,
             ports: &[],
         };
-        let mut link = MemLink::new(rt.alloc(), ROOM, &peer, &[])?;
-        assert_eq!(rt; take_all(&mut link), Ok(takes));
+        let mut link = MemLink::new(rt.alloc(), ROOM, &peer, &[fails])?;
+        let mut buf = *b"????????????";
+        assert_eq!(rt; fill(&mut link, &mut buf[..size]), answer);
+        assert_eq!(rt; buf.as_slice(), filled.as_bytes());
         match link.journal() {
-            Some(told) => assert_eq!(rt; told.bytes, b"0123456789".as_slice()),
+            Some(told) => assert_eq!(rt; told.moves.len(), takes),
             None => assert!(rt; false),
         }
     }

@@ -63,14 +63,14 @@ impl MemLink {
 
     /// All moves so far, and nothing once a call went past the room.
     pub fn journal(&self) -> Option<ToldJournal<'_>>
-        ensures { MatchOption result (journal_of self.now ≡ None) (λ told. journal_of self.now ≡ Some (entries told.moves.now told.bytes.now)) }
+        ensures told { MatchOption result (journal_of self.now ≡ None) (λ told. journal_of self.now ≡ Some (entries told.moves.now told.bytes.now)) }
     {
         self.moves.journal()
     }
 
     /// The count of failed calls.
     pub fn faults(&self) -> u64
-        ensures { result ≡ ⟦<MemLink as Link>⟧.faults self.now }
+        ensures count { result ≡ ⟦<MemLink as Link>⟧.faults self.now }
     {
         self.script.faults
     }
@@ -117,7 +117,7 @@ impl MemLink {
 
     /// Takes the next piece of the stream, all of `place`, and answers its length.
     fn piece(&mut self, place: &mut [u8]) -> Result<usize, Failed>
-        requires { length place.old ≤ length (left_of self.old.peer) }
+        requires left { length place.old ≤ length (left_of self.old.peer) }
         ensures cause { HasCause self.old.script.faults self.new.script.faults result }
         ensures passes { Passes self.old (length place.old) ⊥ result self.new }
         ensures room { SameRoom self.old.moves self.new.moves }

@@ -41,7 +41,7 @@ impl Peer {
 
     /// The other end that did nothing yet.
     pub fn new(alloc: Global, script: &PeerScript) -> Result<Peer, AllocError>
-        ensures { IfOk result (λ peer. IsNew script.now peer) }
+        ensures script { IfOk result (λ peer. IsNew script.now peer) }
     {
         Ok(Peer {
             bytes: Vec::from_slice(alloc, script.bytes)?,
@@ -55,7 +55,7 @@ impl Peer {
 
     /// How many bytes the next take gives where it asks for `most`: none at the end of the stream.
     pub fn next_size(&self, most: usize) -> usize
-        ensures { result ≡ next_size self.now most }
+        ensures size { result ≡ next_size self.now most }
     {
         let piece = match self.pieces.get(self.takes) {
             Some(size) => (*size).max(1),
@@ -67,7 +67,7 @@ impl Peer {
 
     /// Gives the next bytes, as many as `place` has room for.
     pub fn give(&mut self, place: &mut [u8])
-        requires { length place.old ≤ length (left_of self.old) }
+        requires left { length place.old ≤ length (left_of self.old) }
         ensures given { place.new ≡ take (length place.old) (left_of self.old) }
         ensures left { left_of self.new ≡ drop (length place.old) (left_of self.old) }
         ensures turn { self.new.takes ≡ min (self.old.takes + 1) last_count }

@@ -84,7 +84,7 @@ impl ToldMoves {
 
     /// The moves so far, and nothing once a move had no room.
     pub fn journal(&self) -> Option<ToldJournal<'_>>
-        ensures { MatchOption result (told_in self.now ≡ None) (λ told. told_in self.now ≡ Some (entries told.moves.now told.bytes.now)) }
+        ensures told { MatchOption result (told_in self.now ≡ None) (λ told. told_in self.now ≡ Some (entries told.moves.now told.bytes.now)) }
     {
         if !self.telling {
             return None;
@@ -97,7 +97,7 @@ impl ToldMoves {
 
     /// Whether the moves are told, and one more with so many bytes has room.
     pub fn has_room(&self, size: usize) -> bool
-        ensures { result ≡ has_room self.now size }
+        ensures room { result ≡ has_room self.now size }
     {
         self.telling && self.list.len() < self.list.capacity() && room::has_room(&self.bytes, size)
     }
@@ -112,7 +112,7 @@ impl ToldMoves {
 
     /// Adds a move, or tells the moves no longer where it has no room.
     pub fn add(&mut self, told: Told, bytes: &[u8])
-        requires { size_of told ≡ length bytes.now }
+        requires sized { size_of told ≡ length bytes.now }
         ensures told { told_in self.new ≡ told_within (has_room self.old (length bytes.now)) (told_in self.old) (entry_of told bytes.now ∷ []) }
         ensures room { SameRoom self.old self.new }
     {

@@ -1,0 +1,27 @@
+-- A buffer that is filled from a link by one take after another.
+use Rattle.std.specs.Prelude.{◌≡◌, ℕ, ◌-◌, true, ⊤, nat_lt, List, [], ◌∷◌, length, take, Result, IfOk, OnErr}
+use Rattle.std.specs.List.{list_any}
+use Rattle.ghost_model.specs.Channel.{Entry, Journal}
+use Rattle.ghost_model.specs.Channel as channel
+use Rattle.ghost_model.specs.Moves.{piece_of, answers, taken}
+use Rattle.ghost_model.specs.NextMove.{is_stop}
+
+-- one move of a filling: it asks for what is missing, and after the end of the stream or a failure there is no other
+pub record IsTakeOf (missing : ℕ) (made : Entry) (more : Journal) : Type 0 where
+  pub asks : made.move ≡ channel.Take missing
+  pub stops : is_stop made.answer ≡ true → more ≡ []
+
+-- all moves ask for what is missing, and there is none after the end of the stream or a failure
+abbrev pub AreTakes : (missing : ℕ) → Journal → Type 0
+AreTakes missing [] = ⊤
+AreTakes missing (made ∷ more) = IsTakeOf missing made more × AreTakes (missing - length (piece_of made.answer)) more
+
+-- a buffer was filled: what was taken stands at its front, and it is full unless the stream ended or a move failed
+pub record Fills {E : Type 0} (Went : Journal → Type 0) (most : ℕ) (result : Result ℕ E) (buffer : List ℕ) : Type 0 where
+  pub journal : Journal
+  pub went : Went journal
+  pub takes : AreTakes most journal
+  pub front : take (length (taken journal)) buffer ≡ taken journal
+  pub counted : IfOk result (λ count. count ≡ length (taken journal))
+  pub ended : IfOk result (λ count. list_any is_stop (answers journal) ≡ nat_lt count most)
+  pub failed : OnErr result (list_any is_stop (answers journal) ≡ true)
