@@ -2,3 +2,5 @@ pub mod Turns
 pub mod Places
 pub mod NameLemmas
 pub mod WalkLemmas
+pub mod TreeLemmas
+pub mod LiteralLemmas

@@ -1,12 +1,13 @@
 -- The names of a schema are in lower case, and what the columns of a text may mean.
-use Rattle.std.proofs.Common.{◌≡◌, ℕ, ◌+◌, ◌<◌, ◌≤◌, Bool, true, false, cond, not, ◌&&◌, List, [], ◌∷◌, ◌++◌, length, take, filter, flat_map, Option, Some, None, slice_get, bytes_eq, get_or, option_map, refl, ap, sym, take_all, is_some, arith}
+use Rattle.std.proofs.Common.{◌≡◌, ℕ, ◌+◌, ◌<◌, ◌≤◌, Bool, true, false, cond, not, ◌&&◌, List, [], ◌∷◌, ◌++◌, length, take, filter, flat_map, Option, Some, None, slice_get, bytes_eq, get_or, option_map, refl, ap, sym, ◌∙◌, take_all, take-append-drop, drop, drop-cons, suc, is_some, arith}
+use Rattle.std.proofs.lemmas.Grind.{flat_map-append}
 use Rattle.std.proofs.lemmas.List.Folds.{length-flat_map-take}
 use Rattle.spj_parse.specs.declared.query.Field.{Field as FieldValue}
 use Rattle.spj_parse.specs.Views.{field_of}
 use Rattle.std.specs.Prelude.{option_to_list}
 use Rattle.std.proofs.lemmas.Bool.{and_parts}
 use Rattle.std.proofs.lemmas.Slice.Eq.{bytes_eq-Decides}
-use Rattle.ghost_model.specs.Schema.{Schema, Table, Column, column_at, is_table}
+use Rattle.ghost_model.specs.Schema.{Schema, Table, Column, column_at, is_table, first_of}
 use Rattle.ghost_model.specs.SchemaTrees.{IsTree}
 use Rattle.ghost_model.specs.Spelled.{is_name, begins_as_name, is_reserved}
 use Rattle.ghost_model.specs.Tokens.{in_lower_case, is_name_byte}
@@ -60,3 +61,9 @@ pub several_of : (f : ℕ → List Field) (from : List ℕ) (i : ℕ) (before : 
     → field_of here ∷ [] ≡ f (get_or from i 0) → i < length from → 1 < length (flat_map f from)
 several_of f from i None here s b h within = absurd (let no : true ≡ false = s in cc)
 several_of f from i (Some before) here s b h within = several f from i (field_of before) (field_of here) b h within
+
+pub first_found : (f : ℕ → List Field) (from : List ℕ) (i : ℕ) (here : Field) → flat_map f (take i from) ≡ [] → here ∷ [] ≡ f (get_or from i 0) → i < length from → first_of (flat_map f from) ≡ Some here
+first_found f from i here e h within =
+    ap (λ xs. first_of (flat_map f xs)) (sym (take-append-drop i from))
+    ∙ ap first_of (flat_map-append f (take i from) (drop i from) ∙ ap (λ xs. xs ++ flat_map f (drop i from)) e
+    ∙ ap (flat_map f) (drop-cons from i 0 within) ∙ ap (λ xs. xs ++ flat_map f (drop (suc i) from)) (sym h))

@@ -4,3 +4,5 @@ pub mod Walks
 pub mod Views
 pub mod Names
 pub mod Rules
+pub mod Literals
+pub mod Conditions

@@ -4,8 +4,10 @@
 //! is in the grammar, then one rule after another, each over the whole text, then the query.
 #![tactic(auto)]
 
+mod conditions;
 mod drafts;
 mod limits;
+mod literals;
 mod names;
 mod query;
 pub mod refusal;
