@@ -4,3 +4,5 @@ pub mod NameLemmas
 pub mod WalkLemmas
 pub mod TreeLemmas
 pub mod LiteralLemmas
+pub mod ConditionLemmas
+pub mod ResolveLemmas

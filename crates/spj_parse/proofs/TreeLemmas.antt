@@ -62,11 +62,11 @@ either false true true d = refl
 either false true false d = refl
 either false false c d = refl
 
-none_of : {X : Type 0} (xs : List X) → list_any (λ x. false) xs ≡ false
+pub none_of : {X : Type 0} (xs : List X) → list_any (λ x. false) xs ≡ false
 none_of [] = refl
 none_of (x ∷ xs) = none_of xs
 
-any_or : {X : Type 0} (p q : X → Bool) (xs : List X) → list_any (λ x. p x || q x) xs ≡ (list_any p xs || list_any q xs)
+pub any_or : {X : Type 0} (p q : X → Bool) (xs : List X) → list_any (λ x. p x || q x) xs ≡ (list_any p xs || list_any q xs)
 any_or p q [] = refl
 any_or p q (x ∷ xs) = ap (λ b. (p x || q x) || b) (any_or p q xs) ∙ either (p x) (list_any p xs) (q x) (list_any q xs)
 

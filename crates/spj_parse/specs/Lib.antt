@@ -6,3 +6,6 @@ pub mod Names
 pub mod Rules
 pub mod Literals
 pub mod Conditions
+pub mod Links
+pub mod Resolved
+pub mod Adding

@@ -7,14 +7,16 @@
 mod conditions;
 mod drafts;
 mod limits;
+mod links;
 mod literals;
 mod names;
 mod query;
 pub mod refusal;
+mod resolve;
 mod rules;
 mod spots;
 mod syntax;
 mod walk;
 
-pub use query::{Condition, Field};
+pub use query::{Comparison, Field, Join};
 pub use refusal::Refusal;

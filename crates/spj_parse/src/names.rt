@@ -10,7 +10,7 @@ ghost use Rattle.spj_parse.specs.Views.{field_of};
 
 use crate::drafts::ColumnDraft;
 use crate::query::Field;
-use ghost_base::limits::MAX_COLUMNS;
+use ghost_base::limits::{MAX_COLUMNS, MAX_TABLES};
 use tree_schema::Schema;
 use tree_schema::schema::schemas_are_trees;
 
@@ -57,6 +57,7 @@ fn is_column_called(schema: &Schema, table: usize, column: usize, name: &[u8]) -
 /// The table of this name.
 pub(crate) fn table_named(schema: &Schema, name: &[u8]) -> Option<usize>
     ensures place { result ≡ meaning.table_named schema.now (in_lower_case name.now) }
+    ensures few { IfSome result (λ table. table < MAX_TABLES) }
 {
     for table in 0..schema.tables() {
         if is_table_called(schema, table, name) {

@@ -13,16 +13,17 @@ pub struct Field {
     pub column: u8,
 }
 
-/// A comparison of a column with a literal, or a join: a foreign key, and the identifier of the table that it names.
-#[derive(Clone, Copy, Debug, PartialEq, Eq)]
-pub enum Condition {
-    Compare {
-        field: Field,
-        operator: Operator,
-        value: Value,
-    },
-    Join {
-        left: Field,
-        right: Field,
-    },
+/// A column compared with a literal.
+#[derive(Clone, Copy, Debug, Default, PartialEq, Eq)]
+pub struct Comparison {
+    pub field: Field,
+    pub operator: Operator,
+    pub value: Value,
+}
+
+/// A join of a table with its parent: the parent's foreign key, and the table's identifier.
+#[derive(Clone, Copy, Debug, Default, PartialEq, Eq)]
+pub struct Join {
+    pub key: Field,
+    pub identifier: Field,
 }
