@@ -28,14 +28,14 @@ one [] h = absurd (let no : true ≡ false = h in cc)
 one (x ∷ []) h = refl
 one (x ∷ y ∷ xs) h = absurd (let more : nat_lt 1 (length (x ∷ y ∷ xs)) ≡ true = lt-ltb 1 (length (x ∷ y ∷ xs)) (omega arith) in let no : true ≡ false = sym more ∙ h in cc)
 
-clear : (schema : Schema) (from : List ℕ) (column : ColumnText) → is_unclear schema from column ≡ false → first_alone schema from column ≡ meanings schema from column
+pub clear : (schema : Schema) (from : List ℕ) (column : ColumnText) → is_unclear schema from column ≡ false → first_alone schema from column ≡ meanings schema from column
 clear schema from column h = one (meanings schema from column) h
 
-left_of : (a b : Bool) → (a || b) ≡ false → a ≡ false
+pub left_of : (a b : Bool) → (a || b) ≡ false → a ≡ false
 left_of true b h = h
 left_of false b h = refl
 
-right_of : (a b : Bool) → (a || b) ≡ false → b ≡ false
+pub right_of : (a b : Bool) → (a || b) ≡ false → b ≡ false
 right_of true b h = absurd (let no : true ≡ false = h in cc)
 right_of false b h = h
 

@@ -6,3 +6,7 @@ pub mod TreeLemmas
 pub mod LiteralLemmas
 pub mod ConditionLemmas
 pub mod ResolveLemmas
+pub mod ReadingLemmas
+pub mod GatheredLemmas
+pub mod QueryViews
+pub mod ComparedLemmas

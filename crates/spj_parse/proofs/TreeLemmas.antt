@@ -164,7 +164,7 @@ all_places at (x ∷ xs) = let rest : length (places_from (λ y. true) (at + 1) 
 pub width : (schema : Schema) (table : ℕ) → length (fields_of schema table) ≡ length (columns_of schema table)
 width schema table = length-map _ _ ∙ all_places 0 (columns_of schema table)
 
-sum_cons : {X : Type 0} (weight : X → ℕ) (x : X) (xs : List X) → sum_by weight (x ∷ xs) ≡ weight x + sum_by weight xs
+pub sum_cons : {X : Type 0} (weight : X → ℕ) (x : X) (xs : List X) → sum_by weight (x ∷ xs) ≡ weight x + sum_by weight xs
 sum_cons weight x xs = sum_by-append weight (x ∷ []) xs ∙ ap (λ n. n + sum_by weight xs) (zero-add (weight x))
 
 widths_by : (schema : Schema) (found : Option ℕ) (rest : List ℕ) → length (flat_map (fields_of schema) (cons_option found rest)) ≡ columns_or_none schema found + length (flat_map (fields_of schema) rest)

@@ -1,11 +1,12 @@
 -- The query that a text means, thing after thing, and with each of its joins once.
-use Rattle.std.specs.Prelude.{ℕ, ℤ, pos, Bool, true, false, List, [], ◌∷◌, ◌++◌, map, filter, flat_map, take, Option, None, Some, option_to_list, option_map, if◌then◌else◌}
+use Rattle.std.specs.Prelude.{◌≡◌, Ok, ℕ, ℤ, pos, Bool, true, false, List, [], ◌∷◌, ◌++◌, map, filter, flat_map, take, Option, None, Some, option_to_list, option_map, if◌then◌else◌}
 use Rattle.ghost_model.specs.Schema.{Schema, columns_of, places_where, first_of, is_table, parent}
 use Rattle.ghost_model.specs.Tokens.{number_of}
 use Rattle.ghost_model.specs.Values.{Value, Number, Text}
 use Rattle.ghost_model.specs.Query.{Field, AtMost, AtLeast, Condition, Compare, Join, Query}
 use Rattle.ghost_model.specs.QueryGrammar.{ColumnText, LiteralText, Unsigned, Signed, Written, Positive, ConditionText, Compares, LiesBetween, Joins}
 use Rattle.ghost_model.specs.QueryMeaning.{field, table_named, fields_of, is_among, with_sign}
+use Rattle.ghost_model.specs.QueryReading.{reading}
 use Rattle.spj_parse.specs.Items.{Item, AllColumns, Selected, From, Where}
 use Rattle.spj_parse.specs.Literals.{is_out}
 use Rattle.spj_parse.specs.Conditions.{first_alone}
@@ -34,6 +35,10 @@ abbrev pub is_comparison : Condition → Bool
 is_comparison (Compare field operator value) = true
 is_comparison (Join left right) = false
 
+abbrev pub is_join : Condition → Bool
+is_join (Compare field operator value) = false
+is_join (Join left right) = true
+
 -- the query with each of its joins once, before its comparisons, which stand in their order
 abbrev pub linked : Schema → Query → Query
 linked schema query = record {
@@ -41,6 +46,12 @@ linked schema query = record {
   select = query.select;
   conditions = joins_of schema query.from ++ filter is_comparison query.conditions;
 }
+
+-- the text means a query over the schema, and this is it with each of its joins once
+pub record IsMeant (schema : Schema) (text : List ℕ) (query : Query) : Type 0 where
+  pub meant : Query
+  pub reads : reading schema text ≡ Ok meant
+  pub once : query ≡ linked schema meant
 
 -- what the things that a text names give to its query
 

@@ -1,4 +1,5 @@
 -- What the queries and refusals of the code stand for, in the words of the definitions.
+use Rattle.std.specs.Prelude.{ℕ, List, ◌++◌, map}
 use Rattle.ghost_model.specs.Query as query
 use Rattle.ghost_model.specs.QueryMeaning as refusal
 use Rattle.ghost_base.specs.Views.{operator_of, value_of}
@@ -17,6 +18,10 @@ comparison_of comparison =
 
 abbrev pub join_of : Join → query.Condition
 join_of join = query.Join (field_of join.key) (field_of join.identifier)
+
+abbrev pub query_of : List ℕ → List Field → List Join → List Comparison → query.Query
+query_of tables fields joins comparisons =
+    record { from = tables; select = map field_of fields; conditions = map join_of joins ++ map comparison_of comparisons }
 
 abbrev pub refusal_of : Refusal → refusal.Refusal
 refusal_of (told.Syntax at) = refusal.Syntax at

@@ -10,7 +10,8 @@ mod limits;
 mod links;
 mod literals;
 mod names;
-mod query;
+pub mod query;
+mod reading;
 pub mod refusal;
 mod resolve;
 mod rules;
@@ -18,5 +19,6 @@ mod spots;
 mod syntax;
 mod walk;
 
-pub use query::{Comparison, Field, Join};
+pub use query::{Comparison, Field, Join, Query};
+pub use reading::read_query;
 pub use refusal::Refusal;
