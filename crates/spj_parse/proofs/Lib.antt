@@ -2,3 +2,11 @@ pub mod Turns
 pub mod Places
 pub mod NameLemmas
 pub mod WalkLemmas
+pub mod TreeLemmas
+pub mod LiteralLemmas
+pub mod ConditionLemmas
+pub mod ResolveLemmas
+pub mod ReadingLemmas
+pub mod GatheredLemmas
+pub mod QueryViews
+pub mod ComparedLemmas

@@ -1,19 +1,21 @@
 -- The names of a schema are in lower case, and what the columns of a text may mean.
-use Rattle.std.proofs.Common.{◌≡◌, ℕ, ◌+◌, ◌<◌, ◌≤◌, Bool, true, false, cond, not, ◌&&◌, List, [], ◌∷◌, ◌++◌, length, take, filter, flat_map, Option, Some, None, slice_get, bytes_eq, get_or, option_map, refl, ap, sym, take_all, is_some, arith}
+use Rattle.std.proofs.Common.{◌≡◌, ℕ, ◌+◌, ◌<◌, ◌≤◌, Bool, true, false, cond, not, ◌&&◌, List, [], ◌∷◌, ◌++◌, length, take, filter, flat_map, Option, Some, None, slice_get, bytes_eq, get_or, option_map, refl, ap, ap₂, sym, ◌∙◌, take_all, take-append-drop, drop, drop-cons, suc, is_some, arith}
+use Rattle.std.proofs.lemmas.Grind.{flat_map-append}
+use Rattle.std.proofs.lemmas.List.Elements.{filter-append}
 use Rattle.std.proofs.lemmas.List.Folds.{length-flat_map-take}
 use Rattle.spj_parse.specs.declared.query.Field.{Field as FieldValue}
 use Rattle.spj_parse.specs.Views.{field_of}
 use Rattle.std.specs.Prelude.{option_to_list}
 use Rattle.std.proofs.lemmas.Bool.{and_parts}
 use Rattle.std.proofs.lemmas.Slice.Eq.{bytes_eq-Decides}
-use Rattle.ghost_model.specs.Schema.{Schema, Table, Column, column_at, is_table}
+use Rattle.ghost_model.specs.Schema.{Schema, Table, Column, column_at, is_table, first_of}
 use Rattle.ghost_model.specs.SchemaTrees.{IsTree}
 use Rattle.ghost_model.specs.Spelled.{is_name, begins_as_name, is_reserved}
 use Rattle.ghost_model.specs.Tokens.{in_lower_case, is_name_byte}
 use Rattle.std.specs.List.{list_all}
 use Rattle.ghost_model.specs.Query.{Field}
 use Rattle.ghost_model.specs.QueryGrammar.{ColumnText, Bare, Qualified}
-use Rattle.ghost_model.specs.QueryMeaning.{fields_named, meanings, table_named}
+use Rattle.ghost_model.specs.QueryMeaning.{fields_named, meanings, table_named, only}
 use Rattle.spj_parse.specs.Names.{fields_in}
 
 lower : (name : List ℕ) → is_name name ≡ true → in_lower_case name ≡ name
@@ -60,3 +62,20 @@ pub several_of : (f : ℕ → List Field) (from : List ℕ) (i : ℕ) (before : 
     → field_of here ∷ [] ≡ f (get_or from i 0) → i < length from → 1 < length (flat_map f from)
 several_of f from i None here s b h within = absurd (let no : true ≡ false = s in cc)
 several_of f from i (Some before) here s b h within = several f from i (field_of before) (field_of here) b h within
+
+pub first_found : (f : ℕ → List Field) (from : List ℕ) (i : ℕ) (here : Field) → flat_map f (take i from) ≡ [] → here ∷ [] ≡ f (get_or from i 0) → i < length from → first_of (flat_map f from) ≡ Some here
+first_found f from i here e h within =
+    ap (λ xs. first_of (flat_map f xs)) (sym (take-append-drop i from))
+    ∙ ap first_of (flat_map-append f (take i from) (drop i from) ∙ ap (λ xs. xs ++ flat_map f (drop i from)) e
+    ∙ ap (flat_map f) (drop-cons from i 0 within) ∙ ap (λ xs. xs ++ flat_map f (drop (suc i) from)) (sym h))
+
+two_first : (t : Bool) (x y : ℕ) (rest : List ℕ) → t ≡ true → None ≡ only (x ∷ [] ++ cond t (y ∷ rest) rest)
+two_first true x y rest h = refl
+two_first false x y rest h = absurd (let no : false ≡ true = h in cc)
+
+pub two_pass : (test : ℕ → Bool) (from : List ℕ) (i : ℕ) (before : Option ℕ) → true ≡ is_some before → option_to_list before ≡ filter test (take i from) → test (get_or from i 0) ≡ true → i < length from → None ≡ only (filter test from)
+two_pass test from i None s b h within = absurd (let no : true ≡ false = s in cc)
+two_pass test from i (Some x) s b h within =
+    two_first (test (get_or from i 0)) x (get_or from i 0) (filter test (drop (suc i) from)) h
+    ∙ sym (ap (λ xs. only (filter test xs)) (sym (take-append-drop i from))
+    ∙ ap only (filter-append test (take i from) (drop i from) ∙ ap₂ (λ xs ys. xs ++ ys) (sym b) (ap (filter test) (drop-cons from i 0 within))))

@@ -24,3 +24,14 @@ not_at test xs at all h within e = h ∙ ap first_of (here test at at xs within)
 pub nowhere : {X : Type 0} (test : X → Bool) (xs : List X) (at : ℕ) (all : Option ℕ) → all ≡ first_from test xs at → length xs ≤ at → all ≡ None
 unfolding places_from
 nowhere test xs at all h past = h ∙ at_drop_all (λ rest. first_of (places_from test at rest)) xs at past
+
+below_by : (b : Bool) (at p most : ℕ) (later : List ℕ) → at < most → (first_of later ≡ Some p → p < most) → first_of (cond b (at ∷ later) later) ≡ Some p → p < most
+below_by true at p most later h rest e = let same : at ≡ p = (let f : Some at ≡ Some p = e in cc) in omega (arith, h, same)
+below_by false at p most later h rest e = rest e
+
+pub place_below : {X : Type 0} (test : X → Bool) (at p : ℕ) (xs : List X) → first_of (places_from test at xs) ≡ Some p → p < at + length xs
+unfolding places_from
+place_below test at p [] e = absurd (let no : None ≡ Some p = e in cc)
+place_below test at p (x ∷ xs) e =
+    below_by (test x) at p (at + length (x ∷ xs)) (places_from test (at + 1) xs) (omega arith)
+    (λ f. let rest : p < at + 1 + length xs = place_below test (at + 1) p xs f in omega (arith, rest)) e

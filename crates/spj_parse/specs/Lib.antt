@@ -4,3 +4,8 @@ pub mod Walks
 pub mod Views
 pub mod Names
 pub mod Rules
+pub mod Literals
+pub mod Conditions
+pub mod Links
+pub mod Resolved
+pub mod Adding

@@ -1,5 +1,5 @@
 -- The rules of a query, of each thing that a text names: those of names, and the limits, which count.
-use Rattle.std.specs.Prelude.{ℕ, Bool, false, ◌||◌, nat_lt, List, length, Option, None, Some, is_none}
+use Rattle.std.specs.Prelude.{ℕ, Bool, true, false, ◌||◌, nat_lt, List, [], ◌∷◌, length, Option, None, Some, is_none}
 use Rattle.std.specs.List.{list_any}
 use Rattle.ghost_model.specs.Schema.{Schema, columns_of, is_empty}
 use Rattle.ghost_model.specs.QueryGrammar.{ColumnText}
@@ -50,3 +50,16 @@ weight_of count.Literals schema (Where condition) = literal_conditions condition
 weight_of count.Columns schema (Selected column) = 1
 weight_of count.AllColumns schema (From table) = width_of schema table
 weight_of _ schema _ = 0
+
+-- whether a text selects all columns, which it says first, and what counts then
+abbrev pub is_star : Item → Bool
+is_star AllColumns = true
+is_star _ = false
+
+abbrev pub selects_all : List Item → Bool
+selects_all [] = false
+selects_all (item ∷ _) = is_star item
+
+abbrev pub columns_or : Bool → Count
+columns_or true = count.AllColumns
+columns_or false = count.Columns

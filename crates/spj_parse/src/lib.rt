@@ -4,15 +4,21 @@
 //! is in the grammar, then one rule after another, each over the whole text, then the query.
 #![tactic(auto)]
 
+mod conditions;
 mod drafts;
 mod limits;
+mod links;
+mod literals;
 mod names;
-mod query;
+pub mod query;
+mod reading;
 pub mod refusal;
+mod resolve;
 mod rules;
 mod spots;
 mod syntax;
 mod walk;
 
-pub use query::{Condition, Field};
+pub use query::{Comparison, Field, Join, Query};
+pub use reading::read_query;
 pub use refusal::Refusal;

@@ -1,15 +1,19 @@
 //! The limits of a text.
 
-ghost use Rattle.std.specs.Prelude.{◌≡◌, nat_lt, ◌≤◌, sum_by};
+ghost use Rattle.std.specs.Prelude.{◌≡◌, Ok, length, nat_lt, sum_by};
 ghost use Rattle.ghost_model.specs.QueryMeaning as meaning;
 ghost use Rattle.ghost_model.specs.Tokens.{in_lower_case};
 ghost use Rattle.spj_parse.specs.Drafts.{condition_of, item_of};
 ghost use Rattle.spj_parse.specs.Items.{items_in};
-ghost use Rattle.spj_parse.specs.Rules.{weight_of, width_of};
+ghost use Rattle.ghost_model.specs.QueryGrammar as grammar;
+ghost use Rattle.ghost_model.specs.QueryPlaces as places;
+ghost use Rattle.spj_parse.specs.Rules.{columns_or, is_star, selects_all, weight_of, width_of};
 
 use crate::drafts::{ConditionDraft, Item};
 use crate::names::table_named;
+use crate::rules::{NameRule, breaks_name_rule};
 use crate::walk::Walk;
+use ghost_base::limits::{MAX_CONDITIONS, MAX_QUERY, MAX_SELECTED, MAX_TABLES};
 use tree_schema::Schema;
 
 /// What is counted: FROM tables, conditions with a literal, selected columns, or those that `*` stands for.
@@ -80,4 +84,65 @@ fn has_more_than(limit: usize, count: Count, schema: &Schema, text: &[u8]) -> bo
         left -= weight;
     }
     false
+}
+
+/// Whether a thing is `*`.
+fn is_star(item: Item) -> bool
+    ensures star { result ≡ is_star (item_of item.entry) }
+{
+    match item {
+        Item::Star => true,
+        Item::Selected(_) => false,
+        Item::From(_) => false,
+        Item::Where(_) => false,
+    }
+}
+
+/// Whether a text selects all columns.
+fn selects_all(text: &[u8]) -> bool
+    ensures all { result ≡ selects_all (items_in text.now) }
+{
+    let mut walk = Walk::of(text);
+    let Some(item) = walk.next() else {
+        return false;
+    };
+    is_star(item)
+}
+
+/// What counts as a selected column.
+fn columns_or(all: bool) -> Count
+    ensures count { result ≡ columns_or all }
+{
+    if all {
+        Count::AllColumns
+    } else {
+        Count::Columns
+    }
+}
+
+/// Whether a text is too long.
+fn is_too_long(text: &[u8]) -> bool
+    ensures long { result ≡ nat_lt MAX_QUERY (length text.now) }
+{
+    text.len() > MAX_QUERY
+}
+
+/// Whether a text in the grammar is beyond the limits.
+pub(crate) fn is_over_limit(schema: &Schema, text: &[u8]) -> bool
+    ensures over { (tree : grammar.QueryText) → places.syntax_of text.now ≡ Ok tree → result ≡ meaning.is_over_limit schema.now text.now tree }
+{
+    if is_too_long(text) {
+        return true;
+    }
+    if breaks_name_rule(NameRule::LongName, schema, &[], text) {
+        return true;
+    }
+    if has_more_than(MAX_TABLES, Count::Tables, schema, text) {
+        return true;
+    }
+    if has_more_than(MAX_CONDITIONS, Count::Literals, schema, text) {
+        return true;
+    }
+    let columns = columns_or(selects_all(text));
+    has_more_than(MAX_SELECTED, columns, schema, text)
 }

@@ -5,12 +5,12 @@ ghost use Rattle.ghost_model.specs.Schema as model;
 ghost use Rattle.ghost_model.specs.Tokens.{in_lower_case};
 ghost use Rattle.ghost_model.specs.QueryMeaning as meaning;
 ghost use Rattle.spj_parse.specs.Drafts.{column_of};
-ghost use Rattle.spj_parse.specs.Names.{passes, has_name, is_called, fields_in, IsMeaning};
+ghost use Rattle.spj_parse.specs.Names.{IsMeaning, fields_in, first_meaning, has_name, is_called, passes};
 ghost use Rattle.spj_parse.specs.Views.{field_of};
 
 use crate::drafts::ColumnDraft;
 use crate::query::Field;
-use ghost_base::limits::MAX_COLUMNS;
+use ghost_base::limits::{MAX_COLUMNS, MAX_TABLES};
 use tree_schema::Schema;
 use tree_schema::schema::schemas_are_trees;
 
@@ -57,6 +57,7 @@ fn is_column_called(schema: &Schema, table: usize, column: usize, name: &[u8]) -
 /// The table of this name.
 pub(crate) fn table_named(schema: &Schema, name: &[u8]) -> Option<usize>
     ensures place { result ≡ meaning.table_named schema.now (in_lower_case name.now) }
+    ensures few { IfSome result (λ table. table < MAX_TABLES) }
 {
     for table in 0..schema.tables() {
         if is_table_called(schema, table, name) {
@@ -137,4 +138,16 @@ pub(crate) fn meaning_of(schema: &Schema, from: &[u8], column: ColumnDraft) -> M
         None => Meaning::Nothing,
         Some(field) => Meaning::One(field),
     }
+}
+
+/// The first column that a column of a text may mean.
+pub(crate) fn first_meaning(schema: &Schema, from: &[u8], column: ColumnDraft) -> Option<Field>
+    ensures first { option_map field_of result ≡ first_meaning schema.now from.now (column_of column.entry) }
+{
+    for table in from {
+        if let Some(field) = field_in(schema, *table, column) {
+            return Some(field);
+        }
+    }
+    None
 }

@@ -1,10 +1,16 @@
 //! Queries as values of a fixed size.
 
-ghost use Rattle.std.specs.Prelude.{◌≡◌, map};
+ghost use Rattle.std.specs.Prelude.{◌≡◌, ◌≤◌, filter, length, map};
+ghost use Rattle.ghost_model.specs.QueryMeaning as meaning;
+ghost use Rattle.spj_parse.specs.Resolved.{is_comparison, is_join};
+ghost use Rattle.spj_parse.specs.Views.{comparison_of, field_of, join_of, query_of};
 
+use crate::links::top_among;
 use arrayvec::ArrayVec;
 use ghost_base::limits::{MAX_CONDITIONS, MAX_SELECTED, MAX_TABLES};
 use ghost_base::{Operator, Value};
+use std::marker::Model;
+use tree_schema::Schema;
 
 /// A column of a table, both by their places in the schema.
 #[derive(Clone, Copy, Debug, Default, PartialEq, Eq)]
@@ -13,16 +19,94 @@ pub struct Field {
     pub column: u8,
 }
 
-/// A comparison of a column with a literal, or a join: a foreign key, and the identifier of the table that it names.
-#[derive(Clone, Copy, Debug, PartialEq, Eq)]
-pub enum Condition {
-    Compare {
-        field: Field,
-        operator: Operator,
-        value: Value,
-    },
-    Join {
-        left: Field,
-        right: Field,
-    },
+/// A column compared with a literal.
+#[derive(Clone, Copy, Debug, Default, PartialEq, Eq)]
+pub struct Comparison {
+    pub field: Field,
+    pub operator: Operator,
+    pub value: Value,
+}
+
+/// A join of a table with its parent: the parent's foreign key, and the table's identifier.
+#[derive(Clone, Copy, Debug, Default, PartialEq, Eq)]
+pub struct Join {
+    pub key: Field,
+    pub identifier: Field,
+}
+
+/// A query over a schema, which some text means. A clause sees it with each of its joins once, before its comparisons.
+#[derive(Drop)]
+pub struct Query {
+    tables: ArrayVec<u8, MAX_TABLES>,
+    fields: ArrayVec<Field, MAX_SELECTED>,
+    joined: ArrayVec<Join, MAX_TABLES>,
+    compared: ArrayVec<Comparison, MAX_CONDITIONS>,
+}
+
+impl Model for Query {
+    ghost use Rattle.ghost_model.specs.Query as query;
+
+    ghost Value = { query.Query };
+
+    ghost use Rattle.spj_parse.specs.Views.{query_of};
+
+    ghost view = { λ q. query_of q.tables.items q.fields.items q.joined.items q.compared.items };
+}
+
+impl Query {
+    /// The query of these parts.
+    pub(crate) fn of(
+        tables: ArrayVec<u8, MAX_TABLES>,
+        fields: ArrayVec<Field, MAX_SELECTED>,
+        joined: ArrayVec<Join, MAX_TABLES>,
+        compared: ArrayVec<Comparison, MAX_CONDITIONS>,
+    ) -> Query
+        ensures query { result ≡ query_of tables.items fields.items joined.items compared.items }
+    {
+        Query {
+            tables,
+            fields,
+            joined,
+            compared,
+        }
+    }
+
+    /// The FROM tables by their places in the schema, in the order of the text.
+    pub fn from(&self) -> &[u8]
+        ensures tables { result.now ≡ self.now.from }
+        ensures few { length result.now ≤ MAX_TABLES }
+    {
+        self.tables.as_slice()
+    }
+
+    /// The selected columns, in the order of the text.
+    pub fn select(&self) -> &[Field]
+        ensures fields { map field_of result.now ≡ self.now.select }
+        ensures few { length result.now ≤ MAX_SELECTED }
+    {
+        self.fields.as_slice()
+    }
+
+    /// The joins, each once.
+    pub fn joins(&self) -> &[Join]
+        ensures joins { map join_of result.now ≡ filter is_join self.now.conditions }
+        ensures few { length result.now ≤ MAX_TABLES }
+    {
+        self.joined.as_slice()
+    }
+
+    /// The comparisons, in the order of the text; BETWEEN is two.
+    pub fn comparisons(&self) -> &[Comparison]
+        ensures comparisons { map comparison_of result.now ≡ filter is_comparison self.now.conditions }
+        ensures few { length result.now ≤ MAX_CONDITIONS }
+    {
+        self.compared.as_slice()
+    }
+
+    /// The top table over the schema: the one FROM table whose parent is not in FROM.
+    pub fn top(&self, schema: &Schema) -> Option<u8>
+        ensures top { result ≡ meaning.top_of schema.now self.now }
+    {
+        top_among(schema, self.tables.as_slice())
+    }
 }

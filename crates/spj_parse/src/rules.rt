@@ -1,8 +1,10 @@
 //! The rules of the names in a text, each tested over the whole text.
 
-ghost use Rattle.std.specs.Prelude.{◌≡◌, ◌||◌, length, nat_lt};
+ghost use Rattle.std.specs.Prelude.{◌≡◌, ◌||◌, Ok, length, nat_lt};
 ghost use Rattle.std.specs.List.{list_any};
+ghost use Rattle.ghost_model.specs.QueryGrammar as grammar;
 ghost use Rattle.ghost_model.specs.QueryMeaning as meaning;
+ghost use Rattle.ghost_model.specs.QueryPlaces as places;
 ghost use Rattle.ghost_model.specs.Schema as model;
 ghost use Rattle.ghost_model.specs.Tokens.{in_lower_case};
 ghost use Rattle.spj_parse.specs.Drafts.{column_of, condition_of, item_of};
@@ -135,4 +137,40 @@ pub(crate) fn breaks_name_rule(rule: NameRule, schema: &Schema, from: &[u8], tex
     ensures breaks { result ≡ list_any (breaks_rule rule schema.now from.now) (items_in text.now) }
 {
     Walk::of(text).any(|item| item_breaks(rule, schema, from, item))
+}
+
+/// Whether a table stands twice among these.
+fn has_repeat(tables: &[u8]) -> bool
+    ensures repeat { result ≡ meaning.has_repeat tables.now }
+{
+    for (place, table) in tables.iter().enumerate() {
+        if tables[place + 1..].contains(table) {
+            return true;
+        }
+    }
+    false
+}
+
+/// Whether a FROM name or a qualifier of a text in the grammar is no table.
+pub(crate) fn has_unknown_tables(schema: &Schema, text: &[u8]) -> bool
+    ensures unknown { (tree : grammar.QueryText) → places.syntax_of text.now ≡ Ok tree → result ≡ meaning.has_unknown_table schema.now tree }
+{
+    breaks_name_rule(NameRule::NoTable, schema, &[], text)
+}
+
+/// Whether a column of a text in the grammar has no meaning among its FROM tables.
+pub(crate) fn has_unknown_columns(schema: &Schema, from: &[u8], text: &[u8]) -> bool
+    ensures unknown { (tree : grammar.QueryText) → places.syntax_of text.now ≡ Ok tree → from.now ≡ meaning.from_tables schema.now tree → result ≡ meaning.has_unknown_column schema.now tree }
+{
+    breaks_name_rule(NameRule::NoMeaning, schema, from, text)
+}
+
+/// Whether a table stands twice in FROM, or a column of a text in the grammar has several meanings among its FROM tables.
+pub(crate) fn is_ambiguous(schema: &Schema, from: &[u8], text: &[u8]) -> bool
+    ensures ambiguous { (tree : grammar.QueryText) → places.syntax_of text.now ≡ Ok tree → from.now ≡ meaning.from_tables schema.now tree → result ≡ meaning.is_ambiguous schema.now tree }
+{
+    if has_repeat(from) {
+        return true;
+    }
+    breaks_name_rule(NameRule::SeveralMeanings, schema, from, text)
 }
