@@ -1,0 +1,4 @@
+//! Laws of the definitions that more than one crate stands on and that need no code.
+#![tactic(auto)]
+
+pub mod scans;

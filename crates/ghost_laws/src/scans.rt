@@ -1,0 +1,13 @@
+//! Laws of answers found along the foreign keys.
+
+ghost use Rattle.ghost_laws.specs.Scans.{AnswersFollowKeys, KnownAnswersFollowKeys};
+
+/// The answer of an accepted query is found along the foreign keys, row by row of its top table.
+pub fn answers_follow_keys()
+    ensures { AnswersFollowKeys }
+{}
+
+/// So is what the key answers by the replies, whatever they are.
+pub fn known_answers_follow_keys()
+    ensures { KnownAnswersFollowKeys }
+{}
