@@ -5,3 +5,7 @@ pub mod Accepted
 pub mod OneChoice
 pub mod Rows
 pub mod KnownRows
+pub mod Columns
+pub mod Values
+pub mod KnownValues
+pub mod Lines

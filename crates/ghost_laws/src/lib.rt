@@ -2,3 +2,4 @@
 #![tactic(auto)]
 
 pub mod scans;
+pub mod selected;

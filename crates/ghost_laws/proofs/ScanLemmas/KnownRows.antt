@@ -63,7 +63,7 @@ only_among [] x h = let bad : ⊥ = cc in absurd bad
 only_among (y ∷ []) x h = inl (ap (λ o. unwrap_or o y) h)
 only_among (y ∷ z ∷ xs) x h = let bad : ⊥ = cc in absurd bad
 
-top_is_from : (schema : Schema) (asked : Query) (top : ℕ) → top_of schema asked ≡ Some top → Among top asked.from
+pub top_is_from : (schema : Schema) (asked : Query) (top : ℕ) → top_of schema asked ≡ Some top → Among top asked.from
 top_is_from schema asked top h =
     let test : ℕ → Bool = λ table. not (is_some_among asked.from (parent schema table)) in
     (from_filter test top asked.from (only_among (filter test asked.from) top h)).0
@@ -85,7 +85,7 @@ module _ (schema : Schema) (database : Database) (tree : IsTree schema) (is : Is
   known = known_value schema kept given
 
   -- a hidden value is the database's
-  hidden_is : (table identifier before : ℕ) → is_shown (column_at schema table (suc before)) ≡ false
+  pub hidden_is : (table identifier before : ℕ) → is_shown (column_at schema table (suc before)) ≡ false
       → hidden_value schema kept table identifier (suc before) ≡ field database table identifier (suc before)
   hidden_is table zero before h = refl
   hidden_is table (suc place) before h =
