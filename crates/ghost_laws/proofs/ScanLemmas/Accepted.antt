@@ -1,0 +1,87 @@
+-- What an accepted query says of its conditions and of its selected columns, each alone.
+use Rattle.std.proofs.Common.{◌≡◌, ℕ, ◌⊎◌, inl, inr, Bool, true, false, not, ◌||◌, List, [], ◌∷◌, map, filter, flat_map, sym, subst, refl, Option, Some, None, option_map, is_none}
+use Rattle.std.specs.Prelude.{option_to_list}
+use Rattle.std.specs.List.{list_all, list_any}
+use Rattle.ghost_model.specs.Schema.{Schema, is_table}
+use Rattle.ghost_model.specs.Query.{Query, Field, Condition, Compare, Join, AtMost, AtLeast}
+use Rattle.ghost_model.specs.QueryGrammar.{ColumnText, Bare, Qualified, ConditionText, Compares, LiesBetween, Joins}
+use Rattle.ghost_model.specs.QueryMeaning.{field, value_of, column_named, table_named, fields_named, meanings, conditions_of, resolved, top_of, is_key_to, is_proper, lacks_join, NotLinked, Means}
+use Rattle.ghost_model.proofs.MeaningLemmas.OneRow.{Among, from_filter, from_map, either_true, neither_true, both_true}
+use Rattle.ghost_laws.proofs.ScanLemmas.Choices.{from_flat}
+
+pub pass_each : {X : Type 0} (p : X → Bool) (xs : List X) → list_all p xs ≡ true → (x : X) → Among x xs → p x ≡ true
+pass_each p [] h x a = absurd a
+pass_each p (y ∷ ys) h x (inl same) = subst (λ w. p w ≡ true) same (both_true (p y) (list_all p ys) h).0
+pass_each p (y ∷ ys) h x (inr later) = pass_each p ys (both_true (p y) (list_all p ys) h).1 x later
+
+module _ (schema : Schema) (from : List ℕ) where
+  named_from : (table : ℕ) (o : Option ℕ) (one : Field) → Among table from → Among one (option_to_list (option_map (field table) o)) → Among one.table from
+  named_from table None one h a = absurd a
+  named_from table (Some column) one h (inl same) = subst (λ (f : Field). Among f.table from) same h
+  named_from table (Some column) one h (inr none) = absurd none
+
+  pub meant_from : (column : ColumnText) (one : Field) → Among one (meanings schema from column) → Among one.table from
+  meant_from (Bare name) one a =
+      let r = from_flat (fields_named schema name) one from a in
+      named_from r.0 (column_named schema r.0 name) one r.1 r.2
+  meant_from (Qualified table name) one a =
+      let r = from_flat (fields_named schema name) one (filter (λ other. is_table other (table_named schema table)) from) a in
+      named_from r.0 (column_named schema r.0 name) one (from_filter (λ other. is_table other (table_named schema table)) r.0 from r.1).0 r.2
+
+  -- the columns of a condition are of FROM tables
+  abbrev pub StandsFrom : Condition → Type 0
+  StandsFrom (Compare column operator literal) = Among column.table from
+  StandsFrom (Join one other) = Among one.table from × Among other.table from
+
+  compared_from : (column : ColumnText) (f : Field → List Condition) → ((one : Field) (c : Condition) → Among one.table from → Among c (f one) → StandsFrom c)
+      → (c : Condition) → Among c (flat_map f (meanings schema from column)) → StandsFrom c
+  compared_from column f each c a =
+      let r = from_flat f c (meanings schema from column) a in
+      each r.0 c (meant_from column r.0 r.1) r.2
+
+  condition_from : (text : ConditionText) (c : Condition) → Among c (conditions_of schema from text) → StandsFrom c
+  condition_from (Compares column operator literal) c a =
+      let r = from_map (λ meant. Compare meant operator (value_of literal)) c (meanings schema from column) a in
+      subst StandsFrom r.2 (meant_from column r.0 r.1)
+  condition_from (LiesBetween column low high) c a =
+      compared_from column (λ meant. Compare meant AtLeast (value_of low) ∷ Compare meant AtMost (value_of high) ∷ [])
+      (λ one d h b. (elim b [
+        | inl same ↦ subst StandsFrom same h
+        | inr later ↦ (elim later [ inl same ↦ subst StandsFrom same h | inr none ↦ absurd none ])
+      ])) c a
+  condition_from (Joins left right) c a =
+      compared_from left (λ meant. map (Join meant) (meanings schema from right))
+      (λ one d h b. (let r = from_map (Join one) d (meanings schema from right) b in subst StandsFrom r.2 (h, meant_from right r.0 r.1))) c a
+
+  conditions_from : (texts : List ConditionText) (c : Condition) → Among c (flat_map (conditions_of schema from) texts) → StandsFrom c
+  conditions_from texts c a =
+      let r = from_flat (conditions_of schema from) c texts a in
+      condition_from r.0 c r.2
+
+-- a join is one of a foreign key and the identifier that it names, either side first
+abbrev pub IsJoinOrTest : Schema → Condition → Type 0
+IsJoinOrTest schema (Compare column operator literal) = Unit {0}
+IsJoinOrTest schema (Join one other) = (is_key_to schema one other ≡ true) ⊎ (is_key_to schema other one ≡ true)
+
+pub record HasConditions (schema : Schema) (asked : Query) : Type 0 where
+  pub from : (c : Condition) → Among c asked.conditions → StandsFrom schema asked.from c
+  pub joins : (c : Condition) → Among c asked.conditions → IsJoinOrTest schema c
+
+proper_join : (schema : Schema) (c : Condition) → is_proper schema c ≡ true → IsJoinOrTest schema c
+proper_join schema (Compare column operator literal) h = tt
+proper_join schema (Join one other) h = either_true (is_key_to schema one other) (is_key_to schema other one) h
+
+not_false : (b : Bool) → not b ≡ false → b ≡ true
+not_false true h = refl
+not_false false h = let bad : ⊥ = cc in absurd bad
+
+pub has_conditions : (schema : Schema) (text : List ℕ) (asked : Query) → Means schema text asked → HasConditions schema asked
+has_conditions schema text asked means =
+    let it : Query = resolved schema means.tree in
+    let joined = neither_true (not (list_all (is_proper schema) it.conditions) || is_none (top_of schema it)) (list_any (lacks_join schema it) it.from) (means.keeps NotLinked) in
+    let proper = neither_true (not (list_all (is_proper schema) it.conditions)) (is_none (top_of schema it)) joined.0 in
+    let all = not_false (list_all (is_proper schema) it.conditions) proper.0 in
+    subst (λ (q : Query). HasConditions schema q) (sym means.means) (record {
+      from = λ c a. conditions_from schema it.from means.tree.conditions c a;
+      joins = λ c a. proper_join schema c (pass_each (is_proper schema) it.conditions all c a);
+    })

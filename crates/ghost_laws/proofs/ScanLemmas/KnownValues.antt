@@ -1,0 +1,203 @@
+-- Each selected value is known where the rows stand in the replies to all asks: an asked one is of its column's kind, since
+-- the reply has one value for each asked column, of its kind.
+use Rattle.std.proofs.Common.{◌≡◌, ℕ, zero, suc, ◌+◌, ◌<◌, ◌≤◌, inl, inr, pos, Bool, true, false, not, ◌&&◌, ◌||◌, ◌==◌, nat_eq, nat_lt, List, [], ◌∷◌, length, map, filter, sym, ◌∙◌, ap, subst, refl, arith, eqb-true, eq-eqb, Some, slice_get, option_and_then, if◌then◌else◌}
+use Rattle.std.specs.Prelude.{filter_map, is_some}
+use Rattle.std.specs.List.{list_all, list_any}
+use Rattle.std.proofs.lemmas.Bool.{lt-ltb}
+use Rattle.ghost_model.specs.Schema.{Schema, Column, Kind, columns_of, column_at, places_from, is_empty, is_shown, is_visible}
+use Rattle.ghost_model.specs.SchemaTrees.{IsTree}
+use Rattle.ghost_model.specs.Values.{Number, Row, Database}
+use Rattle.ghost_model.specs.Query.{Query, Field}
+use Rattle.ghost_model.specs.QueryMeaning as meaning
+use Rattle.ghost_model.specs.QueryMeaning.{top_of, Means}
+use Rattle.ghost_model.specs.Channel.{Ask}
+use Rattle.ghost_model.specs.Asks.{kind_at, kinds_of, is_field, is_wanted, places, ask_for, is_needed, is_from, asks_of}
+use Rattle.ghost_model.specs.Database.{IsDatabase, row_of, row_count, is_of_kind}
+use Rattle.ghost_model.specs.Split.{Replied, hidden_of, value_at, are_of_kinds}
+use Rattle.ghost_model.specs.Replies.{Reply, reply_about, row_replied, replied_value, hidden_value, known_value}
+use Rattle.ghost_model.proofs.ChannelLemmas.Tests.{hold_both}
+use Rattle.ghost_model.proofs.MeaningLemmas.OneRow.{Among, among-filter, from_filter, from_map, IsLinked, query_is_linked, both_true, in_table, among_is}
+use Rattle.ghost_model.proofs.MeaningLemmas.Leading.{landing, place_within}
+use Rattle.ghost_model.proofs.SessionLemmas.Accepted.{each_is, query_is_sound}
+use Rattle.ghost_laws.specs.Scans.{is_kept_row, stands_along, holds_or_asked_along, known_along, known_row}
+use Rattle.ghost_laws.specs.Selected.{has_selected, is_of_kinds, AreReplies, KnownAnswersHaveSelected}
+use Rattle.ghost_laws.proofs.ScanLemmas.Keys.{below_top}
+use Rattle.ghost_laws.proofs.ScanLemmas.Choices.{to_map}
+use Rattle.ghost_laws.proofs.ScanLemmas.Accepted.{pass_each}
+use Rattle.ghost_laws.proofs.ScanLemmas.KnownRows.{hidden_is}
+use Rattle.ghost_laws.proofs.ScanLemmas.Columns.{HasColumn, select_has}
+use Rattle.ghost_laws.proofs.ScanLemmas.Values.{Stands, all_stand, alone_or_none, all_by_number, field_stands, row_numbered}
+
+-- a value among values of these kinds
+value_of_kinds : (kind : ℕ → Kind) (columns : List ℕ) (values : Row) → are_of_kinds (map kind columns) values ≡ true → (column : ℕ)
+    → Among column columns → Stands (kind column) (value_at columns values column)
+value_of_kinds kind [] values h column a = absurd a
+value_of_kinds kind (first ∷ columns) [] h column a = let bad : ⊥ = cc in absurd bad
+value_of_kinds kind (first ∷ columns) (value ∷ values) h column a =
+    let both = both_true (is_of_kind (kind first) value) (are_of_kinds (map kind columns) values) h in
+    (elim (nat_eq first column) as (λ v. nat_eq first column ≡ v → Stands (kind column) (if v then Some value else value_at columns values column)) [
+      | true ↦ λ e. (value, refl, ap (λ c. is_of_kind (kind c) value) (sym (eqb-true first column e)) ∙ both.0)
+      | false ↦ λ e. (elim a [
+        | inl same ↦ (let bad = sym (eq-eqb first column same) ∙ e in let worse : ⊥ = cc in absurd worse)
+        | inr later ↦ value_of_kinds kind columns values both.1 column later
+      ])
+    ]) refl
+
+-- asks of a query
+place_stands : {X : Type 0} (at place : ℕ) (xs : List X) → place < length xs → Among (at + place) (places_from (λ (x : X). true) at xs)
+unfolding places_from
+place_stands at place [] h = let bad : ⊥ = omega (arith, h) in absurd bad
+place_stands at zero (x ∷ xs) h = inl (let e : at ≡ at + 0 = omega arith in e)
+place_stands at (suc place) (x ∷ xs) h =
+    let e : at + 1 + place ≡ at + suc place = omega arith in
+    inr (subst (λ n. Among n (places_from (λ _. true) (at + 1) xs)) e (place_stands (at + 1) place xs (omega (arith, h))))
+
+stands_first : {X : Type 0} (place : ℕ) (xs : List X) → place < length xs → Among place (places xs)
+stands_first place xs h =
+    let e : 0 + place ≡ place = omega arith in
+    subst (λ n. Among n (places xs)) e (place_stands 0 place xs h)
+
+field_is : (f : Field) (select : List Field) → Among f select → list_any (is_field f.table f.column) select ≡ true
+field_is f [] h = absurd h
+field_is f (first ∷ select) (inl same) =
+    ap (λ v. v || list_any (is_field f.table f.column) select)
+    (hold_both (first.table == f.table) (first.column == f.column) (eq-eqb first.table f.table (ap (λ (g : Field). g.table) same)) (eq-eqb first.column f.column (ap (λ (g : Field). g.column) same)))
+field_is f (first ∷ select) (inr later) = either (is_field f.table f.column first) (list_any (is_field f.table f.column) select) (field_is f select later)
+  where
+    either : (a b : Bool) → b ≡ true → (a || b) ≡ true
+    either true b h = refl
+    either false b h = h
+
+needed : (column : ℕ) (columns : List ℕ) (b : Bool) → Among column columns → not (is_empty columns && b) ≡ true
+needed column [] b h = absurd h
+needed column (x ∷ xs) b h = refl
+
+module _ (schema : Schema) (asked : Query) where
+  -- a selected visible column is asked for
+  column_asked : (f : Field) (declared : Column) → column_at schema f.table f.column ≡ Some declared → is_visible schema f.table f.column ≡ true
+      → Among f asked.select → Among f.column (ask_for schema asked f.table).columns
+  column_asked f declared h visible a =
+      among-filter (is_wanted schema asked.select f.table) f.column (places (columns_of schema f.table))
+      (stands_first f.column (columns_of schema f.table) (place_within (columns_of schema f.table) f.column declared h))
+      (hold_both _ _ visible (field_is f asked.select a))
+
+  ask_stands : (f : Field) (declared : Column) → column_at schema f.table f.column ≡ Some declared → Among f.table asked.from
+      → Among f.column (ask_for schema asked f.table).columns → Among (ask_for schema asked f.table) (asks_of schema asked)
+  ask_stands f declared h from column =
+      let held = in_table (slice_get schema f.table) f.column declared h in
+      among-filter is_needed (ask_for schema asked f.table) (map (ask_for schema asked) (filter (is_from asked) (places schema)))
+      (to_map (ask_for schema asked) f.table (filter (is_from asked) (places schema))
+      (among-filter (is_from asked) f.table (places schema) (stands_first f.table schema (place_within schema f.table held.0 held.1)) (among_is f.table asked.from from)))
+      (needed f.column (ask_for schema asked f.table).columns (is_empty (ask_for schema asked f.table).tests) column)
+
+  only_ask : (ask : Ask) → Among ask (asks_of schema asked) → (table : ℕ) → ask.table ≡ table → ask ≡ ask_for schema asked table
+  only_ask ask a table same =
+      let r = from_filter is_needed ask (map (ask_for schema asked) (filter (is_from asked) (places schema))) a in
+      let q = from_map (ask_for schema asked) ask (filter (is_from asked) (places schema)) r.0 in
+      let at : q.0 ≡ table = ap (λ (one : Ask). one.table) q.2 ∙ same in
+      sym q.2 ∙ ap (ask_for schema asked) at
+
+-- the reply to an ask that alone is about its table
+reply_found : (target : Ask) (given : List Reply) → Among target (map (λ (reply : Reply). reply.ask) given)
+    → ((ask : Ask) → Among ask (map (λ (reply : Reply). reply.ask) given) → ask.table ≡ target.table → ask ≡ target)
+    → (reply : Reply) × (reply_about target.table given ≡ Some reply) × (reply.ask ≡ target) × Among reply given
+reply_found target [] h only = absurd h
+reply_found target (reply ∷ later) h only =
+    (elim (nat_eq reply.ask.table target.table) as (λ v. nat_eq reply.ask.table target.table ≡ v → (it : Reply) × ((if v then Some reply else reply_about target.table later) ≡ Some it) × (it.ask ≡ target) × Among it (reply ∷ later)) [
+      | true ↦ λ e. (reply, refl, only reply.ask (inl refl) (eqb-true reply.ask.table target.table e), inl refl)
+      | false ↦ λ e. (elim h [
+        | inl same ↦ (let bad = sym (eq-eqb reply.ask.table target.table (ap (λ (one : Ask). one.table) same)) ∙ e in let worse : ⊥ = cc in absurd worse)
+        | inr more ↦ (let r = reply_found target later more (λ ask a. only ask (inr a)) in (r.0, r.1, r.2, inr r.3))
+      ])
+    ]) refl
+
+row_found : (identifier : ℕ) (rows : List Replied) → is_some (row_replied identifier rows) ≡ true
+    → (row : Replied) × (row_replied identifier rows ≡ Some row) × Among row rows
+row_found identifier [] h = let bad : ⊥ = cc in absurd bad
+row_found identifier (row ∷ rows) h =
+    (elim (nat_eq row.identifier identifier) as (λ v. is_some (if v then Some row else row_replied identifier rows) ≡ true → (it : Replied) × ((if v then Some row else row_replied identifier rows) ≡ Some it) × Among it (row ∷ rows)) [
+      | true ↦ λ s. (row, refl, inl refl)
+      | false ↦ λ s. (let r = row_found identifier rows s in (r.0, r.1, inr r.2))
+    ]) h
+
+not_shown : (before : ℕ) (shown : Bool) → (nat_lt 0 (suc before) && shown) ≡ false → shown ≡ false
+not_shown before false e = refl
+not_shown before true e =
+    let both : (nat_lt 0 (suc before) && true) ≡ true = hold_both (nat_lt 0 (suc before)) true (lt-ltb 0 (suc before) (omega arith)) refl in
+    sym both ∙ e
+
+module _ (schema : Schema) (database : Database) (tree : IsTree schema) (is : IsDatabase schema database) (asked : Query) (given : List Reply) (are : AreReplies schema asked given) where
+  -- a replied value
+  replied_stands : (f : Field) (declared : Column) (identifier : ℕ) → column_at schema f.table f.column ≡ Some declared → Among f.table asked.from → Among f asked.select
+      → is_visible schema f.table f.column ≡ true → is_kept_row (Some identifier) (reply_about f.table given) ≡ true
+      → Stands (kind_at schema f.table f.column) (replied_value given f.table identifier f.column)
+  replied_stands f declared identifier h from select visible kept =
+      let target = ask_for schema asked f.table in
+      let column = column_asked schema asked f declared h visible select in
+      let there = ask_stands schema asked f declared h from column in
+      let found =
+      reply_found target given (subst (λ asks. Among target asks) (sym are.asks) there)
+      (λ ask a same. only_ask schema asked ask (subst (λ asks. Among ask asks) are.asks a) f.table same) in
+      let stands = sym (ap (is_kept_row (Some identifier)) found.1) ∙ kept in
+      let row = row_found identifier found.0.rows stands in
+      let kinds = pass_each (λ (one : Replied). are_of_kinds (kinds_of schema found.0.ask) one.values) found.0.rows
+      (pass_each (is_of_kinds schema) given are.kinds found.0 found.3) row.0 row.2 in
+      let value = value_of_kinds (kind_at schema f.table) target.columns row.0.values
+      (subst (λ (ask : Ask). are_of_kinds (kinds_of schema ask) row.0.values ≡ true) found.2 kinds) f.column column in (
+        value.0,
+        ap (option_and_then (λ (reply : Reply). option_and_then (λ (one : Replied). value_at reply.ask.columns one.values f.column) (row_replied identifier reply.rows))) found.1
+            ∙ ap (option_and_then (λ (one : Replied). value_at found.0.ask.columns one.values f.column)) row.1
+            ∙ ap (λ (ask : Ask). value_at ask.columns row.0.values f.column) found.2 ∙ value.1,
+        value.2,
+      )
+
+  known_stands : (table column : ℕ) (declared : Column) (identifier : ℕ) (row : Row) → row_of database table identifier ≡ Some row
+      → column_at schema table column ≡ Some declared → Among table asked.from → Among (meaning.field table column) asked.select
+      → is_kept_row (Some identifier) (reply_about table given) ≡ true
+      → Stands (kind_at schema table column) (known_value schema (hidden_of schema database) given table identifier column)
+  known_stands table zero declared identifier row there h from select kept =
+      let v = field_stands schema database tree is table identifier row there 0 declared h in
+      let number : Some v.0 ≡ Some (Number (pos identifier)) =
+      sym v.1 ∙ ap (option_and_then (λ (r : Row). slice_get r 0)) there ∙ is.identifiers table identifier row there in
+      (v.0, sym number, v.2)
+  known_stands table (suc before) declared identifier row there h from select kept =
+      let v = field_stands schema database tree is table identifier row there (suc before) declared h in
+      (elim (is_visible schema table (suc before)) as (λ seen. is_visible schema table (suc before) ≡ seen → Stands (kind_at schema table (suc before)) (if seen then replied_value given table identifier (suc before) else hidden_value schema (hidden_of schema database) table identifier (suc before))) [
+        | true ↦ λ e. replied_stands (meaning.field table (suc before)) declared identifier h from select e kept
+        | false ↦ λ e. (v.0, hidden_is schema database tree is given table identifier before (not_shown before (is_shown (column_at schema table (suc before))) e) ∙ v.1, v.2)
+      ]) refl
+
+  module _ (top : ℕ) (linked : IsLinked schema asked top) (identifier : ℕ) (row : Row) (there : row_of database top identifier ≡ Some row) where
+    along_stands : list_all (stands_along schema database given top identifier) asked.from ≡ true
+        → (f : Field) → Among f.table asked.from → Among f asked.select → HasColumn schema f
+        → Stands (kind_at schema f.table f.column) (known_along schema database given top identifier f)
+    along_stands kept f from select has =
+        let below = below_top schema tree asked top linked f.table from in
+        let l = landing schema database tree is below.0 top f.table identifier row below.1 there in
+        let stands : is_kept_row (Some l.reached) (reply_about f.table given) ≡ true =
+        sym (ap (λ o. is_kept_row o (reply_about f.table given)) l.led) ∙ pass_each (stands_along schema database given top identifier) asked.from kept f.table from in
+        let value = known_stands f.table f.column has.0 l.reached l.row l.stands has.1 from select stands in
+        (value.0, ap (option_and_then (λ reached. known_value schema (hidden_of schema database) given f.table reached f.column)) l.led ∙ value.1, value.2)
+
+pub known_answers_have_selected : KnownAnswersHaveSelected
+known_answers_have_selected schema tree database is text asked means given are top at_top =
+    let linked = query_is_linked schema text asked top means at_top in
+    let sound = query_is_sound schema text asked tree means in
+    let each : (identifier : ℕ) → 1 ≤ identifier → identifier ≤ row_count database top
+    → list_all (has_selected schema asked) (known_row schema database asked given top identifier) ≡ true =
+    λ identifier low high.
+    let row = row_numbered schema database tree is top identifier low high in
+    let kept = list_all (stands_along schema database given top identifier) asked.from in
+    let holds = list_all (holds_or_asked_along schema (known_along schema database given top identifier)) asked.conditions in
+    alone_or_none (has_selected schema asked) (kept && holds)
+    (filter_map (known_along schema database given top identifier) asked.select)
+    (λ passes.
+    all_stand (λ f. kind_at schema f.table f.column) (known_along schema database given top identifier) asked.select
+    (λ f a.
+    along_stands schema database tree is asked given are top linked identifier row.0 row.1 (both_true kept holds passes).0 f
+    (each_is (λ (g : Field). Among g.table asked.from) f asked.select sound.chosen a) a (select_has schema text asked means f a))) in
+    record {
+      row = each;
+      answer = all_by_number (has_selected schema asked) (known_row schema database asked given top) 1 (row_count database top)
+          (λ identifier low high. each identifier low (omega (arith, high)));
+    }

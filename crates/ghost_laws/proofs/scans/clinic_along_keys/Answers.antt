@@ -1,0 +1,20 @@
+use Rattle.std.proofs.Common.{refl}
+use Rattle.ghost_model.specs.Schema.{places_from}
+use Rattle.ghost_model.specs.Tokens.{tokens_from, quoted_from}
+use Rattle.ghost_model.specs.QueryPlaces.{read_from}
+use Rattle.ghost_model.specs.Meaning.{combinations}
+use Rattle.ghost_model.specs.Database.{leads_within}
+use Rattle.ghost_model.specs.Split.{replies_from}
+use Rattle.ghost_model.specs.Replies.{picks, identifiers_from}
+use Rattle.ghost_laws.proofs.scans.clinic_along_keys.Goals as goal
+
+pub returns : goal.returns
+unfolding places_from tokens_from quoted_from read_from combinations leads_within replies_from picks identifiers_from
+returns c = record {
+  means = refl;
+  plain = refl;
+  along = refl;
+  by_true_replies = refl;
+  plain_by_false_replies = refl;
+  by_false_replies = refl;
+}

@@ -1,0 +1,69 @@
+-- What a row of an answer holds: one value for each selected column, of that column's kind. So a row has at most 32 values,
+-- and its line is short. The same holds of what the key answers by replies to all asks whose cells spelled values.
+use Rattle.std.specs.Prelude.{◌≡◌, ℕ, ◌≤◌, Bool, List, map, length, Some, IsTrue}
+use Rattle.std.specs.List.{list_all}
+use Rattle.ghost_model.specs.Schema.{Schema, Kind}
+use Rattle.ghost_model.specs.SchemaTrees.{IsTree}
+use Rattle.ghost_model.specs.Values.{Row, Database}
+use Rattle.ghost_model.specs.Database.{IsDatabase, row_count}
+use Rattle.ghost_model.specs.Query.{Query}
+use Rattle.ghost_model.specs.QueryMeaning.{top_of, Means}
+use Rattle.ghost_model.specs.Asks.{kind_at, kinds_of, asks_of}
+use Rattle.ghost_model.specs.Split.{are_of_kinds}
+use Rattle.ghost_model.specs.Replies.{Reply}
+use Rattle.ghost_model.specs.Printed.{row_line}
+use Rattle.ghost_laws.specs.Scans.{led_value, row_along, answer_along, known_row, known_answer}
+
+-- the kinds of the selected columns
+abbrev pub kinds_selected : Schema → Query → List Kind
+kinds_selected schema asked = map (λ one. kind_at schema one.table one.column) asked.select
+
+-- whether a row has one value for each selected column, of its kind
+abbrev pub has_selected : Schema → Query → Row → Bool
+has_selected schema asked row = are_of_kinds (kinds_selected schema asked) row
+
+-- for each row of the top table, by its identifier, and so in the whole answer
+pub record AreSelected (schema : Schema) (database : Database) (asked : Query) (top : ℕ) : Type 0 where
+  pub row : (identifier : ℕ) → 1 ≤ identifier → identifier ≤ row_count database top
+      → IsTrue (list_all (has_selected schema asked) (row_along (led_value schema database top identifier) asked))
+  pub answer : IsTrue (list_all (has_selected schema asked) (answer_along schema database asked top))
+
+abbrev pub AnswersHaveSelected : Type 0
+AnswersHaveSelected =
+    (schema : Schema) → IsTree schema → (database : Database) → IsDatabase schema database
+    → (text : List ℕ) (asked : Query) → Means schema text asked
+    → (top : ℕ) → top_of schema asked ≡ Some top → AreSelected schema database asked top
+
+-- whether each row of a reply has one value for each asked column, of its kind
+abbrev pub is_of_kinds : Schema → Reply → Bool
+is_of_kinds schema reply = list_all (λ row. are_of_kinds (kinds_of schema reply.ask) row.values) reply.rows
+
+-- one reply to each ask of a query, in order
+pub record AreReplies (schema : Schema) (asked : Query) (given : List Reply) : Type 0 where
+  pub asks : map (λ reply. reply.ask) given ≡ asks_of schema asked
+  pub kinds : IsTrue (list_all (is_of_kinds schema) given)
+
+pub record AreKnown (schema : Schema) (database : Database) (asked : Query) (given : List Reply) (top : ℕ) : Type 0 where
+  pub row : (identifier : ℕ) → 1 ≤ identifier → identifier ≤ row_count database top
+      → IsTrue (list_all (has_selected schema asked) (known_row schema database asked given top identifier))
+  pub answer : IsTrue (list_all (has_selected schema asked) (known_answer schema database asked given top))
+
+abbrev pub KnownAnswersHaveSelected : Type 0
+KnownAnswersHaveSelected =
+    (schema : Schema) → IsTree schema → (database : Database) → IsDatabase schema database
+    → (text : List ℕ) (asked : Query) → Means schema text asked
+    → (given : List Reply) → AreReplies schema asked given
+    → (top : ℕ) → top_of schema asked ≡ Some top → AreKnown schema database asked given top
+
+-- 32 values of at most 64 bytes, a tab between each two, `> ` before them and a line feed after them
+abbrev pub longest_line : ℕ
+longest_line = 2082
+
+pub record IsShortRow (row : Row) : Type 0 where
+  pub values : length row ≤ 32
+  pub line : length (row_line row) ≤ longest_line
+
+abbrev pub LinesAreShort : Type 0
+LinesAreShort =
+    (schema : Schema) → IsTree schema → (text : List ℕ) (asked : Query) → Means schema text asked
+    → (row : Row) → IsTrue (has_selected schema asked row) → IsShortRow row

@@ -1,0 +1,5 @@
+//! Laws of the definitions that more than one crate stands on and that need no code.
+#![tactic(auto)]
+
+pub mod scans;
+pub mod selected;
