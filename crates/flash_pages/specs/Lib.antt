@@ -2,3 +2,5 @@ pub mod Runs
 pub mod Faults
 pub mod Holding
 pub mod Cursors
+pub mod Writing
+pub mod Writers

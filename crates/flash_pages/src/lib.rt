@@ -10,3 +10,4 @@ pub mod fault;
 pub mod fixed;
 pub mod held;
 pub mod run;
+pub mod writer;
