@@ -4,3 +4,4 @@ pub mod Holding
 pub mod Cursors
 pub mod Writing
 pub mod Writers
+pub mod Filling

@@ -7,6 +7,7 @@
 pub mod cells;
 pub mod cursor;
 pub mod fault;
+pub mod filling;
 pub mod fixed;
 pub mod held;
 pub mod run;
