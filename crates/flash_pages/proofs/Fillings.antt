@@ -1,6 +1,6 @@
 -- A run that is written whole, after so many of its records.
-use Rattle.std.proofs.Common.{◌≡◌, ◌≢◌, ℕ, ◌+◌, ◌-◌, ◌*◌, ◌/◌, ◌%◌, ◌<◌, ◌≤◌, ◌∙◌, ap, sym, subst, refl, zero, suc, Bool, true, false, if◌then◌else◌, List, length, take, nat_lt, arith}
-use Rattle.std.proofs.lemmas.Nat.{le-div, div-mul-add, div_below, mul-add-lt}
+use Rattle.std.proofs.Common.{◌≡◌, ℕ, ◌+◌, ◌-◌, ◌*◌, ◌/◌, ◌<◌, ◌∙◌, ap, sym, subst, refl, zero, suc, Bool, true, false, if◌then◌else◌, List, length, take, nat_lt, arith}
+use Rattle.std.proofs.lemmas.Nat.{le-div, div-mul-add}
 use Rattle.edge_traits.specs.Devices.{Device, KeepsPages, ChangesOnly, Counts}
 use Rattle.ghost_model.specs.Runs.{per_page, pages_of}
 use Rattle.flash_pages.specs.declared.writer.RunWriter.{RunWriter}

@@ -1,10 +1,9 @@
 -- What stays of a run where other pages change, a part of a record, and the identifiers of a list one by one.
-use Rattle.std.proofs.Common.{◌≡◌, ℕ, zero, suc, ◌+◌, ◌-◌, ◌*◌, ◌/◌, ◌%◌, ◌<◌, ◌≤◌, ◌∙◌, ap, sym, refl, List, [], ◌∷◌, length, take, drop, get_or, arith}
+use Rattle.std.proofs.Common.{◌≡◌, ℕ, zero, suc, ◌+◌, ◌-◌, ◌*◌, ◌/◌, ◌%◌, ◌<◌, ◌≤◌, ◌∙◌, ap, sym, refl, List, length, take, drop, get_or, arith}
 use Rattle.std.specs.List.{slice_range}
 use Rattle.std.proofs.lemmas.List.{drop-take, take-take, drop-drop}
-use Rattle.std.proofs.lemmas.Slice.{between_is}
 use Rattle.ghost_model.specs.Runs.{Run, HasRecords, Stores, record_at, records_in, page_of, run_pages, cell_in, id_at, ids_from}
-use Rattle.edge_traits.specs.Devices.{Device, ChangesOnly}
+use Rattle.edge_traits.specs.Devices.{Device}
 use Rattle.flash_pages.specs.Runs.{HasRun}
 
 -- a record stays where its page stays

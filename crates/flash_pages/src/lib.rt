@@ -11,4 +11,6 @@ pub mod filling;
 pub mod fixed;
 pub mod held;
 pub mod run;
+#[cfg(test)]
+mod tests;
 pub mod writer;

@@ -1,4 +1,4 @@
-use Rattle.std.proofs.Common.{◌≡◌, ℕ, ◌+◌, ◌<◌, ◌++◌, ◌∷◌, [], ◌∙◌, ap, sym, subst, List, length, take, if◌then◌else◌, arith}
+use Rattle.std.proofs.Common.{◌≡◌, ℕ, ◌+◌, ◌++◌, ◌∷◌, [], ◌∙◌, ap, sym, subst, List, length, take, arith}
 use Rattle.std.proofs.lemmas.List.{take_more}
 use Rattle.ghost_model.specs.Runs.{per_page}
 use Rattle.edge_traits.specs.Devices.{Counts}
