@@ -1,1 +1,4 @@
 pub mod RecordLemmas
+pub mod WriterLemmas
+pub mod RunFrames
+pub mod Fillings

@@ -2,3 +2,6 @@ pub mod Runs
 pub mod Faults
 pub mod Holding
 pub mod Cursors
+pub mod Writing
+pub mod Writers
+pub mod Filling

@@ -7,6 +7,10 @@
 pub mod cells;
 pub mod cursor;
 pub mod fault;
+pub mod filling;
 pub mod fixed;
 pub mod held;
 pub mod run;
+#[cfg(test)]
+mod tests;
+pub mod writer;
