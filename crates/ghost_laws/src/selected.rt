@@ -7,7 +7,7 @@ pub fn answers_have_selected()
     ensures { AnswersHaveSelected }
 {}
 
-/// The replies to a text whose asks were all ended are one for each ask, in order, and their rows have one value for each
+/// The replies to a text whose asks were all ended by DONE are one for each ask, in order, and their rows have one value for each
 /// asked column, of its kind, whatever host sent them.
 pub fn replies_are_whole()
     ensures { RepliesAreWhole }

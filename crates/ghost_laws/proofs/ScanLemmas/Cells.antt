@@ -1,15 +1,14 @@
 -- Bytes that are cells of some kinds spell one value of each of these kinds.
-use Rattle.std.proofs.Common.{◌≡◌, ℕ, zero, suc, ◌+◌, ◌-◌, ◌<◌, ◌≤◌, ◌^◌, Bool, true, false, ◌&&◌, List, [], ◌∷◌, ◌++◌, length, take, drop, sym, ◌∙◌, ap, subst, refl, arith, lit<, eqb-true, get_or, Option, Some, None, nat_le, nat_lt, w64, if◌then◌else◌}
-use Rattle.std.specs.Prelude.{is_some, take_while, option_to_list, ◌==◌}
+use Rattle.std.proofs.Common.{◌≡◌, ℕ, zero, suc, ◌<◌, ◌≤◌, ◌^◌, Bool, true, false, ◌&&◌, List, [], ◌∷◌, ◌++◌, length, take, drop, sym, subst, refl, arith, lit<, eqb-true, Option, Some, None, w64, if◌then◌else◌}
+use Rattle.std.specs.Prelude.{is_some, option_to_list, ◌==◌}
 use Rattle.std.specs.Int.{from_be_bytes}
 use Rattle.std.specs.List.{list_all, prefix_len}
 use Rattle.std.proofs.lemmas.Bool.{le-leb}
-use Rattle.std.proofs.lemmas.List.{length-take-le}
 use Rattle.ghost_model.specs.Schema.{Kind, Integer, Chars}
 use Rattle.ghost_model.specs.Values.{Value, Number, Text}
 use Rattle.ghost_model.specs.Tokens.{is_printable}
 use Rattle.ghost_model.specs.Cells.{cell_width, decode_cell, from_lowest, text_in, is_not_zero, is_text_cell}
-use Rattle.ghost_model.specs.Database.{fits_integer, is_text, is_of_kind}
+use Rattle.ghost_model.specs.Database.{fits_integer, is_of_kind}
 use Rattle.ghost_model.specs.Frames.{AreBytes}
 use Rattle.ghost_model.specs.NextMove.{are_cells}
 use Rattle.ghost_model.specs.Split.{are_of_kinds}

@@ -1,16 +1,15 @@
 -- The rows that any host replies with: where the payload of a ROWS frame fits its ask, the cells of its rows spell one
 -- value for each asked column, of its kind; and so do all rows that came of an ask.
-use Rattle.std.proofs.Common.{◌≡◌, ℕ, zero, suc, ◌+◌, ◌*◌, ◌/◌, ◌%◌, ◌<◌, ◌≤◌, Bool, true, false, not, ◌&&◌, List, [], ◌∷◌, ◌++◌, length, map, take, drop, sym, ◌∙◌, ap, subst, refl, arith, eqb-true, nat_lt, nat_le, length-append, if◌then◌else◌}
-use Rattle.std.specs.Prelude.{◌==◌, sum}
+use Rattle.std.proofs.Common.{◌≡◌, ℕ, zero, suc, ◌+◌, ◌*◌, ◌/◌, ◌%◌, ◌<◌, ◌≤◌, Bool, true, false, ◌&&◌, List, [], ◌∷◌, ◌++◌, length, take, drop, sym, ◌∙◌, ap, refl, arith, eqb-true, nat_lt, nat_le, length-append, if◌then◌else◌}
+use Rattle.std.specs.Prelude.{◌==◌}
 use Rattle.std.specs.List.{list_all}
 use Rattle.std.proofs.Math.Nat.{mul-div_cancel, mod-add-div', suc-mul}
 use Rattle.std.proofs.lemmas.Bool.{ltb-false}
 use Rattle.std.proofs.lemmas.List.{length-take-le, length-drop, take-append-le, drop-append-le}
 use Rattle.std.proofs.lemmas.List.Folds.{list_all-append}
 use Rattle.ghost_model.specs.Schema.{Schema, Kind}
-use Rattle.ghost_model.specs.Cells.{cell_width}
-use Rattle.ghost_model.specs.Channel.{Catalog, Ask, Frame, Hello, Asking, More, Bye, Welcome, Replied, Done, Sorry}
-use Rattle.ghost_model.specs.Frames.{AreBytes, kind_in, size_in, serial_in, payload_in, number_in, frame_of_parts, frame_in, most_payload}
+use Rattle.ghost_model.specs.Channel.{Ask, Frame, Hello, Asking, More, Bye, Replied, Done, Sorry}
+use Rattle.ghost_model.specs.Frames.{AreBytes, kind_in, size_in, serial_in, payload_in, number_in, frame_in, most_payload}
 use Rattle.ghost_model.specs.Asks.{kinds_of, row_width, ReplyRow, row_in, rows_from, rows_in}
 use Rattle.ghost_model.specs.NextMove.{are_cells, rows_fit, reply_size_fits}
 use Rattle.ghost_model.specs.Split.{are_of_kinds}
@@ -32,6 +31,7 @@ here true number bytes other serial payload never e = (refl, payload_same e)
     payload_or : Frame → List ℕ
     payload_or (Replied _ it) = it
     payload_or _ = []
+
     payload_same : Replied number bytes ≡ Replied serial payload → bytes ≡ payload
     payload_same same = ap payload_or same
 here false number bytes other serial payload never e = absurd (never e)

@@ -1,6 +1,6 @@
 -- Whatever a host sends: the asks of a text that were ended are the first of its asks, in order, unless one was refused, and
 -- the rows that came of each have one value for each asked column, of its kind.
-use Rattle.std.proofs.Common.{◌≡◌, ℕ, zero, suc, ◌+◌, ◌%◌, ◌<◌, ◌≤◌, ◌⊎◌, inl, inr, Bool, true, false, not, ◌&&◌, ◌||◌, List, [], ◌∷◌, ◌++◌, length, map, drop, filter, sym, ◌∙◌, ap, subst, refl, arith, lit<, eqb-true, nat_lt, append-nil, append_assoc, length-append, Option, Some, None, slice_get, Ok, if◌then◌else◌}
+use Rattle.std.proofs.Common.{◌≡◌, ℕ, zero, suc, ◌+◌, ◌%◌, ◌<◌, ◌⊎◌, inl, inr, Bool, true, false, not, ◌&&◌, ◌||◌, List, [], ◌∷◌, ◌++◌, length, map, drop, filter, sym, ◌∙◌, ap, subst, refl, arith, lit<, eqb-true, nat_lt, append-nil, append_assoc, length-append, None, if◌then◌else◌}
 use Rattle.std.specs.Prelude.{◌==◌, filter_map, Result}
 use Rattle.std.specs.List.{list_all, list_any, cons_option}
 use Rattle.std.proofs.lemmas.List.{map-append, length-map, nil_from_length}
@@ -9,21 +9,21 @@ use Rattle.ghost_model.specs.Schema.{Schema}
 use Rattle.ghost_model.specs.Query.{Query}
 use Rattle.ghost_model.specs.QueryMeaning.{Refusal}
 use Rattle.ghost_model.specs.QueryReading.{reading}
-use Rattle.ghost_model.specs.Channel.{Catalog, Ask, Journal, Frame, Hello, Asking, More, Bye, Welcome, Replied, Done, Sorry}
-use Rattle.ghost_model.specs.Frames.{AreBytes, frame_in, size_in, kind_in, payload_in, version_in, serial_in, frame_version}
-use Rattle.ghost_model.specs.Asks.{Asked, asked, asks_of, asks_of_reading, asked_of, rows_in, row_width, kinds_of, ReplyRow}
+use Rattle.ghost_model.specs.Channel.{Catalog, Ask, Frame, Hello, Asking, More, Bye, Welcome, Replied, Done, Sorry}
+use Rattle.ghost_model.specs.Frames.{AreBytes, frame_in, size_in, kind_in, version_in, serial_in, frame_version}
+use Rattle.ghost_model.specs.Asks.{Asked, asked, asks_of, asks_of_reading, asked_of, rows_in, row_width, kinds_of}
 use Rattle.ghost_model.specs.Moves.{taken}
-use Rattle.ghost_model.specs.NextMove.{Awaits, Missing, Reply, Nothing, Ending, Answered, Refused, Ended, ended, Heard, Verdict, Short, Whole, Invalid, reply_size_fits, header_fits, payload_fits, verdict, turn, on_with, still, of_later_texts, rows_after, ended_by, rows_of, heard_frame, heard_as, hear, hear_all, at_first, heard}
+use Rattle.ghost_model.specs.NextMove.{Awaits, Missing, Reply, Nothing, Ending, Answered, Refused, Ended, ended, Heard, Verdict, Short, Whole, Invalid, reply_size_fits, header_fits, payload_fits, verdict, turn, on_with, still, of_later_texts, rows_after, ended_by, rows_of, heard_as, hear, hear_all, at_first, heard}
 use Rattle.ghost_model.specs.Split.{are_of_kinds}
 use Rattle.ghost_model.specs.Replies as replies
 use Rattle.ghost_model.specs.Replies.{replied_row, reply_of, reply_for}
-use Rattle.ghost_model.specs.Lines.{is_refused_by, was_refused, ended_of, all_done}
+use Rattle.ghost_model.specs.Lines.{is_refused_by, was_refused}
 use Rattle.ghost_model.proofs.ChannelLemmas.Tests.{hold_both}
 use Rattle.ghost_model.proofs.MeaningLemmas.OneRow.{both_true, neither_true}
 use Rattle.ghost_model.proofs.SessionLemmas.Accepted.{Each}
 use Rattle.ghost_model.proofs.SessionLemmas.Limits.{append_bytes}
 use Rattle.ghost_model.proofs.SessionLemmas.Answered.{filter_joined, of_text}
-use Rattle.ghost_laws.specs.Selected.{is_of_kinds, AreReplies, RepliesAreWhole}
+use Rattle.ghost_laws.specs.Selected.{is_of_kinds, RepliesAreWhole}
 use Rattle.ghost_laws.proofs.ScanLemmas.Cells.{bytes_taken, bytes_dropped}
 use Rattle.ghost_laws.proofs.ScanLemmas.Rows.{filter_mapped}
 use Rattle.ghost_laws.proofs.ScanLemmas.HeardRows.{is_good, AreRows, no_rows, all_rows, rows_more, replied_in, payload_whole, size_whole}
