@@ -12,3 +12,4 @@ pub mod Lines
 pub mod Cells
 pub mod HeardRows
 pub mod Hearing
+pub mod Followed

@@ -42,7 +42,7 @@ few_selected schema tree (Columns column more) others few once =
     let meant = few_meanings (meanings schema (from_tables schema tree)) (column ∷ more) others once in
     omega (arith, written, meant)
 
-select_few : (schema : Schema) (text : List ℕ) (asked : Query) → Means schema text asked → length asked.select ≤ 32
+pub select_few : (schema : Schema) (text : List ℕ) (asked : Query) → Means schema text asked → length asked.select ≤ 32
 select_few schema text asked means =
     let few = neither_true _ (nat_lt 32 (selected_count schema means.tree means.tree.selection)) (means.keeps Limit) in
     let once = neither_true _ (list_any (λ column. nat_lt 1 (length (meanings schema (from_tables schema means.tree) column))) (columns_in means.tree)) (means.keeps Ambiguous) in
