@@ -9,3 +9,7 @@ pub mod Columns
 pub mod Values
 pub mod KnownValues
 pub mod Lines
+pub mod Cells
+pub mod HeardRows
+pub mod Hearing
+pub mod Followed

@@ -1,3 +1,4 @@
 pub mod Scans
 pub mod Selected
+pub mod Followed
 pub mod examples

@@ -1,6 +1,6 @@
 -- What a row of an answer holds: one value for each selected column, of that column's kind. So a row has at most 32 values,
 -- and its line is short. The same holds of what the key answers by replies to all asks whose cells spelled values.
-use Rattle.std.specs.Prelude.{◌≡◌, ℕ, ◌≤◌, Bool, List, map, length, Some, IsTrue}
+use Rattle.std.specs.Prelude.{◌≡◌, ℕ, suc, ◌≤◌, Bool, true, nat_le, List, map, length, Some, slice_get, IsTrue, Ok}
 use Rattle.std.specs.List.{list_all}
 use Rattle.ghost_model.specs.Schema.{Schema, Kind}
 use Rattle.ghost_model.specs.SchemaTrees.{IsTree}
@@ -8,10 +8,15 @@ use Rattle.ghost_model.specs.Values.{Row, Database}
 use Rattle.ghost_model.specs.Database.{IsDatabase, row_count}
 use Rattle.ghost_model.specs.Query.{Query}
 use Rattle.ghost_model.specs.QueryMeaning.{top_of, Means}
-use Rattle.ghost_model.specs.Asks.{kind_at, kinds_of, asks_of}
+use Rattle.ghost_model.specs.Asks.{kind_at, kinds_of, asks_of, asked_of}
 use Rattle.ghost_model.specs.Split.{are_of_kinds}
-use Rattle.ghost_model.specs.Replies.{Reply}
-use Rattle.ghost_model.specs.Printed.{row_line}
+use Rattle.ghost_model.specs.Replies.{Reply, replies}
+use Rattle.ghost_model.specs.QueryReading.{reading}
+use Rattle.ghost_model.specs.Channel.{Catalog, Journal}
+use Rattle.ghost_model.specs.Frames.{AreBytes}
+use Rattle.ghost_model.specs.Moves.{taken}
+use Rattle.ghost_model.specs.Lines.{ended_of, all_done}
+use Rattle.ghost_model.specs.Printed.{field_text, row_line}
 use Rattle.ghost_laws.specs.Scans.{led_value, row_along, answer_along, known_row, known_answer}
 
 -- the kinds of the selected columns
@@ -39,9 +44,18 @@ abbrev pub is_of_kinds : Schema → Reply → Bool
 is_of_kinds schema reply = list_all (λ row. are_of_kinds (kinds_of schema reply.ask) row.values) reply.rows
 
 -- one reply to each ask of a query, in order
-pub record AreReplies (schema : Schema) (asked : Query) (given : List Reply) : Type 0 where
+pub record AreWholeReplies (schema : Schema) (asked : Query) (given : List Reply) : Type 0 where
   pub asks : map (λ reply. reply.ask) given ≡ asks_of schema asked
   pub kinds : IsTrue (list_all (is_of_kinds schema) given)
+
+-- the replies to a text whose asks were all ended by DONE, whatever host sent them; the text at place 0 has number 1
+abbrev pub RepliesAreWhole : Type 0
+RepliesAreWhole =
+    (catalog : Catalog) (texts : List (List ℕ)) (journal : Journal) (place : ℕ) (written : List ℕ) (asked : Query)
+    → AreBytes (taken journal)
+    → slice_get texts place ≡ Some written → reading catalog.schema written ≡ Ok asked
+    → all_done catalog.schema asked (ended_of catalog texts journal (suc place)) ≡ true
+    → AreWholeReplies catalog.schema asked (replies catalog (asked_of catalog.schema texts) journal (suc place))
 
 pub record AreKnown (schema : Schema) (database : Database) (asked : Query) (given : List Reply) (top : ℕ) : Type 0 where
   pub row : (identifier : ℕ) → 1 ≤ identifier → identifier ≤ row_count database top
@@ -52,7 +66,7 @@ abbrev pub KnownAnswersHaveSelected : Type 0
 KnownAnswersHaveSelected =
     (schema : Schema) → IsTree schema → (database : Database) → IsDatabase schema database
     → (text : List ℕ) (asked : Query) → Means schema text asked
-    → (given : List Reply) → AreReplies schema asked given
+    → (given : List Reply) → AreWholeReplies schema asked given
     → (top : ℕ) → top_of schema asked ≡ Some top → AreKnown schema database asked given top
 
 -- 32 values of at most 64 bytes, a tab between each two, `> ` before them and a line feed after them
@@ -61,6 +75,7 @@ longest_line = 2082
 
 pub record IsShortRow (row : Row) : Type 0 where
   pub values : length row ≤ 32
+  pub fields : IsTrue (list_all (λ value. nat_le (length (field_text value)) 64) row)
   pub line : length (row_line row) ≤ longest_line
 
 abbrev pub LinesAreShort : Type 0

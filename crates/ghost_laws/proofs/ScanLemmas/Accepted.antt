@@ -28,35 +28,40 @@ module _ (schema : Schema) (from : List ℕ) where
       let r = from_flat (fields_named schema name) one (filter (λ other. is_table other (table_named schema table)) from) a in
       named_from r.0 (column_named schema r.0 name) one (from_filter (λ other. is_table other (table_named schema table)) r.0 from r.1).0 r.2
 
-  -- the columns of a condition are of FROM tables
-  abbrev pub StandsFrom : Condition → Type 0
-  StandsFrom (Compare column operator literal) = Among column.table from
-  StandsFrom (Join one other) = Among one.table from × Among other.table from
+-- it holds of each column of a condition
+abbrev pub With : (Field → Type 0) → Condition → Type 0
+With P (Compare column operator literal) = P column
+With P (Join one other) = P one × P other
 
-  compared_from : (column : ColumnText) (f : Field → List Condition) → ((one : Field) (c : Condition) → Among one.table from → Among c (f one) → StandsFrom c)
-      → (c : Condition) → Among c (flat_map f (meanings schema from column)) → StandsFrom c
-  compared_from column f each c a =
+module _ (schema : Schema) (from : List ℕ) (P : Field → Type 0) (meant : (column : ColumnText) (one : Field) → Among one (meanings schema from column) → P one) where
+  compared_with : (column : ColumnText) (f : Field → List Condition) → ((one : Field) (c : Condition) → P one → Among c (f one) → With P c)
+      → (c : Condition) → Among c (flat_map f (meanings schema from column)) → With P c
+  compared_with column f each c a =
       let r = from_flat f c (meanings schema from column) a in
-      each r.0 c (meant_from column r.0 r.1) r.2
+      each r.0 c (meant column r.0 r.1) r.2
 
-  condition_from : (text : ConditionText) (c : Condition) → Among c (conditions_of schema from text) → StandsFrom c
-  condition_from (Compares column operator literal) c a =
-      let r = from_map (λ meant. Compare meant operator (value_of literal)) c (meanings schema from column) a in
-      subst StandsFrom r.2 (meant_from column r.0 r.1)
-  condition_from (LiesBetween column low high) c a =
-      compared_from column (λ meant. Compare meant AtLeast (value_of low) ∷ Compare meant AtMost (value_of high) ∷ [])
+  condition_with : (text : ConditionText) (c : Condition) → Among c (conditions_of schema from text) → With P c
+  condition_with (Compares column operator literal) c a =
+      let r = from_map (λ one. Compare one operator (value_of literal)) c (meanings schema from column) a in
+      subst (With P) r.2 (meant column r.0 r.1)
+  condition_with (LiesBetween column low high) c a =
+      compared_with column (λ one. Compare one AtLeast (value_of low) ∷ Compare one AtMost (value_of high) ∷ [])
       (λ one d h b. (elim b [
-        | inl same ↦ subst StandsFrom same h
-        | inr later ↦ (elim later [ inl same ↦ subst StandsFrom same h | inr none ↦ absurd none ])
+        | inl same ↦ subst (With P) same h
+        | inr later ↦ (elim later [ inl same ↦ subst (With P) same h | inr none ↦ absurd none ])
       ])) c a
-  condition_from (Joins left right) c a =
-      compared_from left (λ meant. map (Join meant) (meanings schema from right))
-      (λ one d h b. (let r = from_map (Join one) d (meanings schema from right) b in subst StandsFrom r.2 (h, meant_from right r.0 r.1))) c a
+  condition_with (Joins left right) c a =
+      compared_with left (λ one. map (Join one) (meanings schema from right))
+      (λ one d h b. (let r = from_map (Join one) d (meanings schema from right) b in subst (With P) r.2 (h, meant right r.0 r.1))) c a
 
-  conditions_from : (texts : List ConditionText) (c : Condition) → Among c (flat_map (conditions_of schema from) texts) → StandsFrom c
-  conditions_from texts c a =
+  pub conditions_with : (texts : List ConditionText) (c : Condition) → Among c (flat_map (conditions_of schema from) texts) → With P c
+  conditions_with texts c a =
       let r = from_flat (conditions_of schema from) c texts a in
-      condition_from r.0 c r.2
+      condition_with r.0 c r.2
+
+-- the columns of a condition are of FROM tables
+abbrev pub StandsFrom : List ℕ → Condition → Type 0
+StandsFrom from c = With (λ (one : Field). Among one.table from) c
 
 -- a join is one of a foreign key and the identifier that it names, either side first
 abbrev pub IsJoinOrTest : Schema → Condition → Type 0
@@ -64,7 +69,7 @@ IsJoinOrTest schema (Compare column operator literal) = Unit {0}
 IsJoinOrTest schema (Join one other) = (is_key_to schema one other ≡ true) ⊎ (is_key_to schema other one ≡ true)
 
 pub record HasConditions (schema : Schema) (asked : Query) : Type 0 where
-  pub from : (c : Condition) → Among c asked.conditions → StandsFrom schema asked.from c
+  pub from : (c : Condition) → Among c asked.conditions → StandsFrom asked.from c
   pub joins : (c : Condition) → Among c asked.conditions → IsJoinOrTest schema c
 
 proper_join : (schema : Schema) (c : Condition) → is_proper schema c ≡ true → IsJoinOrTest schema c
@@ -82,6 +87,6 @@ has_conditions schema text asked means =
     let proper = neither_true (not (list_all (is_proper schema) it.conditions)) (is_none (top_of schema it)) joined.0 in
     let all = not_false (list_all (is_proper schema) it.conditions) proper.0 in
     subst (λ (q : Query). HasConditions schema q) (sym means.means) (record {
-      from = λ c a. conditions_from schema it.from means.tree.conditions c a;
+      from = λ c a. conditions_with schema it.from (λ (one : Field). Among one.table it.from) (meant_from schema it.from) means.tree.conditions c a;
       joins = λ c a. proper_join schema c (pass_each (is_proper schema) it.conditions all c a);
     })

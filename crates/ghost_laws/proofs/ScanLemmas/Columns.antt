@@ -45,7 +45,7 @@ module _ (schema : Schema) where
       (column_there table column (λ declared. bytes_eq declared.name name) (first_among (places_where (λ (declared : Column). bytes_eq declared.name name) (columns_of schema table)) column h))
   named_by table name (Some column) h one (inr none) = absurd none
 
-  meant_has : (from : List ℕ) (column : ColumnText) (one : Field) → Among one (meanings schema from column) → HasColumn one
+  pub meant_has : (from : List ℕ) (column : ColumnText) (one : Field) → Among one (meanings schema from column) → HasColumn one
   meant_has from (Bare name) one a =
       let r = from_flat (fields_named schema name) one from a in
       named_by r.0 name (column_named schema r.0 name) refl one r.2

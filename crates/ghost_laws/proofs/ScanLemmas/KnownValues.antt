@@ -20,7 +20,7 @@ use Rattle.ghost_model.proofs.MeaningLemmas.OneRow.{Among, among-filter, from_fi
 use Rattle.ghost_model.proofs.MeaningLemmas.Leading.{landing, place_within}
 use Rattle.ghost_model.proofs.SessionLemmas.Accepted.{each_is, query_is_sound}
 use Rattle.ghost_laws.specs.Scans.{is_kept_row, stands_along, holds_or_asked_along, known_along, known_row}
-use Rattle.ghost_laws.specs.Selected.{has_selected, is_of_kinds, AreReplies, KnownAnswersHaveSelected}
+use Rattle.ghost_laws.specs.Selected.{has_selected, is_of_kinds, AreWholeReplies, KnownAnswersHaveSelected}
 use Rattle.ghost_laws.proofs.ScanLemmas.Keys.{below_top}
 use Rattle.ghost_laws.proofs.ScanLemmas.Choices.{to_map}
 use Rattle.ghost_laws.proofs.ScanLemmas.Accepted.{pass_each}
@@ -126,7 +126,22 @@ not_shown before true e =
     let both : (nat_lt 0 (suc before) && true) ≡ true = hold_both (nat_lt 0 (suc before)) true (lt-ltb 0 (suc before) (omega arith)) refl in
     sym both ∙ e
 
-module _ (schema : Schema) (database : Database) (tree : IsTree schema) (is : IsDatabase schema database) (asked : Query) (given : List Reply) (are : AreReplies schema asked given) where
+module _ (schema : Schema) (database : Database) (tree : IsTree schema) (is : IsDatabase schema database) (asked : Query) (given : List Reply) (are : AreWholeReplies schema asked given) where
+  -- a value in the reply about a table
+  stands_in_reply : (f : Field) (identifier : ℕ) (reply : Reply) → reply_about f.table given ≡ Some reply → reply.ask ≡ ask_for schema asked f.table
+      → Among reply given → Among f.column (ask_for schema asked f.table).columns → is_some (row_replied identifier reply.rows) ≡ true
+      → Stands (kind_at schema f.table f.column) (replied_value given f.table identifier f.column)
+  stands_in_reply f identifier reply about same among column kept =
+      let row = row_found identifier reply.rows kept in
+      let kinds = pass_each (λ (one : Replied). are_of_kinds (kinds_of schema reply.ask) one.values) reply.rows
+      (pass_each (is_of_kinds schema) given are.kinds reply among) row.0 row.2 in
+      let value = value_of_kinds (kind_at schema f.table) (ask_for schema asked f.table).columns row.0.values
+      (subst (λ (ask : Ask). are_of_kinds (kinds_of schema ask) row.0.values ≡ true) same kinds) f.column column in
+      let known : replied_value given f.table identifier f.column ≡ value_at reply.ask.columns row.0.values f.column =
+      ap (option_and_then (λ (it : Reply). option_and_then (λ (one : Replied). value_at it.ask.columns one.values f.column) (row_replied identifier it.rows))) about
+      ∙ ap (option_and_then (λ (one : Replied). value_at reply.ask.columns one.values f.column)) row.1 in
+      (value.0, known ∙ (ap (λ (ask : Ask). value_at ask.columns row.0.values f.column) same ∙ value.1), value.2)
+
   -- a replied value
   replied_stands : (f : Field) (declared : Column) (identifier : ℕ) → column_at schema f.table f.column ≡ Some declared → Among f.table asked.from → Among f asked.select
       → is_visible schema f.table f.column ≡ true → is_kept_row (Some identifier) (reply_about f.table given) ≡ true
@@ -138,18 +153,7 @@ module _ (schema : Schema) (database : Database) (tree : IsTree schema) (is : Is
       let found =
       reply_found target given (subst (λ asks. Among target asks) (sym are.asks) there)
       (λ ask a same. only_ask schema asked ask (subst (λ asks. Among ask asks) are.asks a) f.table same) in
-      let stands = sym (ap (is_kept_row (Some identifier)) found.1) ∙ kept in
-      let row = row_found identifier found.0.rows stands in
-      let kinds = pass_each (λ (one : Replied). are_of_kinds (kinds_of schema found.0.ask) one.values) found.0.rows
-      (pass_each (is_of_kinds schema) given are.kinds found.0 found.3) row.0 row.2 in
-      let value = value_of_kinds (kind_at schema f.table) target.columns row.0.values
-      (subst (λ (ask : Ask). are_of_kinds (kinds_of schema ask) row.0.values ≡ true) found.2 kinds) f.column column in (
-        value.0,
-        ap (option_and_then (λ (reply : Reply). option_and_then (λ (one : Replied). value_at reply.ask.columns one.values f.column) (row_replied identifier reply.rows))) found.1
-            ∙ ap (option_and_then (λ (one : Replied). value_at found.0.ask.columns one.values f.column)) row.1
-            ∙ ap (λ (ask : Ask). value_at ask.columns row.0.values f.column) found.2 ∙ value.1,
-        value.2,
-      )
+      stands_in_reply f identifier found.0 found.1 found.2 found.3 column (sym (ap (is_kept_row (Some identifier)) found.1) ∙ kept)
 
   known_stands : (table column : ℕ) (declared : Column) (identifier : ℕ) (row : Row) → row_of database table identifier ≡ Some row
       → column_at schema table column ≡ Some declared → Among table asked.from → Among (meaning.field table column) asked.select

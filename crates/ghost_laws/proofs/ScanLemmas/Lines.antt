@@ -2,7 +2,7 @@
 use Rattle.std.proofs.Common.{◌≡◌, ℕ, zero, suc, ◌+◌, ◌*◌, ◌≤◌, ◌^◌, pos, negsuc, true, false, List, [], ◌∷◌, ◌++◌, map, flat_map, length, sym, ap, subst, refl, arith, Option, Some, None, nat_lt, nat_le, leb-true, length-append, codes}
 use Rattle.std.specs.Prelude.{decimal}
 use Rattle.std.specs.List.{list_all, list_any, join_with_byte}
-use Rattle.std.proofs.lemmas.Bool.{ltb-true, ltb-false}
+use Rattle.std.proofs.lemmas.Bool.{ltb-true, ltb-false, le-leb}
 use Rattle.std.proofs.lemmas.Fmt.{length-decimal-le}
 use Rattle.std.proofs.lemmas.List.{length-map}
 use Rattle.ghost_model.specs.Schema.{Schema, Column, Kind, Integer, Chars, column_at}
@@ -16,6 +16,7 @@ use Rattle.ghost_model.specs.Database.{is_of_kind}
 use Rattle.ghost_model.specs.Asks.{kind_or_none, kind_at}
 use Rattle.ghost_model.specs.Split.{are_of_kinds}
 use Rattle.ghost_model.specs.Printed.{field_text}
+use Rattle.ghost_model.proofs.ChannelLemmas.Tests.{hold_both}
 use Rattle.ghost_model.proofs.MeaningLemmas.OneRow.{neither_true, both_true}
 use Rattle.ghost_model.proofs.SessionLemmas.Accepted.{Each}
 use Rattle.ghost_laws.specs.Selected.{LinesAreShort}
@@ -41,7 +42,7 @@ few_selected schema tree (Columns column more) others few once =
     let meant = few_meanings (meanings schema (from_tables schema tree)) (column ∷ more) others once in
     omega (arith, written, meant)
 
-select_few : (schema : Schema) (text : List ℕ) (asked : Query) → Means schema text asked → length asked.select ≤ 32
+pub select_few : (schema : Schema) (text : List ℕ) (asked : Query) → Means schema text asked → length asked.select ≤ 32
 select_few schema text asked means =
     let few = neither_true _ (nat_lt 32 (selected_count schema means.tree means.tree.selection)) (means.keeps Limit) in
     let once = neither_true _ (list_any (λ column. nat_lt 1 (length (meanings schema (from_tables schema means.tree) column))) (columns_in means.tree)) (means.keeps Ambiguous) in
@@ -87,6 +88,11 @@ module _ (schema : Schema) (tree : IsTree schema) where
         (value_short (kind_at schema one.table one.column) (texts_short one.table one.column (column_at schema one.table one.column) refl) value both.0, later.1),
       )
 
+fields_short : (row : Row) → Each (λ (text : List ℕ). length text ≤ 64) (map field_text row)
+    → list_all (λ value. nat_le (length (field_text value)) 64) row ≡ true
+fields_short [] e = refl
+fields_short (value ∷ row) e = hold_both _ _ (le-leb (length (field_text value)) 64 e.0) (fields_short row e.1)
+
 -- the line
 joined_short : (text : List ℕ) (texts : List (List ℕ)) → Each (λ (one : List ℕ). length one ≤ 64) (text ∷ texts)
     → length (join_with_byte 9 (text ∷ texts)) + 1 ≤ (length texts + 1) * 65
@@ -112,4 +118,4 @@ lines_are_short schema tree text asked means row h =
     let joined = all_joined_short (map field_text row) each.1 fields in
     let front = length-append (codes "> ") (join_with_byte 9 (map field_text row) ++ 10 ∷ []) in
     let end = length-append (join_with_byte 9 (map field_text row)) (10 ∷ []) in
-    record { values = omega (arith, few, many); line = omega (arith, joined, front, end) }
+    record { values = omega (arith, few, many); fields = fields_short row each.1; line = omega (arith, joined, front, end) }

@@ -26,7 +26,7 @@ all_more p q (x ∷ xs) more h =
     let both = both_true (p x) (list_all p xs) h in
     rw (more x both.0) (all_more p q xs more both.1)
 
-filter_mapped : {X Y : Type 0} (h : X → Y) (p : Y → Bool) (xs : List X) → filter p (map h xs) ≡ map h (filter (λ x. p (h x)) xs)
+pub filter_mapped : {X Y : Type 0} (h : X → Y) (p : Y → Bool) (xs : List X) → filter p (map h xs) ≡ map h (filter (λ x. p (h x)) xs)
 filter_mapped h p [] = refl
 filter_mapped h p (x ∷ xs) =
     (elim (p (h x)) as (λ v. (if v then h x ∷ filter p (map h xs) else filter p (map h xs)) ≡ map h (if v then x ∷ filter (λ y. p (h y)) xs else filter (λ y. p (h y)) xs)) [

@@ -1,6 +1,8 @@
 -- The clinic's visits with their doctors, found along the foreign keys: the same rows as the plain meaning has, and the
 -- same as the key answers by whole replies; and so by a reply that lies, whose rows the key cannot tell from true ones.
-use Rattle.std.specs.Prelude.{◌≡◌, ℕ, List, [], ◌∷◌, codes, Ok}
+use Rattle.std.specs.Prelude.{◌≡◌, ℕ, true, false, List, [], ◌∷◌, codes, Ok}
+use Rattle.std.specs.List.{list_all}
+use Rattle.ghost_model.specs.Schema.{Integer, Chars}
 use Rattle.ghost_model.specs.Values.{Text, Row}
 use Rattle.ghost_model.specs.Query.{Query, Compare, Join, Equal}
 use Rattle.ghost_model.specs.QueryMeaning.{field}
@@ -12,6 +14,7 @@ use Rattle.ghost_model.specs.SessionLaws.{whole_replies}
 use Rattle.ghost_model.specs.examples.Clinic.{number, clinic_schema, clinic}
 use Rattle.ghost_model.specs.examples.Meaning.{cardio_on, specialties_of_cardio}
 use Rattle.ghost_laws.specs.Scans.{answer_along, known_answer}
+use Rattle.ghost_laws.specs.Selected.{kinds_selected, has_selected}
 
 -- SELECT visit.id, specialty FROM visit, doctor WHERE doc = doctor.id AND specialty = 'cardio' AND purpose = 'flu'
 abbrev pub flu_at_cardio : Query
@@ -54,3 +57,8 @@ pub record ClinicAlongKeys : Type 0 where
   pub plain_by_false_replies :
       answer_from clinic_schema (hidden_of clinic_schema clinic) flu_at_cardio false_replies ≡ visits_by_false_replies
   pub by_false_replies : known_answer clinic_schema clinic flu_at_cardio false_replies 2 ≡ visits_by_false_replies
+  -- each row has an integer and a text of at most 8 characters, as the selected columns say
+  pub kinds : kinds_selected clinic_schema flu_at_cardio ≡ Integer ∷ Chars 8 ∷ []
+  pub selected : list_all (has_selected clinic_schema flu_at_cardio) visits_by_false_replies ≡ true
+  pub lacking : has_selected clinic_schema flu_at_cardio (number 1 ∷ []) ≡ false
+  pub of_another_kind : has_selected clinic_schema flu_at_cardio (number 1 ∷ number 2 ∷ []) ≡ false

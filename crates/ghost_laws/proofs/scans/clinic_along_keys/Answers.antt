@@ -17,4 +17,8 @@ returns c = record {
   by_true_replies = refl;
   plain_by_false_replies = refl;
   by_false_replies = refl;
+  kinds = refl;
+  selected = refl;
+  lacking = refl;
+  of_another_kind = refl;
 }

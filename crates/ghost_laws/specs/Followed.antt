@@ -1,0 +1,47 @@
+-- What a loop over the rows of the top table may rely on where a query was accepted: its FROM tables are the top one and
+-- tables below it, each with its parent in FROM too; its columns are columns of FROM tables; a join is of a foreign key and
+-- the identifier that it names. And the rows of an answer come row by row of the top table.
+use Rattle.std.specs.Prelude.{◌≡◌, ◌≢◌, ℕ, suc, ◌≤◌, Bool, false, ◌&&◌, ◌||◌, List, [], ◌++◌, length, flat_map, Some, is_some, IsTrue}
+use Rattle.std.specs.List.{list_all}
+use Rattle.ghost_model.specs.Schema.{Schema, column_at, parent}
+use Rattle.ghost_model.specs.SchemaTrees.{IsTree}
+use Rattle.ghost_model.specs.Values.{Row}
+use Rattle.ghost_model.specs.Database.{IsAtOrBelow}
+use Rattle.ghost_model.specs.Query.{Query, Field, Condition, Compare, Join}
+use Rattle.ghost_model.specs.QueryMeaning.{is_among, has_repeat, is_key_to, top_of, Means}
+use Rattle.ghost_model.specs.Replies.{identifiers_from}
+
+-- whether a column is one of a FROM table
+abbrev pub is_column_from : Schema → (from : List ℕ) → Field → Bool
+is_column_from schema from one = is_among from one.table && is_some (column_at schema one.table one.column)
+
+abbrev pub is_condition_from : Schema → (from : List ℕ) → Condition → Bool
+is_condition_from schema from (Compare column operator literal) = is_column_from schema from column
+is_condition_from schema from (Join one other) =
+    is_column_from schema from one && is_column_from schema from other
+    && (is_key_to schema one other || is_key_to schema other one)
+
+pub record HasParentFrom (schema : Schema) (from : List ℕ) (table : ℕ) : Type 0 where
+  pub above : ℕ
+  pub is_parent : parent schema table ≡ Some above
+  pub stands : IsTrue (is_among from above)
+
+pub record IsFollowed (schema : Schema) (asked : Query) (top : ℕ) : Type 0 where
+  pub top_stands : IsTrue (is_among asked.from top)
+  pub once : has_repeat asked.from ≡ false
+  pub below : (table : ℕ) → IsTrue (is_among asked.from table) → IsAtOrBelow schema top table
+  pub parents : (table : ℕ) → IsTrue (is_among asked.from table) → table ≢ top → HasParentFrom schema asked.from table
+  pub selected : IsTrue (list_all (is_column_from schema asked.from) asked.select)
+  pub conditions : IsTrue (list_all (is_condition_from schema asked.from) asked.conditions)
+  pub few_selected : length asked.select ≤ 32
+
+abbrev pub AcceptedQueriesAreFollowed : Type 0
+AcceptedQueriesAreFollowed =
+    (schema : Schema) → IsTree schema → (text : List ℕ) (asked : Query) → Means schema text asked
+    → (top : ℕ) → top_of schema asked ≡ Some top → IsFollowed schema asked top
+
+-- the rows for the first identifiers, and those for one more
+pub record RowsComeOneByOne : Type 0 where
+  pub none : (rows : ℕ → List Row) → flat_map rows (identifiers_from 1 0) ≡ []
+  pub more : (rows : ℕ → List Row) (count : ℕ)
+      → flat_map rows (identifiers_from 1 (suc count)) ≡ flat_map rows (identifiers_from 1 count) ++ rows (suc count)
