@@ -10,3 +10,5 @@ pub mod ReadingLemmas
 pub mod GatheredLemmas
 pub mod QueryViews
 pub mod ComparedLemmas
+pub mod PartLemmas
+pub mod LinkedLemmas

@@ -9,3 +9,5 @@ pub mod Conditions
 pub mod Links
 pub mod Resolved
 pub mod Adding
+pub mod Parts
+pub mod Laws

@@ -6,6 +6,7 @@
 
 mod conditions;
 mod drafts;
+pub mod laws;
 mod limits;
 mod links;
 mod literals;
@@ -17,8 +18,10 @@ mod resolve;
 mod rules;
 mod spots;
 mod syntax;
+pub mod texts;
 mod walk;
 
 pub use query::{Comparison, Field, Join, Query};
 pub use reading::read_query;
 pub use refusal::Refusal;
+pub use texts::{Texts, text_count};
