@@ -2,7 +2,7 @@
 
 ghost use Rattle.std.specs.Prelude.{◌≡◌, ◌≤◌, ◌<◌, ◌*◌, ◌+◌, ◌++◌, ℕ, true, false, take, drop, IfOk, IsTrue, ◌↔◌, MatchOption, [], slice_set, length, replicate, vec_len};
 ghost use Rattle.ghost_model.specs.Causes.{HasCause, Rose};
-ghost use Rattle.edge_traits.specs.Devices.{next, since_call};
+ghost use Rattle.edge_traits.specs.Devices.{next, since_call, ChangesOnly};
 ghost use Rattle.edge_traits.specs.Scripts.{IsFresh};
 ghost use Rattle.edge_traits.specs.Pages.{page_at};
 
@@ -20,7 +20,8 @@ use std::alloc::{AllocError, Global};
 pub struct MemFlash {
     /// Which calls fail.
     pub script: Script,
-    room: u32,
+    /// The most blocks that the device may be made with.
+    pub room: u32,
     deep_reads: u64,
     since_fault: u64,
     is_open: bool,
@@ -35,10 +36,10 @@ impl MemFlash {
     pub fn new(alloc: Global, room: u32, fails: &[u64]) -> Result<MemFlash, AllocError>
         ensures script { IfOk result (λ flash. IsFresh fails.now flash.script) }
         ensures room { IfOk result (λ flash. flash.room ≡ room) }
-        ensures closed { IfOk result (λ flash. flash.is_open ≡ false) }
-        ensures empty { IfOk result (λ flash. vec_len flash.pages ≡ 0) }
-        ensures no_deep_read { IfOk result (λ flash. flash.deep_reads ≡ 0) }
-        ensures no_call { IfOk result (λ flash. flash.since_fault ≡ 0) }
+        ensures no_page { IfOk result (λ flash. (⟦<MemFlash as Flash>⟧.state flash).page_count ≡ 0) }
+        ensures empty { IfOk result (λ flash. (page : ℕ) → (⟦<MemFlash as Flash>⟧.state flash).page page ≡ []) }
+        ensures no_deep_read { IfOk result (λ flash. (⟦<MemFlash as Flash>⟧.state flash).deep_reads ≡ 0) }
+        ensures no_call { IfOk result (λ flash. (⟦<MemFlash as Flash>⟧.state flash).since_fault ≡ 0) }
     {
         Ok(MemFlash {
             script: Script::new(alloc, fails)?,
@@ -53,20 +54,21 @@ impl MemFlash {
 
     /// The bytes of a page, whether the device is open or not, with no call that is counted.
     pub fn page(&self, page: u32) -> Option<&[u8; 2048]>
-        ensures { MatchOption result (page_at self.now.pages.items page ≡ []) (λ bytes. page_at self.now.pages.items page ≡ bytes.now) }
+        ensures { MatchOption result ((⟦<MemFlash as Flash>⟧.state self.now).page page ≡ []) (λ bytes. (⟦<MemFlash as Flash>⟧.state self.now).page page ≡ bytes.now) }
     {
         self.pages.get(page as usize)
     }
 
     /// Puts other bytes into a page, blank or not, with no call that is counted, and answers whether there is such a page.
     pub fn put_page(&mut self, page: u32, bytes: &[u8; 2048]) -> bool
-        ensures there { IsTrue result ↔ page < vec_len self.old.pages }
-        ensures put { self.new.pages.items ≡ slice_set self.old.pages.items page bytes.now }
-        ensures marks { self.new.marks ≡ self.old.marks }
+        ensures there { page < (⟦<MemFlash as Flash>⟧.state self.old).page_count → IsTrue result }
+        ensures put { IsTrue result → (⟦<MemFlash as Flash>⟧.state self.new).page page ≡ bytes.now }
+        ensures others { ChangesOnly page (page + 1) (⟦<MemFlash as Flash>⟧.state self.old) (⟦<MemFlash as Flash>⟧.state self.new) }
+        ensures blank { (⟦<MemFlash as Flash>⟧.state self.new).blank ≡ (⟦<MemFlash as Flash>⟧.state self.old).blank }
         ensures script { self.new.script ≡ self.old.script }
-        ensures deep_reads { self.new.deep_reads ≡ self.old.deep_reads }
-        ensures since_fault { self.new.since_fault ≡ self.old.since_fault }
-        ensures open { self.new.is_open ≡ self.old.is_open }
+        ensures room { self.new.room ≡ self.old.room }
+        ensures deep_reads { (⟦<MemFlash as Flash>⟧.state self.new).deep_reads ≡ (⟦<MemFlash as Flash>⟧.state self.old).deep_reads }
+        ensures since_fault { (⟦<MemFlash as Flash>⟧.state self.new).since_fault ≡ (⟦<MemFlash as Flash>⟧.state self.old).since_fault }
     {
         if (page as usize) < self.pages.len() {
             self.pages[page as usize] = *bytes;

@@ -17,12 +17,18 @@ use edge_traits::flash::Flash;
 /// Nothing else may write to that buffer between the calls. With `erase` a block is erased when its first page is about to be written.
 #[derive(Drop)]
 pub struct RunWriter {
-    first: u32,
-    width: u32,
-    erase: bool,
-    pages: u32,
-    held: u32,
-    count: u32,
+    /// The first page.
+    pub first: u32,
+    /// The bytes of a record.
+    pub width: u32,
+    /// Whether blocks are erased.
+    pub erase: bool,
+    /// How many whole pages were written.
+    pub pages: u32,
+    /// How many records wait in the buffer.
+    pub held: u32,
+    /// How many records were put.
+    pub count: u32,
     ghost some: { 0 < width },
     ghost fits: { width ≤ 256 },
     ghost not_full: { held < 2048 / width },
