@@ -12,3 +12,5 @@ pub mod QueryViews
 pub mod ComparedLemmas
 pub mod PartLemmas
 pub mod LinkedLemmas
+pub mod KeyLemmas
+pub mod AnswerLemmas

@@ -1,12 +1,19 @@
--- The query that a text means may have a join several times; with each of its joins once, it has the same top table and
--- the same asks.
-use Rattle.std.specs.Prelude.{◌≡◌}
+-- The query that a text means may have a join several times; with each of its joins once, it has the same top table, the
+-- same asks and, over a tree, the same answer.
+use Rattle.std.specs.Prelude.{◌≡◌, ℕ, List, Ok}
 use Rattle.ghost_model.specs.Schema.{Schema}
+use Rattle.ghost_model.specs.SchemaTrees.{IsTree}
+use Rattle.ghost_model.specs.Values.{Database}
 use Rattle.ghost_model.specs.Query.{Query}
 use Rattle.ghost_model.specs.QueryMeaning.{top_of}
+use Rattle.ghost_model.specs.QueryReading.{reading}
+use Rattle.ghost_model.specs.Meaning.{answer}
 use Rattle.ghost_model.specs.Asks.{asks_of}
 use Rattle.spj_parse.specs.Resolved.{linked}
 
 pub record JoinsCountOnce : Type 0 where
   pub top : (schema : Schema) (query : Query) → top_of schema (linked schema query) ≡ top_of schema query
   pub asks : (schema : Schema) (query : Query) → asks_of schema (linked schema query) ≡ asks_of schema query
+  pub answers :
+      (schema : Schema) → IsTree schema → (database : Database) (text : List ℕ) (query : Query) → reading schema text ≡ Ok query
+      → answer schema database (linked schema query) ≡ answer schema database query

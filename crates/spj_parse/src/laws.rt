@@ -2,7 +2,11 @@
 
 ghost use Rattle.spj_parse.specs.Laws.{JoinsCountOnce};
 
-/// A query with each of its joins once has the top table and the asks of the query that its text means.
+/// A query with each of its joins once has the top table, the asks and the answer of the query that its
+/// text means.
 pub fn joins_count_once()
     ensures { JoinsCountOnce }
-{}
+{
+    ghost_base::laws::values_are_ordered();
+    ghost_model::query::one_reading();
+}

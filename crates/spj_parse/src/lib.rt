@@ -25,3 +25,6 @@ pub use query::{Comparison, Field, Join, Query};
 pub use reading::read_query;
 pub use refusal::Refusal;
 pub use texts::{Texts, text_count};
+
+#[cfg(test)]
+mod tests;
