@@ -11,3 +11,5 @@ pub mod LoadedFiles
 pub mod DeclaredColumns
 pub mod CheckedKeys
 pub mod Headers
+pub mod PartRows
+pub mod SplitParts

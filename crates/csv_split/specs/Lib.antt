@@ -6,3 +6,4 @@ pub mod Cells
 pub mod Tables
 pub mod Reading
 pub mod References
+pub mod Parts
