@@ -13,3 +13,4 @@ pub mod CheckedKeys
 pub mod Headers
 pub mod PartRows
 pub mod SplitParts
+pub mod ImageCells

@@ -1,6 +1,6 @@
 -- The part of each row of a table that some of its columns hold, the identifier standing in none of them, and the two
 -- parts of a database as one list of rows for each table.
-use Rattle.std.specs.Prelude.{◌≡◌, ◌≤◌, ℕ, List, length, Some, slice_get}
+use Rattle.std.specs.Prelude.{◌≡◌, ◌≤◌, ◌<◌, ℕ, List, length, Some, slice_get}
 use Rattle.ghost_model.specs.LoadFaults.{most_rows}
 use Rattle.ghost_model.specs.Split.{Public, Hidden}
 use Rattle.ghost_model.specs.Values.{Value, Rows}
@@ -24,3 +24,7 @@ public_with parts = record { visible = parts }
 
 abbrev pub hidden_with : List Rows → Hidden
 hidden_with parts = record { hidden = parts }
+
+-- each column has a value at a place
+pub record HaveRow (place : ℕ) (columns : List (List Value)) : Type 0 where
+  pub each : (column : ℕ) (values : List Value) → slice_get columns column ≡ Some values → place < length values

@@ -1,6 +1,6 @@
 use Rattle.std.specs.Vec.Iter.{into_iter_items}
 use Rattle.csv_split.proofs.SplitParts.{one_parted}
-use Rattle.csv_split.proofs.split.split_columns.Goals as goal
+use Rattle.csv_split.proofs.splitting.split_columns.Goals as goal
 
 pub loop-column-preserved : goal.loop-column-preserved
 loop-column-preserved c =

@@ -3,7 +3,7 @@ use Rattle.std.specs.Vec.Iter.{into_iter_items}
 use Rattle.ghost_model.specs.Values.{Rows}
 use Rattle.csv_split.specs.Reading.{columns_of, with_identifier}
 use Rattle.csv_split.proofs.SplitParts.{all_tables_parted, one_table_parted, same_counts}
-use Rattle.csv_split.proofs.split.split.Goals as goal
+use Rattle.csv_split.proofs.splitting.split.Goals as goal
 
 pub loop-table-preserved : goal.loop-table-preserved
 loop-table-preserved c =

@@ -1,6 +1,6 @@
 use Rattle.std.proofs.Common.{◌∙◌, length}
 use Rattle.csv_split.proofs.SplitParts.{flags_of, hidden_all, hidden_rows, visible_all, visible_rows}
-use Rattle.csv_split.proofs.split.split_table.Goals as goal
+use Rattle.csv_split.proofs.splitting.split_table.Goals as goal
 
 pub of-requires-clause-all : goal.of-requires-clause-all
 of-requires-clause-all c =
