@@ -12,3 +12,6 @@ pub mod DeclaredColumns
 pub mod CheckedKeys
 pub mod Headers
 pub mod AddedFiles
+pub mod PartRows
+pub mod SplitParts
+pub mod ImageCells

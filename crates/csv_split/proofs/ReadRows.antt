@@ -24,7 +24,7 @@ use Rattle.csv_split.proofs.TakenFields.{same_length}
 use Rattle.csv_split.specs.Tables.{column_values, row_at, rows_in, values_at}
 
 -- functions that agree on so many places
-made_same : {X : Type 0} (f g : ℕ → X) (from count : ℕ) → ((place : ℕ) → place < from + count → f place ≡ g place)
+pub made_same : {X : Type 0} (f g : ℕ → X) (from count : ℕ) → ((place : ℕ) → place < from + count → f place ≡ g place)
     → map f (range_with_len from count) ≡ map g (range_with_len from count)
 made_same f g from zero same = refl
 made_same f g from (suc count) same =

@@ -7,3 +7,4 @@ pub mod Tables
 pub mod Reading
 pub mod References
 pub mod ReadingOrder
+pub mod Parts

@@ -73,6 +73,14 @@ impl Table {
         }
         cells_at(&self.columns, column - 1)
     }
+
+    /// The columns but the identifier, moved out.
+    pub(crate) fn into_columns(self) -> Vec<Cells>
+        ensures rows { self ≡ rows_in (length self) (column_values result.items) }
+        ensures all { HaveAll (length self) (column_values result.items) }
+    {
+        self.columns
+    }
 }
 
 /// An identifier as a value.
@@ -83,14 +91,14 @@ fn number_of(identifier: Id) -> Value
 }
 
 /// A column, the columns being counted from 0.
-fn cells_at(columns: &[Cells], column: usize) -> Option<&Cells>
+pub(crate) fn cells_at(columns: &[Cells], column: usize) -> Option<&Cells>
     ensures { option_map (λ cells. values_in cells.now) result ≡ slice_get (column_values columns.now) column }
 {
     columns.get(column)
 }
 
 /// The value at a place of a column, the columns being counted from 0.
-fn cell_at(columns: &[Cells], column: usize, place: usize) -> Option<Value>
+pub(crate) fn cell_at(columns: &[Cells], column: usize, place: usize) -> Option<Value>
     ensures { option_map value_of result ≡ value_of_columns (column_values columns.now) column place }
 {
     match columns.get(column) {

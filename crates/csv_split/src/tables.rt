@@ -45,6 +45,13 @@ impl Tables {
         }
     }
 
+    /// The tables, moved out.
+    pub(crate) fn into_tables(self) -> Vec<Table>
+        ensures { result.items ≡ self }
+    {
+        self.tables
+    }
+
     /// The number of tables.
     pub fn tables(&self) -> usize
         ensures { result ≡ length self.now }

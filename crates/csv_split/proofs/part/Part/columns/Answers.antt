@@ -1,0 +1,11 @@
+use Rattle.csv_split.specs.Tables.{column_values}
+use Rattle.csv_split.proofs.PartRows.{have_all, rows_again}
+use Rattle.csv_split.proofs.part.Part.columns.Goals as goal
+
+pub returns-clause-rows : goal.returns-clause-rows
+returns-clause-rows c =
+    rw c.deref.ensures.value (rows_again c.self.inside.rows (column_values c.self.inside.columns.items) c.args.self.now c.self.view_is)
+
+pub returns-clause-all : goal.returns-clause-all
+returns-clause-all c =
+    rw c.deref.ensures.value (have_all c.self.inside.rows (column_values c.self.inside.columns.items) c.args.self.now c.self.view_is c.self.invariant.long)
