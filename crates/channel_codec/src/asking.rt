@@ -7,6 +7,7 @@ ghost use Rattle.ghost_base.specs.Views.{kind_of, operator_of, value_of};
 ghost use Rattle.channel_codec.specs.AskViews.{test_view, ask_view, test_in, test_width};
 
 use crate::ask::{Ask, Test, is_proper, kind_at, put_ask};
+use crate::bytes::{behind, byte_at, front};
 use crate::frame::PAYLOAD_BYTES;
 use arrayvec::ArrayVec;
 use ghost_base::limits::{MAX_CHARS, MAX_COLUMNS, MAX_CONDITIONS};
@@ -15,35 +16,6 @@ use ghost_base::{Kind, Operator, Text64, cell_width, decode_cell};
 use ghost_model::channel::asks_have_one_spelling;
 use tree_schema::Schema;
 use tree_schema::schema::schemas_are_trees;
-
-/// The byte at a place, or 0 where there is none.
-fn byte_at(bytes: &[u8], at: usize) -> u8
-    ensures { result ≡ slice_index bytes.now at }
-{
-    if at < bytes.len() { bytes[at] } else { 0 }
-}
-
-/// The front of some bytes: so many, or all where there are fewer.
-fn front(bytes: &[u8], count: usize) -> &[u8]
-    ensures { result.now ≡ take count bytes.now }
-{
-    if bytes.len() <= count {
-        return bytes;
-    }
-    let (front, _rest) = bytes.split_at(count);
-    front
-}
-
-/// What comes after so many bytes, nothing where there are fewer.
-fn behind(bytes: &[u8], count: usize) -> &[u8]
-    ensures { result.now ≡ drop count bytes.now }
-{
-    if bytes.len() <= count {
-        return &[];
-    }
-    let (_front, rest) = bytes.split_at(count);
-    rest
-}
 
 /// The operator of a byte from 1 to 6.
 fn operator_in(code: u8) -> Operator

@@ -1,0 +1,3 @@
+pub mod RowBytes
+pub mod FormViews
+pub mod Gathering
