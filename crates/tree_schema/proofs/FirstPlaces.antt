@@ -21,6 +21,14 @@ pub first_place : {X Y : Type 0} (view : X → Y) (test : X → Bool) (passes : 
     → (xs : List X) → first_of (places_from passes 0 (map view xs)) ≡ position test xs
 first_place view test passes same xs = first_from view test passes same xs 0 ∙ sym (position_from-zero test xs)
 
+position_mapped_from : {X Y : Type 0} (view : X → Y) (test : Y → Bool) (xs : List X) (at : ℕ) → position_from (λ x. test (view x)) at xs ≡ position_from test at (map view xs)
+position_mapped_from view test [] at = refl
+position_mapped_from view test (x ∷ xs) at = ap (λ later. cond (test (view x)) (Some at) later) (position_mapped_from view test xs (at + 1))
+
+pub position_mapped : {X Y : Type 0} (view : X → Y) (test : Y → Bool) (xs : List X) → position (λ x. test (view x)) xs ≡ position test (map view xs)
+position_mapped view test xs =
+    position_from-zero (λ x. test (view x)) xs ∙ position_mapped_from view test xs 0 ∙ sym (position_from-zero test (map view xs))
+
 some_by : (b : Bool) (at : ℕ) (here rest : List ℕ) (later : Bool) → not (is_empty rest) ≡ later → not (is_empty (cond b (at ∷ here) rest)) ≡ (b || later)
 some_by true at here rest later e = refl
 some_by false at here rest later e = e

@@ -4,3 +4,12 @@ pub mod TokenSteps
 pub mod NoStep
 pub mod ReaderSteps
 pub mod Ancestors
+pub mod WindowLemmas
+pub mod WindowFills
+pub mod CatalogLengths
+pub mod PartEquality
+pub mod CountsLemmas
+pub mod RuleSteps
+pub mod TreeSteps
+pub mod BuildingSteps
+pub mod CatalogParts

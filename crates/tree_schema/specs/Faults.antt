@@ -1,4 +1,9 @@
 -- What the refusals of the code stand for, in the words of the definitions.
+use Rattle.std.specs.Prelude.{◌≡◌, ℕ, Bool, List, find, nat_lt, if◌then◌else◌, Option, Some, None, Result, Ok, Err, option_map}
+use Rattle.ghost_model.specs.Query.{Field}
+use Rattle.ghost_model.specs.Schema.{Schema}
+use Rattle.ghost_model.specs.SchemaGrammar.{SchemaText}
+use Rattle.ghost_model.specs.SchemaPlaces.{syntax_of}
 use Rattle.ghost_model.specs.SchemaFaults as faults
 use Rattle.tree_schema.specs.declared.faults.SchemaFault.{SchemaFault}
 use Rattle.tree_schema.specs.declared.faults.SchemaFault.TheVariants as fault
@@ -12,3 +17,42 @@ fault_of (fault.UnknownTable table column) = faults.UnknownTable table column
 fault_of (fault.TwoParents child) = faults.TwoParents child
 fault_of (fault.Cycle table) = faults.Cycle table
 fault_of (fault.NotOneRoot roots) = faults.NotOneRoot roots
+
+-- the fault of a test that may refuse, none where it does not
+abbrev pub refused : {X : Type 0} → Result X SchemaFault → Option faults.SchemaFault
+refused (Ok _) = None
+refused (Err fault) = Some (fault_of fault)
+
+-- what a text is read as
+abbrev pub reading_of : Result Schema SchemaFault → Result Schema faults.SchemaFault
+reading_of (Ok schema) = Ok schema
+reading_of (Err fault) = Err (fault_of fault)
+
+-- a table and a column by their places
+abbrev pub field_at : ℕ → ℕ → Field
+field_at table column = record { table = table; column = column }
+
+abbrev pub field_of : ℕ × ℕ → Field
+field_of places = field_at places.0 places.1
+
+-- the first fault by the rules that speak of what is written, and by those that speak of the tables as a tree
+abbrev pub fault_of_texts : SchemaText → Option faults.SchemaFault
+fault_of_texts tables =
+    faults.or_else (if faults.is_over tables then Some faults.Limit else None)
+    (faults.or_else (faults.duplicate_in tables)
+    (faults.or_else (option_map faults.NoId (find (faults.lacks_id tables) (faults.places_of tables)))
+    (faults.unknown_in tables)))
+
+abbrev pub is_shared : Schema → ℕ → Bool
+is_shared schema child = nat_lt 1 (faults.keys_naming schema child)
+
+abbrev pub fault_of_tree : Schema → Option faults.SchemaFault
+fault_of_tree schema =
+    faults.or_else (option_map faults.TwoParents (find (is_shared schema) (faults.places_of schema)))
+    (faults.or_else (option_map faults.Cycle (find (faults.returns schema) (faults.places_of schema)))
+    (faults.wrong_roots (faults.roots_of schema)))
+
+-- some text spells these tables
+pub record IsSpelled (tables : SchemaText) : Type 0 where
+  pub text : List ℕ
+  pub reads : syntax_of text ≡ Ok tables

@@ -4,3 +4,5 @@ pub mod Marks
 pub mod Catalogs
 pub mod Drafts
 pub mod Faults
+pub mod Windows
+pub mod CatalogParts

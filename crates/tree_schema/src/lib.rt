@@ -4,13 +4,27 @@
 //! here takes memory.
 #![tactic(auto)]
 
+mod building;
+mod canonical;
 pub mod catalog;
+pub mod catalog_bytes;
+mod catalog_reading;
 pub mod faults;
+mod reading;
+mod rules;
 pub mod schema;
 mod syntax;
 pub mod tokens;
+mod trees;
+mod window;
 
 pub use catalog::Catalog;
+pub use catalog_bytes::{catalog_len, catalog_part, is_catalog_part};
+pub use catalog_reading::read_catalog;
 pub use faults::SchemaFault;
+pub use reading::read_schema;
 pub use schema::{Column, Schema, Table};
 pub use tokens::{Cursor, Mark, Token};
+
+#[cfg(test)]
+mod tests;

@@ -4,7 +4,7 @@ ghost use Rattle.std.specs.Prelude.{◌≡◌, ℕ, ◌<◌, ◌≤◌, not, len
 ghost use Rattle.std.specs.List.{list_any};
 ghost use Rattle.ghost_model.specs.Schema as schema;
 ghost use Rattle.ghost_model.specs.SchemaFaults as faults;
-ghost use Rattle.tree_schema.specs.Views.{column_of, table_of};
+ghost use Rattle.tree_schema.specs.Views.{column_of, table_of, schema_of};
 ghost use Rattle.tree_schema.specs.Schemas as schemas;
 ghost use Rattle.tree_schema.specs.Schemas.{DeclaredSchemasAreTrees};
 
@@ -67,7 +67,7 @@ pub fn schemas_are_trees()
 }
 
 /// Whether a place, where there is one, is this table's.
-fn is_table(place: Option<usize>, table: usize) -> bool
+pub(crate) fn is_table(place: Option<usize>, table: usize) -> bool
     ensures { result ≡ schema.is_table table place }
 {
     match place {
@@ -77,7 +77,7 @@ fn is_table(place: Option<usize>, table: usize) -> bool
 }
 
 /// Whether a column is a foreign key to a table.
-fn is_key_to(column: &Column, child: usize) -> bool
+pub(crate) fn is_key_to(column: &Column, child: usize) -> bool
     ensures { result ≡ schema.is_table child column.now.child }
 {
     match column.child {
@@ -107,7 +107,22 @@ fn place_of_holder(tables: &[Table], child: usize) -> Option<usize>
     tables.iter().position(|holder| holds_key_to(holder, child))
 }
 
+/// The table that holds the foreign key to one of the tables; a root has none.
+pub(crate) fn parent_in(tables: &[Table], table: usize) -> Option<usize>
+    ensures parent { result ≡ schema.parent (schema_of tables.now) table }
+{
+    place_of_holder(tables, table)
+}
+
 impl Schema {
+    /// A schema of tables that some text means.
+    pub(crate) fn of(tables: ArrayVec<Table, MAX_TABLES>) -> Schema
+        requires declared { schemas.IsDeclared (schema_of tables.items) }
+        ensures schema { result ≡ schema_of tables.items }
+    {
+        Schema { tables }
+    }
+
     /// The number of tables.
     pub fn tables(&self) -> usize
         ensures count { result ≡ length self.now }
@@ -148,7 +163,7 @@ impl Schema {
     pub fn parent(&self, table: usize) -> Option<usize>
         ensures { result ≡ schema.parent self.now table }
     {
-        place_of_holder(&self.tables, table)
+        parent_in(&self.tables, table)
     }
 
     /// The tables that a table's foreign keys name, ascending.

@@ -1,13 +1,10 @@
-use Rattle.std.proofs.Common.{◌∙◌, sym, ap, refl, not}
-use Rattle.std.specs.List.{position}
+use Rattle.std.proofs.Common.{◌∙◌, ap}
 use Rattle.ghost_model.specs.Schema as schema
-use Rattle.tree_schema.specs.Views.{table_of}
-use Rattle.tree_schema.proofs.FirstPlaces.{first_place}
+use Rattle.tree_schema.specs.Views.{schema_of}
 use Rattle.tree_schema.proofs.schema.Schema.parent.Goals as goal
 
 pub returns : goal.returns
 returns c =
-    c.place_of_holder.ensures
-    ∙ ap (λ tables. position (λ holder. not (schema.is_empty (schema.keys_to c.args.table (table_of holder)))) tables) c.deref.ensures.0
-    ∙ sym (first_place table_of (λ holder. not (schema.is_empty (schema.keys_to c.args.table (table_of holder)))) (λ table. not (schema.is_empty (schema.keys_to c.args.table table))) (λ holder. refl) c.self.inside.tables.items)
+    c.parent_in.ensures.parent
+    ∙ ap (λ tables. schema.parent (schema_of tables) c.args.table) c.deref.ensures.0
     ∙ ap (λ tables. schema.parent tables c.args.table) c.self.view_is

@@ -1,0 +1,9 @@
+use Rattle.std.proofs.Common.{◌∙◌, bytes_eq}
+use Rattle.ghost_model.specs.SchemaGrammar.{TableText}
+use Rattle.ghost_model.specs.Tokens as tokens
+use Rattle.tree_schema.specs.Drafts.{table_of}
+use Rattle.tree_schema.proofs.FirstPlaces.{position_mapped}
+use Rattle.tree_schema.proofs.rules.place_named.Goals as goal
+
+pub returns : goal.returns
+returns c = c.place_of_word.ensures ∙ position_mapped table_of (λ (table : TableText). bytes_eq (tokens.in_lower_case c.args.name.now) table.name) c.args.tables.now
