@@ -1,3 +1,5 @@
 pub mod Widths
 pub mod Rows
 pub mod Windows
+pub mod Groups
+pub mod Places

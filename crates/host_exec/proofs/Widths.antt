@@ -1,8 +1,12 @@
 -- How many bytes stand before a column, column by column.
-use Rattle.std.proofs.Common.{◌≡◌, ℕ, zero, suc, ◌+◌, ◌-◌, ◌<◌, ◌≤◌, List, [], ◌∷◌, drop, ap, sym, refl, ◌∙◌, arith}
+use Rattle.std.proofs.Common.{◌≡◌, ℕ, zero, suc, ◌+◌, ◌-◌, ◌<◌, ◌≤◌, List, [], ◌∷◌, length, drop, map, sum, Option, Some, None, ap, sym, refl, ◌∙◌, arith}
 use Rattle.std.specs.Prelude.{slice_get}
 use Rattle.ghost_model.specs.Schema.{Schema, Column, columns_of, column_at}
-use Rattle.host_exec.specs.RowBytes.{width_before, width_or_none, data_columns}
+use Rattle.ghost_model.specs.Cells.{cell_width}
+use Rattle.ghost_model.specs.Channel.{Ask}
+use Rattle.ghost_model.specs.Asks.{kind_at}
+use Rattle.ghost_model.specs.Asks as asks
+use Rattle.host_exec.specs.RowBytes.{Span, span_of, reply_width, form_of, width_before, width_or_none, data_columns}
 
 pub none_before : (columns : List Column) → width_before columns 0 ≡ 0
 unfolding width_before
@@ -28,3 +32,11 @@ more_before schema table at width more h w m =
     let step = one_more (data_columns schema table) (at - 1) in
     let grown : width + more ≡ width_before (data_columns schema table) (suc (at - 1)) = omega (arith, w, added, step) in
     grown ∙ ap (width_before (data_columns schema table)) (sym next)
+
+sizes_of : (schema : Schema) (table : ℕ) (columns : List ℕ) → map (λ (span : Span). span.size) (map (span_of schema table) columns) ≡ map cell_width (map (kind_at schema table) columns)
+sizes_of schema table [] = refl
+sizes_of schema table (column ∷ columns) = ap (λ (ns : List ℕ). cell_width (kind_at schema table column) ∷ ns) (sizes_of schema table columns)
+
+-- a row of the reply has the same width by the bytes and by the ask
+pub same_width : (schema : Schema) (ask : Ask) → reply_width (form_of schema ask) ≡ asks.row_width schema ask
+same_width schema ask = ap (λ (ns : List ℕ). 4 + sum ns) (sizes_of schema ask.table ask.columns)

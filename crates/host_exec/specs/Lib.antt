@@ -1,3 +1,7 @@
 pub mod RowBytes
 pub mod FormViews
 pub mod Gathering
+pub mod Saying
+pub mod Replies
+pub mod Holdings
+pub mod Taken

@@ -90,6 +90,7 @@ fn add_row(form: &Form, identifier: u32, row: &[u8], most: u32, batch: &mut Batc
     requires room { HasRoom (form_view form.now) most batch.old }
     requires more { batch.old.rows < most }
     ensures room { HasRoom (form_view form.now) most batch.new }
+    ensures one { batch.new.rows ≤ batch.old.rows + 1 }
     ensures found { list_all (rows.passes row.now) (form_view form.now).tests ≡ true → (batch.new.rows ≡ batch.old.rows + 1)
         × (batch.new.bytes.items ≡ batch.old.bytes.items ++ row_bytes (rows.replied (form_view form.now) identifier row.now)) }
     ensures passed { list_all (rows.passes row.now) (form_view form.now).tests ≡ false → (batch.new.rows ≡ batch.old.rows)
@@ -108,6 +109,7 @@ fn add_rows(form: &Form, place: u32, count: u32, piece: &[u8], most: u32, batch:
     requires last { place + count < 2 ^ 32 }
     ensures room { HasRoom (form_view form.now) most batch.new }
     ensures within { result ≤ count }
+    ensures sparse { batch.new.rows ≤ batch.old.rows + result }
     ensures goes_on { 0 < count → batch.old.rows < most → 0 < result }
     ensures stops { result < count → batch.new.rows ≡ most }
     ensures gathered { (file : List ℕ) (start later : ℕ) (all : List ReplyRow)
@@ -164,6 +166,7 @@ fn gather_piece<D: Depot>(
     ensures same { D.contents depot.new ≡ D.contents depot.old }
     ensures room { HasRoom (form_view form.now) most batch.new }
     ensures goes_on { IfOk result (λ later. next < later) }
+    ensures sparse { IfOk result (λ later. batch.new.rows + next ≤ batch.old.rows + later) }
     ensures within { IfOk result (λ later. later ≤ rows) }
     ensures gathered { IfOk result (λ later. (file : List ℕ) (all : List ReplyRow) → file_of (D.contents depot.old) name.now ≡ Some file
         → Gathered all batch.old.rows batch.old.bytes.items (replies_at (form_view form.now) file start next (rows - next))
@@ -198,6 +201,7 @@ pub fn gather<D: Depot>(
     ensures same { D.contents depot.new ≡ D.contents depot.old }
     ensures room { HasRoom (form_view form.now) most batch.new }
     ensures goes_on { IfOk result (λ next. place ≤ next) }
+    ensures sparse { IfOk result (λ next. batch.new.rows + place ≤ batch.old.rows + next) }
     ensures within { IfOk result (λ next. next ≤ rows) }
     ensures stops { IfOk result (λ next. next < rows → batch.new.rows ≡ most) }
     ensures gathered { IfOk result (λ next. (file : List ℕ) (all : List ReplyRow) → file_of (D.contents depot.old) name.now ≡ Some file

@@ -4,3 +4,7 @@
 pub mod filling;
 pub mod form;
 pub mod gathering;
+pub mod reply;
+pub mod saying;
+pub mod stage;
+pub mod turning;

@@ -1,4 +1,4 @@
-use Rattle.std.proofs.Common.{◌≡◌, ◌≤◌, ◌-◌, ℕ, List, Some}
+use Rattle.std.proofs.Common.{◌≡◌, ◌≤◌, ◌-◌, ◌+◌, ℕ, List, Some}
 use Rattle.ghost_model.specs.Asks.{ReplyRow}
 use Rattle.edge_traits.specs.Files.{file_of}
 use Rattle.host_exec.specs.RowBytes.{replies_at}
@@ -13,6 +13,7 @@ invariant-pieces g l = record {
   appends : g.D.Depot.append_faults l.depot ≡ g.D.Depot.append_faults l.fn.depot;
   room : HasRoom (form_view l.form) l.most l.batch;
   goes_on : l.place ≤ l.next;
+  sparse : l.batch.rows + l.place ≤ l.fn.batch.rows + l.next;
   within : l.next ≤ l.rows;
   gathered : (file : List ℕ) (all : List ReplyRow) → file_of (g.D.Depot.contents l.fn.depot) l.name ≡ Some file
       → Gathered all l.fn.batch.rows l.fn.batch.bytes.items (replies_at (form_view l.form) file l.start l.place (l.rows - l.place))

@@ -1,0 +1,14 @@
+-- What a host holds: its catalog, and for each ask the rows of its table in the file that meet it.
+use Rattle.std.specs.Prelude.{◌≡◌, ◌<◌, ◌^◌, ℕ, true, List, length, slice_index, All}
+use Rattle.ghost_model.specs.Channel as channel
+use Rattle.ghost_model.specs.Catalog.{catalog_bytes}
+use Rattle.ghost_model.specs.Asks.{is_proper_ask}
+use Rattle.ghost_model.specs.Host.{Holding}
+use Rattle.host_exec.specs.RowBytes.{form_of, replies_at}
+
+-- the rows of the tables begin at these bytes of the file, and the host replies with what they give
+pub record HoldsFile (held : Holding) (catalog : channel.Catalog) (starts file : List ℕ) : Type 0 where
+  pub catalog_is : held.catalog ≡ catalog
+  pub replied :
+      (ask : channel.Ask) → is_proper_ask catalog.schema ask ≡ true
+      → held.rows ask ≡ replies_at (form_of catalog.schema ask) file (slice_index starts ask.table) 0 (slice_index catalog.counts ask.table)
