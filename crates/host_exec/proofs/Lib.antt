@@ -3,3 +3,4 @@ pub mod Rows
 pub mod Windows
 pub mod Groups
 pub mod Places
+pub mod Answered

@@ -5,3 +5,4 @@ pub mod Saying
 pub mod Replies
 pub mod Holdings
 pub mod Taken
+pub mod Hosts

@@ -54,12 +54,28 @@ pub record Says (catalog : List ℕ) (source : Source) (owed : List Frame) (stan
   pub spelled : take size out ≡ frame_bytes frame
   pub stands : Stands catalog source stage rest stand
 
+-- how many bytes of the catalog were said, where it is being said
+abbrev pub said_of : Stage → ℕ
+said_of (Welcoming at) = at
+said_of _ = 0
+
+-- the row of the table at which a reply goes on
+abbrev pub place_of : Stage → ℕ
+place_of (Answering serial place sent) = place
+place_of (Replying serial place sent) = place
+place_of _ = 0
+
+-- how many rows of a reply were sent
+abbrev pub sent_of : Stage → ℕ
+sent_of (Answering serial place sent) = sent
+sent_of (Replying serial place sent) = sent
+sent_of _ = 0
+
 -- what is kept of a session fits the catalog and the table
-abbrev pub IsWithin : (catalog rows : ℕ) → Stage → Type 0
-IsWithin catalog rows (Welcoming at) = at < catalog
-IsWithin catalog rows (Answering serial place sent) = (sent ≤ place) × (place ≤ rows)
-IsWithin catalog rows (Replying serial place sent) = (sent ≤ place) × (place ≤ rows)
-IsWithin catalog rows _ = Unit {0}
+pub record IsWithin (catalog rows : ℕ) (stage : Stage) : Type 0 where
+  pub said : said_of stage < catalog
+  pub sent : sent_of stage ≤ place_of stage
+  pub place : place_of stage ≤ rows
 
 -- a frame of the key that is no ask leads from one stage to another
 abbrev pub turned : Stage → Frame → Option Stage

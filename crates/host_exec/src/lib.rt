@@ -4,7 +4,9 @@
 pub mod filling;
 pub mod form;
 pub mod gathering;
+pub mod host;
 pub mod reply;
 pub mod saying;
+pub mod serving;
 pub mod stage;
 pub mod turning;

@@ -67,7 +67,7 @@ fn say_rows<D: Depot>(
     ensures cause { HasCause (D.faults depot.old) (D.faults depot.new) result }
     ensures appends { D.append_faults depot.new ≡ D.append_faults depot.old }
     ensures same { D.contents depot.new ≡ D.contents depot.old }
-    ensures within { (catalog : ℕ) → IfOk result (λ said. saying.IsWithin catalog reply.now.rows said.stage) }
+    ensures within { (catalog : ℕ) → 0 < catalog → IfOk result (λ said. saying.IsWithin catalog reply.now.rows said.stage) }
     ensures short { IfOk result (λ said. said.size ≤ 2048) }
     ensures said { (catalog file : List ℕ) (owed : List channel.Frame) (stand : host.Stand) → file_of (D.contents depot.old) name.now ≡ Some file
         → saying.Stands catalog (source_of reply.now file) (Stage.Answering serial place sent) owed stand
@@ -148,7 +148,7 @@ pub fn say_reply<D: Depot>(
     ensures never_falls { D.faults depot.old ≤ D.faults depot.new }
     ensures appends { D.append_faults depot.new ≡ D.append_faults depot.old }
     ensures same { D.contents depot.new ≡ D.contents depot.old }
-    ensures within { (catalog : ℕ) → saying.IsWithin catalog reply.now.rows result.stage }
+    ensures within { (catalog : ℕ) → 0 < catalog → saying.IsWithin catalog reply.now.rows result.stage }
     ensures short { result.size ≤ 2048 }
     ensures said { saying.Refuses (D.faults depot.old) (D.faults depot.new) serial result.size out.new result.stage
         ⊎ ((D.faults depot.new ≡ D.faults depot.old) × ((catalog file : List ℕ) (owed : List channel.Frame) (stand : host.Stand) → file_of (D.contents depot.old) name.now ≡ Some file
