@@ -4,3 +4,6 @@ pub mod Windows
 pub mod Groups
 pub mod Places
 pub mod Answered
+pub mod ImageRows
+pub mod ImageReplies
+pub mod ImageTables

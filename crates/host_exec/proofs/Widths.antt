@@ -19,7 +19,7 @@ one_more [] place = refl
 one_more (column ∷ columns) zero = let e = none_before columns in omega (arith, e)
 one_more (column ∷ columns) (suc place) = let e = one_more columns place in omega (arith, e)
 
-behind_first : (columns : List Column) (at : ℕ) → 0 < at → slice_get columns at ≡ slice_get (drop 1 columns) (at - 1)
+pub behind_first : (columns : List Column) (at : ℕ) → 0 < at → slice_get columns at ≡ slice_get (drop 1 columns) (at - 1)
 behind_first columns zero h = absurd (omega (arith, h))
 behind_first [] (suc at) h = refl
 behind_first (column ∷ columns) (suc at) h = let e : suc at - 1 ≡ at = omega arith in ap (slice_get columns) (sym e)

@@ -7,7 +7,8 @@ use Rattle.ghost_model.specs.Schema.{Schema, Column, columns_of}
 use Rattle.ghost_model.specs.Query.{Operator}
 use Rattle.ghost_model.specs.Database.{meets}
 use Rattle.ghost_model.specs.Cells.{cell_width, encode_cell}
-use Rattle.ghost_model.specs.Channel.{Ask, Test}
+use Rattle.ghost_model.specs.Channel.{Catalog, Ask, Test}
+use Rattle.ghost_model.specs.Catalog.{catalog_bytes}
 use Rattle.ghost_model.specs.Asks.{ReplyRow, kind_at}
 use Rattle.ghost_model.specs.Split.{is_open}
 use Rattle.ghost_base.specs.CellLaws.{byte_order}
@@ -100,3 +101,8 @@ form_of schema ask =
       columns = map (span_of schema ask.table) ask.columns;
       tests = map (test_of schema ask.table) ask.tests;
     }
+
+-- where the rows of a table begin in the file: behind the catalog and the rows of the tables before it
+unfoldable pub table_start : Catalog → (table : ℕ) → ℕ
+table_start cat zero = length (catalog_bytes cat)
+table_start cat (suc table) = table_start cat table + slice_index cat.counts table * row_width cat.schema table

@@ -5,6 +5,7 @@ pub mod filling;
 pub mod form;
 pub mod gathering;
 pub mod host;
+pub mod laws;
 pub mod reply;
 pub mod saying;
 pub mod serving;
