@@ -22,7 +22,7 @@ side_by : (n most : ℕ) (b : Bool) → nat_lt n most ≡ b → (n < most) ⊎ (
 side_by n most true e = inl (ltb-true n most e)
 side_by n most false e = inr (let h : most ≤ n = grind (arith, nat_tests) in h)
 
-side : (n most : ℕ) → (n < most) ⊎ (most ≤ n)
+pub side : (n most : ℕ) → (n < most) ⊎ (most ≤ n)
 side n most = side_by n most (nat_lt n most) refl
 
 rest_alike : (most n : ℕ) → 0 < most → 0 < n → (n < most) ⊎ (most ≤ n) → (n - 1) / most ≡ (n - most + most - 1) / most

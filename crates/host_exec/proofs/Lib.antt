@@ -7,3 +7,4 @@ pub mod Answered
 pub mod ImageRows
 pub mod ImageReplies
 pub mod ImageTables
+pub mod RowSpelling

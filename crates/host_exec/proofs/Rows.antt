@@ -6,29 +6,10 @@ use Rattle.std.proofs.lemmas.Grind.{flat_map-append}
 use Rattle.ghost_model.specs.Asks.{ReplyRow, row_bytes}
 use Rattle.host_exec.specs.RowBytes.{Form, window, row_at, replies_at, replied, passes}
 use Rattle.host_exec.specs.Gathering.{Gathered}
+use Rattle.host_exec.proofs.Windows.{window_front, window_back}
 use Rattle.host_exec.specs.FormViews.{check_view}
 use Rattle.host_exec.specs.declared.form.Check.{Check}
 use Rattle.std.proofs.lemmas.List.Folds.{list_all-map}
-
--- ---- windows
-
-pub window_front : (file : List ℕ) (at size more : ℕ) → take size (window file at (size + more)) ≡ window file at size
-unfolding window
-window_front file at zero more = refl
-window_front file at (suc size) more =
-    let e : suc size + more ≡ suc (size + more) = omega arith in
-    ap (λ (n : ℕ). take (suc size) (window file at n)) e ∙ ap (λ (xs : List ℕ). slice_index file at ∷ xs) (window_front file (at + 1) size more)
-
-pub window_back : (file : List ℕ) (at size more : ℕ) → drop size (window file at (size + more)) ≡ window file (at + size) more
-unfolding window
-window_back file at zero more =
-    let e : at + 0 ≡ at = omega arith in
-    let f : 0 + more ≡ more = omega arith in
-    ap (λ (n : ℕ). window file at n) f ∙ ap (λ (n : ℕ). window file n more) (sym e)
-window_back file at (suc size) more =
-    let e : suc size + more ≡ suc (size + more) = omega arith in
-    let f : at + 1 + size ≡ at + suc size = omega arith in
-    ap (λ (n : ℕ). drop (suc size) (window file at n)) e ∙ (window_back file (at + 1) size more ∙ ap (λ (n : ℕ). window file n more) f)
 
 -- ---- rows
 

@@ -1,10 +1,28 @@
 -- Bytes of a file from a place on, piece by piece.
-use Rattle.std.proofs.Common.{◌≡◌, ℕ, zero, suc, ◌+◌, ◌-◌, ◌<◌, ◌≤◌, List, [], ◌∷◌, ◌++◌, length, take, drop, slice_index, replicate, Option, None, Some, MatchOption, ap, sym, refl, subst, ◌∙◌, arith, drop-cons}
+use Rattle.std.proofs.Common.{◌≡◌, ℕ, zero, suc, ◌+◌, ◌-◌, ◌*◌, ◌<◌, ◌≤◌, List, [], ◌∷◌, ◌++◌, length, take, drop, slice_index, replicate, Option, None, Some, MatchOption, ap, sym, refl, subst, ◌∙◌, arith, drop-cons}
 use Rattle.std.proofs.Math.Seq.{take-add}
 use Rattle.std.proofs.lemmas.List.{take_all, length-drop}
 use Rattle.std.specs.FinMap as map
 use Rattle.edge_traits.specs.Files.{Files, file_of, GivesAt, ReadsAt}
 use Rattle.host_exec.specs.RowBytes.{window}
+
+pub window_front : (file : List ℕ) (at size more : ℕ) → take size (window file at (size + more)) ≡ window file at size
+unfolding window
+window_front file at zero more = refl
+window_front file at (suc size) more =
+    let e : suc size + more ≡ suc (size + more) = omega arith in
+    ap (λ (n : ℕ). take (suc size) (window file at n)) e ∙ ap (λ (xs : List ℕ). slice_index file at ∷ xs) (window_front file (at + 1) size more)
+
+pub window_back : (file : List ℕ) (at size more : ℕ) → drop size (window file at (size + more)) ≡ window file (at + size) more
+unfolding window
+window_back file at zero more =
+    let e : at + 0 ≡ at = omega arith in
+    let f : 0 + more ≡ more = omega arith in
+    ap (λ (n : ℕ). window file at n) f ∙ ap (λ (n : ℕ). window file n more) (sym e)
+window_back file at (suc size) more =
+    let e : suc size + more ≡ suc (size + more) = omega arith in
+    let f : at + 1 + size ≡ at + suc size = omega arith in
+    ap (λ (n : ℕ). drop (suc size) (window file at n)) e ∙ (window_back file (at + 1) size more ∙ ap (λ (n : ℕ). window file n more) f)
 
 pub window_join : (file : List ℕ) (at one other : ℕ) → window file at one ++ window file (at + one) other ≡ window file at (one + other)
 unfolding window
@@ -87,3 +105,16 @@ all_filled before now name at have size old new last file same read front room l
     ∙ (ap (λ (xs : List ℕ). xs ++ replicate (size - have) 0) (front ∙ so_far)
     ∙ (ap (λ (xs : List ℕ). window file at have ++ xs) (sym (window_behind file (at + have) (size - have) past))
     ∙ (window_join file at have (size - have) ∙ ap (window file at) whole))))
+
+-- a row of a piece of the file
+pub row_of_piece : (file : List ℕ) (start next width count row : ℕ) → next ≤ row → row < next + count
+    → take width (drop ((row - next) * width) (window file (start + next * width) (count * width))) ≡ window file (start + row * width) width
+row_of_piece file start next width count row low high =
+    let more : ℕ = count - (row - next) - 1 in
+    let parts : count ≡ row - next + (1 + more) = omega (arith, low, high) in
+    let size : count * width ≡ (row - next) * width + (width + more * width) = ap (λ (n : ℕ). n * width) parts ∙ (let e : (row - next + (1 + more)) * width ≡ (row - next) * width + (width + more * width) = omega arith in e) in
+    let rows : next + (row - next) ≡ row = omega (arith, low) in
+    let place : start + next * width + (row - next) * width ≡ start + row * width = (let e : start + next * width + (row - next) * width ≡ start + (next + (row - next)) * width = omega arith in e) ∙ ap (λ (n : ℕ). start + n * width) rows in
+    ap (λ (n : ℕ). take width (drop ((row - next) * width) (window file (start + next * width) n))) size
+    ∙ (ap (take width) (window_back file (start + next * width) ((row - next) * width) (width + more * width))
+    ∙ (window_front file (start + next * width + (row - next) * width) width (more * width) ∙ ap (λ (n : ℕ). window file n width) place))

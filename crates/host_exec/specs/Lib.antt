@@ -6,3 +6,4 @@ pub mod Replies
 pub mod Holdings
 pub mod Taken
 pub mod Hosts
+pub mod Checked

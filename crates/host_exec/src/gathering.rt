@@ -129,10 +129,10 @@ fn add_rows(form: &Form, place: u32, count: u32, piece: &[u8], most: u32, batch:
 }
 
 /// The bytes that are read of the file at once.
-const PIECE_BYTES: usize = 4096;
+pub(crate) const PIECE_BYTES: usize = 4096;
 
 /// How many rows of a width are read at once, of those that are left: as many as a piece has room for.
-fn rows_of_piece(width: usize, left: u32) -> u32
+pub(crate) fn rows_of_piece(width: usize, left: u32) -> u32
     requires { width ≤ 1536 }
     ensures within { result ≤ left }
     ensures some { 0 < left → 0 < result }

@@ -1,6 +1,7 @@
 //! The host over a depot's visible file.
 #![tactic(auto)]
 
+pub mod checking;
 pub mod filling;
 pub mod form;
 pub mod gathering;
