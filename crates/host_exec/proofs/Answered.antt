@@ -1,7 +1,7 @@
 -- How the frames of a key are answered, stage by stage.
-use Rattle.std.proofs.Common.{◌≡◌, ℕ, zero, suc, ◌+◌, ◌-◌, ◌/◌, ◌<◌, ◌≤◌, Bool, true, false, List, [], ◌∷◌, ◌++◌, length, map, take, drop, sym, ◌∙◌, ap, refl, subst, arith, Option, Some, None, slice_index}
+use Rattle.std.proofs.Common.{◌≡◌, ℕ, ◌+◌, ◌-◌, ◌/◌, ◌<◌, Bool, true, false, List, [], ◌∷◌, ◌++◌, length, map, drop, sym, ◌∙◌, ap, refl, subst, arith, Option, Some, None, slice_index}
 use Rattle.std.specs.Prelude.{if◌then◌else◌, ◌==◌}
-use Rattle.std.proofs.lemmas.Bool.{eq-eqb, false≢true}
+use Rattle.std.proofs.lemmas.Bool.{eq-eqb}
 use Rattle.std.proofs.lemmas.Bool.Decides.{nat_tests}
 use Rattle.ghost_model.specs.Channel.{Frame, Hello, Asking, More, Bye, Welcome, Replied, Done, Sorry}
 use Rattle.ghost_model.specs.Channel as channel
@@ -10,7 +10,7 @@ use Rattle.ghost_model.specs.Asks.{ReplyRow, ask_in, is_proper_ask}
 use Rattle.ghost_model.specs.Asks as asks
 use Rattle.ghost_model.specs.Host.{Holding, Stand, Response, answer_to, answers_request, answers_more, answers_ask, goes_on, after_reply, reply_to, rows_frame, grouped, welcomes}
 use Rattle.ghost_model.specs.Host as host
-use Rattle.host_exec.specs.RowBytes.{Form, form_of, replies_at, reply_width}
+use Rattle.host_exec.specs.RowBytes.{Form, replies_at, reply_width}
 use Rattle.host_exec.specs.FormViews.{form_view}
 use Rattle.host_exec.specs.Saying.{Source, left_from, most_rows, reply_left, response, Stands, turned, owes, IsWithin}
 use Rattle.host_exec.specs.Holdings.{HoldsFile}

@@ -1,5 +1,5 @@
 -- A reply and a catalog, frame by frame.
-use Rattle.std.proofs.Common.{◌≡◌, ℕ, zero, suc, ◌+◌, ◌-◌, ◌*◌, ◌/◌, ◌<◌, ◌≤◌, Bool, true, false, nat_lt, ltb-true, ◌⊎◌, inl, inr, min, List, [], ◌∷◌, ◌++◌, length, map, take, drop, flat_map, sym, ◌∙◌, ap, refl, subst, arith, append-nil, length-append, Some}
+use Rattle.std.proofs.Common.{◌≡◌, ℕ, suc, ◌+◌, ◌-◌, ◌/◌, ◌<◌, ◌≤◌, Bool, true, false, nat_lt, ltb-true, ◌⊎◌, inl, inr, min, List, [], ◌∷◌, ◌++◌, length, map, take, drop, sym, ◌∙◌, ap, refl, arith, append-nil, length-append, Some}
 use Rattle.std.specs.Prelude.{if◌then◌else◌}
 use Rattle.std.proofs.lemmas.Bool.Decides.{nat_tests}
 use Rattle.std.proofs.Math.Nat.{div-eq-sub-div, div-eq_of_lt}
@@ -8,7 +8,7 @@ use Rattle.std.proofs.lemmas.List.{length-drop, drop-drop, nil_from_length, take
 use Rattle.ghost_model.specs.Schema.{is_empty}
 use Rattle.ghost_model.specs.Channel.{Frame, Replied, Done, Welcome}
 use Rattle.ghost_model.specs.Frames.{frame_bytes}
-use Rattle.ghost_model.specs.Asks.{ReplyRow, row_bytes}
+use Rattle.ghost_model.specs.Asks.{ReplyRow}
 use Rattle.ghost_model.specs.Host.{Stand, Response, goes_on, after_reply, rows_frame, grouped, groups_from, welcomes_of, most_part}
 use Rattle.ghost_model.specs.Host as host
 use Rattle.host_exec.specs.Gathering.{Gathered}

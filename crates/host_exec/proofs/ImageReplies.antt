@@ -1,18 +1,16 @@
 -- The replies over the bytes of the visible image are those of its public part.
-use Rattle.std.proofs.Common.{◌≡◌, ℕ, zero, suc, ◌+◌, ◌-◌, ◌*◌, ◌<◌, ◌≤◌, Bool, true, false, ◌&&◌, nat_lt, List, [], ◌∷◌, ◌++◌, length, map, take, drop, filter_map, flat_map, slice_index, Option, Some, None, ap, ap₂, sym, refl, subst, ◌∙◌, arith, length-append, append_assoc, ltb-true}
+use Rattle.std.proofs.Common.{◌≡◌, ℕ, suc, ◌+◌, ◌-◌, ◌*◌, ◌<◌, Bool, true, false, ◌&&◌, nat_lt, List, [], ◌∷◌, ◌++◌, length, map, take, drop, filter_map, flat_map, Option, Some, None, ap, ap₂, sym, refl, ◌∙◌, arith, length-append, append_assoc, ltb-true}
 use Rattle.std.specs.Prelude.{slice_get, if◌then◌else◌}
 use Rattle.std.specs.List.{list_all}
 use Rattle.std.specs.Cmp.{first_so, second_so}
-use Rattle.std.specs.declared.cmp.Ordering.{Ordering}
 use Rattle.std.proofs.lemmas.List.{length-drop, drop-drop}
-use Rattle.std.proofs.Math.Seq.{take-append_seam, drop-append_seam, drop-append-add}
-use Rattle.ghost_model.specs.Schema.{Schema, Table, Column, Kind, columns_of, column_at, is_visible, is_shown}
+use Rattle.std.proofs.Math.Seq.{take-append_seam, drop-append_seam}
+use Rattle.ghost_model.specs.Schema.{Schema, Column, Kind, columns_of, column_at, is_visible, is_shown}
 use Rattle.ghost_model.specs.Values.{Value, Row, Rows}
-use Rattle.ghost_model.specs.Query.{Operator}
 use Rattle.ghost_model.specs.Cells.{cell_width, encode_cell}
-use Rattle.ghost_model.specs.Database.{is_of_kind, holds, meets, order_of}
+use Rattle.ghost_model.specs.Database.{is_of_kind, meets}
 use Rattle.ghost_model.specs.Channel.{Ask, Test}
-use Rattle.ghost_model.specs.Asks.{ReplyRow, kind_at, kind_or_none, kinds_of, is_proper_ask}
+use Rattle.ghost_model.specs.Asks.{ReplyRow, kind_at, kind_or_none, is_proper_ask}
 use Rattle.ghost_model.specs.Split.{is_open, kind_of, value_at, cells, are_of_kinds, meets_test, meets_tests, visible_places, replies_from, replied, reply_row}
 use Rattle.ghost_base.specs.CellLaws.{byte_order}
 use Rattle.ghost_base.proofs.CellOrders.{cell_order}
@@ -20,7 +18,7 @@ use Rattle.host_exec.specs.RowBytes.{Form, Span, ByteTest, cut, passes, width_be
 use Rattle.host_exec.specs.RowBytes as rows
 use Rattle.host_exec.proofs.Widths.{behind_first}
 use Rattle.host_exec.proofs.Windows.{window_within}
-use Rattle.host_exec.proofs.ImageRows.{kinds_in, CellAt, cell_at, row_length}
+use Rattle.host_exec.proofs.ImageRows.{kinds_in, cell_at, row_length}
 
 -- a visible column of a table, and its kind
 record Shown (schema : Schema) (table column : ℕ) : Type 0 where
@@ -93,7 +91,7 @@ module _ (schema : Schema) (table : ℕ) where
 
 -- ---- the rows of a table
 
-row_bytes_are : (file : List ℕ) (at width : ℕ) (bytes rest : List ℕ) → drop at file ≡ bytes ++ rest → length bytes ≡ width → window file at width ≡ bytes
+pub row_bytes_are : (file : List ℕ) (at width : ℕ) (bytes rest : List ℕ) → drop at file ≡ bytes ++ rest → length bytes ≡ width → window file at width ≡ bytes
 row_bytes_are file at width bytes rest e w =
     let long : length (drop at file) ≡ length bytes + length rest = ap length e ∙ length-append bytes rest in
     window_within file at width (omega (arith, long, w, length-drop at file))

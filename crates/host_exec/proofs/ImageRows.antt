@@ -1,22 +1,16 @@
 -- A row of the visible image, cell by cell.
-use Rattle.std.proofs.Common.{◌≡◌, ℕ, zero, suc, ◌+◌, ◌-◌, ◌*◌, ◌<◌, ◌≤◌, Bool, true, false, ◌&&◌, not, nat_lt, List, [], ◌∷◌, ◌++◌, length, map, take, drop, filter, filter_map, flat_map, Option, Some, None, ap, ap₂, sym, refl, subst, ◌∙◌, arith, length-append, append_assoc, ltb-true}
+use Rattle.std.proofs.Common.{◌≡◌, ℕ, zero, suc, ◌+◌, Bool, true, false, List, [], ◌∷◌, ◌++◌, length, map, take, drop, filter, Some, ap, sym, refl, subst, ◌∙◌, arith, length-append}
 use Rattle.std.specs.Prelude.{slice_get, if◌then◌else◌, ◌==◌}
-use Rattle.std.specs.List.{list_all}
 use Rattle.std.specs.Cmp.{first_so, second_so}
 use Rattle.std.proofs.lemmas.Bool.Decides.{nat_tests}
 use Rattle.std.proofs.Math.Seq.{drop-append-add, take-append_seam}
-use Rattle.ghost_model.specs.Schema.{Schema, Column, Kind, columns_of, column_at, is_visible, is_shown, places_from}
+use Rattle.ghost_model.specs.Schema.{Column, Kind, places_from}
 use Rattle.ghost_model.specs.Values.{Value, Row}
 use Rattle.ghost_model.specs.Cells.{cell_width, encode_cell}
-use Rattle.ghost_model.specs.Database.{is_of_kind, holds, meets, order_of}
-use Rattle.ghost_model.specs.Channel.{Ask, Test}
-use Rattle.ghost_model.specs.Asks.{kind_at, kind_or_none}
-use Rattle.ghost_model.specs.Split.{is_open, kind_of, value_at, cells, are_of_kinds, meets_test, meets_tests, visible_places}
+use Rattle.ghost_model.specs.Database.{is_of_kind}
+use Rattle.ghost_model.specs.Split.{is_open, kind_of, value_at, cells, are_of_kinds}
 use Rattle.ghost_model.proofs.ChannelLemmas.Asks.{cell_length}
-use Rattle.ghost_base.specs.CellLaws.{byte_order}
-use Rattle.ghost_base.proofs.CellOrders.{cell_order}
-use Rattle.host_exec.specs.RowBytes.{Span, ByteTest, cut, passes, width_before, shown_width, data_columns, row_width, span_of, test_of}
-use Rattle.host_exec.proofs.Widths.{behind_first}
+use Rattle.host_exec.specs.RowBytes.{width_before, shown_width}
 
 -- the kinds of the visible columns of these
 abbrev pub kinds_in : List Column → List Kind

@@ -4,7 +4,7 @@ use Rattle.ghost_model.specs.Schema.{Kind, Column}
 use Rattle.ghost_model.specs.Values.{Row}
 use Rattle.ghost_model.specs.Cells.{cell_width}
 use Rattle.ghost_model.specs.Channel.{Catalog}
-use Rattle.ghost_model.specs.Split.{cells, are_of_kinds, is_open, kind_of}
+use Rattle.ghost_model.specs.Split.{Public, SpellsImage, cells, are_of_kinds, is_open, kind_of}
 use Rattle.host_exec.specs.RowBytes.{window, data_columns, row_width, table_start}
 
 -- a row of values whose cells are these bytes
@@ -36,3 +36,17 @@ GoodTable cat file table =
 abbrev pub BadTable : Catalog → (file : List ℕ) → (table : ℕ) → Type 0
 BadTable cat file table =
     BadRow (shown_kinds (data_columns cat.schema table)) file (table_start cat table) (row_width cat.schema table) (slice_index cat.counts table)
+
+-- a file ends where the tables of the catalog end, and its rows spell values
+pub record IsChecked (cat : Catalog) (file : List ℕ) : Type 0 where
+  pub end : length file ≡ table_start cat (length cat.schema)
+  pub good : (table : ℕ) → table < length cat.schema → GoodTable cat file table
+
+-- a file is the visible image of some public part that goes with the catalog
+pub record IsImage (cat : Catalog) (file : List ℕ) : Type 0 where
+  pub public : Public
+  pub spells : SpellsImage cat public file
+
+-- a file is no visible image
+abbrev pub IsNoImage : (file : List ℕ) → Type 0
+IsNoImage file = (cat : Catalog) (public : Public) → SpellsImage cat public file → ⊥

@@ -1,7 +1,6 @@
 -- What a host holds: its catalog, and for each ask the rows of its table in the file that meet it.
-use Rattle.std.specs.Prelude.{◌≡◌, ◌<◌, ◌^◌, ℕ, true, List, length, slice_index, All}
+use Rattle.std.specs.Prelude.{◌≡◌, ◌<◌, ℕ, true, List, length, slice_index}
 use Rattle.ghost_model.specs.Channel as channel
-use Rattle.ghost_model.specs.Catalog.{catalog_bytes}
 use Rattle.ghost_model.specs.Asks.{is_proper_ask}
 use Rattle.ghost_model.specs.Host.{Holding, host_of}
 use Rattle.ghost_model.specs.Split.{Public, SpellsImage}

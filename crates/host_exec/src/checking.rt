@@ -1,15 +1,18 @@
 //! Whether the rows of the visible file spell values.
 
-ghost use Rattle.std.specs.Prelude.{◌≡◌, ◌≤◌, ◌<◌, ◌+◌, ◌*◌, ◌^◌, ℕ, List, Some, None, true, false, length, map, take, drop, IfOk, MatchBool, MatchOption, ⊤, slice_index};
+ghost use Rattle.std.specs.Prelude.{◌≡◌, ◌≤◌, ◌<◌, ◌+◌, ◌*◌, ◌^◌, ℕ, List, Some, None, true, false, length, map, take, drop, IfOk, MatchBool, MatchOption, ⊤, All};
 ghost use Rattle.std.specs.List.{list_all};
 ghost use Rattle.ghost_model.specs.Causes.{HasCause};
 ghost use Rattle.ghost_base.specs.Views.{kind_of};
 ghost use Rattle.edge_traits.specs.Files.{file_of};
 ghost use Rattle.host_exec.specs.RowBytes.{data_columns};
-ghost use Rattle.host_exec.specs.Checked.{SpellsRow, shown_kinds, is_narrow, GoodRows, BadRow};
+ghost use Rattle.host_exec.specs.Holdings.{AreStarts};
+ghost use Rattle.host_exec.specs.Checked.{SpellsRow, shown_kinds, is_narrow, GoodRows, BadRow, GoodTable, BadTable};
 
 use crate::filling::fill;
+use crate::form::row_width;
 use crate::gathering::{PIECE_BYTES, rows_of_piece};
+use crate::turning::{rows_of, start_of};
 use arrayvec::ArrayVec;
 use channel_codec::ask::kind_at;
 use channel_codec::bytes::{behind, front};
@@ -17,8 +20,8 @@ use edge_traits::Failed;
 use edge_traits::depot::Depot;
 use ghost_base::limits::MAX_COLUMNS;
 use ghost_base::{Kind, cell_width, decode_cell};
-use tree_schema::Schema;
 use tree_schema::schema::schemas_are_trees;
+use tree_schema::{Catalog, Schema};
 
 /// Whether bytes are the cells of one value of each of these kinds.
 fn is_row(kinds: &[Kind], row: &[u8]) -> bool
@@ -141,4 +144,73 @@ fn check_rows<D: Depot>(
         }
     }
     Ok(true)
+}
+
+/// Whether the rows of a table, by its place in the catalog, spell values.
+fn check_table<D: Depot>(
+    catalog: &Catalog,
+    starts: &[u64],
+    table: usize,
+    depot: &mut D,
+    name: &str,
+) -> Result<bool, Failed>
+    requires near { All (λ start. start < 2 ^ 63) starts.now }
+    requires starts { AreStarts catalog.now starts.now }
+    requires table { table < length catalog.now.schema }
+    ensures cause { HasCause (D.faults depot.old) (D.faults depot.new) result }
+    ensures appends { D.append_faults depot.new ≡ D.append_faults depot.old }
+    ensures same { D.contents depot.new ≡ D.contents depot.old }
+    ensures checked { IfOk result (λ good. (file : List ℕ) → file_of (D.contents depot.old) name.now ≡ Some file
+        → MatchBool good (GoodTable catalog.now file table) (BadTable catalog.now file table)) }
+{
+    let kinds = kinds_of(catalog.schema(), table);
+    let width = row_width(catalog.schema(), table);
+    let start = start_of(starts, table);
+    let rows = rows_of(catalog, table);
+    check_rows(&kinds, width, depot, name, start, rows)
+}
+
+/// Whether the rows of all tables of the catalog spell values.
+pub fn check_tables<D: Depot>(
+    catalog: &Catalog,
+    starts: &[u64],
+    depot: &mut D,
+    name: &str,
+) -> Result<bool, Failed>
+    requires near { All (λ start. start < 2 ^ 63) starts.now }
+    requires starts { AreStarts catalog.now starts.now }
+    ensures cause { HasCause (D.faults depot.old) (D.faults depot.new) result }
+    ensures appends { D.append_faults depot.new ≡ D.append_faults depot.old }
+    ensures same { D.contents depot.new ≡ D.contents depot.old }
+    ensures checked { IfOk result (λ good. (file : List ℕ) → file_of (D.contents depot.old) name.now ≡ Some file
+        → MatchBool good ((table : ℕ) → table < length catalog.now.schema → GoodTable catalog.now file table)
+        ((table : ℕ) × (table < length catalog.now.schema) × BadTable catalog.now file table)) }
+{
+    let tables = catalog.schema().tables();
+    let mut table = 0;
+    'tables: while table < tables {
+        if !check_table(catalog, starts, table, depot, name)? {
+            return Ok(false);
+        }
+        table += 1;
+    }
+    Ok(true)
+}
+
+/// Whether a file has so many bytes, which are some.
+pub fn ends_at<D: Depot>(depot: &mut D, name: &str, end: u64) -> Result<bool, Failed>
+    requires { 0 < end }
+    ensures cause { HasCause (D.faults depot.old) (D.faults depot.new) result }
+    ensures appends { D.append_faults depot.new ≡ D.append_faults depot.old }
+    ensures same { D.contents depot.new ≡ D.contents depot.old }
+    ensures ends { IfOk result (λ there. (file : List ℕ) → file_of (D.contents depot.old) name.now ≡ Some file
+        → MatchBool there (length file ≡ end) (length file ≡ end → ⊥)) }
+{
+    let mut byte = [0];
+    let last = depot.read_at(name, end - 1, &mut byte)?;
+    if last == 0 {
+        return Ok(false);
+    }
+    let past = depot.read_at(name, end, &mut byte)?;
+    Ok(past == 0)
 }

@@ -1,12 +1,14 @@
 //! The host over a depot's visible file.
 #![tactic(auto)]
 
+pub mod begin;
 pub mod checking;
 pub mod filling;
 pub mod form;
 pub mod gathering;
 pub mod host;
 pub mod laws;
+pub mod places;
 pub mod reply;
 pub mod saying;
 pub mod serving;

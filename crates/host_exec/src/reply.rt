@@ -7,6 +7,7 @@ ghost use Rattle.host_exec.specs.RowBytes.{reply_width, form_of};
 ghost use Rattle.host_exec.specs.FormViews.{form_view};
 
 use crate::form::{Form, form_of};
+use arrayvec::ArrayVec;
 use channel_codec::ask::{Ask, row_width};
 use channel_codec::frame::PAYLOAD_BYTES;
 use tree_schema::Schema;
@@ -43,5 +44,22 @@ pub fn reply_of(schema: &Schema, ask: &Ask, start: u64, rows: u32) -> Reply
         start,
         rows,
         most,
+    }
+}
+
+/// A reply of no rows.
+pub fn no_reply() -> Reply
+    ensures { result.rows ≡ 0 }
+{
+    let form = Form {
+        width: 0,
+        columns: ArrayVec::new(),
+        checks: ArrayVec::new(),
+    };
+    Reply {
+        form,
+        start: 0,
+        rows: 0,
+        most: 510,
     }
 }

@@ -1,23 +1,69 @@
 //! How a host takes the frames of a key and answers them.
 
-ghost use Rattle.std.specs.Prelude.{◌≡◌, ◌≤◌, ◌<◌, ◌⊎◌, ℕ, List, [], ◌∷◌, Some, None, true, false, length, take, is_some, MatchBool, IfSome, IfNone};
+ghost use Rattle.std.specs.Prelude.{◌≡◌, ◌≤◌, ◌<◌, ◌⊎◌, ℕ, List, [], ◌∷◌, Some, None, true, false, length, take, is_some, MatchBool, IfSome, IfNone, IfOk, Err};
 ghost use Rattle.ghost_model.specs.Channel as channel;
 ghost use Rattle.ghost_model.specs.Host.{Holding, Stand, answer_to};
 ghost use Rattle.channel_codec.specs.Views.{frame_view};
 ghost use Rattle.edge_traits.specs.Files.{file_of};
+ghost use Rattle.ghost_model.specs.Causes.{Rose};
+ghost use Rattle.host_exec.specs.Holdings.{AreStarts};
+ghost use Rattle.host_exec.specs.Checked.{IsImage, IsNoImage};
 ghost use Rattle.host_exec.specs.Saying as saying;
 ghost use Rattle.host_exec.specs.Hosts.{Holds, StandsAs, IsSameHost, IsAnswered, Refused, RefusedAs, SaysAs, name_of};
 ghost use Rattle.host_exec.specs.Replies.{source_of};
 ghost use Rattle.ghost_model.specs.Catalog.{catalog_bytes};
 
+use crate::begin::open;
 use crate::host::Host;
+use crate::reply::no_reply;
 use crate::saying::{say_part, say_reply};
 use crate::stage::{Said, Stage};
 use crate::turning::{next_stage, take_ask};
 use channel_codec::frame::{FRAME_BYTES, Frame};
 use edge_traits::depot::Depot;
+use std::alloc::Global;
+
+/// Why a host was not begun.
+#[derive(Clone, Copy, Debug, PartialEq, Eq)]
+pub enum BeginFault {
+    /// The depot failed, which its count of faults shows.
+    Depot,
+    /// The bytes of the file are no visible image.
+    BadVisibleFile,
+    /// There was no memory for the name of the file.
+    NoMemory,
+}
 
 impl Host {
+    /// A host over the visible file `name`, which awaits the key's greeting. It keeps a copy of the name.
+    pub fn begin<D: Depot>(alloc: Global, depot: &mut D, name: &str) -> Result<Host, BeginFault>
+        ensures name { IfOk result (λ host. name_of host ≡ name.now) }
+        ensures stage { IfOk result (λ host. host.stage ≡ Stage.Greeting) }
+        ensures starts { IfOk result (λ host. AreStarts host.catalog host.starts.items) }
+        ensures image { IfOk result (λ host. (file : List ℕ) → file_of (D.contents depot.old) name.now ≡ Some file → IsImage host.catalog file) }
+        ensures bad { result ≡ Err BeginFault.BadVisibleFile → (file : List ℕ) → file_of (D.contents depot.old) name.now ≡ Some file → IsNoImage file }
+        ensures never_falls { D.faults depot.old ≤ D.faults depot.new }
+        ensures failed { result ≡ Err BeginFault.Depot → Rose (D.faults depot.old) (D.faults depot.new) }
+        ensures other { (result ≡ Err BeginFault.Depot → ⊥) → D.faults depot.new ≡ D.faults depot.old }
+        ensures appends { D.append_faults depot.new ≡ D.append_faults depot.old }
+        ensures same { D.contents depot.new ≡ D.contents depot.old }
+    {
+        match open(depot, name) {
+            Err(_) => Err(BeginFault::Depot),
+            Ok(None) => Err(BeginFault::BadVisibleFile),
+            Ok(Some(opened)) => match String::from_str(alloc, name) {
+                Err(_) => Err(BeginFault::NoMemory),
+                Ok(name) => Ok(Host {
+                    name,
+                    catalog: opened.catalog,
+                    starts: opened.places.starts,
+                    reply: no_reply(),
+                    stage: Stage::Greeting,
+                }),
+            },
+        }
+    }
+
     /// Takes an ask where the host awaits the one with this serial.
     fn hear_ask(&mut self, next: u64, frame: &Frame) -> bool
         requires stage { self.old.stage ≡ Stage.Listening next }

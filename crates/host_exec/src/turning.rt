@@ -39,7 +39,7 @@ pub fn next_stage(stage: Stage, frame: &Frame) -> Option<Stage>
 }
 
 /// The number of rows of a table, and 0 where there is no such table.
-fn rows_of(catalog: &Catalog, table: usize) -> u32
+pub(crate) fn rows_of(catalog: &Catalog, table: usize) -> u32
     ensures rows { result ≡ slice_index catalog.now.counts table }
     ensures few { result ≤ 1_000_000 }
 {
@@ -51,7 +51,7 @@ fn rows_of(catalog: &Catalog, table: usize) -> u32
 }
 
 /// Where the rows of a table begin in the file, and 0 where there is no such table.
-fn start_of(starts: &[u64], table: usize) -> u64
+pub(crate) fn start_of(starts: &[u64], table: usize) -> u64
     requires { All (λ start. start < 2 ^ 63) starts.now }
     ensures start { result ≡ slice_index starts.now table }
     ensures within { result < 2 ^ 63 }

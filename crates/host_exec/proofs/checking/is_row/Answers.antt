@@ -1,4 +1,4 @@
-use Rattle.std.proofs.Common.{◌≡◌, true, List, map, ap, sym, ◌∙◌}
+use Rattle.std.proofs.Common.{List, map, ap, sym, ◌∙◌}
 use Rattle.std.specs.Cmp.{second_so}
 use Rattle.std.specs.List.{list_all}
 use Rattle.ghost_base.specs.Views.{kind_of, value_of}

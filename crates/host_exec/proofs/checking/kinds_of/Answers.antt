@@ -1,8 +1,7 @@
-use Rattle.std.proofs.Common.{◌≡◌, ◌+◌, List, true, map, ap, subst, sym, ◌∙◌, arith}
+use Rattle.std.proofs.Common.{◌+◌, map, ap, subst, sym, ◌∙◌, arith}
 use Rattle.std.specs.List.{list_all}
 use Rattle.arrayvec.specs.ArrayVec.{array_vec_len}
 use Rattle.ghost_base.specs.Views.{kind_of}
-use Rattle.ghost_base.specs.declared.kind.Kind.{Kind}
 use Rattle.host_exec.specs.Checked.{is_narrow}
 use Rattle.host_exec.proofs.RowSpelling.{KindsTo, kinds_more, kinds_same, all_kinds, narrow_more}
 use Rattle.host_exec.proofs.checking.kinds_of.Goals as goal

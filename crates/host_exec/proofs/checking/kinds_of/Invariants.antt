@@ -1,9 +1,8 @@
-use Rattle.std.proofs.Common.{◌≡◌, ◌≤◌, ◌+◌, ◌-◌, ◌++◌, true, map, drop}
+use Rattle.std.proofs.Common.{◌≡◌, ◌≤◌, ◌+◌, ◌-◌, true, map}
 use Rattle.std.specs.List.{list_all}
 use Rattle.arrayvec.specs.ArrayVec.{array_vec_len}
 use Rattle.ghost_base.specs.Views.{kind_of}
-use Rattle.host_exec.specs.RowBytes.{data_columns}
-use Rattle.host_exec.specs.Checked.{shown_kinds, is_narrow}
+use Rattle.host_exec.specs.Checked.{is_narrow}
 use Rattle.host_exec.proofs.RowSpelling.{KindsTo}
 use Rattle.host_exec.proofs.checking.kinds_of.Given as goal
 

@@ -1,7 +1,7 @@
-use Rattle.std.proofs.Common.{◌≡◌, ◌<◌, ◌≤◌, ℕ, List, subst, ap, sym, ◌∙◌, arith}
+use Rattle.std.proofs.Common.{◌<◌, ◌≤◌, ℕ, List, subst, ap, ◌∙◌, arith}
 use Rattle.ghost_model.specs.Channel.{Replied}
 use Rattle.ghost_model.specs.Frames.{frame_bytes}
-use Rattle.host_exec.specs.Saying.{left_from, most_rows}
+use Rattle.host_exec.specs.Saying.{left_from}
 use Rattle.host_exec.specs.Replies.{source_of}
 use Rattle.host_exec.proofs.Groups.{none_gathered, said_done, said_rows}
 use Rattle.host_exec.proofs.saying.say_rows.Goals as goal

@@ -1,4 +1,4 @@
-use Rattle.host_exec.proofs.Places.{none_at, some_at, few_at}
+use Rattle.host_exec.proofs.Numbers.{none_at, some_at, few_at}
 use Rattle.host_exec.proofs.turning.rows_of.Goals as goal
 
 pub returns-in-None-clause-rows : goal.returns-in-None-clause-rows
