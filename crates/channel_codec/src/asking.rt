@@ -129,3 +129,92 @@ pub fn ask_of(schema: &Schema, payload: &[u8]) -> Option<Ask>
         None
     }
 }
+
+#[cfg(test)]
+mod tests {
+    use super::*;
+    use tree_schema::read_schema;
+
+    const CLINIC: &[u8] =
+        b"CREATE TABLE doctor (id INTEGER PRIMARY KEY, specialty CHAR(8), country CHAR(2) HIDDEN);
+CREATE TABLE visit (id INTEGER PRIMARY KEY, day INTEGER, doc INTEGER REFERENCES doctor(id) HIDDEN, fee INTEGER);";
+
+    // Whether the ask is written as these bytes, nothing else is written, and the ask is read from them.
+    fn is_spelled(schema: &Schema, ask: &Ask, bytes: &[u8]) -> bool {
+        if !is_proper(schema, ask) {
+            return false;
+        }
+        let mut out = [0xEE; PAYLOAD_BYTES];
+        let count = put_ask(schema, ask, &mut out);
+        let (front, rest) = out.split_at(count);
+        let written = front == bytes && rest.iter().all(|byte| *byte == 0xEE);
+        match ask_of(schema, bytes) {
+            None => false,
+            Some(read) => {
+                written
+                    && read.table == ask.table
+                    && read.columns.as_slice() == ask.columns.as_slice()
+                    && read.tests.as_slice() == ask.tests.as_slice()
+            }
+        }
+    }
+
+    #[test]
+    fn asks_are_spelled(rt: HostRuntime) {
+        let Ok(schema) = read_schema(CLINIC) else {
+            assert!(rt; false);
+            return;
+        };
+        let mut ask = Ask::default();
+        ask.columns.push(1);
+        ask.tests.push(Test {
+            column: 1,
+            operator: Operator::Equal,
+            value: Value::Chars(Text64::of(b"cardio")),
+        });
+        assert!(rt; is_spelled(&schema, &ask, b"\0\x01\x01\x01\x01\x01cardio\0\0"));
+        let mut other = Ask::default();
+        other.table = 1;
+        other.columns.push(1);
+        other.columns.push(3);
+        other.tests.push(Test {
+            column: 3,
+            operator: Operator::AtLeast,
+            value: Value::Int(-1),
+        });
+        assert!(rt;
+            is_spelled(
+                &schema,
+                &other,
+                b"\x01\x02\x01\x03\x01\x03\x06\x7F\xFF\xFF\xFF\xFF\xFF\xFF\xFF"
+            )
+        );
+        other.columns.push(2);
+        assert!(rt; !is_proper(&schema, &other));
+    }
+
+    #[test]
+    fn other_bytes_are_no_ask(rt: HostRuntime) {
+        let Ok(schema) = read_schema(CLINIC) else {
+            assert!(rt; false);
+            return;
+        };
+        for bytes in [
+            b"".as_slice(),
+            b"\0\x01",
+            b"\x02\0\0",
+            b"\0\x01\x02\0",
+            b"\0\x01\0\0",
+            b"\x01\x02\x03\x01\0",
+            b"\x01\x02\x01\x01\0",
+            b"\0\x01\x01\0\0",
+            b"\0\0\x01\x01\x07cardio\0\0",
+            b"\0\0\x01\x01\x01cardio\0",
+            b"\0\0\x01\x01\x01cardio\0x",
+            b"\0\0\x11",
+            b"\0\xFF\x01",
+        ] {
+            assert!(rt; ask_of(&schema, bytes).is_none());
+        }
+    }
+}

@@ -13,4 +13,6 @@ pub mod reply;
 pub mod saying;
 pub mod serving;
 pub mod stage;
+#[cfg(test)]
+mod tests;
 pub mod turning;

@@ -21,7 +21,7 @@ use crate::stage::{Said, Stage};
 use crate::turning::{next_stage, take_ask};
 use channel_codec::frame::{FRAME_BYTES, Frame};
 use edge_traits::depot::Depot;
-use std::alloc::Global;
+use std::alloc::{AllocError, Global};
 
 /// Why a host was not begun.
 #[derive(Clone, Copy, Debug, PartialEq, Eq)]
@@ -32,6 +32,16 @@ pub enum BeginFault {
     BadVisibleFile,
     /// There was no memory for the name of the file.
     NoMemory,
+}
+
+impl From<AllocError> for BeginFault {
+    ghost use Rattle.host_exec.specs.declared.serving.BeginFault.TheVariants.{NoMemory};
+
+    ghost from_gives = { λ _ fault. fault ≡ NoMemory };
+
+    fn from(_error: AllocError) -> BeginFault {
+        BeginFault::NoMemory
+    }
 }
 
 impl Host {
