@@ -7,6 +7,7 @@ ghost use Rattle.ghost_base.specs.Views.{kind_of, operator_of, value_of};
 ghost use Rattle.channel_codec.specs.AskViews.{test_view, ask_view, test_in, test_width};
 
 use crate::ask::{Ask, Test, is_proper, kind_at, put_ask};
+use crate::bytes::{behind, byte_at, front};
 use crate::frame::PAYLOAD_BYTES;
 use arrayvec::ArrayVec;
 use ghost_base::limits::{MAX_CHARS, MAX_COLUMNS, MAX_CONDITIONS};
@@ -15,35 +16,6 @@ use ghost_base::{Kind, Operator, Text64, cell_width, decode_cell};
 use ghost_model::channel::asks_have_one_spelling;
 use tree_schema::Schema;
 use tree_schema::schema::schemas_are_trees;
-
-/// The byte at a place, or 0 where there is none.
-fn byte_at(bytes: &[u8], at: usize) -> u8
-    ensures { result ≡ slice_index bytes.now at }
-{
-    if at < bytes.len() { bytes[at] } else { 0 }
-}
-
-/// The front of some bytes: so many, or all where there are fewer.
-fn front(bytes: &[u8], count: usize) -> &[u8]
-    ensures { result.now ≡ take count bytes.now }
-{
-    if bytes.len() <= count {
-        return bytes;
-    }
-    let (front, _rest) = bytes.split_at(count);
-    front
-}
-
-/// What comes after so many bytes, nothing where there are fewer.
-fn behind(bytes: &[u8], count: usize) -> &[u8]
-    ensures { result.now ≡ drop count bytes.now }
-{
-    if bytes.len() <= count {
-        return &[];
-    }
-    let (_front, rest) = bytes.split_at(count);
-    rest
-}
 
 /// The operator of a byte from 1 to 6.
 fn operator_in(code: u8) -> Operator
@@ -155,5 +127,94 @@ pub fn ask_of(schema: &Schema, payload: &[u8]) -> Option<Ask>
         Some(ask)
     } else {
         None
+    }
+}
+
+#[cfg(test)]
+mod tests {
+    use super::*;
+    use tree_schema::read_schema;
+
+    const CLINIC: &[u8] =
+        b"CREATE TABLE doctor (id INTEGER PRIMARY KEY, specialty CHAR(8), country CHAR(2) HIDDEN);
+CREATE TABLE visit (id INTEGER PRIMARY KEY, day INTEGER, doc INTEGER REFERENCES doctor(id) HIDDEN, fee INTEGER);";
+
+    // Whether the ask is written as these bytes, nothing else is written, and the ask is read from them.
+    fn is_spelled(schema: &Schema, ask: &Ask, bytes: &[u8]) -> bool {
+        if !is_proper(schema, ask) {
+            return false;
+        }
+        let mut out = [0xEE; PAYLOAD_BYTES];
+        let count = put_ask(schema, ask, &mut out);
+        let (front, rest) = out.split_at(count);
+        let written = front == bytes && rest.iter().all(|byte| *byte == 0xEE);
+        match ask_of(schema, bytes) {
+            None => false,
+            Some(read) => {
+                written
+                    && read.table == ask.table
+                    && read.columns.as_slice() == ask.columns.as_slice()
+                    && read.tests.as_slice() == ask.tests.as_slice()
+            }
+        }
+    }
+
+    #[test]
+    fn asks_are_spelled(rt: HostRuntime) {
+        let Ok(schema) = read_schema(CLINIC) else {
+            assert!(rt; false);
+            return;
+        };
+        let mut ask = Ask::default();
+        ask.columns.push(1);
+        ask.tests.push(Test {
+            column: 1,
+            operator: Operator::Equal,
+            value: Value::Chars(Text64::of(b"cardio")),
+        });
+        assert!(rt; is_spelled(&schema, &ask, b"\0\x01\x01\x01\x01\x01cardio\0\0"));
+        let mut other = Ask::default();
+        other.table = 1;
+        other.columns.push(1);
+        other.columns.push(3);
+        other.tests.push(Test {
+            column: 3,
+            operator: Operator::AtLeast,
+            value: Value::Int(-1),
+        });
+        assert!(rt;
+            is_spelled(
+                &schema,
+                &other,
+                b"\x01\x02\x01\x03\x01\x03\x06\x7F\xFF\xFF\xFF\xFF\xFF\xFF\xFF"
+            )
+        );
+        other.columns.push(2);
+        assert!(rt; !is_proper(&schema, &other));
+    }
+
+    #[test]
+    fn other_bytes_are_no_ask(rt: HostRuntime) {
+        let Ok(schema) = read_schema(CLINIC) else {
+            assert!(rt; false);
+            return;
+        };
+        for bytes in [
+            b"".as_slice(),
+            b"\0\x01",
+            b"\x02\0\0",
+            b"\0\x01\x02\0",
+            b"\0\x01\0\0",
+            b"\x01\x02\x03\x01\0",
+            b"\x01\x02\x01\x01\0",
+            b"\0\x01\x01\0\0",
+            b"\0\0\x01\x01\x07cardio\0\0",
+            b"\0\0\x01\x01\x01cardio\0",
+            b"\0\0\x01\x01\x01cardio\0x",
+            b"\0\0\x11",
+            b"\0\xFF\x01",
+        ] {
+            assert!(rt; ask_of(&schema, bytes).is_none());
+        }
     }
 }

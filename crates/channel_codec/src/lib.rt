@@ -7,5 +7,6 @@
 
 pub mod ask;
 pub mod asking;
+pub mod bytes;
 pub mod frame;
 pub mod reading;

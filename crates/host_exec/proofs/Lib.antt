@@ -1,0 +1,11 @@
+pub mod Widths
+pub mod Rows
+pub mod Windows
+pub mod Groups
+pub mod Numbers
+pub mod Answered
+pub mod ImageRows
+pub mod ImageReplies
+pub mod ImageTables
+pub mod RowSpelling
+pub mod ImageSpelling

@@ -1,0 +1,216 @@
+//! The rows of one frame of a reply, gathered from the file.
+
+ghost use Rattle.std.specs.Prelude.{◌≡◌, ◌≤◌, ◌<◌, ◌+◌, ◌-◌, ◌*◌, ◌++◌, ◌^◌, ℕ, true, false, List, [], Some, length, map, flat_map, sum, take, drop, OnOk, IfOk};
+ghost use Rattle.std.specs.List.{list_all};
+ghost use Rattle.arrayvec.specs.ArrayVec.{array_vec_len};
+ghost use Rattle.ghost_model.specs.Asks.{ReplyRow, row_bytes};
+ghost use Rattle.ghost_model.specs.Causes.{HasCause};
+ghost use Rattle.edge_traits.specs.Files.{file_of};
+ghost use Rattle.host_exec.specs.RowBytes as rows;
+ghost use Rattle.host_exec.specs.RowBytes.{replies_at};
+ghost use Rattle.host_exec.specs.Gathering.{Gathered, HasRoom};
+ghost use Rattle.host_exec.specs.FormViews.{span_view, check_view, form_view};
+
+use crate::filling::fill;
+use crate::form::{Check, Form, Span};
+use arrayvec::ArrayVec;
+use channel_codec::bytes::{behind, front};
+use channel_codec::frame::PAYLOAD_BYTES;
+use edge_traits::Failed;
+use edge_traits::depot::Depot;
+
+/// Rows of a reply, one after another.
+pub type Rows = ArrayVec<u8, PAYLOAD_BYTES>;
+
+/// Whether a row meets a condition.
+fn passes(row: &[u8], check: &Check) -> bool
+    ensures { result ≡ rows.passes row.now (check_view check.now) }
+{
+    let cell = front(behind(row, check.span.at), check.span.size);
+    check
+        .operator
+        .meets(cell.cmp(&front(&check.literal, check.span.size)))
+}
+
+/// Whether a row meets each of some conditions.
+fn passes_all(row: &[u8], checks: &[Check]) -> bool
+    ensures { result ≡ list_all (λ check. rows.passes row.now (check_view check)) checks.now }
+{
+    checks.iter().all(|check| passes(row, check))
+}
+
+/// Adds the cells that stand in a row, one after another.
+fn put_cells(spans: &[Span], row: &[u8], out: &mut Rows)
+    requires room { array_vec_len out.old + sum (map (λ span. span.size) spans.now) ≤ 2040 }
+    ensures cells { out.new.items ≡ out.old.items ++ flat_map (rows.cut row.now) (map span_view spans.now) }
+    ensures within { array_vec_len out.new ≤ array_vec_len out.old + sum (map (λ span. span.size) spans.now) }
+{
+    let mut rest = spans;
+    'spans: while let Some((span, later)) = rest.split_first() {
+        let _full = out.try_extend_from_slice(front(behind(row, span.at), span.size));
+        rest = later;
+    }
+}
+
+/// Adds the row of the reply that a row of the file gives.
+fn put_row(form: &Form, identifier: u32, row: &[u8], out: &mut Rows)
+    requires room { array_vec_len out.old + rows.reply_width (form_view form.now) ≤ 2040 }
+    ensures bytes { out.new.items ≡ out.old.items ++ row_bytes (rows.replied (form_view form.now) identifier row.now) }
+    ensures within { array_vec_len out.new ≤ array_vec_len out.old + rows.reply_width (form_view form.now) }
+{
+    let _full = out.try_extend_from_slice(&identifier.to_be_bytes());
+    put_cells(&form.columns, row, out);
+}
+
+/// The rows of one frame of a reply, so far.
+#[derive(Drop)]
+pub struct Batch {
+    /// Their bytes, one row after another.
+    pub bytes: Rows,
+
+    /// How many there are.
+    pub rows: u32,
+}
+
+impl Batch {
+    /// No rows.
+    pub fn new() -> Batch
+        ensures none { result.bytes.items ≡ [] }
+        ensures count { result.rows ≡ 0 }
+    {
+        Batch {
+            bytes: Rows::new(),
+            rows: 0,
+        }
+    }
+}
+
+/// Adds the row of the reply that a row of the file gives, where it meets the conditions.
+fn add_row(form: &Form, identifier: u32, row: &[u8], most: u32, batch: &mut Batch)
+    requires room { HasRoom (form_view form.now) most batch.old }
+    requires more { batch.old.rows < most }
+    ensures room { HasRoom (form_view form.now) most batch.new }
+    ensures one { batch.new.rows ≤ batch.old.rows + 1 }
+    ensures found { list_all (rows.passes row.now) (form_view form.now).tests ≡ true → (batch.new.rows ≡ batch.old.rows + 1)
+        × (batch.new.bytes.items ≡ batch.old.bytes.items ++ row_bytes (rows.replied (form_view form.now) identifier row.now)) }
+    ensures passed { list_all (rows.passes row.now) (form_view form.now).tests ≡ false → (batch.new.rows ≡ batch.old.rows)
+        × (batch.new.bytes.items ≡ batch.old.bytes.items) }
+{
+    if passes_all(row, &form.checks) {
+        put_row(form, identifier, row, &mut batch.bytes);
+        batch.rows += 1;
+    }
+}
+
+/// Adds what so many rows of the file give, the first of them standing at a place of its table, until there are as many
+/// as a frame has; answers how many rows of the file were gone through.
+fn add_rows(form: &Form, place: u32, count: u32, piece: &[u8], most: u32, batch: &mut Batch) -> u32
+    requires room { HasRoom (form_view form.now) most batch.old }
+    requires last { place + count < 2 ^ 32 }
+    ensures room { HasRoom (form_view form.now) most batch.new }
+    ensures within { result ≤ count }
+    ensures sparse { batch.new.rows ≤ batch.old.rows + result }
+    ensures goes_on { 0 < count → batch.old.rows < most → 0 < result }
+    ensures stops { result < count → batch.new.rows ≡ most }
+    ensures gathered { (file : List ℕ) (start later : ℕ) (all : List ReplyRow)
+        → piece.now ≡ rows.window file (start + place * form.now.width) (count * form.now.width)
+        → Gathered all batch.old.rows batch.old.bytes.items (replies_at (form_view form.now) file start place (count + later))
+        → Gathered all batch.new.rows batch.new.bytes.items (replies_at (form_view form.now) file start (place + result) (count - result + later)) }
+{
+    let mut passed = 0;
+    let mut rest = piece;
+    'rows: while passed < count && batch.rows < most {
+        let row = front(rest, form.width);
+        add_row(form, place + passed + 1, row, most, batch);
+        rest = behind(rest, form.width);
+        passed += 1;
+    }
+    passed
+}
+
+/// The bytes that are read of the file at once.
+pub(crate) const PIECE_BYTES: usize = 4096;
+
+/// How many rows of a width are read at once, of those that are left: as many as a piece has room for.
+pub(crate) fn rows_of_piece(width: usize, left: u32) -> u32
+    requires { width ≤ 1536 }
+    ensures within { result ≤ left }
+    ensures some { 0 < left → 0 < result }
+    ensures fits { result * width ≤ PIECE_BYTES }
+{
+    if width == 0 {
+        return left;
+    }
+    left.min((PIECE_BYTES / width) as u32)
+}
+
+/// Gathers on from the next piece of the file; answers the place of the row to go on at.
+fn gather_piece<D: Depot>(
+    form: &Form,
+    depot: &mut D,
+    name: &str,
+    start: u64,
+    next: u32,
+    rows: u32,
+    most: u32,
+    batch: &mut Batch,
+) -> Result<u32, Failed>
+    requires next { next < rows }
+    requires few { rows ≤ 1_000_000 }
+    requires narrow { form.now.width ≤ 1536 }
+    requires start { start < 2 ^ 63 }
+    requires room { HasRoom (form_view form.now) most batch.old }
+    requires more { batch.old.rows < most }
+    ensures cause { HasCause (D.faults depot.old) (D.faults depot.new) result }
+    ensures appends { D.append_faults depot.new ≡ D.append_faults depot.old }
+    ensures same { D.contents depot.new ≡ D.contents depot.old }
+    ensures room { HasRoom (form_view form.now) most batch.new }
+    ensures goes_on { IfOk result (λ later. next < later) }
+    ensures sparse { IfOk result (λ later. batch.new.rows + next ≤ batch.old.rows + later) }
+    ensures within { IfOk result (λ later. later ≤ rows) }
+    ensures gathered { IfOk result (λ later. (file : List ℕ) (all : List ReplyRow) → file_of (D.contents depot.old) name.now ≡ Some file
+        → Gathered all batch.old.rows batch.old.bytes.items (replies_at (form_view form.now) file start next (rows - next))
+        → Gathered all batch.new.rows batch.new.bytes.items (replies_at (form_view form.now) file start later (rows - later))) }
+{
+    let count = rows_of_piece(form.width, rows - next);
+    let mut places = [0; PIECE_BYTES];
+    let (piece, _rest) = places.split_at_mut(count as usize * form.width);
+    let at = start + next as u64 * form.width as u64;
+    fill(depot, name, at, piece)?;
+    Ok(next + add_rows(form, next, count, piece, most, batch))
+}
+
+/// Gathers the rows of one frame, from a row of the table on; answers the place of the row to go on at.
+pub fn gather<D: Depot>(
+    form: &Form,
+    depot: &mut D,
+    name: &str,
+    start: u64,
+    place: u32,
+    rows: u32,
+    most: u32,
+    batch: &mut Batch,
+) -> Result<u32, Failed>
+    requires place { place ≤ rows }
+    requires few { rows ≤ 1_000_000 }
+    requires narrow { form.now.width ≤ 1536 }
+    requires start { start < 2 ^ 63 }
+    requires room { HasRoom (form_view form.now) most batch.old }
+    ensures cause { HasCause (D.faults depot.old) (D.faults depot.new) result }
+    ensures appends { D.append_faults depot.new ≡ D.append_faults depot.old }
+    ensures same { D.contents depot.new ≡ D.contents depot.old }
+    ensures room { HasRoom (form_view form.now) most batch.new }
+    ensures goes_on { IfOk result (λ next. place ≤ next) }
+    ensures sparse { IfOk result (λ next. batch.new.rows + place ≤ batch.old.rows + next) }
+    ensures within { IfOk result (λ next. next ≤ rows) }
+    ensures stops { IfOk result (λ next. next < rows → batch.new.rows ≡ most) }
+    ensures gathered { IfOk result (λ next. (file : List ℕ) (all : List ReplyRow) → file_of (D.contents depot.old) name.now ≡ Some file
+        → Gathered all batch.old.rows batch.old.bytes.items (replies_at (form_view form.now) file start place (rows - place))
+        → Gathered all batch.new.rows batch.new.bytes.items (replies_at (form_view form.now) file start next (rows - next))) }
+{
+    let mut next = place;
+    'pieces: while next < rows && batch.rows < most {
+        next = gather_piece(form, depot, name, start, next, rows, most, batch)?;
+    }
+    Ok(next)
+}

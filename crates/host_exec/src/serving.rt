@@ -1,0 +1,182 @@
+//! How a host takes the frames of a key and answers them.
+
+ghost use Rattle.std.specs.Prelude.{◌≡◌, ◌≤◌, ◌<◌, ◌⊎◌, ℕ, List, [], ◌∷◌, Some, None, true, false, length, take, is_some, MatchBool, IfSome, IfNone, IfOk, Err};
+ghost use Rattle.ghost_model.specs.Channel as channel;
+ghost use Rattle.ghost_model.specs.Host.{Holding, Stand, answer_to};
+ghost use Rattle.channel_codec.specs.Views.{frame_view};
+ghost use Rattle.edge_traits.specs.Files.{file_of};
+ghost use Rattle.ghost_model.specs.Causes.{Rose};
+ghost use Rattle.host_exec.specs.Holdings.{AreStarts};
+ghost use Rattle.host_exec.specs.Checked.{IsImage, IsNoImage};
+ghost use Rattle.host_exec.specs.Saying as saying;
+ghost use Rattle.host_exec.specs.Hosts.{Holds, StandsAs, IsSameHost, IsAnswered, Refused, RefusedAs, SaysAs, name_of};
+ghost use Rattle.host_exec.specs.Replies.{source_of};
+ghost use Rattle.ghost_model.specs.Catalog.{catalog_bytes};
+
+use crate::begin::open;
+use crate::host::Host;
+use crate::reply::no_reply;
+use crate::saying::{say_part, say_reply};
+use crate::stage::{Said, Stage};
+use crate::turning::{next_stage, take_ask};
+use channel_codec::frame::{FRAME_BYTES, Frame};
+use edge_traits::depot::Depot;
+use std::alloc::{AllocError, Global};
+
+/// Why a host was not begun.
+#[derive(Clone, Copy, Debug, PartialEq, Eq)]
+pub enum BeginFault {
+    /// The depot failed, which its count of faults shows.
+    Depot,
+    /// The bytes of the file are no visible image.
+    BadVisibleFile,
+    /// There was no memory for the name of the file.
+    NoMemory,
+}
+
+impl From<AllocError> for BeginFault {
+    ghost use Rattle.host_exec.specs.declared.serving.BeginFault.TheVariants.{NoMemory};
+
+    ghost from_gives = { λ _ fault. fault ≡ NoMemory };
+
+    fn from(_error: AllocError) -> BeginFault {
+        BeginFault::NoMemory
+    }
+}
+
+impl Host {
+    /// A host over the visible file `name`, which awaits the key's greeting. It keeps a copy of the name.
+    pub fn begin<D: Depot>(alloc: Global, depot: &mut D, name: &str) -> Result<Host, BeginFault>
+        ensures name { IfOk result (λ host. name_of host ≡ name.now) }
+        ensures stage { IfOk result (λ host. host.stage ≡ Stage.Greeting) }
+        ensures starts { IfOk result (λ host. AreStarts host.catalog host.starts.items) }
+        ensures image { IfOk result (λ host. (file : List ℕ) → file_of (D.contents depot.old) name.now ≡ Some file → IsImage host.catalog file) }
+        ensures bad { result ≡ Err BeginFault.BadVisibleFile → (file : List ℕ) → file_of (D.contents depot.old) name.now ≡ Some file → IsNoImage file }
+        ensures never_falls { D.faults depot.old ≤ D.faults depot.new }
+        ensures failed { result ≡ Err BeginFault.Depot → Rose (D.faults depot.old) (D.faults depot.new) }
+        ensures other { (result ≡ Err BeginFault.Depot → ⊥) → D.faults depot.new ≡ D.faults depot.old }
+        ensures appends { D.append_faults depot.new ≡ D.append_faults depot.old }
+        ensures same { D.contents depot.new ≡ D.contents depot.old }
+    {
+        match open(depot, name) {
+            Err(_) => Err(BeginFault::Depot),
+            Ok(None) => Err(BeginFault::BadVisibleFile),
+            Ok(Some(opened)) => match String::from_str(alloc, name) {
+                Err(_) => Err(BeginFault::NoMemory),
+                Ok(name) => Ok(Host {
+                    name,
+                    catalog: opened.catalog,
+                    starts: opened.places.starts,
+                    reply: no_reply(),
+                    stage: Stage::Greeting,
+                }),
+            },
+        }
+    }
+
+    /// Takes an ask where the host awaits the one with this serial.
+    fn hear_ask(&mut self, next: u64, frame: &Frame) -> bool
+        requires stage { self.old.stage ≡ Stage.Listening next }
+        requires none { saying.turned self.old.stage (frame_view frame.now) ≡ None }
+        ensures same { IsSameHost self.old self.new }
+        ensures kept { result ≡ false → self.new ≡ self.old }
+        ensures answered { (held : Holding) (file : List ℕ) (stand : Stand) → Holds held file self.old → StandsAs self.old file [] stand
+            → MatchBool result (IsAnswered held file stand (frame_view frame.now) self.new) (answer_to held stand (frame_view frame.now) ≡ None) }
+    {
+        match frame {
+            Frame::Ask { serial, payload } => {
+                if *serial as u64 != next {
+                    return false;
+                }
+                match take_ask(&self.catalog, &self.starts, payload) {
+                    None => false,
+                    Some(reply) => {
+                        self.reply = reply;
+                        self.stage = Stage::Answering {
+                            serial: *serial,
+                            place: 0,
+                            sent: 0,
+                        };
+                        true
+                    }
+                }
+            }
+            _ => false,
+        }
+    }
+
+    /// Takes a frame of the key, and answers whether it came in its place; where it did not, the host stays as it was.
+    pub fn feed(&mut self, frame: &Frame) -> bool
+        ensures same { IsSameHost self.old self.new }
+        ensures kept { result ≡ false → self.new ≡ self.old }
+        ensures busy { saying.owes self.old.stage ≡ true → result ≡ false }
+        ensures answered { (held : Holding) (file : List ℕ) (stand : Stand) → Holds held file self.old → saying.owes self.old.stage ≡ false
+            → StandsAs self.old file [] stand
+            → MatchBool result (IsAnswered held file stand (frame_view frame.now) self.new) (answer_to held stand (frame_view frame.now) ≡ None) }
+    {
+        match next_stage(self.stage, frame) {
+            Some(stage) => {
+                self.stage = stage;
+                true
+            }
+            None => match self.stage {
+                Stage::Listening { next } => self.hear_ask(next, frame),
+                _ => false,
+            },
+        }
+    }
+
+    /// Says the next frame, if there is one to say.
+    fn say_next<D: Depot>(&self, depot: &mut D, out: &mut [u8]) -> Option<Said>
+        requires room { 2048 ≤ length out.old }
+        ensures owed { is_some result ≡ saying.owes self.now.stage }
+        ensures never_falls { D.faults depot.old ≤ D.faults depot.new }
+        ensures appends { D.append_faults depot.new ≡ D.append_faults depot.old }
+        ensures same { D.contents depot.new ≡ D.contents depot.old }
+        ensures none { IfNone result (D.faults depot.new ≡ D.faults depot.old) }
+        ensures short { IfSome result (λ said. said.size ≤ 2048) }
+        ensures within { IfSome result (λ said. saying.IsWithin (length (catalog_bytes self.now.catalog)) self.now.reply.rows said.stage) }
+        ensures said { IfSome result (λ said. Refused self.now (D.faults depot.old) (D.faults depot.new) said out.new
+            ⊎ ((D.faults depot.new ≡ D.faults depot.old) × ((file : List ℕ) (owed : List channel.Frame) (stand : Stand)
+            → file_of (D.contents depot.old) (name_of self.now) ≡ Some file → StandsAs self.now file owed stand
+            → saying.Says (catalog_bytes self.now.catalog) (source_of self.now.reply file) owed stand said.size out.new said.stage))) }
+    {
+        match self.stage {
+            Stage::Welcoming { at } => Some(say_part(&self.catalog, at, out)),
+            Stage::Answering {
+                serial,
+                place,
+                sent,
+            } => Some(say_reply(
+                &self.reply,
+                depot,
+                self.name.as_str(),
+                serial,
+                place,
+                sent,
+                out,
+            )),
+            _ => None,
+        }
+    }
+
+    /// Says the next frame over the front of `out`, and answers how many bytes it has; `None` exactly where the host
+    /// awaits a frame of the key, or the session is over. Where the depot fails, the ask is refused instead and ends.
+    pub fn reply<D: Depot>(&mut self, depot: &mut D, out: &mut [u8; FRAME_BYTES]) -> Option<u16>
+        ensures same { IsSameHost self.old self.new }
+        ensures owed { is_some result ≡ saying.owes self.old.stage }
+        ensures none { IfNone result (self.new ≡ self.old) }
+        ensures never_falls { D.faults depot.old ≤ D.faults depot.new }
+        ensures appends { D.append_faults depot.new ≡ D.append_faults depot.old }
+        ensures depot { D.contents depot.new ≡ D.contents depot.old }
+        ensures short { IfSome result (λ size. size ≤ 2048) }
+        ensures said { IfSome result (λ size. RefusedAs self.old (D.faults depot.old) (D.faults depot.new) size out.new self.new
+            ⊎ ((D.faults depot.new ≡ D.faults depot.old) × ((file : List ℕ) (owed : List channel.Frame) (stand : Stand)
+            → file_of (D.contents depot.old) (name_of self.old) ≡ Some file → StandsAs self.old file owed stand
+            → SaysAs self.new file owed stand size out.new))) }
+    {
+        let said = self.say_next(depot, out)?;
+        self.stage = said.stage;
+        Some(said.size as u16)
+    }
+}
