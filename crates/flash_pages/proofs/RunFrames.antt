@@ -1,11 +1,13 @@
 -- What stays of a run where other pages change, a part of a record, and the identifiers of a list one by one.
-use Rattle.std.proofs.Common.{◌≡◌, ℕ, zero, suc, ◌+◌, ◌-◌, ◌*◌, ◌/◌, ◌%◌, ◌<◌, ◌≤◌, ◌∙◌, ap, sym, refl, List, length, take, drop, get_or, arith}
+use Rattle.std.proofs.Common.{◌≡◌, ℕ, zero, suc, ◌+◌, ◌-◌, ◌*◌, ◌/◌, ◌%◌, ◌^◌, ◌<◌, ◌≤◌, ◌∙◌, ap, sym, refl, List, length, take, drop, get_or, arith}
 use Rattle.std.specs.Prelude.{IfSome, Option, Some, None, Bool, true}
 use Rattle.std.specs.List.{slice_range}
 use Rattle.std.proofs.lemmas.List.{drop-take, take-take, drop-drop}
-use Rattle.ghost_model.specs.Runs.{Run, HasRecords, Stores, record_at, records_in, page_of, run_pages, cell_in, id_at, ids_from}
-use Rattle.edge_traits.specs.Devices.{Device}
+use Rattle.ghost_model.specs.Runs.{Run, HasRecords, Stores, record_at, records_in, page_of, run_pages, run_end, per_page, cell_in, id_at, ids_from}
+use Rattle.edge_traits.specs.Devices.{Device, ChangesOnly, IsErased}
 use Rattle.flash_pages.specs.Runs.{HasRun, run_of}
+use Rattle.std.proofs.lemmas.Nat.{le-div, div-add-mod'}
+use Rattle.flash_pages.specs.Filling.{CanFill}
 use Rattle.flash_pages.specs.Cursors.{IsReady, IsPageOf}
 use Rattle.flash_pages.specs.declared.cursor.RunCursor.{RunCursor}
 
@@ -100,4 +102,57 @@ ready_kept {told = told} {before = before} {now = now} {cursor = cursor} {bytes 
   place = ready.place;
   page = ready.page;
   held = held_kept told before.page now.page (run_of cursor.list.run) bytes cursor.held.page same ready.page ready.held;
+}
+
+-- a record of a run stands in one of its pages
+pub place_in_run :
+    (i count n : ℕ) → 0 < n → i < count → i / n < (count + (n - 1)) / n
+place_in_run i count n some within =
+    omega (arith, le-div (i / n + 1) (count + (n - 1)) n some (omega (arith, div-add-mod' i n)))
+
+-- a run stays where only pages behind it changed, or only pages before it
+pub stores_below :
+    {before now : Device} {low high : ℕ} {run : Run} {records : List (List ℕ)} → ChangesOnly low high before now
+    → 0 < per_page run.width → run_end run ≤ low → Stores before.page run records → Stores now.page run records
+stores_below {run = run} changes some behind stores =
+    stores_kept
+    (λ i within. (changes.below (page_of run i) (omega (arith, place_in_run i run.count (per_page run.width) some within))).bytes)
+    (λ place within. (changes.below (run.first + place) (omega arith)).bytes)
+    stores
+
+pub stores_above :
+    {before now : Device} {low high : ℕ} {run : Run} {records : List (List ℕ)} → ChangesOnly low high before now
+    → high ≤ run.first → Stores before.page run records → Stores now.page run records
+stores_above {run = run} changes before stores =
+    stores_kept
+    (λ i within. (changes.above (page_of run i) (omega arith)).bytes)
+    (λ place within. (changes.above (run.first + place) (omega arith)).bytes)
+    stores
+
+-- blank pages for a run: on a new device, a part of them, and after a change of other pages
+pub can_fill_made :
+    {told : Bool} {count : ℕ} {device : Device} → IsErased told 0 count device → device.page_count ≡ count → count < 2 ^ 32
+    → (first pages : ℕ) → first + pages ≤ count → CanFill device first pages
+can_fill_made erased size small first pages within = record {
+  there = omega arith;
+  blank = λ page from to. erased.blank page (omega arith) (omega arith);
+  small = omega arith;
+}
+
+pub can_fill_part :
+    {device : Device} {first pages : ℕ} → CanFill device first pages → (from more : ℕ) → first ≤ from → from + more ≤ first + pages
+    → CanFill device from more
+can_fill_part can from more low high = record {
+  there = omega (arith, can.there);
+  blank = λ page after before. can.blank page (omega arith) (omega arith);
+  small = can.small;
+}
+
+pub can_fill_kept :
+    {before now : Device} {low high first pages : ℕ} → ChangesOnly low high before now → high ≤ first → CanFill before first pages
+    → CanFill now first pages
+can_fill_kept changes apart can = record {
+  there = omega (arith, can.there, changes.page_count);
+  blank = λ page after to. (changes.above page (omega arith)).blank ∙ can.blank page after to;
+  small = omega (arith, can.small, changes.page_count);
 }
