@@ -1,10 +1,15 @@
 -- What stays of a run where other pages change, a part of a record, and the identifiers of a list one by one.
-use Rattle.std.proofs.Common.{◌≡◌, ℕ, zero, suc, ◌+◌, ◌-◌, ◌*◌, ◌/◌, ◌%◌, ◌<◌, ◌≤◌, ◌∙◌, ap, sym, refl, List, length, take, drop, get_or, arith}
+use Rattle.std.proofs.Common.{◌≡◌, ℕ, zero, suc, ◌+◌, ◌-◌, ◌*◌, ◌/◌, ◌%◌, ◌^◌, ◌<◌, ◌≤◌, ◌∙◌, ap, sym, refl, List, length, take, drop, get_or, arith}
+use Rattle.std.specs.Prelude.{IfSome, Option, Some, None, Bool, true}
 use Rattle.std.specs.List.{slice_range}
 use Rattle.std.proofs.lemmas.List.{drop-take, take-take, drop-drop}
-use Rattle.ghost_model.specs.Runs.{Run, HasRecords, Stores, record_at, records_in, page_of, run_pages, cell_in, id_at, ids_from}
-use Rattle.edge_traits.specs.Devices.{Device}
-use Rattle.flash_pages.specs.Runs.{HasRun}
+use Rattle.ghost_model.specs.Runs.{Run, HasRecords, Stores, record_at, records_in, page_of, run_pages, run_end, per_page, cell_in, id_at, ids_from}
+use Rattle.edge_traits.specs.Devices.{Device, ChangesOnly, IsErased}
+use Rattle.flash_pages.specs.Runs.{HasRun, run_of}
+use Rattle.std.proofs.lemmas.Nat.{le-div, div-add-mod'}
+use Rattle.flash_pages.specs.Filling.{CanFill}
+use Rattle.flash_pages.specs.Cursors.{IsReady, IsPageOf}
+use Rattle.flash_pages.specs.declared.cursor.RunCursor.{RunCursor}
 
 -- a record stays where its page stays
 pub record_kept :
@@ -72,3 +77,82 @@ ids_from-get page run place (suc count) zero within =
 ids_from-get page run place (suc count) (suc i) within =
     let e : place + 1 + i ≡ place + suc i = omega arith in
     ids_from-get page run (place + 1) count i (omega arith) ∙ ap (λ n. id_at page run n) e
+
+-- a cursor may go on where the pages of its run stayed as they were
+held_kept :
+    (told : Bool) (before now : ℕ → List ℕ) (run : Run) (bytes : List ℕ) (held : Option ℕ)
+    → ((i : ℕ) → i < run.count → now (page_of run i) ≡ before (page_of run i))
+    → IfSome held (IsPageOf run) → IfSome held (λ number. told ≡ true → bytes ≡ before number)
+    → IfSome held (λ number. told ≡ true → bytes ≡ now number)
+held_kept told before now run bytes None same page stands = tt
+held_kept told before now run bytes (Some number) same page stands = λ is_told.
+    stands is_told
+    ∙ ap (λ n. before n) page.is
+    ∙ sym (same page.place page.within)
+    ∙ ap (λ n. now n) (sym page.is)
+
+pub ready_kept :
+    {told : Bool} {before now : Device} {cursor : RunCursor} {bytes : List ℕ} → now.page_count ≡ before.page_count
+    → ((i : ℕ) → i < cursor.list.run.count → now.page (page_of (run_of cursor.list.run) i) ≡ before.page (page_of (run_of cursor.list.run) i))
+    → IsReady told before cursor bytes → IsReady told now cursor bytes
+ready_kept {told = told} {before = before} {now = now} {cursor = cursor} {bytes = bytes} count same ready = record {
+  run = run_kept count ready.run;
+  width = ready.width;
+  list = ready.list;
+  place = ready.place;
+  page = ready.page;
+  held = held_kept told before.page now.page (run_of cursor.list.run) bytes cursor.held.page same ready.page ready.held;
+}
+
+-- a record of a run stands in one of its pages
+pub place_in_run :
+    (i count n : ℕ) → 0 < n → i < count → i / n < (count + (n - 1)) / n
+place_in_run i count n some within =
+    omega (arith, le-div (i / n + 1) (count + (n - 1)) n some (omega (arith, div-add-mod' i n)))
+
+-- a run stays where only pages behind it changed, or only pages before it
+pub stores_below :
+    {before now : Device} {low high : ℕ} {run : Run} {records : List (List ℕ)} → ChangesOnly low high before now
+    → 0 < per_page run.width → run_end run ≤ low → Stores before.page run records → Stores now.page run records
+stores_below {run = run} changes some behind stores =
+    stores_kept
+    (λ i within. (changes.below (page_of run i) (omega (arith, place_in_run i run.count (per_page run.width) some within))).bytes)
+    (λ place within. (changes.below (run.first + place) (omega arith)).bytes)
+    stores
+
+pub stores_above :
+    {before now : Device} {low high : ℕ} {run : Run} {records : List (List ℕ)} → ChangesOnly low high before now
+    → high ≤ run.first → Stores before.page run records → Stores now.page run records
+stores_above {run = run} changes before stores =
+    stores_kept
+    (λ i within. (changes.above (page_of run i) (omega arith)).bytes)
+    (λ place within. (changes.above (run.first + place) (omega arith)).bytes)
+    stores
+
+-- blank pages for a run: on a new device, a part of them, and after a change of other pages
+pub can_fill_made :
+    {told : Bool} {count : ℕ} {device : Device} → IsErased told 0 count device → device.page_count ≡ count → count < 2 ^ 32
+    → (first pages : ℕ) → first + pages ≤ count → CanFill device first pages
+can_fill_made erased size small first pages within = record {
+  there = omega arith;
+  blank = λ page from to. erased.blank page (omega arith) (omega arith);
+  small = omega arith;
+}
+
+pub can_fill_part :
+    {device : Device} {first pages : ℕ} → CanFill device first pages → (from more : ℕ) → first ≤ from → from + more ≤ first + pages
+    → CanFill device from more
+can_fill_part can from more low high = record {
+  there = omega (arith, can.there);
+  blank = λ page after before. can.blank page (omega arith) (omega arith);
+  small = can.small;
+}
+
+pub can_fill_kept :
+    {before now : Device} {low high first pages : ℕ} → ChangesOnly low high before now → high ≤ first → CanFill before first pages
+    → CanFill now first pages
+can_fill_kept changes apart can = record {
+  there = omega (arith, can.there, changes.page_count);
+  blank = λ page after to. (changes.above page (omega arith)).blank ∙ can.blank page after to;
+  small = omega (arith, can.small, changes.page_count);
+}
