@@ -18,6 +18,8 @@ mod rows;
 mod schema_columns;
 pub mod table;
 pub mod tables;
+#[cfg(test)]
+mod tests;
 pub mod texts;
 
 pub use cells::Cells;
