@@ -22,6 +22,8 @@ mod schema_columns;
 pub mod splitting;
 pub mod table;
 pub mod tables;
+#[cfg(test)]
+mod tests;
 pub mod texts;
 
 pub use cells::Cells;
