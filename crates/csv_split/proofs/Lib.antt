@@ -14,3 +14,4 @@ pub mod Headers
 pub mod PartRows
 pub mod SplitParts
 pub mod ImageCells
+pub mod RejoinedParts
