@@ -15,3 +15,4 @@ pub mod AddedFiles
 pub mod PartRows
 pub mod SplitParts
 pub mod ImageCells
+pub mod RejoinedParts

@@ -65,7 +65,7 @@ flag_there declared i column within is =
     get_or-map (λ (column : schema.Column). column.hidden) (columns_of declared) i identifier column.hidden (omega arith)
     ∙ ap (λ (column : schema.Column). column.hidden) (column_there declared i column within is)
 
-flags_next : (declared : List Column) (i : ℕ) (column : Column) → i < length declared → column ≡ get_or declared i column
+pub flags_next : (declared : List Column) (i : ℕ) (column : Column) → i < length declared → column ≡ get_or declared i column
     → drop i (flags_of declared) ≡ column.hidden ∷ drop (i + 1) (flags_of declared)
 flags_next declared i column within is =
     let wide : length (columns_of declared) ≡ length declared = length-map declared _ in
@@ -125,7 +125,7 @@ more_columns count values columns long all = record { each = at }
     at zero held is = let same : values ≡ held = cc is in rw (← same) long
     at (suc column) held is = all.each column held is
 
-later : (count : ℕ) (values : List Value) (columns : List (List Value)) → HaveAll count (values ∷ columns) → HaveAll count columns
+pub later : (count : ℕ) (values : List Value) (columns : List (List Value)) → HaveAll count (values ∷ columns) → HaveAll count columns
 later count values columns all = record { each = λ column held is. all.each (suc column) held is }
 
 visible_have_all : (count : ℕ) (flags : List Bool) (columns : List (List Value)) → HaveAll count columns → HaveAll count (visible_values flags columns)

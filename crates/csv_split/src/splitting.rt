@@ -102,7 +102,7 @@ fn put_next(
 }
 
 /// Puts a column at the end.
-fn put(cells: Cells, columns: &mut Vec<Cells>) -> Result<(), AllocError>
+pub(crate) fn put(cells: Cells, columns: &mut Vec<Cells>) -> Result<(), AllocError>
     ensures { OnOk result (columns.new.items ≡ columns.old.items ++ cells ∷ []) }
 {
     match columns.push(cells) {
