@@ -1,18 +1,25 @@
 //! The host over a depot's visible file.
+//!
+//! A host keeps the file's name, its catalog and where the rows of each table begin. It reads the file through once when
+//! it begins, and then answers each ask from the file itself: the conditions are tested and the cells are copied as bytes.
+//! `docs/CHANNEL.md` states the rules.
 #![tactic(auto)]
 
-pub mod begin;
-pub mod checking;
-pub mod filling;
-pub mod form;
-pub mod gathering;
+mod begin;
+mod checking;
+mod filling;
+mod form;
+mod gathering;
 pub mod host;
 pub mod laws;
-pub mod places;
-pub mod reply;
-pub mod saying;
+mod places;
+mod reply;
+mod saying;
 pub mod serving;
-pub mod stage;
+mod stage;
 #[cfg(test)]
 mod tests;
-pub mod turning;
+mod turning;
+
+pub use host::Host;
+pub use serving::BeginFault;
