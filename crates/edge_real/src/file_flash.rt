@@ -5,10 +5,8 @@ ghost use Rattle.ghost_model.specs.Causes.{HasCause};
 ghost use Rattle.edge_traits.specs.Devices.{next, since_call};
 ghost use Rattle.edge_traits.specs.Marks.{is_marked};
 
-use edge_traits::Failed;
-use edge_traits::counting;
 use edge_traits::flash::{AttachFault, Flash};
-use edge_traits::marks;
+use edge_traits::{Failed, counting, marks};
 use std::alloc::Global;
 use std::fs::{OpenFile, OpenOptions};
 use std::os::unix::fs::FileExt;
@@ -53,6 +51,7 @@ impl<R: Files + Drop> FileFlash<R, R::File> {
         ensures no_call { result.calls ≡ 0 }
         ensures no_deep_read { result.deep_reads ≡ 0 }
         ensures no_fault { result.faults ≡ 0 }
+        ensures since_fault { result.since_fault ≡ 0 }
     {
         FileFlash {
             files,
@@ -169,13 +168,13 @@ where
     ghost told = { false };
 
     ghost state = { λ flash. record {
-        page_count = 64 * vec_len flash.marks;
-        page = λ page. [];
-        blank = is_marked flash.marks.items;
-        calls = flash.calls;
-        deep_reads = flash.deep_reads;
-        faults = flash.faults;
-        since_fault = flash.since_fault
+      page_count = 64 * vec_len flash.marks;
+      page = λ page. [];
+      blank = is_marked flash.marks.items;
+      calls = flash.calls;
+      deep_reads = flash.deep_reads;
+      faults = flash.faults;
+      since_fault = flash.since_fault;
     } };
 
     fn make(&mut self, alloc: Global, name: &str, blocks: u32) -> Result<(), AttachFault> {
