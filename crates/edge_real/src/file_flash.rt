@@ -51,6 +51,7 @@ impl<R: Files + Drop> FileFlash<R, R::File> {
         ensures no_call { result.calls ≡ 0 }
         ensures no_deep_read { result.deep_reads ≡ 0 }
         ensures no_fault { result.faults ≡ 0 }
+        ensures since_fault { result.since_fault ≡ 0 }
     {
         FileFlash {
             files,
