@@ -1,0 +1,8 @@
+use Rattle.std.proofs.Common.{◌≡◌, filter}
+use Rattle.ghost_model.specs.Schema as schema
+use Rattle.ghost_model.specs.Layout as layout
+use Rattle.flash_layout.proofs.areas.has_none_visible.Given as goal
+
+abbrev pub invariant-loop-column : goal.invariant-loop-column
+invariant-loop-column l =
+    record { none : l.none ≡ schema.is_empty (filter (schema.is_visible l.cat.schema l.table) (layout.below l.column)) }

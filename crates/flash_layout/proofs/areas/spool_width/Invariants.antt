@@ -1,0 +1,11 @@
+use Rattle.std.proofs.Common.{◌≡◌, ◌≤◌, ◌+◌, ◌*◌, filter, sum_by}
+use Rattle.ghost_model.specs.Schema as schema
+use Rattle.ghost_model.specs.Layout as layout
+use Rattle.flash_layout.proofs.areas.spool_width.Given as goal
+
+abbrev pub invariant-loop-column : goal.invariant-loop-column
+invariant-loop-column l =
+    record {
+      bytes : l.width ≡ 4 + sum_by (layout.width_at l.cat.schema l.table) (filter (schema.is_visible l.cat.schema l.table) (layout.below l.column));
+      most : l.width ≤ 4 + 64 * l.column;
+    }

@@ -1,0 +1,91 @@
+//! What a table has: its rows, and the widths and pages of its columns.
+
+ghost use Rattle.std.specs.Prelude.{◌≡◌, ◌<◌, ◌≤◌, true};
+ghost use Rattle.ghost_model.specs.Layout as layout;
+
+use crate::limits::a_catalog_has_a_layout;
+use crate::runs::pages;
+use ghost_base::cells::cell_width;
+use tree_schema::{Catalog, Schema};
+
+/// The number of rows of a table, and 0 where there is no such table.
+pub(crate) fn rows_of(cat: &Catalog, table: usize) -> u32
+    ensures value { result ≡ layout.count_of cat.now table }
+    ensures few { result ≤ 1000000 }
+{
+    a_catalog_has_a_layout(cat);
+    cat.rows(table).unwrap_or(0)
+}
+
+/// Whether a column is hidden; where there is no such column, it is not.
+pub(crate) fn is_hidden(schema: &Schema, table: usize, column: usize) -> bool
+    ensures value { result ≡ layout.is_hidden schema.now table column }
+{
+    match schema.column(table, column) {
+        None => false,
+        Some(found) => found.hidden,
+    }
+}
+
+/// The width of a column's cells in bytes, and 0 where there is no such column.
+fn width_at(schema: &Schema, table: usize, column: usize) -> usize
+    ensures value { result ≡ layout.width_at schema.now table column }
+{
+    match schema.column(table, column) {
+        None => 0,
+        Some(found) => cell_width(found.kind),
+    }
+}
+
+/// The width of the cells of a catalog's column in bytes, and 0 where there is no such column.
+pub(crate) fn width_of(cat: &Catalog, table: usize, column: usize) -> u32
+    ensures value { result ≡ layout.width_at cat.now.schema table column }
+    ensures most { result ≤ 64 }
+    ensures least { layout.is_hidden cat.now.schema table column ≡ true → 0 < result }
+{
+    a_catalog_has_a_layout(cat);
+    width_at(cat.schema(), table, column) as u32
+}
+
+/// The number of columns of a table, and 0 where there is no such table.
+pub(crate) fn columns_of(cat: &Catalog, table: usize) -> usize
+    ensures value { result ≡ layout.column_count cat.now.schema table }
+    ensures few { result ≤ 24 }
+{
+    a_catalog_has_a_layout(cat);
+    cat.schema().columns(table)
+}
+
+/// The pages of the file of a column, none where it is not hidden.
+fn column_pages(cat: &Catalog, table: usize, column: usize) -> u32
+    ensures value { result ≡ layout.column_pages cat.now table column }
+    ensures most { result ≤ 1000000 }
+{
+    if is_hidden(cat.schema(), table, column) {
+        pages(rows_of(cat, table), width_of(cat, table, column))
+    } else {
+        0
+    }
+}
+
+/// The pages of the files of a table's columns before one.
+pub(crate) fn column_pages_before(cat: &Catalog, table: usize, column: usize) -> u32
+    requires few { column ≤ 24 }
+    ensures value { result ≡ layout.column_pages_before cat.now table column }
+    ensures most { result ≤ 24000000 }
+{
+    a_catalog_has_a_layout(cat);
+    let mut total = 0;
+    for at in 0..column {
+        total += column_pages(cat, table, at);
+    }
+    total
+}
+
+/// The pages of the files of a table's columns.
+pub(crate) fn columns_pages(cat: &Catalog, table: usize) -> u32
+    ensures value { result ≡ layout.columns_pages cat.now table }
+    ensures most { result ≤ 24000000 }
+{
+    column_pages_before(cat, table, columns_of(cat, table))
+}

@@ -1,0 +1,23 @@
+//! Where everything lies on the flash: the runs of the files and areas of a catalog, and the pages that a device must have.
+//!
+//! Pages 0 to 63 hold the catalog's bytes. From page 64 on the static files follow one another, each on pages of its own,
+//! table by table: column files, the subtree key table, the climbing indexes, the id index. The static part ends at a block.
+//! Then come the two halves of the spool and six scratch areas, each area of whole blocks. None of the calls here takes
+//! memory, and each has its answer for every catalog.
+#![tactic(auto)]
+
+pub mod areas;
+mod columns;
+pub mod files;
+mod indexes;
+pub mod limits;
+pub mod runs;
+mod tables;
+pub mod work;
+
+pub use areas::{need, scratch_area, spool_area, static_end};
+pub use files::{
+    column_file, id_directory, id_level, index_directory, index_header, index_level, subtree_table,
+};
+pub use runs::{pages, run_pages};
+pub use work::pages_built;
