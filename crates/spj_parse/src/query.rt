@@ -2,7 +2,7 @@
 
 ghost use Rattle.std.specs.Prelude.{◌≡◌, ◌≤◌, filter, length, map};
 ghost use Rattle.ghost_model.specs.QueryMeaning as meaning;
-ghost use Rattle.spj_parse.specs.Resolved.{is_comparison, is_join};
+ghost use Rattle.spj_parse.specs.Resolved.{IsRead, is_comparison, is_join};
 ghost use Rattle.spj_parse.specs.Views.{comparison_of, field_of, join_of, query_of};
 
 use crate::links::top_among;
@@ -48,19 +48,23 @@ impl Model for Query {
 
     ghost Value = { query.Query };
 
+    ghost use Rattle.spj_parse.specs.Resolved.{IsRead};
     ghost use Rattle.spj_parse.specs.Views.{query_of};
 
     ghost view = { λ q. query_of q.tables.items q.fields.items q.joined.items q.compared.items };
+
+    ghost invariant = { λ q. IsRead (query_of q.tables.items q.fields.items q.joined.items q.compared.items) };
 }
 
 impl Query {
-    /// The query of these parts.
+    /// The query of these parts, which some text means.
     pub(crate) fn of(
         tables: ArrayVec<u8, MAX_TABLES>,
         fields: ArrayVec<Field, MAX_SELECTED>,
         joined: ArrayVec<Join, MAX_TABLES>,
         compared: ArrayVec<Comparison, MAX_CONDITIONS>,
     ) -> Query
+        requires read { IsRead (query_of tables.items fields.items joined.items compared.items) }
         ensures query { result ≡ query_of tables.items fields.items joined.items compared.items }
     {
         Query {
@@ -74,6 +78,7 @@ impl Query {
     /// The FROM tables by their places in the schema, in the order of the text.
     pub fn from(&self) -> &[u8]
         ensures tables { result.now ≡ self.now.from }
+        ensures read { IsRead self.now }
         ensures few { length result.now ≤ MAX_TABLES }
     {
         self.tables.as_slice()
