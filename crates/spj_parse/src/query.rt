@@ -1,8 +1,8 @@
 //! Queries as values of a fixed size.
 
-ghost use Rattle.std.specs.Prelude.{◌≡◌, ◌≤◌, filter, length, map};
+ghost use Rattle.std.specs.Prelude.{◌≡◌, ℕ, ◌≤◌, List, false, filter, is_none, length, map};
 ghost use Rattle.ghost_model.specs.QueryMeaning as meaning;
-ghost use Rattle.spj_parse.specs.Resolved.{IsRead, is_comparison, is_join};
+ghost use Rattle.spj_parse.specs.Resolved.{IsMeant, IsRead, is_comparison, is_join};
 ghost use Rattle.spj_parse.specs.Views.{comparison_of, field_of, join_of, query_of};
 
 use crate::links::top_among;
@@ -108,10 +108,13 @@ impl Query {
         self.compared.as_slice()
     }
 
-    /// The top table over the schema: the one FROM table whose parent is not in FROM.
+    /// The top table over the schema: the one FROM table whose parent is not in FROM. Over the schema that its text was
+    /// read over, there is one.
     pub fn top(&self, schema: &Schema) -> Option<u8>
         ensures top { result ≡ meaning.top_of schema.now self.now }
+        ensures some { (text : List ℕ) → IsMeant schema.now text self.now → is_none result ≡ false }
     {
+        ghost_model::query::one_reading();
         top_among(schema, self.tables.as_slice())
     }
 }
