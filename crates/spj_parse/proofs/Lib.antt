@@ -14,3 +14,4 @@ pub mod PartLemmas
 pub mod LinkedLemmas
 pub mod KeyLemmas
 pub mod AnswerLemmas
+pub mod TopLemmas

@@ -7,6 +7,7 @@ use Rattle.ghost_model.specs.Query.{Field, AtMost, AtLeast, Condition, Compare, 
 use Rattle.ghost_model.specs.QueryGrammar.{ColumnText, LiteralText, Unsigned, Signed, Written, Positive, ConditionText, Compares, LiesBetween, Joins}
 use Rattle.ghost_model.specs.QueryMeaning.{field, table_named, fields_of, is_among, with_sign}
 use Rattle.ghost_model.specs.QueryReading.{reading}
+use Rattle.tree_schema.specs.Schemas.{IsDeclared}
 use Rattle.spj_parse.specs.Items.{Item, AllColumns, Selected, From, Where}
 use Rattle.spj_parse.specs.Literals.{is_out}
 use Rattle.spj_parse.specs.Conditions.{first_alone}
@@ -52,6 +53,13 @@ pub record IsMeant (schema : Schema) (text : List ℕ) (query : Query) : Type 0 
   pub meant : Query
   pub reads : reading schema text ≡ Ok meant
   pub once : query ≡ linked schema meant
+
+-- the queries that there are: each is what some text means over a declared schema
+pub record IsRead (query : Query) : Type 0 where
+  pub schema : Schema
+  pub declared : IsDeclared schema
+  pub text : List ℕ
+  pub meant : IsMeant schema text query
 
 -- what the things that a text names give to its query
 

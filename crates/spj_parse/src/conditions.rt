@@ -93,7 +93,7 @@ fn child_at(schema: &Schema, key: Field) -> Option<u8>
 }
 
 /// Whether a place, where there is one, is this table's.
-fn is_table(place: Option<u8>, table: u8) -> bool
+pub(crate) fn is_table(place: Option<u8>, table: u8) -> bool
     ensures same { result ≡ model.is_table table place }
 {
     match place {

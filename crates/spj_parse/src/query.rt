@@ -1,8 +1,8 @@
 //! Queries as values of a fixed size.
 
-ghost use Rattle.std.specs.Prelude.{◌≡◌, ◌≤◌, filter, length, map};
+ghost use Rattle.std.specs.Prelude.{◌≡◌, ℕ, ◌≤◌, List, false, filter, is_none, length, map};
 ghost use Rattle.ghost_model.specs.QueryMeaning as meaning;
-ghost use Rattle.spj_parse.specs.Resolved.{is_comparison, is_join};
+ghost use Rattle.spj_parse.specs.Resolved.{IsMeant, IsRead, is_comparison, is_join};
 ghost use Rattle.spj_parse.specs.Views.{comparison_of, field_of, join_of, query_of};
 
 use crate::links::top_among;
@@ -48,19 +48,23 @@ impl Model for Query {
 
     ghost Value = { query.Query };
 
+    ghost use Rattle.spj_parse.specs.Resolved.{IsRead};
     ghost use Rattle.spj_parse.specs.Views.{query_of};
 
     ghost view = { λ q. query_of q.tables.items q.fields.items q.joined.items q.compared.items };
+
+    ghost invariant = { λ q. IsRead (query_of q.tables.items q.fields.items q.joined.items q.compared.items) };
 }
 
 impl Query {
-    /// The query of these parts.
+    /// The query of these parts, which some text means.
     pub(crate) fn of(
         tables: ArrayVec<u8, MAX_TABLES>,
         fields: ArrayVec<Field, MAX_SELECTED>,
         joined: ArrayVec<Join, MAX_TABLES>,
         compared: ArrayVec<Comparison, MAX_CONDITIONS>,
     ) -> Query
+        requires read { IsRead (query_of tables.items fields.items joined.items compared.items) }
         ensures query { result ≡ query_of tables.items fields.items joined.items compared.items }
     {
         Query {
@@ -74,6 +78,7 @@ impl Query {
     /// The FROM tables by their places in the schema, in the order of the text.
     pub fn from(&self) -> &[u8]
         ensures tables { result.now ≡ self.now.from }
+        ensures read { IsRead self.now }
         ensures few { length result.now ≤ MAX_TABLES }
     {
         self.tables.as_slice()
@@ -103,10 +108,13 @@ impl Query {
         self.compared.as_slice()
     }
 
-    /// The top table over the schema: the one FROM table whose parent is not in FROM.
+    /// The top table over the schema: the one FROM table whose parent is not in FROM. Over the schema that its text was
+    /// read over, there is one.
     pub fn top(&self, schema: &Schema) -> Option<u8>
         ensures top { result ≡ meaning.top_of schema.now self.now }
+        ensures some { (text : List ℕ) → IsMeant schema.now text self.now → is_none result ≡ false }
     {
+        ghost_model::query::one_reading();
         top_among(schema, self.tables.as_slice())
     }
 }

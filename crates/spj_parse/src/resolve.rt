@@ -16,6 +16,7 @@ ghost use Rattle.spj_parse.specs.Items.{items_in};
 ghost use Rattle.spj_parse.specs.Resolved as resolved;
 ghost use Rattle.spj_parse.specs.Views.{comparison_of, field_of, join_of};
 
+use crate::conditions::is_table;
 use crate::drafts::{ColumnDraft, ConditionDraft, Item, LiteralDraft, Sign};
 use crate::links::is_among;
 use crate::literals::{integer_in, text_in};
@@ -267,10 +268,7 @@ fn names_child(schema: &Schema, holder: usize, column: usize, child: u8) -> bool
 {
     match schema.column(holder, column) {
         None => false,
-        Some(found) => match found.child {
-            None => false,
-            Some(other) => other == child,
-        },
+        Some(found) => is_table(found.child, child),
     }
 }
 

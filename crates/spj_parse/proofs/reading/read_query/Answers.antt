@@ -60,6 +60,34 @@ returns-then-is_unlinked-clause-refusal c =
     let literal = literal_in c.args.schema.now c.args.text.now tree c.as_slice-from.result.now false h f k c.if-any_condition_passes-2.ensures.passes in
     judged_by c.args.schema.now c.args.text.now tree h false false false false false false true over (c.if-has_unknown_tables.ensures.unknown tree h) column ambiguous kind literal (c.if-is_unlinked.ensures.unlinked tree h f k)
 
+pub of-requires : goal.of-requires
+of-requires c =
+    let tree = c.in_default.ensures.tree.tree in
+    let h = c.in_default.ensures.tree.read in
+    let over = c.if-is_over_limit.ensures.over tree h in
+    let f = from_are c.args.schema.now c.args.text.now tree c.as_slice-from.result.now h (sym over) (c.as_slice-from.ensures.value ∙ c.from_tables-tables.ensures.tables) in
+    let column = c.if-has_unknown_columns.ensures.unknown tree h f in
+    let ambiguous = c.if-is_ambiguous.ensures.ambiguous tree h f in
+    let k : IsClear c.args.schema.now tree = record { known = sym column; single = sym ambiguous } in
+    let kind = kind_in c.args.schema.now c.args.text.now tree c.as_slice-from.result.now false h f k c.if-any_condition_passes.ensures.passes in
+    let literal = literal_in c.args.schema.now c.args.text.now tree c.as_slice-from.result.now false h f k c.if-any_condition_passes-2.ensures.passes in
+    let schema_tree = c.schemas_are_trees.ensures c.args.schema.now c.tables.ensures.declared in
+    record {
+      read = record {
+        schema = c.args.schema.now;
+        declared = c.tables.ensures.declared;
+        text = c.args.text.now;
+        meant = record {
+          meant = resolved c.args.schema.now tree;
+          reads = judged_by c.args.schema.now c.args.text.now tree h false false false false false false false over (c.if-has_unknown_tables.ensures.unknown tree h) column ambiguous kind literal (c.if-is_unlinked.ensures.unlinked tree h f k);
+          once = gathered c.args.schema.now tree _ _ _ _ (sym c.as_slice-from.ensures.value ∙ f)
+              (selected_are c.args.schema.now c.args.text.now tree c.as_slice-from.result.now _ h (sym over) f k c.selected-fields.ensures.fields)
+              (joins_are c.args.schema.now c.args.text.now tree c.as_slice-from.result.now _ (sym over) f c.joins-joined.ensures.joins)
+              (compared_are c.args.schema.now schema_tree c.args.text.now tree c.as_slice-from.result.now _ h (sym over) f k (sym kind) (sym literal) c.comparisons-compared.ensures.comparisons);
+        };
+      };
+    }
+
 pub returns-clause-meaning : goal.returns-clause-meaning
 returns-clause-meaning c =
     let tree = c.in_default.ensures.tree.tree in
