@@ -39,3 +39,6 @@ pub use splitting::split;
 pub use table::Table;
 pub use tables::Tables;
 pub use texts::Texts;
+
+#[cfg(test)]
+mod parts_tests;
