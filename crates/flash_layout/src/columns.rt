@@ -17,14 +17,21 @@ pub(crate) fn rows_of(cat: &Catalog, table: usize) -> u32
     cat.rows(table).unwrap_or(0)
 }
 
-/// Whether a column is hidden; where there is no such column, it is not.
-pub(crate) fn is_hidden(schema: &Schema, table: usize, column: usize) -> bool
+/// Whether a column of a schema is hidden; where there is no such column, it is not.
+fn is_hidden_in(schema: &Schema, table: usize, column: usize) -> bool
     ensures value { result ≡ layout.is_hidden schema.now table column }
 {
     match schema.column(table, column) {
         None => false,
         Some(found) => found.hidden,
     }
+}
+
+/// Whether a column is hidden, and so has a file and an index; where there is no such column, it is not.
+pub fn is_hidden(cat: &Catalog, table: usize, column: usize) -> bool
+    ensures value { result ≡ layout.is_hidden cat.now.schema table column }
+{
+    is_hidden_in(cat.schema(), table, column)
 }
 
 /// The width of a column's cells in bytes, and 0 where there is no such column.
@@ -61,7 +68,7 @@ fn column_pages(cat: &Catalog, table: usize, column: usize) -> u32
     ensures value { result ≡ layout.column_pages cat.now table column }
     ensures most { result ≤ 1000000 }
 {
-    if is_hidden(cat.schema(), table, column) {
+    if is_hidden(cat, table, column) {
         pages(rows_of(cat, table), width_of(cat, table, column))
     } else {
         0

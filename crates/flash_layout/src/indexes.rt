@@ -87,7 +87,7 @@ fn index_pages(cat: &Catalog, table: usize, column: usize) -> u32
     ensures value { result ≡ layout.index_pages cat.now table column }
     ensures most { result ≤ 1023449 }
 {
-    if is_hidden(cat.schema(), table, column) {
+    if is_hidden(cat, table, column) {
         1 + (directory_pages(cat, table, column) + own_levels_pages(cat, table))
     } else {
         0

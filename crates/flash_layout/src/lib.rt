@@ -16,8 +16,13 @@ mod tables;
 pub mod work;
 
 pub use areas::{need, scratch_area, spool_area, static_end};
+pub use columns::is_hidden;
 pub use files::{
     column_file, id_directory, id_level, index_directory, index_header, index_level, subtree_table,
 };
 pub use runs::{pages, run_pages};
+pub use tables::{is_leaf, levels_of};
 pub use work::pages_built;
+
+#[cfg(test)]
+mod tests;

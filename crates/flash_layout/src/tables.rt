@@ -10,8 +10,8 @@ use arrayvec::ArrayVec;
 use ghost_base::limits::MAX_TABLES;
 use tree_schema::Catalog;
 
-/// A table and those above it, nearest first.
-pub(crate) fn levels_of(cat: &Catalog, table: usize) -> ArrayVec<usize, MAX_TABLES>
+/// A table and those above it, nearest first: the levels of its indexes.
+pub fn levels_of(cat: &Catalog, table: usize) -> ArrayVec<usize, MAX_TABLES>
     requires there { table < length cat.now.schema }
     ensures tables { result.items ≡ layout.levels_of cat.now.schema table }
     ensures own { 0 < length result.items }
@@ -63,8 +63,8 @@ pub(crate) fn tables_below(cat: &Catalog, table: usize) -> u32
     found
 }
 
-/// Whether no table lies below a table.
-pub(crate) fn is_leaf(cat: &Catalog, table: usize) -> bool
+/// Whether no table lies below a table, which so has no subtree key table.
+pub fn is_leaf(cat: &Catalog, table: usize) -> bool
     ensures leaf { result ≡ schema.is_empty (layout.descendants_of cat.now.schema table) }
 {
     tables_below(cat, table) == 0
