@@ -69,7 +69,8 @@ fn each_refusal_has_its_word(rt: HostRuntime) -> Result<(), AllocError> {
         Refusal::BadLiteral,
         Refusal::NotLinked,
     ];
-    let lines = "! 1 syntax 4096\n! 1 limit\n! 1 table\n! 1 column\n! 1 ambiguous\n! 1 kind\n! 1 literal\n! 1 unlinked\n";
+    let lines =
+        "! 1 syntax 4096\n! 1 limit\n! 1 table\n! 1 column\n! 1 ambiguous\n! 1 kind\n! 1 literal\n! 1 unlinked\n";
     let mut sink = MemSink::new(rt.alloc(), 200, 200, &[])?;
     let mut printer = Printer::new();
     for refusal in refusals.iter() {
