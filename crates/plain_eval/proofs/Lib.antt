@@ -1,0 +1,3 @@
+pub mod LeadingWays
+pub mod Gathering
+pub mod Beginning

@@ -1,0 +1,4 @@
+pub mod Ways
+pub mod Views
+pub mod Answers
+pub mod Left
