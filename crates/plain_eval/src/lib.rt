@@ -7,6 +7,8 @@
 pub mod answer;
 mod keys;
 mod rows;
+#[cfg(test)]
+mod tests;
 pub mod ways;
 
 pub use answer::{Answer, Row};
