@@ -1,12 +1,12 @@
 -- The tables' files while they are read one after another.
-use Rattle.std.proofs.Common.{◌≡◌, ℕ, zero, suc, ◌+◌, ◌<◌, ◌≤◌, List, [], ◌∷◌, ◌++◌, length, drop, slice_get, Option, Some, None, refl, sym, ap, ◌∙◌, subst, append_assoc, append-nil, arith}
+use Rattle.std.proofs.Common.{◌≡◌, ℕ, zero, suc, ◌+◌, ◌<◌, ◌≤◌, List, [], ◌∷◌, ◌++◌, length, drop, slice_get, Option, Some, refl, sym, ap, ◌∙◌, subst, append_assoc, append-nil, arith}
 use Rattle.std.specs.FinMap as map
 use Rattle.ghost_model.specs.Schema.{Schema, Table, columns_or_none, columns_of}
 use Rattle.ghost_model.specs.Values.{Rows, Database}
 use Rattle.ghost_model.specs.LoadFaults.{file_faults, files_faults}
 use Rattle.ghost_model.specs.Database.{database_of, rows_spelled}
 use Rattle.edge_traits.specs.Files.{Files, HasFile}
-use Rattle.key_inputs.specs.Openings.{Opening, TablesInput, on_table, unless_broken, table_file, tables_from, after_tables}
+use Rattle.key_inputs.specs.Openings.{on_table, unless_broken, table_file, tables_from}
 use Rattle.key_inputs.specs.Views.{ReadsTable, ReadsFiles, name_or_none, name_at, opening_at}
 
 -- the files of the tables before a place were read, and keep every rule

@@ -1,15 +1,14 @@
 -- What faults tell of an opening.
-use Rattle.std.proofs.Common.{◌≡◌, ℕ, ◌<◌, Bool, true, List, [], ◌∷◌, Option, Some, None, ◌&&◌, not, refl, sym, ap, ◌∙◌, subst, length, nat_le, arith, bytes_eq, slice_get}
+use Rattle.std.proofs.Common.{◌≡◌, ℕ, true, List, [], Option, Some, None, ◌&&◌, not, refl, sym, ap, ◌∙◌, subst, bytes_eq}
 use Rattle.std.specs.List.{list_all}
-use Rattle.std.specs.FinMap as map
-use Rattle.ghost_model.specs.Schema.{Schema, Table}
+use Rattle.ghost_model.specs.Schema.{Schema}
 use Rattle.ghost_model.specs.Spelled.{is_name, begins_as_name, is_reserved}
 use Rattle.ghost_model.specs.Tokens.{is_name_byte, in_lower_case}
 use Rattle.ghost_model.specs.LoadFaults as load
 use Rattle.ghost_model.proofs.MeaningLemmas.OneRow.{both_true}
 use Rattle.ghost_model.specs.Values.{Database}
 use Rattle.ghost_model.specs.Database.{database_of}
-use Rattle.key_inputs.specs.Openings.{InputFault, TableRule, Opening, Spelled, Broken, TablesInput, unless_broken, after_tables}
+use Rattle.key_inputs.specs.Openings.{InputFault, Opening, Spelled, Broken, TablesInput, unless_broken, after_tables}
 use Rattle.key_inputs.specs.Views.{TellsRule, IsBroken, rule_or}
 
 -- the bytes of a name may stand in a word

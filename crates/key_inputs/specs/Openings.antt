@@ -1,7 +1,7 @@
 -- What the files that a command names spell: a schema and the files of its tables, or the first rule that is broken in
 -- reading order. The schema's file comes first, then the tables' files in the order of the schema, each judged before
 -- the next one is read, then the foreign keys. Reading stops at the first file that is not there.
-use Rattle.std.specs.Prelude.{◌≡◌, ℕ, ◌+◌, nat_le, List, [], ◌∷◌, ◌++◌, length, codes, Option, Some, None, Result, Ok, Err, if◌then◌else◌}
+use Rattle.std.specs.Prelude.{ℕ, ◌+◌, nat_le, List, [], ◌∷◌, ◌++◌, length, codes, Option, Some, None, Result, Ok, Err, if◌then◌else◌}
 use Rattle.std.specs.FinMap as map
 use Rattle.ghost_model.specs.Schema.{Schema, Table}
 use Rattle.ghost_model.specs.SchemaFaults.{SchemaFault, schema_reading}

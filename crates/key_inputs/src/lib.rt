@@ -7,8 +7,10 @@
 pub mod faults;
 pub mod names;
 pub mod opening;
+pub mod script;
 #[cfg(test)]
 mod tests;
 
 pub use faults::{InputFault, OpenFault};
 pub use opening::{Input, open_tables};
+pub use script::open_script;

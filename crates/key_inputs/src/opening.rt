@@ -1,11 +1,11 @@
 //! The reading of inputs.
 
-ghost use Rattle.std.specs.Prelude.{◌≡◌, ◌≤◌, ◌<◌, ℕ, List, [], Some, Err, IfOk, IfErr, MatchResult, length, string_bytes};
+ghost use Rattle.std.specs.Prelude.{◌≡◌, ◌≤◌, ◌<◌, ℕ, true, List, [], Some, Err, IfOk, IfErr, MatchResult, is_some, length, string_bytes};
 ghost use Rattle.ghost_model.specs.Causes.{Rose};
 ghost use Rattle.ghost_model.specs.Database as database;
 ghost use Rattle.edge_traits.specs.Files.{Files};
 ghost use Rattle.key_inputs.specs.Openings.{tables_opening, tables_from};
-ghost use Rattle.key_inputs.specs.Views.{OpensTables, OpensSchema, ReadsFiles, ReadsTable, Tells, TellsRule, rule_in, rule_or, name_at, opening_at};
+ghost use Rattle.key_inputs.specs.Views.{OpensTables, OpensSchema, ReadsFiles, ReadsTable, Tells, TellsRule, rule_in, rule_of, rule_or, name_at, opening_at};
 ghost use Rattle.ghost_model.specs.LoadFaults as load;
 ghost use Rattle.ghost_model.specs.Schema as schemas;
 ghost use Rattle.csv_split.specs.Faults.{told};
@@ -45,6 +45,7 @@ pub fn open_tables<D: Depot>(
 ) -> Result<Input, OpenFault>
     ensures opened { (files : Files) → D.contents depot.old ≡ Some files → OpensTables (tables_opening files schema.now folder.now) result }
     ensures database { IfOk result (λ input. database.IsDatabase input.schema input.tables) }
+    ensures rule { (fault : InputFault) → result ≡ Err (OpenFault.Input fault) → is_some (rule_of fault) ≡ true }
     ensures never_falls { D.faults depot.old ≤ D.faults depot.new }
     ensures failed { result ≡ Err OpenFault.Depot → Rose (D.faults depot.old) (D.faults depot.new) }
     ensures other { (result ≡ Err OpenFault.Depot → ⊥) → D.faults depot.new ≡ D.faults depot.old }
@@ -63,6 +64,7 @@ pub fn open_tables<D: Depot>(
 /// Reads a schema.
 fn open_schema<D: Depot>(alloc: Global, name: &str, depot: &mut D) -> Result<Schema, OpenFault>
     ensures opened { (files : Files) → D.contents depot.old ≡ Some files → (folder : List ℕ) → OpensSchema files name.now folder result }
+    ensures rule { (fault : InputFault) → result ≡ Err (OpenFault.Input fault) → is_some (rule_of fault) ≡ true }
     ensures never_falls { D.faults depot.old ≤ D.faults depot.new }
     ensures failed { result ≡ Err OpenFault.Depot → Rose (D.faults depot.old) (D.faults depot.new) }
     ensures other { (result ≡ Err OpenFault.Depot → ⊥) → D.faults depot.new ≡ D.faults depot.old }
@@ -90,6 +92,7 @@ fn open_files<D: Depot>(
 ) -> Result<Tables, OpenFault>
     ensures read { IfOk result (λ tables. ReadsFiles (D.contents depot.old) folder.now schema.now tables) }
     ensures told { IfErr result (λ fault. (files : Files) → D.contents depot.old ≡ Some files → Tells (tables_from files folder.now schema.now 0 schema.now []) fault) }
+    ensures rule { (fault : InputFault) → result ≡ Err (OpenFault.Input fault) → is_some (rule_of fault) ≡ true }
     ensures never_falls { D.faults depot.old ≤ D.faults depot.new }
     ensures failed { result ≡ Err OpenFault.Depot → Rose (D.faults depot.old) (D.faults depot.new) }
     ensures other { (result ≡ Err OpenFault.Depot → ⊥) → D.faults depot.new ≡ D.faults depot.old }
@@ -117,6 +120,7 @@ fn open_table<D: Depot>(
     requires within { table < length schema.now }
     ensures read { IfOk result (λ rows. ReadsTable (D.contents depot.old) (openings.table_file folder.now (name_at schema.now table)) (schemas.columns_of schema.now table) table rows) }
     ensures told { IfErr result (λ fault. (files : Files) → D.contents depot.old ≡ Some files → (next : List ℕ → Opening TablesInput) → Tells (opening_at files folder.now schema.now table next) fault) }
+    ensures rule { (fault : InputFault) → result ≡ Err (OpenFault.Input fault) → is_some (rule_of fault) ≡ true }
     ensures never_falls { D.faults depot.old ≤ D.faults depot.new }
     ensures failed { result ≡ Err OpenFault.Depot → Rose (D.faults depot.old) (D.faults depot.new) }
     ensures other { (result ≡ Err OpenFault.Depot → ⊥) → D.faults depot.new ≡ D.faults depot.old }
@@ -143,6 +147,7 @@ fn open_table<D: Depot>(
 fn too_long(table: u8) -> OpenFault
     ensures rule { rule_in result ≡ Some (openings.TableRule (load.FileLimit (load.place table 0 0))) }
     ensures not_depot { result ≡ OpenFault.Depot → ⊥ }
+    ensures broken { (broken : InputFault) → result ≡ OpenFault.Input broken → is_some (rule_of broken) ≡ true }
 {
     let at = Place {
         table,
@@ -156,6 +161,7 @@ fn too_long(table: u8) -> OpenFault
 fn of_load(fault: LoadFault) -> OpenFault
     ensures rule { rule_in result ≡ rule_or (told fault) }
     ensures not_depot { result ≡ OpenFault.Depot → ⊥ }
+    ensures broken { (broken : InputFault) → result ≡ OpenFault.Input broken → is_some (rule_of broken) ≡ true }
 {
     match fault {
         LoadFault::NoMemory => OpenFault::NoMemory,
@@ -180,6 +186,7 @@ fn file_of(alloc: Global, schema: &Schema, table: usize, folder: &str) -> Result
 fn check_keys(schema: &Schema, tables: &Tables) -> Result<(), OpenFault>
     ensures judged { MatchResult result (λ _. load.reference_faults schema.now tables.now ≡ []) (λ fault. TellsRule (rule_in fault) (load.reference_faults schema.now tables.now)) }
     ensures not_depot { result ≡ Err OpenFault.Depot → ⊥ }
+    ensures rule { (fault : InputFault) → result ≡ Err (OpenFault.Input fault) → is_some (rule_of fault) ≡ true }
 {
     match check_references(schema, tables) {
         Ok(()) => Ok(()),

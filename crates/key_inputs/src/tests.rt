@@ -1,6 +1,6 @@
 //! Inputs by example.
 
-use crate::{InputFault, OpenFault, open_tables};
+use crate::{InputFault, OpenFault, open_script, open_tables};
 use csv_split::{LoadFault, Place};
 use edge_traits::mem_depot::{MemDepot, Room};
 use std::alloc::{AllocError, Global};
@@ -116,5 +116,53 @@ fn each_read_may_fail(rt: HostRuntime) -> Result<(), AllocError> {
         );
         assert_eq!(rt; depot.faults(), 1, "call {call}");
     }
+    Ok(())
+}
+
+/// How many bytes a script has that is read, or why it is not read.
+fn script_of(
+    alloc: Global,
+    script: &[u8],
+    fails: &[u64],
+) -> Result<Result<usize, OpenFault>, AllocError> {
+    let mut depot = MemDepot::new(alloc, ROOM, fails)?;
+    let _script = depot.put("q", script);
+    match open_script(alloc, "q", &mut depot) {
+        Ok(read) => Ok(Ok(read.len())),
+        Err(fault) => Ok(Err(fault)),
+    }
+}
+
+#[test]
+fn a_script_has_at_most_so_many_bytes(rt: HostRuntime) -> Result<(), AllocError> {
+    let mut script: Vec<u8> = vec![in rt.alloc(); b' '; 65_536]?;
+    assert_eq!(rt; script_of(rt.alloc(), &script, &[])?, Ok(65_536));
+    script.push(b' ')?;
+    assert_eq!(rt;
+        script_of(rt.alloc(), &script, &[])?,
+        Err(OpenFault::Input(InputFault::ScriptBytes))
+    );
+    Ok(())
+}
+
+#[test]
+fn a_script_has_at_most_so_many_texts(rt: HostRuntime) -> Result<(), AllocError> {
+    let mut script: Vec<u8> = Vec::new(rt.alloc());
+    for _ in 0..64usize {
+        script.extend_from_slice(b"x; ;")?;
+    }
+    assert_eq!(rt; script_of(rt.alloc(), &script, &[])?, Ok(256));
+    script.push(b'x')?;
+    assert_eq!(rt;
+        script_of(rt.alloc(), &script, &[])?,
+        Err(OpenFault::Input(InputFault::ScriptTexts))
+    );
+    Ok(())
+}
+
+#[test]
+fn the_read_of_a_script_may_fail(rt: HostRuntime) -> Result<(), AllocError> {
+    assert_eq!(rt; script_of(rt.alloc(), b"x", &[1])?, Err(OpenFault::Depot));
+    assert_eq!(rt; script_of(rt.alloc(), b"", &[])?, Ok(0));
     Ok(())
 }

@@ -3,12 +3,14 @@
 ghost use Rattle.std.specs.Prelude.{◌≡◌, ◌≤◌, ◌+◌, ◌*◌, ◌++◌, ◌∷◌, length, map, flat_map, decimal};
 ghost use Rattle.arrayvec.specs.ArrayVec.{array_vec_len};
 ghost use Rattle.ghost_base.specs.Views.{value_of};
-ghost use Rattle.ghost_model.specs.Printed.{field_text};
+ghost use Rattle.ghost_model.specs.Printed.{field_text, refusal_word};
+ghost use Rattle.spj_parse.specs.Views.{refusal_of};
 ghost use Rattle.key_lines.specs.Fields.{fields_text, later_field};
 
 use arrayvec::ArrayVec;
 use ghost_base::Value;
 use itoa::Buffer;
+use spj_parse::Refusal;
 
 /// The most bytes of a line: 32 fields of 64 bytes, a tab between each two, and what stands around them.
 pub const MAX_LINE: usize = 2_112;
@@ -72,5 +74,26 @@ pub fn put_fields(line: &mut Line, values: &[Value])
     if let Some((first, later)) = values.split_first() {
         put_field(line, first);
         put_later_fields(line, later);
+    }
+}
+
+/// Puts the word of a refusal at the end of a line, and behind that of a syntax fault its offset.
+pub fn put_refusal(line: &mut Line, refusal: &Refusal)
+    requires room { array_vec_len line.old + 73 ≤ 2112 }
+    ensures items { line.new.items ≡ line.old.items ++ refusal_word (refusal_of refusal.now) }
+    ensures len { array_vec_len line.new ≤ array_vec_len line.old + 73 }
+{
+    match refusal {
+        Refusal::Syntax { at } => {
+            put(line, b"syntax ");
+            put_number(line, *at as u64);
+        }
+        Refusal::Limit => put(line, b"limit"),
+        Refusal::UnknownTable => put(line, b"table"),
+        Refusal::UnknownColumn => put(line, b"column"),
+        Refusal::Ambiguous => put(line, b"ambiguous"),
+        Refusal::KindMismatch => put(line, b"kind"),
+        Refusal::BadLiteral => put(line, b"literal"),
+        Refusal::NotLinked => put(line, b"unlinked"),
     }
 }

@@ -3,14 +3,16 @@
 ghost use Rattle.std.specs.Prelude.{◌≡◌, ◌≤◌, ◌++◌, ◌∷◌, [], false, length, map, codes, decimal};
 ghost use Rattle.arrayvec.specs.ArrayVec.{array_vec_len};
 ghost use Rattle.ghost_base.specs.Views.{value_of};
-ghost use Rattle.ghost_model.specs.Printed.{row_line, count_line};
+ghost use Rattle.ghost_model.specs.Printed.{row_line, count_line, refusal_line};
+ghost use Rattle.spj_parse.specs.Views.{refusal_of};
 ghost use Rattle.key_lines.specs.Faults.{fault_line, fault_word};
 ghost use Rattle.key_lines.specs.Handing.{PiecesJoin, Hands, handed};
 
-use crate::line::{Line, put, put_fields, put_number};
+use crate::line::{Line, put, put_fields, put_number, put_refusal};
 use edge_traits::sink::Sink;
 use edge_traits::writing::write_all;
 use ghost_base::Value;
+use spj_parse::Refusal;
 
 /// Why a text that was accepted has no whole answer.
 #[derive(Clone, Copy, Debug, PartialEq, Eq)]
@@ -106,6 +108,17 @@ impl Printer {
     {
         self.begin_word_line(text);
         put(&mut self.line, fault.word().as_bytes());
+        put(&mut self.line, b"\n");
+        self.hand(out);
+    }
+
+    /// Prints the line of a text that is refused.
+    pub fn refusal<O: Sink>(&mut self, out: &mut O, text: u32, refusal: &Refusal)
+        ensures handed { Hands (refusal_line text (refusal_of refusal.now))
+            (handed self.old.failed (O.faults out.old) (O.written out.old)) (handed self.new.failed (O.faults out.new) (O.written out.new)) }
+    {
+        self.begin_word_line(text);
+        put_refusal(&mut self.line, refusal);
         put(&mut self.line, b"\n");
         self.hand(out);
     }

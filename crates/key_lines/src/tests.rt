@@ -3,6 +3,7 @@
 use crate::{Fault, Printer};
 use edge_traits::mem_sink::MemSink;
 use ghost_base::{Text64, Value};
+use spj_parse::Refusal;
 use std::alloc::AllocError;
 
 /// Prints two rows, their number and two faults.
@@ -53,5 +54,28 @@ fn the_longest_row_has_room(rt: HostRuntime) -> Result<(), AllocError> {
     let mut sink = MemSink::new(rt.alloc(), 3_000, 3_000, &[])?;
     Printer::new().row(&mut sink, &[text; 32]);
     assert_eq!(rt; sink.bytes().len(), 2 + 32 * 64 + 31 + 1);
+    Ok(())
+}
+
+#[test]
+fn each_refusal_has_its_word(rt: HostRuntime) -> Result<(), AllocError> {
+    let refusals = [
+        Refusal::Syntax { at: 4_096 },
+        Refusal::Limit,
+        Refusal::UnknownTable,
+        Refusal::UnknownColumn,
+        Refusal::Ambiguous,
+        Refusal::KindMismatch,
+        Refusal::BadLiteral,
+        Refusal::NotLinked,
+    ];
+    let lines =
+        "! 1 syntax 4096\n! 1 limit\n! 1 table\n! 1 column\n! 1 ambiguous\n! 1 kind\n! 1 literal\n! 1 unlinked\n";
+    let mut sink = MemSink::new(rt.alloc(), 200, 200, &[])?;
+    let mut printer = Printer::new();
+    for refusal in refusals.iter() {
+        printer.refusal(&mut sink, 1, refusal);
+    }
+    assert_eq!(rt; sink.bytes(), lines.as_bytes());
     Ok(())
 }

@@ -1,3 +1,4 @@
 pub mod LeadingWays
 pub mod Gathering
 pub mod Beginning
+pub mod FewRows

@@ -1,4 +1,4 @@
-use Rattle.std.proofs.Common.{◌≡◌, ◌∙◌, ap, sym, true, Some, option_map}
+use Rattle.std.proofs.Common.{◌∙◌, ap, sym, option_map}
 use Rattle.tree_schema.specs.Views.{table_of}
 use Rattle.key_inputs.proofs.Telling.{name_bytes}
 use Rattle.key_inputs.proofs.opening.file_of.Goals as goal

@@ -1,11 +1,11 @@
-use Rattle.std.proofs.Common.{◌≡◌, ◌++◌, ◌∷◌, [], ◌∙◌, refl, sym, subst, ap, ap₂, Some, Ok, Err, arith, ℕ, List}
+use Rattle.std.proofs.Common.{◌≡◌, ◌++◌, [], ◌∙◌, sym, subst, ap₂, Some}
 use Rattle.std.proofs.lemmas.Result.{err_from_is_err_and}
 use Rattle.ghost_model.specs.Database as database
 use Rattle.ghost_model.specs.LoadFaults as faults
 use Rattle.ghost_model.specs.Values.{Database}
 use Rattle.edge_traits.specs.Files.{Files}
 use Rattle.key_inputs.specs.Openings.{Opening, TablesInput}
-use Rattle.key_inputs.specs.Views.{Tells, IsBroken, rule_in}
+use Rattle.key_inputs.specs.Views.{Tells, rule_in}
 use Rattle.key_inputs.proofs.Telling.{keys_are_good, keys_are_told}
 use Rattle.key_inputs.proofs.opening.open_tables.Goals as goal
 

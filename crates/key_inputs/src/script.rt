@@ -1,0 +1,44 @@
+//! The reading of a script.
+
+ghost use Rattle.std.specs.Prelude.{◌≡◌, ◌≤◌, true, Some, Err, IfOk, IfErr, is_some, length};
+ghost use Rattle.ghost_model.specs.Causes.{Rose};
+ghost use Rattle.ghost_model.specs.Texts.{texts_of};
+ghost use Rattle.edge_traits.specs.Files.{Files};
+ghost use Rattle.key_inputs.specs.Openings.{Spelled, most_text};
+ghost use Rattle.key_inputs.specs.Scripts.{most_texts, script_opening};
+ghost use Rattle.key_inputs.specs.Views.{Tells, rule_of};
+
+use crate::faults::{InputFault, OpenFault};
+use crate::opening::MAX_TEXT;
+use edge_traits::depot::Depot;
+use edge_traits::reading::{ReadFault, read_file};
+use spj_parse::text_count;
+use std::alloc::Global;
+
+/// The most texts of a script.
+pub const MAX_TEXTS: usize = 64;
+
+/// Reads a script.
+pub fn open_script<D: Depot>(alloc: Global, name: &str, depot: &mut D) -> Result<Vec<u8>, OpenFault>
+    ensures spelled { (files : Files) → D.contents depot.old ≡ Some files → IfOk result (λ script. script_opening files name.now ≡ Spelled script.items) }
+    ensures told { (files : Files) → D.contents depot.old ≡ Some files → IfErr result (λ fault. Tells (script_opening files name.now) fault) }
+    ensures short { IfOk result (λ script. length script.items ≤ most_text) }
+    ensures few { IfOk result (λ script. length (texts_of script.items) ≤ most_texts) }
+    ensures rule { (fault : InputFault) → result ≡ Err (OpenFault.Input fault) → is_some (rule_of fault) ≡ true }
+    ensures never_falls { D.faults depot.old ≤ D.faults depot.new }
+    ensures failed { result ≡ Err OpenFault.Depot → Rose (D.faults depot.old) (D.faults depot.new) }
+    ensures other { (result ≡ Err OpenFault.Depot → ⊥) → D.faults depot.new ≡ D.faults depot.old }
+    ensures appends { D.append_faults depot.new ≡ D.append_faults depot.old }
+    ensures same { D.contents depot.new ≡ D.contents depot.old }
+{
+    let script = match read_file(alloc, depot, name, MAX_TEXT) {
+        Ok(script) => script,
+        Err(ReadFault::Depot) => return Err(OpenFault::Depot),
+        Err(ReadFault::NoMemory) => return Err(OpenFault::NoMemory),
+        Err(ReadFault::TooLong) => return Err(OpenFault::Input(InputFault::ScriptBytes)),
+    };
+    if text_count(&script) > MAX_TEXTS {
+        return Err(OpenFault::Input(InputFault::ScriptTexts));
+    }
+    Ok(script)
+}

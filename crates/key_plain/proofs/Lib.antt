@@ -1,0 +1,2 @@
+pub mod HandingOn
+pub mod Results

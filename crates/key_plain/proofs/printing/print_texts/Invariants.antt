@@ -1,0 +1,14 @@
+use Rattle.std.proofs.Common.{◌≤◌, ◌+◌, length}
+use Rattle.std.specs.List.{concat}
+use Rattle.ghost_model.specs.Printed.{lines_from, printed}
+use Rattle.ghost_model.specs.Texts.{texts_of}
+use Rattle.key_lines.specs.Handing.{handed}
+use Rattle.key_plain.proofs.HandingOn.{HandedSoFar}
+use Rattle.key_plain.proofs.printing.print_texts.Given as goal
+
+abbrev pub invariant-loop-earlier : goal.invariant-loop-earlier
+invariant-loop-earlier g l =
+    HandedSoFar (printed l.schema (texts_of l.script) l.tables) (concat (lines_from l.schema l.tables (l.earlier + 1) l.texts))
+    (handed l.initial.printer.failed (g.O.Sink.faults l.initial.out) (g.O.Sink.written l.initial.out))
+    (handed l.printer.failed (g.O.Sink.faults l.out) (g.O.Sink.written l.out))
+    × (l.earlier + length l.texts ≤ 64)

@@ -1,0 +1,86 @@
+-- What a call of `plain` did, by its result.
+use Rattle.std.specs.Prelude.{◌≡◌, ℕ, ◌≤◌, Bool, true, false, List, length, Option, Some, Result, Ok, Err, ⊤}
+use Rattle.ghost_model.specs.Schema.{Schema}
+use Rattle.ghost_model.specs.Values.{Database}
+use Rattle.ghost_model.specs.Database.{database_of, IsDatabase}
+use Rattle.ghost_model.specs.Printed.{printed}
+use Rattle.ghost_model.specs.Texts.{texts_of}
+use Rattle.edge_traits.specs.Written.{grown, GrowsByFront}
+use Rattle.key_inputs.specs.Openings.{InputFault, Opening, Spelled, Broken, most_text}
+use Rattle.key_inputs.specs.Scripts.{most_texts}
+use Rattle.key_inputs.specs.Views.{rule_of}
+use Rattle.key_inputs.specs.declared.faults.InputFault.{InputFault as Fault}
+use Rattle.key_plain.specs.Openings.{PlainInput, printed_by}
+use Rattle.key_plain.specs.declared.faults.PlainFault.{PlainFault}
+use Rattle.key_plain.specs.declared.faults.PlainFault.TheVariants as fault
+use Rattle.key_plain.specs.declared.opening.Opened.{Opened}
+
+-- what was read is what the files spell
+pub record AreSpelled (opening : Opening PlainInput) (opened : Opened) : Type 0 where
+  pub files : List (List ℕ)
+  pub spelled : opening ≡ Spelled (record { schema = opened.tables.schema; files = files; script = opened.script.items })
+  pub tables : opened.tables.tables ≡ database_of opened.tables.schema files
+
+-- the sink took all lines of what the files spell
+pub record Prints (opening : Opening PlainInput) (before after : Option (List ℕ)) : Type 0 where
+  pub input : PlainInput
+  pub spelled : opening ≡ Spelled input
+  pub printed : after ≡ grown before (printed_by input)
+
+-- the sink took a front of the lines of what the files spell
+pub record PrintsFront (opening : Opening PlainInput) (before after : Option (List ℕ)) : Type 0 where
+  pub input : PlainInput
+  pub spelled : opening ≡ Spelled input
+  pub front : GrowsByFront before (printed_by input) after
+
+-- a fault tells the rule that is broken first
+pub record IsTold (opening : Opening PlainInput) (broken : Fault) : Type 0 where
+  pub rule : InputFault
+  pub told : rule_of broken ≡ Some rule
+  pub first : opening ≡ Broken rule
+
+-- how a call ended of which the depot tells its files
+abbrev pub Ends : {T : Type 0} → Opening PlainInput → Result T PlainFault → (before after : Option (List ℕ)) → Type 0
+Ends opening (Ok _) before after = Prints opening before after
+Ends opening (Err fault.NoMemory) before after = ⊤
+Ends opening (Err fault.Depot) before after = ⊤
+Ends opening (Err (fault.Input broken)) before after = IsTold opening broken
+Ends opening (Err fault.Sink) before after = PrintsFront opening before after
+
+-- a database of a schema, and a script within its limits
+pub record PlainRead : Type 0 where
+  pub schema : Schema
+  pub database : Database
+  pub script : List ℕ
+  pub are : IsDatabase schema database
+  pub short : length script ≤ most_text
+  pub few : length (texts_of script) ≤ most_texts
+
+abbrev pub printed_of : PlainRead → List ℕ
+printed_of read = printed read.schema (texts_of read.script) read.database
+
+-- the sink took all lines of something that was read
+pub record PrintsRead (before after : Option (List ℕ)) : Type 0 where
+  pub read : PlainRead
+  pub printed : after ≡ grown before (printed_of read)
+
+-- the sink took a front of the lines of something that was read
+pub record PrintsReadFront (before after : Option (List ℕ)) : Type 0 where
+  pub read : PlainRead
+  pub front : GrowsByFront before (printed_of read) after
+
+-- what a call printed, whether or not the depot tells its files
+abbrev pub PrintsSome : {T : Type 0} → Result T PlainFault → (before after : Option (List ℕ)) → Type 0
+PrintsSome (Ok _) before after = PrintsRead before after
+PrintsSome (Err fault.NoMemory) before after = ⊤
+PrintsSome (Err fault.Depot) before after = ⊤
+PrintsSome (Err (fault.Input broken)) before after = ⊤
+PrintsSome (Err fault.Sink) before after = PrintsReadFront before after
+
+-- whether a call ends so without a write
+abbrev pub writes_nothing : {T : Type 0} → Result T PlainFault → Bool
+writes_nothing (Ok _) = false
+writes_nothing (Err fault.NoMemory) = true
+writes_nothing (Err fault.Depot) = true
+writes_nothing (Err (fault.Input broken)) = true
+writes_nothing (Err fault.Sink) = false

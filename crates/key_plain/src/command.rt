@@ -1,0 +1,56 @@
+//! The command.
+
+ghost use Rattle.std.specs.Prelude.{◌≡◌, ◌⊎◌, true, Some, Ok, Err};
+ghost use Rattle.ghost_model.specs.Causes.{Rose};
+ghost use Rattle.edge_traits.specs.Files.{Files};
+ghost use Rattle.key_words.specs.Views.{plain_view};
+ghost use Rattle.key_inputs.specs.Openings.{Spelled};
+ghost use Rattle.key_plain.specs.Openings.{PlainInput, plain_opening};
+ghost use Rattle.key_plain.specs.Views.{Ends, PrintsSome, writes_nothing};
+
+use crate::faults::PlainFault;
+use crate::opening::open;
+use crate::printing::print_script;
+use edge_traits::depot::Depot;
+use edge_traits::sink::Sink;
+use key_inputs::OpenFault;
+use key_words::PlainWords;
+use std::alloc::Global;
+
+/// Does the command `plain`: reads the schema, the files of its tables and then the script, and prints for each text of
+/// the script, in their order, the rows of its answer and their number, or the word of its refusal.
+///
+/// The first broken rule of the files is told before anything is printed. After a failed write no further write is made.
+pub fn plain<D: Depot, O: Sink>(
+    alloc: Global,
+    words: &PlainWords<'_>,
+    depot: &mut D,
+    out: &mut O,
+) -> Result<(), PlainFault>
+    ensures ends { (files : Files) → D.contents depot.old ≡ Some files
+        → Ends (plain_opening files (plain_view words.now)) result (O.written out.old) (O.written out.new) }
+    ensures complete { (files : Files) → (input : PlainInput) → D.contents depot.old ≡ Some files
+        → (Rose (D.faults depot.old) (D.faults depot.new) → ⊥) → (Rose (O.faults out.old) (O.faults out.new) → ⊥)
+        → plain_opening files (plain_view words.now) ≡ Spelled input → (result ≡ Ok tt) ⊎ (result ≡ Err PlainFault.NoMemory) }
+    ensures prints { PrintsSome result (O.written out.old) (O.written out.new) }
+    ensures nothing_written { writes_nothing result ≡ true → O.written out.new ≡ O.written out.old }
+    ensures sink { result ≡ Err PlainFault.Sink → Rose (O.faults out.old) (O.faults out.new) }
+    ensures no_sink { (result ≡ Err PlainFault.Sink → ⊥) → O.faults out.new ≡ O.faults out.old }
+    ensures depot { result ≡ Err PlainFault.Depot → Rose (D.faults depot.old) (D.faults depot.new) }
+    ensures no_depot { (result ≡ Err PlainFault.Depot → ⊥) → D.faults depot.new ≡ D.faults depot.old }
+    ensures appends { D.append_faults depot.new ≡ D.append_faults depot.old }
+    ensures same { D.contents depot.new ≡ D.contents depot.old }
+{
+    match open(alloc, words, depot) {
+        Ok(opened) => {
+            let tables = &opened.tables;
+            if print_script(out, &tables.schema, &tables.tables, &opened.script).is_err() {
+                return Err(PlainFault::Sink);
+            }
+            Ok(())
+        }
+        Err(OpenFault::NoMemory) => Err(PlainFault::NoMemory),
+        Err(OpenFault::Depot) => Err(PlainFault::Depot),
+        Err(OpenFault::Input(fault)) => Err(PlainFault::Input(fault)),
+    }
+}
