@@ -15,30 +15,14 @@ ghost use Rattle.channel_pump.specs.Marks.{state_of};
 ghost use Rattle.channel_pump.specs.State as state;
 ghost use Rattle.channel_pump.specs.State.{IsAfter, Keeps, IsWanted, IsTakenBy, FitsPage, Begins, want_of, want_at, is_done_by, can_fail, is_take, entry, taken_entry, cause_at, frame_due};
 ghost use Rattle.channel_pump.specs.Turning.{event_after};
-ghost use Rattle.channel_pump.specs.Progress.{Tells, EndsAs};
+ghost use Rattle.channel_pump.specs.Progress.{RowsHere, Tells, EndsAs};
 
+use crate::asks::Asks;
 use crate::forms::AskForm;
 use crate::judging::Judged;
+use crate::missing::Missing;
 use crate::state::{Cause, Event, Outgoing, Phase, Pump, ReplyState, Stage, Want};
 use channel_codec::frame::{Frame, put_frame};
-
-/// Whether an ask is of this text.
-fn has_text(text: u32, asks: &[AskForm]) -> bool
-    ensures { result ≡ list_any (λ form. form.text == text) asks.now }
-{
-    asks.iter().any(|form| form.text == text)
-}
-
-/// The payload of the first of some asks, and no bytes where there is none.
-fn first_payload<'a>(asks: &'a [AskForm<'a>]) -> &'a [u8]
-    ensures value { result.now ≡ state.first_payload asks.now }
-    ensures short { length result.now ≤ 2040 }
-{
-    match asks.first() {
-        Some(form) => form.payload,
-        None => &[],
-    }
-}
 
 impl<'a> Pump<'a> {
     /// A session of these asks, with a catalog of this generation and of these bytes, before its first move.
@@ -49,8 +33,8 @@ impl<'a> Pump<'a> {
     {
         Pump {
             generation,
-            missing: catalog,
-            rest: asks,
+            missing: Missing::of_bytes(catalog),
+            rest: Asks::of_forms(asks),
             phase: Phase::Greeting,
             stage: Stage::Dialling,
             serial: 1,
@@ -99,8 +83,8 @@ impl<'a> Pump<'a> {
         ensures { result ≡ awaits_at self.now.phase self.now text }
     {
         match self.phase {
-            Phase::Greeting => has_text(text, self.rest),
-            Phase::Reply => has_text(text, self.rest),
+            Phase::Greeting => self.rest.any_of(text),
+            Phase::Reply => self.rest.any_of(text),
             Phase::Over => false,
         }
     }
@@ -126,7 +110,7 @@ impl<'a> Pump<'a> {
     }
 
     /// The frame that is sent.
-    fn outgoing(&self, outgoing: Outgoing) -> Frame<'a>
+    fn outgoing(&self, outgoing: Outgoing) -> Frame<'_>
         ensures frame { frame_view result ≡ frame_due self.now outgoing }
         ensures short { length (payload_of (frame_view result)) ≤ 2040 }
     {
@@ -136,7 +120,7 @@ impl<'a> Pump<'a> {
             },
             Outgoing::Ask => Frame::Ask {
                 serial: self.serial,
-                payload: first_payload(self.rest),
+                payload: self.rest.payload(),
             },
             Outgoing::More => Frame::More {
                 serial: self.serial,
@@ -221,6 +205,7 @@ impl<'a> Pump<'a> {
         ensures tells { (catalog : Catalog) (asks : List Asked) (journal : Journal)
             → IsAfter catalog asks journal self.old → Keeps catalog asks journal page.now
             → Tells catalog page.now result (heard catalog asks (taken journal)) (heard catalog asks (taken (journal ++ taken_entry self.old page.now n ∷ []))) }
+        ensures rows { RowsHere self.old page.now result }
         ensures fewer { moves_left self.new < moves_left self.old }
     {
         let (part, _rest) = page.split_at(self.have + n);
