@@ -1,6 +1,6 @@
 //! The calls of a pump. A session asks what is wanted, does that move and reports its answer.
 
-ghost use Rattle.std.specs.Prelude.{◌≡◌, ℕ, ◌+◌, ◌<◌, ◌≤◌, ◌^◌, ◌++◌, ◌==◌, true, List, [], ◌∷◌, length, take, drop, Option, Some};
+ghost use Rattle.std.specs.Prelude.{◌≡◌, ℕ, ◌+◌, ◌<◌, ◌≤◌, ◌^◌, ◌++◌, ◌==◌, true, List, [], ◌∷◌, length, take, drop, map, Option, Some, None};
 ghost use Rattle.std.specs.List.{list_any};
 ghost use Rattle.ghost_model.specs.Channel as channel;
 ghost use Rattle.ghost_model.specs.Channel.{Catalog, Journal, Move};
@@ -9,7 +9,10 @@ ghost use Rattle.ghost_model.specs.Moves.{taken};
 ghost use Rattle.ghost_model.specs.NextMove as next;
 ghost use Rattle.ghost_model.specs.NextMove.{next_with, heard, left};
 ghost use Rattle.ghost_model.specs.Frames.{payload_of};
+ghost use Rattle.ghost_model.specs.Catalog.{catalog_bytes};
 ghost use Rattle.channel_codec.specs.Views.{frame_view};
+ghost use Rattle.channel_pump.specs.Forms.{form_of};
+ghost use Rattle.channel_pump.specs.Asked.{AreAsked};
 ghost use Rattle.channel_pump.specs.Here.{moves_left, awaits_at};
 ghost use Rattle.channel_pump.specs.Marks.{state_of};
 ghost use Rattle.channel_pump.specs.State as state;
@@ -25,16 +28,17 @@ use crate::state::{Cause, Event, Outgoing, Phase, Pump, ReplyState, Stage, Want}
 use channel_codec::frame::{Frame, put_frame};
 
 impl<'a> Pump<'a> {
-    /// A session of these asks, with a catalog of this generation and of these bytes, before its first move.
-    pub fn begin(generation: u32, catalog: &'a [u8], asks: &'a [AskForm<'a>]) -> Self
-        requires { 1 + length asks.now < 2 ^ 32 }
-        ensures after { (cat : Catalog) (asked : List Asked) → Begins cat asked generation catalog.now asks.now → IsAfter cat asked [] result }
+    /// A session of these asks with these bytes of a catalog, before its first move.
+    fn start(generation: u32, missing: Missing<'a>, rest: Asks<'a>) -> Self
+        requires { 1 + length rest < 2 ^ 32 }
+        ensures after { (cat : Catalog) (asked : List Asked) → cat.generation ≡ generation → catalog_bytes cat ≡ missing.entry → AreAsked cat rest.entry asked
+            → IsAfter cat asked [] result }
         ensures want { want_of result ≡ Want.Dial }
     {
         Pump {
             generation,
-            missing: Missing::of_bytes(catalog),
-            rest: Asks::of_forms(asks),
+            missing,
+            rest,
             phase: Phase::Greeting,
             stage: Stage::Dialling,
             serial: 1,
@@ -45,6 +49,28 @@ impl<'a> Pump<'a> {
             before: 0,
             refused: [false; 65],
         }
+    }
+
+    /// A session of these asks, with a catalog of this generation and of these bytes, before its first move.
+    pub fn begin(generation: u32, catalog: &'a [u8], asks: &'a [AskForm<'a>]) -> Self
+        requires { 1 + length asks.now < 2 ^ 32 }
+        ensures after { (cat : Catalog) (asked : List Asked) → Begins cat asked generation catalog.now asks.now → IsAfter cat asked [] result }
+        ensures want { want_of result ≡ Want.Dial }
+    {
+        Pump::start(generation, Missing::of_bytes(catalog), Asks::of_forms(asks))
+    }
+
+    /// A session of these asks with a catalog, before its first move. The catalog's bytes are made as they are compared.
+    pub fn begin_with(cat: &'a tree_schema::Catalog, asks: &'a [AskForm<'a>]) -> Self
+        requires { 1 + length asks.now < 2 ^ 32 }
+        ensures after { (asked : List Asked) → AreAsked cat.now (map (form_of None) asks.now) asked → IsAfter cat.now asked [] result }
+        ensures want { want_of result ≡ Want.Dial }
+    {
+        Pump::start(
+            cat.generation(),
+            Missing::of_catalog(cat),
+            Asks::of_forms(asks),
+        )
     }
 
     /// What is wanted: the next move of the session.
