@@ -6,3 +6,5 @@
 
 pub mod queries;
 pub mod scripts;
+#[cfg(test)]
+mod tests;
