@@ -1,4 +1,6 @@
 pub mod Narrow
+pub mod Forms
+pub mod Sources
 pub mod Asked
 pub mod Rows
 pub mod Here
