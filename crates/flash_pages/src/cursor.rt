@@ -94,7 +94,7 @@ impl RunCursor {
     /// Whether the next call of `next` reads a page.
     pub fn will_read(&self) -> bool
         requires some { 0 < self.now.list.run.width }
-        requires fits { self.now.list.run.width ≤ 256 }
+        requires fits { self.now.list.run.width ≤ 2048 }
         requires place { place self.now < 2 ^ 32 }
         requires page { page_next self.now < 2 ^ 32 }
         ensures { result ≡ will_read self.now }
