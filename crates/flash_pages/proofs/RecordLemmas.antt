@@ -1,8 +1,9 @@
 -- A record as it is read from a page.
-use Rattle.std.proofs.Common.{◌≡◌, ℕ, suc, ◌+◌, ◌-◌, ◌/◌, ◌%◌, ◌<◌, ◌≤◌, ◌++◌, ◌∙◌, ap, sym, inl, inr, min, List, [], ◌∷◌, length, take, drop, replicate, arith}
+use Rattle.std.proofs.Common.{◌≡◌, ℕ, zero, suc, ◌+◌, ◌-◌, ◌*◌, ◌/◌, ◌%◌, ◌^◌, ◌<◌, ◌≤◌, ◌++◌, ◌∙◌, ap, sym, inl, inr, min, List, [], ◌∷◌, length, take, drop, replicate, get_or, lit<, arith}
 use Rattle.std.proofs.lemmas.Bool.{cases_lt}
 use Rattle.std.proofs.lemmas.List.{take_all, drop-replicate}
-use Rattle.ghost_model.specs.Runs.{Run, per_page, cell_in, record_at, id_at, ids_from}
+use Rattle.std.proofs.lemmas.Nat.{div-mul-add}
+use Rattle.ghost_model.specs.Runs.{Run, per_page, cell_in, record_at, id_at, ids_from, number_in, found_in}
 
 -- the slot of the page that was read is the record
 pub record_read :
@@ -49,3 +50,41 @@ unfolding ids_from
 ids_end page run place at count end =
     let left : count - at ≡ 0 = omega arith in
     ap (λ n. ids_from page run place n) left
+
+-- the first four bytes of a record are the first half of the number that its first eight bytes are
+zeros_small : (n m i : ℕ) → get_or (drop n (replicate {A = ℕ} m 0)) i 0 < 256
+zeros_small zero zero i = lit< tt
+zeros_small zero (suc m) zero = lit< tt
+zeros_small zero (suc m) (suc i) = zeros_small zero m i
+zeros_small (suc n) zero i = lit< tt
+zeros_small (suc n) (suc m) i = zeros_small n m i
+
+front_small :
+    (n : ℕ) (xs pad : List ℕ) → ((i : ℕ) → get_or xs i 0 < 256) → ((i : ℕ) → get_or pad i 0 < 256)
+    → (i : ℕ) → get_or (take n xs ++ pad) i 0 < 256
+front_small zero xs pad small rest i = rest i
+front_small (suc n) [] pad small rest i = rest i
+front_small (suc n) (x ∷ xs) pad small rest zero = small 0
+front_small (suc n) (x ∷ xs) pad small rest (suc i) = front_small n xs pad (λ k. small (suc k)) rest i
+
+first_half :
+    (high e f g h found : ℕ) → e < 256 → f < 256 → g < 256 → h < 256
+    → found ≡ high * 4294967296 + (h + g * 256 + f * 65536 + e * 16777216) → found / 4294967296 ≡ high
+first_half high e f g h found e_small f_small g_small h_small is =
+    let small : h + g * 256 + f * 65536 + e * 16777216 < 4294967296 = omega arith in
+    ap (λ n. n / 4294967296) is ∙ div-mul-add high 4294967296 (h + g * 256 + f * 65536 + e * 16777216) small
+
+pub found_begins :
+    (cell : List ℕ) (found : ℕ) → 4 ≤ length cell → ((i : ℕ) → get_or cell i 0 < 256) → found ≡ found_in cell
+    → found / 2 ^ 32 ≡ number_in cell 0
+unfolding found_in number_in
+found_begins [] found long small is = absurd (omega arith)
+found_begins (a ∷ []) found long small is = absurd (omega arith)
+found_begins (a ∷ b ∷ []) found long small is = absurd (omega arith)
+found_begins (a ∷ b ∷ c ∷ []) found long small is = absurd (omega arith)
+found_begins (a ∷ b ∷ c ∷ d ∷ others) found long small is =
+    let rest = take 4 others ++ drop (length others) (replicate {A = ℕ} 4 0) in
+    let below = front_small 4 others (drop (length others) (replicate {A = ℕ} 4 0)) (λ k. small (suc (suc (suc (suc k))))) (zeros_small (length others) 4) in
+    let high = d + c * 256 + b * 65536 + a * 16777216 in
+    first_half high (get_or rest 0 0) (get_or rest 1 0) (get_or rest 2 0) (get_or rest 3 0) found (below 0) (below 1) (below 2) (below 3) (omega (arith, is))
+    ∙ omega arith

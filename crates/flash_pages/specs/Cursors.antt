@@ -1,5 +1,5 @@
 -- What a cursor has left of its list, and what its next call gives.
-use Rattle.std.specs.Prelude.{◌≡◌, ℕ, ◌+◌, ◌-◌, ◌<◌, ◌≤◌, ◌&&◌, Bool, ⊤, List, [], ◌∷◌, nat_lt, Option, Some, None, Result, Ok, Err, IfSome}
+use Rattle.std.specs.Prelude.{◌≡◌, ℕ, ◌+◌, ◌-◌, ◌/◌, ◌^◌, ◌<◌, ◌≤◌, ◌&&◌, Bool, ⊤, List, [], ◌∷◌, nat_lt, Option, Some, None, Result, Ok, Err, IfSome}
 use Rattle.ghost_model.specs.Runs as runs
 use Rattle.edge_traits.specs.Devices.{Device}
 use Rattle.flash_pages.specs.declared.cursor.RunCursor.{RunCursor}
@@ -52,15 +52,18 @@ GivesNext page before now (Ok (Some id)) = GivesId page before now id
 GivesNext page before now (Err Flash) = ⊤
 GivesNext page before now (Err (Damaged number slot found)) = GivesDamage page before found
 
--- a fault leaves the cursor where it stood, and a slot that is blamed is the next one
-pub record BlamesSlot (before : RunCursor) (number slot : ℕ) : Type 0 where
+-- a fault leaves the cursor where it stood, and a slot that is blamed is the next one. What was found begins with an
+-- identifier out of range or order, even where pages are not told
+pub record BlamesSlot (before : RunCursor) (number slot found : ℕ) : Type 0 where
+  pub within : before.at < before.list.count
   pub page : number ≡ page_next before
   pub slot_is : slot ≡ slot_next before
+  pub not_next : IsNext before (found / 2 ^ 32) → ⊥
 
 abbrev pub BlamesNext : RunCursor → RunCursor → Result (Option ℕ) PageFault → Type 0
 BlamesNext before now (Ok answer) = ⊤
 BlamesNext before now (Err Flash) = StandsAt before now
-BlamesNext before now (Err (Damaged number slot found)) = StandsAt before now × BlamesSlot before number slot
+BlamesNext before now (Err (Damaged number slot found)) = StandsAt before now × BlamesSlot before number slot found
 
 -- it is a cursor over the same list
 pub record SameList (before now : RunCursor) : Type 0 where

@@ -12,7 +12,7 @@ run_of run = record { first = run.first; count = run.count; width = run.width }
 -- the device has every page of a run, and a record has a width that may be
 pub record HasRun (device : Device) (run : runs.Run) : Type 0 where
   pub some : 0 < run.width
-  pub fits : run.width ≤ 256
+  pub fits : run.width ≤ 2048
   pub pages : (i : ℕ) → i < run.count → runs.page_of run i < device.page_count
   pub small : device.page_count < 2 ^ 32
 

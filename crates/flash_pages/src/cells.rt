@@ -1,6 +1,6 @@
 //! Records in a page, and numbers in a record.
 
-ghost use Rattle.std.specs.Prelude.{◌≡◌, ◌<◌, ◌≤◌, ◌+◌, ◌*◌, length};
+ghost use Rattle.std.specs.Prelude.{◌≡◌, ◌<◌, ◌≤◌, ◌+◌, ◌*◌, ◌/◌, ◌^◌, length};
 ghost use Rattle.ghost_model.specs.Runs.{cell_in, number_in, found_in};
 
 /// The record in a slot of a page.
@@ -25,7 +25,8 @@ pub fn number_at(bytes: &[u8], at: usize) -> u32
 
 /// The first eight bytes of a record as a number, most significant first, with bytes 0 after a shorter one.
 pub fn found_of(cell: &[u8]) -> u64
-    ensures { result ≡ found_in cell.now }
+    ensures found { result ≡ found_in cell.now }
+    ensures begins { 4 ≤ length cell.now → result / 2 ^ 32 ≡ number_in cell.now 0 }
 {
     let count = cell.len().min(8);
     let mut bytes = [0; 8];

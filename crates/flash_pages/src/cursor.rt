@@ -1,8 +1,8 @@
 //! The ascending identifiers of a list.
 
-ghost use Rattle.std.specs.Prelude.{◌≡◌, ◌<◌, ◌≤◌, ◌+◌, ◌^◌, true, None, Ok, Some, length, IfOk, MatchOption};
+ghost use Rattle.std.specs.Prelude.{◌≡◌, ◌<◌, ◌≤◌, ◌+◌, ◌^◌, true, None, Ok, Some, length, IfOk, IfSome, MatchOption};
 ghost use Rattle.edge_traits.specs.Devices.{next_if, KeepsPages};
-ghost use Rattle.flash_pages.specs.Cursors.{GivesNext, BlamesNext, SameList, IsReady, will_read, place, page_next};
+ghost use Rattle.flash_pages.specs.Cursors.{GivesNext, BlamesNext, SameList, IsReady, IsNext, will_read, place, page_next};
 ghost use Rattle.flash_pages.specs.Faults.{PageCause, EndsAtFault};
 ghost use Rattle.flash_pages.specs.Runs.{run_of, HasRun, IsHeld};
 
@@ -60,6 +60,7 @@ impl RunCursor {
         requires ready { IsReady F.told (F.state flash.old) self.old buf.old }
         ensures gives { F.told ≡ true → GivesNext (F.state flash.old).page self.old self.new result }
         ensures step { IfOk result (λ next. MatchOption next ((self.old.at ≡ self.old.list.count) × (self.new.at ≡ self.old.at)) (λ _. (self.old.at < self.old.list.count) × (self.new.at ≡ self.old.at + 1))) }
+        ensures in_order { IfOk result (λ next. IfSome next (λ id. IsNext self.old id × (self.new.last ≡ id))) }
         ensures blames { BlamesNext self.old self.new result }
         ensures ready { IsReady F.told (F.state flash.new) self.new buf.new }
         ensures same { SameList self.old self.new }
@@ -93,7 +94,7 @@ impl RunCursor {
     /// Whether the next call of `next` reads a page.
     pub fn will_read(&self) -> bool
         requires some { 0 < self.now.list.run.width }
-        requires fits { self.now.list.run.width ≤ 256 }
+        requires fits { self.now.list.run.width ≤ 2048 }
         requires place { place self.now < 2 ^ 32 }
         requires page { page_next self.now < 2 ^ 32 }
         ensures { result ≡ will_read self.now }

@@ -27,12 +27,12 @@ pub struct ListRef {
     pub count: u32,
 }
 
-/// How many records of a width one page takes, the width being from 1 to 256 bytes.
+/// How many records of a width one page takes, the width being from 1 to 2,048 bytes.
 pub fn per_page(width: u32) -> u32
     requires some { 0 < width }
-    requires fits { width ≤ 256 }
+    requires fits { width ≤ 2048 }
     ensures value { result ≡ per_page width }
-    ensures some { 8 ≤ result }
+    ensures some { 0 < result }
     ensures within { result * width ≤ 2048 }
 {
     2048 / width

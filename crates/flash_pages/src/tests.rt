@@ -156,3 +156,25 @@ fn a_block_is_erased_before_its_first_page_is_written(rt: HostRuntime) -> Result
     }
     Ok(())
 }
+
+#[test]
+fn a_page_takes_one_wide_record(rt: HostRuntime) -> Result<(), AttachFault> {
+    let mut flash = made(rt.alloc(), &[])?;
+    let mut buf = [0; 2048];
+    let mut writer = RunWriter::begin(62, 1476, false);
+    writer.put(&mut flash, &mut buf, &[7; 1476])?;
+    writer.put(&mut flash, &mut buf, &[8; 1476])?;
+    let run = writer.finish(&mut flash, &buf)?;
+    assert_eq!(rt; (run.first, run.count, run.width), (62, 2, 1476));
+    assert_eq!(rt; flash.script.calls, 3);
+    let mut record = [0; 1476];
+    let mut held = Held::none();
+    assert_eq!(rt;
+        fixed_get(&mut flash, &mut held, &mut buf, &run, 1, &mut record),
+        Ok(())
+    );
+    assert_eq!(rt; record, [8; 1476]);
+    assert_eq!(rt; held.page, Some(63));
+    assert_eq!(rt; (buf[1475], buf[1476]), (8, 255));
+    Ok(())
+}

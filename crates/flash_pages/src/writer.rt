@@ -30,7 +30,7 @@ pub struct RunWriter {
     /// How many records were put.
     pub count: u32,
     ghost some: { 0 < width },
-    ghost fits: { width ≤ 256 },
+    ghost fits: { width ≤ 2048 },
     ghost not_full: { held < 2048 / width },
     ghost counted: { count ≡ pages * (2048 / width) + held },
 }
@@ -84,11 +84,11 @@ impl RunWriter {
     ghost use Rattle.flash_pages.specs.Runs.{run_of};
     ghost use Rattle.flash_pages.specs.Writers.{CanWrite, HasWritten, SameRun, IsRunOf, next_page, fills, waits, put_calls, finish_calls};
 
-    /// A writer of records of `width` bytes, 1 to 256, from the beginning of page `first` on. With `erase` that page is the
+    /// A writer of records of `width` bytes, 1 to 2,048, from the beginning of page `first` on. With `erase` that page is the
     /// first of a block; without it the pages that are written are blank.
     pub fn begin(first: u32, width: u32, erase: bool) -> RunWriter
         requires some { 0 < width }
-        requires fits { width ≤ 256 }
+        requires fits { width ≤ 2048 }
         ensures first { result.first ≡ first }
         ensures width { result.width ≡ width }
         ensures erase { result.erase ≡ erase }

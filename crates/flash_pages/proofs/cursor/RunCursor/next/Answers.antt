@@ -19,7 +19,7 @@ returns-then-id-self-clause-gives g c = λ told.
     let id : c.number_at-id.result ≡ id_next page cursor = c.number_at-id.ensures ∙ ap (λ r. number_in r 0) cell in
     record {
       within = omega arith;
-      found_is = c.found_of.ensures ∙ ap (λ r. found_in r) cell;
+      found_is = c.found_of.ensures.found ∙ ap (λ r. found_in r) cell;
       not_next = λ n. elim c.then-id-self.branch [
         | then-id-self-via-then-id-self w ↦ omega arith
         | then-id-self-via-else-id-self+then-id-self-2 w ↦ omega arith
