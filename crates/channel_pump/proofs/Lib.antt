@@ -3,7 +3,6 @@ pub mod TurningLemmas
 pub mod JournalLemmas
 pub mod CuttingLemmas
 pub mod PlaceLemmas
-pub mod SourceLemmas
 pub mod ReportLemmas
 pub mod TookLemmas
 pub mod CauseLemmas

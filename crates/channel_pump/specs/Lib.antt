@@ -1,6 +1,4 @@
 pub mod Narrow
-pub mod Forms
-pub mod Sources
 pub mod Asked
 pub mod Rows
 pub mod Here

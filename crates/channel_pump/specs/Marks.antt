@@ -4,7 +4,7 @@ use Rattle.std.specs.List.{list_any}
 use Rattle.ghost_model.specs.Asks.{Asked}
 use Rattle.ghost_model.specs.NextMove as next
 use Rattle.ghost_model.specs.NextMove.{Awaits, Missing, Nothing, Ending, Answered, Refused, Ended, Left}
-use Rattle.channel_pump.specs.Forms.{Form}
+use Rattle.channel_pump.specs.declared.forms.AskForm.{AskForm}
 use Rattle.channel_pump.specs.declared.state.Event.{Event}
 use Rattle.channel_pump.specs.declared.state.Event.TheVariants as event
 use Rattle.channel_pump.specs.declared.state.ReplyState.{ReplyState}
@@ -24,11 +24,11 @@ pub record AreMarked (marks : List Bool) (ended : List Ended) : Type 0 where
   pub each : (text : ℕ) → text ≤ 64 → slice_index_or marks text false ≡ list_any (is_refusal text) ended
 
 -- the marks with that of the first of some asks
-abbrev pub mark_first : List Form → List Bool → List Bool
+abbrev pub mark_first : List AskForm → List Bool → List Bool
 mark_first [] marks = marks
 mark_first (form ∷ _) marks = slice_set marks form.text true
 
-abbrev pub marked_on : Event → List Form → List Bool → List Bool
+abbrev pub marked_on : Event → List AskForm → List Bool → List Bool
 marked_on event.Part forms marks = marks
 marked_on event.Welcome forms marks = marks
 marked_on (event.Rows _) forms marks = marks

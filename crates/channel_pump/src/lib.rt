@@ -5,11 +5,9 @@
 //! else decides it.
 #![tactic(auto)]
 
-mod asks;
 pub mod forms;
 mod judging;
 pub mod laws;
-mod missing;
 pub mod pump;
 mod rows;
 pub mod state;

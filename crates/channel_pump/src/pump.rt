@@ -1,6 +1,6 @@
 //! The calls of a pump. A session asks what is wanted, does that move and reports its answer.
 
-ghost use Rattle.std.specs.Prelude.{◌≡◌, ℕ, ◌+◌, ◌<◌, ◌≤◌, ◌^◌, ◌++◌, ◌==◌, true, List, [], ◌∷◌, length, take, drop, map, Option, Some, None};
+ghost use Rattle.std.specs.Prelude.{◌≡◌, ℕ, ◌+◌, ◌<◌, ◌≤◌, ◌^◌, ◌++◌, ◌==◌, true, List, [], ◌∷◌, length, take, drop, Option, Some};
 ghost use Rattle.std.specs.List.{list_any};
 ghost use Rattle.ghost_model.specs.Channel as channel;
 ghost use Rattle.ghost_model.specs.Channel.{Catalog, Journal, Move};
@@ -9,36 +9,48 @@ ghost use Rattle.ghost_model.specs.Moves.{taken};
 ghost use Rattle.ghost_model.specs.NextMove as next;
 ghost use Rattle.ghost_model.specs.NextMove.{next_with, heard, left};
 ghost use Rattle.ghost_model.specs.Frames.{payload_of};
-ghost use Rattle.ghost_model.specs.Catalog.{catalog_bytes};
 ghost use Rattle.channel_codec.specs.Views.{frame_view};
-ghost use Rattle.channel_pump.specs.Forms.{form_of};
-ghost use Rattle.channel_pump.specs.Asked.{AreAsked};
 ghost use Rattle.channel_pump.specs.Here.{moves_left, awaits_at};
 ghost use Rattle.channel_pump.specs.Marks.{state_of};
 ghost use Rattle.channel_pump.specs.State as state;
 ghost use Rattle.channel_pump.specs.State.{IsAfter, Keeps, IsWanted, IsTakenBy, FitsPage, Begins, want_of, want_at, is_done_by, can_fail, is_take, entry, taken_entry, cause_at, frame_due};
 ghost use Rattle.channel_pump.specs.Turning.{event_after};
-ghost use Rattle.channel_pump.specs.Progress.{RowsHere, Tells, EndsAs};
+ghost use Rattle.channel_pump.specs.Progress.{Tells, EndsAs};
 
-use crate::asks::Asks;
 use crate::forms::AskForm;
 use crate::judging::Judged;
-use crate::missing::Missing;
 use crate::state::{Cause, Event, Outgoing, Phase, Pump, ReplyState, Stage, Want};
 use channel_codec::frame::{Frame, put_frame};
 
+/// Whether an ask is of this text.
+fn has_text(text: u32, asks: &[AskForm]) -> bool
+    ensures { result ≡ list_any (λ form. form.text == text) asks.now }
+{
+    asks.iter().any(|form| form.text == text)
+}
+
+/// The payload of the first of some asks, and no bytes where there is none.
+fn first_payload<'a>(asks: &'a [AskForm<'a>]) -> &'a [u8]
+    ensures value { result.now ≡ state.first_payload asks.now }
+    ensures short { length result.now ≤ 2040 }
+{
+    match asks.first() {
+        Some(form) => form.payload,
+        None => &[],
+    }
+}
+
 impl<'a> Pump<'a> {
-    /// A session of these asks with these bytes of a catalog, before its first move.
-    fn start(generation: u32, missing: Missing<'a>, rest: Asks<'a>) -> Self
-        requires { 1 + length rest < 2 ^ 32 }
-        ensures after { (cat : Catalog) (asked : List Asked) → cat.generation ≡ generation → catalog_bytes cat ≡ missing.entry → AreAsked cat rest.entry asked
-            → IsAfter cat asked [] result }
+    /// A session of these asks, with a catalog of this generation and of these bytes, before its first move.
+    pub fn begin(generation: u32, catalog: &'a [u8], asks: &'a [AskForm<'a>]) -> Self
+        requires { 1 + length asks.now < 2 ^ 32 }
+        ensures after { (cat : Catalog) (asked : List Asked) → Begins cat asked generation catalog.now asks.now → IsAfter cat asked [] result }
         ensures want { want_of result ≡ Want.Dial }
     {
         Pump {
             generation,
-            missing,
-            rest,
+            missing: catalog,
+            rest: asks,
             phase: Phase::Greeting,
             stage: Stage::Dialling,
             serial: 1,
@@ -49,28 +61,6 @@ impl<'a> Pump<'a> {
             before: 0,
             refused: [false; 65],
         }
-    }
-
-    /// A session of these asks, with a catalog of this generation and of these bytes, before its first move.
-    pub fn begin(generation: u32, catalog: &'a [u8], asks: &'a [AskForm<'a>]) -> Self
-        requires { 1 + length asks.now < 2 ^ 32 }
-        ensures after { (cat : Catalog) (asked : List Asked) → Begins cat asked generation catalog.now asks.now → IsAfter cat asked [] result }
-        ensures want { want_of result ≡ Want.Dial }
-    {
-        Pump::start(generation, Missing::of_bytes(catalog), Asks::of_forms(asks))
-    }
-
-    /// A session of these asks with a catalog, before its first move. The catalog's bytes are made as they are compared.
-    pub fn begin_with(cat: &'a tree_schema::Catalog, asks: &'a [AskForm<'a>]) -> Self
-        requires { 1 + length asks.now < 2 ^ 32 }
-        ensures after { (asked : List Asked) → AreAsked cat.now (map (form_of None) asks.now) asked → IsAfter cat.now asked [] result }
-        ensures want { want_of result ≡ Want.Dial }
-    {
-        Pump::start(
-            cat.generation(),
-            Missing::of_catalog(cat),
-            Asks::of_forms(asks),
-        )
     }
 
     /// What is wanted: the next move of the session.
@@ -109,8 +99,8 @@ impl<'a> Pump<'a> {
         ensures { result ≡ awaits_at self.now.phase self.now text }
     {
         match self.phase {
-            Phase::Greeting => self.rest.any_of(text),
-            Phase::Reply => self.rest.any_of(text),
+            Phase::Greeting => has_text(text, self.rest),
+            Phase::Reply => has_text(text, self.rest),
             Phase::Over => false,
         }
     }
@@ -136,7 +126,7 @@ impl<'a> Pump<'a> {
     }
 
     /// The frame that is sent.
-    fn outgoing(&self, outgoing: Outgoing) -> Frame<'_>
+    fn outgoing(&self, outgoing: Outgoing) -> Frame<'a>
         ensures frame { frame_view result ≡ frame_due self.now outgoing }
         ensures short { length (payload_of (frame_view result)) ≤ 2040 }
     {
@@ -146,7 +136,7 @@ impl<'a> Pump<'a> {
             },
             Outgoing::Ask => Frame::Ask {
                 serial: self.serial,
-                payload: self.rest.payload(),
+                payload: first_payload(self.rest),
             },
             Outgoing::More => Frame::More {
                 serial: self.serial,
@@ -231,7 +221,6 @@ impl<'a> Pump<'a> {
         ensures tells { (catalog : Catalog) (asks : List Asked) (journal : Journal)
             → IsAfter catalog asks journal self.old → Keeps catalog asks journal page.now
             → Tells catalog page.now result (heard catalog asks (taken journal)) (heard catalog asks (taken (journal ++ taken_entry self.old page.now n ∷ []))) }
-        ensures rows { RowsHere self.old page.now result }
         ensures fewer { moves_left self.new < moves_left self.old }
     {
         let (part, _rest) = page.split_at(self.have + n);
