@@ -27,4 +27,8 @@ pub use refusal::Refusal;
 pub use texts::{Texts, text_count};
 
 #[cfg(test)]
+mod query_tests;
+#[cfg(test)]
+mod refusal_tests;
+#[cfg(test)]
 mod tests;

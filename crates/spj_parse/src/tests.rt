@@ -106,6 +106,23 @@ fn a_script_is_cut_where_no_literal_is_open(rt: HostRuntime) {
     assert!(rt; texts.next() == Some(b"SELECT 'a;b'".as_slice()));
     assert!(rt; texts.next() == Some(b" SELECT c".as_slice()));
     assert!(rt; texts.next() == None);
-    assert!(rt; text_count(script) == 2);
-    assert!(rt; text_count(b"don't; stop") == 1);
+    for (script, count) in [
+        (script, 2),
+        (b"don't; stop".as_slice(), 1),
+        (b"".as_slice(), 0),
+        (b" \t\r\n ;;\n".as_slice(), 0),
+        (b"\x0B;SELECT day FROM visit".as_slice(), 2),
+        (
+            b"SELECT visit.id FROM visit WHERE purpose = 'a;b'; SELECT day FROM visit;".as_slice(),
+            2,
+        ),
+        (b"SELECT don't; SELECT id FROM doctor;".as_slice(), 1),
+        (
+            b"SELECT don't; SELECT can't; SELECT id FROM doctor;".as_slice(),
+            2,
+        ),
+        (b"'x; y''z'; w".as_slice(), 2),
+    ] {
+        assert_eq!(rt; text_count(script), count);
+    }
 }
