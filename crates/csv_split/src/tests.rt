@@ -5,7 +5,7 @@ use crate::loading::{read_table, read_tables};
 use crate::references::check_references;
 use crate::tables::Tables;
 use ghost_base::{Text64, Value};
-use std::alloc::Global;
+use std::alloc::{AllocError, Global};
 use std::fmt::{Error as FormatError, Write};
 use tree_schema::{Schema, SchemaFault, read_schema};
 
@@ -315,5 +315,25 @@ fn tables_are_read_one_by_one(rt: HostRuntime) -> Result<(), SchemaFault> {
     }
     assert_eq!(rt; tables.tables(), 3);
     assert_eq!(rt; check_references(&schema, &tables), Ok(()));
+    Ok(())
+}
+
+#[test]
+fn a_file_has_at_most_so_many_bytes(rt: HostRuntime) -> Result<(), AllocError> {
+    let Ok(schema) = read_schema(CLINIC) else {
+        assert!(rt; false);
+        return Ok(());
+    };
+    assert!(rt; schema.tables() > 1);
+    let mut file: Vec<u8> = vec![in rt.alloc(); b'\n'; 67_108_865]?;
+    file[0] = b'x';
+    let (front, _rest) = file.split_at(67_108_864);
+    for (bytes, fault) in [
+        (front, LoadFault::Header(place(1, 1, 0))),
+        (file.as_slice(), LoadFault::FileLimit(place(1, 0, 0))),
+    ] {
+        let read = read_table(rt.alloc(), &schema, 1, bytes);
+        assert_eq!(rt; read.err(), Some(fault));
+    }
     Ok(())
 }
