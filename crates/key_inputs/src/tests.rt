@@ -90,6 +90,11 @@ fn a_schema_is_judged_before_any_table(rt: HostRuntime) -> Result<(), AllocError
         fault_of(rt.alloc(), &mut depot),
         Some(OpenFault::Input(InputFault::Schema(none)))
     );
+    let mut empty = depot_with(rt.alloc(), b"", None, None, &[])?;
+    assert_eq!(rt;
+        fault_of(rt.alloc(), &mut empty),
+        Some(OpenFault::Input(InputFault::Schema(none)))
+    );
     text.push(b' ')?;
     let mut longer = depot_with(rt.alloc(), &text, None, None, &[])?;
     assert_eq!(rt;
