@@ -9,15 +9,15 @@ use Rattle.ghost_model.specs.Database.{IsDatabase, rows_of, row_counts, field, i
 use Rattle.ghost_model.specs.Split.{Hidden, hidden_of}
 use Rattle.ghost_model.specs.Replies.{Reply, hidden_value, known_value, replied_value}
 use Rattle.ghost_model.specs.Runs.{record_at}
-use Rattle.ghost_model.specs.Layout.{hidden_or_none, is_hidden, count_of}
+use Rattle.ghost_model.specs.Asks.{kind_at}
+use Rattle.ghost_model.specs.Cells.{decode_cell}
+use Rattle.ghost_model.specs.Layout.{hidden_or_none, is_hidden, count_of, column_file}
 use Rattle.ghost_model.specs.Flash.{IsHidden, HoldsColumns}
 use Rattle.ghost_model.specs.FlashLaws.{HiddenPartsGoWithCatalogs, HiddenValuesOfDatabases, ColumnFilesGiveValues}
 use Rattle.ghost_model.proofs.MeaningLemmas.Leading.{get_within}
 use Rattle.ghost_model.proofs.LayoutLemmas.Order.{table_there}
 use Rattle.ghost_model.proofs.FlashLemmas.Values.{count_there, not_hidden}
 use Rattle.edge_traits.specs.Devices.{Device}
-use Rattle.flash_pages.specs.Runs.{HasRun}
-use Rattle.ghost_model.specs.Runs as runs
 use Rattle.hidden_columns.specs.declared.file.ColumnFile.{ColumnFile}
 use Rattle.hidden_columns.specs.Slots.{child_or_none, child_rows, is_in_range, only_in_range, spelled}
 use Rattle.hidden_columns.specs.Files.{IsFileOf, IsReadable, slot_value}
@@ -56,6 +56,10 @@ not_shown : (o : Option Column) → hidden_or_none o ≡ true → is_shown o ≡
 not_shown None h = refl
 not_shown (Some column) h = ap not h
 
+known : (later shown : Bool) (one other : Option Value) → shown ≡ false → (if later && shown then one else other) ≡ other
+known true shown one other e = ap (λ b. if b then one else other) e
+known false shown one other e = refl
+
 pub files_are : FilesAreOfColumns
 files_are page cat table column file is identifier =
     λ i. spelled (is.kind_is i) (is.range_is i) (record_at page (is.run_is i) (identifier - 1))
@@ -75,8 +79,10 @@ stay_readable before now file same is = record {
 pub held_right : ColumnFilesGiveValues → HeldColumnsAreRight
 held_right files page cat hidden tree goes holds table column h zero some within value e = absurd (omega (arith, some))
 held_right files page cat hidden tree goes holds table column h (suc place) some within value e =
+    let same : suc place - 1 ≡ place = omega arith in
+    let at : ℕ → Option Value = λ k. decode_cell (kind_at cat.schema table column) (record_at page (column_file cat table column) k) in
     sym (files page cat hidden tree goes holds table column h place (omega (arith, within)))
-    ∙ without_range (child_rows cat table column) _ value e
+    ∙ without_range (child_rows cat table column) (at place) value (sym (ap (λ k. only_in_range (child_rows cat table column) (at k)) same) ∙ e)
 
 module _ (page : ℕ → List ℕ) (cat : Catalog) (database : Database) (tree : IsTree cat.schema) (is : IsDatabase cat.schema database)
     (counts : row_counts database ≡ cat.counts) (parts : HiddenPartsGoWithCatalogs) (files : ColumnFilesGiveValues)
@@ -105,7 +111,10 @@ module _ (page : ℕ → List ℕ) (cat : Catalog) (database : Database) (tree :
       let of_row : field database table (suc place) (suc before) ≡ Some held.0 =
       ap (option_and_then (λ r. slice_get r (suc before))) row.1 ∙ held.1 in
       let of_hidden = values cat.schema database tree is table (suc place) (suc before) h ∙ of_row in
-      let decoded = files page cat hidden tree (parts cat database is counts) holds table (suc before) h place (omega (arith, within)) in
+      let same : suc place - 1 ≡ place = omega arith in
+      let decoded =
+      ap (λ k. decode_cell (kind_at cat.schema table (suc before)) (record_at page (column_file cat table (suc before)) k)) same
+      ∙ files page cat hidden tree (parts cat database is counts) holds table (suc before) h place (omega (arith, within)) in
       let on_pages : value_on page cat table (suc before) (suc place) ≡ Some held.0 =
       ap (only_in_range (child_rows cat table (suc before))) (decoded ∙ of_hidden)
       ∙ in_range (child_rows cat table (suc before)) held.0 (in_its_range table (suc place) (suc before) held.0 of_row) in
@@ -114,7 +123,8 @@ module _ (page : ℕ → List ℕ) (cat : Catalog) (database : Database) (tree :
         of_row = of_row;
         of_hidden = of_hidden;
         as_known = λ given.
-            ap (λ shown. if nat_lt 0 (suc before) && shown then replied_value given table (suc place) (suc before) else hidden_value cat.schema hidden table (suc place) (suc before))
+            known (nat_lt 0 (suc before)) (is_shown (column_at cat.schema table (suc before)))
+            (replied_value given table (suc place) (suc before)) (hidden_value cat.schema hidden table (suc place) (suc before))
             (not_shown (column_at cat.schema table (suc before)) h)
             ∙ of_hidden;
         on_pages = on_pages;

@@ -1,1 +1,2 @@
 mod GivenValues
+mod ReadableFiles
