@@ -1,6 +1,6 @@
 -- The file of a hidden column, and what a call on it gives.
-use Rattle.std.specs.Prelude.{◌≡◌, ℕ, ◌-◌, ◌≤◌, ⊤, true, List, length, Option, Some, None, Result, Ok, Err, IsTrue}
-use Rattle.ghost_model.specs.Values.{Value}
+use Rattle.std.specs.Prelude.{◌≡◌, ℕ, ◌-◌, ◌≤◌, ⊤, pos, true, List, length, Option, Some, None, Result, Ok, Err, IsTrue}
+use Rattle.ghost_model.specs.Values.{Value, Number}
 use Rattle.ghost_model.specs.Channel.{Catalog}
 use Rattle.ghost_model.specs.Cells.{cell_width}
 use Rattle.ghost_model.specs.Database.{is_of_kind}
@@ -43,6 +43,10 @@ value_spelled file bytes = spelled (kind_of file.kind) file.child_rows bytes
 abbrev pub slot_value : (ℕ → List ℕ) → ColumnFile → (identifier : ℕ) → Option Value
 slot_value page file identifier = value_spelled file (slot_bytes page file identifier)
 
+-- the value that an identifier is as a foreign key
+abbrev pub key_value : (key : ℕ) → Value
+key_value key = Number (pos key)
+
 -- a value that may stand in the column
 pub record IsOfColumn (file : ColumnFile) (value : Value) : Type 0 where
   pub kind : IsTrue (is_of_kind (kind_of file.kind) value)
@@ -60,6 +64,15 @@ FailsAt page file identifier (Damaged number slot found) = HasNoValue page file 
 abbrev pub GivesSlot : {T : Type 0} → (T → Value) → (ℕ → List ℕ) → ColumnFile → (identifier : ℕ) → Result T PageFault → Type 0
 GivesSlot value page file identifier (Ok given) = slot_value page file identifier ≡ Some (value given)
 GivesSlot value page file identifier (Err fault) = FailsAt page file identifier fault
+
+-- where the slot spells a value, a call gives that one or the flash failed: no slot is blamed
+abbrev pub IsFlash : PageFault → Type 0
+IsFlash Flash = ⊤
+IsFlash (Damaged number slot found) = ⊥
+
+abbrev pub GivesOrFails : {T : Type 0} → (T → Value) → (wanted : Value) → Result T PageFault → Type 0
+GivesOrFails value wanted (Ok given) = value given ≡ wanted
+GivesOrFails value wanted (Err fault) = IsFlash fault
 
 -- a slot that is blamed is that of the row, and what was found begins no value of the column, even where pages are not told
 pub record BlamesSlot (file : ColumnFile) (identifier number slot found : ℕ) : Type 0 where
