@@ -1,0 +1,6 @@
+pub mod Exchanges
+pub mod Standing
+pub mod Walking
+pub mod Stored
+pub mod Order
+pub mod Finished

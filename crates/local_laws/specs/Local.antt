@@ -1,0 +1,86 @@
+-- A session of the key whose host is in its own process and holds the public part of a database. It goes to its end, and
+-- what it answers is the meaning of its texts.
+use Rattle.std.specs.Prelude.{◌≡◌, ℕ, suc, Bool, true, false, List, length, slice_get, Some, Ok, flat_map}
+use Rattle.std.specs.List.{list_any}
+use Rattle.ghost_model.specs.Values.{Database}
+use Rattle.ghost_model.specs.Query.{Query}
+use Rattle.ghost_model.specs.QueryReading.{reading}
+use Rattle.ghost_model.specs.Meaning.{answer}
+use Rattle.ghost_model.specs.Channel.{Catalog, Journal}
+use Rattle.ghost_model.specs.Asks.{asked_of}
+use Rattle.ghost_model.specs.Moves.{taken, answers}
+use Rattle.ghost_model.specs.NextMove.{IsProper, IsFinished, heard, is_stop}
+use Rattle.ghost_model.specs.Split.{Hidden, public_of, hidden_of}
+use Rattle.ghost_model.specs.Host.{Holding, host_of}
+use Rattle.ghost_model.specs.Lines.{Reason, IsRefused, WasBroken, WasAnswered, MetFault, AreLines, ended_of, all_done, rows_from_replies}
+use Rattle.ghost_model.specs.Printed.{printed_lines}
+use Rattle.ghost_model.specs.SessionLaws.{IsSetting, IsCatalogOf, IsServedThroughout}
+use Rattle.local_laws.specs.Serving.{Desk, first_desk, ServedFrom}
+
+-- the host holds the public part of a database
+abbrev pub holding_of : Catalog → Database → Holding
+holding_of catalog database = host_of catalog (public_of catalog.schema database)
+
+-- the key's moves are the next ones, and the host made each of them at once
+pub record IsLocal (catalog : Catalog) (database : Database) (at : List ℕ) (texts : List (List ℕ)) (journal : Journal) : Type 0 where
+  pub setting : IsSetting catalog texts
+  pub stored : IsCatalogOf catalog database
+  pub proper : IsProper catalog at texts journal
+  -- where the host stands after them
+  pub desk : Desk
+  pub served : ServedFrom (holding_of catalog database) first_desk journal desk
+
+-- no answer ends a session, each take was given all that it asked for, and each frame that came is valid
+pub record IsUnbroken (catalog : Catalog) (database : Database) (texts : List (List ℕ)) (journal : Journal) : Type 0 where
+  pub goes_on : list_any is_stop (answers journal) ≡ false
+  pub throughout : IsServedThroughout (holding_of catalog database) journal
+  pub valid : (heard catalog (asked_of catalog.schema texts) (taken journal)).broken ≡ false
+
+abbrev pub LocalSessionsAreServed : Type 0
+LocalSessionsAreServed =
+    (catalog : Catalog) (database : Database) (at : List ℕ) (texts : List (List ℕ)) (journal : Journal)
+    → IsLocal catalog database at texts journal → IsUnbroken catalog database texts journal
+
+-- the text at place 0 has number 1
+abbrev pub LocalAsksAreDone : Type 0
+LocalAsksAreDone =
+    (catalog : Catalog) (database : Database) (at : List ℕ) (texts : List (List ℕ)) (journal : Journal)
+    (place : ℕ) (written : List ℕ) (asked : Query)
+    → IsLocal catalog database at texts journal → IsFinished journal
+    → slice_get texts place ≡ Some written → reading catalog.schema written ≡ Ok asked
+    → all_done catalog.schema asked (ended_of catalog texts journal (suc place)) ≡ true
+
+abbrev pub LocalSessionsAnswer : Type 0
+LocalSessionsAnswer =
+    (catalog : Catalog) (database : Database) (at : List ℕ) (texts : List (List ℕ)) (journal : Journal)
+    (place : ℕ) (written : List ℕ) (asked : Query)
+    → IsLocal catalog database at texts journal → IsFinished journal
+    → slice_get texts place ≡ Some written → reading catalog.schema written ≡ Ok asked
+    → rows_from_replies catalog (hidden_of catalog.schema database) texts journal (suc place) asked
+    ≡ answer catalog.schema database asked
+
+-- whether the key's own flash is the reason for some lines
+abbrev pub is_own_fault : Reason → Bool
+is_own_fault IsRefused = false
+is_own_fault WasBroken = false
+is_own_fault WasAnswered = false
+is_own_fault (MetFault _) = true
+
+-- lines of a text of which the key's own flash is not the reason
+pub record AreSoundLines (catalog : Catalog) (kept : Hidden) (texts : List (List ℕ)) (journal : Journal) (text : ℕ) (lines : List (List ℕ)) : Type 0 where
+  pub lines_are : AreLines catalog kept texts journal text lines
+  pub sound : is_own_fault lines_are.reason ≡ false
+
+-- such lines of each text, in the order of the texts
+pub record AreAllLines (catalog : Catalog) (kept : Hidden) (texts : List (List ℕ)) (journal : Journal) (given : List (List (List ℕ))) : Type 0 where
+  pub as_many : length given ≡ length texts
+  pub each : (place : ℕ) (lines : List (List ℕ)) → slice_get given place ≡ Some lines
+      → AreSoundLines catalog kept texts journal (suc place) lines
+
+abbrev pub LocalLinesArePrinted : Type 0
+LocalLinesArePrinted =
+    (catalog : Catalog) (database : Database) (at : List ℕ) (texts : List (List ℕ)) (journal : Journal)
+    (given : List (List (List ℕ)))
+    → IsLocal catalog database at texts journal → IsFinished journal
+    → AreAllLines catalog (hidden_of catalog.schema database) texts journal given
+    → flat_map (λ lines. lines) given ≡ printed_lines catalog.schema texts database

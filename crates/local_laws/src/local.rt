@@ -1,0 +1,24 @@
+//! Laws of sessions with a host in the key's own process that holds the public part of a database.
+
+ghost use Rattle.local_laws.specs.Local.{LocalSessionsAreServed, LocalAsksAreDone, LocalSessionsAnswer, LocalLinesArePrinted};
+
+/// Nothing breaks off, what the host sends was served throughout, and no frame that came was invalid.
+pub fn local_sessions_are_served()
+    ensures { LocalSessionsAreServed }
+{}
+
+/// Once the session is finished, every ask of an accepted text was ended by DONE.
+pub fn local_asks_are_done()
+    ensures { LocalAsksAreDone }
+{}
+
+/// Then what the replies answer is the meaning of the text.
+pub fn local_sessions_answer()
+    ensures { LocalSessionsAnswer }
+{}
+
+/// Then the lines that the session may give, where the key's own flash is sound, are those that the texts print over the
+/// database.
+pub fn local_lines_are_printed()
+    ensures { LocalLinesArePrinted }
+{}
