@@ -22,13 +22,14 @@ use Rattle.ghost_model.proofs.SessionLemmas.ThisHost.{this_host_is_honest}
 use Rattle.ghost_model.proofs.SessionLemmas.Replies.{honest_replies_answer}
 use Rattle.ghost_model.specs.Split.{public_of, hidden_of}
 use Rattle.local_laws.specs.Local.{holding_of, IsLocal, IsUnbroken, is_own_fault, AreSoundLines, AreAllLines}
+use Rattle.local_laws.specs.TextCases.{not_ended}
 use Rattle.local_laws.proofs.Exchanges.{CanServe, Finished}
 use Rattle.local_laws.proofs.Standing.{not_stopped, not_broken, over_at}
 use Rattle.local_laws.proofs.Walking.{Walked, walked}
 use Rattle.local_laws.proofs.Stored.{can_serve}
-use Rattle.local_laws.proofs.Order.{remaining, in_order, parts_of_text, asks_of_text, none_of_part}
+use Rattle.local_laws.proofs.Order.{in_order, parts_of_text, asks_of_text, none_of_part}
 
-any_answer : (journal : Journal) → list_any is_stop (answers journal) ≡ list_any (λ (e : Entry). is_stop e.answer) journal
+pub any_answer : (journal : Journal) → list_any is_stop (answers journal) ≡ list_any (λ (e : Entry). is_stop e.answer) journal
 any_answer [] = refl
 any_answer (entry ∷ journal) = ap (λ (b : Bool). is_stop entry.answer || b) (any_answer journal)
 
@@ -72,9 +73,9 @@ module _ (catalog : Catalog) (database : Database) (at : List ℕ) (texts : List
       let h : Heard = heard catalog (asked_of catalog.schema texts) (taken journal) in
       let mine : List Ended = ended_of catalog texts journal (suc place) in
       let none : was_refused (ended_of catalog texts journal (suc place)) ≡ false = none_of_part (λ (one : Ended). one.asked.text == suc place) (heard catalog (asked_of catalog.schema texts) (taken journal)).ended end.none_refused in
-      let left_over : length (filter (λ (one : Asked). one.text == suc place) (remaining catalog asks (suc place) h.awaits)) ≡ 0 =
-      ap (λ (a : Awaits). length (filter (λ (one : Asked). one.text == suc place) (remaining catalog asks (suc place) a))) end.awaits in
-      let parts = parts_of_text catalog asks (suc place) (remaining catalog asks (suc place) h.awaits) h.ended (in_order catalog asks (suc place) (taken journal)) none in
+      let left_over : length (filter (λ (one : Asked). one.text == suc place) (not_ended asks h.awaits)) ≡ 0 =
+      ap (λ (a : Awaits). length (filter (λ (one : Asked). one.text == suc place) (not_ended asks a))) end.awaits in
+      let parts = parts_of_text catalog asks (suc place) (not_ended asks h.awaits) h.ended (in_order catalog asks (suc place) (taken journal)) none in
       let size = asks_of_text catalog texts place written query here read in
       ap (λ (b : Bool). if b then false else length mine == length (asks_of catalog.schema query)) none
       ∙ eq-eqb (length (ended_of catalog texts journal (suc place))) (length (asks_of catalog.schema query)) (omega (arith, parts, size, left_over))

@@ -4,3 +4,5 @@ pub mod Walking
 pub mod Stored
 pub mod Order
 pub mod Finished
+pub mod Over
+pub mod Closing

@@ -13,6 +13,7 @@ use Rattle.ghost_model.specs.NextMove.{Awaits, Missing, Reply, Nothing, Ending, 
 use Rattle.ghost_model.specs.Lines.{is_refused_by, was_refused}
 use Rattle.ghost_model.proofs.ChannelLemmas.Tests.{false_is_not}
 use Rattle.ghost_model.proofs.SessionLemmas.Answered.{filter_joined, of_text}
+use Rattle.local_laws.specs.TextCases.{not_ended}
 
 any_left : {X : Type 0} (p : X → Bool) (xs ys : List X) → list_any p xs ≡ true → list_any p (xs ++ ys) ≡ true
 any_left p [] ys h = absurd (false_is_not h)
@@ -33,12 +34,6 @@ module _ (catalog : Catalog) (asks : List Asked) (number : ℕ) where
 
   abbrev ends_this : Ended → Bool
   ends_this end = end.asked.text == number
-
-  -- the asks that were not ended
-  abbrev pub remaining : Awaits → List Asked
-  remaining (Missing bytes) = asks
-  remaining (Reply one serial later count last) = one ∷ later
-  remaining Nothing = []
 
   abbrev InOrder : List Asked → List Ended → Type 0
   InOrder rest ends =
@@ -82,15 +77,15 @@ module _ (catalog : Catalog) (asks : List Asked) (number : ℕ) where
         | false ↦ λ e. refl
       ]) refl
 
-  on_with_rest : (serial : ℕ) (later : List Asked) → remaining (on_with catalog.schema serial later).awaits ≡ later
+  on_with_rest : (serial : ℕ) (later : List Asked) → not_ended asks (on_with catalog.schema serial later).awaits ≡ later
   on_with_rest serial [] = refl
   on_with_rest serial (one ∷ later) = refl
 
-  by_frame : (awaits : Awaits) (rows : List ℕ) (ends : List Ended) (frame : Frame) → InOrder (remaining awaits) ends
-      → InOrder (remaining (turn catalog asks awaits frame).awaits) (ends ++ ended_by awaits rows frame)
+  by_frame : (awaits : Awaits) (rows : List ℕ) (ends : List Ended) (frame : Frame) → InOrder (not_ended asks awaits) ends
+      → InOrder (not_ended asks (turn catalog asks awaits frame).awaits) (ends ++ ended_by awaits rows frame)
   by_frame (Missing bytes) rows ends (Welcome last piece) o =
-      (elim (length piece == length bytes) as (λ v. InOrder (remaining (if v then on_with catalog.schema 1 asks else still (Missing (drop (length piece) bytes))).awaits) (ends ++ [])) [
-        | true ↦ same_order (remaining (on_with catalog.schema 1 asks).awaits) asks ends (on_with_rest 1 asks) o
+      (elim (length piece == length bytes) as (λ v. InOrder (not_ended asks (if v then on_with catalog.schema 1 asks else still (Missing (drop (length piece) bytes))).awaits) (ends ++ [])) [
+        | true ↦ same_order (not_ended asks (on_with catalog.schema 1 asks).awaits) asks ends (on_with_rest 1 asks) o
         | false ↦ same_order asks asks ends refl o
       ])
   by_frame (Missing bytes) rows ends (Hello generation) o = same_order asks asks ends refl o
@@ -101,9 +96,9 @@ module _ (catalog : Catalog) (asks : List Asked) (number : ℕ) where
   by_frame (Missing bytes) rows ends (Done serial total) o = same_order asks asks ends refl o
   by_frame (Missing bytes) rows ends (Sorry serial code) o = same_order asks asks ends refl o
   by_frame (Reply one serial later count last) rows ends (Done _ total) o =
-      order_on one later (remaining (on_with catalog.schema (serial + 1) later).awaits) ends (Answered rows) (ap (filter is_this) (on_with_rest (serial + 1) later)) o
+      order_on one later (not_ended asks (on_with catalog.schema (serial + 1) later).awaits) ends (Answered rows) (ap (filter is_this) (on_with_rest (serial + 1) later)) o
   by_frame (Reply one serial later count last) rows ends (Sorry _ code) o =
-      (elim (is_this one) as (λ v. is_this one ≡ v → InOrder (remaining (on_with catalog.schema (serial + 1) (of_later_texts one.text later)).awaits) (ends ++ ended one (Refused code) ∷ [])) [
+      (elim (is_this one) as (λ v. is_this one ≡ v → InOrder (not_ended asks (on_with catalog.schema (serial + 1) (of_later_texts one.text later)).awaits) (ends ++ ended one (Refused code) ∷ [])) [
         | true ↦ λ e. order_refused one code _ ends e
         | false ↦ λ e. order_on one later _ ends (Refused code) (ap (filter is_this) (on_with_rest (serial + 1) (of_later_texts one.text later)) ∙ left_out one.text e later) o
       ]) refl
@@ -116,7 +111,7 @@ module _ (catalog : Catalog) (asks : List Asked) (number : ℕ) where
   by_frame Nothing rows ends frame o = same_order [] [] ends refl o
 
   abbrev IsOrdered : Heard → Type 0
-  IsOrdered h = InOrder (remaining h.awaits) h.ended
+  IsOrdered h = InOrder (not_ended asks h.awaits) h.ended
 
   by_verdict : (h : Heard) (part : List ℕ) (v : Verdict) → IsOrdered h → IsOrdered (heard_as catalog asks h part v)
   by_verdict h part (Short missing) o = o

@@ -135,6 +135,12 @@ same_some o m n e f = cc
 none_is_not : (o : Option Move) (move : Move) → o ≡ None → o ≡ Some move → ⊥
 none_is_not o move e f = cc
 
+-- nothing comes after Close
+pub next_closed : (catalog : Catalog) (address : List ℕ) (l : Left) → l.opened ≡ true → l.closed ≡ true → next_of catalog address l ≡ None
+next_closed catalog address l o c =
+    ap (λ (x : Bool). chosen address x l.closed l.stopped l.heard.broken (rest_of catalog l.heard l.heard.awaits) (slice_get l.heard.due l.sent)) o
+    ∙ shut_is address l.closed l.stopped l.heard.broken (rest_of catalog l.heard l.heard.awaits) (slice_get l.heard.due l.sent) c
+
 module _ (held : Holding) (address : List ℕ) (asks : List Asked) (can : CanServe held asks) where
   -- where a session stands: a frame is due, a frame is being taken and others were said after it, the close is next, or
   -- it is closed
@@ -221,11 +227,6 @@ module _ (held : Holding) (address : List ℕ) (asks : List Asked) (can : CanSer
   ending_next l o quiet count finished =
       rest_next l o quiet.closed quiet.stopped quiet.valid count ∙ ap (λ (a : Awaits). Some (rest_of held.catalog l.heard a)) finished.awaits
 
-  closed_next : (l : Left) → l.opened ≡ true → l.closed ≡ true → next_of held.catalog address l ≡ None
-  closed_next l o c =
-      ap (λ (x : Bool). chosen address x l.closed l.stopped l.heard.broken (rest_of held.catalog l.heard l.heard.awaits) (slice_get l.heard.due l.sent)) o
-      ∙ shut_is address l.closed l.stopped l.heard.broken (rest_of held.catalog l.heard l.heard.awaits) (slice_get l.heard.due l.sent) c
-
   -- a frame is sent
   pub record Sends (l : Left) (stand : Stand) (owed bytes : List ℕ) : Type 0 where
     pub frame : Frame
@@ -302,7 +303,7 @@ module _ (held : Holding) (address : List ℕ) (asks : List Asked) (can : CanSer
       })
   moves_at l stand owed move (ending o quiet count finished) e =
       by_move l stand owed move Close (ending_next l o quiet count finished) e (close_moves l stand owed quiet finished)
-  moves_at l stand owed move (closed o c s b finished) e = absurd (none_is_not _ move (closed_next l o c) e)
+  moves_at l stand owed move (closed o c s b finished) e = absurd (none_is_not _ move (next_closed held.catalog address l o c) e)
 
   -- the host answers the frame that was sent
   pub record Answers (l : Left) (stand : Stand) (bytes : List ℕ) (frame : Frame) : Type 0 where

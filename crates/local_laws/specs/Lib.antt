@@ -1,2 +1,4 @@
 pub mod Serving
 pub mod Local
+pub mod TextEnds
+pub mod TextCases

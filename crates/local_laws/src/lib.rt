@@ -1,4 +1,7 @@
-//! Laws of sessions whose host is in the key's own process. They need no code.
+//! Laws of sessions that need no code: of those whose host is in the key's own process, and, whatever host and link there
+//! are, of what becomes of each text.
 #![tactic(auto)]
 
 pub mod local;
+pub mod text_cases;
+pub mod text_ends;
