@@ -1,17 +1,16 @@
 -- What a session with a host in the process comes to.
-use Rattle.std.proofs.Common.{◌≡◌, ℕ, suc, ◌+◌, Bool, true, false, ◌||◌, List, [], ◌∷◌, ◌++◌, length, filter, sym, ◌∙◌, ap, subst, refl, arith, Option, Some, slice_get, Ok}
+use Rattle.std.proofs.Common.{◌≡◌, ℕ, suc, ◌+◌, Bool, true, false, List, [], ◌∷◌, ◌++◌, length, filter, sym, ◌∙◌, ap, subst, refl, arith, Option, Some, slice_get, Ok}
 use Rattle.std.specs.Prelude.{◌==◌, if◌then◌else◌, flat_map, Result}
-use Rattle.std.specs.List.{list_any}
 use Rattle.std.proofs.lemmas.Bool.{eq-eqb}
 use Rattle.std.proofs.Math.Seq.{take-length}
 use Rattle.ghost_model.specs.Values.{Database}
 use Rattle.ghost_model.specs.Query.{Query}
 use Rattle.ghost_model.specs.QueryReading.{reading}
 use Rattle.ghost_model.specs.Meaning.{answer}
-use Rattle.ghost_model.specs.Channel.{Catalog, Entry, Journal}
+use Rattle.ghost_model.specs.Channel.{Catalog, Journal}
 use Rattle.ghost_model.specs.Asks.{Asked, asks_of, asked_of}
-use Rattle.ghost_model.specs.Moves.{taken, answers}
-use Rattle.ghost_model.specs.NextMove.{Awaits, Ended, Heard, IsFinished, left, heard, is_close, is_stop}
+use Rattle.ghost_model.specs.Moves.{taken}
+use Rattle.ghost_model.specs.NextMove.{Awaits, Ended, Heard, IsFinished, left, heard}
 use Rattle.ghost_model.specs.QueryMeaning.{Refusal}
 use Rattle.ghost_model.specs.Printed.{answer_lines, lines_of_reading, lines_of_text, lines_from, printed_lines}
 use Rattle.ghost_model.specs.Local.{IsServedBy}
@@ -22,26 +21,13 @@ use Rattle.ghost_model.proofs.SessionLemmas.ThisHost.{this_host_is_honest}
 use Rattle.ghost_model.proofs.SessionLemmas.Replies.{honest_replies_answer}
 use Rattle.ghost_model.specs.Split.{public_of, hidden_of}
 use Rattle.local_laws.specs.Local.{holding_of, IsLocal, IsUnbroken, is_own_fault, AreSoundLines, AreAllLines}
-use Rattle.local_laws.specs.TextCases.{not_ended}
+use Rattle.local_laws.specs.TextEnds.{not_ended}
 use Rattle.local_laws.proofs.Exchanges.{CanServe, Finished}
 use Rattle.local_laws.proofs.Standing.{not_stopped, not_broken, over_at}
+use Rattle.local_laws.proofs.Closing.{any_answer, finished_is_closed}
 use Rattle.local_laws.proofs.Walking.{Walked, walked}
 use Rattle.local_laws.proofs.Stored.{can_serve}
 use Rattle.local_laws.proofs.Order.{in_order, parts_of_text, asks_of_text, none_of_part}
-
-pub any_answer : (journal : Journal) → list_any is_stop (answers journal) ≡ list_any (λ (e : Entry). is_stop e.answer) journal
-any_answer [] = refl
-any_answer (entry ∷ journal) = ap (λ (b : Bool). is_stop entry.answer || b) (any_answer journal)
-
-pub finished_is_closed : (journal : Journal) → IsFinished journal → list_any (λ (e : Entry). is_close e.move) journal ≡ true
-finished_is_closed [] f = absurd f
-finished_is_closed (entry ∷ []) f = ap (λ (b : Bool). b || false) (ap is_close f)
-finished_is_closed (first ∷ entry ∷ later) f =
-    either (is_close first.move) (list_any (λ (e : Entry). is_close e.move) (entry ∷ later)) (finished_is_closed (entry ∷ later) f)
-  where
-    either : (b c : Bool) → c ≡ true → (b || c) ≡ true
-    either true c e = refl
-    either false c e = e
 
 module _ (catalog : Catalog) (database : Database) (at : List ℕ) (texts : List (List ℕ)) (journal : Journal) (is : IsLocal catalog database at texts journal) where
   abbrev asks : List Asked

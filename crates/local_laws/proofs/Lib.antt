@@ -3,6 +3,9 @@ pub mod Standing
 pub mod Walking
 pub mod Stored
 pub mod Order
+pub mod Closing
 pub mod Finished
 pub mod Over
-pub mod Closing
+pub mod Decided
+pub mod Settled
+pub mod Outcomes

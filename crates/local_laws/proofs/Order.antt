@@ -13,7 +13,7 @@ use Rattle.ghost_model.specs.NextMove.{Awaits, Missing, Reply, Nothing, Ending, 
 use Rattle.ghost_model.specs.Lines.{is_refused_by, was_refused}
 use Rattle.ghost_model.proofs.ChannelLemmas.Tests.{false_is_not}
 use Rattle.ghost_model.proofs.SessionLemmas.Answered.{filter_joined, of_text}
-use Rattle.local_laws.specs.TextCases.{not_ended}
+use Rattle.local_laws.specs.TextEnds.{not_ended}
 
 any_left : {X : Type 0} (p : X → Bool) (xs ys : List X) → list_any p xs ≡ true → list_any p (xs ++ ys) ≡ true
 any_left p [] ys h = absurd (false_is_not h)

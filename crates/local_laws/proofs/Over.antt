@@ -1,26 +1,20 @@
--- That asks are awaited in the order of their texts, and that nothing changes of a text that is over.
-use Rattle.std.proofs.Common.{◌≡◌, ℕ, zero, suc, ◌+◌, ◌*◌, ◌/◌, ◌%◌, ◌≤◌, ◌<◌, Bool, true, false, not, ◌&&◌, List, [], ◌∷◌, ◌++◌, length, map, drop, filter, sym, ◌∙◌, ap, subst, refl, arith, append-nil, append_assoc, length-append, Option, Some, None, if◌then◌else◌}
-use Rattle.std.specs.Prelude.{◌==◌, nat_lt, nat_le, filter_map}
-use Rattle.std.specs.List.{list_all, cons_option}
+-- That asks are awaited in the order of their texts.
+use Rattle.std.proofs.Common.{◌≡◌, ℕ, zero, suc, ◌+◌, ◌*◌, ◌/◌, ◌%◌, ◌≤◌, ◌<◌, Bool, true, false, not, ◌&&◌, ◌||◌, List, [], ◌∷◌, ◌++◌, length, map, drop, sym, ◌∙◌, ap, subst, refl, arith, append-nil, append_assoc, length-append, if◌then◌else◌}
+use Rattle.std.specs.Prelude.{◌==◌, nat_lt, nat_le}
+use Rattle.std.specs.List.{list_all, list_any}
 use Rattle.std.proofs.lemmas.Bool.{ltb-true, lt-ltb, leb-true, le-leb}
 use Rattle.std.proofs.lemmas.Bool.Decides.{nat_tests}
 use Rattle.std.proofs.lemmas.List.Folds.{list_all-append}
-use Rattle.std.proofs.lemmas.Grind.{flat_map-append}
-use Rattle.std.proofs.Math.Nat.{mod-add-div'}
+use Rattle.std.proofs.Math.Nat.{mod-add-div', mul-div_cancel}
 use Rattle.ghost_model.specs.Schema.{Schema}
 use Rattle.ghost_model.specs.QueryReading.{reading}
-use Rattle.ghost_model.specs.Channel.{Catalog, Ask, Frame, Hello, Asking, More, Bye, Welcome, Replied, Done, Sorry, Entry, Journal}
+use Rattle.ghost_model.specs.Channel.{Catalog, Ask, Frame, Hello, Asking, More, Bye, Welcome, Replied, Done, Sorry}
 use Rattle.ghost_model.specs.Frames.{frame_in, kind_in, size_in, version_in, serial_in, frame_version}
 use Rattle.ghost_model.specs.Asks.{Asked, asked, asks_of_reading, asked_from, asked_of, rows_from, rows_in, row_width}
-use Rattle.ghost_model.specs.Moves.{taken, piece_of}
 use Rattle.ghost_model.specs.NextMove.{Awaits, Missing, Reply, Nothing, Ending, Answered, Refused, Ended, ended, Heard, Verdict, Short, Whole, Invalid, reply_size_fits, header_fits, payload_fits, verdict, turn, on_with, still, of_later_texts, rows_after, ended_by, heard_as, hear, hear_all, at_first, heard}
-use Rattle.ghost_model.specs.Replies as answered
-use Rattle.ghost_model.specs.Replies.{reply_for, replies}
 use Rattle.ghost_model.proofs.ChannelLemmas.Tests.{false_is_not, BothHold, both_hold, hold_both}
-use Rattle.ghost_model.proofs.ChannelLemmas.Sending.{heard_more}
-use Rattle.ghost_model.proofs.SessionLemmas.Answered.{filter_joined}
 use Rattle.ghost_laws.proofs.ScanLemmas.HeardRows.{replied_in, payload_whole, size_whole}
-use Rattle.local_laws.specs.TextEnds.{is_over, IsSame, IsSameIn, IsAwaitedAsk}
+use Rattle.local_laws.specs.TextEnds.{is_settled, is_over, IsAwaitedAsk}
 
 -- whether the texts of asks are at least this one, and ascend
 abbrev ascend_from : ℕ → List Asked → Bool
@@ -92,14 +86,8 @@ unfolding rows_from
 count_rows width zero bytes = refl
 count_rows width (suc count) bytes = let e = count_rows width count (drop width bytes) in omega (arith, e)
 
-filter_map_joined : {X Y : Type 0} (f : X → Option Y) (xs ys : List X) → filter_map f (xs ++ ys) ≡ filter_map f xs ++ filter_map f ys
-filter_map_joined f [] ys = refl
-filter_map_joined {X} {Y} f (x ∷ xs) ys =
-    ap (λ (zs : List Y). cons_option (f x) zs) (filter_map_joined f xs ys) ∙ cons_joined (f x) (filter_map f xs) (filter_map f ys)
-  where
-    cons_joined : (o : Option Y) (one other : List Y) → cons_option o (one ++ other) ≡ cons_option o one ++ other
-    cons_joined None one other = refl
-    cons_joined (Some y) one other = refl
+above_is_other : (text other : ℕ) → nat_lt text other ≡ true → (other == text) ≡ false
+above_is_other text other h = grind (arith, nat_tests)
 
 module _ (catalog : Catalog) (asks : List Asked) (ascends : ascend_from 1 asks ≡ true) where
   -- where the reply to an ask is awaited
@@ -226,124 +214,40 @@ module _ (catalog : Catalog) (asks : List Asked) (ascends : ascend_from 1 asks �
   ordered : (received : List ℕ) → IsOrdered (heard catalog asks received)
   ordered received = by_bytes (at_first catalog) received refl
 
-  -- no ask of a text will be awaited any more
-  abbrev IsPast : ℕ → Awaits → Type 0
-  IsPast text (Missing bytes) = ⊥
-  IsPast text (Reply one serial later count last) = list_all (λ (other : Asked). nat_lt text other.text) (one ∷ later) ≡ true
-  IsPast text Nothing = Unit {0}
+  -- an ask of a later text is awaited, or nothing more
+  none_above : (text : ℕ) (later : List Asked) → list_all (λ (other : Asked). nat_lt text other.text) later ≡ true → list_any (λ (other : Asked). other.text == text) later ≡ false
+  none_above text [] h = refl
+  none_above text (one ∷ later) h =
+      let both : BothHold (nat_lt text one.text) (list_all (λ (x : Asked). nat_lt text x.text) later) = both_hold _ _ h in
+      ap (λ (b : Bool). b || list_any (λ (x : Asked). x.text == text) later) (above_is_other text one.text both.one) ∙ none_above text later both.other
 
-  past_by_order : (text : ℕ) (awaits : Awaits) (rows : List ℕ) (ends : List Ended) → is_over text awaits ≡ true → Orderly awaits rows ends → IsPast text awaits
-  past_by_order text (Missing bytes) rows ends e o = false_is_not e
-  past_by_order text (Reply one serial later count last) rows ends e o =
-      hold_both _ _ e (all_above one.text later (later_ascend one later o.before o.stands) text (ltb-true text one.text e))
-  past_by_order text Nothing rows ends e o = tt
+  settled_by_order : (text : ℕ) (awaits : Awaits) (rows : List ℕ) (ends : List Ended) → is_over text awaits ≡ true → Orderly awaits rows ends → is_settled asks text awaits ≡ true
+  settled_by_order text (Missing bytes) rows ends e o = absurd (false_is_not e)
+  settled_by_order text (Reply one serial later count last) rows ends e o =
+      ap not (none_above text (one ∷ later) (hold_both _ _ e (all_above one.text later (later_ascend one later o.before o.stands) text (ltb-true text one.text e))))
+  settled_by_order text Nothing rows ends e o = refl
 
-  past_on : (text serial : ℕ) (later : List Asked) → list_all (λ (other : Asked). nat_lt text other.text) later ≡ true → IsPast text (on_with catalog.schema serial later).awaits
-  past_on text serial [] h = tt
-  past_on text serial (one ∷ later) h = h
-
-  fewer_above : (text other : ℕ) (later : List Asked) → list_all (λ (one : Asked). nat_lt text one.text) later ≡ true → list_all (λ (one : Asked). nat_lt text one.text) (of_later_texts other later) ≡ true
-  fewer_above text other [] h = refl
-  fewer_above text other (one ∷ later) h =
-      (elim (one.text == other) as (λ v. list_all (λ (x : Asked). nat_lt text x.text) (if v then of_later_texts other later else one ∷ later) ≡ true) [
-        | true ↦ fewer_above text other later (both_hold (nat_lt text one.text) (list_all (λ (x : Asked). nat_lt text x.text) later) h).other
-        | false ↦ h
-      ])
-
-  record IsKept (text : ℕ) (before after : List Ended) : Type 0 where
-    ends : filter (λ (end : Ended). end.asked.text == text) after ≡ filter (λ (end : Ended). end.asked.text == text) before
-    replied : filter_map (reply_for catalog.schema text) after ≡ filter_map (reply_for catalog.schema text) before
-
-  kept_none : (text : ℕ) (ends : List Ended) → IsKept text ends (ends ++ [])
-  kept_none text ends = record {
-    ends = ap (filter (λ (end : Ended). end.asked.text == text)) (append-nil ends);
-    replied = ap (filter_map (reply_for catalog.schema text)) (append-nil ends);
-  }
-
-  above_is_other : (text other : ℕ) → nat_lt text other ≡ true → (other == text) ≡ false
-  above_is_other text other h = grind (arith, nat_tests)
-
-  kept_one : (text : ℕ) (ends : List Ended) (one : Asked) (ending : Ending) → nat_lt text one.text ≡ true → IsKept text ends (ends ++ ended one ending ∷ [])
-  kept_one text ends one ending h =
-      let other : (one.text == text) ≡ false = above_is_other text one.text h in
-      record {
-        ends = filter_joined (λ (end : Ended). end.asked.text == text) ends (ended one ending ∷ [])
-            ∙ (ap (λ (b : Bool). filter (λ (end : Ended). end.asked.text == text) ends ++ (if b then ended one ending ∷ [] else [])) other
-            ∙ append-nil (filter (λ (end : Ended). end.asked.text == text) ends));
-        replied = filter_map_joined (reply_for catalog.schema text) ends (ended one ending ∷ [])
-            ∙ (ap (λ (b : Bool). filter_map (reply_for catalog.schema text) ends ++ cons_option (if b then answered.reply_of catalog.schema one ending else None) []) other
-            ∙ append-nil (filter_map (reply_for catalog.schema text) ends));
-      }
-
-  record IsPassed (text : ℕ) (after : Awaits) (ends more : List Ended) : Type 0 where
-    past : IsPast text after
-    kept : IsKept text ends more
-
-  pass_frame : (text : ℕ) (awaits : Awaits) (rows : List ℕ) (ends : List Ended) (frame : Frame) → IsPast text awaits → IsPassed text (turn catalog asks awaits frame).awaits ends (ends ++ ended_by awaits rows frame)
-  pass_frame text (Missing bytes) rows ends frame p = absurd p
-  pass_frame text (Reply one serial later count last) rows ends (Done _ total) p =
-      let both : BothHold (nat_lt text one.text) (list_all (λ (x : Asked). nat_lt text x.text) later) = both_hold _ _ p in
-      record { past = past_on text (serial + 1) later both.other; kept = kept_one text ends one (Answered rows) both.one }
-  pass_frame text (Reply one serial later count last) rows ends (Sorry _ code) p =
-      let both : BothHold (nat_lt text one.text) (list_all (λ (x : Asked). nat_lt text x.text) later) = both_hold _ _ p in
-      record { past = past_on text (serial + 1) (of_later_texts one.text later) (fewer_above text one.text later both.other); kept = kept_one text ends one (Refused code) both.one }
-  pass_frame text (Reply one serial later count last) rows ends (Replied _ payload) p = record { past = p; kept = kept_none text ends }
-  pass_frame text (Reply one serial later count last) rows ends (Hello generation) p = record { past = p; kept = kept_none text ends }
-  pass_frame text (Reply one serial later count last) rows ends (Asking _ payload) p = record { past = p; kept = kept_none text ends }
-  pass_frame text (Reply one serial later count last) rows ends (More _) p = record { past = p; kept = kept_none text ends }
-  pass_frame text (Reply one serial later count last) rows ends Bye p = record { past = p; kept = kept_none text ends }
-  pass_frame text (Reply one serial later count last) rows ends (Welcome _ piece) p = record { past = p; kept = kept_none text ends }
-  pass_frame text Nothing rows ends frame p = record { past = tt; kept = kept_none text ends }
-
-  pass_verdict : (text : ℕ) (h : Heard) (part : List ℕ) (v : Verdict) → IsPast text h.awaits → IsPassed text (heard_as catalog asks h part v).awaits h.ended (heard_as catalog asks h part v).ended
-  pass_verdict text h part (Short missing) p = record { past = p; kept = record { ends = refl; replied = refl } }
-  pass_verdict text h part Invalid p = record { past = p; kept = record { ends = refl; replied = refl } }
-  pass_verdict text h part Whole p = pass_frame text h.awaits h.rows h.ended (frame_in part) p
-
-  pass_byte : (text : ℕ) (h : Heard) (byte : ℕ) → IsPast text h.awaits → IsPassed text (hear catalog asks h byte).awaits h.ended (hear catalog asks h byte).ended
-  pass_byte text h byte p =
-      (elim h.broken as (λ v. (let next : Heard = (if v then h else heard_as catalog asks h (h.part ++ byte ∷ []) (verdict catalog h.awaits (h.part ++ byte ∷ []))) in IsPassed text next.awaits h.ended next.ended)) [
-        | true ↦ record { past = p; kept = record { ends = refl; replied = refl } }
-        | false ↦ pass_verdict text h (h.part ++ byte ∷ []) (verdict catalog h.awaits (h.part ++ byte ∷ [])) p
-      ])
-
-  pass_bytes : (text : ℕ) (h : Heard) (bytes : List ℕ) → IsPast text h.awaits → IsKept text h.ended (hear_all catalog asks h bytes).ended
-  unfolding hear_all
-  pass_bytes text h [] p = record { ends = refl; replied = refl }
-  pass_bytes text h (byte ∷ bytes) p =
-      let one = pass_byte text h byte p in
-      let later = pass_bytes text (hear catalog asks h byte) bytes one.past in
-      record { ends = later.ends ∙ one.kept.ends; replied = later.replied ∙ one.kept.replied }
-
-  pub stays : (received more : List ℕ) (text : ℕ) → is_over text (heard catalog asks received).awaits ≡ true → IsSame catalog text (heard catalog asks received) (hear_all catalog asks (heard catalog asks received) more)
-  stays received more text over =
-      let h : Heard = heard catalog asks received in
-      let kept = pass_bytes text (heard catalog asks received) more (past_by_order text (heard catalog asks received).awaits (heard catalog asks received).rows (heard catalog asks received).ended over (ordered received)) in
-      record { ends = kept.ends; replied = kept.replied }
+  settled : (received : List ℕ) (text : ℕ) → is_over text (heard catalog asks received).awaits ≡ true → is_settled asks text (heard catalog asks received).awaits ≡ true
+  settled received text over =
+      settled_by_order text (heard catalog asks received).awaits (heard catalog asks received).rows (heard catalog asks received).ended over (ordered received)
 
   at_awaited : (h : Heard) (asked : Asked) (serial : ℕ) (later : List Asked) (count last : ℕ) → h.awaits ≡ Reply asked serial later count last → IsOrdered h → IsAt asked later count h.rows h.ended
   at_awaited h asked serial later count last e o = subst (λ (a : Awaits). Orderly a h.rows h.ended) e o
 
-pub over_stays : (catalog : Catalog) (texts : List (List ℕ)) (received more : List ℕ) (text : ℕ) → is_over text (heard catalog (asked_of catalog.schema texts) received).awaits ≡ true
-    → IsSame catalog text (heard catalog (asked_of catalog.schema texts) received) (hear_all catalog (asked_of catalog.schema texts) (heard catalog (asked_of catalog.schema texts) received) more)
-over_stays catalog texts received more text over = stays catalog (asked_of catalog.schema texts) (ascend_asked catalog.schema 1 texts) received more text over
-
-pub ended_stays : (catalog : Catalog) (texts : List (List ℕ)) (journal more : Journal) (text : ℕ) → is_over text (heard catalog (asked_of catalog.schema texts) (taken journal)).awaits ≡ true
-    → IsSameIn catalog texts text journal (journal ++ more)
-ended_stays catalog texts journal more text over =
-    let asks : List Asked = asked_of catalog.schema texts in
-    let same = over_stays catalog texts (taken journal) (taken more) text over in
-    let joined : heard catalog (asked_of catalog.schema texts) (taken (journal ++ more)) ≡ hear_all catalog (asked_of catalog.schema texts) (heard catalog (asked_of catalog.schema texts) (taken journal)) (taken more) =
-    ap (λ (bytes : List ℕ). heard catalog asks bytes) (flat_map-append (λ (e : Entry). piece_of e.answer) journal more) ∙ heard_more catalog [] asks (at_first catalog) (taken journal) (taken more) in
-    record {
-      ends = ap (λ (h : Heard). filter (λ (end : Ended). end.asked.text == text) h.ended) joined ∙ same.ends;
-      replied = ap (λ (h : Heard). filter_map (reply_for catalog.schema text) h.ended) joined ∙ same.replied;
-    }
+pub over_are_settled : (catalog : Catalog) (texts : List (List ℕ)) (received : List ℕ) (text : ℕ) → is_over text (heard catalog (asked_of catalog.schema texts) received).awaits ≡ true
+    → is_settled (asked_of catalog.schema texts) text (heard catalog (asked_of catalog.schema texts) received).awaits ≡ true
+over_are_settled catalog texts received text over = settled catalog (asked_of catalog.schema texts) (ascend_asked catalog.schema 1 texts) received text over
 
 pub awaited_in_order : (catalog : Catalog) (texts : List (List ℕ)) (received : List ℕ) (one : Asked) (serial : ℕ) (later : List Asked) (count last : ℕ)
     → (heard catalog (asked_of catalog.schema texts) received).awaits ≡ Reply one serial later count last
     → IsAwaitedAsk catalog texts (heard catalog (asked_of catalog.schema texts) received) one later count
 awaited_in_order catalog texts received one serial later count last e =
     let asks : List Asked = asked_of catalog.schema texts in
+    let rows : List ℕ = (heard catalog asks received).rows in
+    let width : ℕ = row_width catalog.schema one.ask in
     let at = at_awaited catalog asks (ascend_asked catalog.schema 1 texts) (heard catalog asks received) one serial later count last e (ordered catalog asks (ascend_asked catalog.schema 1 texts) received) in
-    record { before = at.before; stands = at.stands; in_order = at.in_order; rows = at.size }
+    let many : length rows / row_width catalog.schema one.ask ≡ count = ap (λ (n : ℕ). n / row_width catalog.schema one.ask) at.size ∙ mul-div_cancel count (some_width catalog one) in
+    record { before = at.before; stands = at.stands; in_order = at.in_order; size = at.size; counted = count_rows width (length rows / width) rows ∙ many }
+  where
+    some_width : (catalog : Catalog) (one : Asked) → 0 < row_width catalog.schema one.ask
+    some_width catalog one = omega arith

@@ -2,7 +2,7 @@
 
 ghost use Rattle.local_laws.specs.TextCases.{TextsAreDecided, TextsHaveOutcomes};
 
-/// All asks of a text were ended by DONE exactly where none was refused and none is awaited.
+/// All asks of a text were ended by DONE exactly where none was refused and the text is settled.
 pub fn texts_are_decided()
     ensures { TextsAreDecided }
 {}

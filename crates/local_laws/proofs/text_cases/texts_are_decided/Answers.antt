@@ -1,4 +1,4 @@
-use Rattle.local_laws.proofs.Closing.{decided}
+use Rattle.local_laws.proofs.Decided.{decided}
 use Rattle.local_laws.proofs.text_cases.texts_are_decided.Goals as goal
 
 pub returns : goal.returns

@@ -1,4 +1,4 @@
-use Rattle.local_laws.proofs.Closing.{outcome}
+use Rattle.local_laws.proofs.Outcomes.{outcome}
 use Rattle.local_laws.proofs.text_cases.texts_have_outcomes.Goals as goal
 
 pub returns : goal.returns

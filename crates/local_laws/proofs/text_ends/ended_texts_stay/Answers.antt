@@ -1,4 +1,4 @@
-use Rattle.local_laws.proofs.Over.{ended_stays}
+use Rattle.local_laws.proofs.Settled.{ended_stays}
 use Rattle.local_laws.proofs.text_ends.ended_texts_stay.Goals as goal
 
 pub returns : goal.returns
