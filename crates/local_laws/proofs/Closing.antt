@@ -1,12 +1,13 @@
 -- Whatever link there is: why a finished proper journal was closed, and that nothing comes after it.
-use Rattle.std.proofs.Common.{◌≡◌, ℕ, Bool, true, false, not, ◌||◌, List, [], ◌∷◌, ◌++◌, sym, ◌∙◌, ap, subst, refl, append_assoc, Option, Some, None, slice_get}
+use Rattle.std.proofs.Common.{◌≡◌, ℕ, Bool, true, false, not, ◌||◌, List, [], ◌∷◌, ◌++◌, sym, ◌∙◌, ap, subst, refl, append-nil, append_assoc, Option, Some, None, slice_get}
 use Rattle.std.specs.Prelude.{if◌then◌else◌}
 use Rattle.std.specs.List.{list_any}
-use Rattle.ghost_model.specs.Channel.{Catalog, Frame, Move, Dial, Send, Take, Close, Entry, Journal}
+use Rattle.ghost_model.specs.Channel.{Catalog, Frame, Move, Dial, Listen, Accept, Send, Take, Close, Entry, Journal}
 use Rattle.ghost_model.specs.Asks.{Asked}
 use Rattle.ghost_model.specs.Moves.{answers, piece_of}
 use Rattle.ghost_model.specs.NextMove.{Awaits, Missing, Reply, Nothing, Heard, Verdict, Short, Whole, Invalid, verdict, heard_as, hear, hear_all, Left, left, rest_of, send_or, next_of, next_with, is_close, is_stop, GoesOn, IsFinished}
-use Rattle.local_laws.proofs.Standing.{goes, left_more, next_closed}
+use Rattle.ghost_model.proofs.ChannelLemmas.Tests.{false_is_not}
+use Rattle.local_laws.proofs.Standing.{goes, left_more, next_closed, any_more}
 
 either : (b c : Bool) → c ≡ true → (b || c) ≡ true
 either true c e = refl
@@ -123,3 +124,35 @@ module _ (catalog : Catalog) (asks : List Asked) where
   no_more at before [] more goes f = absurd f
   no_more at before (entry ∷ []) more goes f = end_of at before entry more f goes.1
   no_more at before (entry ∷ next ∷ later) more goes f = no_more at (before ++ entry ∷ []) (next ∷ later) more goes.1 f
+
+  close_is : (move : Move) → is_close move ≡ true → move ≡ Close
+  close_is (Dial _) e = absurd (false_is_not e)
+  close_is (Listen _) e = absurd (false_is_not e)
+  close_is Accept e = absurd (false_is_not e)
+  close_is (Send _) e = absurd (false_is_not e)
+  close_is (Take _) e = absurd (false_is_not e)
+  close_is Close e = refl
+
+  abbrev shut : Journal → Bool
+  shut journal = list_any (λ (e : Entry). is_close e.move) journal
+
+  shut_more : (before : Journal) (entry : Entry) (b : Bool) → shut before ≡ false → is_close entry.move ≡ b → shut (before ++ entry ∷ []) ≡ b
+  shut_more before entry b e f = any_more (λ (x : Entry). is_close x.move) before entry ∙ (ap (λ (c : Bool). c || is_close entry.move) e ∙ f)
+
+  ends_by : (at : List ℕ) (before : Journal) (entry : Entry) (later : Journal) (b : Bool) → is_close entry.move ≡ b → shut before ≡ false → GoesOn catalog at asks before (entry ∷ later) → shut ((before ++ entry ∷ []) ++ later) ≡ true → IsFinished (entry ∷ later)
+  ends_by at before entry [] true e not_shut goes closed = close_is entry.move e
+  ends_by at before entry (next ∷ later) true e not_shut goes closed =
+      absurd (no_entry (next ∷ later) next later refl (end_of at before entry (next ∷ later) (close_is entry.move e) goes.1))
+    where
+      no_entry : (journal : Journal) (one : Entry) (more : Journal) → journal ≡ one ∷ more → journal ≡ [] → ⊥
+      no_entry journal one more e f = cc
+  ends_by at before entry [] false e not_shut goes closed =
+      absurd (false_is_not (sym (shut_more before entry false not_shut e) ∙ (ap shut (sym (append-nil (before ++ entry ∷ []))) ∙ closed)))
+  ends_by at before entry (next ∷ later) false e not_shut goes closed =
+      ends_by at (before ++ entry ∷ []) next later (is_close next.move) refl (shut_more before entry false not_shut e) goes.1
+      (ap shut (append_assoc (before ++ entry ∷ []) (next ∷ []) later) ∙ closed)
+
+  -- a journal with a Close is finished
+  pub shut_is_finished : (at : List ℕ) (journal : Journal) → GoesOn catalog at asks [] journal → shut journal ≡ true → IsFinished journal
+  shut_is_finished at [] goes closed = absurd (false_is_not closed)
+  shut_is_finished at (entry ∷ later) goes closed = ends_by at [] entry later (is_close entry.move) refl refl goes closed

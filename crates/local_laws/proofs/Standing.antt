@@ -265,6 +265,26 @@ module _ (held : Holding) (address : List ℕ) (asks : List Asked) (can : CanSer
   MovesBy l stand owed (Take most) = Piecing l stand owed most
   MovesBy l stand owed Close = At (goes held.catalog asks l (record { move = Close; answer = Made })) stand owed
 
+  -- the next move where a session stands there
+  pub data Nexts (l : Left) : Type 0 where
+    dials : next_of held.catalog address l ≡ Some (Dial address) → Nexts l
+    sends_one : (bytes : List ℕ) → next_of held.catalog address l ≡ Some (Send bytes) → Nexts l
+    takes : (most : ℕ) → next_of held.catalog address l ≡ Some (Take most) → Nexts l
+    closes : next_of held.catalog address l ≡ Some Close → Nexts l
+    is_closed : l.closed ≡ true → Nexts l
+
+  sends_or_dials : (l : Left) (frame : Frame) (b : Bool) → next_of held.catalog address l ≡ Some (if b then Send (frame_bytes frame) else Dial address) → Nexts l
+  sends_or_dials l frame true e = sends_one (frame_bytes frame) e
+  sends_or_dials l frame false e = dials e
+
+  pub nexts_at : (l : Left) (stand : Stand) (owed : List ℕ) → At l stand owed → Nexts l
+  nexts_at l stand owed (sending frame before quiet part is count none what) =
+      sends_or_dials l frame l.opened (due_next l frame before quiet is count l.opened refl)
+  nexts_at l stand owed (taking h frame after part rest o c s is count joined owed_is some comes) =
+      let t = taking_next l stand h frame after part rest o c s is count joined some comes in takes t.most t.next
+  nexts_at l stand owed (ending o quiet count finished) = closes (ending_next l o quiet count finished)
+  nexts_at l stand owed (closed o c s b finished) = is_closed c
+
   by_move : (l : Left) (stand : Stand) (owed : List ℕ) (move other : Move) → next_of held.catalog address l ≡ Some other → next_of held.catalog address l ≡ Some move → MovesBy l stand owed other → MovesBy l stand owed move
   by_move l stand owed move other e f m = subst (λ (x : Move). MovesBy l stand owed x) (sym (same_some (next_of held.catalog address l) other move e f)) m
 
