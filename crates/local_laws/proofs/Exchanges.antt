@@ -1,5 +1,5 @@
 -- A session frame by frame: what the key has due, what the host says to it, and what the key then has due.
-use Rattle.std.proofs.Common.{◌≡◌, ℕ, ◌+◌, ◌/◌, ◌<◌, ◌≤◌, ◌^◌, Bool, true, false, not, List, [], ◌∷◌, ◌++◌, length, map, drop, sym, ◌∙◌, ap, subst, refl, arith, append-nil, length-append, Option, Some, None, lit<}
+use Rattle.std.proofs.Common.{◌≡◌, ℕ, ◌+◌, ◌-◌, ◌/◌, ◌<◌, ◌≤◌, ◌^◌, Bool, true, false, not, List, [], ◌∷◌, ◌++◌, length, map, drop, sym, ◌∙◌, ap, subst, refl, arith, append-nil, length-append, Option, Some, None, lit<}
 use Rattle.std.specs.Prelude.{flat_map, if◌then◌else◌, ◌&&◌, ◌||◌, ◌==◌, nat_lt, nat_le}
 use Rattle.std.specs.List.{list_all}
 use Rattle.std.proofs.Math.Seq.{drop-append_seam}
@@ -81,6 +81,22 @@ joined parts = flat_map (λ (part : List ℕ). part) parts
 part_fits : (part : List ℕ) → 0 < length part → length part ≤ most_part → fits_frame part ≡ true
 part_fits part some few = hold_both _ _ (lt-ltb 0 (length part) some) (le-leb (length part) most_part few)
 
+-- whether a part is all that is missing
+some_part : (part : List ℕ) (later : List (List ℕ)) → list_all fits_frame (part ∷ later) ≡ true → 0 < length part
+some_part part later fit =
+    let both : BothHold (fits_frame part) (list_all fits_frame later) = both_hold (fits_frame part) (list_all fits_frame later) fit in
+    ltb-true 0 (length part) (both_hold (nat_lt 0 (length part)) (nat_le (length part) most_part) both.one).one
+
+last_part : (part : List ℕ) → (length part == length (part ++ [])) ≡ true
+last_part part = eq-eqb (length part) (length (part ++ [])) (ap length (sym (append-nil part)))
+
+other_part : (part next : List ℕ) (later : List (List ℕ)) → list_all fits_frame (next ∷ later) ≡ true → (length part == length (part ++ joined (next ∷ later))) ≡ false
+other_part part next later fit =
+    let some : 0 < length next = some_part next later fit in
+    let longer : length (part ++ joined (next ∷ later)) ≡ length part + (length next + length (joined later)) =
+    length-append part (joined (next ∷ later)) ∙ ap (λ (n : ℕ). length part + n) (length-append next (joined later)) in
+    ne_eqb _ _ (λ same. absurd (omega (arith, same, longer, some)))
+
 module _ (held : Holding) (asks : List Asked) (can : CanServe held asks) where
   -- the catalog's bytes are awaited
   pub record Greeted (h : Heard) (missing : List ℕ) : Type 0 where
@@ -95,6 +111,7 @@ module _ (held : Holding) (asks : List Asked) (can : CanServe held asks) where
     pub awaits : h.awaits ≡ Reply asked serial later count last
     pub groups : AreGroups held.catalog asked.ask last todo
     pub all : count + length (rows_of_groups todo) ≡ total
+    pub whole : total ≡ length (held.rows asked.ask)
     pub some : 0 < serial
     pub fits : serial + length later < 2 ^ 32
     pub few : total < 2 ^ 32
@@ -130,18 +147,12 @@ module _ (held : Holding) (asks : List Asked) (can : CanServe held asks) where
       → IsAwaited held.catalog (Missing (joined (part ∷ parts))) frame
   welcome_may_come part [] frame after e h is =
       let both : BothHold (fits_frame part) true = both_hold (fits_frame part) true e in
-      let same : (length part == length (part ++ [])) ≡ true = eq-eqb (length part) (length (part ++ [])) (ap length (sym (append-nil part))) in
       subst (λ (f : Frame). IsAwaited held.catalog (Missing (part ++ [])) f) (sym (same_frames frame (Welcome 1 part) after [] is).0)
-      (welcome_awaited held.catalog asks 1 part [] (omega arith) both.one (front_bytes part [] h) (ap (λ (b : Bool). 1 == (if b then 1 else 0)) same))
+      (welcome_awaited held.catalog asks 1 part [] (omega arith) both.one (front_bytes part [] h) (ap (λ (b : Bool). 1 == (if b then 1 else 0)) (last_part part)))
   welcome_may_come part (next ∷ later) frame after e h is =
       let both : BothHold (fits_frame part) (list_all fits_frame (next ∷ later)) = both_hold (fits_frame part) (list_all fits_frame (next ∷ later)) e in
-      let nexts : BothHold (fits_frame next) (list_all fits_frame later) = both_hold (fits_frame next) (list_all fits_frame later) both.other in
-      let some : 0 < length next = ltb-true 0 (length next) (both_hold (nat_lt 0 (length next)) (nat_le (length next) most_part) nexts.one).one in
-      let longer : length (part ++ joined (next ∷ later)) ≡ length part + (length next + length (joined later)) =
-      length-append part (joined (next ∷ later)) ∙ ap (λ (n : ℕ). length part + n) (length-append next (joined later)) in
-      let other : (length part == length (part ++ joined (next ∷ later))) ≡ false = ne_eqb _ _ (λ same. absurd (omega (arith, same, longer, some))) in
       subst (λ (f : Frame). IsAwaited held.catalog (Missing (part ++ joined (next ∷ later))) f) (sym (same_frames frame (Welcome 0 part) after (welcomes_of (next ∷ later)) is).0)
-      (welcome_awaited held.catalog asks 0 part (joined (next ∷ later)) (omega arith) both.one (front_bytes part (joined (next ∷ later)) h) (ap (λ (b : Bool). 0 == (if b then 1 else 0)) other))
+      (welcome_awaited held.catalog asks 0 part (joined (next ∷ later)) (omega arith) both.one (front_bytes part (joined (next ∷ later)) h) (ap (λ (b : Bool). 0 == (if b then 1 else 0)) (other_part part next later both.other)))
 
   pub may_come : (h : Heard) (frame : Frame) (after : List Frame) (stand : Stand) → Comes h frame after stand → IsAwaited held.catalog h.awaits frame
   may_come h frame after stand (welcome part parts greeted fit bytes is _) =
@@ -256,6 +267,7 @@ module _ (held : Holding) (asks : List Asked) (can : CanServe held asks) where
         awaits = a;
         groups = can.groups asked.ask both.one;
         all = (let rows : length (rows_of_groups (groups_for held asked.ask)) ≡ length (held.rows asked.ask) = ap length (all_rows asked.ask both.one) in omega (arith, rows));
+        whole = refl;
         some = some;
         fits = omega (arith, fits);
         few = can.few_rows asked.ask both.one;
@@ -288,24 +300,18 @@ module _ (held : Holding) (asks : List Asked) (can : CanServe held asks) where
   turned_by_welcome : (h : Heard) (part : List ℕ) (parts : List (List ℕ)) (frame : Frame) (after : List Frame) → was_refused h.ended ≡ false → list_all fits_frame (part ∷ parts) ≡ true → AreBytes (joined (part ∷ parts)) → frame ∷ after ≡ welcomes_of (part ∷ parts)
       → Turned h (heard_at h (Missing (joined (part ∷ parts))) frame) after (Listening 1)
   turned_by_welcome h part [] frame after none fit bytes is =
-      let same : (length part == length (part ++ [])) ≡ true = eq-eqb (length part) (length (part ++ [])) (ap length (sym (append-nil part))) in
       let ends = same_frames frame (Welcome 1 part) after [] is in
       subst (λ (f : Frame). Turned h (heard_at h (Missing (part ++ [])) f) after (Listening 1)) (sym ends.0)
-      (subst (λ (b : Bool). Turned h (after_welcome h (if b then on_with held.catalog.schema 1 asks else still (Missing (drop (length part) (part ++ [])))) (Welcome 1 part)) after (Listening 1)) (sym same)
+      (subst (λ (b : Bool). Turned h (after_welcome h (if b then on_with held.catalog.schema 1 asks else still (Missing (drop (length part) (part ++ [])))) (Welcome 1 part)) after (Listening 1)) (sym (last_part part))
       (subst (λ (fs : List Frame). Turned h (after_welcome h (on_with held.catalog.schema 1 asks) (Welcome 1 part)) fs (Listening 1)) (sym ends.1)
       (on_next h (after_welcome h (on_with held.catalog.schema 1 asks) (Welcome 1 part)) 1 asks refl refl (same_ends h none) (lit< tt) (let few = can.few_asks in omega (arith, few)) can.proper)))
   turned_by_welcome h part (next ∷ later) frame after none fit bytes is =
       let both : BothHold (fits_frame part) (list_all fits_frame (next ∷ later)) = both_hold (fits_frame part) (list_all fits_frame (next ∷ later)) fit in
-      let nexts : BothHold (fits_frame next) (list_all fits_frame later) = both_hold (fits_frame next) (list_all fits_frame later) both.other in
-      let some : 0 < length next = ltb-true 0 (length next) (both_hold (nat_lt 0 (length next)) (nat_le (length next) most_part) nexts.one).one in
-      let longer : length (part ++ joined (next ∷ later)) ≡ length part + (length next + length (joined later)) =
-      length-append part (joined (next ∷ later)) ∙ ap (λ (n : ℕ). length part + n) (length-append next (joined later)) in
-      let other : (length part == length (part ++ joined (next ∷ later))) ≡ false = ne_eqb _ _ (λ same. absurd (omega (arith, same, longer, some))) in
       let rest : drop (length part) (part ++ joined (next ∷ later)) ≡ joined (next ∷ later) = drop-append_seam part (joined (next ∷ later)) in
       let ends = same_frames frame (Welcome 0 part) after (welcomes_of (next ∷ later)) is in
       let tail : AreBytes (joined (next ∷ later)) = subst (λ (bs : List ℕ). AreBytes bs) rest (bytes_drop (length part) (part ++ joined (next ∷ later)) bytes) in
       subst (λ (f : Frame). Turned h (heard_at h (Missing (part ++ joined (next ∷ later))) f) after (Listening 1)) (sym ends.0)
-      (subst (λ (b : Bool). Turned h (after_welcome h (if b then on_with held.catalog.schema 1 asks else still (Missing (drop (length part) (part ++ joined (next ∷ later))))) (Welcome 0 part)) after (Listening 1)) (sym other)
+      (subst (λ (b : Bool). Turned h (after_welcome h (if b then on_with held.catalog.schema 1 asks else still (Missing (drop (length part) (part ++ joined (next ∷ later))))) (Welcome 0 part)) after (Listening 1)) (sym (other_part part next later both.other))
       (subst (λ (bs : List ℕ). Turned h (after_welcome h (still (Missing bs)) (Welcome 0 part)) after (Listening 1)) (sym rest)
       (next_welcome h (after_welcome h (still (Missing (joined (next ∷ later)))) (Welcome 0 part)) next later after (append-nil h.due) (record { awaits = refl; none_refused = same_ends h none }) both.other tail ends.1)))
     where
@@ -327,6 +333,7 @@ module _ (held : Holding) (asks : List Asked) (can : CanServe held asks) where
         awaits = ap (λ (rows : List ReplyRow). Reply asked serial going.later (going.count + length rows) (last_identifier going.last rows)) read;
         groups = going.groups.1;
         all = (let all = going.all in omega (arith, all, split));
+        whole = going.whole;
         some = going.some;
         fits = going.fits;
         few = going.few;
@@ -355,3 +362,54 @@ module _ (held : Holding) (asks : List Asked) (can : CanServe held asks) where
       (subst (λ (fs : List Frame). Turned h (heard_frame held.catalog asks h frame) fs (Listening (serial + 1))) (sym none)
       (subst (λ (x : Heard). Turned h x [] (Listening (serial + 1))) (heard_so h (Reply asked serial going.later going.count going.last) frame (Done serial total) going.awaits is)
       (turned_by_done h asked serial total going)))
+
+  -- the frames of the host that are still to come, or more
+  abbrev asks_left : List Asked → ℕ
+  asks_left [] = 0
+  asks_left (one ∷ later) = length (held.rows one.ask) + 1 + asks_left later
+
+  abbrev pub frames_left : Awaits → ℕ
+  frames_left (Missing bytes) = length bytes + asks_left asks
+  frames_left (Reply asked serial later count last) = length (held.rows asked.ask) - count + 1 + asks_left later
+  frames_left Nothing = 0
+
+  left_on : (serial : ℕ) (later : List Asked) → frames_left (on_with held.catalog.schema serial later).awaits ≡ asks_left later
+  left_on serial [] = refl
+  left_on serial (one ∷ later) = omega arith
+
+  welcome_left : (h : Heard) (part : List ℕ) (parts : List (List ℕ)) (frame : Frame) (after : List Frame) → list_all fits_frame (part ∷ parts) ≡ true → frame ∷ after ≡ welcomes_of (part ∷ parts)
+      → frames_left (heard_at h (Missing (joined (part ∷ parts))) frame).awaits < frames_left (Missing (joined (part ∷ parts)))
+  welcome_left h part [] frame after fit is =
+      let some : 0 < length part = some_part part [] fit in
+      let long : length (part ++ []) ≡ length part = ap length (append-nil part) in
+      let next : frames_left (on_with held.catalog.schema 1 asks).awaits ≡ asks_left asks = left_on 1 asks in
+      subst (λ (f : Frame). frames_left (heard_at h (Missing (part ++ [])) f).awaits < length (part ++ []) + asks_left asks) (sym (same_frames frame (Welcome 1 part) after [] is).0)
+      (subst (λ (b : Bool). frames_left (if b then on_with held.catalog.schema 1 asks else still (Missing (drop (length part) (part ++ [])))).awaits < length (part ++ []) + asks_left asks) (sym (last_part part))
+      (omega (arith, some, long, next)))
+  welcome_left h part (next ∷ later) frame after fit is =
+      let both : BothHold (fits_frame part) (list_all fits_frame (next ∷ later)) = both_hold (fits_frame part) (list_all fits_frame (next ∷ later)) fit in
+      let some : 0 < length part = some_part part (next ∷ later) fit in
+      let long : length (part ++ joined (next ∷ later)) ≡ length part + length (joined (next ∷ later)) = length-append part (joined (next ∷ later)) in
+      let rest : length (drop (length part) (part ++ joined (next ∷ later))) ≡ length (joined (next ∷ later)) = ap length (drop-append_seam part (joined (next ∷ later))) in
+      subst (λ (f : Frame). frames_left (heard_at h (Missing (part ++ joined (next ∷ later))) f).awaits < length (part ++ joined (next ∷ later)) + asks_left asks) (sym (same_frames frame (Welcome 0 part) after (welcomes_of (next ∷ later)) is).0)
+      (subst (λ (b : Bool). frames_left (if b then on_with held.catalog.schema 1 asks else still (Missing (drop (length part) (part ++ joined (next ∷ later))))).awaits < length (part ++ joined (next ∷ later)) + asks_left asks) (sym (other_part part next later both.other))
+      (omega (arith, some, long, rest)))
+
+  -- each frame that is heard leaves fewer
+  pub fewer_left : (h : Heard) (frame : Frame) (after : List Frame) (stand : Stand) → Comes h frame after stand → frames_left (heard_frame held.catalog asks h frame).awaits < frames_left h.awaits
+  fewer_left h frame after stand (welcome part parts greeted fit bytes is there) =
+      subst (λ (a : Awaits). frames_left (heard_frame held.catalog asks h frame).awaits < frames_left a) (sym greeted.awaits)
+      (subst (λ (x : Heard). frames_left x.awaits < frames_left (Missing (joined (part ∷ parts)))) (heard_so h (Missing (joined (part ∷ parts))) frame frame greeted.awaits refl)
+      (welcome_left h part parts frame after fit is))
+  fewer_left h frame after stand (some_rows asked serial total group todo going is none there) =
+      let read : length (rows_in held.catalog.schema asked.ask (flat_map row_bytes group)) ≡ length group = ap length (spelled_rows_are_read held.catalog.schema asked.ask group going.groups.0.widths) in
+      let split : length (rows_of_groups (group ∷ todo)) ≡ length group + length (rows_of_groups todo) = length-append group (rows_of_groups todo) in
+      let some : 0 < length group = going.groups.0.some in
+      subst (λ (a : Awaits). frames_left (heard_frame held.catalog asks h frame).awaits < frames_left a) (sym going.awaits)
+      (subst (λ (x : Heard). frames_left x.awaits < frames_left (Reply asked serial going.later going.count going.last)) (heard_so h (Reply asked serial going.later going.count going.last) frame (rows_frame serial group) going.awaits is)
+      (let all = going.all in let whole = going.whole in omega (arith, all, whole, read, split, some)))
+  fewer_left h frame after stand (done asked serial total going is none there) =
+      let next : frames_left (on_with held.catalog.schema (serial + 1) going.later).awaits ≡ asks_left going.later = left_on (serial + 1) going.later in
+      subst (λ (a : Awaits). frames_left (heard_frame held.catalog asks h frame).awaits < frames_left a) (sym going.awaits)
+      (subst (λ (x : Heard). frames_left x.awaits < frames_left (Reply asked serial going.later going.count going.last)) (heard_so h (Reply asked serial going.later going.count going.last) frame (Done serial total) going.awaits is)
+      (omega (arith, next)))

@@ -9,4 +9,4 @@ pub mod Over
 pub mod Decided
 pub mod Settled
 pub mod Outcomes
-pub mod GoingOn
+pub mod Ending

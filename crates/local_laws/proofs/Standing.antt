@@ -1,20 +1,22 @@
 -- Where a session with a host in the process stands: what the next move is, and what each move leads to.
-use Rattle.std.proofs.Common.{◌≡◌, ℕ, ◌+◌, ◌<◌, ◌≤◌, Bool, true, false, ◌||◌, List, [], ◌∷◌, ◌++◌, length, sym, ◌∙◌, ap, subst, refl, arith, append-nil, append_assoc, length-append, Option, Some, None, slice_get}
-use Rattle.std.specs.Prelude.{flat_map, if◌then◌else◌, not}
+use Rattle.std.proofs.Common.{◌≡◌, ℕ, ◌+◌, ◌-◌, ◌*◌, ◌<◌, ◌≤◌, Bool, true, false, ◌||◌, List, [], ◌∷◌, ◌++◌, length, sym, ◌∙◌, ap, subst, refl, arith, append-nil, append_assoc, length-append, Option, Some, None, slice_get}
+use Rattle.std.specs.Prelude.{flat_map, if◌then◌else◌, not, nat_lt}
+use Rattle.std.proofs.lemmas.Bool.{ltb-true}
 use Rattle.std.proofs.lemmas.Grind.{flat_map-append}
 use Rattle.std.specs.List.{list_any}
 use Rattle.ghost_model.specs.Schema.{is_empty}
 use Rattle.ghost_model.specs.Channel.{Catalog, Frame, Hello, Move, Dial, Listen, Accept, Send, Take, Close, Made, Piece, Entry, Journal}
-use Rattle.ghost_model.specs.Frames.{frame_bytes}
+use Rattle.ghost_model.specs.Frames.{frame_bytes, frame_in, size_in}
 use Rattle.ghost_model.specs.Moves.{taken, sent, sent_by, piece_of}
 use Rattle.ghost_model.specs.Asks.{Asked}
 use Rattle.ghost_model.specs.NextMove as next
 use Rattle.ghost_model.specs.NextMove.{Awaits, Verdict, Heard, Left, left, verdict, heard_as, heard_frame, hear_all, lacks, next_of, rest_of, send_or, is_close, is_stop, IsAwaited}
 use Rattle.ghost_model.specs.Host.{Holding, Stand, Response, answer_to}
 use Rattle.ghost_model.specs.Host as host
+use Rattle.ghost_model.proofs.ChannelLemmas.{payload_bound}
 use Rattle.ghost_model.proofs.ChannelLemmas.Hearing.{lacking, heard_on}
 use Rattle.ghost_model.proofs.ChannelLemmas.Sending.{heard_more}
-use Rattle.local_laws.proofs.Exchanges.{CanServe, Due, Comes, Finished, Next, over, exchange, answered_due, may_come, heeds, Turned, calls, more_comes, says_hello, welcome, some_rows, done}
+use Rattle.local_laws.proofs.Exchanges.{CanServe, Due, Comes, Finished, Next, over, exchange, answered_due, may_come, heeds, frames_left, fewer_left, Turned, calls, more_comes, says_hello, welcome, some_rows, done}
 
 -- what was heard, with this part of the frame at hand
 abbrev pub whole : Heard → List ℕ → Heard
@@ -87,6 +89,27 @@ left_more catalog asks before entry =
     (ap length (sent_more before entry) ∙ length-append (sent before) (sent_by entry.move))
     (ap (λ (bs : List ℕ). next.heard catalog asks bs) (taken_more before entry) ∙ heard_more catalog [] asks (next.at_first catalog) (taken before) (piece_of entry.answer))
 
+-- a part of a frame lacks some bytes
+lacks_some : (short header part payload : Bool) (m n k : ℕ) → (short ≡ true → 0 < m) → (part ≡ true → 0 < n)
+    → (if short then next.Short m else if not header then next.Invalid else if part then next.Short n else if payload then next.Whole else next.Invalid) ≡ next.Short k → 0 < k
+lacks_some true header part payload m n k p q e = subst (λ (x : ℕ). 0 < x) (same_short m k e) (p refl)
+  where
+    same_short : (a b : ℕ) → next.Short a ≡ next.Short b → a ≡ b
+    same_short a b e = cc
+lacks_some false false part payload m n k p q e = let bad : ⊥ = cc in absurd bad
+lacks_some false true true payload m n k p q e = subst (λ (x : ℕ). 0 < x) (same_short n k e) (q refl)
+  where
+    same_short : (a b : ℕ) → next.Short a ≡ next.Short b → a ≡ b
+    same_short a b e = cc
+lacks_some false true false true m n k p q e = let bad : ⊥ = cc in absurd bad
+lacks_some false true false false m n k p q e = let bad : ⊥ = cc in absurd bad
+
+short_is_some : (catalog : Catalog) (awaits : Awaits) (part : List ℕ) (missing : ℕ) → verdict catalog awaits part ≡ next.Short missing → 0 < missing
+short_is_some catalog awaits part missing e =
+    lacks_some (nat_lt (length part) 8) (next.header_fits catalog awaits part) (nat_lt (length part) (8 + size_in part)) (next.payload_fits catalog awaits (frame_in part))
+    (8 - length part) (8 + size_in part - length part) missing
+    (λ t. (let less = ltb-true (length part) 8 t in omega (arith, less))) (λ t. (let less = ltb-true (length part) (8 + size_in part) t in omega (arith, less))) e
+
 -- nothing has ended the session
 pub record Quiet (l : Left) : Type 0 where
   pub closed : l.closed ≡ false
@@ -151,6 +174,18 @@ module _ (held : Holding) (address : List ℕ) (asks : List Asked) (can : CanSer
     ending : l.opened ≡ true → Quiet l → length l.heard.due ≡ l.sent → Finished held asks can l.heard → At l stand owed
     closed : l.opened ≡ true → l.closed ≡ true → l.stopped ≡ false → l.heard.broken ≡ false → Finished held asks can l.heard → At l stand owed
 
+  -- what is still to be done: no frame has as many bytes as one that is to come counts
+  abbrev pub rank : (l : Left) (stand : Stand) (owed : List ℕ) → At l stand owed → ℕ
+  rank l stand owed (sending _ _ _ _ _ _ _ _) = frames_left held asks can l.heard.awaits * 8192 + (if l.opened then 4000 else 4001)
+  rank l stand owed (taking h _ _ _ rest _ _ _ _ _ _ _ _ _) = frames_left held asks can h.awaits * 8192 + length rest
+  rank l stand owed (ending _ _ _ _) = 1
+  rank l stand owed (closed _ _ _ _ _) = 0
+
+  -- a session stands there, and less is to be done than so much
+  pub record Lower (l : Left) (stand : Stand) (owed : List ℕ) (much : ℕ) : Type 0 where
+    pub there : At l stand owed
+    pub less : rank l stand owed there < much
+
   -- nothing stopped the session, and no invalid frame came
   pub not_stopped : (l : Left) (stand : Stand) (owed : List ℕ) → At l stand owed → l.stopped ≡ false
   not_stopped l stand owed (sending _ _ quiet _ _ _ _ _) = quiet.stopped
@@ -202,6 +237,7 @@ module _ (held : Holding) (address : List ℕ) (asks : List Asked) (can : CanSer
   record Takes (l : Left) (rest : List ℕ) : Type 0 where
     most : ℕ
     next : next_of held.catalog address l ≡ Some (Take most)
+    some : 0 < most
     within : most ≤ length rest
 
   first_of : (owed : List ℕ) → 0 < length owed → (byte : ℕ) × (more : List ℕ) × (owed ≡ byte ∷ more)
@@ -220,6 +256,7 @@ module _ (held : Holding) (address : List ℕ) (asks : List Asked) (can : CanSer
             rest_next l o c s (ap (λ (x : Heard). x.broken) is) (ap (λ (x : Heard). length x.due) is ∙ count)
             ∙ ap Some (ap (λ (x : Heard). rest_of held.catalog x x.awaits) is ∙ (comes_take h frame after stand part comes
             ∙ ap (λ (v : Verdict). Take (lacks v)) short.1));
+        some = short_is_some held.catalog h.awaits part short.0 short.1;
         within = subst (λ (bs : List ℕ). short.0 ≤ length bs) (sym first.2) short.2;
       }
 
@@ -228,7 +265,7 @@ module _ (held : Holding) (address : List ℕ) (asks : List Asked) (can : CanSer
       rest_next l o quiet.closed quiet.stopped quiet.valid count ∙ ap (λ (a : Awaits). Some (rest_of held.catalog l.heard a)) finished.awaits
 
   -- a frame is sent
-  pub record Sends (l : Left) (stand : Stand) (owed bytes : List ℕ) : Type 0 where
+  pub record Sends (l : Left) (stand : Stand) (owed : List ℕ) (much : ℕ) (bytes : List ℕ) : Type 0 where
     pub frame : Frame
     pub before : List Frame
     pub quiet : Quiet l
@@ -238,9 +275,10 @@ module _ (held : Holding) (address : List ℕ) (asks : List Asked) (can : CanSer
     pub none_owed : owed ≡ []
     pub what : Due held asks can l.heard frame stand
     pub spelled : bytes ≡ frame_bytes frame
+    pub much_is : much ≡ frames_left held asks can l.heard.awaits * 8192 + 4000
 
   -- a piece is taken
-  pub record Piecing (l : Left) (stand : Stand) (owed : List ℕ) (most : ℕ) : Type 0 where
+  pub record Piecing (l : Left) (stand : Stand) (owed : List ℕ) (much most : ℕ) : Type 0 where
     pub h : Heard
     pub frame : Frame
     pub after : List Frame
@@ -254,16 +292,18 @@ module _ (held : Holding) (address : List ℕ) (asks : List Asked) (can : CanSer
     pub owed_is : owed ≡ rest ++ flat_map frame_bytes after
     pub some : 0 < length rest
     pub comes : Comes held asks can h frame after stand
+    pub positive : 0 < most
     pub within : most ≤ length rest
+    pub much_is : much ≡ frames_left held asks can h.awaits * 8192 + length rest
 
-  -- what the next move may be where a session stands there
-  abbrev pub MovesBy : Left → Stand → List ℕ → Move → Type 0
-  MovesBy l stand owed (Dial to) = At (goes held.catalog asks l (record { move = Dial to; answer = Made })) stand owed
-  MovesBy l stand owed (Listen _) = ⊥
-  MovesBy l stand owed Accept = ⊥
-  MovesBy l stand owed (Send bytes) = Sends l stand owed bytes
-  MovesBy l stand owed (Take most) = Piecing l stand owed most
-  MovesBy l stand owed Close = At (goes held.catalog asks l (record { move = Close; answer = Made })) stand owed
+  -- what the next move may be where a session stands there and so much is to be done
+  abbrev pub MovesBy : Left → Stand → List ℕ → (much : ℕ) → Move → Type 0
+  MovesBy l stand owed much (Dial to) = Lower (goes held.catalog asks l (record { move = Dial to; answer = Made })) stand owed much
+  MovesBy l stand owed much (Listen _) = ⊥
+  MovesBy l stand owed much Accept = ⊥
+  MovesBy l stand owed much (Send bytes) = Sends l stand owed much bytes
+  MovesBy l stand owed much (Take most) = Piecing l stand owed much most
+  MovesBy l stand owed much Close = Lower (goes held.catalog asks l (record { move = Close; answer = Made })) stand owed much
 
   -- the next move where a session stands there
   pub data Nexts (l : Left) : Type 0 where
@@ -285,27 +325,29 @@ module _ (held : Holding) (address : List ℕ) (asks : List Asked) (can : CanSer
   nexts_at l stand owed (ending o quiet count finished) = closes (ending_next l o quiet count finished)
   nexts_at l stand owed (closed o c s b finished) = is_closed c
 
-  by_move : (l : Left) (stand : Stand) (owed : List ℕ) (move other : Move) → next_of held.catalog address l ≡ Some other → next_of held.catalog address l ≡ Some move → MovesBy l stand owed other → MovesBy l stand owed move
-  by_move l stand owed move other e f m = subst (λ (x : Move). MovesBy l stand owed x) (sym (same_some (next_of held.catalog address l) other move e f)) m
+  by_move : (l : Left) (stand : Stand) (owed : List ℕ) (much : ℕ) (move other : Move) → next_of held.catalog address l ≡ Some other → next_of held.catalog address l ≡ Some move → MovesBy l stand owed much other → MovesBy l stand owed much move
+  by_move l stand owed much move other e f m = subst (λ (x : Move). MovesBy l stand owed much x) (sym (same_some (next_of held.catalog address l) other move e f)) m
 
   due_moves : (l : Left) (stand : Stand) (owed : List ℕ) (frame : Frame) (before : List Frame) → Quiet l → l.heard.part ≡ [] → l.heard.due ≡ before ++ frame ∷ [] → length before ≡ l.sent → owed ≡ [] → Due held asks can l.heard frame stand
-      → (b : Bool) → MovesBy l stand owed (if b then Send (frame_bytes frame) else Dial address)
+      → (b : Bool) → MovesBy l stand owed (frames_left held asks can l.heard.awaits * 8192 + (if b then 4000 else 4001)) (if b then Send (frame_bytes frame) else Dial address)
   unfolding hear_all
-  due_moves l stand owed frame before quiet part is count none what true = record { frame = frame; before = before; quiet = quiet; part = part; is_due = is; count = count; none_owed = none; what = what; spelled = refl }
-  due_moves l stand owed frame before quiet part is count none what false =
-      sending frame before (record { closed = or_false l.closed ∙ quiet.closed; stopped = or_false l.stopped ∙ quiet.stopped; valid = quiet.valid }) part is
-      (let same : length before ≡ l.sent + 0 = omega (arith, count) in same) none what
+  due_moves l stand owed frame before quiet part is count none what true = record { frame = frame; before = before; quiet = quiet; part = part; is_due = is; count = count; none_owed = none; what = what; spelled = refl; much_is = refl }
+  due_moves l stand owed frame before quiet part is count none what false = record {
+    there = sending frame before (record { closed = or_false l.closed ∙ quiet.closed; stopped = or_false l.stopped ∙ quiet.stopped; valid = quiet.valid }) part is
+        (let same : length before ≡ l.sent + 0 = omega (arith, count) in same) none what;
+    less = omega arith;
+  }
 
-  close_moves : (l : Left) (stand : Stand) (owed : List ℕ) → Quiet l → Finished held asks can l.heard → MovesBy l stand owed Close
+  close_moves : (l : Left) (stand : Stand) (owed : List ℕ) → Quiet l → Finished held asks can l.heard → MovesBy l stand owed 1 Close
   unfolding hear_all
-  close_moves l stand owed quiet finished = closed refl (or_true l.closed) (or_false l.stopped ∙ quiet.stopped) quiet.valid finished
+  close_moves l stand owed quiet finished = record { there = closed refl (or_true l.closed) (or_false l.stopped ∙ quiet.stopped) quiet.valid finished; less = omega arith }
 
-  pub moves_at : (l : Left) (stand : Stand) (owed : List ℕ) (move : Move) → At l stand owed → next_of held.catalog address l ≡ Some move → MovesBy l stand owed move
+  pub moves_at : (l : Left) (stand : Stand) (owed : List ℕ) (move : Move) → (a : At l stand owed) → next_of held.catalog address l ≡ Some move → MovesBy l stand owed (rank l stand owed a) move
   moves_at l stand owed move (sending frame before quiet part is count none what) e =
-      by_move l stand owed move _ (due_next l frame before quiet is count l.opened refl) e (due_moves l stand owed frame before quiet part is count none what l.opened)
+      by_move l stand owed _ move _ (due_next l frame before quiet is count l.opened refl) e (due_moves l stand owed frame before quiet part is count none what l.opened)
   moves_at l stand owed move (taking h frame after part rest o c s is count joined owed_is some comes) e =
       let t = taking_next l stand h frame after part rest o c s is count joined some comes in
-      by_move l stand owed move (Take t.most) t.next e (record {
+      by_move l stand owed _ move (Take t.most) t.next e (record {
         h = h;
         frame = frame;
         after = after;
@@ -319,35 +361,47 @@ module _ (held : Holding) (address : List ℕ) (asks : List Asked) (can : CanSer
         owed_is = owed_is;
         some = some;
         comes = comes;
+        positive = t.some;
         within = t.within;
+        much_is = refl;
       })
   moves_at l stand owed move (ending o quiet count finished) e =
-      by_move l stand owed move Close (ending_next l o quiet count finished) e (close_moves l stand owed quiet finished)
+      by_move l stand owed _ move Close (ending_next l o quiet count finished) e (close_moves l stand owed quiet finished)
   moves_at l stand owed move (closed o c s b finished) e = absurd (none_is_not _ move (next_closed held.catalog address l o c) e)
 
   -- the host answers the frame that was sent
-  pub record Answers (l : Left) (stand : Stand) (bytes : List ℕ) (frame : Frame) : Type 0 where
+  pub record Answers (l : Left) (stand : Stand) (much : ℕ) (bytes : List ℕ) (frame : Frame) : Type 0 where
     pub response : Response
     pub is : answer_to held stand frame ≡ Some response
-    pub there : At (goes held.catalog asks l (record { move = Send bytes; answer = Made })) response.stand (flat_map frame_bytes response.says)
+    pub stands : Lower (goes held.catalog asks l (record { move = Send bytes; answer = Made })) response.stand (flat_map frame_bytes response.says) much
 
-  answers_by : (l : Left) (stand : Stand) (owed bytes : List ℕ) → (s : Sends l stand owed bytes) → Next held asks can l.heard (answer_to held stand s.frame) → Answers l stand bytes s.frame
+  few_bytes : (h : Heard) (frame : Frame) (after : List Frame) (stand : Stand) → Comes held asks can h frame after stand → length (frame_bytes frame) ≤ 2048
+  few_bytes h frame after stand comes =
+      let fits = payload_bound frame (may_come held asks can h frame after stand comes).fits in omega (arith, fits)
+
+  answers_by : (l : Left) (stand : Stand) (owed : List ℕ) (much : ℕ) (bytes : List ℕ) → (s : Sends l stand owed much bytes) → Next held asks can l.heard (answer_to held stand s.frame) → Answers l stand much bytes s.frame
   unfolding hear_all
-  answers_by l stand owed bytes s (over finished is) = record {
+  answers_by l stand owed much bytes s (over finished is) = record {
     response = record { says = []; stand = host.Over };
     is = is;
-    there = ending refl (record { closed = or_false l.closed ∙ s.quiet.closed; stopped = or_false l.stopped ∙ s.quiet.stopped; valid = s.quiet.valid })
-        (all_sent l.heard.due s.before s.frame l.sent s.is_due s.count) finished;
+    stands = record {
+      there = ending refl (record { closed = or_false l.closed ∙ s.quiet.closed; stopped = or_false l.stopped ∙ s.quiet.stopped; valid = s.quiet.valid })
+          (all_sent l.heard.due s.before s.frame l.sent s.is_due s.count) finished;
+      less = (let much_is = s.much_is in omega (arith, much_is));
+    };
   }
-  answers_by l stand owed bytes s (exchange x) = record {
+  answers_by l stand owed much bytes s (exchange x) = record {
     response = record { says = x.frame ∷ x.after; stand = x.stand };
     is = x.is;
-    there = taking l.heard x.frame x.after [] (frame_bytes x.frame) refl (or_false l.closed ∙ s.quiet.closed) (or_false l.stopped ∙ s.quiet.stopped) (whole_self l.heard s.part s.quiet.valid)
-        (all_sent l.heard.due s.before s.frame l.sent s.is_due s.count) refl refl (bytes_there x.frame) x.comes;
+    stands = record {
+      there = taking l.heard x.frame x.after [] (frame_bytes x.frame) refl (or_false l.closed ∙ s.quiet.closed) (or_false l.stopped ∙ s.quiet.stopped) (whole_self l.heard s.part s.quiet.valid)
+          (all_sent l.heard.due s.before s.frame l.sent s.is_due s.count) refl refl (bytes_there x.frame) x.comes;
+      less = (let much_is = s.much_is in let few = few_bytes l.heard x.frame x.after x.stand x.comes in omega (arith, much_is, few));
+    };
   }
 
-  pub answers_at : (l : Left) (stand : Stand) (owed bytes : List ℕ) → (s : Sends l stand owed bytes) → Answers l stand bytes s.frame
-  answers_at l stand owed bytes s = answers_by l stand owed bytes s (answered_due held asks can l.heard s.frame stand s.what)
+  pub answers_at : (l : Left) (stand : Stand) (owed : List ℕ) (much : ℕ) (bytes : List ℕ) → (s : Sends l stand owed much bytes) → Answers l stand much bytes s.frame
+  answers_at l stand owed much bytes s = answers_by l stand owed much bytes s (answered_due held asks can l.heard s.frame stand s.what)
 
   abbrev after_take : Left → Heard → Left
   after_take l h = record { opened = true; closed = l.closed || false; stopped = l.stopped || false; sent = l.sent + 0; heard = h }
@@ -355,42 +409,55 @@ module _ (held : Holding) (address : List ℕ) (asks : List Asked) (can : CanSer
   same_count : (n m : ℕ) → n ≡ m → n ≡ m + 0
   same_count n m e = omega (arith, e)
 
-  turned_at : (l : Left) (stand : Stand) (owed : List ℕ) (most : ℕ) (t : Piecing l stand owed most) → Turned held asks can t.h (heard_frame held.catalog asks t.h t.frame) t.after stand
-      → At (after_take l (heard_frame held.catalog asks t.h t.frame)) stand (flat_map frame_bytes t.after)
-  turned_at l stand owed most t (calls frame due none what) =
-      sending frame t.h.due (record { closed = or_false l.closed ∙ t.not_closed; stopped = or_false l.stopped ∙ t.not_stopped; valid = refl }) refl
-      due (same_count (length t.h.due) l.sent t.count) (ap (flat_map frame_bytes) none) what
-  turned_at l stand owed most t (more_comes frame later due is comes) =
-      taking (heard_frame held.catalog asks t.h t.frame) frame later [] (frame_bytes frame) refl (or_false l.closed ∙ t.not_closed) (or_false l.stopped ∙ t.not_stopped) refl
-      (ap length due ∙ same_count (length t.h.due) l.sent t.count) refl (ap (flat_map frame_bytes) is) (bytes_there frame) comes
+  -- one frame fewer
+  frame_fewer : (fewer more much rest inner : ℕ) → fewer < more → much ≡ more * 8192 + rest → inner ≤ 4000 → fewer * 8192 + inner < much
+  frame_fewer fewer more much rest inner less is small = omega (arith, less, is, small)
 
-  took_whole : (l : Left) (stand : Stand) (owed : List ℕ) (most byte : ℕ) (more : List ℕ) → (t : Piecing l stand owed most) → t.part ++ byte ∷ more ≡ frame_bytes t.frame
-      → At (goes held.catalog asks l (record { move = Take most; answer = Piece (byte ∷ more) })) stand (flat_map frame_bytes t.after)
-  took_whole l stand owed most byte more t e =
+  turned_at : (l : Left) (stand : Stand) (owed : List ℕ) (much most : ℕ) (t : Piecing l stand owed much most) → Turned held asks can t.h (heard_frame held.catalog asks t.h t.frame) t.after stand
+      → Lower (after_take l (heard_frame held.catalog asks t.h t.frame)) stand (flat_map frame_bytes t.after) much
+  turned_at l stand owed much most t (calls frame due none what) = record {
+    there = sending frame t.h.due (record { closed = or_false l.closed ∙ t.not_closed; stopped = or_false l.stopped ∙ t.not_stopped; valid = refl }) refl
+        due (same_count (length t.h.due) l.sent t.count) (ap (flat_map frame_bytes) none) what;
+    less = frame_fewer _ _ much (length t.rest) 4000 (fewer_left held asks can t.h t.frame t.after stand t.comes) t.much_is (omega arith);
+  }
+  turned_at l stand owed much most t (more_comes frame later due is comes) = record {
+    there = taking (heard_frame held.catalog asks t.h t.frame) frame later [] (frame_bytes frame) refl (or_false l.closed ∙ t.not_closed) (or_false l.stopped ∙ t.not_stopped) refl
+        (ap length due ∙ same_count (length t.h.due) l.sent t.count) refl (ap (flat_map frame_bytes) is) (bytes_there frame) comes;
+    less = frame_fewer _ _ much (length t.rest) (length (frame_bytes frame)) (fewer_left held asks can t.h t.frame t.after stand t.comes) t.much_is
+        (let few = few_bytes (heard_frame held.catalog asks t.h t.frame) frame later stand comes in omega (arith, few));
+  }
+
+  took_whole : (l : Left) (stand : Stand) (owed : List ℕ) (much most byte : ℕ) (more : List ℕ) → (t : Piecing l stand owed much most) → t.part ++ byte ∷ more ≡ frame_bytes t.frame
+      → Lower (goes held.catalog asks l (record { move = Take most; answer = Piece (byte ∷ more) })) stand (flat_map frame_bytes t.after) much
+  took_whole l stand owed much most byte more t e =
       let awaited : IsAwaited held.catalog t.h.awaits t.frame = may_come held asks can t.h t.frame t.after stand t.comes in
       let heard : hear_all held.catalog asks l.heard (byte ∷ more) ≡ heard_frame held.catalog asks t.h t.frame =
       ap (λ (x : Heard). hear_all held.catalog asks x (byte ∷ more)) t.heard_is
       ∙ heard_on held.catalog t.h.awaits t.frame awaited asks t.h.frames t.h.due t.h.rows t.h.ended t.part byte more e in
-      subst (λ (x : Heard). At (after_take l x) stand (flat_map frame_bytes t.after)) (sym heard)
-      (turned_at l stand owed most t (heeds held asks can t.h t.frame t.after stand t.comes))
+      subst (λ (x : Heard). Lower (after_take l x) stand (flat_map frame_bytes t.after) much) (sym heard)
+      (turned_at l stand owed much most t (heeds held asks can t.h t.frame t.after stand t.comes))
 
-  took_part : (l : Left) (stand : Stand) (owed : List ℕ) (most : ℕ) (piece : List ℕ) (byte : ℕ) (more : List ℕ) → (t : Piecing l stand owed most) → t.part ++ (piece ++ byte ∷ more) ≡ frame_bytes t.frame
-      → At (goes held.catalog asks l (record { move = Take most; answer = Piece piece })) stand ((byte ∷ more) ++ flat_map frame_bytes t.after)
-  took_part l stand owed most piece byte more t e =
+  took_part : (l : Left) (stand : Stand) (owed : List ℕ) (much most : ℕ) (piece : List ℕ) (byte : ℕ) (more : List ℕ) → (t : Piecing l stand owed much most) → t.rest ≡ piece ++ byte ∷ more → 0 < length piece
+      → Lower (goes held.catalog asks l (record { move = Take most; answer = Piece piece })) stand ((byte ∷ more) ++ flat_map frame_bytes t.after) much
+  took_part l stand owed much most piece byte more t cut some =
+      let e : t.part ++ (piece ++ byte ∷ more) ≡ frame_bytes t.frame = ap (λ (bs : List ℕ). t.part ++ bs) (sym cut) ∙ t.joined in
       let awaited : IsAwaited held.catalog t.h.awaits t.frame = may_come held asks can t.h t.frame t.after stand t.comes in
       let heard : hear_all held.catalog asks l.heard piece ≡ whole t.h (t.part ++ piece) =
       ap (λ (x : Heard). hear_all held.catalog asks x piece) t.heard_is ∙ heard_part held.catalog asks t.frame t.h t.part piece byte more awaited e in
-      subst (λ (x : Heard). At (after_take l x) stand ((byte ∷ more) ++ flat_map frame_bytes t.after)) (sym heard)
-      (taking t.h t.frame t.after (t.part ++ piece) (byte ∷ more) refl (or_false l.closed ∙ t.not_closed) (or_false l.stopped ∙ t.not_stopped) refl
-      (same_count (length t.h.due) l.sent t.count) (append_assoc t.part piece (byte ∷ more) ∙ e) refl (omega arith) t.comes)
+      let long : length t.rest ≡ length piece + length (byte ∷ more) = ap length cut ∙ length-append piece (byte ∷ more) in
+      subst (λ (x : Heard). Lower (after_take l x) stand ((byte ∷ more) ++ flat_map frame_bytes t.after) much) (sym heard)
+      (record {
+        there = taking t.h t.frame t.after (t.part ++ piece) (byte ∷ more) refl (or_false l.closed ∙ t.not_closed) (or_false l.stopped ∙ t.not_stopped) refl
+            (same_count (length t.h.due) l.sent t.count) (append_assoc t.part piece (byte ∷ more) ∙ e) refl (omega arith) t.comes;
+        less = (let much_is = t.much_is in omega (arith, much_is, long, some));
+      })
 
-  pub took_at : (l : Left) (stand : Stand) (owed : List ℕ) (most : ℕ) (piece later : List ℕ) → (t : Piecing l stand owed most) → t.rest ≡ piece ++ later
-      → At (goes held.catalog asks l (record { move = Take most; answer = Piece piece })) stand (later ++ flat_map frame_bytes t.after)
-  took_at l stand owed most [] [] t e = let some = t.some in let none : length t.rest ≡ 0 = ap length e in absurd (omega (arith, some, none))
-  took_at l stand owed most (byte ∷ more) [] t e =
-      took_whole l stand owed most byte more t (ap (λ (bs : List ℕ). t.part ++ bs) (sym (append-nil (byte ∷ more)) ∙ sym e) ∙ t.joined)
-  took_at l stand owed most piece (x ∷ later) t e =
-      took_part l stand owed most piece x later t (ap (λ (bs : List ℕ). t.part ++ bs) (sym e) ∙ t.joined)
+  pub took_at : (l : Left) (stand : Stand) (owed : List ℕ) (much most : ℕ) (piece later : List ℕ) → (t : Piecing l stand owed much most) → t.rest ≡ piece ++ later → 0 < length piece
+      → Lower (goes held.catalog asks l (record { move = Take most; answer = Piece piece })) stand (later ++ flat_map frame_bytes t.after) much
+  took_at l stand owed much most [] later t e some = absurd (omega (arith, some))
+  took_at l stand owed much most (byte ∷ more) [] t e some =
+      took_whole l stand owed much most byte more t (ap (λ (bs : List ℕ). t.part ++ bs) (sym (append-nil (byte ∷ more)) ∙ sym e) ∙ t.joined)
+  took_at l stand owed much most (byte ∷ more) (x ∷ later) t e some = took_part l stand owed much most (byte ∷ more) x later t e some
 
   -- the session begins
   pub begins : At (left held.catalog asks []) host.Greeting []

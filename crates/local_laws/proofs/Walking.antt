@@ -156,17 +156,17 @@ module _ (held : Holding) (address : List ℕ) (asks : List Asked) (can : CanSer
 
   -- a frame is sent
   sent_move : (journal : Journal) (bytes : List ℕ) (answer : Answer) (before after : Desk) → Walked journal before → Hears held before bytes answer after
-      → (s : Sends held address asks can (left held.catalog asks journal) before.stand before.owed bytes)
+      → (much : ℕ) → (s : Sends held address asks can (left held.catalog asks journal) before.stand before.owed much bytes)
       → Walked (journal ++ entry_of (Send bytes) answer ∷ []) after
-  sent_move journal bytes answer before after w hears s =
-      let a = answers_at held address asks can (left held.catalog asks journal) before.stand before.owed bytes s in
+  sent_move journal bytes answer before after w hears much s =
+      let a = answers_at held address asks can (left held.catalog asks journal) before.stand before.owed much bytes s in
       let is : IsFrame s.frame = due_is_frame held asks can (left held.catalog asks journal).heard s.frame before.stand s.what in
       let owes : before.owed ++ flat_map frame_bytes a.response.says ≡ flat_map frame_bytes a.response.says = ap (λ (bs : List ℕ). bs ++ flat_map frame_bytes a.response.says) s.none_owed in
       let then : after ≡ desk_of a.response.stand (flat_map frame_bytes a.response.says) =
       hears.answers s.frame a.response is s.spelled a.is ∙ ap (desk_of a.response.stand) owes in
       subst (λ (x : Answer). Walked (journal ++ entry_of (Send bytes) x ∷ []) after) (sym hears.made)
       (subst (λ (d : Desk). Walked (journal ++ entry_of (Send bytes) Made ∷ []) d) (sym then)
-      (one_more journal (entry_of (Send bytes) Made) (desk_of a.response.stand (flat_map frame_bytes a.response.says)) w.full w.throughout a.there refl
+      (one_more journal (entry_of (Send bytes) Made) (desk_of a.response.stand (flat_map frame_bytes a.response.says)) w.full w.throughout a.stands.there refl
       (w.key ++ s.frame ∷ []) (w.said ++ a.response.says)
       (ap (λ (xs : List (List ℕ)). xs ++ bytes ∷ []) w.sent_are ∙ (ap (λ (bs : List ℕ). map frame_bytes w.key ++ bs ∷ []) s.spelled ∙ sym (map_more w.key s.frame)))
       (all_frames w.key s.frame w.are_frames is)
@@ -174,41 +174,54 @@ module _ (held : Holding) (address : List ℕ) (asks : List Asked) (can : CanSer
       (flat_map-append frame_bytes w.said a.response.says
       ∙ ap (λ (bs : List ℕ). bs ++ flat_map frame_bytes a.response.says) (w.said_are ∙ ap (λ (bs : List ℕ). taken journal ++ bs) s.none_owed))))
 
+  -- what the host hands is the front of the frame that is being taken
+  pub record HandsOn (owed : List ℕ) (most : ℕ) (rest others : List ℕ) : Type 0 where
+    pub given : handed most owed ≡ Piece (take most rest)
+    pub rest_owed : drop most owed ≡ drop most rest ++ others
+    pub split : owed ≡ take most rest ++ (drop most rest ++ others)
+    pub some : 0 < length (take most rest)
+    pub full : is_full (entry_of (Take most) (Piece (take most rest))) ≡ true
+
+  pub hands_on : (journal : Journal) (desk : Desk) (much most : ℕ) → (t : Piecing held address asks can (left held.catalog asks journal) desk.stand desk.owed much most) → HandsOn desk.owed most t.rest (flat_map frame_bytes t.after)
+  hands_on journal desk much most t =
+      let others : List ℕ = flat_map frame_bytes t.after in
+      let some : 0 < length desk.owed = (let long = ap length t.owed_is in let sum = length-append t.rest (flat_map frame_bytes t.after) in let more = t.some in omega (arith, long, sum, more)) in
+      let size : length (take most t.rest) ≡ most = length-take-le most t.rest t.within in
+      record {
+        given = handed_some most desk.owed some ∙ ap (λ (bs : List ℕ). Piece bs) (ap (take most) t.owed_is ∙ take-append-le most t.rest (flat_map frame_bytes t.after) t.within);
+        rest_owed = ap (drop most) t.owed_is ∙ drop-append-le most t.rest (flat_map frame_bytes t.after) t.within;
+        split = t.owed_is ∙ (ap (λ (bs : List ℕ). bs ++ others) (sym (take-append-drop most t.rest)) ∙ append_assoc (take most t.rest) (drop most t.rest) others);
+        some = (let positive = t.positive in omega (arith, size, positive));
+        full = eq-eqb (length (take most t.rest)) most size;
+      }
+
   -- a piece is taken
   took_move : (journal : Journal) (most : ℕ) (answer : Answer) (before after : Desk) → Walked journal before → Hands before most answer after
-      → (t : Piecing held address asks can (left held.catalog asks journal) before.stand before.owed most)
+      → (much : ℕ) → (t : Piecing held address asks can (left held.catalog asks journal) before.stand before.owed much most)
       → Walked (journal ++ entry_of (Take most) answer ∷ []) after
-  took_move journal most answer before after w hands t =
-      let others : List ℕ = flat_map frame_bytes t.after in
-      let some : 0 < length before.owed = (let long = ap length t.owed_is in let sum = length-append t.rest (flat_map frame_bytes t.after) in let more = t.some in omega (arith, long, sum, more)) in
-      let front : take most before.owed ≡ take most t.rest = ap (take most) t.owed_is ∙ take-append-le most t.rest (flat_map frame_bytes t.after) t.within in
-      let back : drop most before.owed ≡ drop most t.rest ++ flat_map frame_bytes t.after = ap (drop most) t.owed_is ∙ drop-append-le most t.rest (flat_map frame_bytes t.after) t.within in
-      let is : answer ≡ Piece (take most t.rest) = hands.given ∙ (handed_some most before.owed some ∙ ap (λ (bs : List ℕ). Piece bs) front) in
-      let then : after ≡ desk_of before.stand (drop most t.rest ++ flat_map frame_bytes t.after) = hands.rest ∙ ap (desk_of before.stand) back in
-      let split : before.owed ≡ take most t.rest ++ (drop most t.rest ++ flat_map frame_bytes t.after) =
-      t.owed_is ∙ (ap (λ (bs : List ℕ). bs ++ flat_map frame_bytes t.after) (sym (take-append-drop most t.rest)) ∙ append_assoc (take most t.rest) (drop most t.rest) (flat_map frame_bytes t.after)) in
-      subst (λ (x : Answer). Walked (journal ++ entry_of (Take most) x ∷ []) after) (sym is)
-      (subst (λ (d : Desk). Walked (journal ++ entry_of (Take most) (Piece (take most t.rest)) ∷ []) d) (sym then)
+  took_move journal most answer before after w hands much t =
+      let on : HandsOn before.owed most t.rest (flat_map frame_bytes t.after) = hands_on journal before much most t in
+      subst (λ (x : Answer). Walked (journal ++ entry_of (Take most) x ∷ []) after) (sym (hands.given ∙ on.given))
+      (subst (λ (d : Desk). Walked (journal ++ entry_of (Take most) (Piece (take most t.rest)) ∷ []) d) (sym (hands.rest ∙ ap (desk_of before.stand) on.rest_owed))
       (one_more journal (entry_of (Take most) (Piece (take most t.rest))) (desk_of before.stand (drop most t.rest ++ flat_map frame_bytes t.after)) w.full w.throughout
-      (took_at held address asks can (left held.catalog asks journal) before.stand before.owed most (take most t.rest) (drop most t.rest) t (sym (take-append-drop most t.rest)))
-      (eq-eqb (length (take most t.rest)) most (length-take-le most t.rest t.within))
-      w.key w.said (append-nil (sent journal) ∙ w.sent_are) w.are_frames w.leads
-      (w.said_are ∙ (ap (λ (bs : List ℕ). taken journal ++ bs) split ∙ sym (append_assoc (taken journal) (take most t.rest) (drop most t.rest ++ flat_map frame_bytes t.after))))))
+      (took_at held address asks can (left held.catalog asks journal) before.stand before.owed much most (take most t.rest) (drop most t.rest) t (sym (take-append-drop most t.rest)) on.some).there
+      on.full w.key w.said (append-nil (sent journal) ∙ w.sent_are) w.are_frames w.leads
+      (w.said_are ∙ (ap (λ (bs : List ℕ). taken journal ++ bs) on.split ∙ sym (append_assoc (taken journal) (take most t.rest) (drop most t.rest ++ flat_map frame_bytes t.after))))))
 
   next_walked : (journal : Journal) (move : Move) (answer : Answer) (before after : Desk) → Walked journal before → next_with held.catalog address asks journal ≡ Some move → serves_move held before move answer after
       → Walked (journal ++ entry_of move answer ∷ []) after
   next_walked journal (Dial to) answer before after w next serves =
-      quiet_move journal (Dial to) answer before after w serves refl refl (moves_at held address asks can (left held.catalog asks journal) before.stand before.owed (Dial to) w.there next)
+      quiet_move journal (Dial to) answer before after w serves refl refl (moves_at held address asks can (left held.catalog asks journal) before.stand before.owed (Dial to) w.there next).there
   next_walked journal (Listen to) answer before after w next serves =
       absurd (moves_at held address asks can (left held.catalog asks journal) before.stand before.owed (Listen to) w.there next)
   next_walked journal Accept answer before after w next serves =
       absurd (moves_at held address asks can (left held.catalog asks journal) before.stand before.owed Accept w.there next)
   next_walked journal (Send bytes) answer before after w next serves =
-      sent_move journal bytes answer before after w serves (moves_at held address asks can (left held.catalog asks journal) before.stand before.owed (Send bytes) w.there next)
+      sent_move journal bytes answer before after w serves _ (moves_at held address asks can (left held.catalog asks journal) before.stand before.owed (Send bytes) w.there next)
   next_walked journal (Take most) answer before after w next serves =
-      took_move journal most answer before after w serves (moves_at held address asks can (left held.catalog asks journal) before.stand before.owed (Take most) w.there next)
+      took_move journal most answer before after w serves _ (moves_at held address asks can (left held.catalog asks journal) before.stand before.owed (Take most) w.there next)
   next_walked journal Close answer before after w next serves =
-      quiet_move journal Close answer before after w serves refl refl (moves_at held address asks can (left held.catalog asks journal) before.stand before.owed Close w.there next)
+      quiet_move journal Close answer before after w serves refl refl (moves_at held address asks can (left held.catalog asks journal) before.stand before.owed Close w.there next).there
 
   walked_on : (before journal : Journal) (desk after : Desk) → Walked before desk → GoesOn held.catalog address asks before journal → ServedFrom held desk journal after → Walked (before ++ journal) after
   walked_on before [] desk after w goes served =

@@ -1,12 +1,12 @@
 -- A session of the key whose host is in its own process and holds the public part of a database. It goes to its end, and
 -- what it answers is the meaning of its texts.
-use Rattle.std.specs.Prelude.{◌≡◌, ◌⊎◌, ℕ, suc, Bool, true, false, List, [], ◌∷◌, ◌++◌, length, slice_get, Some, Ok, flat_map}
+use Rattle.std.specs.Prelude.{◌≡◌, ℕ, suc, Bool, true, false, List, ◌++◌, length, slice_get, Some, Ok, flat_map}
 use Rattle.std.specs.List.{list_any}
 use Rattle.ghost_model.specs.Values.{Database}
 use Rattle.ghost_model.specs.Query.{Query}
 use Rattle.ghost_model.specs.QueryReading.{reading}
 use Rattle.ghost_model.specs.Meaning.{answer}
-use Rattle.ghost_model.specs.Channel.{Catalog, Entry, Journal}
+use Rattle.ghost_model.specs.Channel.{Catalog, Journal}
 use Rattle.ghost_model.specs.Asks.{asked_of}
 use Rattle.ghost_model.specs.Moves.{taken, answers}
 use Rattle.ghost_model.specs.NextMove.{IsProper, IsFinished, heard, is_stop}
@@ -37,17 +37,17 @@ ServedJournalsJoin =
     → ServedFrom held first journal second → ServedFrom held second more third
     → ServedFrom held first (journal ++ more) third
 
--- a next move, and how the host makes it
-pub record GoesOnBy (catalog : Catalog) (database : Database) (at : List ℕ) (texts : List (List ℕ)) (journal : Journal) : Type 0 where
-  pub entry : Entry
-  pub longer : IsLocal catalog database at texts (journal ++ entry ∷ [])
+-- further moves, by which the session is finished
+pub record EndsBy (catalog : Catalog) (database : Database) (at : List ℕ) (texts : List (List ℕ)) (journal : Journal) : Type 0 where
+  pub more : Journal
+  pub longer : IsLocal catalog database at texts (journal ++ more)
+  pub finished : IsFinished (journal ++ more)
 
--- such a session never stands still before its end
-abbrev pub LocalSessionsGoOn : Type 0
-LocalSessionsGoOn =
+-- such a session never stands still before its end, and it comes to its end
+abbrev pub LocalSessionsEnd : Type 0
+LocalSessionsEnd =
     (catalog : Catalog) (database : Database) (at : List ℕ) (texts : List (List ℕ)) (journal : Journal)
-    → IsLocal catalog database at texts journal
-    → IsFinished journal ⊎ GoesOnBy catalog database at texts journal
+    → IsLocal catalog database at texts journal → EndsBy catalog database at texts journal
 
 -- no answer ends a session, each take was given all that it asked for, and each frame that came is valid
 pub record IsUnbroken (catalog : Catalog) (database : Database) (texts : List (List ℕ)) (journal : Journal) : Type 0 where

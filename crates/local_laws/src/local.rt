@@ -1,15 +1,15 @@
 //! Laws of sessions with a host in the key's own process that holds the public part of a database.
 
-ghost use Rattle.local_laws.specs.Local.{ServedJournalsJoin, LocalSessionsGoOn, LocalSessionsAreServed, LocalAsksAreDone, LocalSessionsAnswer, LocalLinesArePrinted};
+ghost use Rattle.local_laws.specs.Local.{ServedJournalsJoin, LocalSessionsEnd, LocalSessionsAreServed, LocalAsksAreDone, LocalSessionsAnswer, LocalLinesArePrinted};
 
 /// Moves that the host served one after another are served together.
 pub fn served_journals_join()
     ensures { ServedJournalsJoin }
 {}
 
-/// Before its end a session has a next move, and the host has an answer to it.
-pub fn local_sessions_go_on()
-    ensures { LocalSessionsGoOn }
+/// From wherever a session stands, so at its beginning too, there are moves by which it is finished.
+pub fn local_sessions_end()
+    ensures { LocalSessionsEnd }
 {}
 
 /// Nothing breaks off, what the host sends was served throughout, and no frame that came was invalid.
