@@ -20,10 +20,11 @@ use Rattle.ghost_model.proofs.ChannelLemmas.Tests.{false_is_not}
 use Rattle.ghost_model.proofs.SessionLemmas.ThisHost.{this_host_is_honest}
 use Rattle.ghost_model.proofs.SessionLemmas.Replies.{honest_replies_answer}
 use Rattle.ghost_model.specs.Split.{public_of, hidden_of}
+use Rattle.ghost_model.proofs.SessionLemmas.OneJournal.{same_journal}
 use Rattle.local_laws.specs.Local.{holding_of, IsLocal, IsUnbroken, is_own_fault, AreSoundLines, AreAllLines}
 use Rattle.local_laws.specs.TextEnds.{not_ended}
 use Rattle.local_laws.proofs.Exchanges.{CanServe, Finished}
-use Rattle.local_laws.proofs.Standing.{not_stopped, not_broken, over_at}
+use Rattle.local_laws.proofs.Standing.{not_stopped, not_broken, none_refused, over_at}
 use Rattle.local_laws.proofs.Closing.{any_answer, finished_is_closed}
 use Rattle.local_laws.proofs.Walking.{Walked, walked}
 use Rattle.local_laws.proofs.Stored.{can_serve}
@@ -46,6 +47,7 @@ module _ (catalog : Catalog) (database : Database) (at : List ℕ) (texts : List
         goes_on = any_answer journal ∙ not_stopped (holding_of catalog database) at asks can (left catalog asks journal) is.desk.stand is.desk.owed w.there;
         throughout = w.throughout;
         valid = not_broken (holding_of catalog database) at asks can (left catalog asks journal) is.desk.stand is.desk.owed w.there;
+        none_refused = none_refused (holding_of catalog database) at asks can (left catalog asks journal) is.desk.stand is.desk.owed w.there;
       }
 
   over : IsFinished journal → Finished (holding_of catalog database) asks can (left catalog asks journal).heard
@@ -126,3 +128,8 @@ module _ (catalog : Catalog) (database : Database) (at : List ℕ) (texts : List
       all_lines 0 texts given are.as_many
       (λ place lines written e f. (let same : suc place ≡ suc (0 + place) = omega arith in
       subst (λ (n : ℕ). lines ≡ lines_of_text catalog.schema database n written) same (lines_of_one place written lines finished f (are.each place lines e))))
+
+pub one_journal : (catalog : Catalog) (database : Database) (at : List ℕ) (texts : List (List ℕ)) (first second : Journal) → IsLocal catalog database at texts first → IsLocal catalog database at texts second → IsFinished first → IsFinished second → first ≡ second
+one_journal catalog database at texts first second is also finished ended =
+    same_journal (holding_of catalog database) catalog at (asked_of catalog.schema texts) [] first second is.proper also.proper finished ended
+    (unbroken catalog database at texts first is).throughout (unbroken catalog database at texts second also).throughout

@@ -11,12 +11,13 @@ use Rattle.ghost_model.specs.Moves.{taken, sent, sent_by, piece_of}
 use Rattle.ghost_model.specs.Asks.{Asked}
 use Rattle.ghost_model.specs.NextMove as next
 use Rattle.ghost_model.specs.NextMove.{Awaits, Verdict, Heard, Left, left, verdict, heard_as, heard_frame, hear_all, lacks, next_of, rest_of, send_or, is_close, is_stop, IsAwaited}
+use Rattle.ghost_model.specs.Lines.{was_refused}
 use Rattle.ghost_model.specs.Host.{Holding, Stand, Response, answer_to}
 use Rattle.ghost_model.specs.Host as host
 use Rattle.ghost_model.proofs.ChannelLemmas.{payload_bound}
 use Rattle.ghost_model.proofs.ChannelLemmas.Hearing.{lacking, heard_on}
 use Rattle.ghost_model.proofs.ChannelLemmas.Sending.{heard_more}
-use Rattle.local_laws.proofs.Exchanges.{CanServe, Due, Comes, Finished, Next, over, exchange, answered_due, may_come, heeds, frames_left, fewer_left, Turned, calls, more_comes, says_hello, welcome, some_rows, done}
+use Rattle.local_laws.proofs.Exchanges.{CanServe, Due, Comes, Finished, Next, over, exchange, answered_due, may_come, heeds, frames_left, fewer_left, Turned, calls, more_comes, says_hello, says_ask, says_more, says_bye, welcome, some_rows, done}
 
 -- what was heard, with this part of the frame at hand
 abbrev pub whole : Heard → List ℕ → Heard
@@ -174,7 +175,7 @@ module _ (held : Holding) (address : List ℕ) (asks : List Asked) (can : CanSer
     ending : l.opened ≡ true → Quiet l → length l.heard.due ≡ l.sent → Finished held asks can l.heard → At l stand owed
     closed : l.opened ≡ true → l.closed ≡ true → l.stopped ≡ false → l.heard.broken ≡ false → Finished held asks can l.heard → At l stand owed
 
-  -- what is still to be done: no frame has as many bytes as one that is to come counts
+  -- how much is still to be done: a frame that is to come counts for more than its bytes
   abbrev pub rank : (l : Left) (stand : Stand) (owed : List ℕ) → At l stand owed → ℕ
   rank l stand owed (sending _ _ _ _ _ _ _ _) = frames_left held asks can l.heard.awaits * 8192 + (if l.opened then 4000 else 4001)
   rank l stand owed (taking h _ _ _ rest _ _ _ _ _ _ _ _ _) = frames_left held asks can h.awaits * 8192 + length rest
@@ -198,6 +199,24 @@ module _ (held : Holding) (address : List ℕ) (asks : List Asked) (can : CanSer
   not_broken l stand owed (taking _ _ _ _ _ _ _ _ is _ _ _ _ _) = ap (λ (x : Heard). x.broken) is
   not_broken l stand owed (ending _ quiet _ _) = quiet.valid
   not_broken l stand owed (closed _ _ _ b _) = b
+
+  -- the host refused no ask
+  due_none_refused : (h : Heard) (frame : Frame) (stand : Stand) → Due held asks can h frame stand → was_refused h.ended ≡ false
+  due_none_refused h frame stand (says_hello greeted _ _) = greeted.none_refused
+  due_none_refused h frame stand (says_ask _ _ going _ _ _) = going.none_refused
+  due_none_refused h frame stand (says_more _ _ _ _ going _ _) = going.none_refused
+  due_none_refused h frame stand (says_bye _ finished _ _) = finished.none_refused
+
+  comes_none_refused : (h : Heard) (frame : Frame) (after : List Frame) (stand : Stand) → Comes held asks can h frame after stand → was_refused h.ended ≡ false
+  comes_none_refused h frame after stand (welcome _ _ greeted _ _ _ _) = greeted.none_refused
+  comes_none_refused h frame after stand (some_rows _ _ _ _ _ going _ _ _) = going.none_refused
+  comes_none_refused h frame after stand (done _ _ _ going _ _ _) = going.none_refused
+
+  pub none_refused : (l : Left) (stand : Stand) (owed : List ℕ) → At l stand owed → was_refused l.heard.ended ≡ false
+  none_refused l stand owed (sending frame _ _ _ _ _ _ what) = due_none_refused l.heard frame stand what
+  none_refused l stand owed (taking h frame after _ _ _ _ _ is _ _ _ _ comes) = ap (λ (x : Heard). was_refused x.ended) is ∙ comes_none_refused h frame after stand comes
+  none_refused l stand owed (ending _ _ _ finished) = finished.none_refused
+  none_refused l stand owed (closed _ _ _ _ finished) = finished.none_refused
 
   false_is_not : (b : Bool) → b ≡ false → b ≡ true → ⊥
   false_is_not b e f = cc

@@ -12,7 +12,7 @@ use Rattle.ghost_model.specs.Moves.{taken, answers}
 use Rattle.ghost_model.specs.NextMove.{IsProper, IsFinished, heard, is_stop}
 use Rattle.ghost_model.specs.Split.{Hidden, public_of, hidden_of}
 use Rattle.ghost_model.specs.Host.{Holding, host_of}
-use Rattle.ghost_model.specs.Lines.{Reason, IsRefused, WasBroken, WasAnswered, MetFault, AreLines, ended_of, all_done, rows_from_replies}
+use Rattle.ghost_model.specs.Lines.{Reason, IsRefused, WasBroken, WasAnswered, MetFault, AreLines, ended_of, was_refused, all_done, rows_from_replies}
 use Rattle.ghost_model.specs.Printed.{printed_lines}
 use Rattle.ghost_model.specs.SessionLaws.{IsSetting, IsCatalogOf, IsServedThroughout}
 use Rattle.local_laws.specs.Serving.{Desk, first_desk, ServedFrom}
@@ -49,16 +49,25 @@ LocalSessionsEnd =
     (catalog : Catalog) (database : Database) (at : List ℕ) (texts : List (List ℕ)) (journal : Journal)
     → IsLocal catalog database at texts journal → EndsBy catalog database at texts journal
 
--- no answer ends a session, each take was given all that it asked for, and each frame that came is valid
+-- no answer ends a session, each take was given all that it asked for, each frame that came is valid, and the host
+-- refused no ask
 pub record IsUnbroken (catalog : Catalog) (database : Database) (texts : List (List ℕ)) (journal : Journal) : Type 0 where
   pub goes_on : list_any is_stop (answers journal) ≡ false
   pub throughout : IsServedThroughout (holding_of catalog database) journal
   pub valid : (heard catalog (asked_of catalog.schema texts) (taken journal)).broken ≡ false
+  pub none_refused : was_refused (heard catalog (asked_of catalog.schema texts) (taken journal)).ended ≡ false
 
 abbrev pub LocalSessionsAreServed : Type 0
 LocalSessionsAreServed =
     (catalog : Catalog) (database : Database) (at : List ℕ) (texts : List (List ℕ)) (journal : Journal)
     → IsLocal catalog database at texts journal → IsUnbroken catalog database texts journal
+
+-- a catalog, a database, an address and texts leave one finished journal
+abbrev pub LocalJournalsAreOne : Type 0
+LocalJournalsAreOne =
+    (catalog : Catalog) (database : Database) (at : List ℕ) (texts : List (List ℕ)) (first second : Journal)
+    → IsLocal catalog database at texts first → IsLocal catalog database at texts second
+    → IsFinished first → IsFinished second → first ≡ second
 
 -- the text at place 0 has number 1
 abbrev pub LocalAsksAreDone : Type 0

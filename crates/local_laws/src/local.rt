@@ -1,6 +1,6 @@
 //! Laws of sessions with a host in the key's own process that holds the public part of a database.
 
-ghost use Rattle.local_laws.specs.Local.{ServedJournalsJoin, LocalSessionsEnd, LocalSessionsAreServed, LocalAsksAreDone, LocalSessionsAnswer, LocalLinesArePrinted};
+ghost use Rattle.local_laws.specs.Local.{ServedJournalsJoin, LocalSessionsEnd, LocalSessionsAreServed, LocalJournalsAreOne, LocalAsksAreDone, LocalSessionsAnswer, LocalLinesArePrinted};
 
 /// Moves that the host served one after another are served together.
 pub fn served_journals_join()
@@ -12,9 +12,14 @@ pub fn local_sessions_end()
     ensures { LocalSessionsEnd }
 {}
 
-/// Nothing breaks off, what the host sends was served throughout, and no frame that came was invalid.
+/// Nothing breaks off, what the host sends was served throughout, no frame that came was invalid, and no ask was refused.
 pub fn local_sessions_are_served()
     ensures { LocalSessionsAreServed }
+{}
+
+/// So a database, an address and texts leave one finished journal.
+pub fn local_journals_are_one()
+    ensures { LocalJournalsAreOne }
 {}
 
 /// Once the session is finished, every ask of an accepted text was ended by DONE.
