@@ -64,7 +64,7 @@ module _ (catalog : Catalog) (asks : List Asked) where
   ClosesBy stopped h = Closes stopped h.broken h.awaits
 
   -- what was invalid stays so, and where nothing was awaited nothing is
-  stays_closed : (h : Heard) (bytes : List ℕ) → h.broken ≡ true → (hear_all catalog asks h bytes).broken ≡ true
+  pub stays_closed : (h : Heard) (bytes : List ℕ) → h.broken ≡ true → (hear_all catalog asks h bytes).broken ≡ true
   unfolding hear_all
   stays_closed h [] e = e
   stays_closed h (byte ∷ bytes) e =

@@ -4,9 +4,10 @@ pub mod Walking
 pub mod Stored
 pub mod Order
 pub mod Closing
-pub mod Finished
-pub mod Over
 pub mod Decided
-pub mod Settled
 pub mod Outcomes
+pub mod Over
+pub mod Settled
+pub mod Honest
+pub mod Finished
 pub mod Ending

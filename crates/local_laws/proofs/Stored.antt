@@ -30,7 +30,8 @@ group_fits width group wide some few =
     let whole = div-add-mod most_payload width in
     hold_both _ _ (lt-ltb 0 (length group) some) (le-leb (width * length group) most_payload (omega (arith, product, whole)))
 
-no_query : Query
+-- the lemmas on replies ask for a query, of which nothing matters
+pub no_query : Query
 no_query = record { from = []; select = []; conditions = [] }
 
 module _ (catalog : Catalog) (database : Database) (stored : IsCatalogOf catalog database) (small : IsSmall catalog.schema) where

@@ -1,6 +1,6 @@
 -- A session of the key whose host is in its own process and holds the public part of a database. It goes to its end, and
 -- what it answers is the meaning of its texts.
-use Rattle.std.specs.Prelude.{◌≡◌, ℕ, suc, Bool, true, false, List, ◌++◌, length, slice_get, Some, Ok, flat_map}
+use Rattle.std.specs.Prelude.{◌≡◌, ℕ, suc, true, false, List, ◌++◌, slice_get, Some, Ok, flat_map}
 use Rattle.std.specs.List.{list_any}
 use Rattle.ghost_model.specs.Values.{Database}
 use Rattle.ghost_model.specs.Query.{Query}
@@ -10,11 +10,12 @@ use Rattle.ghost_model.specs.Channel.{Catalog, Journal}
 use Rattle.ghost_model.specs.Asks.{asked_of}
 use Rattle.ghost_model.specs.Moves.{taken, answers}
 use Rattle.ghost_model.specs.NextMove.{IsProper, IsFinished, heard, is_stop}
-use Rattle.ghost_model.specs.Split.{Hidden, public_of, hidden_of}
+use Rattle.ghost_model.specs.Split.{public_of, hidden_of}
 use Rattle.ghost_model.specs.Host.{Holding, host_of}
-use Rattle.ghost_model.specs.Lines.{Reason, IsRefused, WasBroken, WasAnswered, MetFault, AreLines, ended_of, was_refused, all_done, rows_from_replies}
+use Rattle.ghost_model.specs.Lines.{ended_of, was_refused, all_done, rows_from_replies}
 use Rattle.ghost_model.specs.Printed.{printed_lines}
 use Rattle.ghost_model.specs.SessionLaws.{IsSetting, IsCatalogOf, IsServedThroughout}
+use Rattle.local_laws.specs.HonestSessions.{AreAllLines}
 use Rattle.local_laws.specs.Serving.{Desk, first_desk, ServedFrom}
 
 -- the host holds the public part of a database
@@ -86,24 +87,6 @@ LocalSessionsAnswer =
     → slice_get texts place ≡ Some written → reading catalog.schema written ≡ Ok asked
     → rows_from_replies catalog (hidden_of catalog.schema database) texts journal (suc place) asked
     ≡ answer catalog.schema database asked
-
--- whether the key's own flash is the reason for some lines
-abbrev pub is_own_fault : Reason → Bool
-is_own_fault IsRefused = false
-is_own_fault WasBroken = false
-is_own_fault WasAnswered = false
-is_own_fault (MetFault _) = true
-
--- lines of a text of which the key's own flash is not the reason
-pub record AreSoundLines (catalog : Catalog) (kept : Hidden) (texts : List (List ℕ)) (journal : Journal) (text : ℕ) (lines : List (List ℕ)) : Type 0 where
-  pub lines_are : AreLines catalog kept texts journal text lines
-  pub sound : is_own_fault lines_are.reason ≡ false
-
--- such lines of each text, in the order of the texts
-pub record AreAllLines (catalog : Catalog) (kept : Hidden) (texts : List (List ℕ)) (journal : Journal) (given : List (List (List ℕ))) : Type 0 where
-  pub as_many : length given ≡ length texts
-  pub each : (place : ℕ) (lines : List (List ℕ)) → slice_get given place ≡ Some lines
-      → AreSoundLines catalog kept texts journal (suc place) lines
 
 abbrev pub LocalLinesArePrinted : Type 0
 LocalLinesArePrinted =
