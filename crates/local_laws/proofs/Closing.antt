@@ -23,12 +23,6 @@ pub any_answer : (journal : Journal) → list_any is_stop (answers journal) ≡ 
 any_answer [] = refl
 any_answer (entry ∷ journal) = ap (λ (b : Bool). is_stop entry.answer || b) (any_answer journal)
 
-pub finished_is_closed : (journal : Journal) → IsFinished journal → list_any (λ (e : Entry). is_close e.move) journal ≡ true
-finished_is_closed [] f = absurd f
-finished_is_closed (entry ∷ []) f = ap (λ (b : Bool). b || false) (ap is_close f)
-finished_is_closed (first ∷ entry ∷ later) f =
-    either (is_close first.move) (list_any (λ (e : Entry). is_close e.move) (entry ∷ later)) (finished_is_closed (entry ∷ later) f)
-
 -- why Close is the next move
 pub data Closes (stopped broken : Bool) (awaits : Awaits) : Type 0 where
   by_stop : stopped ≡ true → Closes stopped broken awaits

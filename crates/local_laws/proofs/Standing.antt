@@ -218,16 +218,6 @@ module _ (held : Holding) (address : List ℕ) (asks : List Asked) (can : CanSer
   none_refused l stand owed (ending _ _ _ finished) = finished.none_refused
   none_refused l stand owed (closed _ _ _ _ finished) = finished.none_refused
 
-  false_is_not : (b : Bool) → b ≡ false → b ≡ true → ⊥
-  false_is_not b e f = cc
-
-  -- once it is closed, nothing more is awaited
-  pub over_at : (l : Left) (stand : Stand) (owed : List ℕ) → At l stand owed → l.closed ≡ true → Finished held asks can l.heard
-  over_at l stand owed (sending _ _ quiet _ _ _ _ _) e = absurd (false_is_not l.closed quiet.closed e)
-  over_at l stand owed (taking _ _ _ _ _ _ c _ _ _ _ _ _ _) e = absurd (false_is_not l.closed c e)
-  over_at l stand owed (ending _ quiet _ _) e = absurd (false_is_not l.closed quiet.closed e)
-  over_at l stand owed (closed _ _ _ _ finished) e = finished
-
   -- a frame is due: it is sent, or the dial comes first
   due_next : (l : Left) (frame : Frame) (before : List Frame) → Quiet l → l.heard.due ≡ before ++ frame ∷ [] → length before ≡ l.sent → (b : Bool) → l.opened ≡ b → next_of held.catalog address l ≡ Some (if b then Send (frame_bytes frame) else Dial address)
   due_next l frame before quiet is count true e =
