@@ -1,18 +1,18 @@
 -- That a session with a host in the process comes to its end.
-use Rattle.std.proofs.Common.{◌≡◌, ℕ, zero, suc, ◌⊎◌, inl, inr, true, List, [], ◌∷◌, ◌++◌, take, drop, sym, ◌∙◌, ap, subst, refl, arith, append-nil, append_assoc, Option, Some}
+use Rattle.std.proofs.Common.{◌≡◌, ℕ, zero, suc, ◌⊎◌, inl, inr, true, List, [], ◌∷◌, ◌++◌, length, length-append, take, drop, sym, ◌∙◌, ap, subst, refl, arith, append-nil, append_assoc, Option, Some}
 use Rattle.std.proofs.lemmas.List.{take-append-drop}
 use Rattle.std.specs.Prelude.{flat_map}
 use Rattle.ghost_model.specs.Values.{Database}
-use Rattle.ghost_model.specs.Channel.{Catalog, Frame, Dial, Send, Take, Close, Made, Piece, Entry, Journal}
+use Rattle.ghost_model.specs.Channel.{Catalog, Frame, Move, Dial, Listen, Accept, Send, Take, Close, Made, Piece, Entry, Journal}
 use Rattle.ghost_model.specs.Frames.{IsFrame, frame_bytes, frame_in}
 use Rattle.ghost_model.specs.Asks.{Asked, asked_of}
 use Rattle.ghost_model.specs.NextMove.{Left, left, next_with, GoesOn, IsFinished}
 use Rattle.ghost_model.specs.Host.{Holding, Response, answer_to}
 use Rattle.ghost_model.proofs.ChannelLemmas.{frame_is_read}
 use Rattle.local_laws.specs.Serving.{Desk, first_desk, serves, ServedFrom}
-use Rattle.local_laws.specs.Local.{holding_of, IsLocal, EndsBy}
+use Rattle.local_laws.specs.Local.{holding_of, IsLocal, finds_desk, EndsBy}
 use Rattle.local_laws.proofs.Exchanges.{CanServe, due_is_frame}
-use Rattle.local_laws.proofs.Standing.{At, Lower, rank, Sends, Piecing, Nexts, dials, sends_one, takes, closes, is_closed, nexts_at, moves_at, answers_at, took_at, goes, left_more}
+use Rattle.local_laws.proofs.Standing.{At, Lower, rank, Sends, Piecing, Nexts, dials, sends_one, takes, closes, is_closed, nexts_at, MovesBy, moves_at, answers_at, took_at, goes, left_more}
 use Rattle.local_laws.proofs.Walking.{Walked, walked, hands_on}
 use Rattle.local_laws.proofs.Closing.{shut_is_finished}
 use Rattle.local_laws.proofs.Stored.{can_serve}
@@ -77,11 +77,21 @@ module _ (held : Holding) (address : List ℕ) (asks : List Asked) (can : CanSer
   -- the next move of a session that stands there
   makes : (journal : Journal) (desk : Desk) → (a : At held address asks can (left held.catalog asks journal) desk.stand desk.owed) → Nexts held address asks can (left held.catalog asks journal)
       → ((left held.catalog asks journal).closed ≡ true) ⊎ IsMade held address asks can journal desk (rank held address asks can (left held.catalog asks journal) desk.stand desk.owed a)
-  makes journal desk a (dials e) = inr (record { entry = record { move = Dial address; answer = Made }; after = desk; next = e; served = record { made = refl; same = refl }; lower = moves_at held address asks can (left held.catalog asks journal) desk.stand desk.owed (Dial address) a e })
+  makes journal desk a (dials e) = inr (record { entry = record { move = Dial address; answer = Made }; after = desk; next = e; served = record { made = refl; same = refl }; lower = (moves_at held address asks can (left held.catalog asks journal) desk.stand desk.owed (Dial address) a e).lower })
   makes journal desk a (sends_one bytes e) = inr (send_so journal desk _ bytes e (moves_at held address asks can (left held.catalog asks journal) desk.stand desk.owed (Send bytes) a e))
   makes journal desk a (takes most e) = inr (take_so journal desk _ most e (moves_at held address asks can (left held.catalog asks journal) desk.stand desk.owed (Take most) a e))
-  makes journal desk a (closes e) = inr (record { entry = record { move = Close; answer = Made }; after = desk; next = e; served = record { made = refl; same = refl }; lower = moves_at held address asks can (left held.catalog asks journal) desk.stand desk.owed Close a e })
+  makes journal desk a (closes e) = inr (record { entry = record { move = Close; answer = Made }; after = desk; next = e; served = record { made = refl; same = refl }; lower = (moves_at held address asks can (left held.catalog asks journal) desk.stand desk.owed Close a e).lower })
   makes journal desk a (is_closed e) = inl e
+
+  -- what a move finds at the desk
+  found : (journal : Journal) (desk : Desk) (much : ℕ) (move : Move) → MovesBy held address asks can (left held.catalog asks journal) desk.stand desk.owed much move → finds_desk desk move
+  found journal desk much (Dial to) m = m.none_owed
+  found journal desk much (Listen _) m = m
+  found journal desk much Accept m = m
+  found journal desk much (Send bytes) m = m.none_owed
+  found journal desk much (Take most) m =
+      (m.positive, (let long = ap length m.owed_is in let split = length-append m.rest (flat_map frame_bytes m.after) in let within = m.within in omega (arith, long, split, within)))
+  found journal desk much Close m = m.none_owed
 
   -- moves that end a session
   pub record Ended (journal : Journal) : Type 0 where
@@ -138,3 +148,12 @@ ends catalog database at texts journal is =
       longer = record { setting = is.setting; stored = is.stored; proper = end.goes_so; desk = end.last; served = end.served };
       finished = end.finished;
     }
+
+-- what the next move finds at the desk
+pub finds : (catalog : Catalog) (database : Database) (at : List ℕ) (texts : List (List ℕ)) (journal : Journal) (move : Move) → (is : IsLocal catalog database at texts journal) → next_with catalog at (asked_of catalog.schema texts) journal ≡ Some move → finds_desk is.desk move
+finds catalog database at texts journal move is next =
+    let held : Holding = holding_of catalog database in
+    let asks : List Asked = asked_of catalog.schema texts in
+    let can : CanServe (holding_of catalog database) (asked_of catalog.schema texts) = can_serve catalog database texts is.setting is.stored in
+    let w : Walked (holding_of catalog database) at (asked_of catalog.schema texts) can journal is.desk = walked (holding_of catalog database) at asks can journal is.desk is.proper is.served in
+    found held at asks can journal is.desk _ move (moves_at held at asks can (left catalog asks journal) is.desk.stand is.desk.owed move w.there next)

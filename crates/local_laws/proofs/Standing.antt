@@ -172,14 +172,14 @@ module _ (held : Holding) (address : List ℕ) (asks : List Asked) (can : CanSer
     sending : (frame : Frame) (before : List Frame) → Quiet l → l.heard.part ≡ [] → l.heard.due ≡ before ++ frame ∷ [] → length before ≡ l.sent → owed ≡ [] → Due held asks can l.heard frame stand → At l stand owed
     taking : (h : Heard) (frame : Frame) (after : List Frame) (part rest : List ℕ) → l.opened ≡ true → l.closed ≡ false → l.stopped ≡ false → l.heard ≡ whole h part → length h.due ≡ l.sent
         → part ++ rest ≡ frame_bytes frame → owed ≡ rest ++ flat_map frame_bytes after → 0 < length rest → Comes held asks can h frame after stand → At l stand owed
-    ending : l.opened ≡ true → Quiet l → length l.heard.due ≡ l.sent → Finished held asks can l.heard → At l stand owed
+    ending : l.opened ≡ true → Quiet l → length l.heard.due ≡ l.sent → owed ≡ [] → Finished held asks can l.heard → At l stand owed
     closed : l.opened ≡ true → l.closed ≡ true → l.stopped ≡ false → l.heard.broken ≡ false → Finished held asks can l.heard → At l stand owed
 
   -- how much is still to be done: a frame that is to come counts for more than its bytes
   abbrev pub rank : (l : Left) (stand : Stand) (owed : List ℕ) → At l stand owed → ℕ
   rank l stand owed (sending _ _ _ _ _ _ _ _) = frames_left held asks can l.heard.awaits * 8192 + (if l.opened then 4000 else 4001)
   rank l stand owed (taking h _ _ _ rest _ _ _ _ _ _ _ _ _) = frames_left held asks can h.awaits * 8192 + length rest
-  rank l stand owed (ending _ _ _ _) = 1
+  rank l stand owed (ending _ _ _ _ _) = 1
   rank l stand owed (closed _ _ _ _ _) = 0
 
   -- a session stands there, and less is to be done than so much
@@ -191,13 +191,13 @@ module _ (held : Holding) (address : List ℕ) (asks : List Asked) (can : CanSer
   pub not_stopped : (l : Left) (stand : Stand) (owed : List ℕ) → At l stand owed → l.stopped ≡ false
   not_stopped l stand owed (sending _ _ quiet _ _ _ _ _) = quiet.stopped
   not_stopped l stand owed (taking _ _ _ _ _ _ _ s _ _ _ _ _ _) = s
-  not_stopped l stand owed (ending _ quiet _ _) = quiet.stopped
+  not_stopped l stand owed (ending _ quiet _ _ _) = quiet.stopped
   not_stopped l stand owed (closed _ _ s _ _) = s
 
   pub not_broken : (l : Left) (stand : Stand) (owed : List ℕ) → At l stand owed → l.heard.broken ≡ false
   not_broken l stand owed (sending _ _ quiet _ _ _ _ _) = quiet.valid
   not_broken l stand owed (taking _ _ _ _ _ _ _ _ is _ _ _ _ _) = ap (λ (x : Heard). x.broken) is
-  not_broken l stand owed (ending _ quiet _ _) = quiet.valid
+  not_broken l stand owed (ending _ quiet _ _ _) = quiet.valid
   not_broken l stand owed (closed _ _ _ b _) = b
 
   -- the host refused no ask
@@ -215,7 +215,7 @@ module _ (held : Holding) (address : List ℕ) (asks : List Asked) (can : CanSer
   pub none_refused : (l : Left) (stand : Stand) (owed : List ℕ) → At l stand owed → was_refused l.heard.ended ≡ false
   none_refused l stand owed (sending frame _ _ _ _ _ _ what) = due_none_refused l.heard frame stand what
   none_refused l stand owed (taking h frame after _ _ _ _ _ is _ _ _ _ comes) = ap (λ (x : Heard). was_refused x.ended) is ∙ comes_none_refused h frame after stand comes
-  none_refused l stand owed (ending _ _ _ finished) = finished.none_refused
+  none_refused l stand owed (ending _ _ _ _ finished) = finished.none_refused
   none_refused l stand owed (closed _ _ _ _ finished) = finished.none_refused
 
   -- a frame is due: it is sent, or the dial comes first
@@ -305,14 +305,19 @@ module _ (held : Holding) (address : List ℕ) (asks : List Asked) (can : CanSer
     pub within : most ≤ length rest
     pub much_is : much ≡ frames_left held asks can h.awaits * 8192 + length rest
 
+  -- a move that the host is not in
+  pub record Quietly (l : Left) (stand : Stand) (owed : List ℕ) (much : ℕ) (move : Move) : Type 0 where
+    pub none_owed : owed ≡ []
+    pub lower : Lower (goes held.catalog asks l (record { move = move; answer = Made })) stand owed much
+
   -- what the next move may be where a session stands there and so much is to be done
   abbrev pub MovesBy : Left → Stand → List ℕ → (much : ℕ) → Move → Type 0
-  MovesBy l stand owed much (Dial to) = Lower (goes held.catalog asks l (record { move = Dial to; answer = Made })) stand owed much
+  MovesBy l stand owed much (Dial to) = Quietly l stand owed much (Dial to)
   MovesBy l stand owed much (Listen _) = ⊥
   MovesBy l stand owed much Accept = ⊥
   MovesBy l stand owed much (Send bytes) = Sends l stand owed much bytes
   MovesBy l stand owed much (Take most) = Piecing l stand owed much most
-  MovesBy l stand owed much Close = Lower (goes held.catalog asks l (record { move = Close; answer = Made })) stand owed much
+  MovesBy l stand owed much Close = Quietly l stand owed much Close
 
   -- the next move where a session stands there
   pub data Nexts (l : Left) : Type 0 where
@@ -331,7 +336,7 @@ module _ (held : Holding) (address : List ℕ) (asks : List Asked) (can : CanSer
       sends_or_dials l frame l.opened (due_next l frame before quiet is count l.opened refl)
   nexts_at l stand owed (taking h frame after part rest o c s is count joined owed_is some comes) =
       let t = taking_next l stand h frame after part rest o c s is count joined some comes in takes t.most t.next
-  nexts_at l stand owed (ending o quiet count finished) = closes (ending_next l o quiet count finished)
+  nexts_at l stand owed (ending o quiet count none finished) = closes (ending_next l o quiet count finished)
   nexts_at l stand owed (closed o c s b finished) = is_closed c
 
   by_move : (l : Left) (stand : Stand) (owed : List ℕ) (much : ℕ) (move other : Move) → next_of held.catalog address l ≡ Some other → next_of held.catalog address l ≡ Some move → MovesBy l stand owed much other → MovesBy l stand owed much move
@@ -342,14 +347,20 @@ module _ (held : Holding) (address : List ℕ) (asks : List Asked) (can : CanSer
   unfolding hear_all
   due_moves l stand owed frame before quiet part is count none what true = record { frame = frame; before = before; quiet = quiet; part = part; is_due = is; count = count; none_owed = none; what = what; spelled = refl; much_is = refl }
   due_moves l stand owed frame before quiet part is count none what false = record {
-    there = sending frame before (record { closed = or_false l.closed ∙ quiet.closed; stopped = or_false l.stopped ∙ quiet.stopped; valid = quiet.valid }) part is
-        (let same : length before ≡ l.sent + 0 = omega (arith, count) in same) none what;
-    less = omega arith;
+    none_owed = none;
+    lower = record {
+      there = sending frame before (record { closed = or_false l.closed ∙ quiet.closed; stopped = or_false l.stopped ∙ quiet.stopped; valid = quiet.valid }) part is
+          (let same : length before ≡ l.sent + 0 = omega (arith, count) in same) none what;
+      less = omega arith;
+    };
   }
 
-  close_moves : (l : Left) (stand : Stand) (owed : List ℕ) → Quiet l → Finished held asks can l.heard → MovesBy l stand owed 1 Close
+  close_moves : (l : Left) (stand : Stand) (owed : List ℕ) → Quiet l → owed ≡ [] → Finished held asks can l.heard → MovesBy l stand owed 1 Close
   unfolding hear_all
-  close_moves l stand owed quiet finished = record { there = closed refl (or_true l.closed) (or_false l.stopped ∙ quiet.stopped) quiet.valid finished; less = omega arith }
+  close_moves l stand owed quiet none finished = record {
+    none_owed = none;
+    lower = record { there = closed refl (or_true l.closed) (or_false l.stopped ∙ quiet.stopped) quiet.valid finished; less = omega arith };
+  }
 
   pub moves_at : (l : Left) (stand : Stand) (owed : List ℕ) (move : Move) → (a : At l stand owed) → next_of held.catalog address l ≡ Some move → MovesBy l stand owed (rank l stand owed a) move
   moves_at l stand owed move (sending frame before quiet part is count none what) e =
@@ -374,8 +385,8 @@ module _ (held : Holding) (address : List ℕ) (asks : List Asked) (can : CanSer
         within = t.within;
         much_is = refl;
       })
-  moves_at l stand owed move (ending o quiet count finished) e =
-      by_move l stand owed _ move Close (ending_next l o quiet count finished) e (close_moves l stand owed quiet finished)
+  moves_at l stand owed move (ending o quiet count none finished) e =
+      by_move l stand owed _ move Close (ending_next l o quiet count finished) e (close_moves l stand owed quiet none finished)
   moves_at l stand owed move (closed o c s b finished) e = absurd (none_is_not _ move (next_closed held.catalog address l o c) e)
 
   -- the host answers the frame that was sent
@@ -395,7 +406,7 @@ module _ (held : Holding) (address : List ℕ) (asks : List Asked) (can : CanSer
     is = is;
     stands = record {
       there = ending refl (record { closed = or_false l.closed ∙ s.quiet.closed; stopped = or_false l.stopped ∙ s.quiet.stopped; valid = s.quiet.valid })
-          (all_sent l.heard.due s.before s.frame l.sent s.is_due s.count) finished;
+          (all_sent l.heard.due s.before s.frame l.sent s.is_due s.count) refl finished;
       less = (let much_is = s.much_is in omega (arith, much_is));
     };
   }

@@ -211,7 +211,7 @@ module _ (held : Holding) (address : List ℕ) (asks : List Asked) (can : CanSer
   next_walked : (journal : Journal) (move : Move) (answer : Answer) (before after : Desk) → Walked journal before → next_with held.catalog address asks journal ≡ Some move → serves_move held before move answer after
       → Walked (journal ++ entry_of move answer ∷ []) after
   next_walked journal (Dial to) answer before after w next serves =
-      quiet_move journal (Dial to) answer before after w serves refl refl (moves_at held address asks can (left held.catalog asks journal) before.stand before.owed (Dial to) w.there next).there
+      quiet_move journal (Dial to) answer before after w serves refl refl (moves_at held address asks can (left held.catalog asks journal) before.stand before.owed (Dial to) w.there next).lower.there
   next_walked journal (Listen to) answer before after w next serves =
       absurd (moves_at held address asks can (left held.catalog asks journal) before.stand before.owed (Listen to) w.there next)
   next_walked journal Accept answer before after w next serves =
@@ -221,7 +221,7 @@ module _ (held : Holding) (address : List ℕ) (asks : List Asked) (can : CanSer
   next_walked journal (Take most) answer before after w next serves =
       took_move journal most answer before after w serves _ (moves_at held address asks can (left held.catalog asks journal) before.stand before.owed (Take most) w.there next)
   next_walked journal Close answer before after w next serves =
-      quiet_move journal Close answer before after w serves refl refl (moves_at held address asks can (left held.catalog asks journal) before.stand before.owed Close w.there next).there
+      quiet_move journal Close answer before after w serves refl refl (moves_at held address asks can (left held.catalog asks journal) before.stand before.owed Close w.there next).lower.there
 
   walked_on : (before journal : Journal) (desk after : Desk) → Walked before desk → GoesOn held.catalog address asks before journal → ServedFrom held desk journal after → Walked (before ++ journal) after
   walked_on before [] desk after w goes served =

@@ -1,15 +1,15 @@
 -- A session of the key whose host is in its own process and holds the public part of a database. It goes to its end, and
 -- what it answers is the meaning of its texts.
-use Rattle.std.specs.Prelude.{◌≡◌, ℕ, suc, true, false, List, ◌++◌, slice_get, Some, Ok, flat_map}
+use Rattle.std.specs.Prelude.{◌≡◌, ◌<◌, ◌≤◌, ℕ, suc, true, false, List, [], ◌++◌, length, slice_get, Some, Ok, flat_map}
 use Rattle.std.specs.List.{list_any}
 use Rattle.ghost_model.specs.Values.{Database}
 use Rattle.ghost_model.specs.Query.{Query}
 use Rattle.ghost_model.specs.QueryReading.{reading}
 use Rattle.ghost_model.specs.Meaning.{answer}
-use Rattle.ghost_model.specs.Channel.{Catalog, Journal}
+use Rattle.ghost_model.specs.Channel.{Catalog, Move, Dial, Listen, Accept, Send, Take, Close, Journal}
 use Rattle.ghost_model.specs.Asks.{asked_of}
 use Rattle.ghost_model.specs.Moves.{taken, answers}
-use Rattle.ghost_model.specs.NextMove.{IsProper, IsFinished, heard, is_stop}
+use Rattle.ghost_model.specs.NextMove.{IsProper, IsFinished, next_move, heard, is_stop}
 use Rattle.ghost_model.specs.Split.{public_of, hidden_of}
 use Rattle.ghost_model.specs.Host.{Holding, host_of}
 use Rattle.ghost_model.specs.Lines.{ended_of, was_refused, all_done, rows_from_replies}
@@ -49,6 +49,22 @@ abbrev pub LocalSessionsEnd : Type 0
 LocalSessionsEnd =
     (catalog : Catalog) (database : Database) (at : List ℕ) (texts : List (List ℕ)) (journal : Journal)
     → IsLocal catalog database at texts journal → EndsBy catalog database at texts journal
+
+-- whether a move finds the desk as it needs it: a frame is sent once all was taken that the host said, a take asks for
+-- some bytes and for no more than are owed, and the key neither listens nor accepts
+abbrev pub finds_desk : Desk → Move → Type 0
+finds_desk desk (Dial _) = desk.owed ≡ []
+finds_desk desk (Listen _) = ⊥
+finds_desk desk Accept = ⊥
+finds_desk desk (Send _) = desk.owed ≡ []
+finds_desk desk (Take most) = (0 < most) × (most ≤ length desk.owed)
+finds_desk desk Close = desk.owed ≡ []
+
+abbrev pub NextMovesFindTheDesk : Type 0
+NextMovesFindTheDesk =
+    (catalog : Catalog) (database : Database) (at : List ℕ) (texts : List (List ℕ)) (journal : Journal) (move : Move)
+    → (is : IsLocal catalog database at texts journal) → next_move catalog at texts journal ≡ Some move
+    → finds_desk is.desk move
 
 -- no answer ends a session, each take was given all that it asked for, each frame that came is valid, and the host
 -- refused no ask

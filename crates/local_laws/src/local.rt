@@ -1,10 +1,15 @@
 //! Laws of sessions with a host in the key's own process that holds the public part of a database.
 
-ghost use Rattle.local_laws.specs.Local.{ServedJournalsJoin, LocalSessionsEnd, LocalSessionsAreServed, LocalJournalsAreOne, LocalAsksAreDone, LocalSessionsAnswer, LocalLinesArePrinted};
+ghost use Rattle.local_laws.specs.Local.{ServedJournalsJoin, NextMovesFindTheDesk, LocalSessionsEnd, LocalSessionsAreServed, LocalJournalsAreOne, LocalAsksAreDone, LocalSessionsAnswer, LocalLinesArePrinted};
 
 /// Moves that the host served one after another are served together.
 pub fn served_journals_join()
     ensures { ServedJournalsJoin }
+{}
+
+/// The key sends a frame once it took all that the host said, and asks a take for no more bytes than are owed.
+pub fn next_moves_find_the_desk()
+    ensures { NextMovesFindTheDesk }
 {}
 
 /// From wherever a session stands, so at its beginning too, there are moves by which it is finished.
