@@ -1,0 +1,5 @@
+use Rattle.session_laws.proofs.Settled.{ended_stays}
+use Rattle.session_laws.proofs.text_ends.ended_texts_stay.Goals as goal
+
+pub returns : goal.returns
+returns c = ended_stays

@@ -1,0 +1,5 @@
+use Rattle.session_laws.proofs.Settled.{lines_stay}
+use Rattle.session_laws.proofs.text_ends.lines_stay.Goals as goal
+
+pub returns : goal.returns
+returns c = lines_stay
