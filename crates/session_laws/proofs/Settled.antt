@@ -170,7 +170,7 @@ module _ (catalog : Catalog) (kept : Hidden) (texts : List (List ℕ)) (journal 
   host_word : (ends : List Ended) (one : Journal) → was_refused ends ≡ true → broken_word ends one ≡ codes "host"
   host_word ends one e = ap (λ (b : Bool). if b then codes "host" else if list_any is_stop (answers one) then codes "link" else codes "protocol") e
 
-  lines_for : (written : List ℕ) (lines : List (List ℕ)) (reason : Reason) → slice_get texts place ≡ Some written → AreLinesFor reason catalog kept texts journal (suc place) written lines
+  pub lines_for : (written : List ℕ) (lines : List (List ℕ)) (reason : Reason) → slice_get texts place ≡ Some written → AreLinesFor reason catalog kept texts journal (suc place) written lines
       → AreLinesFor reason catalog kept texts (journal ++ more) (suc place) written lines
   lines_for written lines IsRefused here are = are
   lines_for written lines WasBroken here are =

@@ -1,14 +1,14 @@
 -- What the asks of a text came to, whatever host replies. Asks are awaited one after another, in the order of their texts.
 -- A text is settled once none of its asks is awaited or still to come; so it is once an ask of a later text is awaited, or
 -- nothing more. From then on what its asks came to stays, and so do the lines that it may be given.
-use Rattle.std.specs.Prelude.{◌≡◌, ℕ, ◌*◌, Bool, true, false, not, nat_lt, nat_le, ◌==◌, List, [], ◌∷◌, ◌++◌, length, filter, filter_map}
+use Rattle.std.specs.Prelude.{◌≡◌, ℕ, suc, Some, slice_get, ◌*◌, Bool, true, false, not, nat_lt, nat_le, ◌==◌, List, [], ◌∷◌, ◌++◌, length, filter, filter_map}
 use Rattle.std.specs.List.{list_all, list_any}
 use Rattle.ghost_model.specs.Channel.{Catalog, Journal}
 use Rattle.ghost_model.specs.Asks.{Asked, asked_of, row_width, rows_in}
 use Rattle.ghost_model.specs.Moves.{taken}
 use Rattle.ghost_model.specs.NextMove.{Awaits, Missing, Reply, Nothing, Ended, Heard, heard, hear_all, IsProper, IsFinished}
 use Rattle.ghost_model.specs.Split.{Hidden}
-use Rattle.ghost_model.specs.Lines.{ended_of, AreLines}
+use Rattle.ghost_model.specs.Lines.{Reason, ended_of, AreLines, AreLinesFor}
 use Rattle.ghost_model.specs.Replies as answered
 use Rattle.ghost_model.specs.Replies.{reply_for, replies}
 
@@ -79,6 +79,15 @@ LinesStay =
     (catalog : Catalog) (kept : Hidden) (texts : List (List ℕ)) (journal more : Journal) (text : ℕ) (lines : List (List ℕ))
     → is_settled_in catalog texts journal text ≡ true → AreLines catalog kept texts journal text lines
     → AreLines catalog kept texts (journal ++ more) text lines
+
+-- and for the same reason; the text at place 0 has number 1
+abbrev pub ReasonsStay : Type 0
+ReasonsStay =
+    (catalog : Catalog) (kept : Hidden) (texts : List (List ℕ)) (journal more : Journal) (place : ℕ) (written : List ℕ)
+    (lines : List (List ℕ)) (reason : Reason)
+    → is_settled_in catalog texts journal (suc place) ≡ true → slice_get texts place ≡ Some written
+    → AreLinesFor reason catalog kept texts journal (suc place) written lines
+    → AreLinesFor reason catalog kept texts (journal ++ more) (suc place) written lines
 
 -- nothing comes after a finished journal, so what all texts' asks came to by then stays
 abbrev pub FinishedJournalsStay : Type 0

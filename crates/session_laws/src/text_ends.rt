@@ -1,6 +1,6 @@
 //! Laws of what the asks of a text came to, whatever host replies.
 
-ghost use Rattle.session_laws.specs.TextEnds.{OverTextsAreSettled, SettledTextsStay, EndedTextsStay, LinesStay, FinishedJournalsStay, AsksAreAwaitedInOrder};
+ghost use Rattle.session_laws.specs.TextEnds.{OverTextsAreSettled, SettledTextsStay, EndedTextsStay, LinesStay, ReasonsStay, FinishedJournalsStay, AsksAreAwaitedInOrder};
 
 /// Once an ask of a later text is awaited, or nothing more, a text is settled: none of its asks is awaited or still to come.
 pub fn over_texts_are_settled()
@@ -20,6 +20,11 @@ pub fn ended_texts_stay()
 /// So the lines that a settled text may be given are its lines ever after.
 pub fn lines_stay()
     ensures { LinesStay }
+{}
+
+/// And they are so for the same reason.
+pub fn reasons_stay()
+    ensures { ReasonsStay }
 {}
 
 /// No entry comes after a finished journal.
