@@ -4,6 +4,8 @@ pub mod Windows
 pub mod Groups
 pub mod Numbers
 pub mod Answered
+pub mod Steps
+pub mod Silence
 pub mod ImageRows
 pub mod ImageReplies
 pub mod ImageTables

@@ -2,6 +2,7 @@ pub mod RowBytes
 pub mod FormViews
 pub mod Gathering
 pub mod Saying
+pub mod Steps
 pub mod Replies
 pub mod Holdings
 pub mod Taken
