@@ -3,9 +3,12 @@
 
 mod handing;
 pub mod host_link;
+mod journal;
+pub mod journaled;
 pub mod laws;
 mod speech;
 #[cfg(test)]
 mod tests;
 
 pub use host_link::HostLink;
+pub use journaled::Journaled;

@@ -1,9 +1,11 @@
 //! A session of a key with the host of the clinic in its own process.
 
 use crate::host_link::HostLink;
+use crate::journaled::Journaled;
 use edge_traits::link::Link;
 use edge_traits::mem_depot::{MemDepot, Room};
 use host_exec::{BeginFault, Host};
+use std::alloc::Global;
 
 /// The visible image: the catalog in 365 bytes, and the cells of 3 doctors, 2 patients and 4 visits.
 const IMAGE: &[u8] =
@@ -27,17 +29,22 @@ fn gives<L: Link>(link: &mut L, most: usize, count: usize, bytes: &[u8]) -> bool
     }
 }
 
-#[test]
-fn the_clinic_is_asked_in_the_same_process(rt: HostRuntime) -> Result<(), BeginFault> {
+/// A link to the host of the clinic.
+fn clinic(alloc: Global) -> Result<HostLink<MemDepot>, BeginFault> {
     let room = Room {
         files: 1,
         name_bytes: 1,
         file_bytes: 500,
     };
-    let mut depot = MemDepot::new(rt.alloc(), room, &[])?;
+    let mut depot = MemDepot::new(alloc, room, &[])?;
     let _put = depot.put("c", IMAGE);
-    let host = Host::begin(rt.alloc(), &mut depot, "c")?;
-    let mut link = HostLink::new(host, depot);
+    let host = Host::begin(alloc, &mut depot, "c")?;
+    Ok(HostLink::new(host, depot))
+}
+
+#[test]
+fn the_clinic_is_asked_in_the_same_process(rt: HostRuntime) -> Result<(), BeginFault> {
+    let mut link = clinic(rt.alloc())?;
     assert!(rt; link.listen("").is_err() && link.accept().is_err());
     assert_eq!(rt; link.dial(""), Ok(()));
     assert!(rt; gives(&mut link, 8, 0, b""));
@@ -60,5 +67,53 @@ fn the_clinic_is_asked_in_the_same_process(rt: HostRuntime) -> Result<(), BeginF
     assert_eq!(rt; link.send(BYE), Ok(()));
     assert!(rt; gives(&mut link, 8, 0, b""));
     link.close();
+    Ok(())
+}
+
+#[test]
+fn a_session_is_written_down(rt: HostRuntime) -> Result<(), BeginFault> {
+    let mut link = clinic(rt.alloc())?;
+    let room = Room {
+        files: 1,
+        name_bytes: 1,
+        file_bytes: 2_000,
+    };
+    let mut depot = MemDepot::new(rt.alloc(), room, &[])?;
+    let mut journaled = Journaled::new(&mut link, &mut depot, Some("j"));
+    assert_eq!(rt; journaled.dial("host:1"), Ok(()));
+    assert_eq!(rt; journaled.send(HELLO), Ok(()));
+    assert!(rt; gives(&mut journaled, 8, 8, b"\x11"));
+    assert_eq!(rt; journaled.send(BYE), Ok(()));
+    journaled.close();
+    assert!(rt; !journaled.failed());
+    assert_eq!(rt;
+        depot.file("j"),
+        Some(
+            b"dial ok\nsend 010100040000000000000001 ok\ntake 8 1101016e00000000\nsend 0401000000000000 ok\nclose\n"
+                .as_slice()
+        )
+    );
+    Ok(())
+}
+
+#[test]
+fn after_a_failed_append_the_moves_go_on(rt: HostRuntime) -> Result<(), BeginFault> {
+    let mut link = clinic(rt.alloc())?;
+    let room = Room {
+        files: 1,
+        name_bytes: 1,
+        file_bytes: 2_000,
+    };
+    let mut depot = MemDepot::new(rt.alloc(), room, &[2])?;
+    let mut journaled = Journaled::new(&mut link, &mut depot, Some("j"));
+    assert_eq!(rt; journaled.dial("host:1"), Ok(()));
+    assert_eq!(rt; journaled.send(HELLO), Ok(()));
+    assert!(rt; journaled.failed());
+    assert!(rt; gives(&mut journaled, 8, 8, b"\x11"));
+    journaled.close();
+    assert_eq!(rt; depot.file("j"), Some(b"dial ok\n".as_slice()));
+    let mut silent = Journaled::new(&mut link, &mut depot, None);
+    silent.close();
+    assert!(rt; !silent.failed());
     Ok(())
 }
