@@ -1,9 +1,13 @@
 -- Where a host has nothing to say.
-use Rattle.std.proofs.Common.{◌≡◌, ℕ, ◌<◌, ◌≤◌, ◌⊎◌, inl, inr, true, false, List, [], ◌∷◌, ◌++◌, length, map, take, drop, ap, ◌∙◌, refl, arith, Some, None}
+use Rattle.std.proofs.Common.{◌≡◌, ℕ, ◌<◌, false, List, [], ◌∷◌, length, take, drop, ap, subst, sym, ◌∙◌, refl, arith, Some}
 use Rattle.std.proofs.lemmas.List.{length-drop}
-use Rattle.ghost_model.specs.Channel.{Frame, Done, Welcome}
-use Rattle.ghost_model.specs.Host.{Stand, Response, goes_on, rows_frame, grouped, welcomes_of, most_part}
-use Rattle.host_exec.specs.Saying.{Source, left_from, most_rows, reply_left, response, Stands, IsWithin, owes}
+use Rattle.ghost_model.specs.Channel.{Frame}
+use Rattle.ghost_model.specs.Host.{Stand, Response, goes_on, grouped, welcomes_of, most_part}
+use Rattle.ghost_model.specs.Host.{Holding}
+use Rattle.host_exec.specs.Hosts.{Holds, IsSameHost}
+use Rattle.host_exec.specs.Holdings.{HoldsFile}
+use Rattle.host_exec.specs.declared.host.Host.{Host}
+use Rattle.host_exec.specs.Saying.{Source, response, Stands, IsWithin, owes}
 use Rattle.host_exec.proofs.Groups.{first_group}
 use Rattle.host_exec.specs.declared.stage.Stage.{Stage}
 use Rattle.host_exec.specs.declared.stage.Stage.TheVariants.{Greeting, Welcoming, Listening, Answering, Replying, Over}
@@ -16,12 +20,13 @@ one_welcome : (bytes : List ℕ) → 0 < length bytes → [] ≡ welcomes_of (gr
 one_welcome bytes some e =
     never_none (take 2039 bytes) (grouped 2039 (drop 2039 bytes)) (e ∙ ap welcomes_of (first_group 2039 bytes (omega arith) some))
 
-goes_somewhere : (serial : ℕ) (frames : List Frame) (stand : Stand) → goes_on serial frames ≡ Some (response [] stand) → ⊥
+pub goes_somewhere : (serial : ℕ) (frames : List Frame) (stand : Stand) → goes_on serial frames ≡ Some (response [] stand) → ⊥
 goes_somewhere serial [] stand e = cc
 goes_somewhere serial (frame ∷ rest) stand e = never (same _ _ e)
   where
     same : (one other : Response) → Some one ≡ Some other → one.says ≡ other.says
     same one other e = cc
+
     never : frame ∷ [] ≡ [] → ⊥
     never e = cc
 
@@ -46,3 +51,9 @@ owes_nothing catalog source (Listening next) owed stand free stands = stands.0
 owes_nothing catalog source (Answering serial place sent) owed stand free stands = cc
 owes_nothing catalog source (Replying serial place sent) owed stand free stands = stands.0
 owes_nothing catalog source Over owed stand free stands = stands.0
+
+-- what a host holds, it holds also as another value that holds the same
+pub holds_on : (held : Holding) (file : List ℕ) (before after : Host) → IsSameHost before after → Holds held file before → Holds held file after
+holds_on held file before after same holds =
+    subst (λ starts. HoldsFile held after.catalog starts file) (sym same.starts)
+    (subst (λ catalog. HoldsFile held catalog before.starts.items file) (sym same.catalog) holds)

@@ -1,11 +1,11 @@
 -- Each frame that a host takes or says brings the session nearer to its end.
-use Rattle.std.proofs.Common.{◌≡◌, ℕ, ◌+◌, ◌-◌, ◌*◌, ◌<◌, ◌≤◌, Bool, true, false, Some, None, ◌==◌, subst, sym, arith, min}
+use Rattle.std.proofs.Common.{◌≡◌, ℕ, ◌+◌, ◌-◌, ◌<◌, ◌≤◌, Bool, true, false, Some, None, ◌==◌, subst, arith, min}
 use Rattle.std.specs.Prelude.{if◌then◌else◌}
-use Rattle.ghost_model.specs.Channel.{Frame, Hello, Asking, More, Bye, Welcome, Replied, Done, Sorry}
+use Rattle.ghost_model.specs.Channel.{Frame, Hello, More, Bye}
 use Rattle.host_exec.specs.Saying.{turned}
 use Rattle.host_exec.specs.Steps.{steps_left}
 use Rattle.host_exec.specs.declared.stage.Stage.{Stage}
-use Rattle.host_exec.specs.declared.stage.Stage.TheVariants.{Greeting, Welcoming, Listening, Answering, Replying, Over}
+use Rattle.host_exec.specs.declared.stage.Stage.TheVariants.{Greeting, Welcoming, Listening, Answering, Replying}
 
 pub part_on : (catalog at count : ℕ) → at < catalog → count ≡ min 2039 (catalog - at) → steps_left catalog (Welcoming (at + count)) < steps_left catalog (Welcoming at)
 part_on catalog at count some counted = omega (arith, some, counted)

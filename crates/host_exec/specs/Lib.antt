@@ -8,3 +8,4 @@ pub mod Holdings
 pub mod Taken
 pub mod Hosts
 pub mod Checked
+pub mod Sessions

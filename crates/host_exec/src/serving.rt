@@ -131,7 +131,7 @@ impl Host {
     }
 
     /// Says the next frame, if there is one to say.
-    fn say_next<D: Depot>(&self, depot: &mut D, out: &mut [u8]) -> Option<Said>
+    pub(crate) fn say_next<D: Depot>(&self, depot: &mut D, out: &mut [u8]) -> Option<Said>
         requires room { 2048 ≤ length out.old }
         ensures owed { is_some result ≡ saying.owes self.now.stage }
         ensures never_falls { D.faults depot.old ≤ D.faults depot.new }
