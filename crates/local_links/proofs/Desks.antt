@@ -1,10 +1,10 @@
 -- A host with what it said, from frame to frame.
-use Rattle.std.proofs.Common.{◌≡◌, ◌⊎◌, ℕ, zero, suc, ◌+◌, ◌-◌, ◌<◌, ◌≤◌, Bool, true, false, List, [], ◌∷◌, ◌++◌, length, take, drop, flat_map, Option, None, Some, MatchBool, refl, sym, ◌∙◌, ap, subst, arith, append-nil, append_assoc}
+use Rattle.std.proofs.Common.{◌≡◌, ℕ, ◌+◌, ◌-◌, ◌≤◌, Bool, true, false, List, [], ◌∷◌, ◌++◌, length, take, drop, flat_map, Option, None, Some, MatchBool, refl, sym, ◌∙◌, ap, subst, arith, append-nil, append_assoc}
 use Rattle.std.proofs.Math.Seq.{take-add}
 use Rattle.std.proofs.lemmas.List.{drop-drop}
 use Rattle.ghost_model.proofs.ChannelLemmas.Tests.{take_front}
 use Rattle.ghost_model.specs.Channel.{Frame, Made}
-use Rattle.ghost_model.specs.Frames.{Got, Found, Short, Bad, IsFrame, frame_bytes, got_of}
+use Rattle.ghost_model.specs.Frames.{Found, Short, Bad, IsFrame, frame_bytes, got_of}
 use Rattle.ghost_model.specs.Host.{Holding, Stand, Response, answer_to}
 use Rattle.ghost_model.proofs.ChannelLemmas.{spelled_is_found}
 use Rattle.edge_traits.specs.Files.{Files, file_of}
@@ -97,7 +97,7 @@ heard_nothing held contents host speech before bytes other owes = record {
 pub heard_frame : (held : Holding) (contents : Option Files) (host after : Host) (speech : Speech) (before : Desk) (bytes : List ℕ) (frame : Frame) (taken : Bool)
     → got_of bytes ≡ Found frame → IsSameHost host after → (taken ≡ false → after ≡ host)
     → ((file : List ℕ) (stand : Stand) → Holds held file host → StandsAs host file [] stand
-      → MatchBool taken (IsAnswered held file stand frame after) (answer_to held stand frame ≡ None))
+    → MatchBool taken (IsAnswered held file stand frame after) (answer_to held stand frame ≡ None))
     → before.owed ≡ [] → Owes held contents host speech before.owed before.stand → Heard held contents before bytes after speech
 heard_frame held contents host after speech before bytes frame taken got same stays fed free owes =
     let parts = none_left (kept speech) (flat_map frame_bytes owes.frames) (sym free ∙ owes.owed) in

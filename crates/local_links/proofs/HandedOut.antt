@@ -1,15 +1,15 @@
 -- A buffer that is filled with what is owed.
-use Rattle.std.proofs.Common.{◌≡◌, ◌⊎◌, inl, inr, ℕ, zero, suc, ◌+◌, ◌*◌, ◌-◌, ◌<◌, ◌≤◌, min, List, [], ◌∷◌, ◌++◌, length, take, drop, Option, None, Some, Result, Ok, Err, refl, sym, ◌∙◌, ap, subst, arith, append-nil, append_assoc}
+use Rattle.std.proofs.Common.{◌≡◌, inl, inr, ℕ, zero, suc, ◌+◌, ◌*◌, ◌<◌, ◌≤◌, min, List, [], ◌∷◌, ◌++◌, length, take, drop, Option, Ok, refl, sym, ◌∙◌, ap, subst, arith, append-nil, append_assoc}
 use Rattle.std.proofs.Math.Seq.{take-add, take-append_seam, drop-append_seam}
 use Rattle.std.proofs.lemmas.List.{take_all, drop_all, length-take-le, length-append}
 use Rattle.ghost_model.specs.Causes.{Rose, last_count}
-use Rattle.ghost_model.specs.Channel.{Answer, Made, Piece, End, Failed, Dial, Listen, Accept, Take, Close}
+use Rattle.ghost_model.specs.Channel.{Made, Piece, Failed, Dial, Listen, Accept, Take, Close}
 use Rattle.ghost_model.specs.Host.{Holding, Stand}
 use Rattle.edge_traits.specs.Files.{Files}
 use Rattle.edge_traits.specs.Links.{entry, gave, faults_after}
-use Rattle.local_links.specs.Serving.{Desk, Hands, handed, serves}
+use Rattle.local_links.specs.Serving.{Desk, handed}
 use Rattle.local_links.specs.Desks.{Owes, Nearer}
-use Rattle.local_links.specs.Links.{IsAt, Handed, HandsOn, Served, Moves}
+use Rattle.local_links.specs.Links.{IsAt, Handed, Moves}
 use Rattle.local_links.specs.declared.host_link.HostLink.{HostLink}
 
 pub came_nearer : (steps size later_steps later_size left count : ℕ) → Nearer steps size later_steps later_size → later_size ≤ 2048 → left + count ≡ later_size
@@ -28,6 +28,7 @@ rose_second before between now more rose = trans (min_more before between more) 
   where
     min_more : (a b : ℕ) → a ≤ b → min (a + 1) last_count ≤ min (b + 1) last_count
     min_more a b h = omega (arith, h)
+
     trans : {a b c : ℕ} → a ≤ b → b ≤ c → a ≤ c
     trans {a} {b} {c} h k = omega (arith, h, k)
 
@@ -105,6 +106,7 @@ took {D} E contents faults start now most have buffer falls counted takes = reco
     no_fault : (E : Type 0) (have : ℕ) (buffer : List ℕ) (before : ℕ) → faults_after (gave {E = E} (Ok have) buffer) before ≡ before
     no_fault E zero buffer before = refl
     no_fault E (suc k) buffer before = refl
+
     same : (E : Type 0) (have : ℕ) (buffer : List ℕ) → gave {E = E} (Ok have) buffer ≡ gave {E = Unit {0}} (Ok have) buffer
     same E zero buffer = refl
     same E (suc k) buffer = refl
@@ -115,15 +117,15 @@ pub took_all : {D : Type 0} (E : Type 0) (contents : D → Option Files) (faults
     → Moves contents faults start (entry (Take most) (gave {E = E} (Ok have) buffer)) now
 took_all E contents faults start now most have buffer some so full =
     took E contents faults start now most have buffer so.never_falls so.counted (λ calm held desk at.
-        let part = so.handed_so calm held desk at in
-        record { rest = part.rest; owes = part.owes; is_handed = handed_full most have buffer desk.owed part.rest some so.size_is full part.joined })
+    let part = so.handed_so calm held desk at in
+    record { rest = part.rest; owes = part.owes; is_handed = handed_full most have buffer desk.owed part.rest some so.size_is full part.joined })
 
 -- more bytes were handed out
 pub hands_more : {D : Type 0} (contents : D → Option Files) (faults : D → ℕ) (start between now : HostLink D) (size have count : ℕ) (old new : List ℕ)
     → HandsSoFar contents faults start between size have old → length new ≡ size → have + count ≤ size → take have new ≡ take have old
     → faults between.depot ≤ faults now.depot → now.faults ≡ between.faults
     → ((Rose (faults between.depot) (faults now.depot) → ⊥) → (held : Holding) (bytes : List ℕ) (stand : Stand) → Owes held (contents between.depot) between.host between.speech bytes stand
-      → Handed bytes (take count (drop have new)) (λ rest. Owes held (contents now.depot) now.host now.speech rest stand))
+    → Handed bytes (take count (drop have new)) (λ rest. Owes held (contents now.depot) now.host now.speech rest stand))
     → HandsSoFar contents faults start now size (have + count) new
 hands_more contents faults start between now size have count old new so long within front falls same more = record {
   within = within;
@@ -147,19 +149,19 @@ pub took_short : {D : Type 0} (E : Type 0) (contents : D → Option Files) (faul
     → HandsSoFar contents faults start between most have old → length new ≡ most → take have new ≡ take have old
     → faults between.depot ≤ faults now.depot → now.faults ≡ between.faults
     → ((Rose (faults between.depot) (faults now.depot) → ⊥) → (held : Holding) (bytes : List ℕ) (stand : Stand) → Owes held (contents between.depot) between.host between.speech bytes stand
-      → Handed bytes [] (λ rest. Owes held (contents now.depot) now.host now.speech rest stand) × (bytes ≡ []))
+    → Handed bytes [] (λ rest. Owes held (contents now.depot) now.host now.speech rest stand) × (bytes ≡ []))
     → Moves contents faults start (entry (Take most) (gave {E = E} (Ok have) new)) now
 took_short E contents faults start between now most have old new so long front falls same more =
     took E contents faults start now most have new (let a = so.never_falls in omega (arith, a, falls)) (same ∙ so.counted) (λ calm held desk at.
-        let first = so.handed_so (λ rose. calm (rose_first _ _ _ falls rose)) held desk at in
-        let next = more (λ rose. calm (rose_second _ _ _ so.never_falls rose)) held first.rest desk.stand first.owes in
-        record {
-          rest = next.0.rest;
-          owes = next.0.owes;
-          is_handed = handed_short most have new desk.owed next.0.rest long so.within
-              (first.joined ∙ (ap (λ (xs : List ℕ). take have old ++ xs) next.0.joined ∙ ap (λ (xs : List ℕ). xs ++ next.0.rest) (sym front)))
-              (sym next.0.joined ∙ next.1);
-        })
+    let first = so.handed_so (λ rose. calm (rose_first _ _ _ falls rose)) held desk at in
+    let next = more (λ rose. calm (rose_second _ _ _ so.never_falls rose)) held first.rest desk.stand first.owes in
+    record {
+      rest = next.0.rest;
+      owes = next.0.owes;
+      is_handed = handed_short most have new desk.owed next.0.rest long so.within
+          (first.joined ∙ (ap (λ (xs : List ℕ). take have old ++ xs) next.0.joined ∙ ap (λ (xs : List ℕ). xs ++ next.0.rest) (sym front)))
+          (sym next.0.joined ∙ next.1);
+    })
 
 -- a link whose host, depot and speech are as they were stands where it stood
 pub still_at : {D : Type 0} (contents : D → Option Files) (before after : HostLink D) (held : Holding) (desk : Desk) → after.host ≡ before.host → after.depot ≡ before.depot → after.speech ≡ before.speech

@@ -1,7 +1,7 @@
 -- A journal that was served, move by move.
-use Rattle.std.proofs.Common.{◌≡◌, ◌≤◌, ℕ, List, [], ◌∷◌, Option, refl, sym, subst, arith}
+use Rattle.std.proofs.Common.{◌≤◌, ℕ, [], ◌∷◌, Option, refl, subst, arith}
 use Rattle.ghost_model.specs.Causes.{Rose}
-use Rattle.ghost_model.specs.Channel.{Entry, Journal}
+use Rattle.ghost_model.specs.Channel.{Journal}
 use Rattle.ghost_model.specs.Host.{Holding}
 use Rattle.edge_traits.specs.Files.{Files}
 use Rattle.edge_traits.specs.Links.{Steps}

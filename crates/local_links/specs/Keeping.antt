@@ -1,5 +1,5 @@
 -- A link that keeps a journal of another: each move is made on that one, and its line goes to the end of a file.
-use Rattle.std.specs.Prelude.{◌≡◌, ℕ, Bool, true, false, ◌+◌, nat_le, List, [], ◌∷◌, ◌++◌, length, Option, None, Some}
+use Rattle.std.specs.Prelude.{◌≡◌, ℕ, Bool, true, ◌+◌, nat_le, List, [], length, Option, None, Some}
 use Rattle.std.specs.List.{list_all}
 use Rattle.ghost_model.specs.Channel.{Move, Dial, Listen, Accept, Send, Take, Close, Entry, Journal}
 use Rattle.ghost_model.specs.Moves.{lines, piece_of}

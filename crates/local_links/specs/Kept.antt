@@ -1,11 +1,11 @@
 -- A journal that is kept, move by move.
-use Rattle.std.proofs.Common.{◌≡◌, ℕ, Bool, true, false, ◌&&◌, List, [], ◌∷◌, ◌++◌, Option, None, Some, refl, sym, ◌∙◌, ap, subst, append-nil}
+use Rattle.std.proofs.Common.{◌≡◌, ℕ, Bool, true, false, ◌&&◌, List, [], ◌∷◌, ◌++◌, Option, None, Some, refl, sym, ◌∙◌, subst}
 use Rattle.std.specs.List.{list_all}
 use Rattle.std.proofs.lemmas.Grind.{flat_map-append}
-use Rattle.ghost_model.specs.Channel.{Entry, Journal}
+use Rattle.ghost_model.specs.Channel.{Journal}
 use Rattle.ghost_model.specs.Moves.{line, lines}
 use Rattle.edge_traits.specs.Files.{Files}
-use Rattle.local_links.specs.Journaling.{Log, Extends}
+use Rattle.local_links.specs.Journaling.{Log}
 use Rattle.local_links.specs.Keeping.{is_short, log_of, named, Writes, Kept}
 use Rattle.local_links.specs.declared.journaled.Journaled.{Journaled}
 use Rattle.local_links.specs.Appending.{begins_at, goes_on_with}

@@ -89,8 +89,7 @@ fn a_session_is_written_down(rt: HostRuntime) -> Result<(), BeginFault> {
     assert_eq!(rt;
         depot.file("j"),
         Some(
-            b"dial ok\nsend 010100040000000000000001 ok\ntake 8 1101016e00000000\nsend 0401000000000000 ok\nclose\n"
-                .as_slice()
+            b"dial ok\nsend 010100040000000000000001 ok\ntake 8 1101016e00000000\nsend 0401000000000000 ok\nclose\n".as_slice()
         )
     );
     Ok(())

@@ -1,4 +1,4 @@
-use Rattle.std.proofs.Common.{◌≡◌, ◌++◌, [], List, ℕ, length, take, drop, ap, sym, ◌∙◌, refl, rules}
+use Rattle.std.proofs.Common.{◌≡◌, ◌++◌, List, ℕ, length, take, drop, ap, sym, ◌∙◌, refl, rules}
 use Rattle.std.proofs.Math.Seq.{drop-append_seam}
 use Rattle.local_links.specs.Desks.{kept}
 use Rattle.local_links.proofs.Desks.{hands_out}

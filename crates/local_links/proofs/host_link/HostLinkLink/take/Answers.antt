@@ -1,6 +1,5 @@
-use Rattle.std.proofs.Common.{rules, refl, length, Some, None, MatchOption, subst, ap}
+use Rattle.std.proofs.Common.{rules, refl, length}
 use Rattle.edge_traits.specs.declared.Failed.{Failed}
-use Rattle.local_links.specs.Links.{HandsOn}
 use Rattle.local_links.proofs.HandedOut.{took_all, took_short, hands_more}
 use Rattle.local_links.proofs.host_link.HostLinkLink.take.Goals as goal
 

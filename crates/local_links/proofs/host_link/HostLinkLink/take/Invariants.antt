@@ -1,4 +1,4 @@
-use Rattle.std.proofs.Common.{length, ◌-◌}
+use Rattle.std.proofs.Common.{length}
 use Rattle.local_links.specs.Links.{steps_left}
 use Rattle.local_links.proofs.HandedOut.{HandsSoFar}
 use Rattle.local_links.proofs.host_link.HostLinkLink.take.Given as goal
