@@ -4,6 +4,13 @@ pub mod Windows
 pub mod Groups
 pub mod Numbers
 pub mod Answered
+pub mod Steps
+pub mod Silence
+pub mod Going
+pub mod Heard
+pub mod Speaking
+pub mod Turns
+pub mod Endings
 pub mod ImageRows
 pub mod ImageReplies
 pub mod ImageTables

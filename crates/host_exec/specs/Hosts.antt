@@ -1,14 +1,15 @@
 -- A host of the code in the words of the definition.
-use Rattle.std.specs.Prelude.{◌≡◌, ℕ, List, Some}
+use Rattle.std.specs.Prelude.{◌≡◌, ℕ, List, length, Some}
 use Rattle.std.specs.String.{string_bytes}
 use Rattle.ghost_model.specs.Channel.{Frame}
 use Rattle.ghost_model.specs.Catalog.{catalog_bytes}
 use Rattle.ghost_model.specs.Host.{Holding, Stand, Response, answer_to}
 use Rattle.host_exec.specs.Saying.{Stands, Says, Refuses}
 use Rattle.host_exec.specs.Replies.{source_of}
+use Rattle.host_exec.specs.Steps.{steps_left}
 use Rattle.host_exec.specs.Holdings.{HoldsFile}
 use Rattle.host_exec.specs.declared.host.Host.{Host}
-use Rattle.host_exec.specs.declared.stage.Said.{Said}
+use Rattle.host_exec.specs.declared.stage.Stage.{Stage}
 use Rattle.host_exec.specs.declared.stage.Stage.TheVariants.{Answering}
 
 -- the name of the host's file
@@ -23,6 +24,10 @@ Holds held file host = HoldsFile held host.catalog host.starts.items file
 abbrev pub StandsAs : Host → (file : List ℕ) → (owed : List Frame) → Stand → Type 0
 StandsAs host file owed stand = Stands (catalog_bytes host.catalog) (source_of host.reply file) host.stage owed stand
 
+-- a host takes or says at most so many frames more
+abbrev pub steps_of : Host → ℕ
+steps_of host = steps_left (length (catalog_bytes host.catalog)) host.stage
+
 -- a host holds what it held before
 pub record IsSameHost (before after : Host) : Type 0 where
   pub name : name_of after ≡ name_of before
@@ -36,15 +41,15 @@ pub record IsAnswered (held : Holding) (file : List ℕ) (stand : Stand) (frame 
   pub stands : StandsAs after file answered.says answered.stand
 
 -- the host refused to go on with the reply that it owed a frame of, since the count of faults rose
-pub record Refused (host : Host) (before after : ℕ) (said : Said) (out : List ℕ) : Type 0 where
+pub record Refused (host : Host) (before after size : ℕ) (out : List ℕ) (stage : Stage) : Type 0 where
   pub serial : ℕ
   pub place : ℕ
   pub sent : ℕ
   pub owed : host.stage ≡ Answering serial place sent
-  pub refuses : Refuses before after serial said.size out said.stage
+  pub refuses : Refuses before after serial size out stage
 
 abbrev pub RefusedAs : (old : Host) → (before after size : ℕ) → (out : List ℕ) → (new : Host) → Type 0
-RefusedAs old before after size out new = Refused old before after (record { size = size; stage = new.stage }) out
+RefusedAs old before after size out new = Refused old before after size out new.stage
 
 -- the next of the frames was said
 abbrev pub SaysAs : (new : Host) → (file : List ℕ) → (owed : List Frame) → Stand → (size : ℕ) → (out : List ℕ) → Type 0

@@ -2,8 +2,10 @@ pub mod RowBytes
 pub mod FormViews
 pub mod Gathering
 pub mod Saying
+pub mod Steps
 pub mod Replies
 pub mod Holdings
 pub mod Taken
 pub mod Hosts
 pub mod Checked
+pub mod Sessions

@@ -16,6 +16,9 @@ mod places;
 mod reply;
 mod saying;
 pub mod serving;
+pub mod session;
+#[cfg(test)]
+mod session_tests;
 mod stage;
 #[cfg(test)]
 mod tests;
@@ -23,3 +26,4 @@ mod turning;
 
 pub use host::Host;
 pub use serving::BeginFault;
+pub use session::Served;

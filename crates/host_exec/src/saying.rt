@@ -1,14 +1,15 @@
 //! The frames that a host says.
 
-ghost use Rattle.std.specs.Prelude.{◌≡◌, ◌≤◌, ◌<◌, ◌+◌, ◌*◌, ◌/◌, ◌^◌, ℕ, List, Some, length, take, drop, IfOk, ◌⊎◌};
+ghost use Rattle.std.specs.Prelude.{◌≡◌, ◌≤◌, ◌<◌, ◌+◌, ◌*◌, ◌/◌, ◌^◌, ℕ, List, Some, length, take, drop, IfOk, ◌⊎◌, MatchBool, true, false};
 ghost use Rattle.ghost_model.specs.Catalog.{catalog_bytes};
-ghost use Rattle.ghost_model.specs.Causes.{HasCause};
+ghost use Rattle.ghost_model.specs.Causes.{HasCause, Rose};
 ghost use Rattle.ghost_model.specs.Channel as channel;
 ghost use Rattle.ghost_model.specs.Frames.{frame_bytes};
 ghost use Rattle.ghost_model.specs.Host as host;
 ghost use Rattle.edge_traits.specs.Files.{file_of};
 ghost use Rattle.host_exec.specs.Saying as saying;
 ghost use Rattle.host_exec.specs.Replies.{source_of};
+ghost use Rattle.host_exec.specs.Steps.{steps_left};
 
 use crate::gathering::{Batch, gather};
 use crate::reply::Reply;
@@ -27,6 +28,8 @@ pub fn say_part(catalog: &Catalog, at: usize, out: &mut [u8]) -> Said
     requires room { 2048 ≤ length out.old }
     ensures within { (rows : ℕ) → saying.IsWithin (length (catalog_bytes catalog.now)) rows result.stage }
     ensures short { result.size ≤ 2048 }
+    ensures fewer { steps_left (length (catalog_bytes catalog.now)) result.stage < steps_left (length (catalog_bytes catalog.now)) (Stage.Welcoming at) }
+    ensures granted { result.refused ≡ false }
     ensures said { (source : saying.Source) (owed : List channel.Frame) (stand : host.Stand)
         → saying.Stands (catalog_bytes catalog.now) source (Stage.Welcoming at) owed stand
         → saying.Says (catalog_bytes catalog.now) source owed stand result.size out.new result.stage }
@@ -41,12 +44,14 @@ pub fn say_part(catalog: &Catalog, at: usize, out: &mut [u8]) -> Said
         Said {
             size,
             stage: Stage::Welcoming { at: end },
+            refused: false,
         }
     } else {
         let size = put_frame(&Frame::Welcome { last: 1, part }, out);
         Said {
             size,
             stage: Stage::Listening { next: 1 },
+            refused: false,
         }
     }
 }
@@ -69,6 +74,8 @@ fn say_rows<D: Depot>(
     ensures same { D.contents depot.new ≡ D.contents depot.old }
     ensures within { (catalog : ℕ) → 0 < catalog → IfOk result (λ said. saying.IsWithin catalog reply.now.rows said.stage) }
     ensures short { IfOk result (λ said. said.size ≤ 2048) }
+    ensures fewer { (catalog : ℕ) → IfOk result (λ said. steps_left catalog said.stage < steps_left catalog (Stage.Answering serial place sent)) }
+    ensures granted { IfOk result (λ said. said.refused ≡ false) }
     ensures said { (catalog file : List ℕ) (owed : List channel.Frame) (stand : host.Stand) → file_of (D.contents depot.old) name.now ≡ Some file
         → saying.Stands catalog (source_of reply.now file) (Stage.Answering serial place sent) owed stand
         → IfOk result (λ said. saying.Says catalog (source_of reply.now file) owed stand said.size out.new said.stage) }
@@ -97,6 +104,7 @@ fn say_rows<D: Depot>(
             stage: Stage::Listening {
                 next: serial as u64 + 1,
             },
+            refused: false,
         });
     }
     let size = put_frame(
@@ -113,6 +121,7 @@ fn say_rows<D: Depot>(
             place: next,
             sent: sent + batch.rows,
         },
+        refused: false,
     })
 }
 
@@ -122,6 +131,7 @@ fn say_sorry(serial: u32, out: &mut [u8]) -> Said
     ensures spelled { take result.size out.new ≡ frame_bytes (channel.Sorry serial 1) }
     ensures ended { result.stage ≡ Stage.Listening (serial + 1) }
     ensures short { result.size ≤ 2048 }
+    ensures refused { result.refused ≡ true }
 {
     let size = put_frame(&Frame::Sorry { serial, code: 1 }, out);
     Said {
@@ -129,6 +139,7 @@ fn say_sorry(serial: u32, out: &mut [u8]) -> Said
         stage: Stage::Listening {
             next: serial as u64 + 1,
         },
+        refused: true,
     }
 }
 
@@ -150,6 +161,8 @@ pub fn say_reply<D: Depot>(
     ensures same { D.contents depot.new ≡ D.contents depot.old }
     ensures within { (catalog : ℕ) → 0 < catalog → saying.IsWithin catalog reply.now.rows result.stage }
     ensures short { result.size ≤ 2048 }
+    ensures fewer { (catalog : ℕ) → steps_left catalog result.stage < steps_left catalog (Stage.Answering serial place sent) }
+    ensures told { MatchBool result.refused (Rose (D.faults depot.old) (D.faults depot.new)) (D.faults depot.new ≡ D.faults depot.old) }
     ensures said { saying.Refuses (D.faults depot.old) (D.faults depot.new) serial result.size out.new result.stage
         ⊎ ((D.faults depot.new ≡ D.faults depot.old) × ((catalog file : List ℕ) (owed : List channel.Frame) (stand : host.Stand) → file_of (D.contents depot.old) name.now ≡ Some file
         → saying.Stands catalog (source_of reply.now file) (Stage.Answering serial place sent) owed stand

@@ -9,7 +9,8 @@ ghost use Rattle.ghost_model.specs.Causes.{Rose};
 ghost use Rattle.host_exec.specs.Holdings.{AreStarts};
 ghost use Rattle.host_exec.specs.Checked.{IsImage, IsNoImage};
 ghost use Rattle.host_exec.specs.Saying as saying;
-ghost use Rattle.host_exec.specs.Hosts.{Holds, StandsAs, IsSameHost, IsAnswered, Refused, RefusedAs, SaysAs, name_of};
+ghost use Rattle.host_exec.specs.Steps.{steps_left};
+ghost use Rattle.host_exec.specs.Hosts.{Holds, StandsAs, IsSameHost, IsAnswered, Refused, RefusedAs, SaysAs, name_of, steps_of};
 ghost use Rattle.host_exec.specs.Replies.{source_of};
 ghost use Rattle.ghost_model.specs.Catalog.{catalog_bytes};
 
@@ -80,6 +81,7 @@ impl Host {
         requires none { saying.turned self.old.stage (frame_view frame.now) ≡ None }
         ensures same { IsSameHost self.old self.new }
         ensures kept { result ≡ false → self.new ≡ self.old }
+        ensures fewer { result ≡ true → steps_of self.new < steps_of self.old }
         ensures answered { (held : Holding) (file : List ℕ) (stand : Stand) → Holds held file self.old → StandsAs self.old file [] stand
             → MatchBool result (IsAnswered held file stand (frame_view frame.now) self.new) (answer_to held stand (frame_view frame.now) ≡ None) }
     {
@@ -110,6 +112,8 @@ impl Host {
         ensures same { IsSameHost self.old self.new }
         ensures kept { result ≡ false → self.new ≡ self.old }
         ensures busy { saying.owes self.old.stage ≡ true → result ≡ false }
+        ensures fewer { result ≡ true → steps_of self.new < steps_of self.old }
+        ensures silent { (file : List ℕ) (stand : Stand) → StandsAs self.old file [] stand → saying.owes self.old.stage ≡ false }
         ensures answered { (held : Holding) (file : List ℕ) (stand : Stand) → Holds held file self.old → saying.owes self.old.stage ≡ false
             → StandsAs self.old file [] stand
             → MatchBool result (IsAnswered held file stand (frame_view frame.now) self.new) (answer_to held stand (frame_view frame.now) ≡ None) }
@@ -127,7 +131,7 @@ impl Host {
     }
 
     /// Says the next frame, if there is one to say.
-    fn say_next<D: Depot>(&self, depot: &mut D, out: &mut [u8]) -> Option<Said>
+    pub(crate) fn say_next<D: Depot>(&self, depot: &mut D, out: &mut [u8]) -> Option<Said>
         requires room { 2048 ≤ length out.old }
         ensures owed { is_some result ≡ saying.owes self.now.stage }
         ensures never_falls { D.faults depot.old ≤ D.faults depot.new }
@@ -136,7 +140,9 @@ impl Host {
         ensures none { IfNone result (D.faults depot.new ≡ D.faults depot.old) }
         ensures short { IfSome result (λ said. said.size ≤ 2048) }
         ensures within { IfSome result (λ said. saying.IsWithin (length (catalog_bytes self.now.catalog)) self.now.reply.rows said.stage) }
-        ensures said { IfSome result (λ said. Refused self.now (D.faults depot.old) (D.faults depot.new) said out.new
+        ensures fewer { IfSome result (λ said. steps_left (length (catalog_bytes self.now.catalog)) said.stage < steps_of self.now) }
+        ensures told { IfSome result (λ said. MatchBool said.refused (Rose (D.faults depot.old) (D.faults depot.new)) (D.faults depot.new ≡ D.faults depot.old)) }
+        ensures said { IfSome result (λ said. Refused self.now (D.faults depot.old) (D.faults depot.new) said.size out.new said.stage
             ⊎ ((D.faults depot.new ≡ D.faults depot.old) × ((file : List ℕ) (owed : List channel.Frame) (stand : Stand)
             → file_of (D.contents depot.old) (name_of self.now) ≡ Some file → StandsAs self.now file owed stand
             → saying.Says (catalog_bytes self.now.catalog) (source_of self.now.reply file) owed stand said.size out.new said.stage))) }
@@ -166,10 +172,12 @@ impl Host {
         ensures same { IsSameHost self.old self.new }
         ensures owed { is_some result ≡ saying.owes self.old.stage }
         ensures none { IfNone result (self.new ≡ self.old) }
+        ensures nothing { IfNone result ((file : List ℕ) (owed : List channel.Frame) (stand : Stand) → StandsAs self.old file owed stand → owed ≡ []) }
         ensures never_falls { D.faults depot.old ≤ D.faults depot.new }
         ensures appends { D.append_faults depot.new ≡ D.append_faults depot.old }
         ensures depot { D.contents depot.new ≡ D.contents depot.old }
         ensures short { IfSome result (λ size. size ≤ 2048) }
+        ensures fewer { IfSome result (λ size. steps_of self.new < steps_of self.old) }
         ensures said { IfSome result (λ size. RefusedAs self.old (D.faults depot.old) (D.faults depot.new) size out.new self.new
             ⊎ ((D.faults depot.new ≡ D.faults depot.old) × ((file : List ℕ) (owed : List channel.Frame) (stand : Stand)
             → file_of (D.contents depot.old) (name_of self.old) ≡ Some file → StandsAs self.old file owed stand

@@ -17,9 +17,10 @@ pub enum Stage {
     Over,
 }
 
-/// A frame that was said: its bytes, and where the host then stands.
+/// A frame that was said: its bytes, where the host then stands, and whether it refuses to go on with a reply.
 #[derive(Clone, Copy, Debug)]
 pub struct Said {
     pub size: usize,
     pub stage: Stage,
+    pub refused: bool,
 }

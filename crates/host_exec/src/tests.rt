@@ -8,7 +8,7 @@ use edge_traits::mem_depot::{MemDepot, Room};
 use std::alloc::{AllocError, Global};
 
 /// The visible image: the catalog in 365 bytes, and the cells of 3 doctors, 2 patients and 4 visits.
-const IMAGE: &[u8] =
+pub(crate) const IMAGE: &[u8] =
     b"GHOSTDB\x01\0\0\0\x01\0\0\x01\x51CREATE TABLE doctor (id INTEGER PRIMARY KEY, specialty CHAR(8), country CHAR(2) HIDDEN);\nCREATE TABLE patient (id INTEGER PRIMARY KEY, age INTEGER, name CHAR(8) HIDDEN);\nCREATE TABLE visit (id INTEGER PRIMARY KEY, day INTEGER, purpose CHAR(8) HIDDEN, doc INTEGER REFERENCES doctor(id) HIDDEN, pat INTEGER REFERENCES patient(id) HIDDEN);\n\0\0\0\x03\0\0\0\x02\0\0\0\x04cardio\0\0neuro\0\0\0cardio\0\0\x80\0\0\0\0\0\0\x1E\x80\0\0\0\0\0\0\x29\x80\0\0\0\0\0\0\x05\x80\0\0\0\0\0\0\x05\x80\0\0\0\0\0\0\x09\x80\0\0\0\0\0\0\x02";
 
 const HELLO: &[u8] = b"\x01\x01\0\x04\0\0\0\0\0\0\0\x01";
@@ -24,7 +24,7 @@ const MORE: &[u8] = b"\x03\x01\0\0\0\0\0\x01";
 const BYE: &[u8] = b"\x04\x01\0\0\0\0\0\0";
 
 /// A depot whose file `c` has these bytes.
-fn depot_of(alloc: Global, image: &[u8], fails: &[u64]) -> Result<MemDepot, AllocError> {
+pub(crate) fn depot_of(alloc: Global, image: &[u8], fails: &[u64]) -> Result<MemDepot, AllocError> {
     let room = Room {
         files: 1,
         name_bytes: 1,

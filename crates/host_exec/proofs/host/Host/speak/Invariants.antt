@@ -1,0 +1,21 @@
+use Rattle.std.proofs.Common.{◌≡◌, ◌≤◌, Some, MatchBool}
+use Rattle.ghost_model.specs.Causes.{Rose}
+use Rattle.edge_traits.specs.Files.{file_of}
+use Rattle.host_exec.specs.Hosts.{IsSameHost, StandsAs, name_of, steps_of}
+use Rattle.host_exec.proofs.Speaking.{SpeaksSoFar}
+use Rattle.host_exec.proofs.host.Host.speak.Given as goal
+
+abbrev pub invariant-frames : goal.invariant-frames
+invariant-frames g l = record {
+  same : IsSameHost l.fn.self l.self;
+  contents : g.D.Depot.contents l.depot ≡ g.D.Depot.contents l.fn.depot;
+  appends : g.D.Depot.append_faults l.depot ≡ g.D.Depot.append_faults l.fn.depot;
+  never_falls : g.D.Depot.faults l.fn.depot ≤ g.D.Depot.faults l.depot;
+  nearer : steps_of l.self ≤ steps_of l.fn.self;
+  told : MatchBool l.refused (Rose (g.D.Depot.faults l.fn.depot) (g.D.Depot.faults l.depot)) (g.D.Depot.faults l.depot ≡ g.D.Depot.faults l.fn.depot);
+  speaks : SpeaksSoFar (λ journal. g.L.Link.went l.fn.link journal l.link) (g.D.Depot.faults l.fn.depot) (g.D.Depot.faults l.depot)
+      (λ file owed stand. (file_of (g.D.Depot.contents l.fn.depot) (name_of l.fn.self) ≡ Some file) × StandsAs l.fn.self file owed stand) l.self;
+}
+
+abbrev pub decreases-frames : goal.decreases-frames
+decreases-frames g l = steps_of l.self

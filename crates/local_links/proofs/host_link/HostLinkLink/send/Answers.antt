@@ -1,0 +1,14 @@
+use Rattle.std.proofs.Common.{refl}
+use Rattle.local_links.proofs.HandedOut.{same_faults}
+use Rattle.local_links.proofs.host_link.HostLinkLink.send.Goals as goal
+
+pub returns-clause-moved : goal.returns-clause-moved
+returns-clause-moved g c = record {
+  between = _;
+  moved = record {
+    never_falls = same_faults g.D.Depot.faults c.args.self.now.depot c.hear.new.self.depot c.hear.ensures.depot;
+    counted = c.hear.ensures.faults;
+    served = λ calm held desk at free. c.hear.ensures.heard held desk at free;
+  };
+  later = refl;
+}

@@ -1,0 +1,7 @@
+pub mod Serving
+pub mod Desks
+pub mod Links
+pub mod Journaling
+pub mod Keeping
+pub mod Appending
+pub mod Kept
