@@ -1,6 +1,6 @@
 //! The hidden part on the flash.
 
-ghost use Rattle.std.specs.Prelude.{◌≡◌, ◌<◌, ◌≤◌, ◌+◌, ℕ, true, Err, OnOk};
+ghost use Rattle.std.specs.Prelude.{◌≡◌, ◌<◌, ◌≤◌, ◌+◌, true, Err, OnOk};
 ghost use Rattle.ghost_model.specs.Flash.{HoldsColumns};
 ghost use Rattle.ghost_model.specs.Layout as layout;
 ghost use Rattle.ghost_model.specs.Work as work;

@@ -1,8 +1,5 @@
 //! Why a flash was not built.
 
-ghost use Rattle.std.specs.Prelude.{◌≡◌};
-ghost use Rattle.edge_traits.specs.declared.flash.AttachFault.TheVariants as attach;
-
 use thiserror::Error;
 
 /// Why the hidden part does not stand on the flash.

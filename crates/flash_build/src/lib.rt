@@ -6,6 +6,7 @@
 #![tactic(auto)]
 
 pub mod building;
+pub mod catalogs;
 mod columns;
 pub mod faults;
 pub mod loading;
@@ -13,7 +14,11 @@ pub mod sealing;
 mod source;
 
 pub use building::build;
+pub use catalogs::catalog_of;
 pub use faults::BuildFault;
 pub use loading::{load_flash, make_and_build};
 pub use sealing::seal;
 
+
+#[cfg(test)]
+mod tests;

@@ -1,6 +1,6 @@
 //! The catalog on the public pages.
 
-ghost use Rattle.std.specs.Prelude.{◌≡◌, ◌<◌, ◌≤◌, ◌+◌, ◌-◌, ℕ, true, false, OnOk, OnErr};
+ghost use Rattle.std.specs.Prelude.{◌≡◌, ◌<◌, ◌≤◌, ◌+◌, ◌-◌, true, false, OnOk, OnErr};
 ghost use Rattle.ghost_model.specs.Causes.{HasCause};
 ghost use Rattle.ghost_model.specs.Flash.{HoldsCatalog, HoldsColumns, catalog_page};
 ghost use Rattle.ghost_model.specs.Layout as layout;
@@ -13,8 +13,7 @@ use edge_traits::Failed;
 use edge_traits::flash::{Flash, PAGE_BYTES};
 use flash_layout::limits::a_catalog_has_a_layout;
 use flash_layout::pages;
-use tree_schema::catalog_bytes::{catalog_len, catalog_part};
-use tree_schema::Catalog;
+use tree_schema::{Catalog, catalog_len, catalog_part};
 
 /// The number of pages that hold a byte of the catalog.
 fn catalog_pages(cat: &Catalog) -> u32
