@@ -1,7 +1,7 @@
 -- The public pages: their bytes, those that hold none of the catalog's, and what is written so far.
 use Rattle.std.proofs.Common.{◌≡◌, refl, ap, sym, ◌∙◌, subst, ℕ, ◌+◌, ◌-◌, ◌*◌, ◌/◌, ◌<◌, ◌≤◌, min, Bool, true, zero, suc, inl, inr, List, [], ◌++◌, length, take, drop, replicate, get_or, flat_map, arith, Result, Ok, Err, OnOk}
 use Rattle.std.proofs.lemmas.Bool.{cases_lt}
-use Rattle.std.proofs.lemmas.List.{take-append-drop, take_all, drop_all, drop-replicate, length-drop, length-take}
+use Rattle.std.proofs.lemmas.List.{take-append-drop, take_min, drop_all, drop-replicate, length-drop, length-take}
 use Rattle.ghost_model.specs.Channel.{Catalog}
 use Rattle.ghost_model.specs.Catalog.{catalog_bytes}
 use Rattle.ghost_model.specs.Flash.{catalog_part, catalog_page}
@@ -12,21 +12,22 @@ use Rattle.edge_traits.proofs.DeviceFrames.{changes_trans, changes_wider, counts
 use Rattle.flash_build.specs.Sealing.{HoldsFrom, SpellsNoCatalog, public_bytes}
 
 -- a page of some bytes at its front and 0xFF after them
-pub whole_page :
-    (bytes out : List ℕ) (at n : ℕ) → length out ≡ 2048 → n ≡ min 2048 (length bytes - at)
-    → take n out ≡ take n (drop at bytes) → drop n out ≡ drop n (replicate 2048 255)
-    → out ≡ take 2048 (drop at bytes) ++ replicate (2048 - length (take 2048 (drop at bytes))) 255
-whole_page bytes out at n size is front rest =
-    let left = length-drop at bytes in
-    let same : take n (drop at bytes) ≡ take 2048 (drop at bytes) =
-        elim (cases_lt (length bytes - at) 2048) [
-          | inl short ↦ take_all n (drop at bytes) (omega (arith, is, left)) ∙ sym (take_all 2048 (drop at bytes) (omega (arith, left)))
-          | inr long ↦ let e : n ≡ 2048 = omega (arith, is) in ap (λ k. take k (drop at bytes)) e
-        ] in
-    let count : n ≡ length (take 2048 (drop at bytes)) = omega (arith, is, left, length-take 2048 (drop at bytes)) in
+front_and_rest :
+    (left out : List ℕ) (n : ℕ) → n ≡ min 2048 (length left) → take n out ≡ take n left → drop n out ≡ drop n (replicate 2048 255)
+    → out ≡ take 2048 left ++ replicate (2048 - length (take 2048 left)) 255
+front_and_rest left out n is front rest =
+    let same : take n left ≡ take 2048 left = ap (λ k. take k left) is ∙ take_min 2048 left in
+    let count : n ≡ length (take 2048 left) = is ∙ sym (length-take 2048 left) in
     sym (take-append-drop n out)
     ∙ (ap (λ xs. xs ++ drop n out) (front ∙ same)
-    ∙ ap (λ xs. take 2048 (drop at bytes) ++ xs) (rest ∙ (drop-replicate n 2048 255 ∙ ap (λ k. replicate (2048 - k) 255) count)))
+    ∙ ap (λ xs. take 2048 left ++ xs) (rest ∙ (drop-replicate n 2048 255 ∙ ap (λ k. replicate (2048 - k) 255) count)))
+
+pub whole_page :
+    (bytes out : List ℕ) (at n : ℕ) → n ≡ min 2048 (length bytes - at)
+    → take n out ≡ take n (drop at bytes) → drop n out ≡ drop n (replicate 2048 255)
+    → out ≡ take 2048 (drop at bytes) ++ replicate (2048 - length (take 2048 (drop at bytes))) 255
+whole_page bytes out at n is front rest =
+    front_and_rest (drop at bytes) out n (is ∙ ap (λ k. min 2048 k) (sym (length-drop at bytes))) front rest
 
 -- behind the catalog's bytes
 pub blank_place : (cat : Catalog) (place : ℕ) → catalog_pages cat ≤ place → replicate 2048 255 ≡ catalog_page cat place
