@@ -1,14 +1,14 @@
 -- The public pages: their bytes, those that hold none of the catalog's, and what is written so far.
-use Rattle.std.proofs.Common.{◌≡◌, refl, ap, sym, ◌∙◌, subst, ℕ, ◌+◌, ◌-◌, ◌*◌, ◌/◌, ◌<◌, ◌≤◌, min, Bool, true, zero, suc, inl, inr, List, [], ◌++◌, length, take, drop, replicate, get_or, flat_map, arith, Result, Ok, Err, OnOk}
+use Rattle.std.proofs.Common.{◌≡◌, ap, sym, ◌∙◌, subst, ℕ, ◌+◌, ◌-◌, ◌*◌, ◌<◌, ◌≤◌, min, Bool, true, zero, suc, inl, inr, List, [], ◌++◌, length, take, drop, replicate, get_or, flat_map, arith, Result, Ok, Err, OnOk}
 use Rattle.std.proofs.lemmas.Bool.{cases_lt}
 use Rattle.std.proofs.lemmas.List.{take-append-drop, take_min, drop_all, drop-replicate, length-drop, length-take}
 use Rattle.ghost_model.specs.Channel.{Catalog}
 use Rattle.ghost_model.specs.Catalog.{catalog_bytes}
-use Rattle.ghost_model.specs.Flash.{catalog_part, catalog_page}
+use Rattle.ghost_model.specs.Flash.{catalog_page}
 use Rattle.ghost_model.specs.Layout.{below, public_pages}
 use Rattle.ghost_model.specs.Work.{catalog_pages}
-use Rattle.edge_traits.specs.Devices.{Device, Counts, ChangesOnly, IsErased}
-use Rattle.edge_traits.proofs.DeviceFrames.{changes_trans, changes_wider, counts_more}
+use Rattle.edge_traits.specs.Devices.{Device, Counts, ChangesOnly}
+use Rattle.edge_traits.proofs.DeviceFrames.{changes_trans, changes_wider}
 use Rattle.flash_build.specs.Sealing.{HoldsFrom, SpellsNoCatalog, public_bytes}
 
 -- a page of some bytes at its front and 0xFF after them

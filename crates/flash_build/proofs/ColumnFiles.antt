@@ -1,5 +1,5 @@
 -- Column files one after another: what stands, what changed, and what is left to fill.
-use Rattle.std.proofs.Common.{◌≡◌, refl, ap, sym, ◌∙◌, subst, ℕ, suc, ◌+◌, ◌-◌, ◌*◌, ◌/◌, ◌^◌, ◌<◌, ◌≤◌, Bool, true, false, inl, inr, List, length, sum_by, arith}
+use Rattle.std.proofs.Common.{◌≡◌, refl, ap, sym, ◌∙◌, subst, ℕ, ◌+◌, ◌-◌, ◌^◌, ◌<◌, ◌≤◌, Bool, true, false, inl, inr, List, length, sum_by, arith}
 use Rattle.std.specs.Prelude.{if◌then◌else◌}
 use Rattle.std.proofs.lemmas.Bool.{cases_lt}
 use Rattle.std.proofs.lemmas.Nat.{le-div}
@@ -10,11 +10,11 @@ use Rattle.ghost_model.specs.Layout as layout
 use Rattle.ghost_model.specs.Layout.{below, is_hidden, column_file, column_pages, column_pages_before, columns_pages, table_begin, files_end, public_pages}
 use Rattle.ghost_model.specs.LayoutLaws.{LieInOrder, AreNarrow, SumsByPlace}
 use Rattle.ghost_model.specs.Flash.{hidden_cells}
-use Rattle.edge_traits.specs.Devices.{Device, Counts, KeepsPages, SamePage, ChangesOnly}
-use Rattle.edge_traits.proofs.DeviceFrames.{same_trans, changes_trans, changes_wider, changes_joined, counts_more, counts_none}
+use Rattle.edge_traits.specs.Devices.{Device, Counts, ChangesOnly}
+use Rattle.edge_traits.proofs.DeviceFrames.{same_trans, changes_wider, changes_joined, counts_more}
 use Rattle.flash_pages.specs.Filling.{CanFill}
 use Rattle.flash_pages.proofs.RunFrames.{stores_below, can_fill_part, can_fill_kept}
-use Rattle.flash_build.specs.Building.{IsBlank, StandsIn, IsBeside, ChangesColumns}
+use Rattle.flash_build.specs.Building.{IsBlank, ChangesColumns}
 
 -- a statement on the numbers below one more
 pub below_next : (P : ℕ → Type 0) (n : ℕ) → ((k : ℕ) → k < n → P k) → P n → (k : ℕ) → k < n + 1 → P k
@@ -216,8 +216,10 @@ pub can_as : {device : Device} {first pages begin size : ℕ} → first ≡ begi
 can_as {device = device} {pages = pages} {begin = begin} is same can =
     subst (λ n. CanFill device begin n) same (subst (λ f. CanFill device f pages) is can)
 
-pub pages_as :
-    (cat : Catalog) (table column : ℕ) {count width : ℕ} → is_hidden cat.schema table column ≡ true → count ≡ layout.count_of cat table
-    → width ≡ layout.width_at cat.schema table column → pages_of count width ≡ column_pages cat table column
-pages_as cat table column {width = width} h is same =
-    ap (λ n. pages_of n width) is ∙ (ap (λ w. pages_of (layout.count_of cat table) w) same ∙ sym (pages_of_file cat table column h))
+-- the pages of so many records of a column file's run
+pub pages_of_run :
+    (cat : Catalog) (table column : ℕ) {run : Run} {count : ℕ} → is_hidden cat.schema table column ≡ true
+    → run ≡ column_file cat table column → count ≡ layout.count_of cat table → pages_of count run.width ≡ column_pages cat table column
+pages_of_run cat table column {run = run} h is same =
+    ap (λ n. pages_of n run.width) same
+    ∙ (ap (λ (r : Run). pages_of (layout.count_of cat table) r.width) is ∙ sym (pages_of_file cat table column h))

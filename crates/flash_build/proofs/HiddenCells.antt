@@ -1,5 +1,5 @@
 -- The cells of a hidden column are those of the values at its place among the hidden ones, which are of its kind.
-use Rattle.std.proofs.Common.{◌≡◌, refl, ap, sym, ◌∙◌, subst, ℕ, suc, ◌+◌, ◌<◌, ◌≤◌, Bool, true, false, List, [], length, map, get_or, Option, Some, None, slice_get, option_and_then, arith}
+use Rattle.std.proofs.Common.{◌≡◌, refl, ap, sym, ◌∙◌, subst, ℕ, suc, ◌+◌, ◌<◌, ◌≤◌, true, List, [], length, map, get_or, Option, Some, None, slice_get, option_and_then, arith}
 use Rattle.std.specs.Prelude.{IsTrue}
 use Rattle.std.proofs.lemmas.Option.{slice_get-get_or}
 use Rattle.std.proofs.lemmas.List.{get_or-map, length-map}
@@ -13,7 +13,7 @@ use Rattle.ghost_model.specs.Asks.{kind_or_none, kind_at}
 use Rattle.ghost_model.specs.Split as split
 use Rattle.ghost_model.specs.Split.{Hidden}
 use Rattle.ghost_model.specs.Replies.{hidden_places}
-use Rattle.ghost_model.specs.Layout.{hidden_or_none, is_hidden, width_or_none, width_at}
+use Rattle.ghost_model.specs.Layout.{hidden_or_none, is_hidden, width_or_none}
 use Rattle.ghost_model.specs.LayoutLaws.{AreNarrow}
 use Rattle.ghost_model.specs.Flash.{IsHidden, cell_or_none, hidden_cells}
 use Rattle.ghost_model.specs.FlashLaws.{hidden_before, CellsFit, HiddenValuesByPlace, HiddenValuesOfDatabases, HiddenPartsGoWithCatalogs, HiddenCellsFit}
@@ -44,11 +44,11 @@ of_kind cat hidden tree narrow by_place of_databases is table column h =
       each = λ identifier value found.
           let rows = rows_of hidden.hidden table in
           let by_columns =
-              of_rows (λ row. split.value_at (hidden_places cat.schema table) row column) (λ row. slice_get row (hidden_before cat.schema table column))
-              (row_numbered rows identifier) (λ row. by_place cat.schema tree table column h row) in
+          of_rows (λ row. split.value_at (hidden_places cat.schema table) row column) (λ row. slice_get row (hidden_before cat.schema table column))
+          (row_numbered rows identifier) (λ row. by_place cat.schema tree table column h row) in
           let parts : hidden.hidden ≡ (split.hidden_of cat.schema is.database).hidden = ap (λ (p : Hidden). p.hidden) is.part in
           let same =
-              ap (λ tables. option_and_then (λ row. split.value_at (hidden_places cat.schema table) row column) (row_numbered (rows_of tables table) identifier)) parts in
+          ap (λ tables. option_and_then (λ row. split.value_at (hidden_places cat.schema table) row column) (row_numbered (rows_of tables table) identifier)) parts in
           let field = sym (of_databases cat.schema is.database tree is.proper table identifier column h) ∙ (sym same ∙ (by_columns ∙ found)) in
           subst (λ k. IsTrue (is_of_kind k value)) there.2 (is.proper.kinds table identifier column value there.0 field there.1);
     }

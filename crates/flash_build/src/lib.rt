@@ -19,6 +19,5 @@ pub use faults::BuildFault;
 pub use loading::{load_flash, make_and_build};
 pub use sealing::seal;
 
-
 #[cfg(test)]
 mod tests;

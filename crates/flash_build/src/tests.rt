@@ -130,10 +130,7 @@ fn the_clinic_stands_on_six_pages(rt: HostRuntime) -> Result<(), AllocError> {
         (0u32, CATALOG),
         (64, b"FRESES".as_slice()),
         (71, b"Ann\0\0\0\0\0Bob\0\0\0\0\0"),
-        (
-            78,
-            b"flu\0\0\0\0\0check\0\0\0flu\0\0\0\0\0flu\0\0\0\0\0",
-        ),
+        (78, b"flu\0\0\0\0\0check\0\0\0flu\0\0\0\0\0flu\0\0\0\0\0"),
         (
             79,
             b"\x80\0\0\0\0\0\0\x01\x80\0\0\0\0\0\0\x03\x80\0\0\0\0\0\0\x03\x80\0\0\0\0\0\0\x02",

@@ -1,4 +1,4 @@
-use Rattle.flash_build.proofs.ColumnFiles.{columns_within, can_fill_files}
+use Rattle.flash_build.proofs.ColumnFiles.{columns_within}
 use Rattle.flash_build.proofs.building.build.Goals as goal
 
 pub returns-in-Ok-clause-others : goal.returns-in-Ok-clause-others

@@ -1,4 +1,4 @@
-use Rattle.std.proofs.Common.{◌≡◌, ◌∙◌, ◌∷◌, [], ◌++◌, ◌<◌, ap, sym, subst, List, IsTrue, length, map, take, arith}
+use Rattle.std.proofs.Common.{◌∙◌, ◌∷◌, [], ◌++◌, ◌<◌, ap, sym, subst, List, IsTrue, length, take, arith}
 use Rattle.std.proofs.lemmas.Bool.{le-leb}
 use Rattle.std.proofs.lemmas.List.{take_more, take_all, length-map}
 use Rattle.ghost_model.specs.Database.{row_counts}
@@ -14,7 +14,7 @@ loop-table-preserved c =
     let table = c.loop-table.table in
     let counts = row_counts tables in
     let less : table < length counts =
-        omega (arith, c.loop-table-test.true, c.tables-table-end.ensures.count, c.requires, length-map tables length) in
+    omega (arith, c.loop-table-test.true, c.tables-table-end.ensures.count, c.requires, length-map tables length) in
     record {
       size = omega (arith, c.push.ensures.len, was.size);
       counts =

@@ -13,8 +13,8 @@ returns-in_err-write_table-clause-at_most g c =
     let cat = c.args.cat.now in
     let table = c.loop-table.table in
     let rise =
-        c.sums_by_place.ensures.rise (layout.columns_pages cat) (table + 1) (length cat.schema)
-        (omega (arith, c.loop-table-test.true, c.tables-table-end.ensures.count, ap length c.schema.ensures.value)) in
+    c.sums_by_place.ensures.rise (layout.columns_pages cat) (table + 1) (length cat.schema)
+    (omega (arith, c.loop-table-test.true, c.tables-table-end.ensures.count, ap length c.schema.ensures.value)) in
     let next = c.sums_by_place.ensures.next (layout.columns_pages cat) table in
     let was = c.loop-table.invariant.exact.most in
     omega (arith, was, rise, next, c.in_err-write_table.ensures.at_most)

@@ -1,4 +1,4 @@
-use Rattle.std.proofs.Common.{◌≡◌, ◌∙◌, ◌+◌, ◌<◌, ap, subst, arith}
+use Rattle.std.proofs.Common.{◌≡◌, ◌∙◌, ◌+◌, ap, subst, arith}
 use Rattle.edge_traits.specs.Devices.{ChangesOnly}
 use Rattle.edge_traits.proofs.DeviceFrames.{changes_wider}
 use Rattle.ghost_model.specs.Layout as layout
@@ -15,8 +15,8 @@ returns-in_err-write_column-clause-others g c =
     let cat = c.args.cat.now in
     let column = c.loop-column.column in
     let rise =
-        c.sums_by_place.ensures.rise (layout.column_pages cat c.args.table) (column + 1) (layout.column_count cat.schema c.args.table)
-        (omega (arith, c.loop-column-test.true, c.columns-column-end.ensures, ap (λ s. layout.column_count s c.args.table) c.schema.ensures.value)) in
+    c.sums_by_place.ensures.rise (layout.column_pages cat c.args.table) (column + 1) (layout.column_count cat.schema c.args.table)
+    (omega (arith, c.loop-column-test.true, c.columns-column-end.ensures, ap (λ s. layout.column_count s c.args.table) c.schema.ensures.value)) in
     changes_wider
     (changed_more c.args.table column c.a_catalog_has_a_layout.ensures.layout.order c.loop-column.invariant.others c.in_err-write_column.ensures.others)
     (layout.table_begin cat c.args.table) (layout.table_begin cat c.args.table + layout.columns_pages cat c.args.table)
@@ -27,8 +27,8 @@ returns-in_err-write_column-clause-at_most g c =
     let cat = c.args.cat.now in
     let column = c.loop-column.column in
     let rise =
-        c.sums_by_place.ensures.rise (layout.column_pages cat c.args.table) (column + 1) (layout.column_count cat.schema c.args.table)
-        (omega (arith, c.loop-column-test.true, c.columns-column-end.ensures, ap (λ s. layout.column_count s c.args.table) c.schema.ensures.value)) in
+    c.sums_by_place.ensures.rise (layout.column_pages cat c.args.table) (column + 1) (layout.column_count cat.schema c.args.table)
+    (omega (arith, c.loop-column-test.true, c.columns-column-end.ensures, ap (λ s. layout.column_count s c.args.table) c.schema.ensures.value)) in
     let next = c.a_catalog_has_a_layout.ensures.layout.order.next_column c.args.table column in
     let was = c.loop-column.invariant.exact.most in
     omega (arith, was, rise, next, c.in_err-write_column.ensures.at_most)
@@ -58,7 +58,7 @@ pub returns-clause-others : goal.returns-clause-others
 returns-clause-others g c =
     let cat = c.args.cat.now in
     let all : c.loop-column.column ≡ layout.column_count cat.schema c.args.table =
-        omega (arith, c.columns-column-end.ensures, ap (λ s. layout.column_count s c.args.table) c.schema.ensures.value, c.loop-column.auto.column-end, c.loop-column-test.false) in
+    omega (arith, c.columns-column-end.ensures, ap (λ s. layout.column_count s c.args.table) c.schema.ensures.value, c.loop-column.auto.column-end, c.loop-column-test.false) in
     subst
     (λ n. ChangesOnly (layout.table_begin cat c.args.table) (layout.table_begin cat c.args.table + layout.column_pages_before cat c.args.table n)
     (g.F.Flash.state c.args.flash.now) (g.F.Flash.state c.loop-column.flash))

@@ -1,4 +1,3 @@
-use Rattle.std.proofs.Common.{◌-◌}
 use Rattle.flash_build.proofs.CatalogPages.{LaterPages}
 use Rattle.flash_build.proofs.sealing.write_later_pages.Given as goal
 
