@@ -1,0 +1,99 @@
+-- The cells of a hidden column are those of the values at its place among the hidden ones, which are of its kind.
+use Rattle.std.proofs.Common.{◌≡◌, refl, ap, sym, ◌∙◌, subst, ℕ, suc, ◌+◌, ◌<◌, ◌≤◌, true, List, [], length, map, get_or, Option, Some, None, slice_get, option_and_then, arith}
+use Rattle.std.specs.Prelude.{IsTrue}
+use Rattle.std.proofs.lemmas.Option.{slice_get-get_or}
+use Rattle.std.proofs.lemmas.List.{get_or-map, length-map}
+use Rattle.ghost_model.specs.Schema.{Schema, Column, Kind, column_at}
+use Rattle.ghost_model.specs.Values.{Value, Row, Rows}
+use Rattle.ghost_model.specs.Channel.{Catalog}
+use Rattle.ghost_model.specs.SchemaTrees.{IsTree}
+use Rattle.ghost_model.specs.Database.{rows_of, row_numbered, is_of_kind}
+use Rattle.ghost_model.specs.Cells.{cell_width}
+use Rattle.ghost_model.specs.Asks.{kind_or_none, kind_at}
+use Rattle.ghost_model.specs.Split as split
+use Rattle.ghost_model.specs.Split.{Hidden}
+use Rattle.ghost_model.specs.Replies.{hidden_places}
+use Rattle.ghost_model.specs.Layout.{hidden_or_none, is_hidden, width_or_none}
+use Rattle.ghost_model.specs.LayoutLaws.{AreNarrow}
+use Rattle.ghost_model.specs.Flash.{IsHidden, cell_or_none, hidden_cells}
+use Rattle.ghost_model.specs.FlashLaws.{hidden_before, CellsFit, HiddenValuesByPlace, HiddenValuesOfDatabases, HiddenPartsGoWithCatalogs, HiddenCellsFit}
+use Rattle.flash_build.specs.Building.{IsHiddenPart}
+use Rattle.flash_build.specs.Cells.{AreOfKind, cell_at, cells_at, value_at}
+
+-- a hidden column is there
+declared : (o : Option Column) → hidden_or_none o ≡ true → (held : Column) × (o ≡ Some held) × (held.kind ≡ kind_or_none o)
+declared None h = absurd (cc (h))
+declared (Some held) h = (held, refl, refl)
+
+width_of_kind : (o : Option Column) → cell_width (kind_or_none o) ≡ width_or_none o
+width_of_kind None = refl
+width_of_kind (Some column) = refl
+
+of_rows : (f g : Row → Option Value) (o : Option Row) → ((row : Row) → f row ≡ g row) → option_and_then f o ≡ option_and_then g o
+of_rows f g None same = refl
+of_rows f g (Some row) same = same row
+
+pub of_kind :
+    (cat : Catalog) (hidden : Hidden) → IsTree cat.schema → AreNarrow cat → HiddenValuesByPlace → HiddenValuesOfDatabases
+    → IsHiddenPart cat hidden → (table column : ℕ) → is_hidden cat.schema table column ≡ true
+    → AreOfKind (kind_at cat.schema table column) (hidden_before cat.schema table column) (rows_of hidden.hidden table)
+of_kind cat hidden tree narrow by_place of_databases is table column h =
+    let there = declared (column_at cat.schema table column) h in
+    record {
+      narrow = subst (λ n. n ≤ 64) (sym (width_of_kind (column_at cat.schema table column))) (narrow.most table column);
+      each = λ identifier value found.
+          let rows = rows_of hidden.hidden table in
+          let by_columns =
+          of_rows (λ row. split.value_at (hidden_places cat.schema table) row column) (λ row. slice_get row (hidden_before cat.schema table column))
+          (row_numbered rows identifier) (λ row. by_place cat.schema tree table column h row) in
+          let parts : hidden.hidden ≡ (split.hidden_of cat.schema is.database).hidden = ap (λ (p : Hidden). p.hidden) is.part in
+          let same =
+          ap (λ tables. option_and_then (λ row. split.value_at (hidden_places cat.schema table) row column) (row_numbered (rows_of tables table) identifier)) parts in
+          let field = sym (of_databases cat.schema is.database tree is.proper table identifier column h) ∙ (sym same ∙ (by_columns ∙ found)) in
+          subst (λ k. IsTrue (is_of_kind k value)) there.2 (is.proper.kinds table identifier column value there.0 field there.1);
+    }
+
+pub same_cells :
+    (schema : Schema) (hidden : Hidden) → IsTree schema → HiddenValuesByPlace → (table column : ℕ) → is_hidden schema table column ≡ true
+    → cells_at (kind_at schema table column) (hidden_before schema table column) (rows_of hidden.hidden table)
+    ≡ hidden_cells schema hidden table column
+same_cells schema hidden tree by_place table column h =
+    λ i. map (λ row. cell_or_none (kind_at schema table column) (sym (by_place schema tree table column h row) i)) (rows_of hidden.hidden table)
+
+-- the cell of a row by its number
+pub cell_of_row :
+    (kind : Kind) (place : ℕ) (rows : Rows) (i : ℕ) → i < length (cells_at kind place rows)
+    → get_or (cells_at kind place rows) i [] ≡ cell_or_none kind (value_at rows (i + 1) place)
+cell_of_row kind place rows i within =
+    let less : i < length rows = omega (arith, within, length-map rows (cell_at kind place)) in
+    let e : i + 1 ≡ suc i = omega arith in
+    get_or-map (cell_at kind place) rows i [] [] less
+    ∙ sym (ap (λ n. cell_or_none kind (value_at rows n place)) e
+    ∙ ap (λ o. cell_or_none kind (option_and_then (λ row. slice_get row place) o)) (slice_get-get_or rows i [] less))
+
+-- the source of a column file, as it is made: its kind and place under equations
+pub source_kinds :
+    {kind same_kind : Kind} {place same_place : ℕ} {rows : Rows} → kind ≡ same_kind → place ≡ same_place → AreOfKind same_kind same_place rows
+    → AreOfKind kind place rows
+source_kinds {kind = kind} {same_place = same_place} {rows = rows} is at are =
+    subst (λ p. AreOfKind kind p rows) (sym at) (subst (λ k. AreOfKind k same_place rows) (sym is) are)
+
+pub source_cells :
+    {kind same_kind : Kind} {place same_place : ℕ} {kept : List (List ℕ)} (rows : Rows) → kind ≡ same_kind → place ≡ same_place
+    → cells_at same_kind same_place rows ≡ kept → cells_at kind place rows ≡ kept
+source_cells {kind = kind} {same_place = same_place} rows is at same =
+    ap (λ p. cells_at kind p rows) at ∙ (ap (λ k. cells_at k same_place rows) is ∙ same)
+
+-- a hidden part's cells fit its catalog
+pub part_fits :
+    (cat : Catalog) (hidden : Hidden) → IsTree cat.schema → HiddenPartsGoWithCatalogs → HiddenCellsFit → IsHiddenPart cat hidden → CellsFit cat hidden
+part_fits cat hidden tree parts fit is =
+    fit cat hidden tree (subst (λ h. IsHidden cat h) (sym is.part) (parts cat is.database is.proper is.counted))
+
+pub cell_widths :
+    (cells kept : List (List ℕ)) (width : ℕ) → cells ≡ kept
+    → ((i : ℕ) (cell : List ℕ) → slice_get kept i ≡ Some cell → length cell ≡ width)
+    → (i : ℕ) → i < length cells → length (get_or cells i []) ≡ width
+cell_widths cells kept width same each =
+    subst (λ (cs : List (List ℕ)). (i : ℕ) → i < length cs → length (get_or cs i []) ≡ width) (sym same)
+    (λ i within. each i (get_or kept i []) (slice_get-get_or kept i [] within))

@@ -1,0 +1,3 @@
+pub mod HiddenCells
+pub mod ColumnFiles
+pub mod CatalogPages

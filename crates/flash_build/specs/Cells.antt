@@ -1,0 +1,21 @@
+-- The cells of a hidden column, as its values stand in the hidden part: at one place of each row.
+use Rattle.std.specs.Prelude.{◌≡◌, ℕ, ◌≤◌, List, map, Option, Some, option_and_then, slice_get, IsTrue}
+use Rattle.ghost_model.specs.Schema.{Kind}
+use Rattle.ghost_model.specs.Values.{Value, Row, Rows}
+use Rattle.ghost_model.specs.Database.{row_numbered, is_of_kind}
+use Rattle.ghost_model.specs.Cells.{cell_width}
+use Rattle.ghost_model.specs.Flash.{cell_or_none}
+
+abbrev pub cell_at : Kind → (place : ℕ) → Row → List ℕ
+cell_at kind place row = cell_or_none kind (slice_get row place)
+
+abbrev pub cells_at : Kind → (place : ℕ) → Rows → List (List ℕ)
+cells_at kind place rows = map (cell_at kind place) rows
+
+abbrev pub value_at : Rows → (identifier place : ℕ) → Option Value
+value_at rows identifier place = option_and_then (λ row. slice_get row place) (row_numbered rows identifier)
+
+-- the values at a place of the rows are of a kind whose cells are narrow
+pub record AreOfKind (kind : Kind) (place : ℕ) (rows : Rows) : Type 0 where
+  pub narrow : cell_width kind ≤ 64
+  pub each : (identifier : ℕ) (value : Value) → value_at rows identifier place ≡ Some value → IsTrue (is_of_kind kind value)

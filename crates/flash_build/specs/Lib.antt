@@ -1,0 +1,5 @@
+pub mod Cells
+pub mod Sources
+pub mod Building
+pub mod Faults
+pub mod Sealing

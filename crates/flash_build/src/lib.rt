@@ -1,0 +1,23 @@
+//! Building a flash: the hidden part of a database on its pages, and then the catalog, which seals it.
+//!
+//! `build` writes the column files, each page once. `seal` writes the catalog's pages from the last to page 0, so that the
+//! pages spell no catalog before all is there. `make_and_build` and `load_flash` do all of it on a new device. Where the
+//! flash fails, nothing more is written.
+#![tactic(auto)]
+
+pub mod building;
+pub mod catalogs;
+mod columns;
+pub mod faults;
+pub mod loading;
+pub mod sealing;
+mod source;
+
+pub use building::build;
+pub use catalogs::catalog_of;
+pub use faults::BuildFault;
+pub use loading::{load_flash, make_and_build};
+pub use sealing::seal;
+
+#[cfg(test)]
+mod tests;

@@ -1,0 +1,102 @@
+//! The whole of a new flash.
+
+ghost use Rattle.std.specs.Prelude.{◌≡◌, ◌<◌, ◌≤◌, ◌+◌, ◌*◌, true, false, Err, OnOk};
+ghost use Rattle.ghost_model.specs.Flash.{HoldsCatalog, HoldsColumns};
+ghost use Rattle.ghost_model.specs.Layout as layout;
+ghost use Rattle.ghost_model.specs.Work as work;
+ghost use Rattle.edge_traits.specs.Devices.{Counts, IsErased};
+ghost use Rattle.flash_build.specs.Building.{IsHiddenPart};
+ghost use Rattle.flash_build.specs.Faults.{BuildCause, EndsAtFault, IsLargeEnough};
+ghost use Rattle.flash_build.specs.Sealing.{HoldsFrom, SpellsNoCatalog};
+ghost use Rattle.flash_build.specs.declared.faults.BuildFault.TheVariants as fault;
+
+use crate::building::build;
+use crate::faults::BuildFault;
+use crate::sealing::seal;
+use csv_split::Hidden;
+use edge_traits::flash::{AttachFault, BLOCK_PAGES, Flash};
+use flash_layout::limits::a_catalog_has_a_layout;
+use flash_layout::need;
+use std::alloc::Global;
+use tree_schema::Catalog;
+
+/// Makes a device of `blocks` blocks in place of an older one of that name, and writes the hidden part of a catalog's
+/// database to it. The catalog is not written yet: the public pages are erased.
+///
+/// So many blocks may be too small for the catalog, and then no call is made. After any other error the device has no
+/// page, or its pages spell no catalog.
+pub fn make_and_build<F: Flash>(
+    alloc: Global,
+    cat: &Catalog,
+    hidden: &Hidden,
+    flash: &mut F,
+    name: &str,
+    blocks: u32,
+) -> Result<(), BuildFault>
+    requires part { IsHiddenPart cat.now hidden.now }
+    requires blocks { blocks ≤ 60000000 }
+    ensures holds { OnOk result (F.told ≡ true → HoldsColumns (F.state flash.new).page cat.now hidden.now) }
+    ensures pages { OnOk result ((F.state flash.new).page_count ≡ 64 * blocks) }
+    ensures erased { OnOk result (IsErased F.told 0 layout.public_pages (F.state flash.new)) }
+    ensures too_small { 64 * blocks < layout.need cat.now → result ≡ Err (fault.TooSmall (layout.need cat.now) (64 * blocks)) }
+    ensures untouched { 64 * blocks < layout.need cat.now → F.state flash.new ≡ F.state flash.old }
+    ensures large_enough { layout.need cat.now ≤ 64 * blocks → IsLargeEnough result }
+    ensures unsealed { layout.need cat.now ≤ 64 * blocks → 0 < (F.state flash.new).page_count → F.told ≡ true → SpellsNoCatalog (F.state flash.new).page }
+    ensures page_0 { layout.need cat.now ≤ 64 * blocks → 0 < (F.state flash.new).page_count → (F.state flash.new).blank 0 ≡ true }
+    ensures exact { OnOk result (Counts (1 + work.file_pages cat.now) (F.state flash.old).calls (F.state flash.new).calls) }
+    ensures at_most { (F.state flash.new).calls ≤ (F.state flash.old).calls + (1 + work.file_pages cat.now) }
+    ensures deep_reads { (F.state flash.new).deep_reads ≡ (F.state flash.old).deep_reads }
+    ensures cause { BuildCause (F.state flash.old).faults (F.state flash.new).faults result }
+    ensures last { EndsAtFault (F.state flash.new).since_fault result }
+{
+    a_catalog_has_a_layout(cat);
+    let need = need(cat);
+    let have = BLOCK_PAGES * blocks;
+    if have < need {
+        return Err(BuildFault::TooSmall { need, have });
+    }
+    match flash.make(alloc, name, blocks) {
+        Ok(()) => build(alloc, cat, hidden, flash),
+        Err(AttachFault::NoMemory) => Err(BuildFault::NoMemory),
+        Err(AttachFault::Failed) => Err(BuildFault::Flash),
+    }
+}
+
+/// Makes a device, writes the hidden part of a catalog's database to it, and seals it by the catalog: one call to make it,
+/// and one for each page that holds a byte of the catalog or of a file.
+///
+/// As long as page 0 is blank, the pages spell no catalog, and it is written only where all else stands.
+pub fn load_flash<F: Flash>(
+    alloc: Global,
+    cat: &Catalog,
+    hidden: &Hidden,
+    flash: &mut F,
+    name: &str,
+    blocks: u32,
+) -> Result<(), BuildFault>
+    requires part { IsHiddenPart cat.now hidden.now }
+    requires blocks { blocks ≤ 60000000 }
+    ensures catalog { OnOk result (F.told ≡ true → HoldsCatalog (F.state flash.new).page cat.now) }
+    ensures columns { OnOk result (F.told ≡ true → HoldsColumns (F.state flash.new).page cat.now hidden.now) }
+    ensures pages { OnOk result ((F.state flash.new).page_count ≡ 64 * blocks) }
+    ensures too_small { 64 * blocks < layout.need cat.now → result ≡ Err (fault.TooSmall (layout.need cat.now) (64 * blocks)) }
+    ensures untouched { 64 * blocks < layout.need cat.now → F.state flash.new ≡ F.state flash.old }
+    ensures large_enough { layout.need cat.now ≤ 64 * blocks → IsLargeEnough result }
+    ensures unsealed { layout.need cat.now ≤ 64 * blocks → 0 < (F.state flash.new).page_count → F.told ≡ true → (F.state flash.new).blank 0 ≡ true → SpellsNoCatalog (F.state flash.new).page }
+    ensures files_first { layout.need cat.now ≤ 64 * blocks → 0 < (F.state flash.new).page_count → F.told ≡ true → (F.state flash.new).blank 0 ≡ false → HoldsColumns (F.state flash.new).page cat.now hidden.now }
+    ensures page_0_last { layout.need cat.now ≤ 64 * blocks → 0 < (F.state flash.new).page_count → F.told ≡ true → (F.state flash.new).blank 0 ≡ false → HoldsFrom 1 (F.state flash.new).page cat.now }
+    ensures exact { OnOk result (Counts (work.pages_built cat.now) (F.state flash.old).calls (F.state flash.new).calls) }
+    ensures at_most { (F.state flash.new).calls ≤ (F.state flash.old).calls + work.pages_built cat.now }
+    ensures deep_reads { (F.state flash.new).deep_reads ≡ (F.state flash.old).deep_reads }
+    ensures cause { BuildCause (F.state flash.old).faults (F.state flash.new).faults result }
+    ensures last { EndsAtFault (F.state flash.new).since_fault result }
+{
+    a_catalog_has_a_layout(cat);
+    match make_and_build(alloc, cat, hidden, flash, name, blocks) {
+        Err(fault) => Err(fault),
+        Ok(()) => match seal(cat, flash) {
+            Ok(()) => Ok(()),
+            Err(_) => Err(BuildFault::Flash),
+        },
+    }
+}
