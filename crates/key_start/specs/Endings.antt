@@ -17,6 +17,11 @@ exit_code (ended.PlainFault fault.Depot) = 5
 exit_code (ended.PlainFault (fault.Input broken)) = 4
 exit_code (ended.PlainFault fault.Sink) = 9
 
+-- how `plain` ended, by the result of its call
+abbrev pub ended_of : Result (Unit {0}) PlainFault → Ended
+ended_of (Ok _) = ended.Plain
+ended_of (Err broken) = ended.PlainFault broken
+
 -- what is said of `local`, or of words that are no command
 abbrev pub OfLocal : Ended → (KeyStatus → Type 0) → Type 0
 OfLocal (ended.Local status) says = says status

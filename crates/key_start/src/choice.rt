@@ -1,6 +1,6 @@
 //! The choice of the command.
 
-ghost use Rattle.std.specs.Prelude.{◌≡◌, ◌⊎◌, ℕ, true, Some, None, Ok, Err, Result, map, string_bytes};
+ghost use Rattle.std.specs.Prelude.{◌≡◌, ◌⊎◌, ℕ, true, Some, None, Ok, Err, map, string_bytes};
 ghost use Rattle.ghost_model.specs.Causes.{Rose};
 ghost use Rattle.edge_traits.specs.Files.{Files, SameBut};
 ghost use Rattle.key_commands.specs.Local.{Input, Spells, IsFirstOther, Opened, Answers};
@@ -11,6 +11,7 @@ ghost use Rattle.key_inputs.specs.Openings.{Spelled};
 ghost use Rattle.key_plain.specs.Openings.{PlainInput, plain_opening};
 ghost use Rattle.key_plain.specs.Views.{Ends, PrintsSome, writes_nothing};
 ghost use Rattle.key_start.specs.Endings.{OfLocal, OfPlain, ArePlain, AreOther};
+ghost use Rattle.key_start.specs.Endings as endings;
 
 use crate::ending::Ended;
 use edge_traits::depot::Depot;
@@ -71,11 +72,10 @@ pub fn start<D: Depot, O: Sink>(alloc: Global, args: &[String], depot: &mut D, o
 }
 
 /// How `plain` ended.
-fn of_plain(ended: Result<(), PlainFault>) -> Ended
-    ensures says { (says : Result (Unit {0}) PlainFault → Type 0) → says ended → OfPlain result says }
-    ensures no_local { (says : KeyStatus → Type 0) → OfLocal result says }
+fn of_plain(outcome: Result<(), PlainFault>) -> Ended
+    ensures ended { result ≡ endings.ended_of outcome }
 {
-    match ended {
+    match outcome {
         Ok(()) => Ended::Plain,
         Err(fault) => Ended::PlainFault(fault),
     }

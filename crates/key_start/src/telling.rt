@@ -54,7 +54,9 @@ fn plain_line<D: Depot>(
     } = *words;
     match fault {
         PlainFault::Depot => {
-            format!(in alloc; "a file could not be read: see that {schema}, {script} and the file of each table in {tables} are there")
+            format!(in alloc;
+                "a file could not be read: see that {schema}, {script} and the file of each table in {tables} are there"
+            )
         }
         PlainFault::Input(InputFault::Table(broken)) => match schema_in(alloc, schema, depot) {
             Some(schema) => table_line(alloc, &schema, tables, broken),
@@ -100,7 +102,10 @@ fn table_line(
         return format!(in alloc; "{folder}/{table}.csv, record {}: {rule}", place.rec);
     }
     let column = column_name(schema, place);
-    format!(in alloc; "{folder}/{table}.csv, record {}, column {column}: {rule}", place.rec)
+    format!(in alloc;
+        "{folder}/{table}.csv, record {}, column {column}: {rule}",
+        place.rec
+    )
 }
 
 /// Where a file breaks a rule, and which one; none where there is no memory.
@@ -108,13 +113,22 @@ fn place_and_rule(broken: &LoadFault) -> Option<(&Place, &'static str)> {
     Some(match broken {
         LoadFault::NoMemory => return None,
         LoadFault::FileLimit(place) => (place, "the file is too long"),
-        LoadFault::Header(place) => (place, "the first record must name the table's columns in their order"),
+        LoadFault::Header(place) => (
+            place,
+            "the first record must name the table's columns in their order",
+        ),
         LoadFault::RowLimit(place) => (place, "the table has too many rows"),
         LoadFault::FieldCount(place) => (place, "the record must have one field for each column"),
         LoadFault::BadId(place) => (place, "the identifier must be the row's number, from 1"),
         LoadFault::BadInt(place) => (place, "the field must be an integer within 64 bits"),
-        LoadFault::BadChars(place) => (place, "the field is longer than its column allows, or is no text"),
-        LoadFault::BadReference(place) => (place, "no row of the referenced table has this identifier"),
+        LoadFault::BadChars(place) => (
+            place,
+            "the field is longer than its column allows, or is no text",
+        ),
+        LoadFault::BadReference(place) => (
+            place,
+            "no row of the referenced table has this identifier",
+        ),
     })
 }
 

@@ -114,7 +114,11 @@ fn scripts_have_limits(rt: HostRuntime) -> Result<(), AllocError> {
         let mut out = MemSink::new(rt.alloc(), 1_000, 99, &[])?;
         let ended = start(rt.alloc(), &words, &mut depot, &mut out);
         assert_eq!(rt; ended, *expected, "{count}");
-        assert_eq!(rt; out.bytes().ends_with(b"! 64 syntax 0\n"), *count == 64, "{count}");
+        assert_eq!(rt;
+            out.bytes().ends_with(b"! 64 syntax 0\n"),
+            *count == 64,
+            "{count}"
+        );
     }
     Ok(())
 }
@@ -165,13 +169,55 @@ fn what_went_wrong_is_told(rt: HostRuntime) -> Result<(), AllocError> {
     let wrong = "key plain --schema tables/visit.csv --data tables --script script";
     let cases = [
         (PLAIN, DOCTORS, VISITS, 0u8, "done"),
-        (PLAIN, no_cardio, no_doctor, 4, "tables/doctor.csv, record 3, column specialty: the field is longer than its column allows, or is no text"),
-        (PLAIN, DOCTORS, no_doctor, 4, "tables/visit.csv, record 2, column doc: no row of the referenced table has this identifier"),
-        (PLAIN, DOCTORS, few_fields, 4, "tables/visit.csv, record 2: the record must have one field for each column"),
-        (missing, DOCTORS, VISITS, 5, "a file could not be read: see that schema, query and the file of each table in tables are there"),
-        (wrong, DOCTORS, VISITS, 4, "tables/visit.csv: the schema: the text breaks the grammar at byte 0"),
-        ("key plain --schema schema", DOCTORS, VISITS, 2, crate::telling::USAGE),
-        (LOCAL, DOCTORS, VISITS, 4, "part 1 of the input (1: the schema, 2: the table's file, 3: the script) is not of the form that `local` answers so far; the README shows this form"),
+        (
+            PLAIN,
+            no_cardio,
+            no_doctor,
+            4,
+            "tables/doctor.csv, record 3, column specialty: the field is longer than its column allows, or is no text",
+        ),
+        (
+            PLAIN,
+            DOCTORS,
+            no_doctor,
+            4,
+            "tables/visit.csv, record 2, column doc: no row of the referenced table has this identifier",
+        ),
+        (
+            PLAIN,
+            DOCTORS,
+            few_fields,
+            4,
+            "tables/visit.csv, record 2: the record must have one field for each column",
+        ),
+        (
+            missing,
+            DOCTORS,
+            VISITS,
+            5,
+            "a file could not be read: see that schema, query and the file of each table in tables are there",
+        ),
+        (
+            wrong,
+            DOCTORS,
+            VISITS,
+            4,
+            "tables/visit.csv: the schema: the text breaks the grammar at byte 0",
+        ),
+        (
+            "key plain --schema schema",
+            DOCTORS,
+            VISITS,
+            2,
+            crate::telling::USAGE,
+        ),
+        (
+            LOCAL,
+            DOCTORS,
+            VISITS,
+            4,
+            "part 1 of the input (1: the schema, 2: the table's file, 3: the script) is not of the form that `local` answers so far; the README shows this form",
+        ),
     ];
     for (line, doctors, visits, code, told) in cases.iter() {
         let words = words_of(rt.alloc(), line)?;
