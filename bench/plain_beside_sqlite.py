@@ -78,7 +78,7 @@ def turns(ours, theirs):
 
 
 def tell(what, ours, theirs, most):
-    print('%-28s plain %6.2f s %8d KiB   sqlite3 %6.2f s %8d KiB   ratio %.2f (at most %.1f)'
+    print('%-26s plain %6.2f s %8d KiB   sqlite3 %6.2f s %8d KiB   ratio %.2f (at most %.1f)'
           % (what, ours[0], ours[1], theirs[0], theirs[1], ours[0] / theirs[0], most))
 
 
