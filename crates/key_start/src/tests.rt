@@ -1,0 +1,232 @@
+//! The start of the program over objects in memory.
+
+use crate::{Ended, line_of, start};
+use edge_traits::mem_depot::{MemDepot, Room};
+use edge_traits::mem_sink::MemSink;
+use key_commands::status::KeyStatus;
+use key_inputs::InputFault;
+use key_plain::PlainFault;
+use std::alloc::{AllocError, Global};
+
+const ROOM: Room = Room {
+    files: 6,
+    name_bytes: 32,
+    file_bytes: 65_600,
+};
+
+const PLAIN: &str = "key plain --schema schema --data tables --script script";
+
+const LOCAL: &str =
+    "key local --schema schema --data tables --flash flash --script script --journal journal";
+
+const SCHEMA: &str =
+    "CREATE TABLE doctor (id INTEGER PRIMARY KEY, specialty CHAR(8), country CHAR(2) HIDDEN);\nCREATE TABLE patient (id INTEGER PRIMARY KEY, age INTEGER, name CHAR(8) HIDDEN);\nCREATE TABLE visit (id INTEGER PRIMARY KEY, day INTEGER, purpose CHAR(8) HIDDEN, doc INTEGER REFERENCES doctor(id) HIDDEN, pat INTEGER REFERENCES patient(id) HIDDEN);\n";
+
+const DOCTORS: &str = "id,specialty,country\n1,cardio,FR\n2,neuro,ES\n3,cardio,ES\n";
+
+const PATIENTS: &str = "id,age,name\n1,30,Ann\n2,41,Bob\n";
+
+const VISITS: &str =
+    "id,day,purpose,doc,pat\n1,5,flu,1,1\n2,5,check,3,2\n3,9,flu,3,1\n4,2,flu,2,2\n";
+
+const NO_VISITS: &str = "id,day,purpose,doc,pat\n";
+
+/// A depot with the clinic and a script, but for the files that are left out.
+fn clinic(
+    alloc: Global,
+    doctors: &str,
+    visits: &str,
+    script: &[u8],
+) -> Result<MemDepot, AllocError> {
+    let mut depot = MemDepot::new(alloc, ROOM, &[])?;
+    let _schema = depot.put("schema", SCHEMA.as_bytes());
+    let _doctors = depot.put("tables/doctor.csv", doctors.as_bytes());
+    let _patients = depot.put("tables/patient.csv", PATIENTS.as_bytes());
+    let _visits = depot.put("tables/visit.csv", visits.as_bytes());
+    let _script = depot.put("script", script);
+    Ok(depot)
+}
+
+/// The words of a line.
+fn words_of(alloc: Global, line: &str) -> Result<Vec<String>, AllocError> {
+    let mut words = Vec::new(alloc);
+    for word in line.split(' ') {
+        words.push(String::from_str(alloc, word)?)?;
+    }
+    Ok(words)
+}
+
+#[test]
+fn plain_answers_scripts_over_the_clinic(rt: HostRuntime) -> Result<(), AllocError> {
+    let words = words_of(rt.alloc(), PLAIN)?;
+    let cases = [
+        (
+            VISITS,
+            "SELECT visit.id, specialty FROM visit, doctor WHERE doc = doctor.id AND specialty = 'cardio' AND purpose = 'flu';SELECT age patient;SELECT * FROM doctor;SELECT x FROM nowhere;SELECT doc, id, doc FROM visit WHERE pat = 2;",
+            "> 1\tcardio\n> 3\tcardio\n= 1 2\n! 2 syntax 11\n> 1\tcardio\tFR\n> 2\tneuro\tES\n> 3\tcardio\tES\n= 3 3\n! 4 table\n> 3\t2\t3\n> 2\t4\t2\n= 5 2\n",
+        ),
+        (
+            VISITS,
+            "SELECT visit.id, specialty, name FROM visit, doctor, patient WHERE doc = doctor.id AND pat = patient.id AND country = 'ES' AND age < 40;SELECT visit.id FROM visit, doctor;",
+            "> 3\tcardio\tAnn\n= 1 1\n! 2 unlinked\n",
+        ),
+        (
+            VISITS,
+            "SELECT patient.id FROM patient WHERE age >= -9223372036854775808;SELECT visit.id FROM visit WHERE day BETWEEN -5 AND +2;SELECT visit.id FROM visit WHERE id > -1 AND id <> 2",
+            "> 1\n> 2\n= 1 2\n> 4\n= 2 1\n> 1\n> 3\n> 4\n= 3 3\n",
+        ),
+        (
+            VISITS,
+            "SELECT name FROM patient WHERE name = 'Ann';SELECT name FROM patient WHERE name = 'Ann';",
+            "> Ann\n= 1 1\n> Ann\n= 2 1\n",
+        ),
+        (VISITS, "", ""),
+        (VISITS, " ;\n; ", ""),
+        (NO_VISITS, "SELECT day FROM visit;", "= 1 0\n"),
+    ];
+    for (visits, script, lines) in cases.iter() {
+        let mut depot = clinic(rt.alloc(), DOCTORS, visits, script.as_bytes())?;
+        let mut out = MemSink::new(rt.alloc(), 200, 5, &[])?;
+        let ended = start(rt.alloc(), &words, &mut depot, &mut out);
+        assert_eq!(rt; ended, Ended::Plain, "{script}");
+        assert_eq!(rt; out.bytes(), lines.as_bytes(), "{script}");
+    }
+    Ok(())
+}
+
+#[test]
+fn scripts_have_limits(rt: HostRuntime) -> Result<(), AllocError> {
+    let words = words_of(rt.alloc(), PLAIN)?;
+    let bytes_fault = Ended::PlainFault(PlainFault::Input(InputFault::ScriptBytes));
+    let texts_fault = Ended::PlainFault(PlainFault::Input(InputFault::ScriptTexts));
+    let cases = [
+        ("x;", 64usize, Ended::Plain),
+        ("x;", 65, texts_fault),
+        (" ", 65_536, Ended::Plain),
+        (" ", 65_537, bytes_fault),
+    ];
+    for (piece, count, expected) in cases.iter() {
+        let mut script: Vec<u8> = Vec::new(rt.alloc());
+        for _ in 0..*count {
+            script.extend_from_slice(piece.as_bytes())?;
+        }
+        let mut depot = clinic(rt.alloc(), DOCTORS, VISITS, &script)?;
+        let mut out = MemSink::new(rt.alloc(), 1_000, 99, &[])?;
+        let ended = start(rt.alloc(), &words, &mut depot, &mut out);
+        assert_eq!(rt; ended, *expected, "{count}");
+        assert_eq!(rt;
+            out.bytes().ends_with(b"! 64 syntax 0\n"),
+            *count == 64,
+            "{count}"
+        );
+    }
+    Ok(())
+}
+
+const THREE: &str =
+    "SELECT visit.id, specialty FROM visit, doctor WHERE doc = doctor.id AND specialty = 'cardio' AND purpose = 'flu';\nSELECT visit.id, day FROM visit WHERE day >= 2;\nSELECT name FROM patient WHERE name = 'Ann';\n";
+
+const THREE_LINES: &str =
+    "> 1\tcardio\n> 3\tcardio\n= 1 2\n> 1\t5\n> 2\t5\n> 3\t9\n> 4\t2\n= 2 4\n> Ann\n= 3 1\n";
+
+#[test]
+fn each_failing_write_is_the_last(rt: HostRuntime) -> Result<(), AllocError> {
+    let words = words_of(rt.alloc(), PLAIN)?;
+    for (call, taken) in [
+        (1u64, 0usize),
+        (2, 11),
+        (3, 22),
+        (4, 28),
+        (5, 34),
+        (6, 40),
+        (7, 46),
+        (8, 52),
+        (9, 58),
+        (10, 64),
+        (11, 70),
+    ] {
+        let mut depot = clinic(rt.alloc(), DOCTORS, VISITS, THREE.as_bytes())?;
+        let mut out = MemSink::new(rt.alloc(), 200, 99, &[call])?;
+        let ended = start(rt.alloc(), &words, &mut depot, &mut out);
+        let failed = if call <= 10 {
+            Ended::PlainFault(PlainFault::Sink)
+        } else {
+            Ended::Plain
+        };
+        assert_eq!(rt; ended, failed, "{call}");
+        let (front, _) = THREE_LINES.as_bytes().split_at(taken);
+        assert_eq!(rt; out.bytes(), front, "{call}");
+    }
+    Ok(())
+}
+
+#[test]
+fn what_went_wrong_is_told(rt: HostRuntime) -> Result<(), AllocError> {
+    let no_cardio = "id,specialty,country\n1,cardio,FR\n2,cardiolog,ES\n3,cardio,ES\n";
+    let no_doctor = "id,day,purpose,doc,pat\n1,5,flu,4,1\n";
+    let few_fields = "id,day,purpose,doc,pat\n1,5,flu,1\n";
+    let missing = "key plain --schema schema --data tables --script query";
+    let wrong = "key plain --schema tables/visit.csv --data tables --script script";
+    let cases = [
+        (PLAIN, DOCTORS, VISITS, 0u8, "done"),
+        (
+            PLAIN,
+            no_cardio,
+            no_doctor,
+            4,
+            "tables/doctor.csv, record 3, column specialty: the field is longer than its column allows, or is no text",
+        ),
+        (
+            PLAIN,
+            DOCTORS,
+            no_doctor,
+            4,
+            "tables/visit.csv, record 2, column doc: no row of the referenced table has this identifier",
+        ),
+        (
+            PLAIN,
+            DOCTORS,
+            few_fields,
+            4,
+            "tables/visit.csv, record 2: the record must have one field for each column",
+        ),
+        (
+            missing,
+            DOCTORS,
+            VISITS,
+            5,
+            "a file could not be read: see that schema, query and the file of each table in tables are there",
+        ),
+        (
+            wrong,
+            DOCTORS,
+            VISITS,
+            4,
+            "tables/visit.csv: the schema: the text breaks the grammar at byte 0",
+        ),
+        (
+            "key plain --schema schema",
+            DOCTORS,
+            VISITS,
+            2,
+            crate::telling::USAGE,
+        ),
+        (
+            LOCAL,
+            DOCTORS,
+            VISITS,
+            4,
+            "part 1 of the input (1: the schema, 2: the table's file, 3: the script) is not of the form that `local` answers so far; the README shows this form",
+        ),
+    ];
+    for (line, doctors, visits, code, told) in cases.iter() {
+        let words = words_of(rt.alloc(), line)?;
+        let mut depot = clinic(rt.alloc(), doctors, visits, b"")?;
+        let mut out = MemSink::new(rt.alloc(), 10, 10, &[])?;
+        let ended = start(rt.alloc(), &words, &mut depot, &mut out);
+        assert_eq!(rt; ended.exit_code(), *code, "{told}");
+        let said = line_of(rt.alloc(), &words, &ended, &mut depot)?;
+        assert_eq!(rt; said.as_str(), *told);
+    }
+    Ok(())
+}
