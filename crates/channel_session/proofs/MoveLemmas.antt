@@ -1,0 +1,172 @@
+-- One more move of a session.
+use Rattle.std.proofs.Common.{◌≡◌, ℕ, zero, suc, arith, Bool, true, false, ◌||◌, length, take, drop, List, [], ◌∷◌, ◌++◌, Option, Some, None, refl, sym, ◌∙◌, ap, subst, append-nil, append_assoc}
+use Rattle.std.proofs.lemmas.Grind.{flat_map-append}
+use Rattle.std.specs.Prelude.{if◌then◌else◌}
+use Rattle.ghost_model.specs.Channel.{Catalog, Move, Dial, Listen, Accept, Send, Take, Close, Answer, Piece, End, Entry, Journal}
+use Rattle.ghost_model.specs.Asks.{Asked}
+use Rattle.ghost_model.specs.Frames.{AreBytes}
+use Rattle.ghost_model.specs.Moves.{taken, piece_of}
+use Rattle.ghost_model.proofs.ChannelLemmas.{bytes_snoc}
+use Rattle.ghost_model.specs.NextMove.{Heard, Left, GoesOn, IsFinished, left, heard, next_with, is_close}
+use Rattle.channel_pump.specs.State.{IsAfter, Keeps, entry, taken_entry, IsStage, want_at, want_of, is_closed}
+use Rattle.channel_pump.specs.declared.state.Pump.{Pump}
+use Rattle.channel_pump.specs.declared.state.Stage.{Stage}
+use Rattle.channel_pump.specs.declared.state.Stage.TheVariants as stage
+use Rattle.channel_pump.specs.declared.state.Want.TheVariants as want
+use Rattle.channel_pump.specs.Progress.{Tells}
+use Rattle.channel_pump.specs.declared.state.Event.{Event}
+use Rattle.channel_pump.specs.declared.state.Event.TheVariants as event_is
+use Rattle.channel_pump.proofs.JournalLemmas.{left_more}
+use Rattle.channel_session.specs.Sessions.{IsLive, Moved, heard_by, piece_at}
+use Rattle.channel_session.specs.declared.exchange.Exchange.{Exchange}
+
+pub goes_more : (catalog : Catalog) (at : List ℕ) (asks : List Asked) (before journal : Journal) (entry : Entry) → GoesOn catalog at asks before journal → next_with catalog at asks (before ++ journal) ≡ Some entry.move → GoesOn catalog at asks before (journal ++ entry ∷ [])
+goes_more catalog at asks before [] entry goes e = (ap (λ (j : Journal). next_with catalog at asks j) (sym (append-nil before)) ∙ e, tt)
+goes_more catalog at asks before (first ∷ journal) entry goes e =
+    (goes.0, goes_more catalog at asks (before ++ first ∷ []) journal entry goes.1 (ap (λ (j : Journal). next_with catalog at asks j) (append_assoc before (first ∷ []) journal) ∙ e))
+
+finished_last : (journal : Journal) (entry : Entry) → entry.move ≡ Close → IsFinished (journal ++ entry ∷ [])
+finished_last [] entry e = e
+finished_last (first ∷ []) entry e = e
+finished_last (first ∷ second ∷ journal) entry e = finished_last (second ∷ journal) entry e
+
+not_closed : (closed : Bool) (rest : Option Move) (move : Move) → (if closed then None else rest) ≡ Some move → closed ≡ false
+not_closed true rest move e = cc
+not_closed false rest move e = refl
+
+-- a session that has a next move was not closed
+still_open : (catalog : Catalog) (at : List ℕ) (asks : List Asked) (journal : Journal) (move : Move) → next_with catalog at asks journal ≡ Some move → (left catalog asks journal).closed ≡ false
+still_open catalog at asks [] move e = refl
+still_open catalog at asks (first ∷ journal) move e = not_closed (left catalog asks (first ∷ journal)).closed _ move e
+
+is_close_only : (move : Move) → is_close move ≡ true → move ≡ Close
+is_close_only (Dial _) e = cc
+is_close_only (Listen _) e = cc
+is_close_only Accept e = cc
+is_close_only (Send _) e = cc
+is_close_only (Take _) e = cc
+is_close_only Close e = refl
+
+false_or : (a b : Bool) → a ≡ false → (a || b) ≡ true → b ≡ true
+false_or false b e f = f
+false_or true b e f = cc
+
+taken_more : (journal : Journal) (entry : Entry) → taken (journal ++ entry ∷ []) ≡ taken journal ++ piece_of entry.answer
+taken_more journal entry =
+    flat_map-append (λ (e : Entry). piece_of e.answer) journal (entry ∷ []) ∙ ap (λ (bs : List ℕ). taken journal ++ bs) (append-nil (piece_of entry.answer))
+
+bytes_more : (xs ys : List ℕ) → AreBytes xs → AreBytes ys → AreBytes (xs ++ ys)
+bytes_more xs [] first second = subst AreBytes (sym (append-nil xs)) first
+bytes_more xs (y ∷ ys) first second =
+    subst AreBytes (append_assoc xs (y ∷ []) ys) (bytes_more (xs ++ y ∷ []) ys (bytes_snoc xs y first (second 0)) (λ i. second (suc i)))
+
+pub no_bytes : AreBytes []
+no_bytes i = omega arith
+
+-- after one more move the session is closed only by a Close
+finished_more : (catalog : Catalog) (at : List ℕ) (asks : List Asked) (journal : Journal) (entry : Entry) → next_with catalog at asks journal ≡ Some entry.move
+    → (left catalog asks (journal ++ entry ∷ [])).closed ≡ true → IsFinished (journal ++ entry ∷ [])
+finished_more catalog at asks journal entry next shut =
+    finished_last journal entry
+    (is_close_only entry.move (false_or (left catalog asks journal).closed (is_close entry.move) (still_open catalog at asks journal entry.move next)
+    (sym (ap (λ (l : Left). l.closed) (left_more catalog asks journal entry)) ∙ shut)))
+
+-- a session goes on by the move that is next
+pub live_more : (catalog : Catalog) (at : List ℕ) (asks : List Asked) (journal : Journal) (entry : Entry) (old new : Exchange)
+    → IsLive catalog at asks journal old → next_with catalog at asks journal ≡ Some entry.move
+    → AreBytes (piece_of entry.answer)
+    → IsAfter catalog asks (journal ++ entry ∷ []) new.pump → Keeps catalog asks (journal ++ entry ∷ []) new.page → IsLive catalog at asks (journal ++ entry ∷ []) new
+live_more catalog at asks journal entry old new live next bytes after keeps = record {
+  proper = goes_more catalog at asks [] journal entry live.proper next;
+  after = after;
+  keeps = keeps;
+  bytes = subst AreBytes (sym (taken_more journal entry)) (bytes_more (taken journal) (piece_of entry.answer) live.bytes bytes);
+  finished = finished_more catalog at asks journal entry next;
+}
+
+same_taken : (journal : Journal) (entry : Entry) → piece_of entry.answer ≡ [] → taken (journal ++ entry ∷ []) ≡ taken journal
+same_taken journal entry none = taken_more journal entry ∙ (ap (λ (bs : List ℕ). taken journal ++ bs) none ∙ append-nil (taken journal))
+
+-- a move that takes nothing tells nothing
+tells_nothing : (catalog : Catalog) (asks : List Asked) (journal : Journal) (entry : Entry) (page : List ℕ) → piece_of entry.answer ≡ []
+    → Tells catalog page event_is.Part (heard_by catalog asks journal) (heard_by catalog asks (journal ++ entry ∷ []))
+tells_nothing catalog asks journal entry page none =
+    let same : heard_by catalog asks (journal ++ entry ∷ []) ≡ heard_by catalog asks journal = ap (λ (bytes : List ℕ). heard catalog asks bytes) (same_taken journal entry none) in
+    record { rows = ap (λ (h : Heard). h.rows) same; ended = ap (λ (h : Heard). h.ended) same ∙ sym (append-nil (heard_by catalog asks journal).ended); came = tt }
+
+-- a move that takes nothing was made
+pub quiet : (goes : Journal → Type 0) (catalog : Catalog) (at : List ℕ) (asks : List Asked) (journal : Journal) (entry : Entry) (old new : Exchange)
+    → goes (entry ∷ []) → IsLive catalog at asks journal old → next_with catalog at asks journal ≡ Some entry.move → piece_of entry.answer ≡ []
+    → IsAfter catalog asks (journal ++ entry ∷ []) new.pump → Keeps catalog asks (journal ++ entry ∷ []) new.page
+    → Moved goes catalog at asks journal event_is.Part new
+quiet goes catalog at asks journal entry old new went live next none after keeps = record {
+  made = entry;
+  went = went;
+  live = live_more catalog at asks journal entry old new live next (subst AreBytes (sym none) no_bytes) after keeps;
+  tells = tells_nothing catalog asks journal entry new.page none;
+}
+
+pub closed_stage : (p : Pump) (s : Stage) → want_at p s ≡ want.Closed → is_closed s ≡ true
+closed_stage p stage.Dialling e = cc
+closed_stage p (stage.Sending _) e = cc
+closed_stage p stage.Taking e = cc
+closed_stage p (stage.Closing _) e = cc
+closed_stage p (stage.Closed _) e = refl
+
+-- what a take is wanted for: bytes behind the part at hand, so many
+pub record IsTake (catalog : Catalog) (asks : List Asked) (journal : Journal) (p : Pump) (place most : ℕ) : Type 0 where
+  pub have : p.have ≡ place
+  pub lacks : p.lacks ≡ most
+  pub part : length (heard_by catalog asks journal).part ≡ place
+
+take_at : (catalog : Catalog) (asks : List Asked) (journal : Journal) (p : Pump) (place most : ℕ) (s : Stage) → IsStage catalog p (left catalog asks journal) s
+    → want_at p s ≡ want.Take place most → IsTake catalog asks journal p place most
+take_at catalog asks journal p place most stage.Dialling h e = cc
+take_at catalog asks journal p place most (stage.Sending _) h e = cc
+take_at catalog asks journal p place most stage.Taking h e = record { have = cc; lacks = cc; part = h.have ∙ (let same : p.have ≡ place = cc in same) }
+take_at catalog asks journal p place most (stage.Closing _) h e = cc
+take_at catalog asks journal p place most (stage.Closed _) h e = cc
+
+pub is_take : (catalog : Catalog) (at : List ℕ) (asks : List Asked) (journal : Journal) (exchange : Exchange) (place most : ℕ) → IsLive catalog at asks journal exchange
+    → want_of exchange.pump ≡ want.Take place most → IsTake catalog asks journal exchange.pump place most
+is_take catalog at asks journal exchange place most live e = take_at catalog asks journal exchange.pump place most exchange.pump.stage live.after.stage e
+
+-- a page whose front is the same keeps the part
+pub front_keeps : (catalog : Catalog) (asks : List Asked) (journal : Journal) (place : ℕ) (old new : List ℕ) → length (heard_by catalog asks journal).part ≡ place
+    → take place new ≡ take place old → Keeps catalog asks journal old → Keeps catalog asks journal new
+front_keeps catalog asks journal place old new long same keeps =
+    ap (λ (n : ℕ). take n new) long ∙ (same ∙ (ap (λ (n : ℕ). take n old) (sym long) ∙ keeps))
+
+pub gave_some : (at count : ℕ) (page : List ℕ) → (count ≡ 0 → ⊥) → piece_at at count page ≡ Piece (take count (drop at page))
+gave_some at zero page some = absurd (some refl)
+gave_some at (suc more) page some = refl
+
+-- a piece was taken into the page behind the part at hand
+pub took_piece : (goes : Journal → Type 0) (catalog : Catalog) (at : List ℕ) (asks : List Asked) (journal : Journal) (old new : Exchange) (place most count : ℕ) (event : Event)
+    (piece page : List ℕ) → IsLive catalog at asks journal old → next_with catalog at asks journal ≡ Some (Take most) → IsTake catalog asks journal old.pump place most
+    → (answer : Answer) → goes (entry (Take most) answer ∷ []) → answer ≡ Piece (take count (drop place page)) → piece ≡ take count (drop place page) → AreBytes piece
+    → IsAfter catalog asks (journal ++ taken_entry old.pump page count ∷ []) new.pump
+    → Keeps catalog asks (journal ++ taken_entry old.pump page count ∷ []) new.page
+    → Tells catalog new.page event (heard_by catalog asks journal) (heard_by catalog asks (journal ++ taken_entry old.pump page count ∷ []))
+    → Moved goes catalog at asks journal event new
+took_piece goes catalog at asks journal old new place most count event piece page live next wanted answer went gave is bytes after keeps tells =
+    let same : entry (Take most) (Piece (take count (drop place page))) ≡ taken_entry old.pump page count = rw (wanted.lacks, wanted.have) refl in
+    record {
+      made = taken_entry old.pump page count;
+      went = subst (λ (e : Entry). goes (e ∷ [])) (ap (entry (Take most)) gave ∙ same) went;
+      live = live_more catalog at asks journal (taken_entry old.pump page count) old new live (next ∙ ap (λ (e : Entry). Some e.move) same)
+          (subst AreBytes (is ∙ ap (λ (e : Entry). piece_of e.answer) same) bytes) after keeps;
+      tells = tells;
+    }
+
+pub gave_none : (at count : ℕ) (page : List ℕ) → count ≡ 0 → piece_at at count page ≡ End
+gave_none at zero page none = refl
+gave_none at (suc more) page none = cc
+
+-- the stream ended
+pub ended : (goes : Journal → Type 0) (catalog : Catalog) (at : List ℕ) (asks : List Asked) (journal : Journal) (most : ℕ) (answer : Answer) (old new : Exchange)
+    → goes (entry (Take most) answer ∷ []) → answer ≡ End → IsLive catalog at asks journal old → next_with catalog at asks journal ≡ Some (Take most)
+    → IsAfter catalog asks (journal ++ entry (Take most) End ∷ []) new.pump → Keeps catalog asks (journal ++ entry (Take most) End ∷ []) new.page
+    → Moved goes catalog at asks journal event_is.Part new
+ended goes catalog at asks journal most answer old new went is live next after keeps =
+    quiet goes catalog at asks journal (entry (Take most) End) old new (subst (λ (a : Answer). goes (entry (Take most) a ∷ [])) is went) live next refl after keeps
