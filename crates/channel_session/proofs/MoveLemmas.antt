@@ -1,14 +1,18 @@
 -- One more move of a session.
-use Rattle.std.proofs.Common.{◌≡◌, ℕ, zero, suc, arith, Bool, true, false, ◌||◌, length, take, drop, List, [], ◌∷◌, ◌++◌, Option, Some, None, refl, sym, ◌∙◌, ap, subst, append-nil, append_assoc}
+use Rattle.std.proofs.Common.{◌≡◌, ◌<◌, ◌≤◌, ◌+◌, ◌-◌, ℕ, zero, suc, arith, Bool, true, false, ◌||◌, length, take, drop, List, [], ◌∷◌, ◌++◌, Option, Some, None, refl, sym, ◌∙◌, ap, subst, append-nil, append_assoc}
 use Rattle.std.proofs.lemmas.Grind.{flat_map-append}
 use Rattle.std.specs.Prelude.{if◌then◌else◌}
-use Rattle.ghost_model.specs.Channel.{Catalog, Move, Dial, Listen, Accept, Send, Take, Close, Answer, Piece, End, Entry, Journal}
+use Rattle.ghost_model.specs.Channel.{Catalog, Frame, Hello, Asking, More, Bye, Welcome, Replied, Done, Sorry, Move, Dial, Listen, Accept, Send, Take, Close, Answer, Piece, End, Entry, Journal}
 use Rattle.ghost_model.specs.Asks.{Asked}
 use Rattle.ghost_model.specs.Frames.{AreBytes}
 use Rattle.ghost_model.specs.Moves.{taken, piece_of}
 use Rattle.ghost_model.proofs.ChannelLemmas.{bytes_snoc}
-use Rattle.ghost_model.specs.NextMove.{Heard, Left, GoesOn, IsFinished, left, heard, next_with, is_close}
-use Rattle.channel_pump.specs.State.{IsAfter, Keeps, entry, taken_entry, IsStage, want_at, want_of, is_closed}
+use Rattle.ghost_model.specs.Frames.{frame_in}
+use Rattle.ghost_model.specs.NextMove.{Heard, Left, Awaits, Missing, Reply, Nothing, Verdict, Short, Whole, Invalid, GoesOn, IsFinished, left, heard, hear_all, heard_as, turn, verdict, next_with, is_close}
+use Rattle.channel_pump.specs.Turning.{event_of, event_at, event_after}
+use Rattle.channel_pump.proofs.CuttingLemmas.{cut}
+use Rattle.std.proofs.lemmas.List.{length-take-le, length-drop}
+use Rattle.channel_pump.specs.State.{IsAfter, Keeps, entry, taken_entry, IsStage, want_at, want_of, is_closed, has_broken}
 use Rattle.channel_pump.specs.declared.state.Pump.{Pump}
 use Rattle.channel_pump.specs.declared.state.Stage.{Stage}
 use Rattle.channel_pump.specs.declared.state.Stage.TheVariants as stage
@@ -17,7 +21,7 @@ use Rattle.channel_pump.specs.Progress.{Tells}
 use Rattle.channel_pump.specs.declared.state.Event.{Event}
 use Rattle.channel_pump.specs.declared.state.Event.TheVariants as event_is
 use Rattle.channel_pump.proofs.JournalLemmas.{left_more}
-use Rattle.channel_session.specs.Sessions.{IsLive, Moved, heard_by, piece_at}
+use Rattle.channel_session.specs.Sessions.{IsLive, Moved, heard_by, piece_at, asked_in, leads_on}
 use Rattle.channel_session.specs.declared.exchange.Exchange.{Exchange}
 
 pub goes_more : (catalog : Catalog) (at : List ℕ) (asks : List Asked) (before journal : Journal) (entry : Entry) → GoesOn catalog at asks before journal → next_with catalog at asks (before ++ journal) ≡ Some entry.move → GoesOn catalog at asks before (journal ++ entry ∷ [])
@@ -104,6 +108,7 @@ quiet goes catalog at asks journal entry old new went live next none after keeps
   went = went;
   live = live_more catalog at asks journal entry old new live next (subst AreBytes (sym none) no_bytes) after keeps;
   tells = tells_nothing catalog asks journal entry new.page none;
+  same_ask = λ _. ap (λ (bytes : List ℕ). asked_in (heard catalog asks bytes).awaits) (same_taken journal entry none);
 }
 
 pub closed_stage : (p : Pump) (s : Stage) → want_at p s ≡ want.Closed → is_closed s ≡ true
@@ -118,12 +123,18 @@ pub record IsTake (catalog : Catalog) (asks : List Asked) (journal : Journal) (p
   pub have : p.have ≡ place
   pub lacks : p.lacks ≡ most
   pub part : length (heard_by catalog asks journal).part ≡ place
+  pub short : verdict catalog (heard_by catalog asks journal).awaits (heard_by catalog asks journal).part ≡ Short most
 
 take_at : (catalog : Catalog) (asks : List Asked) (journal : Journal) (p : Pump) (place most : ℕ) (s : Stage) → IsStage catalog p (left catalog asks journal) s
     → want_at p s ≡ want.Take place most → IsTake catalog asks journal p place most
 take_at catalog asks journal p place most stage.Dialling h e = cc
 take_at catalog asks journal p place most (stage.Sending _) h e = cc
-take_at catalog asks journal p place most stage.Taking h e = record { have = cc; lacks = cc; part = h.have ∙ (let same : p.have ≡ place = cc in same) }
+take_at catalog asks journal p place most stage.Taking h e = record {
+  have = cc;
+  lacks = cc;
+  part = h.have ∙ (let same : p.have ≡ place = cc in same);
+  short = h.lacks ∙ (let same : p.lacks ≡ most = cc in ap Short same);
+}
 take_at catalog asks journal p place most (stage.Closing _) h e = cc
 take_at catalog asks journal p place most (stage.Closed _) h e = cc
 
@@ -141,22 +152,66 @@ pub gave_some : (at count : ℕ) (page : List ℕ) → (count ≡ 0 → ⊥) →
 gave_some at zero page some = absurd (some refl)
 gave_some at (suc more) page some = refl
 
+-- a frame that leads to no other ask
+frame_stays : (catalog : Catalog) (asks : List Asked) (awaits : Awaits) (frame : Frame) (rows : ℕ) → leads_on (event_of rows frame) ≡ false
+    → asked_in (turn catalog asks awaits frame).awaits ≡ asked_in awaits
+frame_stays catalog asks (Missing bytes) (Hello _) rows e = refl
+frame_stays catalog asks (Missing bytes) (Asking _ _) rows e = refl
+frame_stays catalog asks (Missing bytes) (More _) rows e = refl
+frame_stays catalog asks (Missing bytes) Bye rows e = refl
+frame_stays catalog asks (Missing bytes) (Welcome _ _) rows e = cc
+frame_stays catalog asks (Missing bytes) (Replied _ _) rows e = refl
+frame_stays catalog asks (Missing bytes) (Done _ _) rows e = refl
+frame_stays catalog asks (Missing bytes) (Sorry _ _) rows e = refl
+frame_stays catalog asks (Reply asked serial later count last) (Hello _) rows e = refl
+frame_stays catalog asks (Reply asked serial later count last) (Asking _ _) rows e = refl
+frame_stays catalog asks (Reply asked serial later count last) (More _) rows e = refl
+frame_stays catalog asks (Reply asked serial later count last) Bye rows e = refl
+frame_stays catalog asks (Reply asked serial later count last) (Welcome _ _) rows e = refl
+frame_stays catalog asks (Reply asked serial later count last) (Replied _ _) rows e = refl
+frame_stays catalog asks (Reply asked serial later count last) (Done _ _) rows e = cc
+frame_stays catalog asks (Reply asked serial later count last) (Sorry _ _) rows e = cc
+frame_stays catalog asks Nothing frame rows e = refl
+
+heard_stays : (catalog : Catalog) (asks : List Asked) (before : Heard) (part : List ℕ) (v : Verdict) → leads_on (event_at catalog before part v) ≡ false
+    → asked_in (heard_as catalog asks before part v).awaits ≡ asked_in before.awaits
+heard_stays catalog asks before part (Short _) e = refl
+heard_stays catalog asks before part Whole e = frame_stays catalog asks before.awaits (frame_in part) _ e
+heard_stays catalog asks before part Invalid e = refl
+
+piece_stays : (catalog : Catalog) (asks : List Asked) (before : Heard) (piece : List ℕ) (missing : ℕ) → before.broken ≡ false
+    → verdict catalog before.awaits before.part ≡ Short missing → 0 < length piece → length piece ≤ missing → leads_on (event_after catalog before piece) ≡ false
+    → asked_in (hear_all catalog asks before piece).awaits ≡ asked_in before.awaits
+piece_stays catalog asks before piece missing whole short some fits e =
+    ap (λ (h : Heard). asked_in h.awaits) (cut catalog asks before piece missing whole short some fits)
+    ∙ heard_stays catalog asks before (before.part ++ piece) (verdict catalog before.awaits (before.part ++ piece)) e
+
+heard_more : (catalog : Catalog) (asks : List Asked) (journal : Journal) (entry : Entry) → heard_by catalog asks (journal ++ entry ∷ []) ≡ hear_all catalog asks (heard_by catalog asks journal) (piece_of entry.answer)
+heard_more catalog asks journal entry = ap (λ (l : Left). l.heard) (left_more catalog asks journal entry)
+
 -- a piece was taken into the page behind the part at hand
 pub took_piece : (goes : Journal → Type 0) (catalog : Catalog) (at : List ℕ) (asks : List Asked) (journal : Journal) (old new : Exchange) (place most count : ℕ) (event : Event)
-    (piece page : List ℕ) → IsLive catalog at asks journal old → next_with catalog at asks journal ≡ Some (Take most) → IsTake catalog asks journal old.pump place most
+    (piece page : List ℕ) → 0 < count → count ≤ most → place + most ≤ length page → (heard_by catalog asks journal).broken ≡ false
+    → event ≡ event_after catalog (heard_by catalog asks journal) (take count (drop old.pump.have page)) → IsLive catalog at asks journal old → next_with catalog at asks journal ≡ Some (Take most) → IsTake catalog asks journal old.pump place most
     → (answer : Answer) → goes (entry (Take most) answer ∷ []) → answer ≡ Piece (take count (drop place page)) → piece ≡ take count (drop place page) → AreBytes piece
     → IsAfter catalog asks (journal ++ taken_entry old.pump page count ∷ []) new.pump
     → Keeps catalog asks (journal ++ taken_entry old.pump page count ∷ []) new.page
     → Tells catalog new.page event (heard_by catalog asks journal) (heard_by catalog asks (journal ++ taken_entry old.pump page count ∷ []))
     → Moved goes catalog at asks journal event new
-took_piece goes catalog at asks journal old new place most count event piece page live next wanted answer went gave is bytes after keeps tells =
+took_piece goes catalog at asks journal old new place most count event piece page some fits room whole is_event live next wanted answer went gave is bytes after keeps tells =
     let same : entry (Take most) (Piece (take count (drop place page))) ≡ taken_entry old.pump page count = rw (wanted.lacks, wanted.have) refl in
+    let long : length (take count (drop old.pump.have page)) ≡ count =
+    length-take-le count (drop old.pump.have page) (let dropped : length (drop old.pump.have page) ≡ length page - old.pump.have = length-drop old.pump.have page in omega (arith, dropped, fits, room, wanted.have)) in
     record {
       made = taken_entry old.pump page count;
       went = subst (λ (e : Entry). goes (e ∷ [])) (ap (entry (Take most)) gave ∙ same) went;
       live = live_more catalog at asks journal (taken_entry old.pump page count) old new live (next ∙ ap (λ (e : Entry). Some e.move) same)
           (subst AreBytes (is ∙ ap (λ (e : Entry). piece_of e.answer) same) bytes) after keeps;
       tells = tells;
+      same_ask = λ e.
+          ap (λ (h : Heard). asked_in h.awaits) (heard_more catalog asks journal (taken_entry old.pump page count))
+          ∙ piece_stays catalog asks (heard_by catalog asks journal) (take count (drop old.pump.have page)) most whole wanted.short
+          (omega (arith, some, long)) (omega (arith, fits, long)) (sym (ap leads_on is_event) ∙ e);
     }
 
 pub gave_none : (at count : ℕ) (page : List ℕ) → count ≡ 0 → piece_at at count page ≡ End
@@ -170,3 +225,14 @@ pub ended : (goes : Journal → Type 0) (catalog : Catalog) (at : List ℕ) (ask
     → Moved goes catalog at asks journal event_is.Part new
 ended goes catalog at asks journal most answer old new went is live next after keeps =
     quiet goes catalog at asks journal (entry (Take most) End) old new (subst (λ (a : Answer). goes (entry (Take most) a ∷ [])) is went) live next refl after keeps
+
+pub positive : (count : ℕ) → (count ≡ 0 → ⊥) → 0 < count
+positive zero some = absurd (some refl)
+positive (suc count) some = omega arith
+
+pub taking_unbroken : (p : Pump) (s : Stage) (place most : ℕ) → want_at p s ≡ want.Take place most → has_broken s ≡ false
+taking_unbroken p stage.Dialling place most e = cc
+taking_unbroken p (stage.Sending _) place most e = cc
+taking_unbroken p stage.Taking place most e = refl
+taking_unbroken p (stage.Closing _) place most e = cc
+taking_unbroken p (stage.Closed _) place most e = cc

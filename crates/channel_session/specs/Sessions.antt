@@ -1,14 +1,15 @@
 -- A session of the key, move by move. It went so far by a journal each of whose moves is the next one after those before
 -- it; the pump stands where that journal leaves the key, and the page has the part of the frame at hand.
-use Rattle.std.specs.Prelude.{◌≡◌, ℕ, zero, suc, true, List, [], ◌∷◌, ◌++◌, take, drop, Result, Ok, Err}
+use Rattle.std.specs.Prelude.{◌≡◌, ℕ, zero, suc, Bool, true, false, Option, Some, None, List, [], ◌∷◌, ◌++◌, take, drop, Result, Ok, Err}
 use Rattle.ghost_model.specs.Channel.{Catalog, Entry, Journal, Answer, Piece, End, Failed}
 use Rattle.ghost_model.specs.Asks.{Asked}
 use Rattle.ghost_model.specs.Frames.{AreBytes}
 use Rattle.ghost_model.specs.Moves.{taken}
-use Rattle.ghost_model.specs.NextMove.{Heard, GoesOn, IsFinished, left, heard}
+use Rattle.ghost_model.specs.NextMove.{Heard, Awaits, Missing, Reply, Nothing, GoesOn, IsFinished, left, heard}
 use Rattle.channel_pump.specs.State.{IsAfter, Keeps, want_of}
 use Rattle.channel_pump.specs.Progress.{Tells}
 use Rattle.channel_pump.specs.declared.state.Event.{Event}
+use Rattle.channel_pump.specs.declared.state.Event.TheVariants as event
 use Rattle.channel_pump.specs.declared.state.Want.TheVariants as want
 use Rattle.channel_session.specs.declared.exchange.Exchange.{Exchange}
 
@@ -23,12 +24,30 @@ pub record IsLive (catalog : Catalog) (at : List ℕ) (asks : List Asked) (journ
 abbrev pub heard_by : Catalog → (asks : List Asked) → Journal → Heard
 heard_by catalog asks journal = heard catalog asks (taken journal)
 
+-- the ask whose reply is awaited
+abbrev pub asked_in : Awaits → Option Asked
+asked_in (Missing _) = None
+asked_in (Reply asked serial later count last) = Some asked
+asked_in Nothing = None
+
+-- whether an event may lead to another ask, as the end of a reply and a part of the catalog may
+abbrev pub leads_on : Event → Bool
+leads_on event.Part = false
+leads_on event.Welcome = true
+leads_on (event.Rows _) = false
+leads_on event.Done = true
+leads_on (event.Sorry _) = true
+leads_on (event.Invalid _ _) = false
+
 -- one move was made after those of a journal, and led to this event
 pub record Moved (goes : Journal → Type 0) (catalog : Catalog) (at : List ℕ) (asks : List Asked) (journal : Journal) (event : Event) (exchange : Exchange) : Type 0 where
   pub made : Entry
   pub went : goes (made ∷ [])
   pub live : IsLive catalog at asks (journal ++ made ∷ []) exchange
   pub tells : Tells catalog exchange.page event (heard_by catalog asks journal) (heard_by catalog asks (journal ++ made ∷ []))
+  -- till then the same ask is at hand
+  pub same_ask : leads_on event ≡ false
+      → asked_in (heard_by catalog asks (journal ++ made ∷ [])).awaits ≡ asked_in (heard_by catalog asks journal).awaits
 
 -- so many bytes of a page from a place on, as an answer; none are the end of the stream
 abbrev pub piece_at : (at count : ℕ) → (page : List ℕ) → Answer

@@ -1,7 +1,7 @@
-use Rattle.std.proofs.Common.{refl, ap, ◌∙◌, take}
+use Rattle.std.proofs.Common.{arith, refl, ap, ◌∙◌, take}
 use Rattle.ghost_model.specs.Channel as channel
 use Rattle.channel_pump.specs.State.{entry}
-use Rattle.channel_session.proofs.MoveLemmas.{quiet, is_take, front_keeps, gave_some, gave_none, ended, took_piece}
+use Rattle.channel_session.proofs.MoveLemmas.{quiet, is_take, front_keeps, gave_some, gave_none, ended, took_piece, positive, taking_unbroken}
 use Rattle.channel_session.proofs.exchange.Exchange.take.Goals as goal
 
 pub returns-in-Err-clause-moved : goal.returns-in-Err-clause-moved
@@ -26,7 +26,9 @@ pub returns-in-Ok-clause-moved : goal.returns-in-Ok-clause-moved
 returns-in-Ok-clause-moved g c = λ catalog at asks journal live next.
     let wanted = is_take catalog at asks journal c.args.self.now c.args.place c.args.most live c.requires.wanted in
     let keeps = front_keeps catalog asks journal c.args.place c.args.self.now.page c.take_piece.new.page wanted.part c.take_piece.ensures.front live.keeps in
-    took_piece _ catalog at asks journal c.args.self.now _ c.args.place c.args.most c.in-Ok.count _ _ c.take_piece.new.page live next wanted
+    took_piece _ catalog at asks journal c.args.self.now _ c.args.place c.args.most c.in-Ok.count _ _ c.take_piece.new.page (positive c.in-Ok.count c.in-Ok.count-test.1) c.in-Ok.ensures.within
+    (omega (arith, c.requires.fits, c.take_piece.array_long)) (live.after.broken ∙ taking_unbroken c.args.self.now.pump c.args.self.now.pump.stage c.args.place c.args.most c.requires.wanted)
+    (c.took.ensures.event catalog asks journal live.after keeps) live next wanted
     _ c.in-Ok.ensures.went (gave_some c.args.place c.in-Ok.count c.take_piece.new.page c.in-Ok.count-test.1)
     (c.split_at-in-Ok.ensures.front ∙ ap (take c.in-Ok.count) c.split_at.ensures.back) c.are_bytes.ensures.bytes
     (c.took.ensures.after catalog asks journal live.after keeps)
