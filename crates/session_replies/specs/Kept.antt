@@ -42,18 +42,18 @@ expected schema heard is_open text = if is_open then all_of schema heard text el
 abbrev pub is_refused : (text : ℕ) → List Ended → Bool
 is_refused text ended = list_any (λ end. is_refused_by end.ending && end.asked.text == text) ended
 
--- the reply at hand is that to the ask that is awaited
-pub record IsAt (heard : Heard) (replies : Replies) : Type 0 where
+-- the reply at hand is that to the ask that is awaited, and its text has its store unless it was answered
+pub record IsAt (heard : Heard) (low : ℕ) (replies : Replies) : Type 0 where
   pub asked : Asked
   pub awaited : asked_in heard.awaits ≡ Some asked
   pub text : replies.text ≡ asked.text
-  pub holder : (half_of replies replies.text).text ≡ replies.text
+  pub holder : low ≤ replies.text → (half_of replies replies.text).text ≡ replies.text
 
 -- texts from `low` on were not answered yet, and no ask was awaited of a text behind `top`
 pub record IsKept (catalog : Catalog) (heard : Heard) (low top : ℕ) (replies : Replies) : Type 0 where
   pub bound : IsBy top replies
   pub rooms : HaveRoom catalog replies.even.store replies.odd.store
-  pub at : replies.is_open ≡ true → IsAt heard replies
+  pub at : replies.is_open ≡ true → IsAt heard low replies
   pub closed : replies.is_open ≡ false → heard.rows ≡ []
   pub texts : (text : ℕ) → low ≤ text → is_refused text heard.ended ≡ false
       → kept replies text ≡ expected catalog.schema heard replies.is_open text

@@ -24,7 +24,7 @@ impl Half {
     pub(crate) fn new(mut store: ReplyStore) -> Half
         ensures text { result.text ≡ 0 }
         ensures empty { result.store.stored ≡ [] }
-        ensures room { result.store.room ≡ store.entry.room }
+        ensures room { result.store.room ≡ store.room }
     {
         store.clear();
         Half { text: 0, store }

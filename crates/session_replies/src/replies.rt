@@ -2,7 +2,6 @@
 
 ghost use Rattle.std.specs.Prelude.{◌≡◌, ◌≤◌, ◌+◌, [], ℕ, Some, None, true, false};
 ghost use Rattle.ghost_model.specs.Channel.{Catalog};
-ghost use Rattle.ghost_model.specs.Frames as frames;
 ghost use Rattle.ghost_model.specs.Frames.{payload_in};
 ghost use Rattle.ghost_model.specs.Asks.{Asked};
 ghost use Rattle.ghost_model.specs.NextMove.{Heard};
@@ -35,24 +34,23 @@ pub struct Replies {
     pub is_open: bool,
 }
 
-/// The payload of the frame at the front of a page, and nothing where it does not fit the page.
+/// The payload of the frame at the front of a page, as far as it stands there.
 fn payload_of(page: &[u8; 2048]) -> &[u8]
-    ensures payload { 8 + frames.size_in page.now ≤ 2048 → result.now ≡ payload_in page.now }
+    ensures payload { result.now ≡ payload_in page.now }
 {
     let (_header, after) = page.split_at(8);
     let size = size_in(page) as usize;
-    if size <= after.len() {
-        let (payload, _rest) = after.split_at(size);
-        payload
-    } else {
-        &[]
+    if size > after.len() {
+        return after;
     }
+    let (payload, _rest) = after.split_at(size);
+    payload
 }
 
 impl Replies {
     /// No replies, in two stores.
     pub fn new(even: ReplyStore, odd: ReplyStore) -> Replies
-        ensures kept { (catalog : Catalog) → HaveRoom catalog even.entry odd.entry → IsKept catalog (none_heard catalog) 1 0 result }
+        ensures kept { (catalog : Catalog) → HaveRoom catalog even odd → IsKept catalog (none_heard catalog) 1 0 result }
         ensures closed { result.is_open ≡ false }
     {
         Replies {
@@ -104,7 +102,7 @@ impl Replies {
         ensures kept { (catalog : Catalog) (before after : Heard) (low top : ℕ) → Tells catalog page.now event before after
             → (leads_on event ≡ false → asked_in after.awaits ≡ asked_in before.awaits)
             → (event ≡ Event.Welcome → asked_in before.awaits ≡ None)
-            → ((asked : Asked) → asked_in before.awaits ≡ Some asked → self.old.is_open ≡ true)
+            → ((asked : Asked) → asked_in before.awaits ≡ Some asked → (self.old.is_open ≡ true) × (low ≤ asked.text))
             → ((text : ℕ) → Fits catalog after text) → IsKept catalog before low top self.old → IsKept catalog after low top self.new }
     {
         match event {
@@ -114,10 +112,10 @@ impl Replies {
         }
     }
 
-    /// Forgets, for a text that is not yet answered, the replies of earlier ones in its store.
+    /// Forgets, for the text that is answered next, the replies of earlier ones in its store.
     pub fn leave_earlier(&mut self, text: u32)
         ensures kept { (catalog : Catalog) (heard : Heard) (top : ℕ) → 1 ≤ text → top ≤ text + 1
-            → IsKept catalog heard text top self.old → IsKept catalog heard text top self.new }
+            → IsKept catalog heard text top self.old → IsKept catalog heard (text + 1) top self.new }
         ensures stored { stored_for self.new text ≡ kept self.old text }
     {
         if text % 2 == 0 {
