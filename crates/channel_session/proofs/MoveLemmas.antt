@@ -1,14 +1,14 @@
 -- One more move of a session.
 use Rattle.std.proofs.Common.{◌≡◌, ◌<◌, ◌≤◌, ◌+◌, ◌-◌, ℕ, zero, suc, arith, Bool, true, false, ◌||◌, length, take, drop, List, [], ◌∷◌, ◌++◌, Option, Some, None, refl, sym, ◌∙◌, ap, subst, append-nil, append_assoc}
 use Rattle.std.proofs.lemmas.Grind.{flat_map-append}
-use Rattle.std.specs.Prelude.{if◌then◌else◌}
+use Rattle.std.specs.Prelude.{if◌then◌else◌, not, nat_lt}
 use Rattle.ghost_model.specs.Channel.{Catalog, Frame, Hello, Asking, More, Bye, Welcome, Replied, Done, Sorry, Move, Dial, Listen, Accept, Send, Take, Close, Answer, Piece, End, Entry, Journal}
 use Rattle.ghost_model.specs.Asks.{Asked}
 use Rattle.ghost_model.specs.Frames.{AreBytes}
 use Rattle.ghost_model.specs.Moves.{taken, piece_of}
 use Rattle.ghost_model.proofs.ChannelLemmas.{bytes_snoc}
-use Rattle.ghost_model.specs.Frames.{frame_in}
-use Rattle.ghost_model.specs.NextMove.{Heard, Left, Awaits, Missing, Reply, Nothing, Verdict, Short, Whole, Invalid, GoesOn, IsFinished, left, heard, hear_all, heard_as, turn, verdict, next_with, is_close}
+use Rattle.ghost_model.specs.Frames.{frame_in, size_in}
+use Rattle.ghost_model.specs.NextMove.{Heard, Left, Awaits, Missing, Reply, Nothing, Verdict, Short, Whole, Invalid, GoesOn, IsFinished, left, heard, hear_all, heard_as, turn, verdict, header_fits, payload_fits, next_with, is_close}
 use Rattle.channel_pump.specs.Turning.{event_of, event_at, event_after}
 use Rattle.channel_pump.proofs.CuttingLemmas.{cut}
 use Rattle.std.proofs.lemmas.List.{length-take-le, length-drop}
@@ -109,6 +109,7 @@ quiet goes catalog at asks journal entry old new went live next none after keeps
   live = live_more catalog at asks journal entry old new live next (subst AreBytes (sym none) no_bytes) after keeps;
   tells = tells_nothing catalog asks journal entry new.page none;
   same_ask = λ _. ap (λ (bytes : List ℕ). asked_in (heard catalog asks bytes).awaits) (same_taken journal entry none);
+  greeting = λ e. cc;
 }
 
 pub closed_stage : (p : Pump) (s : Stage) → want_at p s ≡ want.Closed → is_closed s ≡ true
@@ -189,6 +190,38 @@ piece_stays catalog asks before piece missing whole short some fits e =
 heard_more : (catalog : Catalog) (asks : List Asked) (journal : Journal) (entry : Entry) → heard_by catalog asks (journal ++ entry ∷ []) ≡ hear_all catalog asks (heard_by catalog asks journal) (piece_of entry.answer)
 heard_more catalog asks journal entry = ap (λ (l : Left). l.heard) (left_more catalog asks journal entry)
 
+whole_fits : (short narrow longer fits : Bool) (first second : ℕ)
+    → (if short then Short first else if narrow then Invalid else if longer then Short second else if fits then Whole else Invalid) ≡ Whole → fits ≡ true
+whole_fits true narrow longer fits first second e = cc
+whole_fits false true longer fits first second e = cc
+whole_fits false false true fits first second e = cc
+whole_fits false false false true first second e = refl
+whole_fits false false false false first second e = cc
+
+-- a part of the catalog comes where no ask is awaited
+welcome_fits_none : (catalog : Catalog) (awaits : Awaits) (frame : Frame) (rows : ℕ) → payload_fits catalog awaits frame ≡ true → event_of rows frame ≡ event_is.Welcome → asked_in awaits ≡ None
+welcome_fits_none catalog (Missing bytes) frame rows fits e = refl
+welcome_fits_none catalog Nothing frame rows fits e = refl
+welcome_fits_none catalog (Reply asked serial later count last) (Hello _) rows fits e = cc
+welcome_fits_none catalog (Reply asked serial later count last) (Asking _ _) rows fits e = cc
+welcome_fits_none catalog (Reply asked serial later count last) (More _) rows fits e = cc
+welcome_fits_none catalog (Reply asked serial later count last) Bye rows fits e = cc
+welcome_fits_none catalog (Reply asked serial later count last) (Welcome _ _) rows fits e = cc
+welcome_fits_none catalog (Reply asked serial later count last) (Replied _ _) rows fits e = cc
+welcome_fits_none catalog (Reply asked serial later count last) (Done _ _) rows fits e = cc
+welcome_fits_none catalog (Reply asked serial later count last) (Sorry _ _) rows fits e = cc
+
+event_whole : (catalog : Catalog) (before : Heard) (part : List ℕ) (v : Verdict) → event_at catalog before part v ≡ event_is.Welcome → v ≡ Whole
+event_whole catalog before part (Short _) e = cc
+event_whole catalog before part Whole e = refl
+event_whole catalog before part Invalid e = cc
+
+welcomed : (catalog : Catalog) (before : Heard) (piece : List ℕ) → event_after catalog before piece ≡ event_is.Welcome → asked_in before.awaits ≡ None
+welcomed catalog before piece e =
+    let part : List ℕ = before.part ++ piece in
+    let whole : verdict catalog before.awaits part ≡ Whole = event_whole catalog before part (verdict catalog before.awaits part) e in
+    welcome_fits_none catalog before.awaits (frame_in part) _ (whole_fits (nat_lt (length part) 8) (not (header_fits catalog before.awaits part)) (nat_lt (length part) (8 + size_in part)) (payload_fits catalog before.awaits (frame_in part)) (8 - length part) (8 + size_in part - length part) whole) (ap (event_at catalog before part) (sym whole) ∙ e)
+
 -- a piece was taken into the page behind the part at hand
 pub took_piece : (goes : Journal → Type 0) (catalog : Catalog) (at : List ℕ) (asks : List Asked) (journal : Journal) (old new : Exchange) (place most count : ℕ) (event : Event)
     (piece page : List ℕ) → 0 < count → count ≤ most → place + most ≤ length page → (heard_by catalog asks journal).broken ≡ false
@@ -208,6 +241,7 @@ took_piece goes catalog at asks journal old new place most count event piece pag
       live = live_more catalog at asks journal (taken_entry old.pump page count) old new live (next ∙ ap (λ (e : Entry). Some e.move) same)
           (subst AreBytes (is ∙ ap (λ (e : Entry). piece_of e.answer) same) bytes) after keeps;
       tells = tells;
+      greeting = λ e. welcomed catalog (heard_by catalog asks journal) (take count (drop old.pump.have page)) (sym is_event ∙ e);
       same_ask = λ e.
           ap (λ (h : Heard). asked_in h.awaits) (heard_more catalog asks journal (taken_entry old.pump page count))
           ∙ piece_stays catalog asks (heard_by catalog asks journal) (take count (drop old.pump.have page)) most whole wanted.short

@@ -9,7 +9,7 @@ use Rattle.ghost_model.specs.NextMove.{Heard, Awaits, Missing, Reply, Nothing, G
 use Rattle.channel_pump.specs.State.{IsAfter, Keeps, want_of}
 use Rattle.channel_pump.specs.Progress.{Tells}
 use Rattle.channel_pump.specs.declared.state.Event.{Event}
-use Rattle.channel_pump.specs.declared.state.Event.TheVariants as event
+use Rattle.channel_pump.specs.declared.state.Event.TheVariants as event_is
 use Rattle.channel_pump.specs.declared.state.Want.TheVariants as want
 use Rattle.channel_session.specs.declared.exchange.Exchange.{Exchange}
 
@@ -32,12 +32,12 @@ asked_in Nothing = None
 
 -- whether an event may lead to another ask, as the end of a reply and a part of the catalog may
 abbrev pub leads_on : Event → Bool
-leads_on event.Part = false
-leads_on event.Welcome = true
-leads_on (event.Rows _) = false
-leads_on event.Done = true
-leads_on (event.Sorry _) = true
-leads_on (event.Invalid _ _) = false
+leads_on event_is.Part = false
+leads_on event_is.Welcome = true
+leads_on (event_is.Rows _) = false
+leads_on event_is.Done = true
+leads_on (event_is.Sorry _) = true
+leads_on (event_is.Invalid _ _) = false
 
 -- one move was made after those of a journal, and led to this event
 pub record Moved (goes : Journal → Type 0) (catalog : Catalog) (at : List ℕ) (asks : List Asked) (journal : Journal) (event : Event) (exchange : Exchange) : Type 0 where
@@ -48,6 +48,8 @@ pub record Moved (goes : Journal → Type 0) (catalog : Catalog) (at : List ℕ)
   -- till then the same ask is at hand
   pub same_ask : leads_on event ≡ false
       → asked_in (heard_by catalog asks (journal ++ made ∷ [])).awaits ≡ asked_in (heard_by catalog asks journal).awaits
+  -- the catalog comes before the first ask
+  pub greeting : event ≡ event_is.Welcome → asked_in (heard_by catalog asks journal).awaits ≡ None
 
 -- so many bytes of a page from a place on, as an answer; none are the end of the stream
 abbrev pub piece_at : (at count : ℕ) → (page : List ℕ) → Answer
