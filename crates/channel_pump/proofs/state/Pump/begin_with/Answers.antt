@@ -1,7 +1,9 @@
-use Rattle.std.proofs.Common.{refl}
-use Rattle.channel_pump.proofs.ReportLemmas.{begun}
-use Rattle.channel_pump.proofs.state.Pump.begin.Goals as goal
+use Rattle.std.proofs.Common.{List, sym, ◌∙◌, subst}
+use Rattle.channel_pump.specs.Forms.{Form}
+use Rattle.channel_pump.specs.Asked.{AreAsked}
+use Rattle.channel_pump.proofs.state.Pump.begin_with.Goals as goal
 
 pub returns-clause-after : goal.returns-clause-after
 returns-clause-after c cat asked begins =
-    begun cat asked _ c.args.generation c.args.catalog.now c.args.asks.now begins refl refl refl refl refl refl refl refl
+    c.start.ensures.after cat asked begins.its_generation (begins.its_bytes ∙ sym c.of_bytes.ensures.bytes)
+    (subst (λ (forms : List Form). AreAsked cat forms asked) (sym c.of_forms.ensures.forms) begins.its_asks)
