@@ -5,10 +5,15 @@
 //! else decides it.
 #![tactic(auto)]
 
+mod asks;
 pub mod forms;
 mod judging;
 pub mod laws;
+mod missing;
 pub mod pump;
 mod rows;
+mod script;
 pub mod state;
+#[cfg(test)]
+mod tests;
 mod turning;
