@@ -1,0 +1,13 @@
+pub mod Exchanges
+pub mod Standing
+pub mod Walking
+pub mod Stored
+pub mod Order
+pub mod Closing
+pub mod Decided
+pub mod Outcomes
+pub mod Over
+pub mod Settled
+pub mod Honest
+pub mod Finished
+pub mod Ending

@@ -1,0 +1,65 @@
+-- A session of the key with an honest host that holds the public part of a database, over any link. No frame that comes is
+-- invalid and no ask is refused; once it is finished, its lines are those that its texts print over the database.
+use Rattle.std.specs.Prelude.{◌≡◌, ℕ, suc, Bool, true, false, List, length, slice_get, Some, Ok, flat_map}
+use Rattle.ghost_model.specs.Values.{Database}
+use Rattle.ghost_model.specs.Query.{Query}
+use Rattle.ghost_model.specs.QueryReading.{reading}
+use Rattle.ghost_model.specs.Channel.{Catalog, Journal}
+use Rattle.ghost_model.specs.NextMove.{IsProper, IsFinished}
+use Rattle.ghost_model.specs.Split.{Hidden, public_of, hidden_of}
+use Rattle.ghost_model.specs.Honest.{IsHonest}
+use Rattle.ghost_model.specs.Lines.{Reason, IsRefused, WasBroken, WasAnswered, MetFault, AreLines, ended_of, was_refused, all_done}
+use Rattle.ghost_model.specs.Printed.{printed_lines}
+use Rattle.ghost_model.specs.SessionLaws.{IsSetting, IsCatalogOf}
+use Rattle.local_laws.specs.TextEnds.{heard_in}
+
+pub record IsHonestSession (catalog : Catalog) (database : Database) (at : List ℕ) (texts : List (List ℕ)) (journal : Journal) : Type 0 where
+  pub setting : IsSetting catalog texts
+  pub stored : IsCatalogOf catalog database
+  pub proper : IsProper catalog at texts journal
+  pub honest : IsHonest catalog (public_of catalog.schema database) journal
+
+pub record IsSmooth (catalog : Catalog) (texts : List (List ℕ)) (journal : Journal) : Type 0 where
+  pub valid : (heard_in catalog texts journal).broken ≡ false
+  pub none_refused : was_refused (heard_in catalog texts journal).ended ≡ false
+
+-- at each point of the session
+abbrev pub HonestSessionsAreSmooth : Type 0
+HonestSessionsAreSmooth =
+    (catalog : Catalog) (database : Database) (at : List ℕ) (texts : List (List ℕ)) (journal : Journal)
+    → IsHonestSession catalog database at texts journal → IsSmooth catalog texts journal
+
+-- the text at place 0 has number 1
+abbrev pub HonestAsksAreDone : Type 0
+HonestAsksAreDone =
+    (catalog : Catalog) (database : Database) (at : List ℕ) (texts : List (List ℕ)) (journal : Journal)
+    (place : ℕ) (written : List ℕ) (asked : Query)
+    → IsHonestSession catalog database at texts journal → IsFinished journal
+    → slice_get texts place ≡ Some written → reading catalog.schema written ≡ Ok asked
+    → all_done catalog.schema asked (ended_of catalog texts journal (suc place)) ≡ true
+
+-- whether the key's own flash is the reason for some lines
+abbrev pub is_own_fault : Reason → Bool
+is_own_fault IsRefused = false
+is_own_fault WasBroken = false
+is_own_fault WasAnswered = false
+is_own_fault (MetFault _) = true
+
+-- lines of a text of which the key's own flash is not the reason
+pub record AreSoundLines (catalog : Catalog) (kept : Hidden) (texts : List (List ℕ)) (journal : Journal) (text : ℕ) (lines : List (List ℕ)) : Type 0 where
+  pub lines_are : AreLines catalog kept texts journal text lines
+  pub sound : is_own_fault lines_are.reason ≡ false
+
+-- such lines of each text, in the order of the texts
+pub record AreAllLines (catalog : Catalog) (kept : Hidden) (texts : List (List ℕ)) (journal : Journal) (given : List (List (List ℕ))) : Type 0 where
+  pub as_many : length given ≡ length texts
+  pub each : (place : ℕ) (lines : List (List ℕ)) → slice_get given place ≡ Some lines
+      → AreSoundLines catalog kept texts journal (suc place) lines
+
+abbrev pub HonestLinesArePrinted : Type 0
+HonestLinesArePrinted =
+    (catalog : Catalog) (database : Database) (at : List ℕ) (texts : List (List ℕ)) (journal : Journal)
+    (given : List (List (List ℕ)))
+    → IsHonestSession catalog database at texts journal → IsFinished journal
+    → AreAllLines catalog (hidden_of catalog.schema database) texts journal given
+    → flat_map (λ lines. lines) given ≡ printed_lines catalog.schema texts database

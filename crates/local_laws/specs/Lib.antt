@@ -1,0 +1,5 @@
+pub mod Serving
+pub mod TextEnds
+pub mod TextCases
+pub mod HonestSessions
+pub mod Local

@@ -1,0 +1,97 @@
+-- A session of the key whose host is in its own process and holds the public part of a database. It goes to its end, and
+-- what it answers is the meaning of its texts.
+use Rattle.std.specs.Prelude.{◌≡◌, ℕ, suc, true, false, List, ◌++◌, slice_get, Some, Ok, flat_map}
+use Rattle.std.specs.List.{list_any}
+use Rattle.ghost_model.specs.Values.{Database}
+use Rattle.ghost_model.specs.Query.{Query}
+use Rattle.ghost_model.specs.QueryReading.{reading}
+use Rattle.ghost_model.specs.Meaning.{answer}
+use Rattle.ghost_model.specs.Channel.{Catalog, Journal}
+use Rattle.ghost_model.specs.Asks.{asked_of}
+use Rattle.ghost_model.specs.Moves.{taken, answers}
+use Rattle.ghost_model.specs.NextMove.{IsProper, IsFinished, heard, is_stop}
+use Rattle.ghost_model.specs.Split.{public_of, hidden_of}
+use Rattle.ghost_model.specs.Host.{Holding, host_of}
+use Rattle.ghost_model.specs.Lines.{ended_of, was_refused, all_done, rows_from_replies}
+use Rattle.ghost_model.specs.Printed.{printed_lines}
+use Rattle.ghost_model.specs.SessionLaws.{IsSetting, IsCatalogOf, IsServedThroughout}
+use Rattle.local_laws.specs.HonestSessions.{AreAllLines}
+use Rattle.local_laws.specs.Serving.{Desk, first_desk, ServedFrom}
+
+-- the host holds the public part of a database
+abbrev pub holding_of : Catalog → Database → Holding
+holding_of catalog database = host_of catalog (public_of catalog.schema database)
+
+-- the key's moves are the next ones, and the host made each of them at once
+pub record IsLocal (catalog : Catalog) (database : Database) (at : List ℕ) (texts : List (List ℕ)) (journal : Journal) : Type 0 where
+  pub setting : IsSetting catalog texts
+  pub stored : IsCatalogOf catalog database
+  pub proper : IsProper catalog at texts journal
+  -- where the host stands after them
+  pub desk : Desk
+  pub served : ServedFrom (holding_of catalog database) first_desk journal desk
+
+-- moves that were served one after another are served together
+abbrev pub ServedJournalsJoin : Type 0
+ServedJournalsJoin =
+    (held : Holding) (first second third : Desk) (journal more : Journal)
+    → ServedFrom held first journal second → ServedFrom held second more third
+    → ServedFrom held first (journal ++ more) third
+
+-- further moves, by which the session is finished
+pub record EndsBy (catalog : Catalog) (database : Database) (at : List ℕ) (texts : List (List ℕ)) (journal : Journal) : Type 0 where
+  pub more : Journal
+  pub longer : IsLocal catalog database at texts (journal ++ more)
+  pub finished : IsFinished (journal ++ more)
+
+-- such a session never stands still before its end, and it comes to its end
+abbrev pub LocalSessionsEnd : Type 0
+LocalSessionsEnd =
+    (catalog : Catalog) (database : Database) (at : List ℕ) (texts : List (List ℕ)) (journal : Journal)
+    → IsLocal catalog database at texts journal → EndsBy catalog database at texts journal
+
+-- no answer ends a session, each take was given all that it asked for, each frame that came is valid, and the host
+-- refused no ask
+pub record IsUnbroken (catalog : Catalog) (database : Database) (texts : List (List ℕ)) (journal : Journal) : Type 0 where
+  pub goes_on : list_any is_stop (answers journal) ≡ false
+  pub throughout : IsServedThroughout (holding_of catalog database) journal
+  pub valid : (heard catalog (asked_of catalog.schema texts) (taken journal)).broken ≡ false
+  pub none_refused : was_refused (heard catalog (asked_of catalog.schema texts) (taken journal)).ended ≡ false
+
+abbrev pub LocalSessionsAreServed : Type 0
+LocalSessionsAreServed =
+    (catalog : Catalog) (database : Database) (at : List ℕ) (texts : List (List ℕ)) (journal : Journal)
+    → IsLocal catalog database at texts journal → IsUnbroken catalog database texts journal
+
+-- a catalog, a database, an address and texts leave one finished journal
+abbrev pub LocalJournalsAreOne : Type 0
+LocalJournalsAreOne =
+    (catalog : Catalog) (database : Database) (at : List ℕ) (texts : List (List ℕ)) (first second : Journal)
+    → IsLocal catalog database at texts first → IsLocal catalog database at texts second
+    → IsFinished first → IsFinished second → first ≡ second
+
+-- the text at place 0 has number 1
+abbrev pub LocalAsksAreDone : Type 0
+LocalAsksAreDone =
+    (catalog : Catalog) (database : Database) (at : List ℕ) (texts : List (List ℕ)) (journal : Journal)
+    (place : ℕ) (written : List ℕ) (asked : Query)
+    → IsLocal catalog database at texts journal → IsFinished journal
+    → slice_get texts place ≡ Some written → reading catalog.schema written ≡ Ok asked
+    → all_done catalog.schema asked (ended_of catalog texts journal (suc place)) ≡ true
+
+abbrev pub LocalSessionsAnswer : Type 0
+LocalSessionsAnswer =
+    (catalog : Catalog) (database : Database) (at : List ℕ) (texts : List (List ℕ)) (journal : Journal)
+    (place : ℕ) (written : List ℕ) (asked : Query)
+    → IsLocal catalog database at texts journal → IsFinished journal
+    → slice_get texts place ≡ Some written → reading catalog.schema written ≡ Ok asked
+    → rows_from_replies catalog (hidden_of catalog.schema database) texts journal (suc place) asked
+    ≡ answer catalog.schema database asked
+
+abbrev pub LocalLinesArePrinted : Type 0
+LocalLinesArePrinted =
+    (catalog : Catalog) (database : Database) (at : List ℕ) (texts : List (List ℕ)) (journal : Journal)
+    (given : List (List (List ℕ)))
+    → IsLocal catalog database at texts journal → IsFinished journal
+    → AreAllLines catalog (hidden_of catalog.schema database) texts journal given
+    → flat_map (λ lines. lines) given ≡ printed_lines catalog.schema texts database
