@@ -108,13 +108,16 @@ if_none_map f P (Some x) h = tt
 pub held_of : (catalog : Catalog) (one other : Schema) (asks : List Asked) (out : List ℕ) (n : ℕ) (kinds : List Kind) → one ≡ catalog.schema → other ≡ catalog.schema → n ≤ 2040
     → take n out ≡ payload_held one asks → kinds ≡ kinds_held other asks → IsTrue (list_all is_narrow kinds) → are_proper catalog.schema asks ≡ true
     → (n ≤ 2040) × IsHeld catalog asks (take n out) kinds
-held_of catalog one other asks out n kinds e f most payload its narrow proper = (most, record {
-  proper = proper;
-  its_payload = payload ∙ ap (λ (schema : Schema). payload_held schema asks) e;
-  short = let short = length-take n out in omega (arith, short, most);
-  its_kinds = its ∙ ap (λ (schema : Schema). kinds_held schema asks) f;
-  narrow = narrow;
-})
+held_of catalog one other asks out n kinds e f most payload its narrow proper = (
+  most,
+  record {
+    proper = proper;
+    its_payload = payload ∙ ap (λ (schema : Schema). payload_held schema asks) e;
+    short = let short = length-take n out in omega (arith, short, most);
+    its_kinds = its ∙ ap (λ (schema : Schema). kinds_held schema asks) f;
+    narrow = narrow;
+  },
+)
 
 -- asks that are handed in are not known
 pub none_known : (forms : List AskForm) → are_known (map (form_of None) forms) ≡ true → map (form_of None) forms ≡ []

@@ -9,7 +9,7 @@ use Rattle.ghost_model.specs.Asks.{Asked}
 use Rattle.ghost_model.specs.Moves.{taken}
 use Rattle.ghost_model.specs.NextMove as next
 use Rattle.ghost_model.specs.NextMove.{Awaits, Missing, Nothing, Heard, Left, Turn, left, next_with, heard}
-use Rattle.channel_pump.specs.Forms.{Form, form_of}
+use Rattle.channel_pump.specs.Forms.{Form, are_known, form_of}
 use Rattle.channel_pump.specs.declared.forms.AskForm.{AskForm}
 use Rattle.channel_pump.specs.declared.state.Pump.{Pump}
 use Rattle.channel_pump.specs.declared.state.Phase.{Phase}
@@ -171,6 +171,10 @@ pub record IsLeft (catalog : Catalog) (asks : List Asked) (p : Pump) (l : Left) 
 -- the pump stands where the journal leaves a session with these asks
 abbrev pub IsAfter : Catalog → (asks : List Asked) → Journal → Pump → Type 0
 IsAfter catalog asks journal p = IsLeft catalog asks p (left catalog asks journal)
+
+-- each ask that is left is known, as in a session of a script
+abbrev pub KnowsAsks : Pump → Type 0
+KnowsAsks p = are_known p.rest ≡ true
 
 -- a page begins with the part of the frame at hand
 abbrev pub Keeps : Catalog → (asks : List Asked) → Journal → (page : List ℕ) → Type 0

@@ -13,12 +13,11 @@ ghost use Rattle.ghost_model.specs.Frames.{payload_of};
 ghost use Rattle.ghost_model.specs.Catalog.{catalog_bytes};
 ghost use Rattle.channel_codec.specs.AskViews.{ask_view};
 ghost use Rattle.channel_codec.specs.Views.{frame_view};
-ghost use Rattle.channel_pump.specs.Forms.{are_known};
 ghost use Rattle.channel_pump.specs.Asked.{AreAsked};
 ghost use Rattle.channel_pump.specs.Here.{moves_left, awaits_at};
 ghost use Rattle.channel_pump.specs.Marks.{asked_at, state_of};
 ghost use Rattle.channel_pump.specs.State as state;
-ghost use Rattle.channel_pump.specs.State.{IsAfter, Keeps, IsWanted, IsTakenBy, FitsPage, Begins, want_of, want_at, is_done_by, can_fail, is_take, entry, taken_entry, cause_at, frame_due};
+ghost use Rattle.channel_pump.specs.State.{IsAfter, Keeps, KnowsAsks, IsWanted, IsTakenBy, FitsPage, Begins, want_of, want_at, is_done_by, can_fail, is_take, entry, taken_entry, cause_at, frame_due};
 ghost use Rattle.channel_pump.specs.Turning.{event_after};
 ghost use Rattle.channel_pump.specs.Progress.{RowsHere, Tells, EndsAs};
 
@@ -61,7 +60,7 @@ impl<'a> Pump<'a> {
     pub fn begin(cat: &'a tree_schema::Catalog, script: &'a [u8]) -> Self
         requires texts { length (texts_of script.now) ≤ MAX_TEXTS }
         ensures after { IsAfter cat.now (asked_of cat.now.schema (texts_of script.now)) [] result }
-        ensures known { are_known result.rest ≡ true }
+        ensures known { KnowsAsks result }
         ensures want { want_of result ≡ Want.Dial }
     {
         Pump::start(
@@ -146,7 +145,7 @@ impl<'a> Pump<'a> {
     /// greeting, and none behind the last ask.
     pub fn asked(&self) -> Option<(u32, &Ask)>
         ensures awaited { (catalog : Catalog) (asks : List Asked) (journal : Journal)
-            → IsAfter catalog asks journal self.now → are_known self.now.rest ≡ true
+            → IsAfter catalog asks journal self.now → KnowsAsks self.now
             → option_map (λ first. asked first.0 (ask_view first.1.now)) result ≡ asked_at (heard catalog asks (taken journal)).awaits }
     {
         match self.phase {
@@ -197,7 +196,7 @@ impl<'a> Pump<'a> {
         ensures after { (catalog : Catalog) (at : List ℕ) (asks : List Asked) (journal : Journal) (move : Move)
             → IsAfter catalog asks journal self.old → next_with catalog at asks journal ≡ Some move
             → IsAfter catalog asks (journal ++ entry move channel.Made ∷ []) self.new }
-        ensures known { are_known self.old.rest ≡ true → are_known self.new.rest ≡ true }
+        ensures known { KnowsAsks self.old → KnowsAsks self.new }
         ensures fewer { moves_left self.new < moves_left self.old }
     {
         match self.stage {
@@ -219,7 +218,7 @@ impl<'a> Pump<'a> {
         ensures after { (catalog : Catalog) (at : List ℕ) (asks : List Asked) (journal : Journal) (move : Move)
             → IsAfter catalog asks journal self.old → next_with catalog at asks journal ≡ Some move
             → IsAfter catalog asks (journal ++ entry move channel.Failed ∷ []) self.new }
-        ensures known { are_known self.old.rest ≡ true → are_known self.new.rest ≡ true }
+        ensures known { KnowsAsks self.old → KnowsAsks self.new }
         ensures fewer { moves_left self.new < moves_left self.old }
     {
         self.stage = Stage::Closing(Cause::Link);
@@ -231,7 +230,7 @@ impl<'a> Pump<'a> {
         ensures after { (catalog : Catalog) (at : List ℕ) (asks : List Asked) (journal : Journal) (move : Move)
             → IsAfter catalog asks journal self.old → next_with catalog at asks journal ≡ Some move
             → IsAfter catalog asks (journal ++ entry move channel.End ∷ []) self.new }
-        ensures known { are_known self.old.rest ≡ true → are_known self.new.rest ≡ true }
+        ensures known { KnowsAsks self.old → KnowsAsks self.new }
         ensures fewer { moves_left self.new < moves_left self.old }
     {
         self.stage = Stage::Closing(Cause::Link);
@@ -255,7 +254,7 @@ impl<'a> Pump<'a> {
             → IsAfter catalog asks journal self.old → Keeps catalog asks journal page.now
             → Tells catalog page.now result (heard catalog asks (taken journal)) (heard catalog asks (taken (journal ++ taken_entry self.old page.now n ∷ []))) }
         ensures rows { RowsHere self.old page.now result }
-        ensures known { are_known self.old.rest ≡ true → are_known self.new.rest ≡ true }
+        ensures known { KnowsAsks self.old → KnowsAsks self.new }
         ensures fewer { moves_left self.new < moves_left self.old }
     {
         let (part, _rest) = page.split_at(self.have + n);

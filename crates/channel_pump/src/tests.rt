@@ -47,30 +47,29 @@ const DAY_ROWS: &[u8] =
 
 const DAY_DONE: &[u8] = b"\x13\x01\0\x04\0\0\0\x02\0\0\0\x04";
 
-/// What a host says, piece by piece.
+/// A place in what a host says: a piece, and so many of its bytes.
 #[derive(Drop)]
-struct Stream<'a> {
-    piece: &'a [u8],
-    later: &'a [&'a [u8]],
+struct Place {
+    piece: usize,
+    done: usize,
 }
 
-/// Gives bytes of a stream, as many as find room and come from one piece; answers how many.
-fn give(stream: &mut Stream, room: &mut [u8]) -> usize
+/// Gives bytes from a place on, as many as find room and come from one piece; answers how many.
+fn give(host: &[&[u8]], place: &mut Place, room: &mut [u8]) -> usize
     ensures fits { result ≤ length room.old }
 {
-    if stream.piece.is_empty() {
-        match stream.later.split_first() {
-            Some((piece, later)) => {
-                stream.piece = *piece;
-                stream.later = later;
-            }
-            None => return 0,
-        }
+    if place.piece >= host.len() {
+        return 0;
     }
-    let count = stream.piece.len().min(room.len());
-    let (given, rest) = stream.piece.split_at(count);
-    room[..count].copy_from_slice(given);
-    stream.piece = rest;
+    let piece = host[place.piece];
+    let done = place.done.min(piece.len());
+    let count = (piece.len() - done).min(room.len());
+    room[..count].copy_from_slice(&piece[done..done + count]);
+    place.done = done + count;
+    if place.done == piece.len() {
+        place.piece += 1;
+        place.done = 0;
+    }
     count
 }
 
@@ -101,10 +100,9 @@ fn is_same(one: &[u8], other: &[u8]) -> bool {
 fn comes_to(mut pump: Pump, step: usize, host: &[&[u8]], outcome: &Outcome) -> bool
     requires { 0 < step }
 {
-    let mut stream = Stream {
-        piece: b"",
-        later: host,
-    };
+    let (sent, told) = (outcome.sent, outcome.told);
+    let [first_state, second_state] = outcome.states;
+    let mut place = Place { piece: 0, done: 0 };
     let mut page = [0; 2048];
     let mut frames = 0;
     let mut events = 0;
@@ -114,10 +112,10 @@ fn comes_to(mut pump: Pump, step: usize, host: &[&[u8]], outcome: &Outcome) -> b
             Want::Send => {
                 let text = text_at_hand(&pump);
                 let count = pump.frame(&mut page);
-                if frames >= outcome.sent.len() {
+                if frames >= sent.len() {
                     return false;
                 }
-                let (of_text, bytes) = outcome.sent[frames];
+                let (of_text, bytes) = sent[frames];
                 if of_text != text || !is_same(bytes, &page[..count]) {
                     return false;
                 }
@@ -125,7 +123,7 @@ fn comes_to(mut pump: Pump, step: usize, host: &[&[u8]], outcome: &Outcome) -> b
                 pump.made();
             }
             Want::Take { at, most } => {
-                let count = give(&mut stream, &mut page[at..at + step.min(most)]);
+                let count = give(host, &mut place, &mut page[at..at + step.min(most)]);
                 if count == 0 {
                     pump.ended();
                     continue;
@@ -134,17 +132,17 @@ fn comes_to(mut pump: Pump, step: usize, host: &[&[u8]], outcome: &Outcome) -> b
                 if event == Event::Part {
                     continue;
                 }
-                if events >= outcome.told.len() || outcome.told[events] != event {
+                if events >= told.len() || told[events] != event {
                     return false;
                 }
                 events += 1;
             }
             Want::Closed => {
-                return frames == outcome.sent.len()
-                    && events == outcome.told.len()
+                return frames == sent.len()
+                    && events == told.len()
                     && pump.cause() == Some(outcome.cause)
-                    && pump.reply_state(1) == outcome.states[0]
-                    && pump.reply_state(2) == outcome.states[1];
+                    && pump.reply_state(1) == first_state
+                    && pump.reply_state(2) == second_state;
             }
         }
     }
