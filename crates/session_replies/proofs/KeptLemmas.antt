@@ -70,6 +70,7 @@ bound_kept top text old new changes bound own = go (is_even text) refl
   where
     half : (b : Bool) → is_even text ≡ b → half_of new text ≡ (if b then new.even else new.odd)
     half b e = ap (λ (c : Bool). if c then new.even else new.odd) e
+
     go : (b : Bool) → is_even text ≡ b → IsBy top new
     go true e = record {
       even = subst (λ (h : Half). h.text ≤ top) (half true e) own;
@@ -110,27 +111,34 @@ begun catalog heard asked low top text schema ask old new begins was_closed is_s
   where
     no_rows : heard.rows ≡ []
     no_rows = k.closed was_closed
+
     was : (other : ℕ) → low ≤ other → is_refused other heard.ended ≡ false → kept old other ≡ done_of catalog.schema other heard.ended
     was other from_low valid = k.texts other from_low valid ∙ ap (λ (b : Bool). expected catalog.schema heard b other) was_closed
+
     whole : (other : ℕ) → all_of catalog.schema heard other ≡ done_of catalog.schema other heard.ended ++ at_hand catalog.schema other [] (Some asked)
     whole other =
         ap (λ (r : List ℕ). done_of catalog.schema other heard.ended ++ at_hand catalog.schema other r (asked_in heard.awaits)) no_rows
         ∙ ap (λ (a : Option Asked). done_of catalog.schema other heard.ended ++ at_hand catalog.schema other [] a) awaited
+
     is_opened : stored_as catalog.schema asked [] ≡ opened schema ask
     is_opened = rw (is_schema, its_ask) refl
+
     own_whole : all_of catalog.schema heard text ≡ done_of catalog.schema text heard.ended ++ opened schema ask ∷ []
     own_whole = whole text ∙ (ap (λ (x : List Stored). done_of catalog.schema text heard.ended ++ x) (at_own catalog.schema text [] asked its_text) ∙ ap (λ (x : Stored). done_of catalog.schema text heard.ended ++ x ∷ []) is_opened)
+
     places : length (done_of catalog.schema text heard.ended) < 12
     places =
         let long : length (all_of catalog.schema heard text) ≡ length (done_of catalog.schema text heard.ended) + 1 = ap length own_whole ∙ length-append (done_of catalog.schema text heard.ended) (opened schema ask ∷ []) in
         let few : length (all_of catalog.schema heard text) ≤ 12 = fits.places in
         omega (arith, long, few)
+
     own : is_refused text heard.ended ≡ false → kept new text ≡ all_of catalog.schema heard text
     own valid =
         let before : kept old text ≡ done_of catalog.schema text heard.ended = was text from valid in
         kept_some (half_of new text) text begins.holder
         ∙ (begins.stored (subst (λ (xs : List Stored). length xs < 12) (sym before) places)
         ∙ (ap (λ (xs : List Stored). xs ++ opened schema ask ∷ []) before ∙ sym own_whole))
+
     others : (other : ℕ) → low ≤ other → (other ≡ text → ⊥) → kept new other ≡ kept old other
     others other from_low apart = by_parity (same_bool (is_even other) (is_even text))
       where
@@ -141,6 +149,7 @@ begun catalog heard asked low top text schema ask old new begins was_closed is_s
             kept_none (half_of new other) other (λ e. let mine : other ≡ text = sym e ∙ (ap (λ (h : Half). h.text) half ∙ begins.holder) in omega (arith, mine, later))
             ∙ sym (none_behind top other old k.bound (omega (arith, least, later)))
         by_parity (fails differ) = same_kept text other old new begins.changes differ
+
     each : (other : ℕ) → low ≤ other → is_refused other heard.ended ≡ false → Whether (other ≡ text) → kept new other ≡ all_of catalog.schema heard other
     each other from_low valid (holds same) = subst (λ (n : ℕ). is_refused n heard.ended ≡ false → kept new n ≡ all_of catalog.schema heard n) (sym same) own valid
     each other from_low valid (fails apart) =
@@ -213,6 +222,7 @@ pushed catalog before after asked low top payload old new pushes was_open from_l
         go : (b : Bool) → (if b then replies.even else replies.odd).text ≤ top
         go true = bound.even
         go false = bound.odd
+
     each_pushed : (catalog : Catalog) (before after : Heard) (asked : Asked) (payload : List ℕ) (old new : Replies) → Changes old.text old new
         → (half_of new old.text).text ≡ (half_of old old.text).text → (half_of old old.text).text ≡ old.text → old.text ≡ asked.text
         → (bytes_in (half_of old old.text).store.stored + length payload ≤ (half_of old old.text).store.room → (half_of new old.text).store.stored ≡ with_rows (half_of old old.text).store.stored payload)

@@ -6,5 +6,7 @@
 
 mod half;
 pub mod replies;
+#[cfg(test)]
+mod tests;
 
 pub use replies::Replies;
