@@ -3,6 +3,9 @@ pub mod TurningLemmas
 pub mod JournalLemmas
 pub mod CuttingLemmas
 pub mod PlaceLemmas
+pub mod SourceLemmas
+pub mod ScriptLemmas
+pub mod AskedLemmas
 pub mod ReportLemmas
 pub mod TookLemmas
 pub mod CauseLemmas

@@ -10,7 +10,7 @@ use Rattle.ghost_model.specs.Frames as frames
 use Rattle.ghost_model.specs.Asks.{Asked}
 use Rattle.ghost_model.specs.NextMove as next
 use Rattle.ghost_model.specs.NextMove.{Awaits, Missing, Nothing, Ended, Refused, Left}
-use Rattle.channel_pump.specs.declared.forms.AskForm.{AskForm}
+use Rattle.channel_pump.specs.Forms.{Form}
 use Rattle.channel_pump.specs.declared.state.Pump.{Pump}
 use Rattle.channel_pump.specs.declared.state.Phase.{Phase}
 use Rattle.channel_pump.specs.declared.state.Phase.TheVariants.{Greeting, Reply, Over}
@@ -72,12 +72,12 @@ mark_at marks ended at text true e size fits h =
 mark_at marks ended at text false e size fits h =
     get_or-set_other marks at text true false (is_other at text e) ∙ (h ∙ sym (or_false _))
 
-sorry_marks : (catalog : Catalog) (forms : List AskForm) (asked : Asked) (later : List Asked) (marks : List Bool) (ended : List Ended) (code : ℕ)
+sorry_marks : (catalog : Catalog) (forms : List Form) (asked : Asked) (later : List Asked) (marks : List Bool) (ended : List Ended) (code : ℕ)
     → AreAsked catalog forms (asked ∷ later) → AreMarked marks ended → AreMarked (mark_first forms marks) (ended ++ next.ended asked (Refused code) ∷ [])
 sorry_marks catalog [] asked later marks ended code all h = absurd all
 sorry_marks catalog (form ∷ forms) asked later marks ended code all h = record {
   size = length-set marks form.text true ∙ h.size;
-  each = λ text k. mark_at marks ended form.text text (form.text == text) refl h.size form.in_script (h.each text k)
+  each = λ text k. mark_at marks ended form.text text (form.text == text) refl h.size all.0.in_script (h.each text k)
       ∙ (ap (λ (n : ℕ). list_any (is_refusal text) ended || ((n == text) || false)) all.0.text
       ∙ sym (list_any-append (is_refusal text) ended (next.ended asked (Refused code) ∷ [])));
 }
@@ -91,18 +91,18 @@ not_greeting version kind serial size missing e t = grind (arith, nat_tests)
 
 refused_marks : (catalog : Catalog) (p : Pump) (phase : Phase) (awaits : Awaits) (ended : List Ended) (bytes : List ℕ) (bytes_in : List ℕ) (serial code : ℕ)
     → IsAwaiting catalog p phase awaits → frames.kind_in bytes_in ≡ 20 → next.header_fits catalog awaits bytes_in ≡ true → AreMarked p.refused ended
-    → AreMarked (mark_first p.rest.now p.refused) (ended ++ next.ended_by awaits bytes (channel.Sorry serial code))
+    → AreMarked (mark_first p.rest p.refused) (ended ++ next.ended_by awaits bytes (channel.Sorry serial code))
 refused_marks catalog p phase (Missing missing) ended bytes bytes_in serial code h kind t marks =
     absurd (not_greeting (frames.version_in bytes_in) (frames.kind_in bytes_in) (frames.serial_in bytes_in) (frames.size_in bytes_in) (length missing) kind t)
 refused_marks catalog p Greeting (next.Reply _ _ _ _ _) ended bytes bytes_in serial code h kind t marks = absurd h
 refused_marks catalog p Reply (next.Reply asked _ later _ _) ended bytes bytes_in serial code h kind t marks =
-    sorry_marks catalog p.rest.now asked later p.refused ended code h.asks marks
+    sorry_marks catalog p.rest asked later p.refused ended code h.asks marks
 refused_marks catalog p Over (next.Reply _ _ _ _ _) ended bytes bytes_in serial code h kind t marks = absurd h
 refused_marks catalog p phase Nothing ended bytes bytes_in serial code h kind t marks = absurd (no_truth t)
 
 module _ (catalog : Catalog) (p : Pump) (awaits : Awaits) (ended : List Ended) (bytes : List ℕ) (n : ℕ) (whole : List ℕ) where
   abbrev Goal : channel.Frame → Type 0
-  Goal frame = AreMarked (marked_on (event_of n frame) p.rest.now p.refused) (ended ++ next.ended_by awaits bytes frame)
+  Goal frame = AreMarked (marked_on (event_of n frame) p.rest p.refused) (ended ++ next.ended_by awaits bytes frame)
 
   by_kind : FrameKind (frames.kind_in whole) (frames.size_in whole) → IsAwaiting catalog p p.phase awaits → next.header_fits catalog awaits whole ≡ true → AreMarked p.refused ended
       → Goal (frames.frame_in whole)
@@ -120,22 +120,22 @@ module _ (catalog : Catalog) (p : Pump) (awaits : Awaits) (ended : List Ended) (
       by_kind (kind_of_header p p.phase whole t) h (sym (header_is catalog p p.phase awaits whole h) ∙ t) marks
 
 -- the asks that are left are those that are awaited
-any_asked : (catalog : Catalog) (text : ℕ) (forms : List AskForm) (asks : List Asked) → AreAsked catalog forms asks
-    → list_any (λ (form : AskForm). form.text == text) forms ≡ list_any (λ (asked : Asked). asked.text == text) asks
+any_asked : (catalog : Catalog) (text : ℕ) (forms : List Form) (asks : List Asked) → AreAsked catalog forms asks
+    → list_any (λ (form : Form). form.text == text) forms ≡ list_any (λ (asked : Asked). asked.text == text) asks
 any_asked catalog text [] [] h = refl
 any_asked catalog text [] (asked ∷ asks) h = absurd h
 any_asked catalog text (form ∷ forms) [] h = absurd h
 any_asked catalog text (form ∷ forms) (asked ∷ asks) h =
-    ap (λ (n : ℕ). (n == text) || list_any (λ (f : AskForm). f.text == text) forms) h.0.text
+    ap (λ (n : ℕ). (n == text) || list_any (λ (f : Form). f.text == text) forms) h.0.text
     ∙ ap (λ (b : Bool). (asked.text == text) || b) (any_asked catalog text forms asks h.1)
 
 pub awaited_is : (catalog : Catalog) (asks : List Asked) (text : ℕ) (p : Pump) (phase : Phase) (awaits : Awaits) → IsAwaiting catalog p phase awaits → IsFresh catalog asks p phase
     → awaits_at phase p text ≡ list_any (λ (asked : Asked). asked.text == text) (awaited asks awaits)
-awaited_is catalog asks text p Greeting (Missing bytes) h f = any_asked catalog text p.rest.now asks f.all
+awaited_is catalog asks text p Greeting (Missing bytes) h f = any_asked catalog text p.rest asks f.all
 awaited_is catalog asks text p Greeting (next.Reply _ _ _ _ _) h f = absurd h
 awaited_is catalog asks text p Greeting Nothing h f = absurd h
 awaited_is catalog asks text p Reply (Missing bytes) h f = absurd h
-awaited_is catalog asks text p Reply (next.Reply asked _ later _ _) h f = any_asked catalog text p.rest.now (asked ∷ later) h.asks
+awaited_is catalog asks text p Reply (next.Reply asked _ later _ _) h f = any_asked catalog text p.rest (asked ∷ later) h.asks
 awaited_is catalog asks text p Reply Nothing h f = absurd h
 awaited_is catalog asks text p Over (Missing bytes) h f = absurd h
 awaited_is catalog asks text p Over (next.Reply _ _ _ _ _) h f = absurd h

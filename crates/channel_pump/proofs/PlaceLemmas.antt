@@ -7,7 +7,7 @@ use Rattle.ghost_model.specs.Asks.{Asked, rows_in}
 use Rattle.ghost_model.specs.Frames as frames
 use Rattle.ghost_model.specs.NextMove as next
 use Rattle.ghost_model.specs.NextMove.{Awaits, Missing, Nothing}
-use Rattle.channel_pump.specs.declared.forms.AskForm.{AskForm}
+use Rattle.channel_pump.specs.Forms.{Form}
 use Rattle.channel_pump.specs.declared.state.Pump.{Pump}
 use Rattle.channel_pump.specs.declared.state.Phase.{Phase}
 use Rattle.channel_pump.specs.declared.state.Phase.TheVariants.{Greeting, Reply, Over}
@@ -16,7 +16,7 @@ use Rattle.channel_pump.specs.Here.{nothing, header_at, reply_header, payload_at
 use Rattle.channel_pump.specs.State.{IsAwaiting}
 use Rattle.channel_pump.specs.Turning.{rows_of_frame}
 
-reply_header_is : (catalog : Catalog) (forms : List AskForm) (number : ℕ) (asked : Asked) (serial : ℕ) (later : List Asked) (count last : ℕ) (header : List ℕ)
+reply_header_is : (catalog : Catalog) (forms : List Form) (number : ℕ) (asked : Asked) (serial : ℕ) (later : List Asked) (count last : ℕ) (header : List ℕ)
     → AreAsked catalog forms (asked ∷ later) → number ≡ serial
     → reply_header forms number header ≡ next.header_fits catalog (next.Reply asked serial later count last) header
 reply_header_is catalog [] number asked serial later count last header h e = absurd h
@@ -31,17 +31,17 @@ header_is catalog p Greeting (next.Reply _ _ _ _ _) header h = absurd h
 header_is catalog p Greeting Nothing header h = absurd h
 header_is catalog p Reply (Missing bytes) header h = absurd h
 header_is catalog p Reply (next.Reply asked serial later count last) header h =
-    reply_header_is catalog p.rest.now p.serial asked serial later count last header h.asks h.its_serial
+    reply_header_is catalog p.rest p.serial asked serial later count last header h.asks h.its_serial
 header_is catalog p Reply Nothing header h = absurd h
 header_is catalog p Over (Missing bytes) header h = absurd h
 header_is catalog p Over (next.Reply _ _ _ _ _) header h = absurd h
 header_is catalog p Over Nothing header h = refl
 
-pub rows_are : (catalog : Catalog) (form : AskForm) (asked : Asked) (payload : List ℕ) → IsAskForm catalog form asked
+pub rows_are : (catalog : Catalog) (form : Form) (asked : Asked) (payload : List ℕ) → IsAskForm catalog form asked
     → rows_with (form_kinds form) payload ≡ rows_in catalog.schema asked.ask payload
 rows_are catalog form asked payload h = ap (λ (kinds : List schema.Kind). rows_with kinds payload) h.kinds
 
-form_fits_is : (catalog : Catalog) (form : AskForm) (asked : Asked) (count last : ℕ) (frame : channel.Frame) → IsAskForm catalog form asked
+form_fits_is : (catalog : Catalog) (form : Form) (asked : Asked) (count last : ℕ) (frame : channel.Frame) → IsAskForm catalog form asked
     → form_fits form count last frame ≡ next.reply_fits catalog asked.ask count last frame
 form_fits_is catalog form asked count last (channel.Replied _ payload) h =
     ap (λ (n : ℕ). next.rows_fit n last (form_kinds form) (rows_with (form_kinds form) payload)) h.rows
@@ -54,7 +54,7 @@ form_fits_is catalog form asked count last (channel.More _) h = refl
 form_fits_is catalog form asked count last channel.Bye h = refl
 form_fits_is catalog form asked count last (channel.Welcome _ _) h = refl
 
-reply_payload_is : (catalog : Catalog) (forms : List AskForm) (came : ℕ) (final : ℕ) (asked : Asked) (later : List Asked) (count last : ℕ) (frame : channel.Frame)
+reply_payload_is : (catalog : Catalog) (forms : List Form) (came : ℕ) (final : ℕ) (asked : Asked) (later : List Asked) (count last : ℕ) (frame : channel.Frame)
     → AreAsked catalog forms (asked ∷ later) → came ≡ count → final ≡ last → reply_payload forms came final frame ≡ next.reply_fits catalog asked.ask count last frame
 reply_payload_is catalog [] came final asked later count last frame h c l = absurd h
 reply_payload_is catalog (form ∷ forms) came final asked later count last frame h c l =
@@ -67,7 +67,7 @@ payload_is catalog p Greeting (next.Reply _ _ _ _ _) frame h = absurd h
 payload_is catalog p Greeting Nothing frame h = absurd h
 payload_is catalog p Reply (Missing bytes) frame h = absurd h
 payload_is catalog p Reply (next.Reply asked serial later count last) frame h =
-    reply_payload_is catalog p.rest.now p.count p.last asked later count last frame h.asks h.its_count h.its_last
+    reply_payload_is catalog p.rest p.count p.last asked later count last frame h.asks h.its_count h.its_last
 payload_is catalog p Reply Nothing frame h = absurd h
 payload_is catalog p Over (Missing bytes) frame h = absurd h
 payload_is catalog p Over (next.Reply _ _ _ _ _) frame h = absurd h
@@ -84,7 +84,7 @@ verdict_is catalog p awaits part h =
     else if nat_lt (length part) (8 + frames.size_in part) then next.Short (8 + frames.size_in part - length part)
     else if b then next.Whole else next.Invalid) (payload_is catalog p p.phase awaits (frames.frame_in part) h)
 
-reply_rows_are : (catalog : Catalog) (forms : List AskForm) (asked : Asked) (serial : ℕ) (later : List Asked) (count last : ℕ) (frame : channel.Frame)
+reply_rows_are : (catalog : Catalog) (forms : List Form) (asked : Asked) (serial : ℕ) (later : List Asked) (count last : ℕ) (frame : channel.Frame)
     → AreAsked catalog forms (asked ∷ later) → reply_rows forms frame ≡ rows_of_frame catalog (next.Reply asked serial later count last) frame
 reply_rows_are catalog [] asked serial later count last frame h = absurd h
 reply_rows_are catalog (form ∷ forms) asked serial later count last (channel.Replied _ payload) h = rows_are catalog form asked payload h.0
@@ -102,7 +102,7 @@ rows_at_are catalog p Greeting (Missing bytes) frame h = refl
 rows_at_are catalog p Greeting (next.Reply _ _ _ _ _) frame h = absurd h
 rows_at_are catalog p Greeting Nothing frame h = absurd h
 rows_at_are catalog p Reply (Missing bytes) frame h = absurd h
-rows_at_are catalog p Reply (next.Reply asked serial later count last) frame h = reply_rows_are catalog p.rest.now asked serial later count last frame h.asks
+rows_at_are catalog p Reply (next.Reply asked serial later count last) frame h = reply_rows_are catalog p.rest asked serial later count last frame h.asks
 rows_at_are catalog p Reply Nothing frame h = absurd h
 rows_at_are catalog p Over (Missing bytes) frame h = absurd h
 rows_at_are catalog p Over (next.Reply _ _ _ _ _) frame h = absurd h

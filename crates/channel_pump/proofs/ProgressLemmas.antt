@@ -12,14 +12,18 @@ use Rattle.channel_pump.specs.declared.rows.Tally.{Tally}
 use Rattle.channel_pump.specs.declared.state.Pump.{Pump}
 use Rattle.channel_pump.specs.declared.state.Event.{Event}
 use Rattle.channel_pump.specs.declared.state.Event.TheVariants as event
-use Rattle.channel_pump.specs.Here.{verdict_here, Stands}
+use Rattle.channel_pump.specs.Forms.{Form}
+use Rattle.channel_pump.specs.Asked.{width_of, rows_with}
+use Rattle.channel_pump.specs.declared.state.Phase.{Phase}
+use Rattle.channel_pump.specs.declared.state.Phase.TheVariants.{Greeting, Reply, Over}
+use Rattle.channel_pump.specs.Here.{verdict_here, Stands, header_at, payload_at, rows_at, reply_header, reply_payload, reply_rows}
 use Rattle.channel_pump.specs.State.{taken_entry}
 use Rattle.channel_pump.specs.Turning.{event_of, rows_of_frame}
-use Rattle.channel_pump.specs.Progress.{rows_on, ended_on, MayCome, RowsOf, Tells}
+use Rattle.channel_pump.specs.Progress.{rows_on, ended_on, MayCome, RowsOf, Tells, RowsFit, FitAt, RowsHere}
 use Rattle.channel_pump.proofs.RowLemmas.{rows_count}
 use Rattle.channel_pump.proofs.TurningLemmas.{payload_length, frame_of_kind}
 use Rattle.channel_pump.proofs.PlaceLemmas.{header_is, payload_is, rows_at_are}
-use Rattle.channel_pump.proofs.TookLemmas.{At, left_is, rows, done, sorry, kind_of_header, FrameKind, greets, replies}
+use Rattle.channel_pump.proofs.TookLemmas.{At, left_is, rows, done, sorry, kind_of_header, payload_of_longer, FrameKind, greets, replies}
 
 ended_is : (awaits : Awaits) (bytes : List ℕ) (n : ℕ) (frame : channel.Frame) → next.ended_by awaits bytes frame ≡ ended_on (event_of n frame) awaits bytes
 ended_is (Missing _) bytes n (channel.Hello _) = refl
@@ -84,6 +88,51 @@ came_of catalog (next.Reply asked serial later count last) part n kind whole hea
           (rows_whole (frames.version_in part == frames.frame_version) (frames.serial_in part == serial) (row_width catalog.schema asked.ask) (frames.kind_in part) (frames.size_in part) kind header);
     }
 came_of catalog Nothing part n kind whole header payload count = absurd (no_truth header)
+
+rows_short : (version serial : Bool) (width kind size : ℕ) → kind ≡ 18 → (version && serial && next.reply_size_fits width kind size) ≡ true → size ≤ 2040
+rows_short version serial width kind size e t = grind (arith, nat_tests)
+
+reply_fit : (forms : List Form) (serial count last : ℕ) (part : List ℕ) (n : ℕ) → frames.kind_in part ≡ 18 → 8 + frames.size_in part ≤ length part
+    → reply_header forms serial part ≡ true → reply_payload forms count last (frames.frame_in part) ≡ true
+    → n ≡ length (reply_rows forms (frames.frame_in part)) → RowsFit forms last (frames.payload_in part) n
+reply_fit [] serial count last part n kind whole header payload number = absurd (no_truth header)
+reply_fit (form ∷ forms) serial count last part n kind whole header payload number =
+    let frame : frames.frame_in part ≡ channel.Replied (frames.serial_in part) (frames.payload_in part) = frame_of_kind part 18 kind in
+    let counted : n ≡ length (rows_with form.kinds (frames.payload_in part)) =
+    number ∙ ap (λ (f : channel.Frame). length (reply_rows (form ∷ forms) f)) frame in
+    let short : frames.size_in part ≤ 2040 =
+    rows_short (frames.version_in part == frames.frame_version) (frames.serial_in part == serial) (width_of form.kinds) (frames.kind_in part) (frames.size_in part) kind header in
+    let long : length (frames.payload_in part) ≡ frames.size_in part = payload_length part whole in
+    record {
+      fit = subst (λ (f : channel.Frame). reply_payload (form ∷ forms) count last f ≡ true) frame payload;
+      count = counted;
+      size = payload_length part whole
+          ∙ product (width_of form.kinds) (frames.size_in part) n
+          (counted ∙ (rows_count (width_of form.kinds) (length (frames.payload_in part) / width_of form.kinds) (frames.payload_in part)
+          ∙ ap (λ (k : ℕ). k / width_of form.kinds) (payload_length part whole)))
+          (rows_whole (frames.version_in part == frames.frame_version) (frames.serial_in part == serial) (width_of form.kinds) (frames.kind_in part) (frames.size_in part) kind header);
+      short = omega (arith, short, long);
+    }
+
+fit_at : (p : Pump) (phase : Phase) (part : List ℕ) (n : ℕ) → frames.kind_in part ≡ 18 → 8 + frames.size_in part ≤ length part
+    → header_at phase p part ≡ true → payload_at phase p (frames.frame_in part) ≡ true → n ≡ length (rows_at phase p (frames.frame_in part)) → FitAt phase p (frames.payload_in part) n
+fit_at p Greeting part n kind whole header payload number =
+    not_greeting (frames.version_in part) (frames.kind_in part) (frames.serial_in part) (frames.size_in part) (length p.missing) kind header
+fit_at p Reply part n kind whole header payload number = reply_fit p.rest p.serial p.count p.last part n kind whole header payload number
+fit_at p Over part n kind whole header payload number = absurd (no_truth header)
+
+pub rows_here : (p : Pump) (m : ℕ) (page : List ℕ) (tally : Tally) → 8 ≤ length page → Stands p (take m page) tally → RowsHere p page (event_of tally.rows (frames.frame_in (take m page)))
+rows_here p m page tally long stands =
+    by_kind (kind_of_header p p.phase (take m page) stands.header)
+  where
+    by_kind : FrameKind (frames.kind_in (take m page)) (frames.size_in (take m page)) → RowsHere p page (event_of tally.rows (frames.frame_in (take m page)))
+    by_kind (greets k) = subst (λ (f : channel.Frame). RowsHere p page (event_of tally.rows f)) (sym (frame_of_kind (take m page) 17 k)) tt
+    by_kind (replies (rows k)) =
+        subst (λ (f : channel.Frame). RowsHere p page (event_of tally.rows f)) (sym (frame_of_kind (take m page) 18 k))
+        (subst (λ (x : List ℕ). FitAt p.phase p x tally.rows) (payload_of_longer m page long stands.whole)
+        (fit_at p p.phase (take m page) tally.rows k stands.whole stands.header stands.payload stands.rows.rows))
+    by_kind (replies (done k z)) = subst (λ (f : channel.Frame). RowsHere p page (event_of tally.rows f)) (sym (frame_of_kind (take m page) 19 k)) tt
+    by_kind (replies (sorry k z)) = subst (λ (f : channel.Frame). RowsHere p page (event_of tally.rows f)) (sym (frame_of_kind (take m page) 20 k)) tt
 
 module _ (catalog : Catalog) (asks : List Asked) (journal : Journal) (p : Pump) (page : List ℕ) (n : ℕ) where
   abbrev part : List ℕ

@@ -5,6 +5,7 @@ use Rattle.std.specs.List.{slice_get}
 use Rattle.std.proofs.lemmas.List.{get_or-replicate}
 use Rattle.std.proofs.lemmas.Option.{slice_get_past}
 use Rattle.channel_pump.specs.Marks.{AreMarked}
+use Rattle.ghost_model.specs.Catalog.{catalog_bytes}
 use Rattle.ghost_model.specs.Channel as channel
 use Rattle.ghost_model.specs.Channel.{Catalog, Move, Journal}
 use Rattle.ghost_model.specs.Frames.{frame_bytes}
@@ -12,7 +13,7 @@ use Rattle.ghost_model.specs.Asks.{Asked}
 use Rattle.ghost_model.specs.Moves.{piece_of, sent_by}
 use Rattle.ghost_model.specs.NextMove as next
 use Rattle.ghost_model.specs.NextMove.{Awaits, Missing, Nothing, Left, next_of, next_with, left, rest_of, send_or, is_close, is_stop, lacks}
-use Rattle.channel_pump.specs.declared.forms.AskForm.{AskForm}
+use Rattle.channel_pump.specs.Forms.{Form}
 use Rattle.channel_pump.specs.declared.state.Pump.{Pump}
 use Rattle.channel_pump.specs.declared.state.Phase.{Phase}
 use Rattle.channel_pump.specs.declared.state.Phase.TheVariants.{Greeting, Reply, Over}
@@ -25,7 +26,7 @@ use Rattle.channel_pump.specs.declared.state.Cause.TheVariants.{Finished, Link, 
 use Rattle.channel_pump.specs.declared.state.Want.{Want}
 use Rattle.channel_pump.specs.declared.state.Want.TheVariants as want
 use Rattle.channel_pump.specs.Asked.{AreAsked}
-use Rattle.channel_pump.specs.State.{IsLeft, Begins, is_bye, can_fail, is_take, IsAfter, IsAwaiting, IsFresh, IsStage, IsDialling, IsSending, IsTaking, IsFinished, IsCause, want_of, want_at, frame_due, is_over, is_opened, is_closed, has_stopped, has_broken, entry}
+use Rattle.channel_pump.specs.State.{IsLeft, is_bye, can_fail, is_take, IsAfter, IsAwaiting, IsFresh, IsStage, IsDialling, IsSending, IsTaking, IsFinished, IsCause, want_of, want_at, frame_due, is_over, is_opened, is_closed, has_stopped, has_broken, entry}
 use Rattle.channel_pump.proofs.JournalLemmas.{goes, goes_to, left_more, left_of, hear_none}
 
 -- the next move, over plain values
@@ -149,8 +150,8 @@ module _ (catalog : Catalog) (at : List ℕ) (asks : List Asked) (p : Pump) (l :
 -- two pumps await the same, and send the same
 pub record Same (p q : Pump) : Type 0 where
   pub phase : q.phase ≡ p.phase
-  pub missing : q.missing.now ≡ p.missing.now
-  pub rest : q.rest.now ≡ p.rest.now
+  pub missing : q.missing ≡ p.missing
+  pub rest : q.rest ≡ p.rest
   pub serial : q.serial ≡ p.serial
   pub count : q.count ≡ p.count
   pub last : q.last ≡ p.last
@@ -162,7 +163,7 @@ same_awaiting catalog p q Greeting (next.Reply _ _ _ _ _) s h = absurd h
 same_awaiting catalog p q Greeting Nothing s h = absurd h
 same_awaiting catalog p q Reply (Missing bytes) s h = absurd h
 same_awaiting catalog p q Reply (next.Reply asked serial later count last) s h = record {
-  asks = subst (λ (forms : List AskForm). AreAsked catalog forms (asked ∷ later)) (sym s.rest) h.asks;
+  asks = subst (λ (forms : List Form). AreAsked catalog forms (asked ∷ later)) (sym s.rest) h.asks;
   its_serial = s.serial ∙ h.its_serial;
   its_count = s.count ∙ h.its_count;
   its_last = s.last ∙ h.its_last;
@@ -174,7 +175,7 @@ same_awaiting catalog p q Over Nothing s h = h
 
 same_fresh : (catalog : Catalog) (asks : List Asked) (p q : Pump) (phase : Phase) → Same p q → IsFresh catalog asks p phase → IsFresh catalog asks q phase
 same_fresh catalog asks p q Greeting s h = record {
-  all = subst (λ (forms : List AskForm). AreAsked catalog forms asks) (sym s.rest) h.all;
+  all = subst (λ (forms : List Form). AreAsked catalog forms asks) (sym s.rest) h.all;
   serial = s.serial ∙ h.serial;
 }
 same_fresh catalog asks p q Reply s h = h
@@ -358,30 +359,30 @@ closed_after catalog at asks journal p q cause move s before stage was h n =
     }))
 
 -- before the first move
-pub begun : (catalog : Catalog) (asks : List Asked) (q : Pump) (generation : ℕ) (bytes : List ℕ) (forms : List AskForm) → Begins catalog asks generation bytes forms
-    → q.generation ≡ generation → q.missing.now ≡ bytes → q.rest.now ≡ forms → q.serial ≡ 1 → q.before ≡ 0 → q.phase ≡ Greeting → q.stage ≡ Dialling → q.refused ≡ replicate 65 false
+pub begun : (catalog : Catalog) (asks : List Asked) (q : Pump) (generation : ℕ) (bytes : List ℕ) (forms : List Form) → catalog.generation ≡ generation → catalog_bytes catalog ≡ bytes → AreAsked catalog forms asks
+    → q.generation ≡ generation → q.missing ≡ bytes → q.rest ≡ forms → q.serial ≡ 1 → q.before ≡ 0 → q.phase ≡ Greeting → q.stage ≡ Dialling → q.refused ≡ replicate 65 false
     → IsAfter catalog asks [] q
-begun catalog asks q generation bytes forms b g m r serial before phase stage refused =
+begun catalog asks q generation bytes forms its_generation its_bytes its_asks g m r serial before phase stage refused =
     subst (λ (h : next.Heard). IsLeft catalog asks q (left_of false false false 0 h)) (sym (hear_none catalog asks (next.at_first catalog)))
     (record {
       opened = sym (ap is_opened stage);
       closed = sym (ap is_closed stage);
       stopped = sym (ap has_stopped stage);
       broken = sym (ap has_broken stage);
-      awaits = subst (λ (x : Phase). IsAwaiting catalog q x (next.at_first catalog).awaits) (sym phase) (m ∙ sym b.its_bytes);
+      awaits = subst (λ (x : Phase). IsAwaiting catalog q x (next.at_first catalog).awaits) (sym phase) (m ∙ sym its_bytes);
       fresh = subst (λ (x : Phase). IsFresh catalog asks q x) (sym phase)
-          (record { all = subst (λ (x : List AskForm). AreAsked catalog x asks) (sym r) b.its_asks; serial = serial });
+          (record { all = subst (λ (x : List Form). AreAsked catalog x asks) (sym r) its_asks; serial = serial });
       before = before;
       refused = subst (λ (x : List Bool). AreMarked x []) (sym refused) (record { size = refl; each = λ text h. get_or-replicate 65 text false false (omega (arith, h)) });
       stage = subst (λ (x : Stage). IsStage catalog q (left_of false false false 0 (next.at_first catalog)) x) (sym stage) (record {
         phase = ap is_over phase;
         sent = refl;
-        due = ap (λ (n : ℕ). channel.Hello n ∷ []) (b.its_generation ∙ sym g);
+        due = ap (λ (n : ℕ). channel.Hello n ∷ []) (its_generation ∙ sym g);
         part = refl;
       });
     })
 
-pub same_fields : (p q : Pump) → q.phase ≡ p.phase → q.missing.now ≡ p.missing.now → q.rest.now ≡ p.rest.now → q.serial ≡ p.serial → q.count ≡ p.count → q.last ≡ p.last → q.refused ≡ p.refused → Same p q
+pub same_fields : (p q : Pump) → q.phase ≡ p.phase → q.missing ≡ p.missing → q.rest ≡ p.rest → q.serial ≡ p.serial → q.count ≡ p.count → q.last ≡ p.last → q.refused ≡ p.refused → Same p q
 same_fields p q phase missing rest serial count last refused =
     record { phase = phase; missing = missing; rest = rest; serial = serial; count = count; last = last; refused = refused }
 

@@ -2,7 +2,7 @@
 use Rattle.std.proofs.Common.{◌≡◌, ℕ, zero, suc, ◌+◌, ◌-◌, ◌^◌, ◌<◌, ◌≤◌, min, Bool, true, false, ◌&&◌, ◌==◌, nat_le, ◌||◌, Some, List, [], ◌∷◌, ◌++◌, length, take, drop, flat_map, refl, ap, sym, ◌∙◌, subst, arith, append-nil}
 use Rattle.std.specs.List.{slice_get}
 use Rattle.std.proofs.Math.Seq.{take-add}
-use Rattle.std.proofs.lemmas.List.{length-append, length-drop, length-take-le, drop-take}
+use Rattle.std.proofs.lemmas.List.{length-append, length-drop, length-take-le, drop-take, take-take}
 use Rattle.std.proofs.lemmas.Grind.{flat_map-append}
 use Rattle.std.proofs.lemmas.Bool.Decides.{nat_tests}
 use Rattle.ghost_model.specs.Channel as channel
@@ -11,7 +11,7 @@ use Rattle.ghost_model.specs.Frames as frames
 use Rattle.ghost_model.specs.Asks.{Asked}
 use Rattle.ghost_model.specs.NextMove as next
 use Rattle.ghost_model.specs.NextMove.{Awaits, Heard, Left, left, heard, hear_all, heard_as}
-use Rattle.channel_pump.specs.declared.forms.AskForm.{AskForm}
+use Rattle.channel_pump.specs.Forms.{Form}
 use Rattle.channel_pump.specs.declared.rows.Tally.{Tally}
 use Rattle.channel_pump.specs.declared.state.Pump.{Pump}
 use Rattle.channel_pump.specs.declared.state.Phase.{Phase}
@@ -321,10 +321,10 @@ pub data FrameKind (kind size : ℕ) : Type 0 where
 
 pub kind_of_header : (p : Pump) (phase : Phase) (bytes : List ℕ) → header_at phase p bytes ≡ true → FrameKind (frames.kind_in bytes) (frames.size_in bytes)
 kind_of_header p Greeting bytes t =
-    greets (greeting_kind (frames.version_in bytes) (frames.kind_in bytes) (frames.serial_in bytes) (frames.size_in bytes) (length p.missing.now) t).0
-kind_of_header p Reply bytes t = reply_kind_of p.rest.now t
+    greets (greeting_kind (frames.version_in bytes) (frames.kind_in bytes) (frames.serial_in bytes) (frames.size_in bytes) (length p.missing) t).0
+kind_of_header p Reply bytes t = reply_kind_of p.rest t
   where
-    reply_kind_of : (forms : List AskForm) → reply_header forms p.serial bytes ≡ true → FrameKind (frames.kind_in bytes) (frames.size_in bytes)
+    reply_kind_of : (forms : List Form) → reply_header forms p.serial bytes ≡ true → FrameKind (frames.kind_in bytes) (frames.size_in bytes)
     reply_kind_of [] e = absurd (no_truth e)
     reply_kind_of (form ∷ forms) e =
         replies (reply_kind (frames.version_in bytes == frames.frame_version) (frames.serial_in bytes == p.serial) (width_of (form_kinds form)) (frames.kind_in bytes) (frames.size_in bytes)
@@ -336,15 +336,15 @@ payload_size : (p : Pump) (phase : Phase) (bytes : List ℕ) → 8 + frames.size
 payload_size p Greeting bytes whole t =
     let size : length (frames.payload_in bytes) ≡ frames.size_in bytes = payload_length bytes whole in
     let kind : (frames.kind_in bytes ≡ 17) × (2 ≤ frames.size_in bytes) =
-    greeting_kind (frames.version_in bytes) (frames.kind_in bytes) (frames.serial_in bytes) (frames.size_in bytes) (length p.missing.now) t in
+    greeting_kind (frames.version_in bytes) (frames.kind_in bytes) (frames.serial_in bytes) (frames.size_in bytes) (length p.missing) t in
     ap (λ (f : channel.Frame). length (frames.payload_of f)) (frame_of_kind bytes 17 kind.0)
     ∙ greeting_size (frames.payload_in bytes) (frames.size_in bytes) size kind.1
   where
     greeting_size : (payload : List ℕ) (size : ℕ) → length payload ≡ size → 2 ≤ size → suc (length (drop 1 payload)) ≡ size
     greeting_size payload size e some = omega (arith, length-drop 1 payload, e, some)
-payload_size p Reply bytes whole t = reply_size p.rest.now t
+payload_size p Reply bytes whole t = reply_size p.rest t
   where
-    reply_size : (forms : List AskForm) → reply_header forms p.serial bytes ≡ true → length (frames.payload_of (frames.frame_in bytes)) ≡ frames.size_in bytes
+    reply_size : (forms : List Form) → reply_header forms p.serial bytes ≡ true → length (frames.payload_of (frames.frame_in bytes)) ≡ frames.size_in bytes
     reply_size [] e = absurd (no_truth e)
     reply_size (form ∷ forms) e =
         elim (reply_kind (frames.version_in bytes == frames.frame_version) (frames.serial_in bytes == p.serial) (width_of (form_kinds form)) (frames.kind_in bytes) (frames.size_in bytes)
@@ -387,3 +387,21 @@ payload_of_front m page long size e =
     take_twice zero xs = refl
     take_twice (suc n) [] = refl
     take_twice (suc n) (x ∷ xs) = ap (λ (y : List ℕ). x ∷ y) (take_twice n xs)
+
+front_most : (m : ℕ) (xs : List ℕ) → length (take m xs) ≤ m
+front_most zero xs = omega arith
+front_most (suc m) [] = omega arith
+front_most (suc m) (x ∷ xs) = let less : length (take m xs) ≤ m = front_most m xs in omega (arith, less)
+
+-- a frame in a front of a page has its payload behind the header
+pub payload_of_longer : (m : ℕ) (page : List ℕ) → 8 ≤ length page → 8 + frames.size_in (take m page) ≤ length (take m page)
+    → frames.payload_in (take m page) ≡ frames.payload_in page
+payload_of_longer m page long whole =
+    let most : length (take m page) ≤ m = front_most m page in
+    let k : ℕ = m - 8 in
+    let e : m ≡ 8 + (m - 8) = omega (arith, most, whole) in
+    let same : frames.size_in (take m page) ≡ frames.size_in page =
+    ap (λ (n : ℕ). frames.size_in (take n page)) e ∙ size_of_front (m - 8) page long in
+    ap (λ (n : ℕ). take (frames.size_in (take m page)) (drop 8 (take n page))) e
+    ∙ (ap (λ (x : List ℕ). take (frames.size_in (take m page)) x) (drop-take 8 (m - 8) page)
+    ∙ (take-take (frames.size_in (take m page)) (m - 8) (drop 8 page) (omega (arith, most, whole)) ∙ ap (λ (n : ℕ). take n (drop 8 page)) same))

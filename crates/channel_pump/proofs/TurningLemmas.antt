@@ -10,7 +10,7 @@ use Rattle.ghost_model.specs.Asks.{Asked, ask_payload}
 use Rattle.ghost_model.specs.Schema.{Schema}
 use Rattle.ghost_model.specs.Frames as frames
 use Rattle.ghost_model.specs.NextMove as next
-use Rattle.channel_pump.specs.declared.forms.AskForm.{AskForm}
+use Rattle.channel_pump.specs.Forms.{Form}
 use Rattle.channel_pump.specs.declared.state.Pump.{Pump}
 use Rattle.channel_pump.specs.declared.state.Phase.{Phase}
 use Rattle.channel_pump.specs.declared.state.Phase.TheVariants.{Greeting, Reply}
@@ -26,25 +26,25 @@ use Rattle.channel_pump.specs.Turning.{forms_after}
 false_is_not : false ≡ true → ⊥
 false_is_not e = cc
 
-payload_of_first : (catalog : Catalog) (forms : List AskForm) (asked : Asked) (later : List Asked) → AreAsked catalog forms (asked ∷ later)
+payload_of_first : (catalog : Catalog) (forms : List Form) (asked : Asked) (later : List Asked) → AreAsked catalog forms (asked ∷ later)
     → first_payload forms ≡ ask_payload catalog.schema asked.ask
 payload_of_first catalog [] asked later h = absurd h
 payload_of_first catalog (form ∷ forms) asked later h = h.0.payload
 
 -- asks are left, and the first of them is sent
 pub asks_on : (catalog : Catalog) (q : Pump) (serial : ℕ) (asks : List Asked) → q.phase ≡ Reply → q.stage ≡ Sending Ask → q.serial ≡ serial
-    → q.count ≡ 0 → q.last ≡ 0 → 0 < length q.rest.now → AreAsked catalog q.rest.now asks
+    → q.count ≡ 0 → q.last ≡ 0 → 0 < length q.rest → AreAsked catalog q.rest asks
     → IsTurned catalog q (next.on_with catalog.schema serial asks)
-asks_on catalog q serial [] phase stage s count last some h = absurd (none_left catalog q.rest.now some h)
+asks_on catalog q serial [] phase stage s count last some h = absurd (none_left catalog q.rest some h)
   where
-    none_left : (catalog : Catalog) (forms : List AskForm) → 0 < length forms → AreAsked catalog forms [] → ⊥
+    none_left : (catalog : Catalog) (forms : List Form) → 0 < length forms → AreAsked catalog forms [] → ⊥
     none_left catalog [] some h = omega (arith, some)
     none_left catalog (form ∷ forms) some h = h
 asks_on catalog q serial (asked ∷ later) phase stage s count last some h = record {
   awaits = subst (λ (x : Phase). IsAwaiting catalog q x (next.Reply asked serial later 0 0)) (sym phase)
       (record { asks = h; its_serial = s; its_count = count; its_last = last });
-  due = ap (λ (p : List ℕ). channel.Asking serial p ∷ []) (sym (payload_of_first catalog q.rest.now asked later h))
-      ∙ (ap (λ (n : ℕ). channel.Asking n (first_payload q.rest.now) ∷ []) (sym s)
+  due = ap (λ (p : List ℕ). channel.Asking serial p ∷ []) (sym (payload_of_first catalog q.rest asked later h))
+      ∙ (ap (λ (n : ℕ). channel.Asking n (first_payload q.rest) ∷ []) (sym s)
       ∙ ap (due_at q) (sym stage));
 }
 
@@ -106,7 +106,7 @@ greeted_part schema asks missing part whole fits ne =
     ∙ (ap (greeting_turn schema asks missing (welcomed part)) (test_false (length (welcomed part)) (length missing) (λ e. ne (sym (welcomed_length part whole) ∙ e)))
     ∙ ap (λ (n : ℕ). next.still (next.Missing (drop n missing))) (welcomed_length part whole))
 
-pub still_missing : (catalog : Catalog) (q : Pump) (turn : next.Turn) (bytes : List ℕ) → q.phase ≡ Greeting → q.stage ≡ Taking → q.missing.now ≡ bytes
+pub still_missing : (catalog : Catalog) (q : Pump) (turn : next.Turn) (bytes : List ℕ) → q.phase ≡ Greeting → q.stage ≡ Taking → q.missing ≡ bytes
     → turn ≡ next.still (next.Missing bytes) → IsTurned catalog q turn
 still_missing catalog q turn bytes phase stage e t =
     subst (λ (x : next.Turn). IsTurned catalog q x) (sym t) (record {
@@ -130,7 +130,7 @@ record IsRowsSize (width size : ℕ) : Type 0 where
 rows_size : (version serial : Bool) (width kind size : ℕ) → kind ≡ 18 → (version && serial && next.reply_size_fits width kind size) ≡ true → IsRowsSize width size
 rows_size version serial width kind size e t = record { some = grind (arith, nat_tests); whole = grind (arith, nat_tests) }
 
-rows_some : (forms : List AskForm) (serial : ℕ) (part : List ℕ) → 8 + frames.size_in part ≤ length part → frames.kind_in part ≡ 18
+rows_some : (forms : List Form) (serial : ℕ) (part : List ℕ) → 8 + frames.size_in part ≤ length part → frames.kind_in part ≡ 18
     → reply_header forms serial part ≡ true → 0 < length (reply_rows forms (frames.frame_in part))
 rows_some [] serial part whole kind t = absurd (false_is_not t)
 rows_some (form ∷ forms) serial part whole kind t =
@@ -143,46 +143,46 @@ rows_some (form ∷ forms) serial part whole kind t =
     subst (λ (f : channel.Frame). 0 < length (form_rows form f)) (sym (frame_of_kind part 18 kind))
     (subst (λ (n : ℕ). 0 < n) (sym (counted ∙ ap (λ (n : ℕ). n / width_of (form_kinds form)) (payload_length part whole))) more)
 
-fewer_for_reply : (forms : List AskForm) (last now : ℕ) → last < now → now ≤ table_rows forms → frames_of_reply forms now < frames_of_reply forms last
+fewer_for_reply : (forms : List Form) (last now : ℕ) → last < now → now ≤ table_rows forms → frames_of_reply forms now < frames_of_reply forms last
 fewer_for_reply [] last now up low = absurd (omega (arith, up, low))
 fewer_for_reply (form ∷ forms) last now up low = omega (arith, up, low)
 
-pub fewer_by_rows : (p q : Pump) (part : List ℕ) (tally : Tally) → p.phase ≡ Reply → q.phase ≡ p.phase → q.rest.now ≡ p.rest.now → q.last ≡ tally.last
+pub fewer_by_rows : (p q : Pump) (part : List ℕ) (tally : Tally) → p.phase ≡ Reply → q.phase ≡ p.phase → q.rest ≡ p.rest → q.last ≡ tally.last
     → frames.kind_in part ≡ 18 → Stands p part tally → frames_left q < frames_left p
 fewer_by_rows p q part tally phase same rest last kind h =
-    let header : reply_header p.rest.now p.serial part ≡ true = subst (λ (x : Phase). header_at x p part ≡ true) phase h.header in
-    let counted : tally.rows ≡ length (reply_rows p.rest.now (frames.frame_in part)) = subst (λ (x : Phase). tally.rows ≡ length (rows_at x p (frames.frame_in part))) phase h.rows.rows in
-    let some : 0 < length (reply_rows p.rest.now (frames.frame_in part)) = rows_some p.rest.now p.serial part h.whole kind header in
+    let header : reply_header p.rest p.serial part ≡ true = subst (λ (x : Phase). header_at x p part ≡ true) phase h.header in
+    let counted : tally.rows ≡ length (reply_rows p.rest (frames.frame_in part)) = subst (λ (x : Phase). tally.rows ≡ length (rows_at x p (frames.frame_in part))) phase h.rows.rows in
+    let some : 0 < length (reply_rows p.rest (frames.frame_in part)) = rows_some p.rest p.serial part h.whole kind header in
     let rows : 0 < tally.rows = omega (arith, counted, some) in
-    let low : tally.last ≤ table_rows p.rest.now = h.rows.within rows in
+    let low : tally.last ≤ table_rows p.rest = h.rows.within rows in
     let up : p.last < tally.last = omega (arith, h.rows.above, rows) in
-    let fewer : frames_of_reply p.rest.now tally.last < frames_of_reply p.rest.now p.last = fewer_for_reply p.rest.now p.last tally.last up low in
+    let fewer : frames_of_reply p.rest tally.last < frames_of_reply p.rest p.last = fewer_for_reply p.rest p.last tally.last up low in
     subst (λ (x : Phase). frames_at x q < frames_left p) (sym (same ∙ phase))
-    (subst (λ (x : Phase). frames_of_reply q.rest.now q.last < frames_at x p) (sym phase)
-    (subst (λ (x : List AskForm). frames_of_reply x q.last < frames_of_reply p.rest.now p.last) (sym rest)
-    (subst (λ (n : ℕ). frames_of_reply p.rest.now n < frames_of_reply p.rest.now p.last) (sym last) fewer)))
+    (subst (λ (x : Phase). frames_of_reply q.rest q.last < frames_at x p) (sym phase)
+    (subst (λ (x : List Form). frames_of_reply x q.last < frames_of_reply p.rest p.last) (sym rest)
+    (subst (λ (n : ℕ). frames_of_reply p.rest n < frames_of_reply p.rest p.last) (sym last) fewer)))
 
 -- a text that is given up
 
-after_either : (catalog : Catalog) (text : ℕ) (form : AskForm) (forms : List AskForm) (asked : Asked) (asks : List Asked) (b : Bool)
+after_either : (catalog : Catalog) (text : ℕ) (form : Form) (forms : List Form) (asked : Asked) (asks : List Asked) (b : Bool)
     → AreAsked catalog (forms_after text forms) (next.of_later_texts text asks) → AreAsked catalog (form ∷ forms) (asked ∷ asks)
-    → AreAsked catalog (drop (length (cond b (form ∷ take_while (λ (f : AskForm). f.text == text) forms) [])) (form ∷ forms))
+    → AreAsked catalog (drop (length (cond b (form ∷ take_while (λ (f : Form). f.text == text) forms) [])) (form ∷ forms))
     (if b then next.of_later_texts text asks else asked ∷ asks)
 after_either catalog text form forms asked asks true later all = later
 after_either catalog text form forms asked asks false later all = all
 
-pub asked_after : (catalog : Catalog) (text : ℕ) (forms : List AskForm) (asks : List Asked) → AreAsked catalog forms asks
+pub asked_after : (catalog : Catalog) (text : ℕ) (forms : List Form) (asks : List Asked) → AreAsked catalog forms asks
     → AreAsked catalog (forms_after text forms) (next.of_later_texts text asks)
 asked_after catalog text [] [] h = h
 asked_after catalog text [] (asked ∷ asks) h = absurd h
 asked_after catalog text (form ∷ forms) [] h = absurd h
 asked_after catalog text (form ∷ forms) (asked ∷ asks) h =
     subst (λ (n : ℕ). AreAsked catalog (forms_after text (form ∷ forms)) (if n == text then next.of_later_texts text asks else asked ∷ asks)) h.0.text
-    (subst (λ (xs : List AskForm). AreAsked catalog (drop (length xs) (form ∷ forms)) (if form.text == text then next.of_later_texts text asks else asked ∷ asks))
-    (sym (take_while-cons (λ (f : AskForm). f.text == text) form forms))
+    (subst (λ (xs : List Form). AreAsked catalog (drop (length xs) (form ∷ forms)) (if form.text == text then next.of_later_texts text asks else asked ∷ asks))
+    (sym (take_while-cons (λ (f : Form). f.text == text) form forms))
     (after_either catalog text form forms asked asks (form.text == text) (asked_after catalog text forms asks h.1) h))
 
-pub frames_dropped : (n : ℕ) (forms : List AskForm) → frames_for (drop n forms) ≤ frames_for forms
+pub frames_dropped : (n : ℕ) (forms : List Form) → frames_for (drop n forms) ≤ frames_for forms
 frames_dropped zero forms = omega arith
 frames_dropped (suc n) [] = omega arith
 frames_dropped (suc n) (form ∷ forms) = let less : frames_for (drop n forms) ≤ frames_for forms = frames_dropped n forms in omega (arith, less)
@@ -190,7 +190,7 @@ frames_dropped (suc n) (form ∷ forms) = let less : frames_for (drop n forms) �
 sorry_kind : (version serial : Bool) (width kind size : ℕ) → kind ≢ 18 → kind ≢ 19 → (version && serial && next.reply_size_fits width kind size) ≡ true → kind ≡ 20
 sorry_kind version serial width kind size a b t = grind (arith, nat_tests)
 
-pub sorry_header : (forms : List AskForm) (serial : ℕ) (part : List ℕ) → frames.kind_in part ≢ 18 → frames.kind_in part ≢ 19
+pub sorry_header : (forms : List Form) (serial : ℕ) (part : List ℕ) → frames.kind_in part ≢ 18 → frames.kind_in part ≢ 19
     → reply_header forms serial part ≡ true → frames.kind_in part ≡ 20
 sorry_header [] serial part a b t = absurd (false_is_not t)
 sorry_header (form ∷ forms) serial part a b t =
@@ -200,19 +200,36 @@ pub refused_turn : (p : Pump) (part : List ℕ) (schema : Schema) (asked : Asked
     → p.phase ≡ Reply → frames.kind_in part ≢ 18 → frames.kind_in part ≢ 19 → header_at p.phase p part ≡ true
     → next.turn_of_reply schema asked serial later count last (frames.frame_in part) ≡ next.on_with schema (serial + 1) (next.of_later_texts asked.text later)
 refused_turn p part schema asked serial later count last phase a b t =
-    let header : reply_header p.rest.now p.serial part ≡ true = subst (λ (x : Phase). header_at x p part ≡ true) phase t in
-    ap (next.turn_of_reply schema asked serial later count last) (frame_of_kind part 20 (sorry_header p.rest.now p.serial part a b header))
+    let header : reply_header p.rest p.serial part ≡ true = subst (λ (x : Phase). header_at x p part ≡ true) phase t in
+    ap (next.turn_of_reply schema asked serial later count last) (frame_of_kind part 20 (sorry_header p.rest p.serial part a b header))
 
-pub refused_asks : (catalog : Catalog) (form : AskForm) (forms rest : List AskForm) (asked : Asked) (later : List Asked)
+pub refused_asks : (catalog : Catalog) (form : Form) (forms rest : List Form) (asked : Asked) (later : List Asked)
     → AreAsked catalog rest (asked ∷ later) → rest ≡ form ∷ forms → AreAsked catalog (forms_after form.text forms) (next.of_later_texts asked.text later)
 refused_asks catalog form forms rest asked later h e =
-    let all : AreAsked catalog (form ∷ forms) (asked ∷ later) = subst (λ (x : List AskForm). AreAsked catalog x (asked ∷ later)) e h in
+    let all : AreAsked catalog (form ∷ forms) (asked ∷ later) = subst (λ (x : List Form). AreAsked catalog x (asked ∷ later)) e h in
     subst (λ (n : ℕ). AreAsked catalog (forms_after form.text forms) (next.of_later_texts n later)) all.0.text
     (asked_after catalog form.text forms later all.1)
 
 -- an ask that was ended leaves fewer frames
-pub fewer_by_end : (p q : Pump) (form : AskForm) (forms left : List AskForm) → p.phase ≡ Reply → p.rest.now ≡ form ∷ forms
+pub fewer_by_end : (p q : Pump) (form : Form) (forms left : List Form) → p.phase ≡ Reply → p.rest ≡ form ∷ forms
     → frames_for left ≤ frames_for forms → frames_left q ≡ frames_for left → frames_left q < frames_left p
 fewer_by_end p q form forms left phase rest less e =
     subst (λ (x : Phase). frames_left q < frames_at x p) (sym phase)
-    (subst (λ (x : List AskForm). frames_left q < frames_of_reply x p.last) (sym rest) (omega (arith, less, e)))
+    (subst (λ (x : List Form). frames_left q < frames_of_reply x p.last) (sym rest) (omega (arith, less, e)))
+
+-- the asks that are left where the first was refused
+pub asks_given_up : (catalog : Catalog) (rest left later forms : List Form) (form : Form) (text : ℕ) (asked : Asked) (asks : List Asked)
+    → AreAsked catalog rest (asked ∷ asks) → rest ≡ form ∷ forms → form.text ≡ text → later ≡ drop 1 rest → left ≡ forms_after text later
+    → AreAsked catalog left (next.of_later_texts asked.text asks)
+asks_given_up catalog rest left later forms form text asked asks h first of_text without given =
+    let same : later ≡ forms = without ∙ ap (drop 1) first in
+    let its : forms_after form.text forms ≡ left = ap (λ (t : ℕ). forms_after t forms) of_text ∙ (ap (forms_after text) (sym same) ∙ sym given) in
+    subst (λ (x : List Form). AreAsked catalog x (next.of_later_texts asked.text asks)) its (refused_asks catalog form forms rest asked asks h first)
+
+pub fewer_given_up : (p q : Pump) (left later forms : List Form) (form : Form) (text : ℕ) → p.phase ≡ Reply → p.rest ≡ form ∷ forms → form.text ≡ text
+    → later ≡ drop 1 p.rest → left ≡ forms_after text later → frames_left q ≡ frames_for left → frames_left q < frames_left p
+fewer_given_up p q left later forms form text phase first of_text without given e =
+    let same : later ≡ forms = without ∙ ap (drop 1) first in
+    let its : forms_after text forms ≡ left = ap (forms_after text) (sym same) ∙ sym given in
+    fewer_by_end p q form forms left phase first
+    (subst (λ (x : List Form). frames_for x ≤ frames_for forms) its (frames_dropped _ forms)) e

@@ -1,26 +1,27 @@
 -- What the pump is told of an ask, beside the ask of the definitions: the bytes of its payload, the kinds of the asked
 -- columns and the number of its table's rows, for a catalog.
-use Rattle.std.specs.Prelude.{◌≡◌, ℕ, ◌+◌, ◌/◌, List, [], ◌∷◌, length, map, sum}
+use Rattle.std.specs.Prelude.{◌≡◌, ℕ, ◌+◌, ◌≤◌, ◌/◌, List, [], ◌∷◌, length, map, sum, IfSome}
 use Rattle.ghost_model.specs.Schema as schema
 use Rattle.ghost_model.specs.Cells.{cell_width}
 use Rattle.ghost_model.specs.Channel.{Catalog}
 use Rattle.ghost_model.specs.Asks.{Asked, ReplyRow, ask_payload, kinds_of, rows_from}
 use Rattle.ghost_model.specs.NextMove.{rows_of}
-use Rattle.ghost_base.specs.Views.{kind_of}
-use Rattle.channel_pump.specs.declared.forms.AskForm.{AskForm}
+use Rattle.channel_pump.specs.Forms.{Form}
 
-abbrev pub form_kinds : AskForm → List schema.Kind
-form_kinds form = map kind_of form.kinds.now
+abbrev pub form_kinds : Form → List schema.Kind
+form_kinds form = form.kinds
 
 -- the form is that of the ask, for a catalog
-pub record IsAskForm (catalog : Catalog) (form : AskForm) (asked : Asked) : Type 0 where
+pub record IsAskForm (catalog : Catalog) (form : Form) (asked : Asked) : Type 0 where
   pub text : form.text ≡ asked.text
-  pub payload : form.payload.now ≡ ask_payload catalog.schema asked.ask
+  pub payload : form.payload ≡ ask_payload catalog.schema asked.ask
   pub kinds : form_kinds form ≡ kinds_of catalog.schema asked.ask
   pub rows : form.rows ≡ rows_of catalog asked.ask.table
+  pub in_script : form.text ≤ 64
+  pub ask : IfSome form.ask (λ ask. ask ≡ asked.ask)
 
 -- the forms are those of the asks, one by one
-abbrev pub AreAsked : Catalog → List AskForm → List Asked → Type 0
+abbrev pub AreAsked : Catalog → List Form → List Asked → Type 0
 AreAsked catalog [] [] = Unit {0}
 AreAsked catalog (form ∷ forms) (asked ∷ asks) = IsAskForm catalog form asked × AreAsked catalog forms asks
 AreAsked catalog [] (_ ∷ _) = ⊥

@@ -6,7 +6,7 @@ use Rattle.ghost_model.specs.Channel as channel
 use Rattle.ghost_model.specs.Frames.{frame_version, version_in, kind_in, size_in, serial_in, frame_in}
 use Rattle.ghost_model.specs.Asks.{ReplyRow}
 use Rattle.ghost_model.specs.NextMove as next
-use Rattle.channel_pump.specs.declared.forms.AskForm.{AskForm}
+use Rattle.channel_pump.specs.Forms.{Form}
 use Rattle.channel_pump.specs.declared.rows.Tally.{Tally}
 use Rattle.channel_pump.specs.declared.judging.Judged.{Judged}
 use Rattle.channel_pump.specs.declared.judging.Judged.TheVariants as judged
@@ -22,7 +22,7 @@ use Rattle.channel_pump.specs.Rows.{IsTally}
 abbrev pub nothing : channel.Catalog
 nothing = record { schema = []; counts = []; generation = 0 }
 
-abbrev pub reply_header : List AskForm → (serial : ℕ) → List ℕ → Bool
+abbrev pub reply_header : List Form → (serial : ℕ) → List ℕ → Bool
 reply_header [] serial header = false
 reply_header (form ∷ _) serial header =
     version_in header == frame_version && serial_in header == serial
@@ -30,25 +30,25 @@ reply_header (form ∷ _) serial header =
 
 -- whether a whole header may stand here
 abbrev pub header_at : Phase → Pump → List ℕ → Bool
-header_at Greeting p header = next.header_fits nothing (next.Missing p.missing.now) header
-header_at Reply p header = reply_header p.rest.now p.serial header
+header_at Greeting p header = next.header_fits nothing (next.Missing p.missing) header
+header_at Reply p header = reply_header p.rest p.serial header
 header_at Over p header = false
 
-abbrev pub form_fits : AskForm → (count last : ℕ) → channel.Frame → Bool
+abbrev pub form_fits : Form → (count last : ℕ) → channel.Frame → Bool
 form_fits form count last (channel.Replied _ payload) =
     next.rows_fit form.rows last (form_kinds form) (rows_with (form_kinds form) payload)
 form_fits form count last (channel.Done _ total) = total == count
 form_fits form count last (channel.Sorry _ code) = not (code == 0)
 form_fits form count last _ = false
 
-abbrev pub reply_payload : List AskForm → (count last : ℕ) → channel.Frame → Bool
+abbrev pub reply_payload : List Form → (count last : ℕ) → channel.Frame → Bool
 reply_payload [] count last frame = false
 reply_payload (form ∷ _) count last frame = form_fits form count last frame
 
 -- whether a frame whose header may stand here may stand here
 abbrev pub payload_at : Phase → Pump → channel.Frame → Bool
-payload_at Greeting p frame = next.greeting_fits p.missing.now frame
-payload_at Reply p frame = reply_payload p.rest.now p.count p.last frame
+payload_at Greeting p frame = next.greeting_fits p.missing frame
+payload_at Reply p frame = reply_payload p.rest p.count p.last frame
 payload_at Over p frame = false
 
 -- what the bytes at hand amount to
@@ -60,27 +60,27 @@ verdict_here p part =
     else if payload_at p.phase p (frame_in part) then next.Whole
     else next.Invalid
 
-abbrev pub form_rows : AskForm → channel.Frame → List ReplyRow
+abbrev pub form_rows : Form → channel.Frame → List ReplyRow
 form_rows form (channel.Replied _ payload) = rows_with (form_kinds form) payload
 form_rows form _ = []
 
-abbrev pub reply_rows : List AskForm → channel.Frame → List ReplyRow
+abbrev pub reply_rows : List Form → channel.Frame → List ReplyRow
 reply_rows [] frame = []
 reply_rows (form ∷ _) frame = form_rows form frame
 
 -- the rows that a frame brings here
 abbrev pub rows_at : Phase → Pump → channel.Frame → List ReplyRow
 rows_at Greeting p frame = []
-rows_at Reply p frame = reply_rows p.rest.now frame
+rows_at Reply p frame = reply_rows p.rest frame
 rows_at Over p frame = []
 
 -- the number of rows of the table that is asked
-abbrev pub table_rows : List AskForm → ℕ
+abbrev pub table_rows : List Form → ℕ
 table_rows [] = 0
 table_rows (form ∷ _) = form.rows
 
 abbrev pub IsTallyHere : Pump → List ℕ → Tally → Type 0
-IsTallyHere p part tally = IsTally p.last (table_rows p.rest.now) (rows_at p.phase p (frame_in part)) tally
+IsTallyHere p part tally = IsTally p.last (table_rows p.rest) (rows_at p.phase p (frame_in part)) tally
 
 abbrev pub judged_view : Judged → next.Verdict
 judged_view (judged.Short missing) = next.Short missing
@@ -102,23 +102,23 @@ IsJudged p part judged.Invalid = Unit {0}
 
 -- whether an ask of a text is still to be ended
 abbrev pub awaits_at : Phase → Pump → (text : ℕ) → Bool
-awaits_at Greeting p text = list_any (λ form. form.text == text) p.rest.now
-awaits_at Reply p text = list_any (λ form. form.text == text) p.rest.now
+awaits_at Greeting p text = list_any (λ form. form.text == text) p.rest
+awaits_at Reply p text = list_any (λ form. form.text == text) p.rest
 awaits_at Over p text = false
 
 -- how many frames may come at most for these asks
-abbrev pub frames_for : List AskForm → ℕ
+abbrev pub frames_for : List Form → ℕ
 frames_for [] = 0
 frames_for (form ∷ later) = form.rows + 1 + frames_for later
 
-abbrev pub frames_of_reply : List AskForm → (last : ℕ) → ℕ
+abbrev pub frames_of_reply : List Form → (last : ℕ) → ℕ
 frames_of_reply [] last = 0
 frames_of_reply (form ∷ later) last = (form.rows - last) + 1 + frames_for later
 
 -- how many frames may still come at most
 abbrev pub frames_at : Phase → Pump → ℕ
-frames_at Greeting p = length p.missing.now + frames_for p.rest.now
-frames_at Reply p = frames_of_reply p.rest.now p.last
+frames_at Greeting p = length p.missing + frames_for p.rest
+frames_at Reply p = frames_of_reply p.rest p.last
 frames_at Over p = 0
 
 abbrev pub frames_left : Pump → ℕ

@@ -1,10 +1,10 @@
 -- The texts that the host refused, and in what state the replies of a text are.
-use Rattle.std.specs.Prelude.{◌≡◌, ℕ, ◌≤◌, Bool, true, false, not, ◌&&◌, ◌==◌, List, [], ◌∷◌, length, slice_index_or, slice_set, if◌then◌else◌}
+use Rattle.std.specs.Prelude.{◌≡◌, ℕ, ◌≤◌, Bool, true, false, not, ◌&&◌, ◌==◌, List, [], ◌∷◌, length, slice_index_or, slice_set, if◌then◌else◌, Option, Some, None}
 use Rattle.std.specs.List.{list_any}
 use Rattle.ghost_model.specs.Asks.{Asked}
 use Rattle.ghost_model.specs.NextMove as next
 use Rattle.ghost_model.specs.NextMove.{Awaits, Missing, Nothing, Ending, Answered, Refused, Ended, Left}
-use Rattle.channel_pump.specs.declared.forms.AskForm.{AskForm}
+use Rattle.channel_pump.specs.Forms.{Form}
 use Rattle.channel_pump.specs.declared.state.Event.{Event}
 use Rattle.channel_pump.specs.declared.state.Event.TheVariants as event
 use Rattle.channel_pump.specs.declared.state.ReplyState.{ReplyState}
@@ -24,11 +24,11 @@ pub record AreMarked (marks : List Bool) (ended : List Ended) : Type 0 where
   pub each : (text : ℕ) → text ≤ 64 → slice_index_or marks text false ≡ list_any (is_refusal text) ended
 
 -- the marks with that of the first of some asks
-abbrev pub mark_first : List AskForm → List Bool → List Bool
+abbrev pub mark_first : List Form → List Bool → List Bool
 mark_first [] marks = marks
 mark_first (form ∷ _) marks = slice_set marks form.text true
 
-abbrev pub marked_on : Event → List AskForm → List Bool → List Bool
+abbrev pub marked_on : Event → List Form → List Bool → List Bool
 marked_on event.Part forms marks = marks
 marked_on event.Welcome forms marks = marks
 marked_on (event.Rows _) forms marks = marks
@@ -41,6 +41,12 @@ abbrev pub awaited : (asks : List Asked) → Awaits → List Asked
 awaited asks (Missing _) = asks
 awaited asks (next.Reply asked serial later count last) = asked ∷ later
 awaited asks Nothing = []
+
+-- the ask whose reply is awaited
+abbrev pub asked_at : Awaits → Option Asked
+asked_at (Missing _) = None
+asked_at (next.Reply asked serial later count last) = Some asked
+asked_at Nothing = None
 
 -- the state of a text's replies: an ask of it was refused; or each was ended by DONE; or the link, or an invalid frame,
 -- ended the session before; or some are awaited

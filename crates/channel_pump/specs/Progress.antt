@@ -1,10 +1,17 @@
 -- What an event tells of the replies: the rows that came, the asks that were ended, and why the session ends.
-use Rattle.std.specs.Prelude.{◌≡◌, ℕ, ◌*◌, true, false, List, [], ◌∷◌, ◌++◌, length, Option, Some, None}
+use Rattle.std.specs.Prelude.{◌≡◌, ℕ, ◌*◌, ◌≤◌, true, false, List, [], ◌∷◌, ◌++◌, length, Option, Some, None}
 use Rattle.ghost_model.specs.Channel.{Catalog}
 use Rattle.ghost_model.specs.Asks.{Asked, rows_in, row_width, kinds_of}
 use Rattle.ghost_model.specs.Frames.{payload_in, kind_in}
 use Rattle.ghost_model.specs.NextMove as next
 use Rattle.ghost_model.specs.NextMove.{Awaits, Missing, Nothing, Heard, Left, Ended, Ending, Answered, Refused, rows_fit, rows_of}
+use Rattle.ghost_model.specs.Schema.{Kind}
+use Rattle.channel_pump.specs.Forms.{Form}
+use Rattle.channel_pump.specs.Asked.{width_of, rows_with}
+use Rattle.channel_pump.specs.Here.{table_rows}
+use Rattle.channel_pump.specs.declared.state.Pump.{Pump}
+use Rattle.channel_pump.specs.declared.state.Phase.{Phase}
+use Rattle.channel_pump.specs.declared.state.Phase.TheVariants.{Greeting, Reply, Over}
 use Rattle.channel_pump.specs.declared.state.Event.{Event}
 use Rattle.channel_pump.specs.declared.state.Event.TheVariants as event
 use Rattle.channel_pump.specs.declared.state.Cause.{Cause}
@@ -69,3 +76,30 @@ EndsBy l (Protocol kind at) =
 abbrev pub EndsAs : Left → Option Cause → Type 0
 EndsAs l None = (l.stopped ≡ false) × (l.heard.broken ≡ false)
 EndsAs l (Some cause) = EndsBy l cause
+
+-- the kinds of the columns of the first of some asks
+abbrev pub kinds_at : List Form → List Kind
+kinds_at [] = []
+kinds_at (form ∷ _) = form.kinds
+
+-- so many whole rows of the first of these asks, whose identifiers ascend from above `last` to at most the table's number of
+-- rows, and whose cells spell values
+pub record RowsFit (forms : List Form) (last : ℕ) (payload : List ℕ) (n : ℕ) : Type 0 where
+  pub fit : rows_fit (table_rows forms) last (kinds_at forms) (rows_with (kinds_at forms) payload) ≡ true
+  pub count : n ≡ length (rows_with (kinds_at forms) payload)
+  pub size : length payload ≡ n * width_of (kinds_at forms)
+  pub short : length payload ≤ 2040
+
+abbrev pub FitAt : Phase → Pump → (payload : List ℕ) → (n : ℕ) → Type 0
+FitAt Greeting p payload n = ⊥
+FitAt Reply p payload n = RowsFit p.rest p.last payload n
+FitAt Over p payload n = ⊥
+
+-- the rows of an event may stand behind those before, by the pump's own numbers
+abbrev pub RowsHere : Pump → (page : List ℕ) → Event → Type 0
+RowsHere p page event.Part = Unit {0}
+RowsHere p page event.Welcome = Unit {0}
+RowsHere p page (event.Rows n) = FitAt p.phase p (payload_in page) n
+RowsHere p page event.Done = Unit {0}
+RowsHere p page (event.Sorry _) = Unit {0}
+RowsHere p page (event.Invalid _ _) = Unit {0}

@@ -1,6 +1,6 @@
 -- When a pump stands where a journal leaves the key: its fields are what is left of the journal, for a catalog and the
 -- asks of the session.
-use Rattle.std.specs.Prelude.{◌≡◌, ℕ, ◌+◌, ◌-◌, ◌^◌, ◌<◌, ◌≤◌, Bool, true, false, List, [], ◌∷◌, length, take, drop, flat_map, slice_get, min, Option, Some, None}
+use Rattle.std.specs.Prelude.{◌≡◌, ℕ, ◌+◌, ◌-◌, ◌^◌, ◌<◌, ◌≤◌, Bool, true, false, List, [], ◌∷◌, length, take, drop, flat_map, map, slice_get, min, Option, Some, None}
 use Rattle.ghost_model.specs.Channel as channel
 use Rattle.ghost_model.specs.Channel.{Catalog, Journal, Move}
 use Rattle.ghost_model.specs.Catalog.{catalog_bytes}
@@ -9,6 +9,7 @@ use Rattle.ghost_model.specs.Asks.{Asked}
 use Rattle.ghost_model.specs.Moves.{taken}
 use Rattle.ghost_model.specs.NextMove as next
 use Rattle.ghost_model.specs.NextMove.{Awaits, Missing, Nothing, Heard, Left, Turn, left, next_with, heard}
+use Rattle.channel_pump.specs.Forms.{Form, are_known, form_of}
 use Rattle.channel_pump.specs.declared.forms.AskForm.{AskForm}
 use Rattle.channel_pump.specs.declared.state.Pump.{Pump}
 use Rattle.channel_pump.specs.declared.state.Phase.{Phase}
@@ -26,21 +27,21 @@ use Rattle.channel_pump.specs.Marks.{AreMarked}
 
 -- the forms, serial, number of rows and last identifier are those of the reply that is awaited
 pub record IsReplying (catalog : Catalog) (p : Pump) (asked : Asked) (serial : ℕ) (later : List Asked) (count last : ℕ) : Type 0 where
-  pub asks : AreAsked catalog p.rest.now (asked ∷ later)
+  pub asks : AreAsked catalog p.rest (asked ∷ later)
   pub its_serial : p.serial ≡ serial
   pub its_count : p.count ≡ count
   pub its_last : p.last ≡ last
 
 -- the pump awaits the same
 abbrev pub IsAwaiting : Catalog → Pump → Phase → Awaits → Type 0
-IsAwaiting catalog p Greeting (Missing bytes) = p.missing.now ≡ bytes
+IsAwaiting catalog p Greeting (Missing bytes) = p.missing ≡ bytes
 IsAwaiting catalog p Reply (next.Reply asked serial later count last) = IsReplying catalog p asked serial later count last
 IsAwaiting catalog p Over Nothing = Unit {0}
 IsAwaiting catalog p _ _ = ⊥
 
 -- before the first ask is sent, all asks are left, and the serial is the first one
 pub record IsBefore (catalog : Catalog) (asks : List Asked) (p : Pump) : Type 0 where
-  pub all : AreAsked catalog p.rest.now asks
+  pub all : AreAsked catalog p.rest asks
   pub serial : p.serial ≡ 1
 
 abbrev pub IsFresh : Catalog → List Asked → Pump → Phase → Type 0
@@ -48,14 +49,14 @@ IsFresh catalog asks p Greeting = IsBefore catalog asks p
 IsFresh catalog asks p Reply = Unit {0}
 IsFresh catalog asks p Over = Unit {0}
 
-abbrev pub first_payload : List AskForm → List ℕ
+abbrev pub first_payload : List Form → List ℕ
 first_payload [] = []
-first_payload (form ∷ _) = form.payload.now
+first_payload (form ∷ _) = form.payload
 
 -- the frame that is sent
 abbrev pub frame_due : Pump → Outgoing → channel.Frame
 frame_due p Hello = channel.Hello p.generation
-frame_due p Ask = channel.Asking p.serial (first_payload p.rest.now)
+frame_due p Ask = channel.Asking p.serial (first_payload p.rest)
 frame_due p More = channel.More p.serial
 frame_due p Bye = channel.Bye
 
@@ -171,6 +172,10 @@ pub record IsLeft (catalog : Catalog) (asks : List Asked) (p : Pump) (l : Left) 
 abbrev pub IsAfter : Catalog → (asks : List Asked) → Journal → Pump → Type 0
 IsAfter catalog asks journal p = IsLeft catalog asks p (left catalog asks journal)
 
+-- each ask that is left is known, as in a session of a script
+abbrev pub KnowsAsks : Pump → Type 0
+KnowsAsks p = are_known p.rest ≡ true
+
 -- a page begins with the part of the frame at hand
 abbrev pub Keeps : Catalog → (asks : List Asked) → Journal → (page : List ℕ) → Type 0
 Keeps catalog asks journal page =
@@ -250,7 +255,7 @@ taken_entry p page n = entry (channel.Take p.lacks) (channel.Piece (take n (drop
 pub record Begins (catalog : Catalog) (asks : List Asked) (generation : ℕ) (bytes : List ℕ) (forms : List AskForm) : Type 0 where
   pub its_generation : catalog.generation ≡ generation
   pub its_bytes : catalog_bytes catalog ≡ bytes
-  pub its_asks : AreAsked catalog forms asks
+  pub its_asks : AreAsked catalog (map (form_of None) forms) asks
 
 -- the move that is wanted is a take
 abbrev pub is_take : Want → Bool

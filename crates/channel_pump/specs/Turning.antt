@@ -6,13 +6,13 @@ use Rattle.ghost_model.specs.Asks.{ReplyRow, rows_in}
 use Rattle.ghost_model.specs.Frames.{kind_in, frame_in}
 use Rattle.ghost_model.specs.NextMove as next
 use Rattle.ghost_model.specs.NextMove.{Awaits, Missing, Nothing, Heard, Verdict}
-use Rattle.channel_pump.specs.declared.forms.AskForm.{AskForm}
+use Rattle.channel_pump.specs.Forms.{Form}
 use Rattle.channel_pump.specs.declared.state.Event.{Event}
 use Rattle.channel_pump.specs.declared.state.Event.TheVariants as event
 use Rattle.channel_pump.specs.State.{counted, bytes_before}
 
 -- these asks without those at their front that are of this text
-abbrev pub forms_after : (text : ℕ) → List AskForm → List AskForm
+abbrev pub forms_after : (text : ℕ) → List Form → List Form
 forms_after text forms = drop (length (take_while (λ form. form.text == text) forms)) forms
 
 -- what a valid frame is to the session, where it brings so many rows

@@ -1,13 +1,16 @@
 //! What the bytes of the frame at hand amount to.
 
-ghost use Rattle.std.specs.Prelude.{◌≡◌, ◌+◌, ◌≤◌, ◌&&◌, ◌==◌, true, length, drop, is_some, IfSome, slice_index, IsTrue, map};
+ghost use Rattle.std.specs.Prelude.{◌≡◌, ◌+◌, ◌≤◌, ◌&&◌, ◌==◌, true, length, drop, is_some, IfSome, slice_index, IsTrue, map, None};
 ghost use Rattle.ghost_model.specs.Frames as frames;
 ghost use Rattle.ghost_model.specs.NextMove as next;
-ghost use Rattle.channel_pump.specs.Asked.{form_kinds, width_of};
+ghost use Rattle.ghost_base.specs.Views.{kind_of};
+ghost use Rattle.channel_pump.specs.Forms.{form_of};
+ghost use Rattle.channel_pump.specs.Asked.{width_of};
 ghost use Rattle.channel_pump.specs.Here.{nothing, header_at, payload_at, form_fits, form_rows, verdict_here, judged_view, IsJudged, IsTallyHere};
 ghost use Rattle.channel_pump.specs.Rows.{IsTally};
 
 use crate::forms::AskForm;
+use crate::missing::Missing;
 use crate::rows::{Tally, read_rows, row_width};
 use crate::state::{Phase, Pump};
 use channel_codec::frame::{HEADER_BYTES, PAYLOAD_BYTES, VERSION};
@@ -24,7 +27,7 @@ pub(crate) enum Judged {
 }
 
 /// Whether a header may begin a frame that welcomes a part of these missing bytes.
-fn greeting_header(missing: &[u8], header: &[u8]) -> bool
+fn greeting_header(missing: &Missing, header: &[u8]) -> bool
     requires { 8 ≤ length header.now }
     ensures { result ≡ next.header_fits nothing (next.Missing missing.now) header.now }
 {
@@ -54,7 +57,7 @@ fn reply_size(width: usize, kind: u8, size: usize) -> bool
 fn reply_header(form: &AskForm, serial: u32, header: &[u8]) -> bool
     requires { 8 ≤ length header.now }
     ensures { result ≡ (frames.version_in header.now == frames.frame_version && frames.serial_in header.now == serial
-        && next.reply_size_fits (width_of (form_kinds form.now)) (frames.kind_in header.now) (frames.size_in header.now)) }
+        && next.reply_size_fits (width_of (map kind_of form.now.kinds.now)) (frames.kind_in header.now) (frames.size_in header.now)) }
 {
     version_in(header) == VERSION
         && serial_in(header) == serial
@@ -66,21 +69,21 @@ fn reply_header(form: &AskForm, serial: u32, header: &[u8]) -> bool
 }
 
 /// Whether a payload welcomes a part of these missing bytes.
-fn welcomes(missing: &[u8], payload: &[u8]) -> bool
+fn welcomes(missing: &Missing, payload: &[u8]) -> bool
     requires { 1 ≤ length payload.now }
     ensures { result ≡ next.welcome_fits missing.now (slice_index payload.now 0) (drop 1 payload.now) }
 {
     let (_last, part) = payload.split_at(1);
     let last = if part.len() == missing.len() { 1 } else { 0 };
-    part.len() <= missing.len() && part == &missing[..part.len()] && payload[0] == last
+    missing.begins_with(part) && payload[0] == last
 }
 
 /// Counts the rows of a frame of a reply, if the frame may come after so many rows, the last with this identifier.
 fn reply_payload(form: &AskForm, count: u32, last: u32, part: &[u8]) -> Option<Tally>
     requires whole { 8 + frames.size_in part.now ≤ length part.now }
-    requires size { next.reply_size_fits (width_of (form_kinds form.now)) (frames.kind_in part.now) (frames.size_in part.now) ≡ true }
-    ensures fits { is_some result ≡ form_fits form.now count last (frames.frame_in part.now) }
-    ensures tally { IfSome result (λ tally. IsTally last form.now.rows (form_rows form.now (frames.frame_in part.now)) tally) }
+    requires size { next.reply_size_fits (width_of (map kind_of form.now.kinds.now)) (frames.kind_in part.now) (frames.size_in part.now) ≡ true }
+    ensures fits { is_some result ≡ form_fits (form_of None form.now) count last (frames.frame_in part.now) }
+    ensures tally { IfSome result (λ tally. IsTally last form.now.rows (form_rows (form_of None form.now) (frames.frame_in part.now)) tally) }
 {
     let (_header, after) = part.split_at(HEADER_BYTES);
     let (payload, _rest) = after.split_at(size_in(part) as usize);
@@ -106,8 +109,11 @@ impl<'a> Pump<'a> {
         ensures size { result ≡ true → frames.size_in header.now ≤ 2040 }
     {
         match self.phase {
-            Phase::Greeting => greeting_header(self.missing, header),
-            Phase::Reply => reply_header(&self.rest[0], self.serial, header),
+            Phase::Greeting => greeting_header(&self.missing, header),
+            Phase::Reply => match self.rest.first() {
+                Some(form) => reply_header(&form, self.serial, header),
+                None => unreachable!(),
+            },
             Phase::Over => false,
         }
     }
@@ -127,13 +133,16 @@ impl<'a> Pump<'a> {
                     rows: 0,
                     last: self.last,
                 };
-                if welcomes(self.missing, payload) {
+                if welcomes(&self.missing, payload) {
                     Some(none)
                 } else {
                     None
                 }
             }
-            Phase::Reply => reply_payload(&self.rest[0], self.count, self.last, part),
+            Phase::Reply => match self.rest.first() {
+                Some(form) => reply_payload(&form, self.count, self.last, part),
+                None => unreachable!(),
+            },
             Phase::Over => None,
         }
     }

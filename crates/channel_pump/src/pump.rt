@@ -1,56 +1,48 @@
 //! The calls of a pump. A session asks what is wanted, does that move and reports its answer.
 
-ghost use Rattle.std.specs.Prelude.{◌≡◌, ℕ, ◌+◌, ◌<◌, ◌≤◌, ◌^◌, ◌++◌, ◌==◌, true, List, [], ◌∷◌, length, take, drop, Option, Some};
+ghost use Rattle.std.specs.Prelude.{◌≡◌, ℕ, ◌+◌, ◌<◌, ◌≤◌, ◌^◌, ◌++◌, ◌==◌, true, List, [], ◌∷◌, length, take, drop, option_map, Option, Some, None};
 ghost use Rattle.std.specs.List.{list_any};
 ghost use Rattle.ghost_model.specs.Channel as channel;
 ghost use Rattle.ghost_model.specs.Channel.{Catalog, Journal, Move};
-ghost use Rattle.ghost_model.specs.Asks.{Asked};
+ghost use Rattle.ghost_model.specs.Asks.{Asked, asked, asked_of};
+ghost use Rattle.ghost_model.specs.Texts.{texts_of};
 ghost use Rattle.ghost_model.specs.Moves.{taken};
 ghost use Rattle.ghost_model.specs.NextMove as next;
 ghost use Rattle.ghost_model.specs.NextMove.{next_with, heard, left};
 ghost use Rattle.ghost_model.specs.Frames.{payload_of};
+ghost use Rattle.ghost_model.specs.Catalog.{catalog_bytes};
+ghost use Rattle.channel_codec.specs.AskViews.{ask_view};
 ghost use Rattle.channel_codec.specs.Views.{frame_view};
+ghost use Rattle.channel_pump.specs.Asked.{AreAsked};
 ghost use Rattle.channel_pump.specs.Here.{moves_left, awaits_at};
-ghost use Rattle.channel_pump.specs.Marks.{state_of};
+ghost use Rattle.channel_pump.specs.Marks.{asked_at, state_of};
 ghost use Rattle.channel_pump.specs.State as state;
-ghost use Rattle.channel_pump.specs.State.{IsAfter, Keeps, IsWanted, IsTakenBy, FitsPage, Begins, want_of, want_at, is_done_by, can_fail, is_take, entry, taken_entry, cause_at, frame_due};
+ghost use Rattle.channel_pump.specs.State.{IsAfter, Keeps, KnowsAsks, IsWanted, IsTakenBy, FitsPage, Begins, want_of, want_at, is_done_by, can_fail, is_take, entry, taken_entry, cause_at, frame_due};
 ghost use Rattle.channel_pump.specs.Turning.{event_after};
-ghost use Rattle.channel_pump.specs.Progress.{Tells, EndsAs};
+ghost use Rattle.channel_pump.specs.Progress.{RowsHere, Tells, EndsAs};
 
+use crate::asks::Asks;
 use crate::forms::AskForm;
 use crate::judging::Judged;
+use crate::missing::Missing;
 use crate::state::{Cause, Event, Outgoing, Phase, Pump, ReplyState, Stage, Want};
+use channel_codec::ask::Ask;
 use channel_codec::frame::{Frame, put_frame};
-
-/// Whether an ask is of this text.
-fn has_text(text: u32, asks: &[AskForm]) -> bool
-    ensures { result ≡ list_any (λ form. form.text == text) asks.now }
-{
-    asks.iter().any(|form| form.text == text)
-}
-
-/// The payload of the first of some asks, and no bytes where there is none.
-fn first_payload<'a>(asks: &'a [AskForm<'a>]) -> &'a [u8]
-    ensures value { result.now ≡ state.first_payload asks.now }
-    ensures short { length result.now ≤ 2040 }
-{
-    match asks.first() {
-        Some(form) => form.payload,
-        None => &[],
-    }
-}
+use ghost_base::limits::MAX_TEXTS;
 
 impl<'a> Pump<'a> {
-    /// A session of these asks, with a catalog of this generation and of these bytes, before its first move.
-    pub fn begin(generation: u32, catalog: &'a [u8], asks: &'a [AskForm<'a>]) -> Self
-        requires { 1 + length asks.now < 2 ^ 32 }
-        ensures after { (cat : Catalog) (asked : List Asked) → Begins cat asked generation catalog.now asks.now → IsAfter cat asked [] result }
+    /// A session of these asks with these bytes of a catalog, before its first move.
+    fn start(generation: u32, missing: Missing<'a>, rest: Asks<'a>) -> Self
+        requires { 1 + length rest < 2 ^ 32 }
+        ensures after { (cat : Catalog) (asked : List Asked) → cat.generation ≡ generation → catalog_bytes cat ≡ missing.entry → AreAsked cat rest.entry asked
+            → IsAfter cat asked [] result }
+        ensures asks { result.rest ≡ rest.entry }
         ensures want { want_of result ≡ Want.Dial }
     {
         Pump {
             generation,
-            missing: catalog,
-            rest: asks,
+            missing,
+            rest,
             phase: Phase::Greeting,
             stage: Stage::Dialling,
             serial: 1,
@@ -61,6 +53,30 @@ impl<'a> Pump<'a> {
             before: 0,
             refused: [false; 65],
         }
+    }
+
+    /// A session of the asks of a script, which has at most 64 texts, over a catalog, before its first move. Texts are read
+    /// as their asks come due, and the catalog's bytes are made as they are compared.
+    pub fn begin(cat: &'a tree_schema::Catalog, script: &'a [u8]) -> Self
+        requires texts { length (texts_of script.now) ≤ MAX_TEXTS }
+        ensures after { IsAfter cat.now (asked_of cat.now.schema (texts_of script.now)) [] result }
+        ensures known { KnowsAsks result }
+        ensures want { want_of result ≡ Want.Dial }
+    {
+        Pump::start(
+            cat.generation(),
+            Missing::of_catalog(cat),
+            Asks::of_script(cat, script),
+        )
+    }
+
+    /// A session of these asks, with a catalog of this generation and of these bytes, before its first move.
+    pub fn begin_with(generation: u32, catalog: &'a [u8], asks: &'a [AskForm<'a>]) -> Self
+        requires { 1 + length asks.now < 2 ^ 32 }
+        ensures after { (cat : Catalog) (asked : List Asked) → Begins cat asked generation catalog.now asks.now → IsAfter cat asked [] result }
+        ensures want { want_of result ≡ Want.Dial }
+    {
+        Pump::start(generation, Missing::of_bytes(catalog), Asks::of_forms(asks))
     }
 
     /// What is wanted: the next move of the session.
@@ -99,8 +115,8 @@ impl<'a> Pump<'a> {
         ensures { result ≡ awaits_at self.now.phase self.now text }
     {
         match self.phase {
-            Phase::Greeting => has_text(text, self.rest),
-            Phase::Reply => has_text(text, self.rest),
+            Phase::Greeting => self.rest.any_of(text),
+            Phase::Reply => self.rest.any_of(text),
             Phase::Over => false,
         }
     }
@@ -125,8 +141,21 @@ impl<'a> Pump<'a> {
         }
     }
 
+    /// The ask whose reply is awaited, also where it is about to be sent, and the number of its text. There is none in the
+    /// greeting, and none behind the last ask.
+    pub fn asked(&self) -> Option<(u32, &Ask)>
+        ensures awaited { (catalog : Catalog) (asks : List Asked) (journal : Journal)
+            → IsAfter catalog asks journal self.now → KnowsAsks self.now
+            → option_map (λ first. asked first.0 (ask_view first.1.now)) result ≡ asked_at (heard catalog asks (taken journal)).awaits }
+    {
+        match self.phase {
+            Phase::Greeting | Phase::Over => None,
+            Phase::Reply => self.rest.asked(),
+        }
+    }
+
     /// The frame that is sent.
-    fn outgoing(&self, outgoing: Outgoing) -> Frame<'a>
+    fn outgoing(&self, outgoing: Outgoing) -> Frame<'_>
         ensures frame { frame_view result ≡ frame_due self.now outgoing }
         ensures short { length (payload_of (frame_view result)) ≤ 2040 }
     {
@@ -136,7 +165,7 @@ impl<'a> Pump<'a> {
             },
             Outgoing::Ask => Frame::Ask {
                 serial: self.serial,
-                payload: first_payload(self.rest),
+                payload: self.rest.payload(),
             },
             Outgoing::More => Frame::More {
                 serial: self.serial,
@@ -167,6 +196,7 @@ impl<'a> Pump<'a> {
         ensures after { (catalog : Catalog) (at : List ℕ) (asks : List Asked) (journal : Journal) (move : Move)
             → IsAfter catalog asks journal self.old → next_with catalog at asks journal ≡ Some move
             → IsAfter catalog asks (journal ++ entry move channel.Made ∷ []) self.new }
+        ensures known { KnowsAsks self.old → KnowsAsks self.new }
         ensures fewer { moves_left self.new < moves_left self.old }
     {
         match self.stage {
@@ -188,6 +218,7 @@ impl<'a> Pump<'a> {
         ensures after { (catalog : Catalog) (at : List ℕ) (asks : List Asked) (journal : Journal) (move : Move)
             → IsAfter catalog asks journal self.old → next_with catalog at asks journal ≡ Some move
             → IsAfter catalog asks (journal ++ entry move channel.Failed ∷ []) self.new }
+        ensures known { KnowsAsks self.old → KnowsAsks self.new }
         ensures fewer { moves_left self.new < moves_left self.old }
     {
         self.stage = Stage::Closing(Cause::Link);
@@ -199,6 +230,7 @@ impl<'a> Pump<'a> {
         ensures after { (catalog : Catalog) (at : List ℕ) (asks : List Asked) (journal : Journal) (move : Move)
             → IsAfter catalog asks journal self.old → next_with catalog at asks journal ≡ Some move
             → IsAfter catalog asks (journal ++ entry move channel.End ∷ []) self.new }
+        ensures known { KnowsAsks self.old → KnowsAsks self.new }
         ensures fewer { moves_left self.new < moves_left self.old }
     {
         self.stage = Stage::Closing(Cause::Link);
@@ -221,6 +253,8 @@ impl<'a> Pump<'a> {
         ensures tells { (catalog : Catalog) (asks : List Asked) (journal : Journal)
             → IsAfter catalog asks journal self.old → Keeps catalog asks journal page.now
             → Tells catalog page.now result (heard catalog asks (taken journal)) (heard catalog asks (taken (journal ++ taken_entry self.old page.now n ∷ []))) }
+        ensures rows { RowsHere self.old page.now result }
+        ensures known { KnowsAsks self.old → KnowsAsks self.new }
         ensures fewer { moves_left self.new < moves_left self.old }
     {
         let (part, _rest) = page.split_at(self.have + n);
@@ -243,146 +277,5 @@ impl<'a> Pump<'a> {
                 self.hear(part, tally)
             }
         }
-    }
-}
-
-#[cfg(test)]
-mod tests {
-    use super::*;
-    use ghost_base::Kind;
-
-    fn is_same(one: &[u8], other: &[u8]) -> bool {
-        one == other
-    }
-
-    // Whether the key, whose takes are answered by at most so many bytes of the stream, sends these frames and is told
-    // these events, and then ends by this cause, with the replies of the first two texts in these states.
-    fn goes<'a>(
-        asks: &'a [AskForm<'a>],
-        step: usize,
-        host: &[u8],
-        sent: &[&[u8]],
-        told: &[Event],
-        cause: Cause,
-        states: [ReplyState; 2],
-    ) -> bool
-        requires asks { 1 + length asks.now < 2 ^ 32 }
-        requires step { 0 < step }
-    {
-        let mut pump = Pump::begin(5, b"catalog", &*asks);
-        let mut page = [0; 2048];
-        let mut taken = 0;
-        let mut frames = 0;
-        let mut events = 0;
-        for _ in 0..500 {
-            match pump.want() {
-                Want::Dial | Want::Close => pump.made(),
-                Want::Send => {
-                    let count = pump.frame(&mut page);
-                    if frames >= sent.len() || !is_same(sent[frames], &page[..count]) {
-                        return false;
-                    }
-                    frames += 1;
-                    pump.made();
-                }
-                Want::Take { at, most } => {
-                    let count = step.min(most).min(host.len().saturating_sub(taken));
-                    if count == 0 {
-                        pump.ended();
-                    } else {
-                        page[at..at + count].copy_from_slice(&host[taken..taken + count]);
-                        taken += count;
-                        let event = pump.took(&page, count);
-                        if event != Event::Part {
-                            if events >= told.len() || told[events] != event {
-                                return false;
-                            }
-                            events += 1;
-                        }
-                    }
-                }
-                Want::Closed => {
-                    return frames == sent.len()
-                        && events == told.len()
-                        && pump.cause() == Some(cause)
-                        && pump.reply_state(1) == states[0]
-                        && pump.reply_state(2) == states[1];
-                }
-            }
-        }
-        false
-    }
-
-    #[test]
-    fn sessions_go_however_the_stream_is_cut(rt: HostRuntime) {
-        let asks = [
-            AskForm {
-                text: 1,
-                payload: &[0, 1, 1, 0],
-                kinds: &[Kind::Chars(2)],
-                rows: 3,
-            },
-            AskForm {
-                text: 2,
-                payload: &[0, 0, 0],
-                kinds: &[],
-                rows: 3,
-            },
-        ];
-        let host =
-            b"\x11\x01\0\x08\0\0\0\0\x01catalog\x12\x01\0\x0C\0\0\0\x01\0\0\0\x01ab\0\0\0\x03c\0\x13\x01\0\x04\0\0\0\x01\0\0\0\x02\x14\x01\0\x01\0\0\0\x02\x07";
-        let sent: [&[u8]; 5] = [
-            &[1, 1, 0, 4, 0, 0, 0, 0, 0, 0, 0, 5],
-            &[2, 1, 0, 4, 0, 0, 0, 1, 0, 1, 1, 0],
-            &[3, 1, 0, 0, 0, 0, 0, 1],
-            &[2, 1, 0, 3, 0, 0, 0, 2, 0, 0, 0],
-            &[4, 1, 0, 0, 0, 0, 0, 0],
-        ];
-        let told = [Event::Welcome, Event::Rows(2), Event::Done, Event::Sorry(7)];
-        assert!(rt;
-            goes(
-                &asks,
-                2048,
-                host,
-                &sent,
-                &told,
-                Cause::Finished,
-                [ReplyState::Done, ReplyState::Host]
-            )
-        );
-        assert!(rt;
-            goes(
-                &asks,
-                1,
-                host,
-                &sent,
-                &told,
-                Cause::Finished,
-                [ReplyState::Done, ReplyState::Host]
-            )
-        );
-        assert!(rt;
-            goes(
-                &asks,
-                5,
-                &host[..20],
-                &sent[..2],
-                &told[..1],
-                Cause::Link,
-                [ReplyState::Link, ReplyState::Link]
-            )
-        );
-        let invalid = Event::Invalid { kind: 18, at: 16 };
-        assert!(rt;
-            goes(
-                &asks[1..],
-                3,
-                &host[..36],
-                &[sent[0], &[2, 1, 0, 3, 0, 0, 0, 1, 0, 0, 0]],
-                &[Event::Welcome, invalid],
-                Cause::Protocol { kind: 18, at: 16 },
-                [ReplyState::Done, ReplyState::Protocol]
-            )
-        );
     }
 }

@@ -66,7 +66,7 @@ fn are_cells(kinds: &[Kind], cells: &[u8]) -> bool
 fn row_fits(form: &AskForm, last: u32, row: &[u8]) -> bool
     requires { 4 ≤ length row.now }
     ensures { result ≡ (nat_lt last (row_in row.now).identifier && nat_le (row_in row.now).identifier form.now.rows
-        && next.are_cells (form_kinds form.now) (row_in row.now).cells) }
+        && next.are_cells (map kind_of form.now.kinds.now) (row_in row.now).cells) }
 {
     let identifier = number_in(row);
     let (_identifier, cells) = row.split_at(4);
@@ -75,8 +75,8 @@ fn row_fits(form: &AskForm, last: u32, row: &[u8]) -> bool
 
 /// Counts the rows of a frame, if each may come where it stands.
 pub(crate) fn read_rows(form: &AskForm, last: u32, payload: &[u8]) -> Option<Tally>
-    ensures fits { is_some result ≡ next.rows_fit form.now.rows last (form_kinds form.now) (rows_with (form_kinds form.now) payload.now) }
-    ensures tally { IfSome result (λ tally. IsTally last form.now.rows (rows_with (form_kinds form.now) payload.now) tally) }
+    ensures fits { is_some result ≡ next.rows_fit form.now.rows last (map kind_of form.now.kinds.now) (rows_with (map kind_of form.now.kinds.now) payload.now) }
+    ensures tally { IfSome result (λ tally. IsTally last form.now.rows (rows_with (map kind_of form.now.kinds.now) payload.now) tally) }
 {
     let width = row_width(form.kinds);
     let mut left = payload.len() / width;

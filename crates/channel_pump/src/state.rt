@@ -3,7 +3,8 @@
 ghost use Rattle.std.specs.Prelude.{◌≡◌, ◌+◌, ◌^◌, ◌<◌, ◌≤◌, length};
 ghost use Rattle.channel_pump.specs.declared.state.Phase.TheVariants.{Reply};
 
-use crate::forms::AskForm;
+use crate::asks::Asks;
+use crate::missing::Missing;
 
 /// What the key sends.
 #[derive(Clone, Copy)]
@@ -108,9 +109,9 @@ pub struct Pump<'a> {
     /// The generation of the catalog.
     pub(crate) generation: u32,
     /// The bytes of the catalog that are still to be welcomed.
-    pub(crate) missing: &'a [u8],
+    pub(crate) missing: Missing<'a>,
     /// The asks that were not ended, that which was sent first.
-    pub(crate) rest: &'a [AskForm<'a>],
+    pub(crate) rest: Asks<'a>,
     pub(crate) phase: Phase,
     pub(crate) stage: Stage,
     /// The serial of the first of the asks that are left.
@@ -127,9 +128,9 @@ pub struct Pump<'a> {
     pub(crate) before: u64,
     /// Of which texts, by their numbers, an ask was refused.
     pub(crate) refused: [bool; 65],
-    ghost serials: { serial + length rest.now < 2 ^ 32 },
+    ghost serials: { serial + length rest < 2 ^ 32 },
     ghost counted: { count ≤ last },
     ghost bounded: { have + lacks ≤ 2048 },
     ghost lacking: { 0 < lacks },
-    ghost replying: { phase ≡ Reply → 0 < length rest.now },
+    ghost replying: { phase ≡ Reply → 0 < length rest },
 }

@@ -9,48 +9,32 @@ ghost use Rattle.channel_pump.specs.Asked.{AreAsked};
 ghost use Rattle.channel_pump.specs.Here.{Stands, header_at, payload_at, frames_left, frames_for};
 ghost use Rattle.channel_pump.specs.State.{IsAwaiting, IsFresh, IsBefore, IsTurned, IsGoing};
 ghost use Rattle.channel_pump.specs.Marks.{marked_on};
-ghost use Rattle.channel_pump.specs.Turning.{forms_after, event_of};
+ghost use Rattle.channel_pump.specs.Forms.{Form, are_known};
+ghost use Rattle.channel_pump.specs.Turning.{event_of};
 
-use crate::forms::AskForm;
 use crate::rows::Tally;
 use crate::state::{Event, Outgoing, Phase, Pump, Stage};
 use channel_codec::frame::HEADER_BYTES;
 use channel_codec::reading::{kind_in, size_in};
 
-/// How many asks at the front are of this text.
-fn count_of_text(text: u32, asks: &[AskForm]) -> usize
-    ensures { result ≡ length (take_while (λ form. form.text == text) asks.now) }
-{
-    asks.iter().take_while(|form| form.text == text).count()
-}
-
-/// These asks without those at their front that are of this text.
-fn after_text<'a>(text: u32, asks: &'a [AskForm<'a>]) -> &'a [AskForm<'a>]
-    ensures after { result.now ≡ forms_after text asks.now }
-    ensures fewer { length result.now ≤ length asks.now }
-{
-    let (_given_up, later) = asks.split_at(count_of_text(text, asks));
-    later
-}
-
 impl<'a> Pump<'a> {
-    /// Sends the first of these asks, which are those that are left, or BYE where there is none.
-    fn go_on_with(&mut self, serial: u32, asks: &'a [AskForm<'a>])
-        requires { serial + length asks.now < 2 ^ 32 }
-        ensures turned { (catalog : Catalog) (asked : List Asked) → AreAsked catalog asks.now asked
+    /// Sends the first of the asks that are left, or BYE where there is none.
+    fn go_on_with(&mut self, serial: u32)
+        requires { serial + length self.old.rest < 2 ^ 32 }
+        ensures turned { (catalog : Catalog) (asked : List Asked) → AreAsked catalog self.old.rest asked
             → IsTurned catalog self.new (next.on_with catalog.schema serial asked) }
         ensures fresh { self.new.phase ≢ Phase.Greeting }
         ensures going { IsGoing self.new.phase self.new.stage }
-        ensures frames { frames_left self.new ≡ frames_for asks.now }
+        ensures frames { frames_left self.new ≡ frames_for self.old.rest }
         ensures have { self.new.have ≡ self.old.have }
         ensures lacks { self.new.lacks ≡ self.old.lacks }
         ensures before { self.new.before ≡ self.old.before }
         ensures generation { self.new.generation ≡ self.old.generation }
+        ensures known { are_known self.old.rest ≡ true → are_known self.new.rest ≡ true }
         ensures refused { self.new.refused ≡ self.old.refused }
     {
         self.serial = serial;
-        self.rest = asks;
-        if asks.is_empty() {
+        if self.rest.is_empty() {
             self.phase = Phase::Over;
             self.stage = Stage::Sending(Outgoing::Bye);
         } else {
@@ -67,7 +51,7 @@ impl<'a> Pump<'a> {
         requires whole { 8 + frames.size_in part.now ≤ length part.now }
         requires header { header_at Phase.Greeting self.old part.now ≡ true }
         ensures turned { (catalog : Catalog) (asks : List Asked) → IsBefore catalog asks self.old
-            → IsTurned catalog self.new (next.turn_of_greeting catalog.schema asks self.old.missing.now (frames.frame_in part.now)) }
+            → IsTurned catalog self.new (next.turn_of_greeting catalog.schema asks self.old.missing (frames.frame_in part.now)) }
         ensures fresh { (catalog : Catalog) (asks : List Asked) → IsBefore catalog asks self.old → IsFresh catalog asks self.new self.new.phase }
         ensures going { IsGoing self.new.phase self.new.stage }
         ensures frames { frames_left self.new < frames_left self.old }
@@ -75,15 +59,27 @@ impl<'a> Pump<'a> {
         ensures lacks { self.new.lacks ≡ self.old.lacks }
         ensures before { self.new.before ≡ self.old.before }
         ensures generation { self.new.generation ≡ self.old.generation }
+        ensures known { are_known self.old.rest ≡ true → are_known self.new.rest ≡ true }
         ensures refused { self.new.refused ≡ self.old.refused }
     {
         let size = size_in(part) as usize - 1;
         if size == self.missing.len() {
-            self.go_on_with(self.serial, self.rest);
+            self.go_on_with(self.serial);
         } else {
-            let (_welcomed, missing) = self.missing.split_at(size);
-            self.missing = missing;
+            self.missing.leave_out(size);
             self.stage = Stage::Taking;
+        }
+    }
+
+    /// The text of the ask whose reply is awaited.
+    fn text(&self) -> u32
+        requires phase { self.now.phase ≡ Phase.Reply }
+        ensures first { (later : List Form) × (form : Form) × (self.now.rest ≡ form ∷ later) × (form.text ≡ result) }
+        ensures few { result ≤ 64 }
+    {
+        match self.rest.first() {
+            Some(form) => form.text,
+            None => unreachable!(),
         }
     }
 
@@ -101,12 +97,10 @@ impl<'a> Pump<'a> {
         ensures lacks { self.new.lacks ≡ self.old.lacks }
         ensures before { self.new.before ≡ self.old.before }
         ensures generation { self.new.generation ≡ self.old.generation }
-        ensures refused { self.new.refused ≡ marked_on result self.old.rest.now self.old.refused }
+        ensures known { are_known self.old.rest ≡ true → are_known self.new.rest ≡ true }
+        ensures refused { self.new.refused ≡ marked_on result self.old.rest self.old.refused }
         ensures event { result ≡ event_of tally.rows (frames.frame_in part.now) }
     {
-        let Some((ended, later)) = self.rest.split_first() else {
-            unreachable!()
-        };
         match kind_in(part) {
             18 => {
                 self.count += tally.rows;
@@ -115,12 +109,18 @@ impl<'a> Pump<'a> {
                 Event::Rows(tally.rows)
             }
             19 => {
-                self.go_on_with(self.serial + 1, later);
+                self.phase = Phase::Over;
+                self.rest.leave_out();
+                self.go_on_with(self.serial + 1);
                 Event::Done
             }
             _ => {
-                self.refused[ended.text as usize] = true;
-                self.go_on_with(self.serial + 1, after_text(ended.text, later));
+                let text = self.text();
+                self.refused[text as usize] = true;
+                self.phase = Phase::Over;
+                self.rest.leave_out();
+                self.rest.give_up(text);
+                self.go_on_with(self.serial + 1);
                 Event::Sorry(part[HEADER_BYTES])
             }
         }
@@ -140,7 +140,8 @@ impl<'a> Pump<'a> {
         ensures lacks { self.new.lacks ≡ self.old.lacks }
         ensures before { self.new.before ≡ self.old.before }
         ensures generation { self.new.generation ≡ self.old.generation }
-        ensures refused { self.new.refused ≡ marked_on result self.old.rest.now self.old.refused }
+        ensures known { are_known self.old.rest ≡ true → are_known self.new.rest ≡ true }
+        ensures refused { self.new.refused ≡ marked_on result self.old.rest self.old.refused }
         ensures event { result ≡ event_of tally.rows (frames.frame_in part.now) }
     {
         match self.phase {

@@ -1,5 +1,5 @@
 -- The session of `local`: its one ask, as the pump needs it, and what the session leaves.
-use Rattle.std.proofs.Common.{◌≡◌, ◌≤◌, ℕ, true, nat_le, List, [], ◌∷◌, length, map, Option, refl, sym, ◌∙◌, ap, subst, arith, lit<, vec_capacity}
+use Rattle.std.proofs.Common.{None, ◌≡◌, ◌≤◌, ℕ, true, nat_le, List, [], ◌∷◌, length, map, Option, refl, sym, ◌∙◌, ap, subst, arith, lit<, vec_capacity}
 use Rattle.std.specs.Cmp.{first_so}
 use Rattle.std.proofs.lemmas.Bool.Decides.{nat_tests}
 use Rattle.ghost_model.specs.Cells.{padded}
@@ -8,6 +8,7 @@ use Rattle.ghost_model.specs.Asks.{asked, ask_payload}
 use Rattle.ghost_model.specs.NextMove.{rows_of}
 use Rattle.edge_traits.specs.Files.{Files}
 use Rattle.channel_pump.specs.Asked.{IsAskForm, form_kinds}
+use Rattle.channel_pump.specs.Forms.{form_of}
 use Rattle.channel_pump.specs.declared.forms.AskForm.{AskForm}
 use Rattle.key_commands.specs.Words.{Names}
 use Rattle.key_commands.specs.Form.{Form, form_schema, is_wanted}
@@ -28,7 +29,7 @@ use Rattle.key_commands.proofs.ServedAsk.{serves, holds, went, replied, not_more
 pub record IsTheAsk (payload : List ℕ) (count : ℕ) (form : AskForm) : Type 0 where
   pub text : form.text ≡ 1
   pub payload_is : form.payload.now ≡ payload
-  pub kinds : form_kinds form ≡ []
+  pub kinds : form_kinds (form_of None form) ≡ []
   pub rows : form.rows ≡ count
 
 column_ask : (form : Form) (wanted : List ℕ) (width : ℕ) → is_wanted form wanted ≡ true → width ≡ form.shown_most → IsColumnAsk width 1 (ask_payload (form_schema form) (form_ask wanted))
@@ -49,11 +50,13 @@ session {opened = opened} opening catalog form room is the fits =
     let wanted = opening.script.wanted in
     let many = opening.rows.held.shown_many in
     let rows : length ((host_in (input_of opening)).rows (form_ask wanted)) ≤ length opened.rows.shown.texts = not_more opening in
-    let ask : IsAskForm (catalog_of (input_of opening)) form (asked 1 (form_ask wanted)) = record {
+    let ask : IsAskForm (catalog_of (input_of opening)) (form_of None form) (asked 1 (form_ask wanted)) = record {
       text = the.text;
       payload = the.payload_is ∙ opening.script.payload_is ∙ sym (payload_of_form own wanted);
       kinds = the.kinds;
       rows = the.rows ∙ ap (λ catalog. rows_of catalog 0) (sym (catalog_is opening));
+      in_script = form.in_script;
+      ask = tt;
     } in
     record {
       serves = serves opening;

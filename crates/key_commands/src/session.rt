@@ -102,7 +102,7 @@ pub(crate) fn converse<D: Depot>(
         (log (D.contents depot.new) (D.faults depot.new) (D.append_faults depot.new) result)
         replies.new.items }
 {
-    let mut pump = Pump::begin(generation, catalog, asks);
+    let mut pump = Pump::begin_with(generation, catalog, asks);
     let mut host = HostEnd::new(catalog, column);
     let mut page = [0; 2048];
     let mut failed = false;

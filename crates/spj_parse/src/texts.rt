@@ -129,6 +129,18 @@ impl<'a> Texts<'a> {
     {
         next_text(&mut self.parts)
     }
+
+    /// The same texts, to be given again.
+    pub fn again(&self) -> Texts<'a>
+        ensures same { result ≡ self.now }
+    {
+        Texts {
+            parts: Parts {
+                rest: self.parts.rest,
+                ended: self.parts.ended,
+            },
+        }
+    }
 }
 
 /// The number of texts of a script.

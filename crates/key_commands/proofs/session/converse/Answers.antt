@@ -13,8 +13,8 @@ moves-init g c = record {
   able = c.new-host.ensures.able;
   room = refl;
   runs = λ held asked serves.
-      begun held asked c.args.journal.now serves.serves _ c.begin-pump.result c.new-host.result _ c.args.replies.now.items
-      (c.begin-pump.ensures.after held.catalog (asked ∷ []) serves.begins) c.new-host.ensures.stands c.new-host.ensures.owes
+      begun held asked c.args.journal.now serves.serves _ c.begin_with-pump.result c.new-host.result _ c.args.replies.now.items
+      (c.begin_with-pump.ensures.after held.catalog (asked ∷ []) serves.begins) c.new-host.ensures.stands c.new-host.ensures.owes
       (c.new-host.ensures.holds held serves.holds)
       (subst (λ width. IsColumnAsk width 1 (ask_payload held.catalog.schema asked.ask)) (sym c.new-host.ensures.width) serves.asks) c.requires.empty;
 }

@@ -5,13 +5,13 @@ use Rattle.ghost_model.specs.NextMove.{left}
 use Rattle.channel_pump.specs.Here.{Stands, verdict_here}
 use Rattle.channel_pump.specs.State.{IsTurned, taken_entry}
 use Rattle.channel_pump.specs.declared.state.Event.{Event}
-use Rattle.channel_pump.specs.Progress.{Tells}
+use Rattle.channel_pump.specs.Progress.{RowsHere, Tells}
 use Rattle.channel_pump.specs.Turning.{event_of}
 use Rattle.channel_pump.proofs.ReportLemmas.{same_fields, awaits_on, fresh_on}
 use Rattle.channel_pump.proofs.TookLemmas.{At, taking_stage, part_after, part_keeps, part_event, invalid_after, invalid_keeps, invalid_event, frame_after, frame_keeps, frame_event, whole_length, frame_size, part_length, payload_of_front}
 use Rattle.channel_pump.specs.Marks.{AreMarked, marked_on}
 use Rattle.channel_pump.proofs.MarkLemmas.{frame_marks}
-use Rattle.channel_pump.proofs.ProgressLemmas.{part_tells, invalid_tells, frame_tells}
+use Rattle.channel_pump.proofs.ProgressLemmas.{rows_here, part_tells, invalid_tells, frame_tells}
 use Rattle.channel_pump.proofs.state.Pump.took.Goals as goal
 
 pub returns-in-Short-clause-after : goal.returns-in-Short-clause-after
@@ -74,7 +74,7 @@ returns-in-Whole-clause-after c catalog asks journal h k =
     (frame_size c.args.self.now (take (c.args.self.now.have + c.args.n) c.args.page.now) c.in-Whole.tally stands size)
     (subst (λ (marks : List Bool). AreMarked marks ((left catalog asks journal).heard.ended
     ++ next.ended_by (left catalog asks journal).heard.awaits (left catalog asks journal).heard.rows (frames.frame_in (take (c.args.self.now.have + c.args.n) c.args.page.now))))
-    (sym (c.hear.ensures.refused ∙ ap (λ (e : Event). marked_on e c.args.self.now.rest.now c.args.self.now.refused)
+    (sym (c.hear.ensures.refused ∙ ap (λ (e : Event). marked_on e c.args.self.now.rest c.args.self.now.refused)
     (c.hear.ensures.event ∙ ap (λ (x : List ℕ). event_of c.in-Whole.tally.rows (frames.frame_in x)) c.split_at.ensures.front)))
     (frame_marks catalog c.args.self.now (left catalog asks journal).heard.awaits (left catalog asks journal).heard.ended (left catalog asks journal).heard.rows c.in-Whole.tally.rows
     (take (c.args.self.now.have + c.args.n) c.args.page.now) h.awaits stands.header h.refused))
@@ -122,3 +122,11 @@ returns-in-Whole-clause-tells c catalog asks journal h k =
     (frame_tells catalog asks journal c.args.self.now c.args.page.now c.args.n c.in-Whole.tally at stands
     (sym (c.in-Whole.ensures.verdict ∙ ap (verdict_here c.args.self.now) c.split_at.ensures.front))
     (payload_of_front (c.args.self.now.have + c.args.n) c.args.page.now (omega (arith, c.requires.room)) long (sym long ∙ size)))
+
+pub returns-in-Whole-clause-rows : goal.returns-in-Whole-clause-rows
+returns-in-Whole-clause-rows c =
+    let stands : Stands c.args.self.now (take (c.args.self.now.have + c.args.n) c.args.page.now) c.in-Whole.tally =
+    subst (λ (x : List ℕ). Stands c.args.self.now x c.in-Whole.tally) c.split_at.ensures.front c.in-Whole.ensures.judged in
+    subst (RowsHere c.args.self.now c.args.page.now)
+    (ap (λ (x : List ℕ). event_of c.in-Whole.tally.rows (frames.frame_in x)) (sym c.split_at.ensures.front) ∙ sym c.hear.ensures.event)
+    (rows_here c.args.self.now (c.args.self.now.have + c.args.n) c.args.page.now c.in-Whole.tally (omega (arith, c.requires.room)) stands)

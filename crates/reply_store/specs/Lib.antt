@@ -1,0 +1,4 @@
+pub mod Stored
+pub mod Segments
+pub mod Kept
+pub mod Laws

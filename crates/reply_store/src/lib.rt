@@ -1,0 +1,17 @@
+//! The replies of one text: the rows that came for each of its asks, found by their identifiers.
+//!
+//! The rows stand as they came, one after another, in one reserved vector of bytes that never grows. A row is its
+//! identifier in 4 bytes and the asked cells; the identifiers of a reply ascend, so a row is found in as many steps as its
+//! reply's number of rows has binary digits.
+#![tactic(auto)]
+
+mod cells;
+pub mod laws;
+mod rows;
+mod search;
+mod segment;
+pub mod store;
+#[cfg(test)]
+mod tests;
+
+pub use store::ReplyStore;

@@ -1,0 +1,14 @@
+use Rattle.std.proofs.Common.{◌≡◌, ◌≤◌, ◌+◌, length, map}
+use Rattle.ghost_model.specs.Asks as asks
+use Rattle.ghost_model.specs.QueryReading.{reading}
+use Rattle.script_asks.proofs.scripts.fetch.Given as goal
+
+abbrev pub invariant-texts : goal.invariant-texts
+invariant-texts l = record {
+  left : asks.asked_from l.schema (l.number + 1) (map (reading l.schema) l.texts) ≡ asks.asked_from l.schema (l.fn.number + 1) (map (reading l.schema) l.fn.texts);
+  few : l.number + length l.texts ≤ 64;
+  later : l.fn.number ≤ l.number;
+}
+
+abbrev pub decreases-texts : goal.decreases-texts
+decreases-texts l = length l.texts
