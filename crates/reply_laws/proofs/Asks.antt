@@ -1,0 +1,166 @@
+-- The asks of texts: they come in the order of the texts, and one text has few of them and few rows of replies.
+use Rattle.std.proofs.Common.{◌≡◌, ℕ, zero, suc, ◌+◌, ◌*◌, ◌<◌, ◌≤◌, Bool, true, false, List, [], ◌∷◌, ◌++◌, length, map, filter, sum_by, sum, slice_get, slice_index, sym, ◌∙◌, ap, subst, refl, arith, eqb-true, Option, Some, None, Result, Ok, Err, if◌then◌else◌}
+use Rattle.std.specs.Prelude.{◌==◌}
+use Rattle.std.proofs.Math.Nat.{mul-le-mul_left}
+use Rattle.std.proofs.lemmas.List.{length-map}
+use Rattle.std.proofs.lemmas.List.FromFn.{length-range_with_len}
+use Rattle.std.proofs.lemmas.List.Sums.{sum_by-append}
+use Rattle.ghost_model.specs.Schema.{Schema, Column, Kind, columns_of, column_at, is_visible}
+use Rattle.ghost_model.specs.Query.{Query}
+use Rattle.ghost_model.specs.QueryReading.{reading}
+use Rattle.ghost_model.specs.Cells.{cell_width}
+use Rattle.ghost_model.specs.Channel.{Catalog, Ask}
+use Rattle.ghost_model.specs.Asks.{Asked, asked, asked_from, asked_of, asks_of, asks_of_reading, ask_for, is_from, is_needed, is_wanted, places, kind_or_none, kind_at, row_width}
+use Rattle.ghost_model.specs.NextMove.{rows_of, count_or_zero}
+use Rattle.ghost_model.specs.Layout.{below, count_of, width_or_none, width_at, spool_width}
+use Rattle.ghost_model.specs.SchemaTrees.{IsTree}
+use Rattle.ghost_model.proofs.ChannelLemmas.Tests.{both_hold}
+use Rattle.ghost_model.proofs.SessionLemmas.Accepted.{Each}
+use Rattle.reply_store.specs.Stored.{room_for}
+use Rattle.reply_laws.proofs.Sums.{sum_mapped, sum_less, sum_fewer, sum_part, sum_none, sum_ones, places_below}
+use Rattle.reply_laws.proofs.Hearing.{Rises, rises_lower, each_joined}
+
+-- the order of the texts
+module _ (schema : Schema) where
+  rises_here : (number : ℕ) (asks : List Ask) (rest : List Asked) → Rises number rest → Rises number (map (asked number) asks ++ rest)
+  rises_here number [] rest r = r
+  rises_here number (ask ∷ asks) rest r = (omega arith, rises_here number asks rest r)
+
+  pub rises_from : {Refusal : Type 0} (number : ℕ) (readings : List (Result Query Refusal)) → Rises number (asked_from schema number readings)
+  rises_from number [] = tt
+  rises_from number (one ∷ later) =
+      rises_here number (asks_of_reading schema one) (asked_from schema (number + 1) later)
+      (rises_lower number (number + 1) (asked_from schema (number + 1) later) (omega arith) (rises_from (number + 1) later))
+
+  within_here : (number top : ℕ) (asks : List Ask) → number ≤ top → Each (λ (one : Asked). one.text ≤ top) (map (asked number) asks)
+  within_here number top [] h = tt
+  within_here number top (ask ∷ asks) h = (h, within_here number top asks h)
+
+  pub within_from : {Refusal : Type 0} (number top : ℕ) (readings : List (Result Query Refusal)) → number + length readings ≤ top + 1
+      → Each (λ (one : Asked). one.text ≤ top) (asked_from schema number readings)
+  within_from number top [] h = tt
+  within_from number top (one ∷ later) h =
+      each_joined (λ (one : Asked). one.text ≤ top) (map (asked number) (asks_of_reading schema one)) (asked_from schema (number + 1) later)
+      (within_here number top (asks_of_reading schema one) (omega (arith, h)))
+      (within_from (number + 1) top later (omega (arith, h)))
+
+-- what the asks of one text weigh
+abbrev pub weight : (text : ℕ) → (Ask → ℕ) → Asked → ℕ
+weight text f one = if one.text == text then f one.ask else 0
+
+module _ (schema : Schema) (text : ℕ) (f : Ask → ℕ) where
+  here : (number : ℕ) (asks : List Ask) → sum_by (weight text f) (map (asked number) asks) ≡ (if number == text then sum_by f asks else 0)
+  here number asks = sum_mapped (weight text f) (asked number) asks ∙ go (number == text)
+    where
+      go : (b : Bool) → sum_by (λ (ask : Ask). if b then f ask else 0) asks ≡ (if b then sum_by f asks else 0)
+      go true = refl
+      go false = sum_none asks
+
+  elsewhere : (number : ℕ) (asks : List Ask) → text < number → sum_by (weight text f) (map (asked number) asks) ≡ 0
+  elsewhere number asks h = here number asks ∙ go (number == text) refl
+    where
+      go : (b : Bool) → (number == text) ≡ b → (if b then sum_by f asks else 0) ≡ 0
+      go true e = let same = eqb-true number text e in absurd (omega (arith, same, h))
+      go false e = refl
+
+  later_none : {Refusal : Type 0} (number : ℕ) (readings : List (Result Query Refusal)) → text < number → sum_by (weight text f) (asked_from schema number readings) ≡ 0
+  later_none number [] h = refl
+  later_none number (one ∷ later) h =
+      let joined = sum_by-append (weight text f) (map (asked number) (asks_of_reading schema one)) (asked_from schema (number + 1) later) in
+      let first = elsewhere number (asks_of_reading schema one) h in
+      let rest = later_none (number + 1) later (omega (arith, h)) in
+      omega (arith, joined, first, rest)
+
+  pub text_weighs : {Refusal : Type 0} (most : ℕ) → ((query : Query) → sum_by f (asks_of schema query) ≤ most)
+      → (number : ℕ) (readings : List (Result Query Refusal)) → sum_by (weight text f) (asked_from schema number readings) ≤ most
+  text_weighs most each number [] = omega arith
+  text_weighs {Refusal} most each number (one ∷ later) = go (text_weighs most each (number + 1) later) (number == text) refl
+    where
+      first : List Asked
+      first = map (asked number) (asks_of_reading schema one)
+
+      joined : sum_by (weight text f) (asked_from schema number (one ∷ later)) ≡ sum_by (weight text f) first + sum_by (weight text f) (asked_from schema (number + 1) later)
+      joined = sum_by-append (weight text f) first (asked_from schema (number + 1) later)
+
+      read : (r : Result Query Refusal) → sum_by f (asks_of_reading schema r) ≤ most
+      read (Ok query) = each query
+      read (Err refusal) = omega arith
+
+      go : sum_by (weight text f) (asked_from schema (number + 1) later) ≤ most
+          → (b : Bool) → (number == text) ≡ b → sum_by (weight text f) (asked_from schema number (one ∷ later)) ≤ most
+      go after true e =
+          let same = eqb-true number text e in
+          let this : sum_by (weight text f) first ≡ sum_by f (asks_of_reading schema one) = here number (asks_of_reading schema one) ∙ ap (λ (b : Bool). if b then sum_by f (asks_of_reading schema one) else 0) e in
+          let rest = later_none (number + 1) later (omega (arith, same)) in
+          let few = read one in
+          omega (arith, joined, this, rest, few)
+      go after false e =
+          let this : sum_by (weight text f) first ≡ 0 = here number (asks_of_reading schema one) ∙ ap (λ (b : Bool). if b then sum_by f (asks_of_reading schema one) else 0) e in
+          omega (arith, joined, this, after)
+
+-- the asks of a query are of different tables
+asks_weigh : (schema : Schema) (query : Query) (f : Ask → ℕ) (g : ℕ → ℕ) → ((table : ℕ) → f (ask_for schema query table) ≤ g table)
+    → sum_by f (asks_of schema query) ≤ sum_by g (below (length schema))
+asks_weigh schema query f g less =
+    let tables : List ℕ = filter (is_from query) (places schema) in
+    let needed = sum_part f is_needed (map (ask_for schema query) tables) in
+    let mapped = sum_mapped f (ask_for schema query) tables in
+    let lower = sum_less (λ (table : ℕ). f (ask_for schema query table)) g less tables in
+    let part = sum_part g (is_from query) (places schema) in
+    let all : sum_by g (places schema) ≡ sum_by g (below (length schema)) = ap (sum_by g) (places_below 0 schema) in
+    omega (arith, needed, mapped, lower, part, all)
+
+-- a row of a reply is no wider than one with all visible columns
+narrow : (schema : Schema) (query : Query) (table : ℕ) → row_width schema (ask_for schema query table) ≤ spool_width schema table
+narrow schema query table =
+    let columns : List ℕ = filter (is_wanted schema query.select table) (places (columns_of schema table)) in
+    let kinds : List Kind = map (kind_at schema table) columns in
+    let cells : sum (map cell_width kinds) ≡ sum_by cell_width kinds = sum_mapped (λ (x : ℕ). x) cell_width kinds in
+    let widths = sum_mapped cell_width (kind_at schema table) columns in
+    let lower = sum_less (λ (column : ℕ). cell_width (kind_at schema table column)) (width_at schema table) (λ column. as_wide (column_at schema table column)) columns in
+    let seen = sum_fewer (width_at schema table) (is_wanted schema query.select table) (is_visible schema table) (λ column wanted. (both_hold (is_visible schema table column) _ wanted).one) (places (columns_of schema table)) in
+    let all : sum_by (width_at schema table) (filter (is_visible schema table) (places (columns_of schema table))) ≡ sum_by (width_at schema table) (filter (is_visible schema table) (below (length (columns_of schema table)))) =
+    ap (λ (ks : List ℕ). sum_by (width_at schema table) (filter (is_visible schema table) ks)) (places_below 0 (columns_of schema table)) in
+    omega (arith, cells, widths, lower, seen, all)
+  where
+    as_wide : (held : Option Column) → cell_width (kind_or_none held) ≤ width_or_none held
+    as_wide None = omega arith
+    as_wide (Some column) = omega arith
+
+rows_counted : (counts : List ℕ) (table : ℕ) → count_or_zero (slice_get counts table) ≡ slice_index counts table
+rows_counted [] table = refl
+rows_counted (count ∷ counts) zero = refl
+rows_counted (count ∷ counts) (suc table) = rows_counted counts table
+
+-- the bytes that the rows of a reply may have
+abbrev pub reply_room : Catalog → Ask → ℕ
+reply_room catalog ask = rows_of catalog ask.table * row_width catalog.schema ask
+
+pub texts_have_room : (catalog : Catalog) (texts : List (List ℕ)) (text : ℕ)
+    → sum_by (weight text (reply_room catalog)) (asked_of catalog.schema texts) ≤ room_for catalog
+texts_have_room catalog texts text =
+    text_weighs catalog.schema text (reply_room catalog) (room_for catalog)
+    (λ query. asks_weigh catalog.schema query (reply_room catalog) (λ (table : ℕ). count_of catalog table * spool_width catalog.schema table)
+    (λ table. subst (λ (n : ℕ). n * row_width catalog.schema (ask_for catalog.schema query table) ≤ count_of catalog table * spool_width catalog.schema table)
+    (sym (rows_counted catalog.counts table))
+    (mul-le-mul_left (count_of catalog table) (narrow catalog.schema query table))))
+    1 (map (reading catalog.schema) texts)
+
+pub texts_have_places : (catalog : Catalog) (texts : List (List ℕ)) (text : ℕ) → IsTree catalog.schema
+    → sum_by (weight text (λ (ask : Ask). 1)) (asked_of catalog.schema texts) ≤ 12
+texts_have_places catalog texts text tree =
+    text_weighs catalog.schema text (λ (ask : Ask). 1) 12
+    (λ query. (let less = asks_weigh catalog.schema query (λ (ask : Ask). 1) (λ (table : ℕ). 1) (λ table. omega arith) in
+    let ones = sum_ones (below (length catalog.schema)) in
+    let size = length-range_with_len 0 (length catalog.schema) in
+    let few = tree.few_tables in
+    omega (arith, less, ones, size, few)))
+    1 (map (reading catalog.schema) texts)
+
+pub texts_rise : (schema : Schema) (texts : List (List ℕ)) → Rises 1 (asked_of schema texts)
+texts_rise schema texts = rises_from schema 1 (map (reading schema) texts)
+
+pub texts_end : (schema : Schema) (texts : List (List ℕ)) → Each (λ (one : Asked). one.text ≤ length texts) (asked_of schema texts)
+texts_end schema texts =
+    let size = length-map texts (reading schema) in
+    within_from schema 1 (length texts) (map (reading schema) texts) (omega (arith, size))
