@@ -11,7 +11,7 @@ use Rattle.edge_traits.specs.Files.{Files, file_of}
 use Rattle.host_exec.specs.Hosts.{Holds, StandsAs, SaysAs, IsAnswered, IsSameHost, name_of}
 use Rattle.host_exec.specs.Holdings.{HoldsFile}
 use Rattle.host_exec.specs.declared.host.Host.{Host}
-use Rattle.local_links.specs.Serving.{Desk, Hears}
+use Rattle.session_laws.specs.Serving.{Desk, Hears}
 use Rattle.local_links.specs.Desks.{Owes, kept}
 use Rattle.local_links.specs.Links.{Handed}
 use Rattle.local_links.specs.declared.speech.Speech.{Speech}

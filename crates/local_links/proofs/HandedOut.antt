@@ -7,7 +7,7 @@ use Rattle.ghost_model.specs.Channel.{Made, Piece, Failed, Dial, Listen, Accept,
 use Rattle.ghost_model.specs.Host.{Holding, Stand}
 use Rattle.edge_traits.specs.Files.{Files}
 use Rattle.edge_traits.specs.Links.{entry, gave, faults_after}
-use Rattle.local_links.specs.Serving.{Desk, handed}
+use Rattle.session_laws.specs.Serving.{Desk, handed}
 use Rattle.local_links.specs.Desks.{Owes, Nearer}
 use Rattle.local_links.specs.Links.{IsAt, Handed, Moves}
 use Rattle.local_links.specs.declared.host_link.HostLink.{HostLink}

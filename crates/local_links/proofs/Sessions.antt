@@ -5,7 +5,7 @@ use Rattle.ghost_model.specs.Channel.{Journal}
 use Rattle.ghost_model.specs.Host.{Holding}
 use Rattle.edge_traits.specs.Files.{Files}
 use Rattle.edge_traits.specs.Links.{Steps}
-use Rattle.local_links.specs.Serving.{Desk}
+use Rattle.session_laws.specs.Serving.{Desk}
 use Rattle.local_links.specs.Links.{IsAt, IsServed, SendsFree, Moves}
 use Rattle.local_links.specs.declared.host_link.HostLink.{HostLink}
 use Rattle.local_links.proofs.HandedOut.{rose_first, rose_second}

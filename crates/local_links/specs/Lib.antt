@@ -1,4 +1,3 @@
-pub mod Serving
 pub mod Desks
 pub mod Links
 pub mod Journaling

@@ -8,7 +8,7 @@ use Rattle.ghost_model.specs.Host.{Holding}
 use Rattle.edge_traits.specs.Files.{Files}
 use Rattle.edge_traits.specs.Links.{Steps, faults_after}
 use Rattle.host_exec.specs.Hosts.{steps_of}
-use Rattle.local_links.specs.Serving.{Desk, serves, ServedFrom}
+use Rattle.session_laws.specs.Serving.{Desk, serves, ServedFrom}
 use Rattle.local_links.specs.Desks.{Owes, size_of}
 use Rattle.local_links.specs.declared.host_link.HostLink.{HostLink}
 

@@ -9,7 +9,7 @@ ghost use Rattle.ghost_model.specs.Host.{Holding, Stand, Response, answer_to};
 ghost use Rattle.edge_traits.specs.Files.{file_of};
 ghost use Rattle.edge_traits.specs.Links.{entry, Steps, steps_stay, steps_join};
 ghost use Rattle.host_exec.specs.Hosts.{Holds, StandsAs, name_of};
-ghost use Rattle.local_links.specs.Serving.{Desk, first_desk};
+ghost use Rattle.session_laws.specs.Serving.{Desk, first_desk};
 ghost use Rattle.local_links.specs.Desks.{Owes};
 ghost use Rattle.local_links.specs.Links.{IsAt, Served, HandsOn, Moves, steps_left, depot_of, faults_of};
 
