@@ -5,7 +5,6 @@ use Rattle.ghost_model.specs.Asks.{Asked}
 use Rattle.ghost_model.specs.NextMove as next
 use Rattle.ghost_model.specs.NextMove.{Awaits, Missing, Nothing}
 use Rattle.channel_pump.specs.declared.state.Pump.{Pump}
-use Rattle.channel_pump.specs.declared.state.Phase.{Phase}
 use Rattle.channel_pump.specs.declared.state.Phase.TheVariants.{Greeting, Reply, Over}
 use Rattle.channel_pump.specs.Asked.{AreAsked}
 use Rattle.channel_pump.specs.Forms.{Form, IsFirst, are_known}

@@ -1,17 +1,17 @@
 -- The asks of a script, as the pump sees them.
-use Rattle.std.proofs.Common.{◌≡◌, ◌≤◌, ◌==◌, ◌&&◌, ◌||◌, nat_lt, nat_le, ℕ, zero, suc, Bool, true, false, cond, arith, Option, Some, None, is_some, IfSome, IfNone, option_map, List, [], ◌∷◌, length, take, drop, map, take_while, length-take, IsTrue, refl, ap, sym, ◌∙◌, subst}
+use Rattle.std.proofs.Common.{◌≡◌, ◌≤◌, ◌==◌, ◌&&◌, ◌||◌, nat_lt, nat_le, ℕ, zero, suc, Bool, true, false, cond, arith, Option, Some, None, is_some, IfSome, IfNone, option_map, List, [], ◌∷◌, length, take, drop, map, take_while, length-take, IsTrue, refl, ap, sym, ◌∙◌}
 use Rattle.std.specs.List.{list_all, list_any}
 use Rattle.std.specs.Cmp.{first_so, second_so}
 use Rattle.std.proofs.lemmas.Bool.Decides.{nat_tests}
 use Rattle.std.proofs.lemmas.List.Sums.{take_while-cons}
 use Rattle.ghost_model.specs.Schema.{Schema, Kind}
-use Rattle.ghost_model.specs.Channel.{Catalog, Ask}
+use Rattle.ghost_model.specs.Channel.{Catalog}
 use Rattle.ghost_model.specs.Asks.{Asked, ask_payload, kinds_of, is_proper_ask}
 use Rattle.ghost_model.specs.NextMove.{of_later_texts}
 use Rattle.script_asks.specs.Left.{are_numbered, are_proper}
 use Rattle.channel_pump.specs.Asked.{AreAsked}
 use Rattle.channel_pump.specs.declared.forms.AskForm.{AskForm}
-use Rattle.channel_pump.specs.Forms.{Form, IsFirst, are_known, form_of}
+use Rattle.channel_pump.specs.Forms.{Form, are_known, form_of}
 use Rattle.channel_pump.specs.Narrow.{is_narrow}
 use Rattle.channel_pump.specs.Scripts.{IsHeld, form_asked, forms_asked, payload_held, kinds_held}
 use Rattle.channel_pump.specs.Turning.{forms_after}

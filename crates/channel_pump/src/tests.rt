@@ -63,11 +63,12 @@ fn give(host: &[&[u8]], place: &mut Place, room: &mut [u8]) -> usize
     }
     let piece = host[place.piece];
     let done = place.done.min(piece.len());
-    let count = (piece.len() - done).min(room.len());
-    room[..count].copy_from_slice(&piece[done..done + count]);
-    place.done = done + count;
+    let (_given, rest) = piece.split_at(done);
+    let count = rest.len().min(room.len());
+    room[..count].copy_from_slice(&rest[..count]);
+    place.done = done.saturating_add(count);
     if place.done == piece.len() {
-        place.piece += 1;
+        place.piece = place.piece.saturating_add(1);
         place.done = 0;
     }
     count

@@ -1,5 +1,5 @@
-use Rattle.std.proofs.Common.{◌≡◌, List, [], None, true, map, sym, ap, ◌∙◌, subst}
-use Rattle.channel_pump.specs.Forms.{Form, are_known, form_of}
+use Rattle.std.proofs.Common.{◌≡◌, List, [], true, sym, ap, ◌∙◌, subst}
+use Rattle.channel_pump.specs.Forms.{Form, are_known}
 use Rattle.channel_pump.specs.Sources.{forms_left}
 use Rattle.channel_pump.proofs.ScriptLemmas.{none_known}
 use Rattle.channel_pump.proofs.asks.Asks.asked.Goals as goal

@@ -1,4 +1,4 @@
-use Rattle.std.proofs.Common.{List, sym, subst}
+use Rattle.std.proofs.Common.{sym}
 use Rattle.ghost_model.specs.Asks.{asked_of}
 use Rattle.ghost_model.specs.Texts.{texts_of}
 use Rattle.channel_pump.proofs.state.Pump.begin.Goals as goal
