@@ -16,9 +16,11 @@ rows-preserved c e =
     above i found other h = grind (arith, other, h)
 
 pub returns-then-found-identifier : goal.returns-then-found-identifier
-returns-then-found-identifier c = record { found = λ e.
-    let is = cut c.args.width c.rows.rest.now _ _ _ _ _ (omega (arith, c.requires.some)) c.rows-test.true (middle_is c.args.width (length c.rows.rest.now)) c.split_at.ensures.front c.split_at.ensures.back c.split_at-in-rows.ensures.front c.split_at-in-rows.ensures.back in
-    here c.args.width c.args.identifier _ c.args.rows.now c.rows.rest.now _ _ _ (c.rows.invariant e) is (c.number_in-found.ensures ∙ number_taken c.split_at-in-rows.result.0.now) c.if-found-identifier.true }
+returns-then-found-identifier c = record {
+  found = λ e.
+      let is = cut c.args.width c.rows.rest.now _ _ _ _ _ (omega (arith, c.requires.some)) c.rows-test.true (middle_is c.args.width (length c.rows.rest.now)) c.split_at.ensures.front c.split_at.ensures.back c.split_at-in-rows.ensures.front c.split_at-in-rows.ensures.back in
+      here c.args.width c.args.identifier _ c.args.rows.now c.rows.rest.now _ _ _ (c.rows.invariant e) is (c.number_in-found.ensures ∙ number_taken c.split_at-in-rows.result.0.now) c.if-found-identifier.true;
+}
 
 pub returns : goal.returns
 returns c = record { found = λ e. nothing_left c.args.width c.args.identifier c.args.rows.now c.rows.rest.now (c.rows.invariant e) c.rows-test.false }
