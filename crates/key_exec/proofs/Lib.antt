@@ -1,0 +1,3 @@
+pub mod Readings
+pub mod LinkLemmas
+pub mod LeadLemmas
