@@ -1,3 +1,4 @@
 pub mod Readings
 pub mod LinkLemmas
 pub mod LeadLemmas
+pub mod RowLemmas
