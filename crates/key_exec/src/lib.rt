@@ -12,6 +12,8 @@ mod links;
 pub mod pages;
 mod plan;
 mod rows;
+#[cfg(test)]
+mod tests;
 mod values;
 
 pub use job::{Job, Row, Turn};
