@@ -1,5 +1,5 @@
 -- The pages that are held: where pages are told, each buffer has the page that it is said to hold.
-use Rattle.std.specs.Prelude.{◌≡◌, ℕ, ◌<◌, Bool, true, List, length, get_or, IfSome}
+use Rattle.std.specs.Prelude.{ℕ, ◌<◌, Bool, List, length, get_or}
 use Rattle.flash_pages.specs.Runs.{IsHeld}
 use Rattle.key_exec.specs.declared.pages.Slot.{Slot}
 

@@ -1,10 +1,8 @@
-use Rattle.std.proofs.Common.{◌≡◌, ◌∙◌, ◌∷◌, ◌++◌, [], length, map, take, ap, ap₂, sym, subst, refl, arith}
+use Rattle.std.proofs.Common.{length, ap, arith}
 use Rattle.ghost_model.specs.Query as query
 use Rattle.ghost_base.specs.Views.{operator_of, value_of}
 use Rattle.spj_parse.specs.Views.{comparison_of, field_of}
-use Rattle.spj_parse.specs.declared.query.Comparison.{Comparison}
 use Rattle.spj_parse.specs.declared.query.Field.{Field}
-use Rattle.key_exec.specs.Plans.{AreConditions}
 use Rattle.key_exec.proofs.LinkLemmas.{conditions_more, next_taken}
 use Rattle.key_exec.proofs.known.conditions_of.Goals as goal
 

@@ -1,5 +1,5 @@
-use Rattle.std.proofs.Common.{rules, ◌≡◌, ◌∙◌, ◌<◌, ◌≤◌, ◌+◌, ℕ, ap, sym, length, refl, arith, lt_of_le_of_lt}
-use Rattle.reply_store.proofs.RowLemmas.{IsLeft, IsCut, middle_is, middle_within, cut, number_taken, go_on, go_back, here, nothing_left}
+use Rattle.std.proofs.Common.{◌≡◌, ◌∙◌, ◌<◌, ◌≤◌, ℕ, length, arith}
+use Rattle.reply_store.proofs.RowLemmas.{middle_is, cut, number_taken, go_on, go_back, here, nothing_left}
 use Rattle.reply_store.proofs.rows.row_of.Goals as goal
 
 pub rows-preserved-then-found-identifier-2 : goal.rows-preserved-then-found-identifier-2

@@ -1,4 +1,4 @@
-use Rattle.std.proofs.Common.{◌≡◌, ◌∙◌, Some, map, ap, ap₂, sym}
+use Rattle.std.proofs.Common.{◌∙◌, map, ap, ap₂, sym}
 use Rattle.ghost_base.specs.Views.{kind_of}
 use Rattle.ghost_model.specs.Asks.{row_in}
 use Rattle.ghost_model.specs.Replies.{reply_about}
