@@ -1,8 +1,6 @@
 -- What a row found among the stored ones says of the replies.
-use Rattle.std.proofs.Common.{◌≡◌, ℕ, Bool, true, false, ◌&&◌, ◌==◌, List, [], ◌∷◌, map, Option, None, Some, is_some, option_map, option_and_then, if◌then◌else◌, refl, ap, ap₂, sym, subst, ◌∙◌}
-use Rattle.std.specs.List.{list_all}
+use Rattle.std.proofs.Common.{◌≡◌, ℕ, Bool, true, false, ◌&&◌, ◌==◌, List, [], ◌∷◌, map, Option, None, Some, is_some, option_map, option_and_then, if◌then◌else◌, refl, ap, sym, subst, ◌∙◌}
 use Rattle.ghost_model.specs.Schema.{Kind}
-use Rattle.ghost_model.specs.Values.{Value}
 use Rattle.ghost_model.specs.Channel.{Ask}
 use Rattle.ghost_model.specs.Asks.{ReplyRow, ascend_from}
 use Rattle.ghost_model.specs.Split.{Replied, value_at}

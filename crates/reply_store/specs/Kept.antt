@@ -1,5 +1,5 @@
 -- What a store keeps of its segments and bytes.
-use Rattle.std.specs.Prelude.{◌≡◌, ℕ, ◌≤◌, true, List, length, vec_capacity}
+use Rattle.std.specs.Prelude.{◌≡◌, ◌≤◌, true, length, vec_capacity}
 use Rattle.reply_store.specs.Stored.{Store}
 use Rattle.reply_store.specs.Segments.{end_of, stored_from, are_in_order}
 use Rattle.reply_store.specs.declared.store.ReplyStore.TheInside.{Inside}

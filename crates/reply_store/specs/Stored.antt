@@ -1,6 +1,6 @@
 -- The replies of one text as they are stored: its asks in order, each with the kinds of its columns and the bytes of its
 -- rows, and the room that there is for such bytes.
-use Rattle.std.specs.Prelude.{◌≡◌, ℕ, ◌+◌, ◌*◌, ◌/◌, Bool, true, ◌==◌, nat_le, List, [], ◌∷◌, ◌++◌, length, map, sum, sum_by, Option, Some, None, if◌then◌else◌}
+use Rattle.std.specs.Prelude.{ℕ, ◌+◌, ◌*◌, ◌/◌, Bool, ◌==◌, nat_le, List, [], ◌∷◌, ◌++◌, length, map, sum, sum_by, Option, Some, None, if◌then◌else◌}
 use Rattle.std.specs.List.{list_all}
 use Rattle.ghost_model.specs.Schema.{Schema, Kind}
 use Rattle.ghost_model.specs.Channel.{Ask, Catalog}

@@ -37,7 +37,10 @@ pub(crate) fn about<'a>(segments: &'a [Segment], bytes: &'a [u8], table: usize) 
     'segments: while let Some((segment, later)) = left.split_first() {
         if segment.ask.table as usize == table {
             let end = end_before(later, bytes.len());
-            let rows = front(behind(bytes, segment.start), end.saturating_sub(segment.start));
+            let rows = front(
+                behind(bytes, segment.start),
+                end.saturating_sub(segment.start),
+            );
             return Some(Found { segment, rows });
         }
         left = later;

@@ -1,6 +1,5 @@
-use Rattle.std.proofs.Common.{rules, ◌≡◌, ◌≤◌, ◌*◌, ℕ, ap, ap₂, sym, ◌∙◌, arith, mul-le-mul, subst, lt_of_le_of_lt}
+use Rattle.std.proofs.Common.{◌≡◌, ◌≤◌, ◌*◌, ℕ, ap, ap₂, ◌∙◌, arith, mul-le-mul}
 use Rattle.std.specs.Prelude.{unwrap_or}
-use Rattle.ghost_model.specs.Layout.{count_of, spool_width}
 use Rattle.std.proofs.lemmas.Option.{unwrap_or-slice_get}
 use Rattle.reply_store.proofs.store.table_room.Goals as goal
 

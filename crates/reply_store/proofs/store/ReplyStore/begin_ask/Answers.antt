@@ -1,6 +1,6 @@
-use Rattle.std.proofs.Common.{List, ◌≡◌, ◌∙◌, ◌∷◌, ◌++◌, [], ap, ap₂, sym, refl}
-use Rattle.reply_store.specs.Stored.{Stored, Store, opened}
-use Rattle.reply_store.specs.Segments.{stored_from, stored_of}
+use Rattle.std.proofs.Common.{List, ◌∙◌, ◌∷◌, ◌++◌, [], ap, ap₂}
+use Rattle.reply_store.specs.Stored.{Stored, Store}
+use Rattle.reply_store.specs.Segments.{stored_from}
 use Rattle.reply_store.proofs.SegmentLemmas.{segment_added, opened_as}
 use Rattle.reply_store.proofs.store.ReplyStore.begin_ask.Goals as goal
 

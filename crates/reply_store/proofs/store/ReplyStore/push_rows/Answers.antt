@@ -1,4 +1,4 @@
-use Rattle.std.proofs.Common.{rules, ◌≡◌, ◌∙◌, ◌≤◌, ◌<◌, ◌+◌, ◌-◌, ℕ, ap, sym, subst, length, arith, false, nat_eq}
+use Rattle.std.proofs.Common.{rules, ◌≡◌, ◌∙◌, ◌≤◌, ◌<◌, ◌+◌, ◌-◌, ℕ, ap, sym, subst, length, arith}
 use Rattle.reply_store.specs.Stored.{Store, bytes_in, with_rows}
 use Rattle.reply_store.specs.Segments.{stored_from}
 use Rattle.reply_store.proofs.SegmentLemmas.{bytes_are, rows_added, appended}

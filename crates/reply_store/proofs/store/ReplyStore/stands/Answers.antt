@@ -1,4 +1,4 @@
-use Rattle.std.proofs.Common.{◌≡◌, ◌∙◌, Some, map, ap, ap₂, sym}
+use Rattle.std.proofs.Common.{◌∙◌, map, ap, ap₂, sym}
 use Rattle.ghost_base.specs.Views.{kind_of}
 use Rattle.ghost_model.specs.Asks.{row_in}
 use Rattle.ghost_model.specs.Replies.{reply_about}
@@ -9,11 +9,13 @@ use Rattle.reply_store.proofs.StandLemmas.{stands_by}
 use Rattle.reply_store.proofs.store.ReplyStore.stands.Goals as goal
 
 pub returns-in-Some : goal.returns-in-Some
-returns-in-Some c = record { stands = λ e.
-    let segment = c.in-Some.found.segment.now in
-    let about = ap (λ (s : Store). reply_about c.args.table (replies_in s.stored)) (sym c.self.view_is)
-        ∙ ap₂ (λ segments bytes. reply_about c.args.table (replies_in (stored_from segments bytes))) (sym c.deref.ensures.value) (sym c.deref-2.ensures.value)
-        ∙ c.in-Some.ensures.found in
-    c.is_some.ensures
-    ∙ stands_by (λ row. row_in row.now) c.args.identifier c.args.table segment.width (replies_in c.args.self.now.stored) (ask_view segment.ask) (map kind_of segment.kinds.items)
-    c.in-Some.found.rows.now c.row_of.result segment.width_is c.row_of.ensures.found about e }
+returns-in-Some c = record {
+  stands = λ e.
+      let segment = c.in-Some.found.segment.now in
+      let about = ap (λ (s : Store). reply_about c.args.table (replies_in s.stored)) (sym c.self.view_is)
+      ∙ ap₂ (λ segments bytes. reply_about c.args.table (replies_in (stored_from segments bytes))) (sym c.deref.ensures.value) (sym c.deref-2.ensures.value)
+      ∙ c.in-Some.ensures.found in
+      c.is_some.ensures
+      ∙ stands_by (λ row. row_in row.now) c.args.identifier c.args.table segment.width (replies_in c.args.self.now.stored) (ask_view segment.ask) (map kind_of segment.kinds.items)
+      c.in-Some.found.rows.now c.row_of.result segment.width_is c.row_of.ensures.found about e;
+}

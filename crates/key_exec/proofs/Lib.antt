@@ -1,0 +1,4 @@
+pub mod Readings
+pub mod LinkLemmas
+pub mod LeadLemmas
+pub mod RowLemmas

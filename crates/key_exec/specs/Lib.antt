@@ -1,0 +1,5 @@
+pub mod Held
+pub mod Reading
+pub mod Plans
+pub mod RowsGiven
+pub mod Jobs

@@ -1,0 +1,20 @@
+//! The answer of a query by the key: row by row of its top table, from the hidden columns on the flash and the replies.
+//!
+//! A row of the top table leads along the foreign keys, which are hidden, to one row of each table below. It is printed
+//! where the row of each asked table stands in its reply and each condition on a hidden column or an identifier holds. No
+//! call here takes memory. `docs/SESSION.md` states the rules.
+#![tactic(auto)]
+
+pub mod job;
+mod known;
+mod leading;
+mod links;
+pub mod pages;
+mod plan;
+mod rows;
+#[cfg(test)]
+mod tests;
+mod values;
+
+pub use job::{Job, Row, Turn};
+pub use pages::Pages;
