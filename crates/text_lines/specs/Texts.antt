@@ -1,0 +1,97 @@
+-- What the lines of a text tell, by the state of its replies.
+use Rattle.std.specs.Prelude.{◌≡◌, ◌⊎◌, ℕ, ⊤, List, [], ◌∷◌, ◌++◌, map, codes, Ok, Err}
+use Rattle.std.specs.List.{concat}
+use Rattle.ghost_model.specs.Causes.{Rose}
+use Rattle.ghost_model.specs.Schema.{Schema}
+use Rattle.ghost_model.specs.Values.{Row}
+use Rattle.ghost_model.specs.Query.{Query}
+use Rattle.ghost_model.specs.QueryMeaning.{Refusal}
+use Rattle.ghost_model.specs.QueryReading.{reading}
+use Rattle.ghost_model.specs.Split.{Hidden}
+use Rattle.ghost_model.specs.Replies.{Reply, answer_from}
+use Rattle.ghost_model.specs.Printed.{row_line, answer_lines, word_line, refusal_line}
+use Rattle.key_lines.specs.Handing.{Handed, Hands}
+use Rattle.channel_pump.specs.declared.state.ReplyState.{ReplyState}
+use Rattle.channel_pump.specs.declared.state.ReplyState.TheVariants as state_is
+use Rattle.text_lines.specs.declared.text.Told.{Told}
+use Rattle.text_lines.specs.declared.text.Told.TheVariants as told
+
+-- some of the rows, and the word of the flash behind them
+pub record AreFlashLines (number : ℕ) (rows : List Row) (lines : List (List ℕ)) : Type 0 where
+  pub given : List Row
+  pub left : List Row
+  pub front : rows ≡ given ++ left
+  pub are : lines ≡ map row_line given ++ word_line number (codes "flash") ∷ []
+
+abbrev pub AreAnswerLines : (number : ℕ) (rows : List Row) (lines : List (List ℕ)) → Told → Type 0
+AreAnswerLines number rows lines told.Refused = ⊥
+AreAnswerLines number rows lines told.Answered = lines ≡ answer_lines number rows
+AreAnswerLines number rows lines told.Host = ⊥
+AreAnswerLines number rows lines told.Link = ⊥
+AreAnswerLines number rows lines told.Protocol = ⊥
+AreAnswerLines number rows lines told.Flash = AreFlashLines number rows lines
+AreAnswerLines number rows lines (told.Damaged page slot found) = ⊥
+
+-- the lines of an answer with these rows were printed
+pub record TellsAnswer (number : ℕ) (rows : List Row) (before after : Handed) (result : Told) : Type 0 where
+  pub lines : List (List ℕ)
+  pub handed : Hands (concat lines) before after
+  pub are : AreAnswerLines number rows lines result
+
+-- the line of what ended the asks of a text, by the state of its replies
+abbrev pub broken_line : (number : ℕ) (word : List ℕ) → List (List ℕ)
+broken_line number word = word_line number word ∷ []
+
+abbrev pub AreBrokenLines : (number : ℕ) (state : ReplyState) (lines : List (List ℕ)) → Told → Type 0
+AreBrokenLines number state lines told.Refused = ⊥
+AreBrokenLines number state lines told.Answered = ⊥
+AreBrokenLines number state lines told.Host = (state ≡ state_is.Host) × (lines ≡ broken_line number (codes "host"))
+AreBrokenLines number state lines told.Link = ((state ≡ state_is.Protocol → ⊥) × (state ≡ state_is.Host → ⊥)) × (lines ≡ broken_line number (codes "link"))
+AreBrokenLines number state lines told.Protocol = (state ≡ state_is.Protocol) × (lines ≡ broken_line number (codes "protocol"))
+AreBrokenLines number state lines told.Flash = ⊥
+AreBrokenLines number state lines (told.Damaged page slot found) = ⊥
+
+pub record TellsBroken (number : ℕ) (state : ReplyState) (before after : Handed) (result : Told) : Type 0 where
+  pub lines : List (List ℕ)
+  pub handed : Hands (concat lines) before after
+  pub are : AreBrokenLines number state lines result
+
+-- why a text has these lines
+pub record IsRefusal (schema : Schema) (number : ℕ) (text : List ℕ) (lines : List (List ℕ)) (result : Told) : Type 0 where
+  pub refusal : Refusal
+  pub refused : reading schema text ≡ Err refusal
+  pub are : lines ≡ refusal_line number refusal ∷ []
+  pub is_told : result ≡ told.Refused
+
+pub record IsAnswer (schema : Schema) (kept : Hidden) (given : List Reply) (number : ℕ) (text : List ℕ) (state : ReplyState) (lines : List (List ℕ)) (result : Told) : Type 0 where
+  pub query : Query
+  pub accepted : reading schema text ≡ Ok query
+  pub done : state ≡ state_is.Done
+  pub are : AreAnswerLines number (answer_from schema kept query given) lines result
+
+pub record IsBroken (schema : Schema) (number : ℕ) (text : List ℕ) (state : ReplyState) (lines : List (List ℕ)) (result : Told) : Type 0 where
+  pub query : Query
+  pub accepted : reading schema text ≡ Ok query
+  pub not_done : state ≡ state_is.Done → ⊥
+  pub are : AreBrokenLines number state lines result
+
+pub data Why (schema : Schema) (kept : Hidden) (given : List Reply) (number : ℕ) (text : List ℕ) (state : ReplyState) (lines : List (List ℕ)) (result : Told) : Type 0 where
+  is_refused : IsRefusal schema number text lines result → Why schema kept given number text state lines result
+  is_answered : IsAnswer schema kept given number text state lines result → Why schema kept given number text state lines result
+  is_broken : IsBroken schema number text state lines result → Why schema kept given number text state lines result
+
+-- the lines of a text were printed
+pub record TellsText (schema : Schema) (kept : Hidden) (given : List Reply) (number : ℕ) (text : List ℕ) (state : ReplyState) (before after : Handed) (result : Told) : Type 0 where
+  pub lines : List (List ℕ)
+  pub handed : Hands (concat lines) before after
+  pub why : Why schema kept given number text state lines result
+
+-- the flash is blamed exactly where its count of faults rose
+abbrev pub ToldTells : (before now : ℕ) → Told → Type 0
+ToldTells before now told.Refused = now ≡ before
+ToldTells before now told.Answered = now ≡ before
+ToldTells before now told.Host = now ≡ before
+ToldTells before now told.Link = now ≡ before
+ToldTells before now told.Protocol = now ≡ before
+ToldTells before now told.Flash = Rose before now
+ToldTells before now (told.Damaged page slot found) = now ≡ before
