@@ -1,27 +1,24 @@
 -- Pages that hold a database's hidden columns have the value of each row in its slot.
-use Rattle.std.proofs.Common.{◌≡◌, refl, sym, ap, ◌∙◌, subst, ℕ, zero, suc, ◌-◌, ◌<◌, ◌≤◌, Bool, true, false, ◌&&◌, nat_lt, List, [], ◌∷◌, length, Option, Some, None, slice_get, option_and_then, not, get_or, arith}
-use Rattle.std.specs.Prelude.{if◌then◌else◌, option_map, IsTrue}
-use Rattle.ghost_model.specs.Schema.{Schema, Column, columns_of, column_at, is_shown}
-use Rattle.ghost_model.specs.Values.{Value, Row, Database}
+use Rattle.std.proofs.Common.{◌≡◌, refl, sym, ap, ◌∙◌, ℕ, zero, suc, ◌-◌, ◌<◌, ◌≤◌, Bool, true, false, ◌&&◌, nat_lt, List, [], ◌∷◌, length, Option, Some, None, slice_get, option_and_then, not, get_or, arith}
+use Rattle.std.specs.Prelude.{if◌then◌else◌, option_map}
+use Rattle.ghost_model.specs.Schema.{Column, columns_of, column_at, is_shown}
+use Rattle.ghost_model.specs.Values.{Value, Database}
 use Rattle.ghost_model.specs.Channel.{Catalog}
 use Rattle.ghost_model.specs.SchemaTrees.{IsTree}
 use Rattle.ghost_model.specs.Database.{IsDatabase, rows_of, row_counts, field, is_row_among}
-use Rattle.ghost_model.specs.Split.{Hidden, hidden_of}
-use Rattle.ghost_model.specs.Replies.{Reply, hidden_value, known_value, replied_value}
+use Rattle.ghost_model.specs.Split.{hidden_of}
+use Rattle.ghost_model.specs.Replies.{hidden_value, replied_value}
 use Rattle.ghost_model.specs.Runs.{record_at}
 use Rattle.ghost_model.specs.Asks.{kind_at}
 use Rattle.ghost_model.specs.Cells.{decode_cell}
 use Rattle.ghost_model.specs.Layout.{hidden_or_none, is_hidden, count_of, column_file}
-use Rattle.ghost_model.specs.Flash.{IsHidden, HoldsColumns}
+use Rattle.ghost_model.specs.Flash.{HoldsColumns}
 use Rattle.ghost_model.specs.FlashLaws.{HiddenPartsGoWithCatalogs, HiddenValuesOfDatabases, ColumnFilesGiveValues}
 use Rattle.ghost_model.proofs.MeaningLemmas.Leading.{get_within}
 use Rattle.ghost_model.proofs.LayoutLemmas.Order.{table_there}
 use Rattle.ghost_model.proofs.FlashLemmas.Values.{count_there, not_hidden}
-use Rattle.edge_traits.specs.Devices.{Device}
-use Rattle.hidden_columns.specs.declared.file.ColumnFile.{ColumnFile}
 use Rattle.hidden_columns.specs.Slots.{child_or_none, child_rows, is_in_range, only_in_range, spelled}
-use Rattle.hidden_columns.specs.Files.{IsFileOf, IsReadable, slot_value}
-use Rattle.hidden_columns.specs.Laws.{value_on, HasValue, IsColumnBut, HeldColumnsAreRight, FilesAreOfColumns, FilesStayReadable}
+use Rattle.hidden_columns.specs.Laws.{value_on, HasValue, HeldColumnsAreRight, FilesAreOfColumns, FilesStayReadable}
 
 -- a value in range is what its bytes spell, and what bytes spell they spell without a range
 in_range : (rows : Option ℕ) (value : Value) → is_in_range rows value ≡ true → only_in_range rows (Some value) ≡ Some value

@@ -1,6 +1,5 @@
 -- Laws of column files: where pages hold a database's hidden columns, the slot of each row spells the row's value.
 use Rattle.std.specs.Prelude.{◌≡◌, ℕ, ◌-◌, ◌≤◌, true, List, Option, Some}
-use Rattle.ghost_model.specs.Schema.{Schema}
 use Rattle.ghost_model.specs.Values.{Value, Database}
 use Rattle.ghost_model.specs.Channel.{Catalog}
 use Rattle.ghost_model.specs.SchemaTrees.{IsTree}

@@ -1,6 +1,7 @@
 //! The column files of the clinic on a device in memory, row by row.
 
-ghost use Rattle.std.specs.Prelude.{◌≡◌, ◌<◌, ◌≤◌, ℕ, true, IfOk, OnOk, length};
+ghost use Rattle.std.specs.Prelude.{◌≡◌, ◌<◌, ◌≤◌, ℕ, true, IfSome, length};
+ghost use Rattle.hidden_columns.specs.Files.{IsReadable};
 
 use crate::ColumnFile;
 use arrayvec::ArrayVec;
@@ -31,12 +32,12 @@ fn clinic() -> Option<Catalog> {
 fn put(flash: &mut MemFlash, page: u32, front: &[u8]) -> Result<(), Failed>
     requires there { page < (⟦<MemFlash as Flash>⟧.state flash.old).page_count }
     requires blank { (⟦<MemFlash as Flash>⟧.state flash.old).blank page ≡ true }
-    requires short { length front.now ≤ 2048 }
     ensures pages { (⟦<MemFlash as Flash>⟧.state flash.new).page_count ≡ (⟦<MemFlash as Flash>⟧.state flash.old).page_count }
     ensures later { (other : ℕ) → page < other → (⟦<MemFlash as Flash>⟧.state flash.new).blank other ≡ (⟦<MemFlash as Flash>⟧.state flash.old).blank other }
 {
     let mut bytes = [0xFF; 2048];
-    bytes[..front.len()].copy_from_slice(front);
+    let count = front.len().min(2048);
+    bytes[..count].copy_from_slice(&front[..count]);
     flash.write_page(page, &bytes)
 }
 
@@ -73,6 +74,16 @@ fn made(alloc: Global, files: &Files, fails: &[u64]) -> Result<MemFlash, AttachF
     Ok(flash)
 }
 
+/// The file of a column, where it is hidden and the device has the catalog's pages.
+fn file_on(flash: &MemFlash, cat: &Catalog, table: usize, column: usize) -> Option<ColumnFile>
+    ensures readable { IfSome result (IsReadable (⟦<MemFlash as Flash>⟧.state flash.now)) }
+{
+    if !is_hidden(cat, table, column) || need(cat) > flash.pages() {
+        return None;
+    }
+    Some(ColumnFile::of(cat, table, column))
+}
+
 /// The value of a column in a row, read with no page held before, where there is such a row and column.
 fn value(
     flash: &mut MemFlash,
@@ -81,15 +92,34 @@ fn value(
     column: usize,
     identifier: u32,
 ) -> Option<Result<Value, PageFault>> {
-    if !is_hidden(cat, table, column) || need(cat) > flash.pages() {
-        return None;
+    match file_on(flash, cat, table, column) {
+        None => None,
+        Some(file) => {
+            if identifier == 0 || identifier > file.run.count {
+                return None;
+            }
+            let mut held = Held::none();
+            Some(file.get(flash, &mut held, &mut [0; 2048], identifier))
+        }
     }
-    let file = ColumnFile::of(cat, table, column);
-    if identifier == 0 || identifier > file.run.count {
-        return None;
+}
+
+/// Whether the rows of a table have these values in a column, one after another.
+fn has_values(
+    flash: &mut MemFlash,
+    cat: &Catalog,
+    table: usize,
+    column: usize,
+    values: &[Value],
+) -> bool {
+    let mut identifier = 0u32;
+    for wanted in values {
+        identifier = identifier.saturating_add(1);
+        if value(flash, cat, table, column, identifier) != Some(Ok(*wanted)) {
+            return false;
+        }
     }
-    let mut held = Held::none();
-    Some(file.get(flash, &mut held, &mut [0; 2048], identifier))
+    true
 }
 
 /// A text.
@@ -106,21 +136,16 @@ fn each_slot_has_the_value_of_its_row(rt: HostRuntime) -> Result<(), AttachFault
         assert!(rt; false);
         return Ok(());
     };
-    let flu = text(b"flu");
-    for (table, column, values) in [
-        (0usize, 2usize, [text(b"FR"), text(b"ES"), text(b"ES")].as_slice()),
-        (1, 2, [text(b"Ann"), text(b"Bob")].as_slice()),
-        (2, 2, [flu, text(b"check"), flu, flu].as_slice()),
-        (2, 3, [Value::Int(1), Value::Int(3), Value::Int(3), Value::Int(2)].as_slice()),
-        (2, 4, [Value::Int(1), Value::Int(2), Value::Int(1), Value::Int(2)].as_slice()),
-    ] {
-        let mut identifier = 0u32;
-        for wanted in values {
-            identifier = identifier.saturating_add(1);
-            let found = value(&mut flash, &cat, table, column, identifier);
-            assert_eq!(rt; found, Some(Ok(*wanted)), "{table} {column} {identifier}");
-        }
-    }
+    let countries = [text(b"FR"), text(b"ES"), text(b"ES")];
+    assert!(rt; has_values(&mut flash, &cat, 0, 2, &countries));
+    let names = [text(b"Ann"), text(b"Bob")];
+    assert!(rt; has_values(&mut flash, &cat, 1, 2, &names));
+    let purposes = [text(b"flu"), text(b"check"), text(b"flu"), text(b"flu")];
+    assert!(rt; has_values(&mut flash, &cat, 2, 2, &purposes));
+    let doctors = [Value::Int(1), Value::Int(3), Value::Int(3), Value::Int(2)];
+    assert!(rt; has_values(&mut flash, &cat, 2, 3, &doctors));
+    let patients = [Value::Int(1), Value::Int(2), Value::Int(1), Value::Int(2)];
+    assert!(rt; has_values(&mut flash, &cat, 2, 4, &patients));
     assert_eq!(rt; flash.script.calls, 23);
     Ok(())
 }
@@ -163,30 +188,24 @@ fn keys_are_read_with_one_call_a_page(rt: HostRuntime) -> Result<(), AttachFault
         assert!(rt; false);
         return Ok(());
     };
-    if need(&cat) > flash.pages() || !is_hidden(&cat, 2, 3) {
-        assert!(rt; false);
-        return Ok(());
-    }
-    let doctors = ColumnFile::of(&cat, 2, 3);
-    assert_eq!(rt; doctors.child_rows, Some(3));
-    let mut held = Held::none();
-    let mut buf = [0; 2048];
-    for (identifier, wanted) in [(2u32, 3u32), (4, 2), (1, 1)] {
-        if doctors.child_rows.is_some() && identifier <= doctors.run.count {
-            let found = doctors.key(&mut flash, &mut held, &mut buf, identifier);
-            assert_eq!(rt; found, Ok(wanted));
+    match file_on(&flash, &cat, 2, 3) {
+        None => assert!(rt; false),
+        Some(doctors) => {
+            assert_eq!(rt; (doctors.child_rows, doctors.run.count), (Some(3), 4));
+            if doctors.child_rows.is_some() && doctors.run.count >= 4 {
+                let mut held = Held::none();
+                let mut buf = [0; 2048];
+                let second = doctors.key(&mut flash, &mut held, &mut buf, 2);
+                let fourth = doctors.key(&mut flash, &mut held, &mut buf, 4);
+                assert_eq!(rt; (second, fourth), (Ok(3), Ok(2)));
+                assert_eq!(rt; (flash.script.calls, held.page), (7, Some(79)));
+                held = Held::none();
+                let failed = doctors.key(&mut flash, &mut held, &mut buf, 1);
+                assert_eq!(rt; (failed, held.page), (Err(PageFault::Flash), None));
+                let first = doctors.key(&mut flash, &mut held, &mut buf, 1);
+                assert_eq!(rt; (first, flash.script.calls), (Ok(1), 9));
+            }
         }
     }
-    assert_eq!(rt; flash.script.calls, 7);
-    assert_eq!(rt; held.page, Some(79));
-    if doctors.child_rows.is_some() && doctors.run.count > 0 {
-        held = Held::none();
-        let failed = doctors.key(&mut flash, &mut held, &mut buf, 1);
-        assert_eq!(rt; failed, Err(PageFault::Flash));
-        assert_eq!(rt; held.page, None);
-        let again = doctors.key(&mut flash, &mut held, &mut buf, 1);
-        assert_eq!(rt; again, Ok(1));
-    }
-    assert_eq!(rt; flash.script.calls, 9);
     Ok(())
 }
