@@ -1,10 +1,10 @@
 -- How a loading ended, from what its parts did.
-use Rattle.std.proofs.Common.{◌≡◌, ◌≤◌, ◌*◌, Bool, true, Result, Ok, Err, OnOk, ap, subst, ◌∙◌}
+use Rattle.std.proofs.Common.{◌≡◌, ℕ, ◌≤◌, ◌<◌, ◌*◌, Bool, true, false, List, Result, Ok, Err, OnOk, ap, subst, ◌∙◌}
 use Rattle.ghost_model.specs.Database.{IsDatabase}
 use Rattle.ghost_model.specs.Flash.{HoldsCatalog, HoldsColumns}
 use Rattle.ghost_model.specs.Layout.{need}
 use Rattle.ghost_model.specs.Schema.{Schema}
-use Rattle.ghost_model.specs.Split.{Hidden}
+use Rattle.ghost_model.specs.Split.{Hidden, hidden_of}
 use Rattle.ghost_model.specs.Values.{Database}
 use Rattle.ghost_model.specs.Channel.{Catalog}
 use Rattle.edge_traits.specs.Files.{with_file}
@@ -15,7 +15,7 @@ use Rattle.key_inputs.specs.declared.opening.Input.{Input}
 use Rattle.key_words.specs.Words.{Load}
 use Rattle.key_load.specs.Loadings.{catalog_for, pages_for, loaded_line}
 use Rattle.key_load.specs.Preparing.{IsPrepared}
-use Rattle.key_load.specs.Results.{World, loading, HasHostFile, Stands, EndsLoading, Ends, EndsSome}
+use Rattle.key_load.specs.Results.{World, Loading, loading, catalog_in, pages_in, HasHostFile, Stands, EndsLoading, Ends, EndsSome, IsOfMaking}
 use Rattle.key_load.specs.declared.failures.LoadFailure.{LoadFailure}
 use Rattle.key_load.specs.declared.failures.LoadFailure.TheVariants as failure
 use Rattle.key_load.specs.declared.preparing.Prepared.{Prepared}
@@ -23,6 +23,19 @@ use Rattle.key_load.specs.declared.preparing.Prepared.{Prepared}
 pub on_ok : {T E : Type 0} (result : Result T E) (P : Type 0) → P → OnOk result P
 on_ok (Ok value) P holds = holds
 on_ok (Err fault) P holds = tt
+
+-- the writing failed
+pub failed : {T : Type 0} (result : Result T LoadFailure) (told : Bool) (one : Loading) (before after : World) (fault : LoadFailure) → IsOfMaking {T = T} (Err fault)
+    → need (catalog_in one) ≤ pages_in one
+    → (0 < after.device.page_count → after.device.blank 0 ≡ false → HasHostFile one before after)
+    → (0 < after.device.page_count → after.device.blank 0 ≡ false → told ≡ true → HoldsColumns after.device.page (catalog_in one) (hidden_of one.schema one.database))
+    → EndsLoading {T = T} told one (Err fault) before after
+failed result told one before after failure.NoMemory of enough file columns = tt
+failed result told one before after failure.Depot of enough file columns = tt
+failed result told one before after (failure.Input broken) of enough file columns = of
+failed result told one before after (failure.TooSmall needed had) of enough file columns = absurd of
+failed result told one before after failure.Flash of enough file columns = record { enough = enough; file = file; columns = columns }
+failed result told one before after failure.Sink of enough file columns = absurd of
 
 module _ {T : Type 0} where
   -- a loading ended so of the tables that the files spell
@@ -80,6 +93,12 @@ module _ (schema : Schema) (database : Database) (words : Load) (prepared : Prep
       → after.files ≡ with_file before.files words.visible prepared.image.items → HasHostFile (loading schema database words) before after
   host_file are before after file = file ∙ ap (λ bytes. with_file before.files words.visible bytes) are.image
 
+  pub columns_stand : IsPrepared schema database words.blocks prepared → (page : ℕ → List ℕ)
+      → HoldsColumns page prepared.cat prepared.hidden → HoldsColumns page (catalog_for schema database) (hidden_of schema database)
+  columns_stand are page holds =
+      subst (λ (hidden : Hidden). HoldsColumns page (catalog_for schema database) hidden) are.hidden
+      (subst (λ (cat : Catalog). HoldsColumns page cat prepared.hidden) are.cat holds)
+
   -- what was prepared stands
   pub stands : (told : Bool) → IsPrepared schema database words.blocks prepared → (before after : World)
       → need prepared.cat ≤ 64 * prepared.blocks
@@ -90,9 +109,7 @@ module _ (schema : Schema) (database : Database) (words : Load) (prepared : Prep
       → Stands told (loading schema database words) before after
   stands told are before after enough catalog columns pages file = record {
     catalog = λ t. subst (λ (cat : Catalog). HoldsCatalog after.device.page cat) are.cat (catalog t);
-    columns = λ t.
-        subst (λ (hidden : Hidden). HoldsColumns after.device.page (catalog_for schema database) hidden) are.hidden
-        (subst (λ (cat : Catalog). HoldsColumns after.device.page cat prepared.hidden) are.cat (columns t));
+    columns = λ t. columns_stand are after.device.page (columns t);
     pages = pages ∙ ap (λ blocks. 64 * blocks) are.blocks;
     enough = large_enough are enough;
     file = host_file are before after file;

@@ -73,10 +73,13 @@ pub record LoadsUnprinted (told : Bool) (one : Loading) (before after : World) :
   pub stands : Stands told one before after
   pub front : GrowsByFront before.written (loaded_line (catalog_in one) (pages_in one)) after.written
 
--- the flash failed: it was to be large enough, and the host's file stands where page 0 was begun
-pub record LeavesUnsealed (one : Loading) (before after : World) : Type 0 where
+-- the flash failed: it was to be large enough, and where page 0 was begun the files of both ends stand
+pub record LeavesUnsealed (told : Bool) (one : Loading) (before after : World) : Type 0 where
   pub enough : need (catalog_in one) ≤ pages_in one
   pub file : 0 < after.device.page_count → after.device.blank 0 ≡ false → HasHostFile one before after
+  pub columns :
+      0 < after.device.page_count → after.device.blank 0 ≡ false → told ≡ true
+      → HoldsColumns after.device.page (catalog_in one) (hidden_of one.schema one.database)
 
 -- how a loading of tables that were read ended
 abbrev pub EndsLoading : {T : Type 0} → (told : Bool) → Loading → Result T LoadFailure → (before after : World) → Type 0
@@ -86,7 +89,7 @@ EndsLoading told one (Err failure.Depot) before after = ⊤
 EndsLoading told one (Err (failure.Input broken)) before after = ⊥
 EndsLoading told one (Err (failure.TooSmall needed had)) before after =
     IsTooSmall (catalog_in one) (pages_in one) needed had
-EndsLoading told one (Err failure.Flash) before after = LeavesUnsealed one before after
+EndsLoading told one (Err failure.Flash) before after = LeavesUnsealed told one before after
 EndsLoading told one (Err failure.Sink) before after = LoadsUnprinted told one before after
 
 -- a fault tells the rule that is broken first
@@ -160,6 +163,20 @@ leaves_file (Err (failure.Input broken)) = true
 leaves_file (Err (failure.TooSmall needed had)) = true
 leaves_file (Err failure.Flash) = false
 leaves_file (Err failure.Sink) = false
+
+-- whether a call ends so before page 0 of the flash is written
+abbrev pub leaves_page_0 : {T : Type 0} → Result T LoadFailure → Bool
+leaves_page_0 (Ok _) = false
+leaves_page_0 (Err failure.NoMemory) = true
+leaves_page_0 (Err failure.Depot) = true
+leaves_page_0 (Err (failure.Input broken)) = true
+leaves_page_0 (Err (failure.TooSmall needed had)) = true
+leaves_page_0 (Err failure.Flash) = false
+leaves_page_0 (Err failure.Sink) = false
+
+-- page 0 of a device that was made is blank
+abbrev pub HasBlankPage0 : Device → Type 0
+HasBlankPage0 device = 0 < device.page_count → device.blank 0 ≡ true
 
 -- whether words that are accepted, an unbroken input and no fault can end so
 abbrev pub is_faultless : {T : Type 0} → Result T LoadFailure → Bool

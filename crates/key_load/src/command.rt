@@ -11,7 +11,7 @@ ghost use Rattle.flash_build.specs.Building.{IsHiddenPart};
 ghost use Rattle.key_words.specs.Blocks.{most_blocks};
 ghost use Rattle.key_words.specs.Views.{load_view};
 ghost use Rattle.key_inputs.specs.Openings.{Spelled, TablesInput, tables_opening};
-ghost use Rattle.key_load.specs.Results.{Ends, EndsSome, EndsLoading, IsUnsealed, is_faultless, makes_nothing, leaves_file, writes_nothing, world, loading};
+ghost use Rattle.key_load.specs.Results.{Ends, EndsSome, EndsLoading, IsUnsealed, HasBlankPage0, is_faultless, makes_nothing, leaves_file, leaves_page_0, writes_nothing, world, loading};
 ghost use Rattle.key_load.specs.Preparing.{IsPrepared};
 ghost use Rattle.key_load.specs.declared.failures.LoadFailure.TheVariants as failure;
 
@@ -51,6 +51,7 @@ pub fn load<D: Depot, F: Flash, O: Sink>(
     ensures nothing_made { makes_nothing result ≡ true → F.state flash.new ≡ F.state flash.old }
     ensures file_left { leaves_file result ≡ true → D.contents depot.new ≡ D.contents depot.old }
     ensures made_first { (F.state flash.new).page_count ≡ 0 → D.contents depot.new ≡ D.contents depot.old }
+    ensures page_0 { leaves_page_0 result ≡ true → (F.state flash.new ≡ F.state flash.old) ⊎ HasBlankPage0 (F.state flash.new) }
     ensures unsealed { (F.state flash.new ≡ F.state flash.old) ⊎ IsUnsealed F.told (F.state flash.new) }
     ensures others { SameBut words.now.visible.now (D.contents depot.old) (D.contents depot.new) }
     ensures sink { result ≡ Err failure.Sink → Rose (O.faults out.old) (O.faults out.new) }
@@ -85,6 +86,7 @@ fn load_input<D: Depot, F: Flash, O: Sink>(
     ensures nothing_made { makes_nothing result ≡ true → F.state flash.new ≡ F.state flash.old }
     ensures file_left { leaves_file result ≡ true → D.contents depot.new ≡ D.contents depot.old }
     ensures made_first { (F.state flash.new).page_count ≡ 0 → D.contents depot.new ≡ D.contents depot.old }
+    ensures page_0 { leaves_page_0 result ≡ true → (F.state flash.new ≡ F.state flash.old) ⊎ HasBlankPage0 (F.state flash.new) }
     ensures unsealed { (F.state flash.new ≡ F.state flash.old) ⊎ IsUnsealed F.told (F.state flash.new) }
     ensures others { SameBut words.now.visible.now (D.contents depot.old) (D.contents depot.new) }
     ensures sink { result ≡ Err failure.Sink → Rose (O.faults out.old) (O.faults out.new) }
@@ -120,6 +122,7 @@ fn load_prepared<D: Depot, F: Flash, O: Sink>(
     ensures made { makes_nothing result ≡ false }
     ensures file_left { leaves_file result ≡ true → D.contents depot.new ≡ D.contents depot.old }
     ensures made_first { (F.state flash.new).page_count ≡ 0 → D.contents depot.new ≡ D.contents depot.old }
+    ensures page_0 { leaves_page_0 result ≡ true → HasBlankPage0 (F.state flash.new) }
     ensures unsealed { IsUnsealed F.told (F.state flash.new) }
     ensures others { SameBut words.now.visible.now (D.contents depot.old) (D.contents depot.new) }
     ensures sink { result ≡ Err failure.Sink → Rose (O.faults out.old) (O.faults out.new) }

@@ -10,7 +10,7 @@ ghost use Rattle.edge_traits.specs.Files.{SameBut, with_file};
 ghost use Rattle.flash_build.specs.Building.{IsHiddenPart};
 ghost use Rattle.flash_build.specs.Sealing.{SpellsNoCatalog};
 ghost use Rattle.key_words.specs.Blocks.{most_blocks};
-ghost use Rattle.key_load.specs.Results.{IsOfMaking, IsOfWriting, leaves_file};
+ghost use Rattle.key_load.specs.Results.{IsOfMaking, IsOfWriting, leaves_file, leaves_page_0};
 ghost use Rattle.key_load.specs.declared.failures.LoadFailure.TheVariants as failure;
 
 use crate::failures::LoadFailure;
@@ -40,6 +40,8 @@ pub(crate) fn make_both<D: Depot, F: Flash>(
     ensures kinds { IsOfMaking result }
     ensures unsealed { 0 < (F.state flash.new).page_count → F.told ≡ true → (F.state flash.new).blank 0 ≡ true → SpellsNoCatalog (F.state flash.new).page }
     ensures sealed_last { 0 < (F.state flash.new).page_count → (F.state flash.new).blank 0 ≡ false → D.contents depot.new ≡ with_file (D.contents depot.old) words.now.visible.now prepared.now.image.items }
+    ensures page_0 { leaves_page_0 result ≡ true → 0 < (F.state flash.new).page_count → (F.state flash.new).blank 0 ≡ true }
+    ensures files_first { 0 < (F.state flash.new).page_count → (F.state flash.new).blank 0 ≡ false → F.told ≡ true → HoldsColumns (F.state flash.new).page prepared.now.cat prepared.now.hidden }
     ensures file_left { leaves_file result ≡ true → D.contents depot.new ≡ D.contents depot.old }
     ensures made_first { (F.state flash.new).page_count ≡ 0 → D.contents depot.new ≡ D.contents depot.old }
     ensures others { SameBut words.now.visible.now (D.contents depot.old) (D.contents depot.new) }
@@ -81,6 +83,7 @@ fn write_both<D: Depot, F: Flash>(
     ensures file { OnOk result (D.contents depot.new ≡ with_file (D.contents depot.old) words.now.visible.now prepared.now.image.items) }
     ensures kinds { IsOfWriting result }
     ensures unsealed { F.told ≡ true → (F.state flash.new).blank 0 ≡ true → SpellsNoCatalog (F.state flash.new).page }
+    ensures page_0 { leaves_page_0 result ≡ true → (F.state flash.new).blank 0 ≡ true }
     ensures sealed_last { (F.state flash.new).blank 0 ≡ false → D.contents depot.new ≡ with_file (D.contents depot.old) words.now.visible.now prepared.now.image.items }
     ensures others { SameBut words.now.visible.now (D.contents depot.old) (D.contents depot.new) }
     ensures flash { result ≡ Err failure.Flash → Rose (F.state flash.old).faults (F.state flash.new).faults }

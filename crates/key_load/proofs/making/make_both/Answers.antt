@@ -16,3 +16,6 @@ returns-in-Err-NoMemory-clause-unsealed g c = λ some told blank. c.in-Err-NoMem
 
 pub returns-in-Err-Flash-clause-unsealed : goal.returns-in-Err-Flash-clause-unsealed
 returns-in-Err-Flash-clause-unsealed g c = λ some told blank. c.in-Err-Flash.ensures.unsealed c.requires.enough some told
+
+pub returns-in-Ok-clause-files_first : goal.returns-in-Ok-clause-files_first
+returns-in-Ok-clause-files_first g c = λ some begun told. c.write_both.ensures.columns c.args.prepared.now.hidden (c.in-Ok.ensures.holds told)
