@@ -6,7 +6,7 @@ use Rattle.std.proofs.lemmas.List.Elements.{All-append, All-nil, All-cons}
 use Rattle.ghost_model.specs.Causes.{Rose, last_count}
 use Rattle.ghost_model.specs.Frames.{IsFrame, frame_bytes}
 use Rattle.ghost_model.specs.Channel.{Frame, Journal, Close, Made}
-use Rattle.ghost_model.specs.Host.{Holding, Stand, host_sends, bad_request}
+use Rattle.ghost_model.specs.Host.{Holding, Stand, frames_of, host_sends, bad_request}
 use Rattle.ghost_model.specs.Host as host
 use Rattle.ghost_model.specs.Moves.{taken, sent}
 use Rattle.ghost_model.specs.NextMove.{is_stop}
@@ -17,7 +17,7 @@ use Rattle.host_exec.specs.Replies.{source_of}
 use Rattle.ghost_model.specs.Catalog.{catalog_bytes}
 use Rattle.host_exec.specs.Hosts.{StandsAs}
 use Rattle.host_exec.specs.Sessions.{has_stopped, Ends, Turns, Serves, SaidAll, SaidRefusing, AreFramesToBye, IsOneFrame, is_farewell}
-use Rattle.host_exec.specs.Refusals.{times, host_sends_refusing, bad_request_refusing}
+use Rattle.host_exec.specs.Refusals.{AreGiven, times, host_sends_refusing, bad_request_refusing}
 use Rattle.host_exec.specs.declared.host.Host.{Host}
 use Rattle.host_exec.specs.declared.session.Served.{Served}
 use Rattle.host_exec.specs.declared.session.Served.TheVariants as served
@@ -239,6 +239,7 @@ closed_refusing held refused journal ended said =
       sends = ap (host_sends_refusing held refused) (taken_closed journal) ∙ (said.sends ∙ ap (λ (xs : List ℕ). xs ++ said.rest) (sym (sent_closed journal)));
       whole = λ going. said.whole (sym stops ∙ going);
       bad = λ going. ap (bad_request_refusing held refused) (taken_closed journal) ∙ said.bad (sym stops ∙ going);
+      given = λ going. subst (λ (bs : List ℕ). AreGiven held refused (frames_of bs) host.Greeting) (sym (taken_closed journal)) (said.given (sym stops ∙ going));
     }
 
 pub serves_closed : (Went Both : Journal → Type 0) (ended : Served) (before now : ℕ) (Holder : Holding → Type 0) → Serves Went [] ended before now Holder

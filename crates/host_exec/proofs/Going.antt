@@ -1,5 +1,5 @@
 -- A session of a host, frame by frame.
-use Rattle.std.proofs.Common.{◌≡◌, ℕ, zero, suc, ◌+◌, ◌≤◌, Bool, true, false, ◌||◌, List, [], ◌∷◌, ◌++◌, length, drop, flat_map, Option, None, Some, refl, sym, ◌∙◌, ap, subst, arith, append-nil, append_assoc, length-append}
+use Rattle.std.proofs.Common.{◌≡◌, ℕ, zero, suc, ◌+◌, ◌≤◌, Bool, true, false, ◌||◌, List, [], ◌∷◌, ◌++◌, length, drop, flat_map, Option, None, Some, MatchOption, refl, sym, ◌∙◌, ap, subst, arith, append-nil, append_assoc, length-append}
 use Rattle.std.specs.List.{concat}
 use Rattle.std.proofs.Math.Seq.{drop-append_seam}
 use Rattle.std.proofs.lemmas.Grind.{flat_map-append}
@@ -18,7 +18,7 @@ use Rattle.ghost_model.specs.NextMove.{InvalidFrame, is_stop}
 use Rattle.ghost_model.proofs.ChannelLemmas.{spelled_is_found}
 use Rattle.host_exec.specs.Saying.{Source, Stands}
 use Rattle.host_exec.specs.Hosts.{StandsAs}
-use Rattle.host_exec.specs.Refusals.{answer_as, times, said_with_refusals, bad_with_refusals, sends_refusing, bad_refusing, host_sends_refusing, bad_request_refusing}
+use Rattle.host_exec.specs.Refusals.{AreGiven, answer_as, times, said_with_refusals, bad_with_refusals, sends_refusing, bad_refusing, host_sends_refusing, bad_request_refusing}
 use Rattle.host_exec.specs.Sessions.{has_stopped, sends_from, bad_in, invalid, bad_of, IsRefused, TurnMade, TurnLost, TurnBad, SaidRefusing}
 use Rattle.host_exec.specs.declared.session.Served.{Served}
 use Rattle.host_exec.proofs.Silence.{goes_somewhere}
@@ -218,9 +218,18 @@ pub record Going (held : Holding) (file : List ℕ) (refused : List Bool) (journ
       → host_sends_refusing held (refused ++ later) (taken journal ++ more) ≡ concat (sent journal) ++ sends_refusing held later stand more
   pub bad : (later : List Bool) (more : List ℕ)
       → bad_request_refusing held (refused ++ later) (taken journal ++ more) ≡ bad_refusing held later stand (length (taken journal)) more
+  pub given : (later : List Bool) (more : List ℕ)
+      → AreGiven held later (frames_of more) stand → AreGiven held (refused ++ later) (frames_of (taken journal ++ more)) host.Greeting
+
+given_first : (held : Holding) (stand : Stand) (this : Bool) (later : List Bool) (frame : Frame) (more : List ℕ) (answered : Response) → IsFrame frame
+    → answer_as this held stand frame ≡ Some answered → AreGiven held later (frames_of more) answered.stand → AreGiven held (this ∷ later) (frames_of (frame_bytes frame ++ more)) stand
+unfolding AreGiven
+given_first held stand this later frame more answered fits answer given =
+    subst (λ (fs : List Frame). AreGiven held (this ∷ later) fs stand) (sym (frames_first frame more fits))
+    (subst (λ (o : Option Response). MatchOption o ⊥ (λ next. AreGiven held later (frames_of more) next.stand)) (sym answer) given)
 
 pub going_begins : (held : Holding) (file : List ℕ) (now : Host) → StandsAs now file [] host.Greeting → Going held file [] [] now
-going_begins held file now stands = record { stand = host.Greeting; stands = stands; sends = λ later more. refl; bad = λ later more. refl }
+going_begins held file now stands = record { stand = host.Greeting; stands = stands; sends = λ later more. refl; bad = λ later more. refl; given = λ later more given. given }
 
 pub going_on : (held : Holding) (file : List ℕ) (refused : List Bool) (this : Bool) (first more : Journal) (before now : Host) → (so : Going held file refused first before)
     → TurnMade this held file so.stand more now → Going held file (refused ++ this ∷ []) (first ++ more) now
@@ -242,6 +251,10 @@ going_on held file refused this first more before now so made = record {
       ∙ (bad_first held so.stand (length (taken first)) this later made.frame bytes made.response made.fits made.answer
       ∙ ap (λ (n : ℕ). bad_refusing held later made.response.stand n bytes)
       (ap (λ (bs : List ℕ). length (taken first) + length bs) (sym made.taken_is) ∙ (sym (length-append (taken first) (taken more)) ∙ ap length (sym (taken_joins first more)))))));
+  given = λ later bytes given.
+      subst (λ (rs : List Bool). AreGiven held rs (frames_of (taken (first ++ more) ++ bytes)) host.Greeting) (sym (append_assoc refused (this ∷ []) later))
+      (subst (λ (bs : List ℕ). AreGiven held (refused ++ this ∷ later) (frames_of bs) host.Greeting) (sym (whole bytes))
+      (so.given (this ∷ later) (frame_bytes made.frame ++ bytes) (given_first held so.stand this later made.frame bytes made.response made.fits made.answer given)));
 }
   where
     whole : (bytes : List ℕ) → taken (first ++ more) ++ bytes ≡ taken first ++ (frame_bytes made.frame ++ bytes)
@@ -252,6 +265,12 @@ going_on held file refused this first more before now so made = record {
 nothing_more : {T : Type 0} (of : List Bool → List ℕ → T) (refused : List Bool) (bytes : List ℕ) → of refused bytes ≡ of (refused ++ []) (bytes ++ [])
 nothing_more of refused bytes = ap (λ (rs : List Bool). of rs bytes) (sym (append-nil refused)) ∙ ap (of (refused ++ [])) (sym (append-nil bytes))
 
+all_given : (held : Holding) (file : List ℕ) (refused : List Bool) (journal : Journal) (now : Host) → (so : Going held file refused journal now) → (more : List ℕ)
+    → AreGiven held refused (frames_of (taken journal ++ more)) host.Greeting
+unfolding AreGiven
+all_given held file refused journal now so more =
+    subst (λ (rs : List Bool). AreGiven held rs (frames_of (taken journal ++ more)) host.Greeting) (append-nil refused) (so.given [] more tt)
+
 -- the key said farewell
 pub ended_well : (held : Holding) (file : List ℕ) (refused : List Bool) (journal : Journal) (now : Host) (ended : Served) → Going held file refused journal now → bad_of ended ≡ None
     → SaidRefusing held refused journal ended
@@ -261,6 +280,7 @@ ended_well held file refused journal now ended so none = record {
   sends = nothing_more (host_sends_refusing held) refused (taken journal) ∙ so.sends [] [];
   whole = λ _. refl;
   bad = λ _. nothing_more (bad_request_refusing held) refused (taken journal) ∙ (so.bad [] [] ∙ (no_bad so.stand ∙ sym none));
+  given = λ _. subst (λ (bs : List ℕ). AreGiven held refused (frames_of bs) host.Greeting) (append-nil (taken journal)) (all_given held file refused journal now so []);
 }
 
 -- a move failed, or the stream ended
@@ -274,6 +294,7 @@ ended_lost held file refused this first more now so lost stopped = record {
       ∙ (sym (append_assoc (concat (sent first)) (concat (sent more)) lost.rest) ∙ ap (λ (bs : List ℕ). bs ++ lost.rest) (sym (sent_joins first more)))));
   whole = λ going. never stopped going;
   bad = λ going. never stopped going;
+  given = λ going. never stopped going;
 }
   where
     never : {P : Type 0} {b : Bool} → b ≡ true → b ≡ false → P
@@ -295,6 +316,7 @@ ended_bad held file refused first more now kind at so made on counted = record {
       ap (λ (rs : List Bool). bad_request_refusing held rs (taken (first ++ more))) (sym (append-nil refused))
       ∙ (ap (bad_request_refusing held (refused ++ [])) (taken_joins first more)
       ∙ (so.bad [] (taken more) ∙ (made.refused.bad (length (taken first)) on ∙ ap (λ (n : ℕ). Some (invalid kind n)) counted)));
+  given = λ _. subst (λ (bs : List ℕ). AreGiven held refused (frames_of bs) host.Greeting) (sym (taken_joins first more)) (all_given held file refused first now so (taken more));
 }
 
 -- a host that is not over stands where frames are awaited

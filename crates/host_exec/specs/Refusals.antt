@@ -1,6 +1,6 @@
 -- What a host says where its file cannot be read at times. A frame of a reply that the host cannot read is replaced by
 -- SORRY with code 1, which ends that ask: the host then awaits the next one, or the farewell.
-use Rattle.std.specs.Prelude.{ℕ, zero, suc, ◌+◌, Bool, true, false, List, [], ◌∷◌, length, drop, flat_map, Option, Some, None}
+use Rattle.std.specs.Prelude.{ℕ, zero, suc, ◌+◌, Bool, true, false, List, [], ◌∷◌, length, drop, flat_map, Option, Some, None, MatchOption, ⊤}
 use Rattle.ghost_model.specs.Channel.{Frame, Asking, More, Sorry}
 use Rattle.ghost_model.specs.Frames.{frame_bytes, got_of}
 use Rattle.ghost_model.specs.Host.{Holding, Stand, Response, Greeting, Listening, answer_to, said_with, said_to, frames_of, bad_from, bad_rest, unless_over, refused_or}
@@ -10,12 +10,13 @@ use Rattle.ghost_model.specs.NextMove.{InvalidFrame}
 abbrev pub refusal : (serial : ℕ) → Response
 refusal serial = record { says = Sorry serial 1 ∷ []; stand = Listening (serial + 1) }
 
--- the answer to a frame of the key in place of this one, where the file cannot be read: only frames of a reply are read
+-- the answer to a frame of the key in place of this one, where the file cannot be read. A frame that calls for no frame of
+-- a reply has no such answer
 abbrev pub unread : Frame → Option Response → Option Response
 unread frame None = None
 unread (Asking serial _) (Some answered) = Some (refusal serial)
 unread (More serial) (Some answered) = Some (refusal serial)
-unread frame (Some answered) = Some answered
+unread frame (Some answered) = None
 
 -- how a frame of the key is answered, where its answer is refused or not
 abbrev pub answer_as : (refused : Bool) → Holding → Stand → Frame → Option Response
@@ -35,6 +36,13 @@ said_with_refusals held [] frames stand = said_to held frames stand
 said_with_refusals held (this ∷ refused) [] stand = []
 said_with_refusals held (this ∷ refused) (frame ∷ later) stand =
     said_with (said_with_refusals held refused later) (answer_as this held stand frame)
+
+-- each of these answers, refused or not, is one that the host gives
+unfoldable pub AreGiven : Holding → (refused : List Bool) → List Frame → Stand → Type 0
+AreGiven held [] frames stand = ⊤
+AreGiven held (this ∷ refused) [] stand = ⊥
+AreGiven held (this ∷ refused) (frame ∷ later) stand =
+    MatchOption (answer_as this held stand frame) ⊥ (λ answered. AreGiven held refused later answered.stand)
 
 -- the first of the frames that is out of its place, the answers being refused so
 unfoldable pub bad_with_refusals : Holding → (rest : List ℕ) → (refused : List Bool) → List Frame → (at : ℕ) → Stand → Option InvalidFrame

@@ -11,7 +11,7 @@ use Rattle.ghost_model.specs.Host as host
 use Rattle.ghost_model.specs.Moves.{taken, sent, answers}
 use Rattle.ghost_model.specs.NextMove.{InvalidFrame, is_stop}
 use Rattle.host_exec.specs.Hosts.{Holds, StandsAs}
-use Rattle.host_exec.specs.Refusals.{answer_as, times, sends_refusing, host_sends_refusing, bad_request_refusing}
+use Rattle.host_exec.specs.Refusals.{AreGiven, answer_as, times, sends_refusing, host_sends_refusing, bad_request_refusing}
 use Rattle.host_exec.specs.declared.host.Host.{Host}
 use Rattle.host_exec.specs.declared.session.Served.{Served}
 use Rattle.host_exec.specs.declared.session.Served.TheVariants.{Bye, Depot, Link, BadRequest}
@@ -206,6 +206,7 @@ pub record SaidRefusing (held : Holding) (refused : List Bool) (journal : Journa
   pub sends : host_sends_refusing held refused (taken journal) ≡ concat (sent journal) ++ rest
   pub whole : has_stopped journal ≡ false → rest ≡ []
   pub bad : has_stopped journal ≡ false → bad_request_refusing held refused (taken journal) ≡ bad_of ended
+  pub given : has_stopped journal ≡ false → AreGiven held refused (frames_of (taken journal)) host.Greeting
 
 -- whether a session ended by the key's farewell
 abbrev pub is_farewell : Served → Bool
