@@ -4,11 +4,6 @@ use Rattle.std.specs.List.{concat}
 use Rattle.std.proofs.Math.Seq.{drop-append_seam}
 use Rattle.std.proofs.lemmas.Grind.{flat_map-append}
 use Rattle.std.proofs.lemmas.List.{length-drop, drop-drop, nil_from_length}
-use Rattle.std.specs.Prelude.{if◌then◌else◌, ◌==◌}
-use Rattle.ghost_model.specs.Channel as channel
-use Rattle.ghost_model.specs.Asks.{ask_in}
-use Rattle.ghost_model.specs.Catalog.{catalog_bytes}
-use Rattle.host_exec.specs.Replies.{source_of}
 use Rattle.ghost_model.specs.Channel.{Frame, Entry, Journal}
 use Rattle.ghost_model.specs.Frames.{Got, Found, Short, Bad, IsFrame, frame_bytes, got_of, kind_of}
 use Rattle.ghost_model.specs.Host.{Holding, Stand, Response, reply_to, answers_ask, goes_on, after_reply, said_to, said_with, frames_of, frames_within, frame_and, bad_from, bad_rest, unless_over, refused_or, answer_to, host_sends, bad_request}

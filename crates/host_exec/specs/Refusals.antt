@@ -1,6 +1,6 @@
 -- What a host says where its file cannot be read at times. A frame of a reply that the host cannot read is replaced by
 -- SORRY with code 1, which ends that ask: the host then awaits the next one, or the farewell.
-use Rattle.std.specs.Prelude.{ℕ, zero, suc, ◌+◌, Bool, true, false, List, [], ◌∷◌, length, drop, flat_map, Option, Some, None, MatchOption, ⊤}
+use Rattle.std.specs.Prelude.{ℕ, suc, ◌+◌, Bool, true, false, List, [], ◌∷◌, length, drop, flat_map, Option, Some, None, MatchOption, ⊤}
 use Rattle.ghost_model.specs.Channel.{Frame, Asking, More, Sorry}
 use Rattle.ghost_model.specs.Frames.{frame_bytes, got_of}
 use Rattle.ghost_model.specs.Host.{Holding, Stand, Response, Greeting, Listening, answer_to, said_with, said_to, frames_of, bad_from, bad_rest, unless_over, refused_or}

@@ -1,4 +1,4 @@
-use Rattle.std.proofs.Common.{◌≡◌, inl, inr, ap, sym, subst, ◌∙◌, refl, arith, rules, [], false, MatchBool}
+use Rattle.std.proofs.Common.{◌≡◌, inl, inr, ap, sym, subst, ◌∙◌, refl, arith, [], false, MatchBool}
 use Rattle.ghost_model.specs.Causes.{Rose}
 use Rattle.edge_traits.specs.Files.{file_of}
 use Rattle.host_exec.specs.Hosts.{name_of}
