@@ -1,0 +1,4 @@
+pub mod HostApp
+pub mod Words
+pub mod Statuses
+pub mod Hosting
