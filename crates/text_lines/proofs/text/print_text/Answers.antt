@@ -16,4 +16,4 @@ pub returns-in-Done-clause-lines : goal.returns-in-Done-clause-lines
 returns-in-Done-clause-lines g c = λ database knows ascends.
     let read = subst (λ schema. IsMeant schema c.args.text.now c.in-Ok.query) c.schema.ensures.value c.in-Ok.ensures.meaning in
     answered_lines c.args.cat.now.schema (hidden_of c.args.cat.now.schema database) (replies_in c.args.store.now.stored) c.args.number c.args.text.now c.args.state read.meant _ _ _
-    read.reads c.in-Done.is (c.print_answer.ensures.lines database knows ascends c.args.text.now read)
+    read.reads c.in-Done.is (c.print_answer.ensures.lines database knows (ascends c.in-Done.is) c.args.text.now read)

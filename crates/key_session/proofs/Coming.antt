@@ -1,0 +1,264 @@
+-- What became of a text's asks, by the state of its replies, and what its lines then say.
+use Rattle.std.proofs.Common.{◌≡◌, ℕ, suc, Bool, true, false, ◌||◌, ◌==◌, List, [], ◌∷◌, ◌++◌, refl, sym, ap, ◌∙◌, subst, append-nil, Some, Ok, slice_get}
+use Rattle.std.specs.Prelude.{if◌then◌else◌, not, codes, ◌&&◌}
+use Rattle.std.specs.List.{list_any}
+use Rattle.ghost_model.specs.Schema.{Schema}
+use Rattle.ghost_model.specs.Query.{Query}
+use Rattle.ghost_model.specs.QueryReading.{reading}
+use Rattle.ghost_model.specs.Channel.{Catalog, Entry, Journal}
+use Rattle.ghost_model.specs.Asks.{Asked, asked_of}
+use Rattle.ghost_model.specs.Moves.{answers}
+use Rattle.ghost_model.specs.NextMove.{Awaits, Missing, Reply, Nothing, Ending, Answered, Refused, Ended, Heard, Left, left, is_stop}
+use Rattle.ghost_model.specs.Split.{Hidden}
+use Rattle.ghost_model.specs.Replies as given
+use Rattle.ghost_model.specs.Replies.{replies, answer_from}
+use Rattle.ghost_model.specs.Lines.{AreLinesFor, BrokenLines, ended_of, all_done, broken_word, is_refused_by}
+use Rattle.ghost_model.specs.Printed.{word_line}
+use Rattle.channel_pump.specs.Marks as marks
+use Rattle.channel_pump.specs.Marks.{is_refusal, awaited, state_of}
+use Rattle.channel_pump.specs.declared.state.ReplyState.{ReplyState}
+use Rattle.channel_pump.specs.declared.state.ReplyState.TheVariants as state_is
+use Rattle.channel_session.specs.Sessions.{asked_in}
+use Rattle.session_laws.specs.TextEnds.{not_ended, is_settled, heard_in, is_settled_in}
+use Rattle.session_laws.specs.TextCases.{is_refused_in, IsDecided, Outcome, IsDone, ByHost, ByLink, ByFrame}
+use Rattle.session_replies.specs.Kept.{is_refused, at_hand, all_of, done_of, stored_as}
+use Rattle.text_lines.specs.Texts.{Why, is_refused as why_refused, is_answered, is_broken, AreBrokenLines, AreAnswerLines}
+use Rattle.text_lines.specs.declared.text.Told.{Told}
+use Rattle.text_lines.specs.declared.text.Told.TheVariants as told
+use Rattle.key_session.specs.Counting.{reason_of, is_damage}
+use Rattle.key_session.specs.Telling.{IsTold}
+
+same_ending : (ending : Ending) → marks.is_refused ending ≡ is_refused_by ending
+same_ending (Answered _) = refl
+same_ending (Refused _) = refl
+
+same_refusals : (text : ℕ) (ends : List Ended) → list_any (is_refusal text) ends ≡ is_refused text ends
+same_refusals text [] = refl
+same_refusals text (end ∷ ends) =
+    ap (λ (b : Bool). (b && end.asked.text == text) || list_any (is_refusal text) ends) (same_ending end.ending)
+    ∙ ap (λ (b : Bool). (is_refused_by end.ending && end.asked.text == text) || b) (same_refusals text ends)
+
+same_awaited : (asks : List Asked) (awaits : Awaits) → awaited asks awaits ≡ not_ended asks awaits
+same_awaited asks (Missing _) = refl
+same_awaited asks (Reply asked serial later count last) = refl
+same_awaited asks Nothing = refl
+
+any_answer : (journal : Journal) → list_any (λ (e : Entry). is_stop e.answer) journal ≡ list_any is_stop (answers journal)
+any_answer [] = refl
+any_answer (entry ∷ journal) = ap (λ (b : Bool). is_stop entry.answer || b) (any_answer journal)
+
+-- the state of a text's replies, by four tests
+abbrev pub state_by : (refused settled stopped broken : Bool) → ReplyState
+state_by refused settled stopped broken =
+    if refused then state_is.Host else if settled then state_is.Done else if stopped then state_is.Link
+    else if broken then state_is.Protocol else state_is.Awaited
+
+same_state : (asks : List Asked) (text : ℕ) (l : Left)
+    → state_of asks text l ≡ state_by (is_refused text l.heard.ended) (is_settled asks text l.heard.awaits) l.stopped l.heard.broken
+same_state asks text l =
+    ap (λ (b : Bool). state_by b (not (list_any (λ (one : Asked). one.text == text) (awaited asks l.heard.awaits))) l.stopped l.heard.broken) (same_refusals text l.heard.ended)
+    ∙ ap (λ (xs : List Asked). state_by (is_refused text l.heard.ended) (not (list_any (λ (one : Asked). one.text == text) xs)) l.stopped l.heard.broken) (same_awaited asks l.heard.awaits)
+
+by_host : (r s t b : Bool) → r ≡ true → state_by r s t b ≡ state_is.Host
+by_host true s t b e = refl
+by_host false s t b e = cc
+
+by_done : (r s t b : Bool) → r ≡ false → s ≡ true → state_by r s t b ≡ state_is.Done
+by_done false true t b e f = refl
+by_done true s t b e f = cc
+by_done false false t b e f = cc
+
+by_link : (r s t b : Bool) → r ≡ false → s ≡ false → t ≡ true → state_by r s t b ≡ state_is.Link
+by_link false false true b e f g = refl
+by_link true s t b e f g = cc
+by_link false true t b e f g = cc
+by_link false false false b e f g = cc
+
+by_frame : (r s t b : Bool) → r ≡ false → s ≡ false → t ≡ false → b ≡ true → state_by r s t b ≡ state_is.Protocol
+by_frame false false false true e f g h = refl
+by_frame true s t b e f g h = cc
+by_frame false true t b e f g h = cc
+by_frame false false true b e f g h = cc
+by_frame false false false false e f g h = cc
+
+none_refused : (r s : Bool) → (not r && s) ≡ true → r ≡ false
+none_refused true s e = cc
+none_refused false s e = refl
+
+is_so : (r s : Bool) → (not r && s) ≡ true → s ≡ true
+is_so true s e = cc
+is_so false s e = e
+
+not_so : (r s : Bool) → (not r && s) ≡ false → r ≡ false → s ≡ false
+not_so true s e f = cc
+not_so false s e f = e
+
+module _ (catalog : Catalog) (texts : List (List ℕ)) (journal : Journal) (place : ℕ) (written : List ℕ) (query : Query) where
+  abbrev pub ends : List Ended
+  ends = ended_of catalog texts journal (suc place)
+
+  abbrev pub refused : Bool
+  refused = is_refused_in catalog texts journal (suc place)
+
+  abbrev pub settled : Bool
+  settled = is_settled_in catalog texts journal (suc place)
+
+  abbrev pub here : ReplyState
+  here = state_of (asked_of catalog.schema texts) (suc place) (left catalog (asked_of catalog.schema texts) journal)
+
+  pub record AllDone : Type 0 where
+    pub done : all_done catalog.schema query ends ≡ true
+    pub none_was_refused : refused ≡ false
+    pub was_settled : settled ≡ true
+
+  abbrev pub IsBrokenBy : (word : List ℕ) → Type 0
+  IsBrokenBy word = (all_done catalog.schema query ends ≡ false) × (broken_word ends journal ≡ word)
+
+  -- what became of the asks, by the state of the replies
+  abbrev pub Came : ReplyState → Type 0
+  Came state_is.Done = AllDone
+  Came state_is.Host = IsBrokenBy (codes "host")
+  Came state_is.Link = IsBrokenBy (codes "link")
+  Came state_is.Protocol = IsBrokenBy (codes "protocol")
+  Came state_is.Awaited = ⊥
+
+  abbrev stops : Bool
+  stops = (left catalog (asked_of catalog.schema texts) journal).stopped
+
+  abbrev invalid : Bool
+  invalid = (heard_in catalog texts journal).broken
+
+  abbrev here_by : ReplyState
+  here_by = state_by refused settled stops invalid
+
+  came_by : IsDecided catalog texts journal (suc place) query → Outcome catalog texts journal (suc place) query → Came here_by
+  came_by decided (IsDone d) =
+      let both : (not refused && settled) ≡ true = sym decided.done ∙ d in
+      subst Came (sym (by_done refused settled stops invalid (none_refused refused settled both) (is_so refused settled both)))
+      (record { done = d; none_was_refused = none_refused refused settled both; was_settled = is_so refused settled both })
+  came_by decided (ByHost d r word) = subst Came (sym (by_host refused settled stops invalid r)) (d, word)
+  came_by decided (ByLink d r stop word) =
+      subst Came (sym (by_link refused settled stops invalid r (not_so refused settled (sym decided.done ∙ d) r) (any_answer journal ∙ stop))) (d, word)
+  came_by decided (ByFrame d r stop broken word) =
+      subst Came (sym (by_frame refused settled stops invalid r (not_so refused settled (sym decided.done ∙ d) r) (any_answer journal ∙ stop) broken)) (d, word)
+
+  pub came : IsDecided catalog texts journal (suc place) query → Outcome catalog texts journal (suc place) query → (state : ReplyState) → state ≡ here → Came state
+  came decided outcome state e =
+      subst Came (sym (e ∙ same_state (asked_of catalog.schema texts) (suc place) (left catalog (asked_of catalog.schema texts) journal))) (came_by decided outcome)
+
+  -- the line of what ended the asks
+  broken_lines : (lines : List (List ℕ)) (word : List ℕ) → reading catalog.schema written ≡ Ok query → IsBrokenBy word → lines ≡ word_line (suc place) word ∷ [] → BrokenLines catalog texts journal (suc place) written lines
+  broken_lines lines word accepted b are = record {
+    query = query;
+    accepted = accepted;
+    broken = b.0;
+    line = are ∙ ap (λ (w : List ℕ). word_line (suc place) w ∷ []) (sym b.1);
+  }
+
+  pub broken_so : (kept : Hidden) (lines : List (List ℕ)) → reading catalog.schema written ≡ Ok query → (state : ReplyState) → Came state → (state ≡ state_is.Done → ⊥)
+      → (result : Told) → AreBrokenLines (suc place) state lines result → AreLinesFor (reason_of result) catalog kept texts journal (suc place) written lines
+  broken_so kept lines accepted state c unended told.Refused are = absurd are
+  broken_so kept lines accepted state c unended told.Answered are = absurd are
+  broken_so kept lines accepted state c unended told.Flash are = absurd are
+  broken_so kept lines accepted state c unended (told.Damaged page slot found) are = absurd are
+  broken_so kept lines accepted state c unended told.Host are = broken_lines lines _ accepted (subst Came are.0 c) are.1
+  broken_so kept lines accepted state c unended told.Protocol are = broken_lines lines _ accepted (subst Came are.0 c) are.1
+  broken_so kept lines accepted state_is.Link c unended told.Link are = broken_lines lines _ accepted c are.1
+  broken_so kept lines accepted state_is.Done c unended told.Link are = absurd (unended refl)
+  broken_so kept lines accepted state_is.Host c unended told.Link are = absurd (are.0.1 refl)
+  broken_so kept lines accepted state_is.Protocol c unended told.Link are = absurd (are.0.0 refl)
+  broken_so kept lines accepted state_is.Awaited c unended told.Link are = absurd c
+
+  pub answered_so : (kept : Hidden) (lines : List (List ℕ)) → reading catalog.schema written ≡ Ok query → AllDone
+      → (result : Told) → AreAnswerLines (suc place) (answer_from catalog.schema kept query (replies catalog (asked_of catalog.schema texts) journal (suc place))) lines result
+      → AreLinesFor (reason_of result) catalog kept texts journal (suc place) written lines
+  answered_so kept lines accepted d told.Refused are = absurd are
+  answered_so kept lines accepted d told.Answered are = record { query = query; accepted = accepted; done = d.done; answer = are }
+  answered_so kept lines accepted d told.Host are = absurd are
+  answered_so kept lines accepted d told.Link are = absurd are
+  answered_so kept lines accepted d told.Protocol are = absurd are
+  answered_so kept lines accepted d told.Flash are = record { query = query; accepted = accepted; done = d.done; given = are.given; left = are.left; front = are.front; answer = are.are }
+  answered_so kept lines accepted d (told.Damaged page slot found) are = absurd are
+
+  pub answered_undamaged : (kept : List given.Reply) (rows : Hidden) (lines : List (List ℕ)) (result : Told) → AreAnswerLines (suc place) (answer_from catalog.schema rows query kept) lines result → is_damage (reason_of result) ≡ false
+  answered_undamaged kept rows lines told.Refused are = refl
+  answered_undamaged kept rows lines told.Answered are = refl
+  answered_undamaged kept rows lines told.Host are = refl
+  answered_undamaged kept rows lines told.Link are = refl
+  answered_undamaged kept rows lines told.Protocol are = refl
+  answered_undamaged kept rows lines told.Flash are = refl
+  answered_undamaged kept rows lines (told.Damaged page slot found) are = absurd are
+
+  pub broken_undamaged : (state : ReplyState) (lines : List (List ℕ)) (result : Told) → AreBrokenLines (suc place) state lines result → is_damage (reason_of result) ≡ false
+  broken_undamaged state lines told.Refused are = refl
+  broken_undamaged state lines told.Answered are = refl
+  broken_undamaged state lines told.Host are = refl
+  broken_undamaged state lines told.Link are = refl
+  broken_undamaged state lines told.Protocol are = refl
+  broken_undamaged state lines told.Flash are = refl
+  broken_undamaged state lines (told.Damaged page slot found) are = absurd are
+
+-- the lines that were printed of the text at a place
+pub told_so : (catalog : Catalog) (kept : Hidden) (texts : List (List ℕ)) (journal : Journal) (place : ℕ) (written : List ℕ) → slice_get texts place ≡ Some written
+    → ((query : Query) → reading catalog.schema written ≡ Ok query → IsDecided catalog texts journal (suc place) query)
+    → ((query : Query) → reading catalog.schema written ≡ Ok query → Outcome catalog texts journal (suc place) query)
+    → (replied : List given.Reply) (state : ReplyState) → state ≡ state_of (asked_of catalog.schema texts) (suc place) (left catalog (asked_of catalog.schema texts) journal)
+    → (state ≡ state_is.Done → replied ≡ replies catalog (asked_of catalog.schema texts) journal (suc place))
+    → (lines : List (List ℕ)) (result : Told) → Why catalog.schema kept replied (suc place) written state lines result
+    → IsTold catalog kept texts journal place (record { reason = reason_of result; lines = lines })
+told_so catalog kept texts journal place written stands decided outcome replied state is_state same lines result (why_refused w) = record {
+  written = written;
+  stands = stands;
+  lines_are = subst (λ (r : Told). AreLinesFor (reason_of r) catalog kept texts journal (suc place) written lines) (sym w.is_told)
+      (record { refusal = w.refusal; refused = w.refused; line = w.are });
+  undamaged = ap (λ (r : Told). is_damage (reason_of r)) w.is_told;
+}
+told_so catalog kept texts journal place written stands decided outcome replied state is_state same lines result (is_answered w) = record {
+  written = written;
+  stands = stands;
+  lines_are = answered_so catalog texts journal place written w.query kept lines w.accepted
+      (subst (Came catalog texts journal place written w.query) w.done (came catalog texts journal place written w.query (decided w.query w.accepted) (outcome w.query w.accepted) state is_state))
+      result
+      (subst (λ (g : List given.Reply). AreAnswerLines (suc place) (answer_from catalog.schema kept w.query g) lines result) (same w.done) w.are);
+  undamaged = answered_undamaged catalog texts journal place written w.query replied kept lines result w.are;
+}
+told_so catalog kept texts journal place written stands decided outcome replied state is_state same lines result (is_broken w) = record {
+  written = written;
+  stands = stands;
+  lines_are = broken_so catalog texts journal place written w.query kept lines w.accepted state
+      (came catalog texts journal place written w.query (decided w.query w.accepted) (outcome w.query w.accepted) state is_state) w.not_done result w.are;
+  undamaged = broken_undamaged catalog texts journal place written w.query state lines result w.are;
+}
+
+-- no ask of a settled text is at hand
+none_at_hand : (asks : List Asked) (schema : Schema) (text : ℕ) (rows : List ℕ) (awaits : Awaits) → is_settled asks text awaits ≡ true → at_hand schema text rows (asked_in awaits) ≡ []
+none_at_hand asks schema text rows (Missing _) e = refl
+none_at_hand asks schema text rows (Reply asked serial later count last) e =
+    other (asked.text == text) (list_any (λ (one : Asked). one.text == text) later) e
+  where
+    other : (b more : Bool) → not (b || more) ≡ true → (if b then stored_as schema asked rows ∷ [] else []) ≡ []
+    other true more h = cc
+    other false more h = refl
+none_at_hand asks schema text rows Nothing e = refl
+
+-- so all that came of its asks came of those that were ended
+pub all_is_done : (catalog : Catalog) (texts : List (List ℕ)) (journal : Journal) (text : ℕ) → is_settled_in catalog texts journal text ≡ true
+    → all_of catalog.schema (heard_in catalog texts journal) text ≡ done_of catalog.schema text (heard_in catalog texts journal).ended
+all_is_done catalog texts journal text e =
+    let h : Heard = heard_in catalog texts journal in
+    ap (λ (xs : _). done_of catalog.schema text h.ended ++ xs) (none_at_hand (asked_of catalog.schema texts) catalog.schema text h.rows h.awaits e)
+    ∙ append-nil (done_of catalog.schema text h.ended)
+
+done_by : (r s t b : Bool) → state_by r s t b ≡ state_is.Done → (r ≡ false) × (s ≡ true)
+done_by true s t b e = cc
+done_by false true t b e = (refl, refl)
+done_by false false true b e = cc
+done_by false false false true e = cc
+done_by false false false false e = cc
+
+-- where the replies are done, no ask was refused and none is awaited or still to come
+pub done_so : (catalog : Catalog) (texts : List (List ℕ)) (journal : Journal) (text : ℕ) → state_of (asked_of catalog.schema texts) text (left catalog (asked_of catalog.schema texts) journal) ≡ state_is.Done
+    → (is_refused_in catalog texts journal text ≡ false) × (is_settled_in catalog texts journal text ≡ true)
+done_so catalog texts journal text e =
+    done_by (is_refused_in catalog texts journal text) (is_settled_in catalog texts journal text) (left catalog (asked_of catalog.schema texts) journal).stopped (heard_in catalog texts journal).broken
+    (sym (same_state (asked_of catalog.schema texts) text (left catalog (asked_of catalog.schema texts) journal)) ∙ e)

@@ -1,0 +1,6 @@
+pub mod Coming
+pub mod Adding
+pub mod OneMore
+pub mod Attending
+pub mod Moving
+pub mod Running

@@ -1,0 +1,163 @@
+-- One more move of a session.
+use Rattle.std.proofs.Common.{◌≡◌, ◌≤◌, ◌<◌, ℕ, suc, ◌+◌, arith, Bool, true, false, List, [], ◌∷◌, ◌++◌, length, refl, sym, ap, ◌∙◌, Option, Some, None}
+use Rattle.std.proofs.lemmas.Option.{slice_get_within}
+use Rattle.std.specs.Prelude.{is_some, option_map}
+use Rattle.ghost_model.specs.Channel.{Catalog, Journal}
+use Rattle.ghost_model.specs.SchemaFaults.{MeansSchema}
+use Rattle.ghost_model.specs.Asks.{Asked, asked_of}
+use Rattle.ghost_model.specs.Moves.{taken}
+use Rattle.ghost_model.specs.NextMove.{Awaits, Missing, Reply, Nothing, Ended, Heard, hear_all}
+use Rattle.ghost_model.specs.Split.{hidden_of}
+use Rattle.channel_pump.specs.Forms.{are_known}
+use Rattle.channel_pump.specs.Progress.{Tells, ended_on}
+use Rattle.channel_pump.specs.declared.state.Event.{Event}
+use Rattle.channel_pump.specs.declared.state.Event.TheVariants as event_is
+use Rattle.channel_session.specs.Sessions.{IsLive, Moved, asked_in, leads_on}
+use Rattle.channel_session.specs.declared.exchange.Exchange.{Exchange}
+use Rattle.session_laws.specs.TextEnds.{heard_in, is_settled_in, EndedTextsStay, ReasonsStay}
+use Rattle.reply_laws.specs.Stores.{RepliesFit}
+use Rattle.session_replies.specs.Kept.{IsKept, Fits, none_heard}
+use Rattle.session_replies.specs.declared.replies.Replies.{Replies}
+use Rattle.key_session.specs.Refusing.{or_else, code_of, first_code, code_on}
+use Rattle.key_session.specs.Telling.{Outside}
+use Rattle.key_session.specs.Going.{IsGoing, IsAttended, HasGone}
+use Rattle.key_session.specs.declared.teller.Teller.{Teller}
+
+or_else_twice : (a b c : Option ℕ) → or_else (or_else a b) c ≡ or_else a (or_else b c)
+or_else_twice None b c = refl
+or_else_twice (Some a) b c = refl
+
+first_more : (ends more : List Ended) → first_code (ends ++ more) ≡ or_else (first_code ends) (first_code more)
+first_more [] more = refl
+first_more (end ∷ ends) more = ap (or_else (code_of end.ending)) (first_more ends more) ∙ sym (or_else_twice (code_of end.ending) (first_code ends) (first_code more))
+
+code_heard : (event : Event) (awaits : Awaits) (rows : List ℕ) → first_code (ended_on event awaits rows) ≡ code_on (is_some (asked_in awaits)) event
+code_heard event_is.Part awaits rows = refl
+code_heard event_is.Welcome awaits rows = refl
+code_heard (event_is.Rows _) awaits rows = refl
+code_heard event_is.Done (Missing _) rows = refl
+code_heard event_is.Done (Reply asked serial later count last) rows = refl
+code_heard event_is.Done Nothing rows = refl
+code_heard (event_is.Sorry code) (Missing _) rows = refl
+code_heard (event_is.Sorry code) (Reply asked serial later count last) rows = refl
+code_heard (event_is.Sorry code) Nothing rows = refl
+code_heard (event_is.Invalid _ _) awaits rows = refl
+
+-- the first refusal after an event
+refusal_more : (catalog : Catalog) (page : List ℕ) (event : Event) (before after : Heard) (refusal new : Option ℕ) (is_awaited : Bool) → Tells catalog page event before after → refusal ≡ first_code before.ended
+    → is_awaited ≡ is_some (asked_in before.awaits) → new ≡ or_else refusal (code_on is_awaited event) → new ≡ first_code after.ended
+refusal_more catalog page event before after refusal new is_awaited tells was awaited is =
+    is ∙ ap (λ (b : Bool). or_else refusal (code_on b event)) awaited
+    ∙ ap (λ (r : Option ℕ). or_else r (code_on (is_some (asked_in before.awaits)) event)) was
+    ∙ ap (or_else (first_code before.ended)) (sym (code_heard event before.awaits before.rows))
+    ∙ sym (ap first_code tells.ended ∙ first_more before.ended (ended_on event before.awaits before.rows))
+
+true_is_not_false : true ≡ false → ⊥
+true_is_not_false e = cc
+
+-- texts that were not settled after more were not settled before
+unsettled_before : EndedTextsStay → (catalog : Catalog) (texts : List (List ℕ)) (journal more : Journal) (text : ℕ) → is_settled_in catalog texts (journal ++ more) text ≡ false → is_settled_in catalog texts journal text ≡ false
+unsettled_before stay catalog texts journal more text e = by (is_settled_in catalog texts journal text) refl
+  where
+    by : (settled : Bool) → is_settled_in catalog texts journal text ≡ settled → is_settled_in catalog texts journal text ≡ false
+    by false s = s
+    by true s = absurd (true_is_not_false (sym (stay catalog texts journal more text s).settled ∙ e))
+
+pub going_on : EndedTextsStay → ReasonsStay → (pages_told : Bool) (catalog : Catalog) (texts : List (List ℕ)) (journal more : Journal) (since now : Outside) (teller : Teller) (replies new : Replies)
+    → (going : IsGoing pages_told catalog texts journal since now teller replies)
+    → IsKept catalog (heard_in catalog texts (journal ++ more)) (teller.count + 1) going.top new
+    → IsGoing pages_told catalog texts (journal ++ more) since now teller new
+going_on stay reasons pages_told catalog texts journal more since now teller replies new going kept = record {
+  top = going.top;
+  telling = record {
+    left = going.telling.left;
+    kept = kept;
+    near = going.telling.near;
+    pages = going.telling.pages;
+    faults = going.telling.faults;
+    prints = going.telling.prints;
+    told = λ database knows.
+        let are = going.telling.told database knows in
+        record {
+          told = are.told;
+          as_many = are.as_many;
+          each = λ place one e.
+              let is = are.each place one e in
+              let many : length are.told ≡ teller.count = are.as_many in
+              let within : place < length are.told = slice_get_within are.told place one e in
+              record {
+                written = is.written;
+                stands = is.stands;
+                lines_are = reasons catalog (hidden_of catalog.schema database) texts journal more place is.written one.lines one.reason
+                    (going.settled (suc place) (omega arith) (omega (arith, many, within))) is.stands is.lines_are;
+                undamaged = is.undamaged;
+              };
+          handed_on = are.handed_on;
+          blamed = are.blamed;
+          counted = are.counted;
+        };
+  };
+  settled = λ text from upto. (stay catalog texts journal more text (going.settled text from upto)).settled;
+  onward = λ text un. going.onward text (unsettled_before stay catalog texts journal more text un);
+}
+
+pub gone_on : EndedTextsStay → ReasonsStay → RepliesFit → (schema_text : List ℕ) (catalog : Catalog) → MeansSchema schema_text catalog.schema
+    → (goes moves later : Journal → Type 0) (pages_told : Bool) (at : List ℕ) (texts : List (List ℕ)) (since before now : Outside) (exchange new_exchange : Exchange) (old teller : Teller) (replies middle new : Replies)
+    (refusal new_refusal : Option ℕ) (event : Event) (is_awaited : Bool)
+    → (gone : HasGone goes pages_told catalog at texts since before exchange old replies refusal)
+    → ((made : Journal) → goes gone.journal → moves made → later (gone.journal ++ made))
+    → IsAttended pages_told catalog texts gone.journal since now teller middle
+    → Moved moves catalog at (asked_of catalog.schema texts) gone.journal event new_exchange
+    → are_known new_exchange.pump.rest ≡ true
+    → ((after : Heard) (top : ℕ) → Tells catalog new_exchange.page event (heard_in catalog texts gone.journal) after
+    → (leads_on event ≡ false → asked_in after.awaits ≡ asked_in (heard_in catalog texts gone.journal).awaits)
+    → (event ≡ event_is.Welcome → asked_in (heard_in catalog texts gone.journal).awaits ≡ None)
+    → ((asked : Asked) → asked_in (heard_in catalog texts gone.journal).awaits ≡ Some asked → (middle.is_open ≡ true) × (teller.count + 1 ≤ asked.text))
+    → ((text : ℕ) → Fits catalog after text) → IsKept catalog (heard_in catalog texts gone.journal) (teller.count + 1) top middle → IsKept catalog after (teller.count + 1) top new)
+    → is_awaited ≡ is_some (asked_in (heard_in catalog texts gone.journal).awaits)
+    → new_refusal ≡ or_else refusal (code_on is_awaited event)
+    → HasGone later pages_told catalog at texts since now new_exchange teller new new_refusal
+gone_on stay reasons fit schema_text catalog meant goes moves later pages_told at texts since before now exchange new_exchange old teller replies middle new refusal new_refusal event is_awaited gone joins attended moved known hears awaited refusal_is =
+    let more : Journal = moved.made ∷ [] in
+    record {
+      journal = gone.journal ++ more;
+      went = joins more gone.went moved.went;
+      live = moved.live;
+      known = known;
+      going = going_on stay reasons pages_told catalog texts gone.journal more since now teller middle new attended.going
+          (hears (heard_in catalog texts (gone.journal ++ more)) attended.going.top moved.tells moved.same_ask moved.greeting attended.begun
+          (λ text. fit catalog schema_text texts (taken (gone.journal ++ more)) text meant) attended.going.telling.kept);
+      refusal_is = refusal_more catalog new_exchange.page event (heard_in catalog texts gone.journal) (heard_in catalog texts (gone.journal ++ more)) refusal new_refusal is_awaited moved.tells gone.refusal_is awaited refusal_is;
+    }
+
+pub is_some_map : {X Y : Type 0} (f : X → Y) (x : Option X) → is_some (option_map f x) ≡ is_some x
+is_some_map f None = refl
+is_some_map f (Some x) = refl
+
+pub heard_none : (catalog : Catalog) (texts : List (List ℕ)) → heard_in catalog texts [] ≡ none_heard catalog
+unfolding hear_all
+heard_none catalog texts = refl
+
+pub none_gone : (goes : Journal → Type 0) (pages_told : Bool) (catalog : Catalog) (at : List ℕ) (texts : List (List ℕ)) (since now : Outside) (exchange : Exchange) (teller : Teller) (replies : Replies)
+    → goes [] → IsLive catalog at (asked_of catalog.schema texts) [] exchange → are_known exchange.pump.rest ≡ true → IsGoing pages_told catalog texts [] since now teller replies
+    → HasGone goes pages_told catalog at texts since now exchange teller replies None
+none_gone goes pages_told catalog at texts since now exchange teller replies stays live known going = record {
+  journal = [];
+  went = stays;
+  live = live;
+  known = known;
+  going = going;
+  refusal_is = sym (ap (λ (h : Heard). first_code h.ended) (heard_none catalog texts));
+}
+
+pub attended_gone : (goes : Journal → Type 0) (pages_told : Bool) (catalog : Catalog) (at : List ℕ) (texts : List (List ℕ)) (since before now : Outside) (exchange : Exchange) (old teller : Teller) (replies new : Replies) (refusal : Option ℕ)
+    → (gone : HasGone goes pages_told catalog at texts since before exchange old replies refusal) → IsAttended pages_told catalog texts gone.journal since now teller new
+    → HasGone goes pages_told catalog at texts since now exchange teller new refusal
+attended_gone goes pages_told catalog at texts since before now exchange old teller replies new refusal gone attended = record {
+  journal = gone.journal;
+  went = gone.went;
+  live = gone.live;
+  known = gone.known;
+  going = attended.going;
+  refusal_is = gone.refusal_is;
+}

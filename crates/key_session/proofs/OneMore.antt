@@ -1,0 +1,122 @@
+-- A teller after one more text.
+use Rattle.std.proofs.Common.{◌≡◌, ◌≤◌, ℕ, suc, ◌+◌, arith, Bool, true, false, List, ◌∷◌, refl, sym, ap, ◌∙◌, subst, Some, slice_get}
+use Rattle.std.specs.Prelude.{min}
+use Rattle.ghost_model.specs.Causes.{last_count}
+use Rattle.ghost_model.specs.Values.{Database}
+use Rattle.ghost_model.specs.Channel.{Catalog, Journal}
+use Rattle.ghost_model.specs.Asks.{asked_of}
+use Rattle.ghost_model.specs.Moves.{taken}
+use Rattle.ghost_model.specs.NextMove.{left}
+use Rattle.ghost_model.specs.Split.{hidden_of}
+use Rattle.ghost_model.specs.Replies.{replies}
+use Rattle.edge_traits.specs.Devices.{Device, KeepsPages}
+use Rattle.channel_pump.specs.Marks.{state_of}
+use Rattle.channel_pump.specs.declared.state.ReplyState.{ReplyState}
+use Rattle.channel_pump.specs.declared.state.ReplyState.TheVariants as state_is
+use Rattle.session_laws.specs.TextEnds.{heard_in, is_settled_in}
+use Rattle.session_laws.specs.TextCases.{TextsAreDecided, is_refused_in}
+use Rattle.reply_store.specs.Stored.{Stored, replies_in, are_ascending}
+use Rattle.reply_laws.specs.Stores.{RepliesAscend, StoredAreGiven}
+use Rattle.session_replies.specs.Halves.{kept}
+use Rattle.session_replies.specs.Kept.{IsKept, expected, done_of}
+use Rattle.session_replies.specs.declared.replies.Replies.{Replies}
+use Rattle.key_lines.specs.Handing.{PiecesJoin}
+use Rattle.key_exec.specs.Reading.{Knows}
+use Rattle.text_lines.specs.Rows.{PrintsSome}
+use Rattle.text_lines.specs.Texts.{TellsText, ToldTells, Why}
+use Rattle.text_lines.specs.declared.text.Told.{Told}
+use Rattle.text_lines.specs.declared.text.Told.TheVariants as told
+use Rattle.key_session.specs.Counting.{reason_of, IsCounted, AreCounted}
+use Rattle.key_session.specs.Telling.{Outside, IsTold, AreTold, AreLeft, CameOut, IsTelling}
+use Rattle.key_session.specs.declared.teller.Teller.{Teller}
+use Rattle.key_session.proofs.Coming.{told_so, done_so, all_is_done}
+use Rattle.key_session.proofs.Adding.{one_told, next_of, next_number, left_more, some_more}
+
+-- the count of faults never falls, but for its last value
+never_falls : (since before now : ℕ) (result : Told) → min since last_count ≤ before → ToldTells before now result → min since last_count ≤ now
+never_falls since before now result e tells = by result tells
+  where
+    rises : (most : ℕ) → min since most ≤ before → min (before + 1) most ≤ now → min since most ≤ now
+    rises most e r = omega (arith, e, r)
+
+    by : (result : Told) → ToldTells before now result → min since last_count ≤ now
+    by told.Flash t = rises last_count e t
+    by told.Refused t = subst (λ (n : ℕ). min since last_count ≤ n) (sym t) e
+    by told.Answered t = subst (λ (n : ℕ). min since last_count ≤ n) (sym t) e
+    by told.Host t = subst (λ (n : ℕ). min since last_count ≤ n) (sym t) e
+    by told.Link t = subst (λ (n : ℕ). min since last_count ≤ n) (sym t) e
+    by told.Protocol t = subst (λ (n : ℕ). min since last_count ≤ n) (sym t) e
+    by (told.Damaged page slot found) t = subst (λ (n : ℕ). min since last_count ≤ n) (sym t) e
+
+pub pages_stay : (since between now : Device) → KeepsPages since between → KeepsPages between now → KeepsPages since now
+pages_stay since between now first second = record {
+  page_count = second.page_count ∙ first.page_count;
+  page = second.page ∙ first.page;
+  blank = second.blank ∙ first.blank;
+}
+
+-- what is kept of a text that is done
+kept_is_done : (catalog : Catalog) (texts : List (List ℕ)) (journal : Journal) (low top text : ℕ) (replies : Replies) → IsKept catalog (heard_in catalog texts journal) low top replies → low ≤ text
+    → is_refused_in catalog texts journal text ≡ false → is_settled_in catalog texts journal text ≡ true
+    → kept replies text ≡ done_of catalog.schema text (heard_in catalog texts journal).ended
+kept_is_done catalog texts journal low top text replies k from valid settled = k.texts text from valid ∙ by replies.is_open
+  where
+    by : (b : Bool) → expected catalog.schema (heard_in catalog texts journal) b text ≡ done_of catalog.schema text (heard_in catalog texts journal).ended
+    by true = all_is_done catalog texts journal text settled
+    by false = refl
+
+pub tell_one : PiecesJoin → TextsAreDecided → StoredAreGiven → RepliesAscend → (pages_told : Bool) (catalog : Catalog) (texts : List (List ℕ)) (journal : Journal) (top : ℕ) (since between now : Outside)
+    (old new : Teller) (before after : Replies) (written : List ℕ) (state : ReplyState) (stored : List Stored) (result : Told)
+    → IsTelling pages_told catalog texts journal top since between old before
+    → old.texts ≡ written ∷ new.texts → new.count ≡ old.count + 1
+    → CameOut catalog texts journal (old.count + 1)
+    → IsKept catalog (heard_in catalog texts journal) (old.count + 1 + 1) top after
+    → state ≡ state_of (asked_of catalog.schema texts) (old.count + 1) (left catalog (asked_of catalog.schema texts) journal)
+    → stored ≡ kept before (old.count + 1)
+    → ((database : Database) → Knows pages_told between.flash.page catalog database → (state ≡ state_is.Done → are_ascending (replies_in stored) ≡ true)
+    → TellsText catalog.schema (hidden_of catalog.schema database) (replies_in stored) (old.count + 1) written state between.sink now.sink result)
+    → PrintsSome between.sink now.sink → KeepsPages between.flash now.flash → ToldTells between.flash.faults now.flash.faults result
+    → IsCounted (reason_of result) old.counts new.counts
+    → IsTelling pages_told catalog texts journal top since now new after
+tell_one join decided same ascend pages_told catalog texts journal top since between now old new before after written state stored result telling next more came kept_now is_state is_stored tells prints pages faults counted = record {
+  left = subst (λ (n : ℕ). AreLeft texts new.texts n) (sym more) (left_more texts old.count old.texts new.texts written telling.left next);
+  kept = subst (λ (n : ℕ). IsKept catalog (heard_in catalog texts journal) (n + 1) top after) (sym more) kept_now;
+  near = (let near : top ≤ old.count + 2 = telling.near in omega (arith, near, more));
+  pages = pages_stay since.flash between.flash now.flash telling.pages pages;
+  faults = never_falls since.flash.faults between.flash.faults now.flash.faults result telling.faults faults;
+  prints = some_more join since.sink between.sink now.sink telling.prints prints;
+  told = λ database knows.
+      let lines = tells database (subst (λ (p : ℕ → List ℕ). Knows pages_told p catalog database) (sym telling.pages.page) knows) ascends in
+      subst (λ (n : ℕ). AreTold catalog (hidden_of catalog.schema database) texts journal n (λ reasons. AreCounted reasons new.counts) since now) (sym more)
+      (one_told join catalog (hidden_of catalog.schema database) texts journal old.count old.counts new.counts since between now result lines.lines
+      (telling.told database knows) (is_told database lines) lines.handed faults counted);
+}
+  where
+    number : suc old.count ≡ old.count + 1
+    number = sym (next_number old.count)
+
+    here : slice_get texts old.count ≡ Some written
+    here = next_of texts old.count written new.texts (sym telling.left.left_are ∙ next)
+
+    is_done : state ≡ state_is.Done → stored ≡ done_of catalog.schema (old.count + 1) (heard_in catalog texts journal).ended
+    is_done e =
+        let so = done_so catalog texts journal (old.count + 1) (sym is_state ∙ e) in
+        is_stored ∙ kept_is_done catalog texts journal (old.count + 1) top (old.count + 1) before telling.kept (omega arith) so.0 so.1
+
+    settled : state ≡ state_is.Done → is_settled_in catalog texts journal (old.count + 1) ≡ true
+    settled e = (done_so catalog texts journal (old.count + 1) (sym is_state ∙ e)).1
+
+    ascends : state ≡ state_is.Done → are_ascending (replies_in stored) ≡ true
+    ascends e =
+        ap (λ (xs : List Stored). are_ascending (replies_in xs)) (is_done e ∙ sym (all_is_done catalog texts journal (old.count + 1) (settled e)))
+        ∙ ascend catalog texts (taken journal) (old.count + 1)
+
+    is_told : (database : Database) → (lines : TellsText catalog.schema (hidden_of catalog.schema database) (replies_in stored) (old.count + 1) written state between.sink now.sink result)
+        → IsTold catalog (hidden_of catalog.schema database) texts journal old.count (record { reason = reason_of result; lines = lines.lines })
+    is_told database lines =
+        told_so catalog (hidden_of catalog.schema database) texts journal old.count written here
+        (λ query accepted. decided catalog texts journal old.count written query here accepted)
+        (λ query accepted. came old.count written query (next_number old.count) here accepted)
+        (replies_in stored) state (subst (λ (n : ℕ). state ≡ state_of (asked_of catalog.schema texts) n (left catalog (asked_of catalog.schema texts) journal)) (sym number) is_state)
+        (λ e. ap replies_in (is_done e) ∙ same catalog (asked_of catalog.schema texts) journal (old.count + 1) ∙ ap (λ (n : ℕ). replies catalog (asked_of catalog.schema texts) journal n) (sym number))
+        lines.lines result (subst (λ (n : ℕ). Why catalog.schema (hidden_of catalog.schema database) (replies_in stored) n written state lines.lines result) (sym number) lines.why)

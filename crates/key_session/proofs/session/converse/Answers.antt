@@ -1,0 +1,43 @@
+use Rattle.std.proofs.Common.{◌+◌, ◌∙◌, sym, ap, arith}
+use Rattle.std.specs.Prelude.{is_some}
+use Rattle.ghost_model.specs.Asks.{asked_of}
+use Rattle.session_laws.specs.TextEnds.{heard_in}
+use Rattle.key_session.proofs.Attending.{same_asked}
+use Rattle.key_session.proofs.Moving.{none_gone, attended_gone, gone_on, is_some_map}
+use Rattle.key_session.proofs.session.converse.Goals as goal
+
+pub moves-init : goal.moves-init
+moves-init g c = (
+  c.requires.suffices,
+  (λ texts since live known going. none_gone _ _ c.args.cat.now c.args.at.now texts since _ _ _ _ (g.met.L.Link.stays _) live known going),
+  omega arith,
+)
+
+pub returns-in-Closed-clause-gone : goal.returns-in-Closed-clause-gone
+returns-in-Closed-clause-gone g c = λ texts since live known going.
+    let gone = c.moves.invariant.1 texts since live known going in
+    attended_gone _ _ c.args.cat.now c.args.at.now texts since _ _ _ _ _ _ _ _ gone
+    (c.attend.ensures.attended texts gone.journal since gone.live.after gone.known gone.going)
+
+pub moves-preserved : goal.moves-preserved
+moves-preserved g c =
+    let before = c.moves.invariant.2 in
+    let more = c.step-event.ensures.faults in (
+      c.attend.ensures.suffices,
+      (λ texts since live known going.
+          let gone = c.moves.invariant.1 texts since live known going in
+          gone_on c.ended_texts_stay.ensures c.reasons_stay.ensures c.replies_fit.ensures _ c.args.cat.now c.a_catalog_is_short.ensures.catalog.meant
+          (λ journal. g.L.Link.went c.args.link.now journal c.moves.link) (λ journal. g.L.Link.went c.moves.link journal c.step-event.new.link) (λ journal. g.L.Link.went c.args.link.now journal c.step-event.new.link)
+          _ c.args.at.now texts since _ _ c.moves.exchange c.step-event.new.self c.moves.teller c.attend.new.self c.moves.replies c.attend.new.replies c.hear.new.self c.moves.refusal c.first_refusal-refusal.result
+          c.step-event.result c.is_some-is_awaited.result gone
+          (λ made first second. g.met.L.Link.joins _ _ _ gone.journal made first second)
+          (c.attend.ensures.attended texts gone.journal since gone.live.after gone.known gone.going)
+          (c.step-event.ensures.moved c.args.cat.now (asked_of c.args.cat.now.schema texts) gone.journal gone.live)
+          (c.step-event.ensures.known gone.known)
+          (λ after top tells same greeting begun fits kept. c.hear.ensures.kept c.args.cat.now (heard_in c.args.cat.now texts gone.journal) after (c.attend.new.self.count + 1) top tells same greeting begun fits kept)
+          (c.is_some-is_awaited.ensures ∙ sym (is_some_map _ c.asked.result)
+          ∙ ap is_some (c.asked.ensures.awaited c.args.cat.now (asked_of c.args.cat.now.schema texts) gone.journal gone.live.after gone.known)
+          ∙ ap is_some (same_asked (heard_in c.args.cat.now texts gone.journal).awaits))
+          c.first_refusal-refusal.ensures.first),
+      omega (arith, before, more),
+    )

@@ -1,0 +1,66 @@
+-- What is counted of the texts that were told, by the reasons for their lines.
+use Rattle.std.specs.Prelude.{◌≡◌, ℕ, ◌+◌, Bool, true, false, ◌||◌, List, count_by, if◌then◌else◌, None}
+use Rattle.std.specs.List.{list_any}
+use Rattle.ghost_model.specs.Lines.{Reason, IsRefused, WasBroken, WasAnswered, MetFault, Fault, OnFlash, OnDamage}
+use Rattle.text_lines.specs.declared.text.Told.{Told}
+use Rattle.text_lines.specs.declared.text.Told.TheVariants as told
+use Rattle.key_session.specs.declared.counts.Counts.{Counts}
+
+abbrev pub reason_of : Told → Reason
+reason_of told.Refused = IsRefused
+reason_of told.Answered = WasAnswered
+reason_of told.Host = WasBroken
+reason_of told.Link = WasBroken
+reason_of told.Protocol = WasBroken
+reason_of told.Flash = MetFault OnFlash
+reason_of (told.Damaged page slot found) = MetFault OnDamage
+
+abbrev pub is_refusal : Reason → Bool
+is_refusal IsRefused = true
+is_refusal WasBroken = false
+is_refusal WasAnswered = false
+is_refusal (MetFault _) = false
+
+-- whether a fault ended the text: of the host, the link, the protocol or the flash
+abbrev pub is_fault : Reason → Bool
+is_fault IsRefused = false
+is_fault WasBroken = true
+is_fault WasAnswered = false
+is_fault (MetFault _) = true
+
+abbrev pub is_on_flash : Fault → Bool
+is_on_flash OnFlash = true
+is_on_flash OnDamage = false
+
+abbrev pub is_flash : Reason → Bool
+is_flash IsRefused = false
+is_flash WasBroken = false
+is_flash WasAnswered = false
+is_flash (MetFault fault) = is_on_flash fault
+
+abbrev pub is_on_damage : Fault → Bool
+is_on_damage OnFlash = false
+is_on_damage OnDamage = true
+
+abbrev pub is_damage : Reason → Bool
+is_damage IsRefused = false
+is_damage WasBroken = false
+is_damage WasAnswered = false
+is_damage (MetFault fault) = is_on_damage fault
+
+abbrev pub one_if : Bool → ℕ
+one_if test = if test then 1 else 0
+
+-- one more text was counted
+pub record IsCounted (reason : Reason) (old new : Counts) : Type 0 where
+  pub refused : new.refused ≡ old.refused + one_if (is_refusal reason)
+  pub faulted : new.faulted ≡ old.faulted + one_if (is_fault reason)
+  pub by_flash : new.by_flash ≡ (old.by_flash || is_flash reason)
+  pub damage : is_damage reason ≡ false → new.damage ≡ old.damage
+
+-- the texts with these reasons were counted
+pub record AreCounted (reasons : List Reason) (counts : Counts) : Type 0 where
+  pub refused : counts.refused ≡ count_by is_refusal reasons
+  pub faulted : counts.faulted ≡ count_by is_fault reasons
+  pub by_flash : counts.by_flash ≡ list_any is_flash reasons
+  pub undamaged : counts.damage ≡ None

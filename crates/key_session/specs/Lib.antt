@@ -1,0 +1,5 @@
+pub mod Counting
+pub mod Refusing
+pub mod Telling
+pub mod Going
+pub mod Running

@@ -1,0 +1,57 @@
+-- What a whole session does and counts: it goes by a finished journal, each of whose moves is the next one, and tells every
+-- text of its script.
+use Rattle.std.specs.Prelude.{◌≡◌, ℕ, Bool, true, false, List, length, count_by, Option, None, Some, if◌then◌else◌}
+use Rattle.std.specs.List.{list_any}
+use Rattle.ghost_model.specs.Values.{Database}
+use Rattle.ghost_model.specs.Channel.{Catalog, Journal}
+use Rattle.ghost_model.specs.Frames.{kind_in}
+use Rattle.ghost_model.specs.Asks.{asked_of}
+use Rattle.ghost_model.specs.NextMove.{Left, left, IsProper, IsFinished}
+use Rattle.ghost_model.specs.Split.{hidden_of}
+use Rattle.ghost_model.specs.Lines.{Reason}
+use Rattle.channel_pump.specs.State.{counted, bytes_before}
+use Rattle.key_exec.specs.Reading.{Knows}
+use Rattle.key_session.specs.Counting.{is_refusal, is_fault, is_flash}
+use Rattle.key_session.specs.Refusing.{first_code}
+use Rattle.key_session.specs.Telling.{Outside, AreTold}
+use Rattle.key_session.specs.declared.tally.Tally.{Tally}
+use Rattle.key_session.specs.declared.tally.SessionStatus.{SessionStatus}
+use Rattle.key_session.specs.declared.tally.SessionStatus.TheVariants as status
+
+abbrev pub is_sink : SessionStatus → Bool
+is_sink status.Ok = false
+is_sink status.Sink = true
+is_sink status.Link = false
+is_sink (status.Protocol _ _) = false
+is_sink (status.Host _) = false
+is_sink status.Flash = false
+is_sink (status.Damaged _) = false
+
+-- where the link did its part: the host refused an ask, or the flash failed, or all is well
+abbrev pub host_or : Option ℕ → (by_flash : Bool) → SessionStatus
+host_or (Some code) by_flash = status.Host code
+host_or None by_flash = if by_flash then status.Flash else status.Ok
+
+-- the first of these that is so: a write failed, the link failed or ended, a frame was invalid, the host refused an ask,
+-- the flash failed
+abbrev pub status_of : (failed : Bool) → Left → (by_flash : Bool) → SessionStatus
+status_of failed left by_flash =
+    if failed then status.Sink
+    else if left.stopped then status.Link
+    else if left.heard.broken then status.Protocol (kind_in left.heard.part) (counted (bytes_before left.heard))
+    else host_or (first_code left.heard.ended) by_flash
+
+-- a tally of the texts that have their lines for these reasons
+pub record IsTally (failed : Bool) (session : Left) (reasons : List Reason) (tally : Tally) : Type 0 where
+  pub refused : tally.refused ≡ count_by is_refusal reasons
+  pub faulted : tally.faulted ≡ count_by is_fault reasons
+  pub status_is : tally.status ≡ status_of failed session (list_any is_flash reasons)
+
+pub record HasRun (goes : Journal → Type 0) (pages_told : Bool) (catalog : Catalog) (at : List ℕ) (texts : List (List ℕ)) (since now : Outside) (tally : Tally) : Type 0 where
+  pub journal : Journal
+  pub went : goes journal
+  pub proper : IsProper catalog at texts journal
+  pub finished : IsFinished journal
+  pub told : (database : Database) → Knows pages_told since.flash.page catalog database
+      → AreTold catalog (hidden_of catalog.schema database) texts journal (length texts)
+      (λ reasons. IsTally now.sink.failed (left catalog (asked_of catalog.schema texts) journal) reasons tally) since now

@@ -1,0 +1,96 @@
+-- What a session told of its texts: the lines of each text from the front of its script, each for a reason that the
+-- definitions know. A fault of the flash is a reason only as often as the flash failed, and damage never where its pages
+-- are those of a database.
+use Rattle.std.specs.Prelude.{◌≡◌, ℕ, suc, ◌+◌, ◌≤◌, min, Bool, false, List, length, drop, map, flat_map, count_by, slice_get, Option, Some, Ok}
+use Rattle.std.specs.List.{concat}
+use Rattle.ghost_model.specs.Causes.{last_count}
+use Rattle.ghost_model.specs.Values.{Database}
+use Rattle.ghost_model.specs.Query.{Query}
+use Rattle.ghost_model.specs.QueryReading.{reading}
+use Rattle.ghost_model.specs.Channel.{Catalog, Journal}
+use Rattle.ghost_model.specs.Asks.{asked_of}
+use Rattle.ghost_model.specs.Split.{Hidden, hidden_of}
+use Rattle.ghost_model.specs.Lines.{Reason, AreLinesFor}
+use Rattle.edge_traits.specs.Devices.{Device, KeepsPages}
+use Rattle.channel_pump.specs.State.{IsAfter}
+use Rattle.channel_pump.specs.declared.state.Pump.{Pump}
+use Rattle.session_laws.specs.TextEnds.{heard_in}
+use Rattle.session_laws.specs.TextCases.{Outcome}
+use Rattle.key_lines.specs.Handing.{Handed, Hands, handed}
+use Rattle.session_replies.specs.Kept.{IsKept}
+use Rattle.session_replies.specs.declared.replies.Replies.{Replies}
+use Rattle.key_exec.specs.Reading.{Knows}
+use Rattle.text_lines.specs.Rows.{PrintsSome}
+use Rattle.key_session.specs.Counting.{is_flash, is_damage, AreCounted}
+use Rattle.key_session.specs.declared.teller.Teller.{Teller}
+
+-- where the lines go, and the flash
+pub record Outside : Type 0 where
+  pub sink : Handed
+  pub flash : Device
+
+abbrev pub outside : (failed : Bool) → (faults : ℕ) → (written : Option (List ℕ)) → Device → Outside
+outside failed faults written device = record { sink = handed failed faults written; flash = device }
+
+-- the lines of one text, and the reason for them
+pub record TextTold : Type 0 where
+  pub reason : Reason
+  pub lines : List (List ℕ)
+
+abbrev pub reasons_of : List TextTold → List Reason
+reasons_of told = map (λ (one : TextTold). one.reason) told
+
+abbrev pub bytes_of : TextTold → List ℕ
+bytes_of one = concat one.lines
+
+-- the bytes of all lines
+abbrev pub bytes_told : List TextTold → List ℕ
+bytes_told told = flat_map bytes_of told
+
+-- the lines of the text at a place; the text at place 0 has number 1
+pub record IsTold (catalog : Catalog) (kept : Hidden) (texts : List (List ℕ)) (journal : Journal) (place : ℕ) (one : TextTold) : Type 0 where
+  pub written : List ℕ
+  pub stands : slice_get texts place ≡ Some written
+  pub lines_are : AreLinesFor one.reason catalog kept texts journal (suc place) written one.lines
+  pub undamaged : is_damage one.reason ≡ false
+
+-- so many texts from the front were told, each by its lines, and counted by their reasons
+pub record AreTold (catalog : Catalog) (kept : Hidden) (texts : List (List ℕ)) (journal : Journal) (count : ℕ) (Counted : List Reason → Type 0) (since now : Outside) : Type 0 where
+  pub told : List TextTold
+  pub as_many : length told ≡ count
+  pub each : (place : ℕ) (one : TextTold) → slice_get told place ≡ Some one → IsTold catalog kept texts journal place one
+  pub handed_on : Hands (bytes_told told) since.sink now.sink
+  pub blamed : min (since.flash.faults + count_by is_flash (reasons_of told)) last_count ≤ now.flash.faults
+  pub counted : Counted (reasons_of told)
+
+-- the texts that are left
+pub record AreLeft (texts left : List (List ℕ)) (count : ℕ) : Type 0 where
+  pub left_are : left ≡ drop count texts
+  pub within : count ≤ length texts
+
+-- it shows what became of the asks of the text with a number, if that is an accepted one
+abbrev pub CameOut : Catalog → (texts : List (List ℕ)) → Journal → (number : ℕ) → Type 0
+CameOut catalog texts journal number =
+    (place : ℕ) (written : List ℕ) (asked : Query) → number ≡ suc place → slice_get texts place ≡ Some written
+    → reading catalog.schema written ≡ Ok asked → Outcome catalog texts journal (suc place) asked
+
+-- a teller has told some texts of a session that went by a journal, and the replies for the others are kept, none of them
+-- for a text behind `top`
+pub record IsTelling (pages_told : Bool) (catalog : Catalog) (texts : List (List ℕ)) (journal : Journal) (top : ℕ) (since now : Outside) (teller : Teller) (replies : Replies) : Type 0 where
+  pub left : AreLeft texts teller.texts teller.count
+  pub kept : IsKept catalog (heard_in catalog texts journal) (teller.count + 1) top replies
+  pub near : top ≤ teller.count + 2
+  pub pages : KeepsPages since.flash now.flash
+  -- at its last value the count stays
+  pub faults : min since.flash.faults last_count ≤ now.flash.faults
+  pub prints : PrintsSome since.sink now.sink
+  pub told : (database : Database) → Knows pages_told since.flash.page catalog database
+      → AreTold catalog (hidden_of catalog.schema database) texts journal teller.count (λ reasons. AreCounted reasons teller.counts) since now
+
+-- a teller goes on telling, of any session in which the pump stands and of which what it needs is shown
+abbrev pub TellsOn : (pages_told : Bool) → Catalog → Pump → (Shown : List (List ℕ) → Journal → Type 0) → (before : Outside) → Teller → Replies → (now : Outside) → Teller → Replies → Type 0
+TellsOn pages_told catalog pump Shown before teller replies now new_teller new_replies =
+    (texts : List (List ℕ)) (journal : Journal) (top : ℕ) (since : Outside)
+    → IsAfter catalog (asked_of catalog.schema texts) journal pump → Shown texts journal
+    → IsTelling pages_told catalog texts journal top since before teller replies
+    → IsTelling pages_told catalog texts journal top since now new_teller new_replies

@@ -1,0 +1,57 @@
+//! What is counted of the texts that were told.
+
+ghost use Rattle.std.specs.Prelude.{◌<◌, ◌≤◌, ◌+◌};
+ghost use Rattle.key_session.specs.Counting.{IsCounted, reason_of};
+
+use text_lines::Told;
+
+/// A slot of the flash that has no value which may stand there.
+#[derive(Clone, Copy, Debug, PartialEq, Eq)]
+pub struct Damage {
+    /// The page.
+    pub page: u32,
+    /// The slot in it, counted from 0.
+    pub slot: u32,
+    /// The slot's first eight bytes as a number, with bytes 0 after a shorter one.
+    pub found: u64,
+}
+
+/// What was counted of the texts that were told.
+#[derive(Clone, Copy)]
+pub(crate) struct Counts {
+    /// How many are refused.
+    pub refused: u32,
+    /// How many were ended by a fault: of the host, the link, the protocol or the flash.
+    pub faulted: u32,
+    /// Whether the flash failed in one of them.
+    pub by_flash: bool,
+    /// The first damage that was found.
+    pub damage: Option<Damage>,
+}
+
+impl Counts {
+    /// Counts one more text, by what its lines tell.
+    pub(crate) fn add(&mut self, told: Told)
+        requires refused { self.old.refused ≤ 64 }
+        requires faulted { self.old.faulted ≤ 64 }
+        ensures counted { IsCounted (reason_of told) self.old self.new }
+        ensures refused { self.new.refused ≤ self.old.refused + 1 }
+        ensures faulted { self.new.faulted ≤ self.old.faulted + 1 }
+    {
+        match told {
+            Told::Answered => {}
+            Told::Refused => self.refused += 1,
+            Told::Host | Told::Link | Told::Protocol => self.faulted += 1,
+            Told::Flash => {
+                self.faulted += 1;
+                self.by_flash = true;
+            }
+            Told::Damaged { page, slot, found } => {
+                self.faulted += 1;
+                if self.damage.is_none() {
+                    self.damage = Some(Damage { page, slot, found });
+                }
+            }
+        }
+    }
+}
