@@ -131,7 +131,7 @@ pub fn ask_of(schema: &Schema, payload: &[u8]) -> Option<Ask>
 }
 
 #[cfg(test)]
-mod tests {
+pub(crate) mod tests {
     use super::*;
     use tree_schema::read_schema;
 
@@ -140,7 +140,7 @@ mod tests {
 CREATE TABLE visit (id INTEGER PRIMARY KEY, day INTEGER, doc INTEGER REFERENCES doctor(id) HIDDEN, fee INTEGER);";
 
     // Whether the ask is written as these bytes, nothing else is written, and the ask is read from them.
-    fn is_spelled(schema: &Schema, ask: &Ask, bytes: &[u8]) -> bool {
+    pub(crate) fn is_spelled(schema: &Schema, ask: &Ask, bytes: &[u8]) -> bool {
         if !is_proper(schema, ask) {
             return false;
         }
