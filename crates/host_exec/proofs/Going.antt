@@ -1,14 +1,9 @@
 -- A session of a host, frame by frame.
-use Rattle.std.proofs.Common.{◌≡◌, ℕ, zero, suc, ◌+◌, ◌≤◌, Bool, true, false, ◌||◌, List, [], ◌∷◌, ◌++◌, length, drop, flat_map, Option, None, Some, refl, sym, ◌∙◌, ap, subst, arith, append-nil, append_assoc, length-append}
+use Rattle.std.proofs.Common.{◌≡◌, ℕ, zero, suc, ◌+◌, ◌≤◌, Bool, true, false, ◌||◌, List, [], ◌∷◌, ◌++◌, length, drop, flat_map, Option, None, Some, MatchOption, refl, sym, ◌∙◌, ap, subst, arith, append-nil, append_assoc, length-append}
 use Rattle.std.specs.List.{concat}
 use Rattle.std.proofs.Math.Seq.{drop-append_seam}
 use Rattle.std.proofs.lemmas.Grind.{flat_map-append}
 use Rattle.std.proofs.lemmas.List.{length-drop, drop-drop, nil_from_length}
-use Rattle.std.specs.Prelude.{if◌then◌else◌, ◌==◌}
-use Rattle.ghost_model.specs.Channel as channel
-use Rattle.ghost_model.specs.Asks.{ask_in}
-use Rattle.ghost_model.specs.Catalog.{catalog_bytes}
-use Rattle.host_exec.specs.Replies.{source_of}
 use Rattle.ghost_model.specs.Channel.{Frame, Entry, Journal}
 use Rattle.ghost_model.specs.Frames.{Got, Found, Short, Bad, IsFrame, frame_bytes, got_of, kind_of}
 use Rattle.ghost_model.specs.Host.{Holding, Stand, Response, reply_to, answers_ask, goes_on, after_reply, said_to, said_with, frames_of, frames_within, frame_and, bad_from, bad_rest, unless_over, refused_or, answer_to, host_sends, bad_request}
@@ -18,7 +13,9 @@ use Rattle.ghost_model.specs.NextMove.{InvalidFrame, is_stop}
 use Rattle.ghost_model.proofs.ChannelLemmas.{spelled_is_found}
 use Rattle.host_exec.specs.Saying.{Source, Stands}
 use Rattle.host_exec.specs.Hosts.{StandsAs}
-use Rattle.host_exec.specs.Sessions.{has_stopped, sends_from, bad_in, invalid, IsRefused, TurnMade, TurnLost, TurnBad, SaidAll, EndsInFarewell}
+use Rattle.host_exec.specs.Refusals.{AreGiven, answer_as, times, said_with_refusals, bad_with_refusals, sends_refusing, bad_refusing, host_sends_refusing, bad_request_refusing}
+use Rattle.host_exec.specs.Sessions.{has_stopped, sends_from, bad_in, invalid, bad_of, IsRefused, TurnMade, TurnLost, TurnBad, SaidRefusing}
+use Rattle.host_exec.specs.declared.session.Served.{Served}
 use Rattle.host_exec.proofs.Silence.{goes_somewhere}
 use Rattle.host_exec.specs.declared.host.Host.{Host}
 use Rattle.host_exec.specs.declared.session.Served.TheVariants as served
@@ -65,13 +62,50 @@ frames_none (byte ∷ bytes) kind bad =
 
 -- ---- what is said to a frame and to what follows it
 
-pub sends_first : (held : Holding) (stand : Stand) (frame : Frame) (more : List ℕ) (answered : Response) → IsFrame frame → answer_to held stand frame ≡ Some answered
-    → sends_from held stand (frame_bytes frame ++ more) ≡ flat_map frame_bytes answered.says ++ sends_from held answered.stand more
-unfolding said_to
-sends_first held stand frame more answered fits answer =
-    ap (λ (fs : List Frame). flat_map frame_bytes (said_to held fs stand)) (frames_first frame more fits)
-    ∙ (ap (λ (o : Option Response). flat_map frame_bytes (said_with (said_to held (frames_of more)) o)) answer
-    ∙ flat_map-append frame_bytes answered.says (said_to held (frames_of more) answered.stand))
+pub refusing_first : (held : Holding) (stand : Stand) (this : Bool) (later : List Bool) (frame : Frame) (more : List ℕ) (answered : Response) → IsFrame frame
+    → answer_as this held stand frame ≡ Some answered
+    → sends_refusing held (this ∷ later) stand (frame_bytes frame ++ more) ≡ flat_map frame_bytes answered.says ++ sends_refusing held later answered.stand more
+unfolding said_with_refusals
+refusing_first held stand this later frame more answered fits answer =
+    ap (λ (fs : List Frame). flat_map frame_bytes (said_with_refusals held (this ∷ later) fs stand)) (frames_first frame more fits)
+    ∙ (ap (λ (o : Option Response). flat_map frame_bytes (said_with (said_with_refusals held later (frames_of more)) o)) answer
+    ∙ flat_map-append frame_bytes answered.says (said_with_refusals held later (frames_of more) answered.stand))
+
+-- where no answer is refused, a host says what it says
+said_calm : (held : Holding) (refused : List Bool) (frames : List Frame) (stand : Stand) → times refused ≡ 0 → said_with_refusals held refused frames stand ≡ said_to held frames stand
+unfolding said_with_refusals said_to
+said_calm held [] frames stand none = refl
+said_calm held (true ∷ later) frames stand none = absurd (omega (arith, none))
+said_calm held (false ∷ later) [] stand none = refl
+said_calm held (false ∷ later) (frame ∷ frames) stand none = by_answer (answer_to held stand frame) (λ next. said_calm held later frames next none)
+  where
+    by_answer : (o : Option Response) → ((next : Stand) → said_with_refusals held later frames next ≡ said_to held frames next)
+        → said_with (said_with_refusals held later frames) o ≡ said_with (said_to held frames) o
+    by_answer None alike = refl
+    by_answer (Some answered) alike = ap (λ (fs : List Frame). answered.says ++ fs) (alike answered.stand)
+
+pub sends_calm : (held : Holding) (refused : List Bool) (key : List ℕ) → times refused ≡ 0 → host_sends_refusing held refused key ≡ host_sends held key
+sends_calm held refused key none = ap (flat_map frame_bytes) (said_calm held refused (frames_of key) host.Greeting none)
+
+-- and the same frames are out of their places
+bad_calm : (held : Holding) (rest : List ℕ) (refused : List Bool) (frames : List Frame) (at : ℕ) (stand : Stand) → times refused ≡ 0
+    → bad_with_refusals held rest refused frames at stand ≡ bad_from held rest frames at stand
+unfolding bad_with_refusals bad_from
+bad_calm held rest [] frames at stand none = refl
+bad_calm held rest (true ∷ later) frames at stand none = absurd (omega (arith, none))
+bad_calm held rest (false ∷ later) [] at stand none = refl
+bad_calm held rest (false ∷ later) (frame ∷ frames) at stand none =
+    ap (unless_over stand) (by_answer (answer_to held stand frame) (λ next. bad_calm held rest later frames (at + length (frame_bytes frame)) next none))
+  where
+    by_answer : (o : Option Response)
+        → ((next : Stand) → bad_with_refusals held rest later frames (at + length (frame_bytes frame)) next ≡ bad_from held rest frames (at + length (frame_bytes frame)) next)
+        → refused_or frame at (bad_with_refusals held rest later frames (at + length (frame_bytes frame))) o ≡ refused_or frame at (bad_from held rest frames (at + length (frame_bytes frame))) o
+    by_answer None alike = refl
+    by_answer (Some answered) alike = alike answered.stand
+
+pub bad_request_calm : (held : Holding) (refused : List Bool) (key : List ℕ) → times refused ≡ 0 → bad_request_refusing held refused key ≡ bad_request held key
+bad_request_calm held refused key none =
+    bad_calm held (drop (length (flat_map frame_bytes (frames_of key))) key) refused (frames_of key) 0 host.Greeting none
 
 sends_none : (held : Holding) (stand : Stand) (frame : Frame) → IsFrame frame → answer_to held stand frame ≡ None → sends_from held stand (frame_bytes frame) ≡ []
 unfolding said_to
@@ -89,11 +123,12 @@ further front back more =
     ap (λ (n : ℕ). drop n (front ++ more)) (length-append front back)
     ∙ (sym (drop-drop (length back) (length front) (front ++ more)) ∙ ap (drop (length back)) (drop-append_seam front more))
 
-over_or : (held : Holding) (stand : Stand) (frame : Frame) (answered : Response) (bad : Option InvalidFrame) → answer_to held stand frame ≡ Some answered → unless_over stand bad ≡ bad
-over_or held host.Greeting frame answered bad e = refl
-over_or held (host.Listening next) frame answered bad e = refl
-over_or held (host.Replying serial rest) frame answered bad e = refl
-over_or held host.Over frame answered bad e = cc
+over_or : (held : Holding) (stand : Stand) (this : Bool) (frame : Frame) (answered : Response) (bad : Option InvalidFrame) → answer_as this held stand frame ≡ Some answered → unless_over stand bad ≡ bad
+over_or held host.Greeting this frame answered bad e = refl
+over_or held (host.Listening next) this frame answered bad e = refl
+over_or held (host.Replying serial rest) this frame answered bad e = refl
+over_or held host.Over false frame answered bad e = cc
+over_or held host.Over true frame answered bad e = cc
 
 going_or : (stand : Stand) (bad : Option InvalidFrame) → (stand ≡ host.Over → ⊥) → unless_over stand bad ≡ bad
 going_or host.Greeting bad on = refl
@@ -107,15 +142,16 @@ no_bad (host.Listening next) = refl
 no_bad (host.Replying serial rest) = refl
 no_bad host.Over = refl
 
-pub bad_first : (held : Holding) (stand : Stand) (at : ℕ) (frame : Frame) (more : List ℕ) (answered : Response) → IsFrame frame → answer_to held stand frame ≡ Some answered
-    → bad_in held stand at (frame_bytes frame ++ more) ≡ bad_in held answered.stand (at + length (frame_bytes frame)) more
-unfolding bad_from
-bad_first held stand at frame more answered fits answer =
+pub bad_first : (held : Holding) (stand : Stand) (at : ℕ) (this : Bool) (later : List Bool) (frame : Frame) (more : List ℕ) (answered : Response) → IsFrame frame
+    → answer_as this held stand frame ≡ Some answered
+    → bad_refusing held (this ∷ later) stand at (frame_bytes frame ++ more) ≡ bad_refusing held later answered.stand (at + length (frame_bytes frame)) more
+unfolding bad_with_refusals
+bad_first held stand at this later frame more answered fits answer =
     let after : ℕ = at + length (frame_bytes frame) in
-    ap (λ (fs : List Frame). bad_from held (drop (length (flat_map frame_bytes fs)) (frame_bytes frame ++ more)) fs at stand) (frames_first frame more fits)
-    ∙ (ap (λ (rest : List ℕ). bad_from held rest (frame ∷ frames_of more) at stand) (further (frame_bytes frame) (flat_map frame_bytes (frames_of more)) more)
-    ∙ (ap (λ (o : Option Response). unless_over stand (refused_or frame at (bad_from held (drop (length (flat_map frame_bytes (frames_of more))) more) (frames_of more) after) o)) answer
-    ∙ over_or held stand frame answered _ answer))
+    ap (λ (fs : List Frame). bad_with_refusals held (drop (length (flat_map frame_bytes fs)) (frame_bytes frame ++ more)) (this ∷ later) fs at stand) (frames_first frame more fits)
+    ∙ (ap (λ (rest : List ℕ). bad_with_refusals held rest (this ∷ later) (frame ∷ frames_of more) at stand) (further (frame_bytes frame) (flat_map frame_bytes (frames_of more)) more)
+    ∙ (ap (λ (o : Option Response). unless_over stand (refused_or frame at (bad_with_refusals held (drop (length (flat_map frame_bytes (frames_of more))) more) later (frames_of more) after) o)) answer
+    ∙ over_or held stand this frame answered _ answer))
 
 bad_here : (held : Holding) (stand : Stand) (at : ℕ) (frame : Frame) → IsFrame frame → answer_to held stand frame ≡ None → (stand ≡ host.Over → ⊥)
     → bad_in held stand at (frame_bytes frame) ≡ Some (invalid (kind_of frame) at)
@@ -168,141 +204,115 @@ stops_joins (made ∷ first) more going = by_first (is_stop made.answer) (stops_
     by_first true later going = cc
     by_first false later going = later going
 
--- ---- where a farewell leads
-
-goes_not_over : (serial : ℕ) (frames : List Frame) (answered : Response) → goes_on serial frames ≡ Some answered → answered.stand ≡ host.Over → ⊥
-goes_not_over serial [] answered goes over = cc
-goes_not_over serial (frame ∷ rest) answered goes over = never rest (same _ _ goes ∙ over)
-  where
-    same : (one other : Response) → Some one ≡ Some other → one.stand ≡ other.stand
-    same one other e = cc
-
-    listening : host.Listening (serial + 1) ≡ host.Over → ⊥
-    listening e = cc
-
-    replying : (rest : List Frame) → host.Replying serial rest ≡ host.Over → ⊥
-    replying rest e = cc
-
-    never : (rest : List Frame) → after_reply serial rest ≡ host.Over → ⊥
-    never [] e = listening e
-    never (next ∷ later) e = replying (next ∷ later) e
-
--- only a farewell leads to the end
-after_over : (held : Holding) (stand : Stand) (frame : Frame) (answered : Response) → answer_to held stand frame ≡ Some answered → answered.stand ≡ host.Over → frame ≡ channel.Bye
-after_over held host.Greeting (channel.Hello generation) answered answer over = absurd (never (same _ _ answer ∙ over))
-  where
-    same : (one other : Response) → Some one ≡ Some other → one.stand ≡ other.stand
-    same one other e = cc
-
-    never : host.Listening 1 ≡ host.Over → ⊥
-    never e = cc
-after_over held (host.Listening next) (channel.Asking serial payload) answered answer over = by_serial (serial == next) (ask_in held.catalog.schema payload) answer
-  where
-    by_serial : (b : Bool) (ask : Option channel.Ask) → (if b then answers_ask held serial ask else None) ≡ Some answered → channel.Asking serial payload ≡ channel.Bye
-    by_serial true None answer = cc
-    by_serial true (Some ask) answer = absurd (goes_not_over serial (reply_to held serial ask) answered answer over)
-    by_serial false ask answer = cc
-after_over held (host.Listening next) channel.Bye answered answer over = refl
-after_over held (host.Replying serial rest) (channel.More other) answered answer over = by_serial (other == serial) answer
-  where
-    by_serial : (b : Bool) → (if b then goes_on serial rest else None) ≡ Some answered → channel.More other ≡ channel.Bye
-    by_serial true answer = absurd (goes_not_over serial rest answered answer over)
-    by_serial false answer = cc
-after_over held stand frame answered answer over = cc
-
-over_at : (catalog : List ℕ) (source : Source) (at : Stage) (owed : List Frame) (stand : Stand) → at ≡ stage.Over → Stands catalog source at owed stand → stand ≡ host.Over
-over_at catalog source at owed stand is stands = (subst (λ (s : Stage). Stands catalog source s owed stand) is stands).1
-
 -- ---- a session as far as it has come
 
-pub record Going (held : Holding) (file : List ℕ) (journal : Journal) (now : Host) : Type 0 where
+pub record Going (held : Holding) (file : List ℕ) (refused : List Bool) (journal : Journal) (now : Host) : Type 0 where
   pub stand : Stand
   pub stands : StandsAs now file [] stand
-  pub last : now.stage ≡ stage.Over → EndsInFarewell (taken journal)
-  pub sends : (more : List ℕ) → host_sends held (taken journal ++ more) ≡ concat (sent journal) ++ sends_from held stand more
-  pub bad : (more : List ℕ) → bad_request held (taken journal ++ more) ≡ bad_in held stand (length (taken journal)) more
+  pub sends : (later : List Bool) (more : List ℕ)
+      → host_sends_refusing held (refused ++ later) (taken journal ++ more) ≡ concat (sent journal) ++ sends_refusing held later stand more
+  pub bad : (later : List Bool) (more : List ℕ)
+      → bad_request_refusing held (refused ++ later) (taken journal ++ more) ≡ bad_refusing held later stand (length (taken journal)) more
+  pub given : (later : List Bool) (more : List ℕ)
+      → AreGiven held later (frames_of more) stand → AreGiven held (refused ++ later) (frames_of (taken journal ++ more)) host.Greeting
 
-pub going_begins : (held : Holding) (file : List ℕ) (now : Host) → StandsAs now file [] host.Greeting → (now.stage ≡ stage.Over → ⊥) → Going held file [] now
-going_begins held file now stands begins = record { stand = host.Greeting; stands = stands; last = λ over. absurd (begins over); sends = λ more. refl; bad = λ more. refl }
+given_first : (held : Holding) (stand : Stand) (this : Bool) (later : List Bool) (frame : Frame) (more : List ℕ) (answered : Response) → IsFrame frame
+    → answer_as this held stand frame ≡ Some answered → AreGiven held later (frames_of more) answered.stand → AreGiven held (this ∷ later) (frames_of (frame_bytes frame ++ more)) stand
+unfolding AreGiven
+given_first held stand this later frame more answered fits answer given =
+    subst (λ (fs : List Frame). AreGiven held (this ∷ later) fs stand) (sym (frames_first frame more fits))
+    (subst (λ (o : Option Response). MatchOption o ⊥ (λ next. AreGiven held later (frames_of more) next.stand)) (sym answer) given)
 
-pub going_on : (held : Holding) (file : List ℕ) (first more : Journal) (before now : Host) → (so : Going held file first before) → TurnMade held file so.stand more now
-    → Going held file (first ++ more) now
-going_on held file first more before now so made = record {
+pub going_begins : (held : Holding) (file : List ℕ) (now : Host) → StandsAs now file [] host.Greeting → Going held file [] [] now
+going_begins held file now stands = record { stand = host.Greeting; stands = stands; sends = λ later more. refl; bad = λ later more. refl; given = λ later more given. given }
+
+pub going_on : (held : Holding) (file : List ℕ) (refused : List Bool) (this : Bool) (first more : Journal) (before now : Host) → (so : Going held file refused first before)
+    → TurnMade this held file so.stand more now → Going held file (refused ++ this ∷ []) (first ++ more) now
+going_on held file refused this first more before now so made = record {
   stand = made.response.stand;
   stands = made.stands;
-  last = λ over. record {
-    front = taken first;
-    last = taken_joins first more
-        ∙ ap (λ (bs : List ℕ). taken first ++ bs) (made.taken_is ∙ ap frame_bytes (after_over held so.stand made.frame made.response made.answer (over_at (catalog_bytes now.catalog) (source_of now.reply file) now.stage [] made.response.stand over made.stands)));
-  };
-  sends = λ later.
-      ap (host_sends held) (whole later)
-      ∙ (so.sends (frame_bytes made.frame ++ later)
-      ∙ (ap (λ (bs : List ℕ). concat (sent first) ++ bs) (sends_first held so.stand made.frame later made.response made.fits made.answer)
-      ∙ (ap (λ (bs : List ℕ). concat (sent first) ++ (bs ++ sends_from held made.response.stand later)) (sym made.says)
-      ∙ (sym (append_assoc (concat (sent first)) (concat (sent more)) (sends_from held made.response.stand later))
-      ∙ ap (λ (bs : List ℕ). bs ++ sends_from held made.response.stand later) (sym (sent_joins first more))))));
-  bad = λ later.
-      ap (bad_request held) (whole later)
-      ∙ (so.bad (frame_bytes made.frame ++ later)
-      ∙ (bad_first held so.stand (length (taken first)) made.frame later made.response made.fits made.answer
-      ∙ ap (λ (n : ℕ). bad_in held made.response.stand n later) (ap (λ (bs : List ℕ). length (taken first) + length bs) (sym made.taken_is) ∙ (sym (length-append (taken first) (taken more)) ∙ ap length (sym (taken_joins first more))))));
+  sends = λ later bytes.
+      ap (λ (rs : List Bool). host_sends_refusing held rs (taken (first ++ more) ++ bytes)) (append_assoc refused (this ∷ []) later)
+      ∙ (ap (host_sends_refusing held (refused ++ this ∷ later)) (whole bytes)
+      ∙ (so.sends (this ∷ later) (frame_bytes made.frame ++ bytes)
+      ∙ (ap (λ (bs : List ℕ). concat (sent first) ++ bs) (refusing_first held so.stand this later made.frame bytes made.response made.fits made.answer)
+      ∙ (ap (λ (bs : List ℕ). concat (sent first) ++ (bs ++ sends_refusing held later made.response.stand bytes)) (sym made.says)
+      ∙ (sym (append_assoc (concat (sent first)) (concat (sent more)) (sends_refusing held later made.response.stand bytes))
+      ∙ ap (λ (bs : List ℕ). bs ++ sends_refusing held later made.response.stand bytes) (sym (sent_joins first more)))))));
+  bad = λ later bytes.
+      ap (λ (rs : List Bool). bad_request_refusing held rs (taken (first ++ more) ++ bytes)) (append_assoc refused (this ∷ []) later)
+      ∙ (ap (bad_request_refusing held (refused ++ this ∷ later)) (whole bytes)
+      ∙ (so.bad (this ∷ later) (frame_bytes made.frame ++ bytes)
+      ∙ (bad_first held so.stand (length (taken first)) this later made.frame bytes made.response made.fits made.answer
+      ∙ ap (λ (n : ℕ). bad_refusing held later made.response.stand n bytes)
+      (ap (λ (bs : List ℕ). length (taken first) + length bs) (sym made.taken_is) ∙ (sym (length-append (taken first) (taken more)) ∙ ap length (sym (taken_joins first more)))))));
+  given = λ later bytes given.
+      subst (λ (rs : List Bool). AreGiven held rs (frames_of (taken (first ++ more) ++ bytes)) host.Greeting) (sym (append_assoc refused (this ∷ []) later))
+      (subst (λ (bs : List ℕ). AreGiven held (refused ++ this ∷ later) (frames_of bs) host.Greeting) (sym (whole bytes))
+      (so.given (this ∷ later) (frame_bytes made.frame ++ bytes) (given_first held so.stand this later made.frame bytes made.response made.fits made.answer given)));
 }
   where
-    whole : (later : List ℕ) → taken (first ++ more) ++ later ≡ taken first ++ (frame_bytes made.frame ++ later)
-    whole later =
-        ap (λ (bs : List ℕ). bs ++ later) (taken_joins first more)
-        ∙ (append_assoc (taken first) (taken more) later ∙ ap (λ (bs : List ℕ). taken first ++ (bs ++ later)) made.taken_is)
+    whole : (bytes : List ℕ) → taken (first ++ more) ++ bytes ≡ taken first ++ (frame_bytes made.frame ++ bytes)
+    whole bytes =
+        ap (λ (bs : List ℕ). bs ++ bytes) (taken_joins first more)
+        ∙ (append_assoc (taken first) (taken more) bytes ∙ ap (λ (bs : List ℕ). taken first ++ (bs ++ bytes)) made.taken_is)
+
+nothing_more : {T : Type 0} (of : List Bool → List ℕ → T) (refused : List Bool) (bytes : List ℕ) → of refused bytes ≡ of (refused ++ []) (bytes ++ [])
+nothing_more of refused bytes = ap (λ (rs : List Bool). of rs bytes) (sym (append-nil refused)) ∙ ap (of (refused ++ [])) (sym (append-nil bytes))
+
+all_given : (held : Holding) (file : List ℕ) (refused : List Bool) (journal : Journal) (now : Host) → (so : Going held file refused journal now) → (more : List ℕ)
+    → AreGiven held refused (frames_of (taken journal ++ more)) host.Greeting
+unfolding AreGiven
+all_given held file refused journal now so more =
+    subst (λ (rs : List Bool). AreGiven held rs (frames_of (taken journal ++ more)) host.Greeting) (append-nil refused) (so.given [] more tt)
 
 -- the key said farewell
-pub ended_well : (held : Holding) (file : List ℕ) (journal : Journal) (now : Host) → Going held file journal now → now.stage ≡ stage.Over → SaidAll held journal served.Bye
-unfolding said_to bad_from frames_within
-ended_well held file journal now so over = record {
+pub ended_well : (held : Holding) (file : List ℕ) (refused : List Bool) (journal : Journal) (now : Host) (ended : Served) → Going held file refused journal now → bad_of ended ≡ None
+    → SaidRefusing held refused journal ended
+unfolding said_to bad_from frames_within said_with_refusals bad_with_refusals
+ended_well held file refused journal now ended so none = record {
   rest = [];
-  sends = ap (host_sends held) (sym (append-nil (taken journal))) ∙ so.sends [];
+  sends = nothing_more (host_sends_refusing held) refused (taken journal) ∙ so.sends [] [];
   whole = λ _. refl;
-  bad = λ _. ap (bad_request held) (sym (append-nil (taken journal))) ∙ (so.bad [] ∙ no_bad so.stand);
-  farewell = λ _. so.last over;
+  bad = λ _. nothing_more (bad_request_refusing held) refused (taken journal) ∙ (so.bad [] [] ∙ (no_bad so.stand ∙ sym none));
+  given = λ _. subst (λ (bs : List ℕ). AreGiven held refused (frames_of bs) host.Greeting) (append-nil (taken journal)) (all_given held file refused journal now so []);
 }
 
 -- a move failed, or the stream ended
-pub ended_lost : (held : Holding) (file : List ℕ) (first more : Journal) (now : Host) → (so : Going held file first now) → TurnLost held so.stand more → has_stopped (first ++ more) ≡ true
-    → SaidAll held (first ++ more) served.Link
-ended_lost held file first more now so lost stopped = record {
+pub ended_lost : (held : Holding) (file : List ℕ) (refused : List Bool) (this : Bool) (first more : Journal) (now : Host) → (so : Going held file refused first now)
+    → TurnLost this held so.stand more → has_stopped (first ++ more) ≡ true → SaidRefusing held (refused ++ this ∷ []) (first ++ more) served.Link
+ended_lost held file refused this first more now so lost stopped = record {
   rest = lost.rest;
-  sends = ap (host_sends held) (taken_joins first more)
-      ∙ (so.sends (taken more)
+  sends = ap (host_sends_refusing held (refused ++ this ∷ [])) (taken_joins first more)
+      ∙ (so.sends (this ∷ []) (taken more)
       ∙ (ap (λ (bs : List ℕ). concat (sent first) ++ bs) lost.joined
       ∙ (sym (append_assoc (concat (sent first)) (concat (sent more)) lost.rest) ∙ ap (λ (bs : List ℕ). bs ++ lost.rest) (sym (sent_joins first more)))));
   whole = λ going. never stopped going;
   bad = λ going. never stopped going;
-  farewell = λ e. absurd (no_farewell e);
+  given = λ going. never stopped going;
 }
   where
     never : {P : Type 0} {b : Bool} → b ≡ true → b ≡ false → P
     never yes_ no_ = cc
 
-    no_farewell : served.Link ≡ served.Bye → ⊥
-    no_farewell e = cc
-
 -- a frame was out of its place
-pub ended_bad : (held : Holding) (file : List ℕ) (first more : Journal) (now : Host) (kind at : ℕ) → (so : Going held file first now) → TurnBad held so.stand more kind
-    → (so.stand ≡ host.Over → ⊥) → length (taken first) ≡ at → SaidAll held (first ++ more) (served.BadRequest kind at)
-ended_bad held file first more now kind at so made on counted = record {
+pub ended_bad : (held : Holding) (file : List ℕ) (refused : List Bool) (first more : Journal) (now : Host) (kind at : ℕ) → (so : Going held file refused first now)
+    → TurnBad held so.stand more kind → (so.stand ≡ host.Over → ⊥) → length (taken first) ≡ at → SaidRefusing held refused (first ++ more) (served.BadRequest kind at)
+unfolding said_with_refusals bad_with_refusals
+ended_bad held file refused first more now kind at so made on counted = record {
   rest = [];
-  sends = ap (host_sends held) (taken_joins first more)
-      ∙ (so.sends (taken more)
+  sends = ap (λ (rs : List Bool). host_sends_refusing held rs (taken (first ++ more))) (sym (append-nil refused))
+      ∙ (ap (host_sends_refusing held (refused ++ [])) (taken_joins first more)
+      ∙ (so.sends [] (taken more)
       ∙ (ap (λ (bs : List ℕ). concat (sent first) ++ bs) (made.refused.silent ∙ ap concat (sym made.sends))
-      ∙ (sym (sent_joins first more) ∙ sym (append-nil (concat (sent (first ++ more)))))));
+      ∙ (sym (sent_joins first more) ∙ sym (append-nil (concat (sent (first ++ more))))))));
   whole = λ _. refl;
   bad = λ _.
-      ap (bad_request held) (taken_joins first more)
-      ∙ (so.bad (taken more) ∙ (made.refused.bad (length (taken first)) on ∙ ap (λ (n : ℕ). Some (invalid kind n)) counted));
-  farewell = λ e. absurd (no_farewell e);
+      ap (λ (rs : List Bool). bad_request_refusing held rs (taken (first ++ more))) (sym (append-nil refused))
+      ∙ (ap (bad_request_refusing held (refused ++ [])) (taken_joins first more)
+      ∙ (so.bad [] (taken more) ∙ (made.refused.bad (length (taken first)) on ∙ ap (λ (n : ℕ). Some (invalid kind n)) counted)));
+  given = λ _. subst (λ (bs : List ℕ). AreGiven held refused (frames_of bs) host.Greeting) (sym (taken_joins first more)) (all_given held file refused first now so (taken more));
 }
-  where
-    no_farewell : served.BadRequest kind at ≡ served.Bye → ⊥
-    no_farewell e = cc
 
 -- a host that is not over stands where frames are awaited
 pub not_over : (catalog : List ℕ) (source : Source) (at : Stage) (stand : Stand) → (at ≡ stage.Over → ⊥) → Stands catalog source at [] stand → stand ≡ host.Over → ⊥

@@ -14,7 +14,7 @@ use Rattle.ghost_model.proofs.ChannelLemmas.{found_begins, size_is_read}
 use Rattle.ghost_model.proofs.SessionLemmas.Limits.{append_bytes}
 use Rattle.edge_traits.specs.Filling.{AreTakes, Fills}
 use Rattle.host_exec.specs.Hosts.{IsAnswered}
-use Rattle.host_exec.specs.Sessions.{Came, Lost, IsWhole, HeardAs, IsRefused}
+use Rattle.host_exec.specs.Sessions.{Came, Lost, LinkCounts, IsWhole, HeardAs, IsRefused}
 use Rattle.host_exec.specs.declared.host.Host.{Host}
 use Rattle.host_exec.proofs.Going.{out_of_place, taken_joins, stops_joins}
 
@@ -77,6 +77,15 @@ not_filled Went most error buffer fills = record {
     stops = fills.failed;
   };
 }
+
+-- a count that stayed did so however the session went on
+pub link_stays : (lost : Bool) (before now : ℕ) → now ≡ before → LinkCounts lost before now
+link_stays true before now same = inr same
+link_stays false before now same = same
+
+-- first a call that stayed, and then another
+pub link_more : (lost : Bool) (before between now : ℕ) → between ≡ before → LinkCounts lost between now → LinkCounts lost before now
+link_more lost before between now same counts = subst (λ (n : ℕ). LinkCounts lost n now) same counts
 
 pub came_more : (First Second Both : Journal → Type 0) (front back : List ℕ) (stopped : Bool) → ((one other : Journal) → First one → Second other → Both (one ++ other))
     → Came First front false → Came Second back stopped → Came Both (front ++ back) stopped

@@ -8,6 +8,7 @@ pub mod Steps
 pub mod Silence
 pub mod Going
 pub mod Heard
+pub mod Refused
 pub mod Speaking
 pub mod Turns
 pub mod Endings

@@ -8,4 +8,5 @@ pub mod Holdings
 pub mod Taken
 pub mod Hosts
 pub mod Checked
+pub mod Refusals
 pub mod Sessions

@@ -95,3 +95,10 @@ pub record Refuses (before after serial size : ℕ) (out : List ℕ) (stage : St
   pub rose : Rose before after
   pub spelled : take size out ≡ frame_bytes (Sorry serial 1)
   pub ended : stage ≡ Listening (serial + 1)
+
+-- whether a host may stand here after a frame that it said: it says its catalog further, or awaits a frame of the key
+abbrev pub rests : Stage → Bool
+rests (Welcoming _) = true
+rests (Listening _) = true
+rests (Replying _ _ _) = true
+rests _ = false

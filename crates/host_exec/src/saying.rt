@@ -30,6 +30,7 @@ pub fn say_part(catalog: &Catalog, at: usize, out: &mut [u8]) -> Said
     ensures short { result.size ≤ 2048 }
     ensures fewer { steps_left (length (catalog_bytes catalog.now)) result.stage < steps_left (length (catalog_bytes catalog.now)) (Stage.Welcoming at) }
     ensures granted { result.refused ≡ false }
+    ensures rests { saying.rests result.stage ≡ true }
     ensures said { (source : saying.Source) (owed : List channel.Frame) (stand : host.Stand)
         → saying.Stands (catalog_bytes catalog.now) source (Stage.Welcoming at) owed stand
         → saying.Says (catalog_bytes catalog.now) source owed stand result.size out.new result.stage }
@@ -76,6 +77,7 @@ fn say_rows<D: Depot>(
     ensures short { IfOk result (λ said. said.size ≤ 2048) }
     ensures fewer { (catalog : ℕ) → IfOk result (λ said. steps_left catalog said.stage < steps_left catalog (Stage.Answering serial place sent)) }
     ensures granted { IfOk result (λ said. said.refused ≡ false) }
+    ensures rests { IfOk result (λ said. saying.rests said.stage ≡ true) }
     ensures said { (catalog file : List ℕ) (owed : List channel.Frame) (stand : host.Stand) → file_of (D.contents depot.old) name.now ≡ Some file
         → saying.Stands catalog (source_of reply.now file) (Stage.Answering serial place sent) owed stand
         → IfOk result (λ said. saying.Says catalog (source_of reply.now file) owed stand said.size out.new said.stage) }
@@ -162,6 +164,7 @@ pub fn say_reply<D: Depot>(
     ensures within { (catalog : ℕ) → 0 < catalog → saying.IsWithin catalog reply.now.rows result.stage }
     ensures short { result.size ≤ 2048 }
     ensures fewer { (catalog : ℕ) → steps_left catalog result.stage < steps_left catalog (Stage.Answering serial place sent) }
+    ensures rests { saying.rests result.stage ≡ true }
     ensures told { MatchBool result.refused (Rose (D.faults depot.old) (D.faults depot.new)) (D.faults depot.new ≡ D.faults depot.old) }
     ensures said { saying.Refuses (D.faults depot.old) (D.faults depot.new) serial result.size out.new result.stage
         ⊎ ((D.faults depot.new ≡ D.faults depot.old) × ((catalog file : List ℕ) (owed : List channel.Frame) (stand : host.Stand) → file_of (D.contents depot.old) name.now ≡ Some file

@@ -81,6 +81,7 @@ impl Host {
         requires none { saying.turned self.old.stage (frame_view frame.now) ≡ None }
         ensures same { IsSameHost self.old self.new }
         ensures kept { result ≡ false → self.new ≡ self.old }
+        ensures owes { result ≡ true → saying.owes self.new.stage ≡ true }
         ensures fewer { result ≡ true → steps_of self.new < steps_of self.old }
         ensures answered { (held : Holding) (file : List ℕ) (stand : Stand) → Holds held file self.old → StandsAs self.old file [] stand
             → MatchBool result (IsAnswered held file stand (frame_view frame.now) self.new) (answer_to held stand (frame_view frame.now) ≡ None) }
@@ -111,6 +112,7 @@ impl Host {
     pub fn feed(&mut self, frame: &Frame) -> bool
         ensures same { IsSameHost self.old self.new }
         ensures kept { result ≡ false → self.new ≡ self.old }
+        ensures farewell { result ≡ true → self.new.stage ≡ Stage.Over → frame_view frame.now ≡ channel.Bye }
         ensures busy { saying.owes self.old.stage ≡ true → result ≡ false }
         ensures fewer { result ≡ true → steps_of self.new < steps_of self.old }
         ensures silent { (file : List ℕ) (stand : Stand) → StandsAs self.old file [] stand → saying.owes self.old.stage ≡ false }
@@ -141,6 +143,7 @@ impl Host {
         ensures short { IfSome result (λ said. said.size ≤ 2048) }
         ensures within { IfSome result (λ said. saying.IsWithin (length (catalog_bytes self.now.catalog)) self.now.reply.rows said.stage) }
         ensures fewer { IfSome result (λ said. steps_left (length (catalog_bytes self.now.catalog)) said.stage < steps_of self.now) }
+        ensures rests { IfSome result (λ said. saying.rests said.stage ≡ true) }
         ensures told { IfSome result (λ said. MatchBool said.refused (Rose (D.faults depot.old) (D.faults depot.new)) (D.faults depot.new ≡ D.faults depot.old)) }
         ensures said { IfSome result (λ said. Refused self.now (D.faults depot.old) (D.faults depot.new) said.size out.new said.stage
             ⊎ ((D.faults depot.new ≡ D.faults depot.old) × ((file : List ℕ) (owed : List channel.Frame) (stand : Stand)

@@ -1,14 +1,14 @@
 //! A whole session of a host over a link.
 
-ghost use Rattle.std.specs.Prelude.{◌≡◌, ◌≤◌, ◌<◌, ◌+◌, ◌*◌, ◌^◌, ◌⊎◌, ◌||◌, ℕ, List, [], Some, true, false, is_ok, length, take, IfSome, IfNone, IfOk, MatchBool, MatchOption};
+ghost use Rattle.std.specs.Prelude.{◌≡◌, ◌≤◌, ◌<◌, ◌+◌, ◌*◌, ◌^◌, ◌⊎◌, ◌||◌, ℕ, List, [], Some, true, false, not, is_ok, is_some, is_none, length, take, IfSome, IfNone, IfOk, MatchBool, MatchOption};
 ghost use Rattle.ghost_model.specs.Causes.{Rose};
 ghost use Rattle.ghost_model.specs.Channel as channel;
 ghost use Rattle.ghost_model.specs.Frames.{AreBytes};
 ghost use Rattle.ghost_model.specs.Host.{Holding, Stand};
 ghost use Rattle.edge_traits.specs.Files.{file_of};
-ghost use Rattle.host_exec.specs.Saying.{owes};
+ghost use Rattle.host_exec.specs.Saying.{owes, rests};
 ghost use Rattle.host_exec.specs.Hosts.{Holds, StandsAs, IsSameHost, RefusedAs, SaysAs, name_of, steps_of};
-ghost use Rattle.host_exec.specs.Sessions.{Came, Lost, IsWhole, HeardAs, IsRefused, Speaks, Turns, Serves, closed, HoldsIn, is_answered, was_refused, size_of};
+ghost use Rattle.host_exec.specs.Sessions.{Came, Lost, is_bad, IsWhole, HeardAs, IsRefused, Speaks, Turns, Serves, closed, HoldsIn, is_answered, is_lost, was_refused, size_of, IsOneFrame, LinkCounts};
 
 use crate::host::Host;
 use crate::stage::{Said, Stage};
@@ -58,6 +58,7 @@ fn are_bytes(_bytes: &[u8])
 
 /// Takes until a buffer is full; answers whether that went well.
 fn fill_whole<L: Link>(link: &mut L, buf: &mut [u8]) -> bool
+    ensures link { LinkCounts (not result) (L.faults link.old) (L.faults link.new) }
     ensures came { MatchBool result (Came (λ journal. L.went link.old journal link.new) buf.new false) (Lost (λ journal. L.went link.old journal link.new)) }
 {
     match fill(link, buf) {
@@ -72,6 +73,7 @@ fn take_bytes<L: Link>(link: &mut L, page: &mut [u8; FRAME_BYTES]) -> Option<usi
     ensures short { IfSome result (λ size. size ≤ 2048) }
     ensures long { IfSome result (λ size. 8 ≤ size) }
     ensures whole { IfSome result (λ size. IsWhole (take size page.new)) }
+    ensures link { LinkCounts (is_none result) (L.faults link.old) (L.faults link.new) }
     ensures came { MatchOption result (Lost (λ journal. L.went link.old journal link.new)) (λ size. Came (λ journal. L.went link.old journal link.new) (take size page.new) false) }
 {
     let (header, rest) = page.split_at_mut(8);
@@ -99,6 +101,7 @@ impl Host {
         requires long { 8 ≤ length bytes.now }
         ensures same { IsSameHost self.old self.new }
         ensures fewer { IfNone result (steps_of self.new < steps_of self.old) }
+        ensures cut { IsWhole bytes.now → IfNone result (IsOneFrame bytes.now self.new) }
         ensures heard { IsWhole bytes.now → (held : Holding) (file : List ℕ) (stand : Stand) → Holds held file self.old → StandsAs self.old file [] stand
             → MatchOption result (HeardAs held file stand bytes.now self.new) (λ kind. IsRefused held stand bytes.now kind) }
     {
@@ -122,11 +125,13 @@ impl Host {
         ensures never_falls { D.faults depot.old ≤ D.faults depot.new }
         ensures appends { D.append_faults depot.new ≡ D.append_faults depot.old }
         ensures depot { D.contents depot.new ≡ D.contents depot.old }
+        ensures owed { is_some result ≡ owes self.old.stage }
         ensures none { IfNone result (self.new ≡ self.old) }
         ensures quiet { IfNone result (D.faults depot.new ≡ D.faults depot.old) }
         ensures nothing { IfNone result ((file : List ℕ) (owed : List channel.Frame) (stand : Stand) → StandsAs self.old file owed stand → owed ≡ []) }
         ensures short { IfSome result (λ said. said.size ≤ 2048) }
         ensures fewer { IfSome result (λ said. steps_of self.new < steps_of self.old) }
+        ensures rests { IfSome result (λ said. rests self.new.stage ≡ true) }
         ensures told { IfSome result (λ said. MatchBool said.refused (Rose (D.faults depot.old) (D.faults depot.new)) (D.faults depot.new ≡ D.faults depot.old)) }
         ensures said { IfSome result (λ said. RefusedAs self.old (D.faults depot.old) (D.faults depot.new) said.size out.new self.new
             ⊎ ((D.faults depot.new ≡ D.faults depot.old) × ((file : List ℕ) (owed : List channel.Frame) (stand : Stand)
@@ -150,9 +155,11 @@ impl Host {
         ensures appends { D.append_faults depot.new ≡ D.append_faults depot.old }
         ensures never_falls { D.faults depot.old ≤ D.faults depot.new }
         ensures nearer { steps_of self.new ≤ steps_of self.old }
+        ensures over { self.new.stage ≡ Stage.Over → self.old.stage ≡ Stage.Over }
+        ensures link { LinkCounts (not (is_ok result)) (L.faults link.old) (L.faults link.new) }
         ensures told { IfOk result (λ refused. MatchBool refused (Rose (D.faults depot.old) (D.faults depot.new)) (D.faults depot.new ≡ D.faults depot.old)) }
         ensures speaks { Speaks (λ journal. L.went link.old journal link.new) (is_ok result) (D.faults depot.old) (D.faults depot.new)
-            (λ file owed stand. (file_of (D.contents depot.old) (name_of self.old) ≡ Some file) × StandsAs self.old file owed stand) self.new }
+            (λ file owed stand. (file_of (D.contents depot.old) (name_of self.old) ≡ Some file) × StandsAs self.old file owed stand) self.old self.new }
     {
         let mut refused = false;
         'frames: loop {
@@ -183,6 +190,8 @@ impl Host {
         ensures never_falls { D.faults depot.old ≤ D.faults depot.new }
         ensures fewer { is_answered result ≡ true → steps_of self.new < steps_of self.old }
         ensures short { size_of result ≤ 2048 }
+        ensures link { LinkCounts (is_lost result) (L.faults link.old) (L.faults link.new) }
+        ensures untouched { is_bad result ≡ true → D.faults depot.new ≡ D.faults depot.old }
         ensures told { is_answered result ≡ true → MatchBool (was_refused result) (Rose (D.faults depot.old) (D.faults depot.new)) (D.faults depot.new ≡ D.faults depot.old) }
         ensures turns { Turns (λ journal. L.went link.old journal link.new) result (D.faults depot.old) (D.faults depot.new)
             (λ held file stand. (file_of (D.contents depot.old) (name_of self.old) ≡ Some file) × Holds held file self.old × StandsAs self.old file [] stand) self.new }
@@ -209,6 +218,8 @@ impl Host {
         ensures contents { D.contents depot.new ≡ D.contents depot.old }
         ensures appends { D.append_faults depot.new ≡ D.append_faults depot.old }
         ensures never_falls { D.faults depot.old ≤ D.faults depot.new }
+        ensures link_same { (result ≡ Served.Link → ⊥) → L.faults link.new ≡ L.faults link.old }
+        ensures link_rose { result ≡ Served.Link → LinkCounts true (L.faults link.old) (L.faults link.new) }
         ensures serves { Serves (λ journal. L.went link.old journal link.new) [] result (D.faults depot.old) (D.faults depot.new)
             (λ held. HoldsIn (λ file. file_of (D.contents depot.old) (name_of self.old) ≡ Some file) held self.old) }
     {
@@ -234,14 +245,18 @@ impl Host {
     /// Serves one key on a link that is connected, from the key's greeting to its farewell, and closes the link. The host
     /// awaits the greeting. The depot has the host's file.
     ///
-    /// The frames of the key may be cut anywhere. Each frame of the host is one send. Where a reading of the file fails, the
-    /// reply is refused and the session goes on.
+    /// The frames of the key may be cut anywhere. Each frame of the host is one send. Where a reading of the file fails, a
+    /// refusal stands in the place of the frame that would have come, which ends that ask; the session goes on, and the
+    /// frames of the key are judged so. `Link` comes where a move failed or the stream ended; else the link's count of
+    /// failed calls is as before.
     pub fn serve<L: Link, D: Depot>(&mut self, link: &mut L, depot: &mut D) -> Served
         requires begins { self.old.stage ≡ Stage.Greeting }
         ensures same { IsSameHost self.old self.new }
         ensures contents { D.contents depot.new ≡ D.contents depot.old }
         ensures appends { D.append_faults depot.new ≡ D.append_faults depot.old }
         ensures never_falls { D.faults depot.old ≤ D.faults depot.new }
+        ensures link_same { (result ≡ Served.Link → ⊥) → L.faults link.new ≡ L.faults link.old }
+        ensures link_rose { result ≡ Served.Link → LinkCounts true (L.faults link.old) (L.faults link.new) }
         ensures serves { Serves (λ journal. L.went link.old journal link.new) closed result (D.faults depot.old) (D.faults depot.new)
             (λ held. HoldsIn (λ file. file_of (D.contents depot.old) (name_of self.old) ≡ Some file) held self.old) }
     {

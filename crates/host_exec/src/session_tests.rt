@@ -81,3 +81,21 @@ fn each_call_of_a_session_may_fail(rt: HostRuntime) -> Result<(), BeginFault> {
     assert_eq!(rt; served, Served::Depot);
     Ok(())
 }
+
+/// A greeting, an ask that is refused, the next ask, the call for its end, and the farewell.
+const TWO_ASKS: &[u8] =
+    b"\x01\x01\0\x04\0\0\0\0\0\0\0\x01\x02\x01\0\x0E\0\0\0\x01\0\x01\x01\x01\x01\x01cardio\0\0\x02\x01\0\x0D\0\0\0\x02\x02\0\x01\x01\x06\x80\0\0\0\0\0\0\x05\x03\x01\0\0\0\0\0\x02\x04\x01\0\0\0\0\0\0";
+
+#[test]
+fn a_session_goes_on_after_a_refusal(rt: HostRuntime) -> Result<(), BeginFault> {
+    let served = serve(rt.alloc(), TWO_ASKS, &[], &[], &[8])?;
+    assert_eq!(rt; served, Served::Depot);
+    let (refused, _later) = TWO_ASKS.split_at(34);
+    let served = serve(rt.alloc(), refused, &[], &[], &[8])?;
+    assert_eq!(rt; served, Served::Link);
+    let served = serve(rt.alloc(), SESSION, &[], &[], &[8])?;
+    assert_eq!(rt; served, Served::BadRequest { kind: 3, at: 34 });
+    let served = serve(rt.alloc(), TWO_ASKS, &[], &[], &[])?;
+    assert_eq!(rt; served, Served::BadRequest { kind: 2, at: 34 });
+    Ok(())
+}

@@ -4,6 +4,7 @@
 //! done. `docs/SESSION.md` states both commands.
 #![tactic(auto)]
 
+mod broken_schema;
 pub mod choice;
 pub mod ending;
 pub mod telling;

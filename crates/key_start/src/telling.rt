@@ -2,6 +2,7 @@
 
 ghost use Rattle.std.specs.Prelude.{◌≡◌};
 
+use crate::broken_schema::schema_line;
 use crate::ending::Ended;
 use csv_split::{LoadFault, Place};
 use edge_traits::depot::Depot;
@@ -18,8 +19,8 @@ use tree_schema::{Schema, read_schema};
 pub const USAGE: &str =
     "usage: key_program plain --schema FILE --data FOLDER --script FILE, or key_program local --schema FILE --data FOLDER --flash FILE --script FILE --journal FILE";
 
-/// The line, without its end, that tells how a command ended: what is wrong, in which file, and in the file of a table
-/// in which record and column. To name table and column the schema is read once more.
+/// The line, without its end, that tells how a command ended: what is wrong, in which file, in the file of a table in
+/// which record and column, and in a schema at which table and column. To name these the schema is read once more.
 pub fn line_of<D: Depot>(
     alloc: Global,
     args: &[String],
@@ -62,9 +63,13 @@ fn plain_line<D: Depot>(
             Some(schema) => table_line(alloc, &schema, tables, broken),
             None => format!(in alloc; "{broken}"),
         },
-        PlainFault::Input(InputFault::SchemaBytes | InputFault::Schema(_)) => {
-            format!(in alloc; "{schema}: {fault}")
+        PlainFault::Input(InputFault::Schema(broken)) => {
+            match read_file(alloc, depot, schema, MAX_TEXT) {
+                Ok(text) => schema_line(alloc, schema, &text, broken),
+                Err(_) => format!(in alloc; "{schema}: {broken}"),
+            }
         }
+        PlainFault::Input(InputFault::SchemaBytes) => format!(in alloc; "{schema}: {fault}"),
         PlainFault::Input(InputFault::ScriptBytes | InputFault::ScriptTexts) => {
             format!(in alloc; "{script}: {fault}")
         }

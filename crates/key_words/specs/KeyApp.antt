@@ -22,10 +22,15 @@ local_app =
     with_rule (with_rule (with_rule (with_rule (with_rule (with_inputs (new_app (codes "local"))) (needed (codes "flash")))
     (needed (codes "script"))) (optional (codes "journal"))) (optional (codes "plan"))) (optional (codes "pace"))
 
+abbrev pub load_app : App
+load_app =
+    with_rule (with_rule (with_rule (with_inputs (new_app (codes "load"))) (needed (codes "flash"))) (needed (codes "visible")))
+    (optional (codes "blocks"))
+
 abbrev pub bare_app : App
 bare_app =
     on_top (λ shape. record shape { disable_help_flag = true; disable_help_subcommand = true; subcommand_required = true })
     (new_app (codes "key_program"))
 
 abbrev pub key_app : App
-key_app = with_subcommand (with_subcommand bare_app local_app.top) plain_app.top
+key_app = with_subcommand (with_subcommand (with_subcommand bare_app local_app.top) plain_app.top) load_app.top

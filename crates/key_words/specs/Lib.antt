@@ -1,3 +1,4 @@
+pub mod Blocks
 pub mod KeyApp
 pub mod Words
 pub mod Views

@@ -4,6 +4,7 @@ use Rattle.key_words.specs.Words as words
 use Rattle.key_words.specs.declared.words.KeyWords.{KeyWords}
 use Rattle.key_words.specs.declared.words.KeyWords.TheVariants as key
 use Rattle.key_words.specs.declared.words.LocalWords.{LocalWords}
+use Rattle.key_words.specs.declared.words.LoadWords.{LoadWords}
 use Rattle.key_words.specs.declared.words.PlainWords.{PlainWords}
 
 abbrev pub plain_view : PlainWords → words.Plain
@@ -18,6 +19,16 @@ local_view local = record {
   journal = option_map (λ name. name.now) local.journal;
 }
 
+abbrev pub load_view : LoadWords → words.Load
+load_view load = record {
+  schema = load.schema.now;
+  tables = load.tables.now;
+  flash = load.flash.now;
+  visible = load.visible.now;
+  blocks = load.blocks;
+}
+
 abbrev pub words_view : KeyWords → words.Command
 words_view (key.Local local) = words.LocalCommand (local_view local)
 words_view (key.Plain plain) = words.PlainCommand (plain_view plain)
+words_view (key.Load load) = words.LoadCommand (load_view load)

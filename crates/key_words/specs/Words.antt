@@ -1,10 +1,14 @@
 -- What the words of the program say: the reading of `clap`, and then the rule of each value. `--plan` takes `scan` alone,
--- which it is where it is left out, and `--pace` takes 0 alone, likewise.
-use Rattle.std.specs.Prelude.{ℕ, Bool, true, ◌&&◌, List, Option, Some, None, codes, bytes_eq, option_and_then, if◌then◌else◌}
+-- which it is where it is left out, and `--pace` takes 0 alone, likewise. `--blocks` takes a number from 1 to 60,000,000,
+-- as one to nine decimal digits, and may be left out.
+use Rattle.std.specs.Prelude.{ℕ, Bool, true, ◌&&◌, nat_le, List, length, Option, Some, None, codes, bytes_eq, option_map, option_and_then, if◌then◌else◌}
+use Rattle.std.specs.List.{list_all}
+use Rattle.ghost_model.specs.Tokens.{is_digit, is_between, number_of}
 use Rattle.clap.specs.Walk.{Row, Text, is_empty, first_of}
 use Rattle.clap.specs.Simple.{subcommand_of}
 use Rattle.clap.specs.Faults.{fault_of}
 use Rattle.key_words.specs.KeyApp.{key_app}
+use Rattle.key_words.specs.Blocks.{most_blocks}
 
 pub record Plain : Type 0 where
   pub schema : List ℕ
@@ -18,9 +22,17 @@ pub record Local : Type 0 where
   pub script : List ℕ
   pub journal : Option (List ℕ)
 
+pub record Load : Type 0 where
+  pub schema : List ℕ
+  pub tables : List ℕ
+  pub flash : List ℕ
+  pub visible : List ℕ
+  pub blocks : Option ℕ
+
 pub data Command : Type 0 where
   LocalCommand : Local → Command
   PlainCommand : Plain → Command
+  LoadCommand : Load → Command
 
 -- what `clap` reads; none where it refuses the words
 abbrev pub found : List Text → Option (Text × List Row)
@@ -51,9 +63,33 @@ local_of rows =
     then Some (LocalCommand (record { schema = schema; tables = tables; flash = flash; script = script; journal = first_of (codes "journal") rows }))
     else None))))
 
+-- the number of blocks that a value says
+abbrev pub is_block_number : Text → Bool
+is_block_number digits =
+    list_all is_digit digits && (nat_le (length digits) 9 && is_between 1 most_blocks (number_of digits))
+
+abbrev pub blocks_of : Text → Option ℕ
+blocks_of digits = if is_block_number digits then Some (number_of digits) else None
+
+-- what the option of that number says: nothing where it is left out; none where its value breaks the rule
+abbrev pub blocks_said : Option Text → Option (Option ℕ)
+blocks_said None = Some None
+blocks_said (Some digits) = option_map Some (blocks_of digits)
+
+abbrev pub with_blocks : (schema tables flash visible : List ℕ) → Option (Option ℕ) → Option Command
+with_blocks schema tables flash visible =
+    option_map (λ blocks. LoadCommand (record { schema = schema; tables = tables; flash = flash; visible = visible; blocks = blocks }))
+
+abbrev pub load_of : List Row → Option Command
+load_of rows =
+    needs rows (codes "schema") (λ schema. needs rows (codes "data") (λ tables. needs rows (codes "flash") (λ flash.
+    needs rows (codes "visible") (λ visible. with_blocks schema tables flash visible (blocks_said (first_of (codes "blocks") rows))))))
+
 abbrev pub command_of : Text → List Row → Option Command
 command_of name rows =
-    if bytes_eq name (codes "local") then local_of rows else if bytes_eq name (codes "plain") then plain_of rows else None
+    if bytes_eq name (codes "local")
+    then local_of rows
+    else if bytes_eq name (codes "plain") then plain_of rows else if bytes_eq name (codes "load") then load_of rows else None
 
 -- the command that was found
 abbrev pub said : Option (Text × List Row) → Option Command

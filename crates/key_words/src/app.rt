@@ -64,6 +64,17 @@ fn local_command<'a>(alloc: Global) -> Result<Command<'a>, AllocError>
     with_optional(alloc, command, "pace")
 }
 
+/// The command `load`.
+fn load_command<'a>(alloc: Global) -> Result<Command<'a>, AllocError>
+    ensures app { IfOk result (λ c. app_of c ≡ app.load_app) }
+    ensures global { IfOk result (λ c. (out-Command c).has_globals ≡ false) }
+{
+    let command = reading_inputs(alloc, "load")?;
+    let command = with_needed(alloc, command, "flash")?;
+    let command = with_needed(alloc, command, "visible")?;
+    with_optional(alloc, command, "blocks")
+}
+
 /// The program without its commands.
 fn bare_program<'a>(alloc: Global) -> Command<'a>
     ensures app { app_of result ≡ app.bare_app }
@@ -82,5 +93,9 @@ pub fn program<'a>(alloc: Global) -> Result<Command<'a>, AllocError>
 {
     let local = local_command(alloc)?;
     let plain = plain_command(alloc)?;
-    bare_program(alloc).subcommand(local)?.subcommand(plain)
+    let load = load_command(alloc)?;
+    bare_program(alloc)
+        .subcommand(local)?
+        .subcommand(plain)?
+        .subcommand(load)
 }

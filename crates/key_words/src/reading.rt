@@ -8,8 +8,8 @@ ghost use Rattle.key_words.specs.Words as words;
 ghost use Rattle.key_words.specs.Views.{words_view};
 
 use crate::app::program;
-use crate::values::is_or_left_out;
-use crate::words::{KeyWords, LocalWords, PlainWords, UsageFault, WordsFault};
+use crate::values::{is_or_left_out, read_blocks};
+use crate::words::{KeyWords, LoadWords, LocalWords, PlainWords, UsageFault, WordsFault};
 use clap::ArgMatches;
 use clap::error::ErrorKind;
 use std::alloc::Global;
@@ -58,6 +58,9 @@ fn named_command<'a>(name: &str, options: &ArgMatches<'a>) -> Result<KeyWords<'a
     if name.as_bytes() == "plain".as_bytes() {
         return plain_of(options);
     }
+    if name.as_bytes() == "load".as_bytes() {
+        return load_of(options);
+    }
     Err(UsageFault::Words)
 }
 
@@ -87,6 +90,35 @@ fn plain_of<'a>(options: &ArgMatches<'a>) -> Result<KeyWords<'a>, UsageFault>
         tables,
         script,
     }))
+}
+
+/// The words of `load`.
+fn load_of<'a>(options: &ArgMatches<'a>) -> Result<KeyWords<'a>, UsageFault>
+    ensures read { IfOk result (λ command. words.load_of (rows_of (found_of options.now)) ≡ Some (words_view command)) }
+    ensures usage { (fault : UsageFault) → result ≡ Err fault → words.load_of (rows_of (found_of options.now)) ≡ None }
+{
+    let Some(schema) = value_of(options, "schema") else {
+        return Err(UsageFault::Words);
+    };
+    let Some(tables) = value_of(options, "data") else {
+        return Err(UsageFault::Words);
+    };
+    let Some(flash) = value_of(options, "flash") else {
+        return Err(UsageFault::Words);
+    };
+    let Some(visible) = value_of(options, "visible") else {
+        return Err(UsageFault::Words);
+    };
+    match read_blocks(value_of(options, "blocks")) {
+        Some(blocks) => Ok(KeyWords::Load(LoadWords {
+            schema,
+            tables,
+            flash,
+            visible,
+            blocks,
+        })),
+        None => Err(UsageFault::Blocks),
+    }
 }
 
 /// The words of `local`.

@@ -3,8 +3,9 @@
 use crate::{KeyWords, UsageFault, WordsFault, read_words};
 use std::alloc::{AllocError, Global};
 
-/// What the words are read as: 0 for nothing, 1 for `local`, 2 for `local` with a journal, 3 for `plain`, and 4 on for
-/// what is wrong.
+/// What the words are read as: 0 for nothing, 1 for `local`, 2 for `local` with a journal, 3 for `plain`, 4 to 6 for
+/// what is wrong, 7 for `load` with no number of blocks, 8 with 14, 9 with another one, and 10 for a number of blocks that
+/// is refused.
 fn read(alloc: Global, line: &str) -> Result<u8, AllocError> {
     let mut words: Vec<String> = Vec::new(alloc);
     for word in line.split(' ') {
@@ -16,10 +17,16 @@ fn read(alloc: Global, line: &str) -> Result<u8, AllocError> {
             Some(_) => 2,
         },
         Ok(KeyWords::Plain(_)) => 3,
+        Ok(KeyWords::Load(load)) => match load.blocks {
+            None => 7,
+            Some(14) => 8,
+            Some(_) => 9,
+        },
         Err(WordsFault::NoMemory) => 0,
         Err(WordsFault::Usage(UsageFault::Words)) => 4,
         Err(WordsFault::Usage(UsageFault::Plan)) => 5,
         Err(WordsFault::Usage(UsageFault::Pace)) => 6,
+        Err(WordsFault::Usage(UsageFault::Blocks)) => 10,
     })
 }
 
@@ -53,6 +60,49 @@ fn words_are_read(rt: HostRuntime) -> Result<(), AllocError> {
         ("k local --schema s --data d --script q", 4),
         (
             "k local --schema s --data d --flash f --script q --buffers 8",
+            4,
+        ),
+        ("k load --schema s --data d --flash f --visible v", 7),
+        (
+            "k load --blocks=14 --visible v --flash f --data d --schema s",
+            8,
+        ),
+        (
+            "k load --schema s --data d --flash f --visible v --blocks 000000014",
+            8,
+        ),
+        (
+            "k load --schema s --data d --flash f --visible v --blocks 60000000",
+            9,
+        ),
+        (
+            "k load --schema s --data d --flash f --visible v --blocks 60000001",
+            10,
+        ),
+        (
+            "k load --schema s --data d --flash f --visible v --blocks 0000000014",
+            10,
+        ),
+        (
+            "k load --schema s --data d --flash f --visible v --blocks 0",
+            10,
+        ),
+        (
+            "k load --schema s --data d --flash f --visible v --blocks +1",
+            10,
+        ),
+        (
+            "k load --schema s --data d --flash f --visible v --blocks 1x",
+            10,
+        ),
+        ("k load --schema s --data d --flash f", 4),
+        ("k load --schema s --data d --visible v", 4),
+        (
+            "k load --schema s --data d --flash f --visible v --blocks",
+            4,
+        ),
+        (
+            "k load --schema s --data d --flash f --visible v --script q",
             4,
         ),
         ("k", 4),

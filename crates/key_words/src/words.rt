@@ -1,5 +1,8 @@
 //! What the words of the program say.
 
+ghost use Rattle.std.proofs.Props.{props};
+ghost use Rattle.key_words.specs.Blocks.{IsFew};
+
 use thiserror::Error;
 
 /// The words of `plain`.
@@ -13,6 +16,26 @@ pub struct PlainWords<'a> {
 
     /// The file of the script.
     pub script: &'a str,
+}
+
+/// The words of `load`.
+#[derive(Clone, Copy, Debug)]
+pub struct LoadWords<'a> {
+    /// The file of the schema.
+    pub schema: &'a str,
+
+    /// The folder of the tables' files.
+    pub tables: &'a str,
+
+    /// The file of the flash.
+    pub flash: &'a str,
+
+    /// The host's file.
+    pub visible: &'a str,
+
+    /// How many blocks the flash is to have, from 1 to 60,000,000; where this is left out, as many as are needed.
+    pub blocks: Option<u32>,
+    pub ghost few: { IsFew blocks } by { Prim.hlevel props },
 }
 
 /// The words of `local`.
@@ -42,6 +65,9 @@ pub enum KeyWords<'a> {
 
     /// The plain answer, with no key and no channel.
     Plain(PlainWords<'a>),
+
+    /// The making of both ends' files.
+    Load(LoadWords<'a>),
 }
 
 /// What is wrong with the words.
@@ -58,6 +84,10 @@ pub enum UsageFault {
     /// `--pace` has a value that it does not take.
     #[error("--pace takes 0 alone")]
     Pace,
+
+    /// `--blocks` has a value that it does not take.
+    #[error("--blocks takes a number from 1 to 60000000, of at most 9 digits")]
+    Blocks,
 }
 
 /// Why no command was read.

@@ -1,7 +1,7 @@
-use Rattle.std.proofs.Common.{◌≡◌, ◌+◌, ◌++◌, rules, ap, sym, subst, ◌∙◌, length, take, append_assoc, length-append, arith, false}
+use Rattle.std.proofs.Common.{◌≡◌, ◌+◌, ◌++◌, rules, ap, sym, subst, ◌∙◌, length, take, append_assoc, length-append, arith, true, false}
 use Rattle.channel_codec.specs.Views.{frame_view, got_view}
 use Rattle.host_exec.specs.Sessions.{IsWhole}
-use Rattle.host_exec.proofs.Heard.{came_as, came_more, lost_more, front_of, whole_header, whole_frame, found_not_short, bad_not_short}
+use Rattle.host_exec.proofs.Heard.{came_as, link_more, came_more, lost_more, front_of, whole_header, whole_frame, found_not_short, bad_not_short}
 use Rattle.host_exec.proofs.session.take_bytes.Goals as goal
 
 pub returns-then-not-fill_whole-2-clause-came : goal.returns-then-not-fill_whole-2-clause-came
@@ -44,6 +44,7 @@ returns-in-Frame g c =
       long = omega arith;
       whole = subst IsWhole (sym front)
           (whole_header header one c.are_bytes.ensures (found_not_short header (frame_view c.in-Frame.field-0) (sym (c.frame_of.ensures) ∙ ap got_view c.in-Frame.is)));
+      link = c.if-not-fill_whole.ensures.link;
       came = came_as _ _ _ false (sym front) c.if-not-fill_whole.ensures.came;
     }
 
@@ -57,5 +58,12 @@ returns-in-Bad g c =
       long = omega arith;
       whole = subst IsWhole (sym front)
           (whole_header header one c.are_bytes.ensures (bad_not_short header c.in-Bad.field-0 (sym (c.frame_of.ensures) ∙ ap got_view c.in-Bad.is)));
+      link = c.if-not-fill_whole.ensures.link;
       came = came_as _ _ _ false (sym front) c.if-not-fill_whole.ensures.came;
     }
+
+pub returns-then-not-fill_whole-2-clause-link : goal.returns-then-not-fill_whole-2-clause-link
+returns-then-not-fill_whole-2-clause-link g c = link_more true _ _ _ c.if-not-fill_whole.ensures.link c.if-not-fill_whole-2.ensures.link
+
+pub returns-else-not-fill_whole-2-clause-link : goal.returns-else-not-fill_whole-2-clause-link
+returns-else-not-fill_whole-2-clause-link g c = link_more false _ _ _ c.if-not-fill_whole.ensures.link c.if-not-fill_whole-2.ensures.link

@@ -19,6 +19,7 @@ pub returns-in_default : goal.returns-in_default
 returns-in_default c = record {
   same = search rules;
   kept = λ _. refl;
+  farewell = λ e. search rules;
   busy = λ _. refl;
   fewer = λ e. search rules;
   silent = λ file stand stands.

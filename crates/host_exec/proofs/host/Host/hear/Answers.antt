@@ -1,9 +1,20 @@
-use Rattle.std.proofs.Common.{◌≡◌, ap, sym, ◌∙◌}
+use Rattle.std.proofs.Common.{◌≡◌, refl, ap, sym, ◌∙◌}
 use Rattle.ghost_model.specs.Frames.{Found, got_of}
 use Rattle.channel_codec.specs.Views.{frame_view, got_view}
 use Rattle.host_exec.proofs.Heard.{was_heard, was_refused}
 use Rattle.host_exec.proofs.Going.{rule_broken}
 use Rattle.host_exec.proofs.host.Host.hear.Goals as goal
+
+pub returns-then-feed-clause-cut : goal.returns-then-feed-clause-cut
+returns-then-feed-clause-cut c whole =
+    let got : got_of c.args.bytes.now ≡ Found (frame_view c.in-Frame.frame) = sym (c.frame_of.ensures) ∙ ap got_view c.in-Frame.is in
+    let exact = whole.exact (frame_view c.in-Frame.frame) got in
+    record {
+      frame = frame_view c.in-Frame.frame;
+      fits = exact.0;
+      spelled = exact.1;
+      last = λ over. c.if-feed.ensures.farewell refl over;
+    }
 
 pub returns-then-feed-clause-heard : goal.returns-then-feed-clause-heard
 returns-then-feed-clause-heard c whole held file stand holds stands =

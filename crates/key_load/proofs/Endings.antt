@@ -1,0 +1,132 @@
+-- How a loading ended, from what its parts did.
+use Rattle.std.proofs.Common.{◌≡◌, ℕ, ◌≤◌, ◌<◌, ◌*◌, Bool, true, false, List, Result, Ok, Err, OnOk, ap, subst, ◌∙◌}
+use Rattle.ghost_model.specs.Database.{IsDatabase}
+use Rattle.ghost_model.specs.Flash.{HoldsCatalog, HoldsColumns}
+use Rattle.ghost_model.specs.Layout.{need}
+use Rattle.ghost_model.specs.Schema.{Schema}
+use Rattle.ghost_model.specs.Split.{Hidden, hidden_of}
+use Rattle.ghost_model.specs.Values.{Database}
+use Rattle.ghost_model.specs.Channel.{Catalog}
+use Rattle.edge_traits.specs.Files.{with_file}
+use Rattle.edge_traits.specs.Written.{grown, GrowsByFront}
+use Rattle.key_inputs.specs.Openings.{Opening, TablesInput}
+use Rattle.key_inputs.specs.Views.{AreSpelled}
+use Rattle.key_inputs.specs.declared.opening.Input.{Input}
+use Rattle.key_words.specs.Words.{Load}
+use Rattle.key_load.specs.Loadings.{catalog_for, pages_for, loaded_line}
+use Rattle.key_load.specs.Preparing.{IsPrepared}
+use Rattle.key_load.specs.Results.{World, Loading, loading, catalog_in, pages_in, HasHostFile, Stands, EndsLoading, Ends, EndsSome, IsOfMaking}
+use Rattle.key_load.specs.declared.failures.LoadFailure.{LoadFailure}
+use Rattle.key_load.specs.declared.failures.LoadFailure.TheVariants as failure
+use Rattle.key_load.specs.declared.preparing.Prepared.{Prepared}
+
+pub on_ok : {T E : Type 0} (result : Result T E) (P : Type 0) → P → OnOk result P
+on_ok (Ok value) P holds = holds
+on_ok (Err fault) P holds = tt
+
+-- the writing failed
+pub failed : {T : Type 0} (result : Result T LoadFailure) (told : Bool) (one : Loading) (before after : World) (fault : LoadFailure) → IsOfMaking {T = T} (Err fault)
+    → need (catalog_in one) ≤ pages_in one
+    → (0 < after.device.page_count → after.device.blank 0 ≡ false → HasHostFile one before after)
+    → (0 < after.device.page_count → after.device.blank 0 ≡ false → told ≡ true → HoldsColumns after.device.page (catalog_in one) (hidden_of one.schema one.database))
+    → EndsLoading {T = T} told one (Err fault) before after
+failed result told one before after failure.NoMemory of enough file columns = tt
+failed result told one before after failure.Depot of enough file columns = tt
+failed result told one before after (failure.Input broken) of enough file columns = of
+failed result told one before after (failure.TooSmall needed had) of enough file columns = absurd of
+failed result told one before after failure.Flash of enough file columns = record { enough = enough; file = file; columns = columns }
+failed result told one before after failure.Sink of enough file columns = absurd of
+
+module _ {T : Type 0} where
+  -- a loading ended so of the tables that the files spell
+  pub ends_spelled : (told : Bool) (opening : Opening TablesInput) (input : Input) (words : Load) (result : Result T LoadFailure) (before after : World)
+      → AreSpelled opening input → EndsLoading told (loading input.schema input.tables words) result before after
+      → Ends told opening words result before after
+  ends_spelled told opening input words (Ok done) before after are ended = record {
+    input = record { schema = input.schema; files = are.files };
+    spelled = are.spelled;
+    ended = subst (λ (database : Database). EndsLoading told (loading input.schema database words) (Ok done) before after) are.tables ended;
+  }
+  ends_spelled told opening input words (Err failure.NoMemory) before after are ended = tt
+  ends_spelled told opening input words (Err failure.Depot) before after are ended = tt
+  ends_spelled told opening input words (Err (failure.Input broken)) before after are ended = absurd ended
+  ends_spelled told opening input words (Err (failure.TooSmall needed had)) before after are ended = record {
+    input = record { schema = input.schema; files = are.files };
+    spelled = are.spelled;
+    ended = subst (λ (database : Database). EndsLoading {T = T} told (loading input.schema database words) (Err (failure.TooSmall needed had)) before after) are.tables ended;
+  }
+  ends_spelled told opening input words (Err failure.Flash) before after are ended = record {
+    input = record { schema = input.schema; files = are.files };
+    spelled = are.spelled;
+    ended = subst (λ (database : Database). EndsLoading {T = T} told (loading input.schema database words) (Err failure.Flash) before after) are.tables ended;
+  }
+  ends_spelled told opening input words (Err failure.Sink) before after are ended = record {
+    input = record { schema = input.schema; files = are.files };
+    spelled = are.spelled;
+    ended = subst (λ (database : Database). EndsLoading {T = T} told (loading input.schema database words) (Err failure.Sink) before after) are.tables ended;
+  }
+
+  -- a loading ended so of some database
+  pub ends_some : (told : Bool) (schema : Schema) (database : Database) (words : Load) (result : Result T LoadFailure) (before after : World)
+      → IsDatabase schema database → EndsLoading told (loading schema database words) result before after
+      → EndsSome told words result before after
+  ends_some told schema database words (Ok done) before after are ended =
+      record { schema = schema; database = database; are = are; ended = ended }
+  ends_some told schema database words (Err failure.NoMemory) before after are ended = tt
+  ends_some told schema database words (Err failure.Depot) before after are ended = tt
+  ends_some told schema database words (Err (failure.Input broken)) before after are ended = tt
+  ends_some told schema database words (Err (failure.TooSmall needed had)) before after are ended =
+      record { schema = schema; database = database; are = are; ended = ended }
+  ends_some told schema database words (Err failure.Flash) before after are ended =
+      record { schema = schema; database = database; are = are; ended = ended }
+  ends_some told schema database words (Err failure.Sink) before after are ended =
+      record { schema = schema; database = database; are = are; ended = ended }
+
+module _ (schema : Schema) (database : Database) (words : Load) (prepared : Prepared) where
+  pub large_enough : IsPrepared schema database words.blocks prepared → need prepared.cat ≤ 64 * prepared.blocks
+      → need (catalog_for schema database) ≤ pages_for (catalog_for schema database) words.blocks
+  large_enough are enough =
+      subst (λ blocks. need (catalog_for schema database) ≤ 64 * blocks) are.blocks
+      (subst (λ (cat : Catalog). need cat ≤ 64 * prepared.blocks) are.cat enough)
+
+  pub host_file : IsPrepared schema database words.blocks prepared → (before after : World)
+      → after.files ≡ with_file before.files words.visible prepared.image.items → HasHostFile (loading schema database words) before after
+  host_file are before after file = file ∙ ap (λ bytes. with_file before.files words.visible bytes) are.image
+
+  pub columns_stand : IsPrepared schema database words.blocks prepared → (page : ℕ → List ℕ)
+      → HoldsColumns page prepared.cat prepared.hidden → HoldsColumns page (catalog_for schema database) (hidden_of schema database)
+  columns_stand are page holds =
+      subst (λ (hidden : Hidden). HoldsColumns page (catalog_for schema database) hidden) are.hidden
+      (subst (λ (cat : Catalog). HoldsColumns page cat prepared.hidden) are.cat holds)
+
+  -- what was prepared stands
+  pub stands : (told : Bool) → IsPrepared schema database words.blocks prepared → (before after : World)
+      → need prepared.cat ≤ 64 * prepared.blocks
+      → (told ≡ true → HoldsCatalog after.device.page prepared.cat)
+      → (told ≡ true → HoldsColumns after.device.page prepared.cat prepared.hidden)
+      → after.device.page_count ≡ 64 * prepared.blocks
+      → after.files ≡ with_file before.files words.visible prepared.image.items
+      → Stands told (loading schema database words) before after
+  stands told are before after enough catalog columns pages file = record {
+    catalog = λ t. subst (λ (cat : Catalog). HoldsCatalog after.device.page cat) are.cat (catalog t);
+    columns = λ t. columns_stand are after.device.page (columns t);
+    pages = pages ∙ ap (λ blocks. 64 * blocks) are.blocks;
+    enough = large_enough are enough;
+    file = host_file are before after file;
+  }
+
+  same_line : IsPrepared schema database words.blocks prepared
+      → loaded_line prepared.cat (64 * prepared.blocks) ≡ loaded_line (catalog_for schema database) (pages_for (catalog_for schema database) words.blocks)
+  same_line are =
+      ap (λ (cat : Catalog). loaded_line cat (64 * prepared.blocks)) are.cat
+      ∙ ap (λ blocks. loaded_line (catalog_for schema database) (64 * blocks)) are.blocks
+
+  pub printed : IsPrepared schema database words.blocks prepared → (before after : World)
+      → after.written ≡ grown before.written (loaded_line prepared.cat (64 * prepared.blocks))
+      → after.written ≡ grown before.written (loaded_line (catalog_for schema database) (pages_for (catalog_for schema database) words.blocks))
+  printed are before after h = h ∙ ap (λ line. grown before.written line) (same_line are)
+
+  pub front_printed : IsPrepared schema database words.blocks prepared → (before after : World)
+      → GrowsByFront before.written (loaded_line prepared.cat (64 * prepared.blocks)) after.written
+      → GrowsByFront before.written (loaded_line (catalog_for schema database) (pages_for (catalog_for schema database) words.blocks)) after.written
+  front_printed are before after h = subst (λ line. GrowsByFront before.written line after.written) (same_line are) h

@@ -1,0 +1,3 @@
+pub mod Loadings
+pub mod Preparing
+pub mod Results

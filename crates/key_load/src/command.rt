@@ -1,0 +1,143 @@
+//! The command.
+
+ghost use Rattle.std.specs.Prelude.{◌≡◌, ◌⊎◌, ◌≤◌, ◌*◌, true, false, Some, Err};
+ghost use Rattle.ghost_model.specs.Causes.{Rose};
+ghost use Rattle.ghost_model.specs.Database.{IsDatabase};
+ghost use Rattle.ghost_model.specs.Layout as layout;
+ghost use Rattle.ghost_model.specs.Schema.{Schema};
+ghost use Rattle.ghost_model.specs.Values.{Database};
+ghost use Rattle.edge_traits.specs.Files.{Files, SameBut};
+ghost use Rattle.flash_build.specs.Building.{IsHiddenPart};
+ghost use Rattle.key_words.specs.Blocks.{most_blocks};
+ghost use Rattle.key_words.specs.Views.{load_view};
+ghost use Rattle.key_inputs.specs.Openings.{Spelled, TablesInput, tables_opening};
+ghost use Rattle.key_load.specs.Results.{Ends, EndsSome, EndsLoading, IsUnsealed, HasBlankPage0, is_faultless, makes_nothing, leaves_file, leaves_page_0, writes_nothing, world, loading};
+ghost use Rattle.key_load.specs.Preparing.{IsPrepared};
+ghost use Rattle.key_load.specs.declared.failures.LoadFailure.TheVariants as failure;
+
+use crate::failures::LoadFailure;
+use crate::line::print_line;
+use crate::making::make_both;
+use crate::preparing::{Prepared, prepare};
+use edge_traits::depot::Depot;
+use edge_traits::flash::{BLOCK_PAGES, Flash};
+use edge_traits::sink::Sink;
+use key_inputs::{Input, OpenFault, open_tables};
+use key_words::LoadWords;
+use std::alloc::Global;
+
+/// Does the command `load`: reads the schema and the files of its tables, makes the flash and writes the files of the
+/// hidden part to it, then writes the host's file, then the catalog's pages from the last to page 0, and prints
+/// `= tables t rows r pages p`.
+///
+/// Until the flash is made, it and the host's file are as before. As long as page 0 is blank, its pages spell no catalog.
+/// Where only the line could not be printed, both files stand.
+pub fn load<D: Depot, F: Flash, O: Sink>(
+    alloc: Global,
+    words: &LoadWords<'_>,
+    depot: &mut D,
+    flash: &mut F,
+    out: &mut O,
+) -> Result<(), LoadFailure>
+    ensures ends { (files : Files) → D.contents depot.old ≡ Some files
+        → Ends F.told (tables_opening files words.now.schema.now words.now.tables.now) (load_view words.now) result
+        (world (F.state flash.old) (D.contents depot.old) (O.written out.old)) (world (F.state flash.new) (D.contents depot.new) (O.written out.new)) }
+    ensures loads { EndsSome F.told (load_view words.now) result
+        (world (F.state flash.old) (D.contents depot.old) (O.written out.old)) (world (F.state flash.new) (D.contents depot.new) (O.written out.new)) }
+    ensures complete { (files : Files) → (input : TablesInput) → D.contents depot.old ≡ Some files
+        → (Rose (D.faults depot.old) (D.faults depot.new) → ⊥) → (Rose (F.state flash.old).faults (F.state flash.new).faults → ⊥) → (Rose (O.faults out.old) (O.faults out.new) → ⊥)
+        → tables_opening files words.now.schema.now words.now.tables.now ≡ Spelled input → is_faultless result ≡ true }
+    ensures nothing_written { writes_nothing result ≡ true → O.written out.new ≡ O.written out.old }
+    ensures nothing_made { makes_nothing result ≡ true → F.state flash.new ≡ F.state flash.old }
+    ensures file_left { leaves_file result ≡ true → D.contents depot.new ≡ D.contents depot.old }
+    ensures made_first { (F.state flash.new).page_count ≡ 0 → D.contents depot.new ≡ D.contents depot.old }
+    ensures page_0 { leaves_page_0 result ≡ true → (F.state flash.new ≡ F.state flash.old) ⊎ HasBlankPage0 (F.state flash.new) }
+    ensures unsealed { (F.state flash.new ≡ F.state flash.old) ⊎ IsUnsealed F.told (F.state flash.new) }
+    ensures others { SameBut words.now.visible.now (D.contents depot.old) (D.contents depot.new) }
+    ensures sink { result ≡ Err failure.Sink → Rose (O.faults out.old) (O.faults out.new) }
+    ensures no_sink { (result ≡ Err failure.Sink → ⊥) → O.faults out.new ≡ O.faults out.old }
+    ensures flash { result ≡ Err failure.Flash → Rose (F.state flash.old).faults (F.state flash.new).faults }
+    ensures no_flash { (result ≡ Err failure.Flash → ⊥) → (F.state flash.new).faults ≡ (F.state flash.old).faults }
+    ensures depot { result ≡ Err failure.Depot → Rose (D.faults depot.old) (D.faults depot.new) }
+    ensures no_depot { (result ≡ Err failure.Depot → ⊥) → D.faults depot.new ≡ D.faults depot.old }
+    ensures appends { D.append_faults depot.new ≡ D.append_faults depot.old }
+{
+    match open_tables(alloc, words.schema, words.tables, depot) {
+        Ok(input) => load_input(alloc, input, words, depot, flash, out),
+        Err(OpenFault::NoMemory) => Err(LoadFailure::NoMemory),
+        Err(OpenFault::Depot) => Err(LoadFailure::Depot),
+        Err(OpenFault::Input(fault)) => Err(LoadFailure::Input(fault)),
+    }
+}
+
+/// Loads tables that were read.
+fn load_input<D: Depot, F: Flash, O: Sink>(
+    alloc: Global,
+    input: Input,
+    words: &LoadWords<'_>,
+    depot: &mut D,
+    flash: &mut F,
+    out: &mut O,
+) -> Result<(), LoadFailure>
+    requires database { IsDatabase input.schema input.tables }
+    ensures ends { EndsLoading F.told (loading input.schema input.tables (load_view words.now)) result
+        (world (F.state flash.old) (D.contents depot.old) (O.written out.old)) (world (F.state flash.new) (D.contents depot.new) (O.written out.new)) }
+    ensures nothing_written { writes_nothing result ≡ true → O.written out.new ≡ O.written out.old }
+    ensures nothing_made { makes_nothing result ≡ true → F.state flash.new ≡ F.state flash.old }
+    ensures file_left { leaves_file result ≡ true → D.contents depot.new ≡ D.contents depot.old }
+    ensures made_first { (F.state flash.new).page_count ≡ 0 → D.contents depot.new ≡ D.contents depot.old }
+    ensures page_0 { leaves_page_0 result ≡ true → (F.state flash.new ≡ F.state flash.old) ⊎ HasBlankPage0 (F.state flash.new) }
+    ensures unsealed { (F.state flash.new ≡ F.state flash.old) ⊎ IsUnsealed F.told (F.state flash.new) }
+    ensures others { SameBut words.now.visible.now (D.contents depot.old) (D.contents depot.new) }
+    ensures sink { result ≡ Err failure.Sink → Rose (O.faults out.old) (O.faults out.new) }
+    ensures no_sink { (result ≡ Err failure.Sink → ⊥) → O.faults out.new ≡ O.faults out.old }
+    ensures flash { result ≡ Err failure.Flash → Rose (F.state flash.old).faults (F.state flash.new).faults }
+    ensures no_flash { (result ≡ Err failure.Flash → ⊥) → (F.state flash.new).faults ≡ (F.state flash.old).faults }
+    ensures depot { result ≡ Err failure.Depot → Rose (D.faults depot.old) (D.faults depot.new) }
+    ensures no_depot { (result ≡ Err failure.Depot → ⊥) → D.faults depot.new ≡ D.faults depot.old }
+    ensures appends { D.append_faults depot.new ≡ D.append_faults depot.old }
+{
+    match prepare(alloc, input, words.blocks) {
+        Ok(prepared) => load_prepared(alloc, &prepared, words, depot, flash, out),
+        Err(fault) => Err(fault),
+    }
+}
+
+/// Writes what was prepared, and prints the line.
+fn load_prepared<D: Depot, F: Flash, O: Sink>(
+    alloc: Global,
+    prepared: &Prepared,
+    words: &LoadWords<'_>,
+    depot: &mut D,
+    flash: &mut F,
+    out: &mut O,
+) -> Result<(), LoadFailure>
+    requires part { IsHiddenPart prepared.now.cat prepared.now.hidden }
+    requires enough { layout.need prepared.now.cat ≤ 64 * prepared.now.blocks }
+    requires most { prepared.now.blocks ≤ most_blocks }
+    ensures ends { (schema : Schema) → (database : Database) → IsPrepared schema database words.now.blocks prepared.now
+        → EndsLoading F.told (loading schema database (load_view words.now)) result
+        (world (F.state flash.old) (D.contents depot.old) (O.written out.old)) (world (F.state flash.new) (D.contents depot.new) (O.written out.new)) }
+    ensures nothing_written { writes_nothing result ≡ true → O.written out.new ≡ O.written out.old }
+    ensures made { makes_nothing result ≡ false }
+    ensures file_left { leaves_file result ≡ true → D.contents depot.new ≡ D.contents depot.old }
+    ensures made_first { (F.state flash.new).page_count ≡ 0 → D.contents depot.new ≡ D.contents depot.old }
+    ensures page_0 { leaves_page_0 result ≡ true → HasBlankPage0 (F.state flash.new) }
+    ensures unsealed { IsUnsealed F.told (F.state flash.new) }
+    ensures others { SameBut words.now.visible.now (D.contents depot.old) (D.contents depot.new) }
+    ensures sink { result ≡ Err failure.Sink → Rose (O.faults out.old) (O.faults out.new) }
+    ensures no_sink { (result ≡ Err failure.Sink → ⊥) → O.faults out.new ≡ O.faults out.old }
+    ensures flash { result ≡ Err failure.Flash → Rose (F.state flash.old).faults (F.state flash.new).faults }
+    ensures no_flash { (result ≡ Err failure.Flash → ⊥) → (F.state flash.new).faults ≡ (F.state flash.old).faults }
+    ensures depot { result ≡ Err failure.Depot → Rose (D.faults depot.old) (D.faults depot.new) }
+    ensures no_depot { (result ≡ Err failure.Depot → ⊥) → D.faults depot.new ≡ D.faults depot.old }
+    ensures appends { D.append_faults depot.new ≡ D.append_faults depot.old }
+{
+    match make_both(alloc, prepared, words, depot, flash) {
+        Ok(()) => match print_line(&prepared.cat, BLOCK_PAGES * prepared.blocks, out) {
+            Ok(()) => Ok(()),
+            Err(_) => Err(LoadFailure::Sink),
+        },
+        Err(fault) => Err(fault),
+    }
+}

@@ -1,0 +1,37 @@
+//! Why the command ended early.
+
+use key_inputs::InputFault;
+use thiserror::Error;
+
+/// Why the command ended before its line was printed.
+#[derive(Clone, Copy, Debug, Drop, Error, PartialEq, Eq)]
+pub enum LoadFailure {
+    /// There was no memory for what the files hold.
+    #[error("out of memory")]
+    NoMemory,
+
+    /// A file could not be read, or the host's file could not be written.
+    #[error("a file could not be read or written")]
+    Depot,
+
+    /// A rule of an input is broken.
+    #[error("{0}")]
+    Input(InputFault),
+
+    /// The flash was to have fewer pages than the tables need.
+    #[error("the flash would have {have} pages and needs {need}")]
+    TooSmall {
+        /// The pages that the tables need.
+        need: u32,
+        /// The pages that the flash was to have.
+        have: u32,
+    },
+
+    /// The flash could not be made or written.
+    #[error("the flash failed")]
+    Flash,
+
+    /// The line could not be printed.
+    #[error("the line could not be printed")]
+    Sink,
+}

@@ -1,0 +1,102 @@
+//! The writing of both ends' files.
+
+ghost use Rattle.std.specs.Prelude.{◌≡◌, ◌<◌, ◌≤◌, ◌*◌, true, false, Err, OnOk, OnErr};
+ghost use Rattle.ghost_model.specs.Causes.{Rose};
+ghost use Rattle.ghost_model.specs.Flash.{HoldsCatalog, HoldsColumns};
+ghost use Rattle.ghost_model.specs.Layout as layout;
+ghost use Rattle.ghost_model.specs.Split.{Hidden};
+ghost use Rattle.edge_traits.specs.Devices.{IsErased};
+ghost use Rattle.edge_traits.specs.Files.{SameBut, with_file};
+ghost use Rattle.flash_build.specs.Building.{IsHiddenPart};
+ghost use Rattle.flash_build.specs.Sealing.{SpellsNoCatalog};
+ghost use Rattle.key_words.specs.Blocks.{most_blocks};
+ghost use Rattle.key_load.specs.Results.{IsOfMaking, IsOfWriting, leaves_file, leaves_page_0};
+ghost use Rattle.key_load.specs.declared.failures.LoadFailure.TheVariants as failure;
+
+use crate::failures::LoadFailure;
+use crate::preparing::Prepared;
+use edge_traits::depot::Depot;
+use edge_traits::flash::Flash;
+use flash_build::{BuildFault, make_and_build, seal};
+use flash_layout::limits::a_catalog_has_a_layout;
+use key_words::LoadWords;
+use std::alloc::Global;
+
+/// Makes the flash and writes the hidden part to it, then writes the host's file, then the catalog's pages.
+pub(crate) fn make_both<D: Depot, F: Flash>(
+    alloc: Global,
+    prepared: &Prepared,
+    words: &LoadWords<'_>,
+    depot: &mut D,
+    flash: &mut F,
+) -> Result<(), LoadFailure>
+    requires part { IsHiddenPart prepared.now.cat prepared.now.hidden }
+    requires enough { layout.need prepared.now.cat ≤ 64 * prepared.now.blocks }
+    requires most { prepared.now.blocks ≤ most_blocks }
+    ensures catalog { OnOk result (F.told ≡ true → HoldsCatalog (F.state flash.new).page prepared.now.cat) }
+    ensures columns { OnOk result (F.told ≡ true → HoldsColumns (F.state flash.new).page prepared.now.cat prepared.now.hidden) }
+    ensures pages { OnOk result ((F.state flash.new).page_count ≡ 64 * prepared.now.blocks) }
+    ensures file { OnOk result (D.contents depot.new ≡ with_file (D.contents depot.old) words.now.visible.now prepared.now.image.items) }
+    ensures kinds { IsOfMaking result }
+    ensures unsealed { 0 < (F.state flash.new).page_count → F.told ≡ true → (F.state flash.new).blank 0 ≡ true → SpellsNoCatalog (F.state flash.new).page }
+    ensures sealed_last { 0 < (F.state flash.new).page_count → (F.state flash.new).blank 0 ≡ false → D.contents depot.new ≡ with_file (D.contents depot.old) words.now.visible.now prepared.now.image.items }
+    ensures page_0 { leaves_page_0 result ≡ true → 0 < (F.state flash.new).page_count → (F.state flash.new).blank 0 ≡ true }
+    ensures files_first { 0 < (F.state flash.new).page_count → (F.state flash.new).blank 0 ≡ false → F.told ≡ true → HoldsColumns (F.state flash.new).page prepared.now.cat prepared.now.hidden }
+    ensures file_left { leaves_file result ≡ true → D.contents depot.new ≡ D.contents depot.old }
+    ensures made_first { (F.state flash.new).page_count ≡ 0 → D.contents depot.new ≡ D.contents depot.old }
+    ensures others { SameBut words.now.visible.now (D.contents depot.old) (D.contents depot.new) }
+    ensures flash { result ≡ Err failure.Flash → Rose (F.state flash.old).faults (F.state flash.new).faults }
+    ensures no_flash { (result ≡ Err failure.Flash → ⊥) → (F.state flash.new).faults ≡ (F.state flash.old).faults }
+    ensures depot { result ≡ Err failure.Depot → Rose (D.faults depot.old) (D.faults depot.new) }
+    ensures no_depot { (result ≡ Err failure.Depot → ⊥) → D.faults depot.new ≡ D.faults depot.old }
+    ensures appends { D.append_faults depot.new ≡ D.append_faults depot.old }
+{
+    a_catalog_has_a_layout(&prepared.cat);
+    match make_and_build(
+        alloc,
+        &prepared.cat,
+        &prepared.hidden,
+        flash,
+        words.flash,
+        prepared.blocks,
+    ) {
+        Ok(()) => write_both(prepared, words, depot, flash),
+        Err(BuildFault::NoMemory) => Err(LoadFailure::NoMemory),
+        Err(BuildFault::Flash) => Err(LoadFailure::Flash),
+        Err(BuildFault::TooSmall { need, have }) => Err(LoadFailure::TooSmall { need, have }),
+    }
+}
+
+/// Writes the host's file, and then the catalog's pages, which seal the flash.
+fn write_both<D: Depot, F: Flash>(
+    prepared: &Prepared,
+    words: &LoadWords<'_>,
+    depot: &mut D,
+    flash: &mut F,
+) -> Result<(), LoadFailure>
+    requires there { layout.public_pages ≤ (F.state flash.old).page_count }
+    requires erased { IsErased F.told 0 layout.public_pages (F.state flash.old) }
+    requires unsealed { 0 < (F.state flash.old).page_count → F.told ≡ true → SpellsNoCatalog (F.state flash.old).page }
+    ensures catalog { OnOk result (F.told ≡ true → HoldsCatalog (F.state flash.new).page prepared.now.cat) }
+    ensures columns { (hidden : Hidden) → HoldsColumns (F.state flash.old).page prepared.now.cat hidden → HoldsColumns (F.state flash.new).page prepared.now.cat hidden }
+    ensures pages { (F.state flash.new).page_count ≡ (F.state flash.old).page_count }
+    ensures file { OnOk result (D.contents depot.new ≡ with_file (D.contents depot.old) words.now.visible.now prepared.now.image.items) }
+    ensures kinds { IsOfWriting result }
+    ensures unsealed { F.told ≡ true → (F.state flash.new).blank 0 ≡ true → SpellsNoCatalog (F.state flash.new).page }
+    ensures page_0 { leaves_page_0 result ≡ true → (F.state flash.new).blank 0 ≡ true }
+    ensures sealed_last { (F.state flash.new).blank 0 ≡ false → D.contents depot.new ≡ with_file (D.contents depot.old) words.now.visible.now prepared.now.image.items }
+    ensures others { SameBut words.now.visible.now (D.contents depot.old) (D.contents depot.new) }
+    ensures flash { result ≡ Err failure.Flash → Rose (F.state flash.old).faults (F.state flash.new).faults }
+    ensures no_flash { (result ≡ Err failure.Flash → ⊥) → (F.state flash.new).faults ≡ (F.state flash.old).faults }
+    ensures depot { result ≡ Err failure.Depot → Rose (D.faults depot.old) (D.faults depot.new) }
+    ensures no_depot { (result ≡ Err failure.Depot → ⊥) → D.faults depot.new ≡ D.faults depot.old }
+    ensures appends { D.append_faults depot.new ≡ D.append_faults depot.old }
+{
+    match depot.replace(words.visible, &prepared.image) {
+        Ok(()) => match seal(&prepared.cat, flash) {
+            Ok(()) => Ok(()),
+            Err(_) => Err(LoadFailure::Flash),
+        },
+        Err(_) => Err(LoadFailure::Depot),
+    }
+}
