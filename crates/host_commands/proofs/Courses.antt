@@ -31,6 +31,11 @@ served_by Goes ended before now Stood so = record {
   closes = so.closes;
   went = refl;
   ends = so.ends;
+  farewell = so.farewell;
+  refused = so.refused;
+  refusals = so.refusals;
+  none = so.none;
+  refusing = so.refusing;
   said = so.said;
 }
 
@@ -54,6 +59,11 @@ served_as Goes ended before now Stood Holder so stands = record {
   closes = so.closes;
   went = so.went;
   ends = so.ends;
+  farewell = so.farewell;
+  refused = so.refused;
+  refusals = so.refusals;
+  none = so.none;
+  refusing = λ held holds. so.refusing held (stands held holds);
   said = λ calm held holds. so.said calm held (stands held holds);
 }
 
@@ -77,6 +87,10 @@ hosts_as Went at ended printed prints before now Stood Holder so stands = record
   tells = so.tells;
   ends = ends_as so.course ended before now Stood Holder so.ends stands;
 }
+
+-- a status that is not that of the link comes of no session that ended so
+pub not_lost : (ended : Served) (answer : HostStatus) → answer ≡ after_session ended → (answer ≡ status.Link → ⊥) → ended ≡ served.Link → ⊥
+not_lost ended answer is other lost = other (is ∙ ap after_session lost)
 
 -- ---- where all was well
 

@@ -40,7 +40,7 @@ struct Outcome {
 }
 
 /// Makes the call.
-fn outcome(alloc: Global, case: &Case<'_>) -> Result<Outcome, AllocError> {
+fn call_over(alloc: Global, case: &Case<'_>) -> Result<Outcome, AllocError> {
     let mut words = Vec::new(alloc);
     for word in case.words.split(' ') {
         words.push(String::from_str(alloc, word)?)?;
@@ -90,7 +90,7 @@ fn over<'a>(words: &'a str, image: &'a [u8], key: &'a [u8]) -> Case<'a> {
 
 #[test]
 fn a_key_is_served(rt: HostRuntime) -> Result<(), AllocError> {
-    let served = outcome(rt.alloc(), &over(WORDS, IMAGE, SESSION))?;
+    let served = call_over(rt.alloc(), &over(WORDS, IMAGE, SESSION))?;
     assert_eq!(rt; served.status, HostStatus::Ok);
     assert_eq!(rt; served.status.exit_code(), 0);
     assert_eq!(rt; served.out.bytes(), b"port 4711\n".as_slice());
@@ -107,7 +107,7 @@ fn other_words_and_files_end_it_before_it_listens(rt: HostRuntime) -> Result<(),
         (over(WORDS, short, SESSION), 14),
     ];
     for (case, code) in cases.iter() {
-        let ended = outcome(rt.alloc(), case)?;
+        let ended = call_over(rt.alloc(), case)?;
         assert_eq!(rt; ended.status.exit_code(), *code);
         assert_eq!(rt; ended.moves, 0);
         assert_eq!(rt; ended.out.bytes(), b"".as_slice());
@@ -117,7 +117,7 @@ fn other_words_and_files_end_it_before_it_listens(rt: HostRuntime) -> Result<(),
 
 #[test]
 fn a_frame_out_of_its_place_is_told(rt: HostRuntime) -> Result<(), AllocError> {
-    let ended = outcome(rt.alloc(), &over(WORDS, IMAGE, FOURTH))?;
+    let ended = call_over(rt.alloc(), &over(WORDS, IMAGE, FOURTH))?;
     assert_eq!(rt; ended.status, HostStatus::BadRequest { kind: 2, at: 12 });
     assert_eq!(rt; ended.status.exit_code(), 15);
     assert_eq!(rt;
@@ -130,7 +130,7 @@ fn a_frame_out_of_its_place_is_told(rt: HostRuntime) -> Result<(), AllocError> {
 #[test]
 fn a_failing_move_ends_it(rt: HostRuntime) -> Result<(), AllocError> {
     for call in 1..12 {
-        let ended = outcome(
+        let ended = call_over(
             rt.alloc(),
             &Case {
                 words: WORDS,
@@ -147,7 +147,7 @@ fn a_failing_move_ends_it(rt: HostRuntime) -> Result<(), AllocError> {
 
 #[test]
 fn no_key_is_accepted_where_the_port_is_not_printed(rt: HostRuntime) -> Result<(), AllocError> {
-    let ended = outcome(
+    let ended = call_over(
         rt.alloc(),
         &Case {
             words: WORDS,
