@@ -5,11 +5,7 @@ use crate::words::{HostWords, read_words};
 use std::alloc::{AllocError, Global};
 
 /// The line, without its end, that tells how the program ended and what to do next.
-pub fn line_of(
-    alloc: Global,
-    words: &[String],
-    status: &HostStatus,
-) -> Result<String, AllocError> {
+pub fn line_of(alloc: Global, words: &[String], status: &HostStatus) -> Result<String, AllocError> {
     match read_words(alloc, words) {
         Ok(said) => named_line(alloc, &said, status),
         Err(_) => format!(in alloc; "{status}"),
