@@ -41,6 +41,7 @@ fn host_one<D: Depot, L: Link, O: Sink>(
     ensures no_sink { (result ≡ HostStatus.Sink → ⊥) → O.faults out.new ≡ O.faults out.old }
     ensures depot { result ≡ HostStatus.Depot → Rose (D.faults depot.old) (D.faults depot.new) }
     ensures no_depot { may_follow_fault result ≡ false → D.faults depot.new ≡ D.faults depot.old }
+    ensures no_link { (result ≡ HostStatus.Link → ⊥) → L.faults link.new ≡ L.faults link.old }
     ensures never_falls { D.faults depot.old ≤ D.faults depot.new }
     ensures appends { D.append_faults depot.new ≡ D.append_faults depot.old }
     ensures same { D.contents depot.new ≡ D.contents depot.old }
@@ -87,6 +88,7 @@ pub fn host_main<D: Depot, L: Link, O: Sink>(
     ensures no_sink { (result ≡ HostStatus.Sink → ⊥) → O.faults out.new ≡ O.faults out.old }
     ensures depot { result ≡ HostStatus.Depot → Rose (D.faults depot.old) (D.faults depot.new) }
     ensures no_depot { may_follow_fault result ≡ false → D.faults depot.new ≡ D.faults depot.old }
+    ensures no_link { (result ≡ HostStatus.Link → ⊥) → L.faults link.new ≡ L.faults link.old }
     ensures never_falls { D.faults depot.old ≤ D.faults depot.new }
     ensures complete { (names : Names) → (file : List ℕ) → (catalog : Catalog) → (public : Public) → reading (map string_bytes words.now) ≡ Some names
         → file_of (D.contents depot.old) names.visible ≡ Some file → SpellsImage catalog public file
