@@ -10,6 +10,8 @@ pub mod session;
 pub mod tally;
 mod teller;
 mod telling;
+#[cfg(test)]
+mod tests;
 
 pub use counts::Damage;
 pub use session::run_session;
