@@ -73,6 +73,8 @@ impl<R: Files + Drop> Depot for DirDepot<R> {
 
     ghost append_faults = { λ depot. depot.append_faults };
 
+    ghost sure = { λ depot. λ name. ⊥ };
+
     fn read_at(&mut self, name: &str, at: u64, buf: &mut [u8]) -> Result<usize, Failed> {
         match read_from(&self.files, name, at, buf) {
             Ok(count) => Ok(count),

@@ -1,6 +1,6 @@
 //! Where files lie.
 
-ghost use Rattle.std.specs.Prelude.{◌≡◌, ◌≤◌, ◌++◌, ℕ, length, Option, IfOk, OnOk};
+ghost use Rattle.std.specs.Prelude.{◌≡◌, ◌≤◌, ◌++◌, ℕ, true, List, length, Option, is_ok, IfOk, OnOk};
 ghost use Rattle.ghost_model.specs.Causes.{HasCause};
 ghost use Rattle.edge_traits.specs.Files.{Files, file_of, with_file, or_empty, SameBut, ReadsAt};
 
@@ -17,6 +17,9 @@ pub trait Depot {
     /// The count of failed appends alone.
     ghost append_faults: { Self → ℕ };
 
+    /// What the depot knows of itself by which each read of the file of a name goes well; files of a file system know nothing.
+    ghost sure: { Self → List ℕ → Type 0 };
+
     /// Reads bytes of the file `name` from the place `at` on, counted in bytes, into the front of `buf`, and answers how many.
     ///
     /// With a buffer that is not empty the answer is 0 exactly at or past the file's end. A name that is not there is a
@@ -26,7 +29,9 @@ pub trait Depot {
         ensures appends { append_faults self.new ≡ append_faults self.old }
         ensures within { IfOk result (λ count. count ≤ length buf.old) }
         ensures bytes { IfOk result (λ count. ReadsAt (contents self.old) name.now at buf.old count buf.new) }
-        ensures same { contents self.new ≡ contents self.old };
+        ensures same { contents self.new ≡ contents self.old }
+        ensures goes_well { sure self.old name.now → is_ok result ≡ true }
+        ensures stays_sure { sure self.old name.now → sure self.new name.now };
 
     /// Makes `bytes` the whole of the file `name`, new or not. After a failure nothing is known of that one file.
     fn replace(&mut self, name: &str, bytes: &[u8]) -> Result<(), Failed>

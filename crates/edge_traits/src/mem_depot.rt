@@ -3,7 +3,7 @@
 ghost use Rattle.std.specs.Prelude.{◌≡◌, ◌++◌, ◌≤◌, Some, None, length, IfOk, OnOk, IsTrue, MatchOption, false};
 ghost use Rattle.std.specs.FinMap as map;
 ghost use Rattle.ghost_model.specs.Causes.{HasCause};
-ghost use Rattle.edge_traits.specs.Scripts.{IsFresh};
+ghost use Rattle.edge_traits.specs.Scripts.{IsFresh, IsSure};
 ghost use Rattle.edge_traits.specs.Files.{file_of, with_file, or_empty, SameBut, GivesAt};
 
 use crate::Failed;
@@ -55,6 +55,7 @@ impl MemDepot {
         ensures refused { result ≡ false → ⟦<MemDepot as Depot>⟧.contents self.new ≡ ⟦<MemDepot as Depot>⟧.contents self.old }
         ensures faults { ⟦<MemDepot as Depot>⟧.faults self.new ≡ ⟦<MemDepot as Depot>⟧.faults self.old }
         ensures append_faults { ⟦<MemDepot as Depot>⟧.append_faults self.new ≡ ⟦<MemDepot as Depot>⟧.append_faults self.old }
+        ensures script { self.new.script ≡ self.old.script }
     {
         self.files.put(name.as_bytes(), bytes)
     }
@@ -116,6 +117,8 @@ impl Depot for MemDepot {
     ghost faults = { λ depot. depot.script.faults };
 
     ghost append_faults = { λ depot. depot.append_faults };
+
+    ghost sure = { λ depot. λ name. IsSure depot.script (Some depot.files) name };
 
     fn read_at(&mut self, name: &str, at: u64, buf: &mut [u8]) -> Result<usize, Failed> {
         self.script.begin()?;
