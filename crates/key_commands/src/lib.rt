@@ -1,25 +1,17 @@
-//! The commands of the key: what the program does with its words, its files, its flash and its link.
+//! The commands of the key as one call: its words choose the command, and a line tells why one did not end well.
+//!
+//! The words are read by `clap`. `docs/SESSION.md` states what each command does.
 #![tactic(auto)]
 
-pub mod fields;
-pub mod form;
-mod form_laws;
-mod host_end;
-mod journal;
-pub mod local;
-#[cfg(test)]
-mod local_tests;
-pub mod naming;
-pub mod opening;
-pub mod pieces;
-pub mod printing;
-pub mod records;
-pub mod rows;
-pub mod script;
-mod session;
-mod speech;
-pub mod status;
+mod broken_schema;
+mod broken_table;
+pub mod command;
+pub mod ending;
+mod input_lines;
+pub mod telling;
 #[cfg(test)]
 mod tests;
-pub mod texts;
-pub mod words;
+
+pub use command::key_main;
+pub use ending::Ended;
+pub use telling::line_of;

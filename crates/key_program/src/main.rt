@@ -1,11 +1,12 @@
-//! The program of the key. What its commands do lies in the crates below `key_start`; here are the real files and the
-//! real output.
+//! The program of the key. What its commands do lies in `key_commands` and the crates below; here are the real files, the
+//! real device and the real output.
 #![tactic(auto)]
 
 use edge_real::dir_depot::DirDepot;
+use edge_real::file_flash::FileFlash;
 use edge_real::std_sink::StdSink;
-use key_commands::status::KeyStatus;
-use key_start::{Ended, line_of, start};
+use key_commands::{Ended, key_main, line_of};
+use key_words::UsageFault;
 use std::io::ErrorKind;
 use std::process::ExitCode;
 use std::{env, io};
@@ -16,10 +17,10 @@ fn main(rt: HostRuntime) -> ExitCode {
     let mut words = Vec::new(rt.alloc());
     let ended = match run(&rt, &mut words) {
         Ok(ended) => ended,
-        Err(error) if error.kind() == ErrorKind::OutOfMemory => Ended::Local(KeyStatus::NoMemory),
-        Err(_) => Ended::Local(KeyStatus::Usage),
+        Err(error) if error.kind() == ErrorKind::OutOfMemory => Ended::NoMemory,
+        Err(_) => Ended::Usage(UsageFault::Words),
     };
-    if !matches!(ended, Ended::Plain | Ended::Local(KeyStatus::Ok)) {
+    if ended.exit_code() != 0 {
         tell(&rt, &words, &ended);
     }
     ExitCode::from(ended.exit_code())
@@ -32,7 +33,8 @@ fn run(rt: &HostRuntime, words: &mut Vec<String>) -> io::Result<Ended> {
     }
     let mut depot = DirDepot::new(rt);
     let mut out = StdSink::new(rt.alloc(), rt)?;
-    Ok(start(rt.alloc(), words, &mut depot, &mut out))
+    let mut flash = FileFlash::new(rt.alloc(), rt);
+    Ok(key_main(rt.alloc(), words, &mut depot, &mut flash, &mut out))
 }
 
 /// Prints on standard error how a command ended.
@@ -40,6 +42,6 @@ fn tell(rt: &HostRuntime, words: &[String], ended: &Ended) {
     let mut depot = DirDepot::new(rt);
     let _printed = match line_of(rt.alloc(), words, ended, &mut depot) {
         Ok(line) => eprintln!(rt; "{line}"),
-        Err(_) => eprintln!(rt; "{ended}"),
+        Err(_) => eprintln!(rt; "out of memory"),
     };
 }

@@ -1,7 +1,0 @@
-use Rattle.std.proofs.Common.{◌≡◌, drop, fold}
-use Rattle.ghost_model.specs.Database as database
-use Rattle.key_commands.proofs.Numerals.{with_digit}
-use Rattle.key_commands.proofs.fields.number_of.Given as goal
-
-abbrev pub invariant-loop-digit : goal.invariant-loop-digit
-invariant-loop-digit l = database.number_of l.digits ≡ fold with_digit l.number (drop l.digit-index l.digits)

@@ -1,0 +1,86 @@
+-- What each command did, by its words and its outcome: all that it answers for, from what it found to what it left.
+use Rattle.std.specs.Prelude.{◌≡◌, ◌⊎◌, ℕ, Bool, true, List, Option, Some, Result, Ok, Err}
+use Rattle.ghost_model.specs.Causes.{Rose}
+use Rattle.edge_traits.specs.Devices.{Device}
+use Rattle.edge_traits.specs.Files.{Files, SameBut}
+use Rattle.key_words.specs.Words.{Plain, Load}
+use Rattle.key_inputs.specs.Openings.{Spelled, TablesInput, tables_opening}
+use Rattle.key_plain.specs.Openings.{PlainInput, plain_opening}
+use Rattle.key_plain.specs.Views as plains
+use Rattle.key_plain.specs.declared.faults.PlainFault.{PlainFault}
+use Rattle.key_plain.specs.declared.faults.PlainFault.TheVariants as plain_fault
+use Rattle.key_load.specs.Results as loads
+use Rattle.key_load.specs.Results.{world}
+use Rattle.key_load.specs.declared.failures.LoadFailure.{LoadFailure}
+use Rattle.key_load.specs.declared.failures.LoadFailure.TheVariants as load_failure
+
+-- the files as far as they are told, the flash, what a sink that tells it was written, and the counts of faults
+pub record Outside : Type 0 where
+  pub files : Option Files
+  pub depot_faults : ℕ
+  pub append_faults : ℕ
+  pub device : Device
+  pub written : Option (List ℕ)
+  pub sink_faults : ℕ
+
+abbrev pub outside : Option Files → (depot_faults append_faults : ℕ) → Device → Option (List ℕ) → (sink_faults : ℕ) → Outside
+outside files depot_faults append_faults device written sink_faults = record {
+  files = files;
+  depot_faults = depot_faults;
+  append_faults = append_faults;
+  device = device;
+  written = written;
+  sink_faults = sink_faults;
+}
+
+-- nothing was done
+pub record IsUntouched (before after : Outside) : Type 0 where
+  pub files : after.files ≡ before.files
+  pub depot_faults : after.depot_faults ≡ before.depot_faults
+  pub append_faults : after.append_faults ≡ before.append_faults
+  pub device : after.device ≡ before.device
+  pub written : after.written ≡ before.written
+  pub sink_faults : after.sink_faults ≡ before.sink_faults
+
+pub record PlainDid (outcome : Result (Unit {0}) PlainFault) (before after : Outside) (words : Plain) : Type 0 where
+  pub ends : (files : Files) → before.files ≡ Some files
+      → plains.Ends (plain_opening files words) outcome before.written after.written
+  pub complete : (files : Files) → (input : PlainInput) → before.files ≡ Some files
+      → (Rose before.depot_faults after.depot_faults → ⊥) → (Rose before.sink_faults after.sink_faults → ⊥)
+      → plain_opening files words ≡ Spelled input → (outcome ≡ Ok tt) ⊎ (outcome ≡ Err plain_fault.NoMemory)
+  pub prints : plains.PrintsSome outcome before.written after.written
+  pub nothing_written : plains.writes_nothing outcome ≡ true → after.written ≡ before.written
+  pub sink : outcome ≡ Err plain_fault.Sink → Rose before.sink_faults after.sink_faults
+  pub no_sink : (outcome ≡ Err plain_fault.Sink → ⊥) → after.sink_faults ≡ before.sink_faults
+  pub depot : outcome ≡ Err plain_fault.Depot → Rose before.depot_faults after.depot_faults
+  pub no_depot : (outcome ≡ Err plain_fault.Depot → ⊥) → after.depot_faults ≡ before.depot_faults
+  pub appends : after.append_faults ≡ before.append_faults
+  pub files : after.files ≡ before.files
+  pub flash : after.device ≡ before.device
+
+abbrev pub world_in : Outside → loads.World
+world_in one = world one.device one.files one.written
+
+pub record LoadDid (told : Bool) (outcome : Result (Unit {0}) LoadFailure) (before after : Outside) (words : Load) : Type 0 where
+  pub ends : (files : Files) → before.files ≡ Some files
+      → loads.Ends told (tables_opening files words.schema words.tables) words outcome (world_in before) (world_in after)
+  pub loads_some : loads.EndsSome told words outcome (world_in before) (world_in after)
+  pub complete : (files : Files) → (input : TablesInput) → before.files ≡ Some files
+      → (Rose before.depot_faults after.depot_faults → ⊥) → (Rose before.device.faults after.device.faults → ⊥)
+      → (Rose before.sink_faults after.sink_faults → ⊥)
+      → tables_opening files words.schema words.tables ≡ Spelled input → loads.is_faultless outcome ≡ true
+  pub nothing_written : loads.writes_nothing outcome ≡ true → after.written ≡ before.written
+  pub nothing_made : loads.makes_nothing outcome ≡ true → after.device ≡ before.device
+  pub file_left : loads.leaves_file outcome ≡ true → after.files ≡ before.files
+  pub made_first : after.device.page_count ≡ 0 → after.files ≡ before.files
+  pub page_0 : loads.leaves_page_0 outcome ≡ true
+      → (after.device ≡ before.device) ⊎ loads.HasBlankPage0 after.device
+  pub unsealed : (after.device ≡ before.device) ⊎ loads.IsUnsealed told after.device
+  pub others : SameBut words.visible before.files after.files
+  pub sink : outcome ≡ Err load_failure.Sink → Rose before.sink_faults after.sink_faults
+  pub no_sink : (outcome ≡ Err load_failure.Sink → ⊥) → after.sink_faults ≡ before.sink_faults
+  pub flash : outcome ≡ Err load_failure.Flash → Rose before.device.faults after.device.faults
+  pub no_flash : (outcome ≡ Err load_failure.Flash → ⊥) → after.device.faults ≡ before.device.faults
+  pub depot : outcome ≡ Err load_failure.Depot → Rose before.depot_faults after.depot_faults
+  pub no_depot : (outcome ≡ Err load_failure.Depot → ⊥) → after.depot_faults ≡ before.depot_faults
+  pub appends : after.append_faults ≡ before.append_faults

@@ -1,0 +1,76 @@
+//! The choice of the command.
+
+ghost use Rattle.std.specs.Prelude.{◌≡◌, true, None, map, string_bytes};
+ghost use Rattle.key_words.specs.Views.{plain_view, load_view};
+ghost use Rattle.key_words.specs.Words.{reading, PlainCommand, LoadCommand};
+ghost use Rattle.key_commands.specs.Doing.{IsUntouched, PlainDid, LoadDid, outside};
+ghost use Rattle.key_commands.specs.Endings.{DoesAs, OfPlain, OfLoad, is_unbegun, is_usage};
+
+use crate::ending::Ended;
+use edge_traits::depot::Depot;
+use edge_traits::flash::Flash;
+use edge_traits::sink::Sink;
+use key_load::{LoadFailure, load};
+use key_plain::{PlainFault, plain};
+use key_words::{KeyWords, LoadWords, PlainWords, WordsFault, read_words};
+use std::alloc::Global;
+
+/// Does the command that the words say, of which the first is the program's name.
+pub fn key_main<D: Depot, F: Flash, O: Sink>(
+    alloc: Global,
+    args: &[String],
+    depot: &mut D,
+    flash: &mut F,
+    out: &mut O,
+) -> Ended
+    ensures usage { is_usage result ≡ true → reading (map string_bytes args.now) ≡ None }
+    ensures untouched { is_unbegun result ≡ true → IsUntouched
+        (outside (D.contents depot.old) (D.faults depot.old) (D.append_faults depot.old) (F.state flash.old) (O.written out.old) (O.faults out.old))
+        (outside (D.contents depot.new) (D.faults depot.new) (D.append_faults depot.new) (F.state flash.new) (O.written out.new) (O.faults out.new)) }
+    ensures plain { OfPlain result (λ outcome. DoesAs PlainCommand (reading (map string_bytes args.now)) (PlainDid outcome
+        (outside (D.contents depot.old) (D.faults depot.old) (D.append_faults depot.old) (F.state flash.old) (O.written out.old) (O.faults out.old))
+        (outside (D.contents depot.new) (D.faults depot.new) (D.append_faults depot.new) (F.state flash.new) (O.written out.new) (O.faults out.new)))) }
+    ensures load { OfLoad result (λ outcome. DoesAs LoadCommand (reading (map string_bytes args.now)) (LoadDid F.told outcome
+        (outside (D.contents depot.old) (D.faults depot.old) (D.append_faults depot.old) (F.state flash.old) (O.written out.old) (O.faults out.old))
+        (outside (D.contents depot.new) (D.faults depot.new) (D.append_faults depot.new) (F.state flash.new) (O.written out.new) (O.faults out.new)))) }
+{
+    match read_words(alloc, args) {
+        Ok(KeyWords::Plain(words)) => Ended::Plain(do_plain(alloc, &words, depot, flash, out)),
+        Ok(KeyWords::Load(words)) => Ended::Load(do_load(alloc, &words, depot, flash, out)),
+        Ok(KeyWords::Local(_words)) => Ended::NoMemory,
+        Err(WordsFault::NoMemory) => Ended::NoMemory,
+        Err(WordsFault::Usage(fault)) => Ended::Usage(fault),
+    }
+}
+
+/// Does `plain`, which leaves the flash alone.
+fn do_plain<D: Depot, F: Flash, O: Sink>(
+    alloc: Global,
+    words: &PlainWords<'_>,
+    depot: &mut D,
+    _flash: &mut F,
+    out: &mut O,
+) -> Result<(), PlainFault>
+    ensures did { PlainDid result
+        (outside (D.contents depot.old) (D.faults depot.old) (D.append_faults depot.old) (F.state _flash.old) (O.written out.old) (O.faults out.old))
+        (outside (D.contents depot.new) (D.faults depot.new) (D.append_faults depot.new) (F.state _flash.new) (O.written out.new) (O.faults out.new))
+        (plain_view words.now) }
+{
+    plain(alloc, words, depot, out)
+}
+
+/// Does `load`.
+fn do_load<D: Depot, F: Flash, O: Sink>(
+    alloc: Global,
+    words: &LoadWords<'_>,
+    depot: &mut D,
+    flash: &mut F,
+    out: &mut O,
+) -> Result<(), LoadFailure>
+    ensures did { LoadDid F.told result
+        (outside (D.contents depot.old) (D.faults depot.old) (D.append_faults depot.old) (F.state flash.old) (O.written out.old) (O.faults out.old))
+        (outside (D.contents depot.new) (D.faults depot.new) (D.append_faults depot.new) (F.state flash.new) (O.written out.new) (O.faults out.new))
+        (load_view words.now) }
+{
+    load(alloc, words, depot, flash, out)
+}

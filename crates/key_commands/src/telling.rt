@@ -1,0 +1,128 @@
+//! What is told of a command that did not end well.
+
+ghost use Rattle.std.specs.Prelude.{◌≡◌};
+
+use crate::ending::Ended;
+use crate::input_lines::{InputNames, input_line};
+use edge_traits::depot::Depot;
+use edge_traits::flash::BLOCK_PAGES;
+use key_load::LoadFailure;
+use key_plain::PlainFault;
+use key_words::{KeyWords, LoadWords, PlainWords, read_words};
+use std::alloc::{AllocError, Global};
+
+/// The words that the program takes.
+pub const USAGE: &str =
+    "usage: key_program load --schema FILE --data FOLDER --flash FILE --visible FILE [--blocks NUMBER], or key_program local --schema FILE --data FOLDER --flash FILE --script FILE [--journal FILE] [--plan scan] [--pace 0], or key_program plain --schema FILE --data FOLDER --script FILE";
+
+/// What is told where there is no memory.
+const NO_MEMORY: &str = "out of memory: free some, or give smaller files";
+
+/// The line, without its end, that tells how a call ended: what is wrong, in which file, in the file of a table in which
+/// record and column, and in a schema at which table and column. To name these the schema is read once more.
+pub fn line_of<D: Depot>(
+    alloc: Global,
+    args: &[String],
+    ended: &Ended,
+    depot: &mut D,
+) -> Result<String, AllocError>
+    ensures same { D.contents depot.new ≡ D.contents depot.old }
+{
+    match (read_words(alloc, args), ended) {
+        (_, Ended::Usage(fault)) => format!(in alloc; "{fault}; {USAGE}"),
+        (Ok(KeyWords::Plain(words)), Ended::Plain(Err(fault))) => {
+            plain_line(alloc, &words, fault, depot)
+        }
+        (Ok(KeyWords::Load(words)), Ended::Load(Err(fault))) => {
+            load_line(alloc, &words, fault, depot)
+        }
+        (_, Ended::Plain(Ok(())) | Ended::Load(Ok(()))) => String::from_str(alloc, "done"),
+        _ => String::from_str(alloc, NO_MEMORY),
+    }
+}
+
+/// The line of a fault of `plain`.
+fn plain_line<D: Depot>(
+    alloc: Global,
+    words: &PlainWords<'_>,
+    fault: &PlainFault,
+    depot: &mut D,
+) -> Result<String, AllocError>
+    ensures same { D.contents depot.new ≡ D.contents depot.old }
+{
+    let PlainWords {
+        schema,
+        tables,
+        script,
+    } = *words;
+    match fault {
+        PlainFault::NoMemory => String::from_str(alloc, NO_MEMORY),
+        PlainFault::Depot => {
+            format!(in alloc;
+                "a file could not be read: see that {schema}, {script} and the file of each table in {tables} are there"
+            )
+        }
+        PlainFault::Input(broken) => {
+            let names = InputNames {
+                schema,
+                tables,
+                script,
+            };
+            input_line(alloc, &names, broken, depot)
+        }
+        PlainFault::Sink => String::from_str(
+            alloc,
+            "the lines could not be printed: see that the output takes them",
+        ),
+    }
+}
+
+/// The line of a fault of `load`.
+fn load_line<D: Depot>(
+    alloc: Global,
+    words: &LoadWords<'_>,
+    fault: &LoadFailure,
+    depot: &mut D,
+) -> Result<String, AllocError>
+    ensures same { D.contents depot.new ≡ D.contents depot.old }
+{
+    let LoadWords {
+        schema,
+        tables,
+        flash,
+        visible,
+        ..
+    } = *words;
+    match fault {
+        LoadFailure::NoMemory => String::from_str(alloc, NO_MEMORY),
+        LoadFailure::Depot => {
+            format!(in alloc;
+                "a file could not be read or written: see that {schema} and the file of each table in {tables} are there, and that {visible} can be written"
+            )
+        }
+        LoadFailure::Input(broken) => {
+            let names = InputNames {
+                schema,
+                tables,
+                script: "",
+            };
+            input_line(alloc, &names, broken, depot)
+        }
+        LoadFailure::TooSmall { need, have } => {
+            let blocks = need / BLOCK_PAGES;
+            format!(in alloc;
+                "{flash} would have {have} pages, but the tables need {need}: give --blocks {blocks} or more, or leave it out"
+            )
+        }
+        LoadFailure::Flash => {
+            format!(in alloc;
+                "{flash} could not be made or written: see that its folder is there and has room, and load again"
+            )
+        }
+        LoadFailure::Sink => {
+            format!(in alloc;
+                "the line could not be printed, but {flash} and {visible} are whole"
+            )
+        }
+    }
+}
