@@ -1,10 +1,17 @@
 -- What each command did, by its words and its outcome: all that it answers for, from what it found to what it left.
-use Rattle.std.specs.Prelude.{◌≡◌, ◌⊎◌, ℕ, Bool, true, List, Option, Some, Result, Ok, Err}
-use Rattle.ghost_model.specs.Causes.{Rose}
+use Rattle.std.specs.Prelude.{◌≡◌, ◌≤◌, ◌⊎◌, ℕ, Bool, true, false, min, List, [], Option, Some, Result, Ok, Err, IfOk, IfErr, OnErr}
+use Rattle.ghost_model.specs.Causes.{Rose, last_count}
+use Rattle.ghost_model.specs.Channel.{Catalog, Journal}
 use Rattle.edge_traits.specs.Devices.{Device}
 use Rattle.edge_traits.specs.Files.{Files, SameBut}
-use Rattle.key_words.specs.Words.{Plain, Load}
+use Rattle.key_words.specs.Words.{Plain, Load, Local, Query}
 use Rattle.key_inputs.specs.Openings.{Spelled, TablesInput, tables_opening}
+use Rattle.key_inputs.specs.Scripts.{script_opening}
+use Rattle.key_lines.specs.Handing.{handed}
+use Rattle.text_lines.specs.Rows.{PrintsSome}
+use Rattle.key_session.specs.Running.{is_sink}
+use Rattle.key_session.specs.Telling as telling
+use Rattle.key_session.specs.declared.tally.Tally.{Tally}
 use Rattle.key_plain.specs.Openings.{PlainInput, plain_opening}
 use Rattle.key_plain.specs.Views as plains
 use Rattle.key_plain.specs.declared.faults.PlainFault.{PlainFault}
@@ -13,6 +20,16 @@ use Rattle.key_load.specs.Results as loads
 use Rattle.key_load.specs.Results.{world}
 use Rattle.key_load.specs.declared.failures.LoadFailure.{LoadFailure}
 use Rattle.key_load.specs.declared.failures.LoadFailure.TheVariants as load_failure
+use Rattle.key_local.specs.Openings.{local_opening}
+use Rattle.key_local.specs.Sessions as locals
+use Rattle.key_local.specs.Results as locally
+use Rattle.key_local.specs.declared.ends.LocalEnd.{LocalEnd}
+use Rattle.key_local.specs.declared.ends.LocalEnd.TheVariants as local_end
+use Rattle.key_local.specs.declared.ends.LocalFailure.{LocalFailure}
+use Rattle.key_query.specs.PublicPages.{HasCatalog}
+use Rattle.key_query.specs.Results as queries
+use Rattle.key_query.specs.declared.failures.QueryFailure.{QueryFailure}
+use Rattle.key_query.specs.declared.failures.QueryFailure.TheVariants as query_failure
 
 -- the files as far as they are told, the flash, what a sink that tells it was written, and the counts of faults
 pub record Outside : Type 0 where
@@ -84,3 +101,28 @@ pub record LoadDid (told : Bool) (outcome : Result (Unit {0}) LoadFailure) (befo
   pub depot : outcome ≡ Err load_failure.Depot → Rose before.depot_faults after.depot_faults
   pub no_depot : (outcome ≡ Err load_failure.Depot → ⊥) → after.depot_faults ≡ before.depot_faults
   pub appends : after.append_faults ≡ before.append_faults
+
+abbrev pub local_world_in : Outside → locals.World
+local_world_in one = locals.world one.device one.files one.append_faults one.sink_faults one.written
+
+-- the headline of `local` stands in `ends` and `ran`
+pub record LocalDid (told : Bool) (outcome : Result LocalEnd LocalFailure) (before after : Outside) (words : Local) : Type 0 where
+  pub ends : (files : Files) → before.files ≡ Some files
+      → locally.Ends told (local_opening files words) words.journal outcome (local_world_in before) (local_world_in after)
+  pub ran : locally.EndsSome told words.journal outcome (local_world_in before) (local_world_in after)
+  pub complete : (files : Files) → (input : PlainInput) → before.files ≡ Some files
+      → (Rose before.depot_faults after.depot_faults → ⊥) → (Rose before.device.faults after.device.faults → ⊥)
+      → (Rose before.sink_faults after.sink_faults → ⊥)
+      → local_opening files words ≡ Spelled input → locally.is_faultless told outcome ≡ true
+  pub nothing_written : locally.is_failure outcome ≡ true → after.written ≡ before.written
+  pub flash_left : locally.leaves_flash outcome ≡ true → after.device ≡ before.device
+  pub files_left : locally.leaves_files outcome ≡ true → after.files ≡ before.files
+  pub others : locals.SameBesides words.journal before.files after.files
+  pub sink : outcome ≡ Ok local_end.Sink → Rose before.sink_faults after.sink_faults
+  pub no_sink : (outcome ≡ Ok local_end.Sink → ⊥) → after.sink_faults ≡ before.sink_faults
+  pub depot : locally.blames_depot outcome ≡ true → Rose before.depot_faults after.depot_faults
+  pub no_depot : locally.clears_depot outcome ≡ true → after.depot_faults ≡ before.depot_faults
+  pub append : locally.blames_append outcome ≡ true → Rose before.append_faults after.append_faults
+  pub no_append : locally.clears_append outcome ≡ true → after.append_faults ≡ before.append_faults
+  pub flash : locally.blames_flash outcome ≡ true → Rose before.device.faults after.device.faults
+  pub no_flash : locally.clears_flash outcome ≡ true → after.device.faults ≡ before.device.faults
