@@ -1,0 +1,4 @@
+pub mod Openings
+pub mod Sessions
+pub mod Results
+pub mod Preparing
