@@ -26,7 +26,7 @@ use local_lines::laws::told_texts_are_given;
 use local_links::host_link::HostLink;
 use local_links::journaled::Journaled;
 use local_links::laws::{local_moves_are_short, sessions_are_local};
-use session_laws::local::{local_lines_are_printed, local_sessions_are_served};
+use session_laws::local::{local_sessions_are_served};
 use session_replies::Replies;
 use tree_schema::Catalog;
 use tree_schema::catalog_bytes::a_catalog_is_short;
@@ -101,7 +101,6 @@ pub(crate) fn run<D: Depot, F: Flash, O: Sink>(
     local_moves_are_short();
     local_sessions_are_served();
     told_texts_are_given();
-    local_lines_are_printed();
     let mut journaled = Journaled::new(link, depot, journal);
     let tally = run_session(cat, script, "", replies, flash, &mut journaled, out);
     let failed = journaled.failed();
