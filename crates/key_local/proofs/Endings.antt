@@ -19,11 +19,12 @@ use Rattle.key_plain.specs.Openings.{PlainInput}
 use Rattle.key_lines.specs.Handing.{Hands, handed}
 use Rattle.local_lines.specs.Lines.{Gives, bytes_given, is_cut}
 use Rattle.key_local.specs.Sessions.{Subject, subject, catalog_for, World, Ran, HasLines, outside_in, is_sink}
-use Rattle.key_local.specs.Results.{EndsLocal, Ends, EndsSome, subject_of}
+use Rattle.key_local.specs.Results.{EndsLocal, Ends, EndsSome, subject_of, blames_depot, blames_flash, is_faultless}
 use Rattle.key_local.specs.Making.{IsOfMaking}
 use Rattle.key_local.specs.Reading.{AreSpelled}
 use Rattle.key_local.specs.Running.{RanOver}
 use Rattle.key_local.specs.declared.ends.LocalEnd.{LocalEnd}
+use Rattle.key_local.specs.declared.ends.LocalEnd.TheVariants as ends
 use Rattle.key_local.specs.declared.ends.LocalFailure.{LocalFailure}
 use Rattle.key_local.specs.declared.ends.LocalFailure.TheVariants as failure
 use Rattle.key_local.specs.declared.opening.Opened.{Opened}
@@ -126,3 +127,17 @@ ends_some told opened name (Err failure.Flash) before after are ended = record {
   are = are;
   ended = ended;
 }
+
+-- nothing that was to be unbroken ended otherwise
+pub faultless : (told : Bool) (one : Subject) (result : Result LocalEnd LocalFailure) (before after : World) → EndsLocal told one result before after
+    → (blames_depot result ≡ true → ⊥) → (blames_flash result ≡ true → ⊥) → (result ≡ Ok ends.Sink → ⊥) → is_faultless told result ≡ true
+faultless told one (Ok ends.Ok) before after ended depot flash sink = refl
+faultless told one (Ok ends.Sink) before after ended depot flash sink = absurd (sink refl)
+faultless told one (Ok ends.Depot) before after ended depot flash sink = absurd (depot refl)
+faultless told one (Ok ends.Flash) before after ended depot flash sink = absurd (flash refl)
+faultless true one (Ok (ends.Damaged page slot found)) before after ended depot flash sink = let none = ended.undamaged refl in cc
+faultless false one (Ok (ends.Damaged page slot found)) before after ended depot flash sink = refl
+faultless told one (Err failure.NoMemory) before after ended depot flash sink = refl
+faultless told one (Err failure.Depot) before after ended depot flash sink = absurd (depot refl)
+faultless told one (Err (failure.Input broken)) before after ended depot flash sink = absurd ended
+faultless told one (Err failure.Flash) before after ended depot flash sink = absurd (flash refl)

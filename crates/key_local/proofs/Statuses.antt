@@ -15,20 +15,21 @@ use Rattle.key_local.specs.Running.{is_of_local, is_damage}
 -- no answer stops it
 pub none_stops : (journal : Journal) → list_any is_stop (answers journal) ≡ false → list_any (λ entry. is_stop entry.answer) journal ≡ false
 none_stops [] h = refl
-none_stops (made ∷ later) h = go (is_stop made.answer) h
+none_stops (made ∷ later) h = go (is_stop made.answer) (none_stops later) h
   where
-    go : (b : Bool) → (b || list_any is_stop (answers later)) ≡ false → (b || list_any (λ entry. is_stop entry.answer) later) ≡ false
-    go true e = e
-    go false e = none_stops later e
+    go : (b : Bool) → (list_any is_stop (answers later) ≡ false → list_any (λ entry. is_stop entry.answer) later ≡ false) → (b || list_any is_stop (answers later)) ≡ false
+        → (b || list_any (λ entry. is_stop entry.answer) later) ≡ false
+    go true rest e = e
+    go false rest e = rest e
 
 -- no ask was refused
 pub no_code : (ends : List Ended) → was_refused ends ≡ false → first_code ends ≡ None
 no_code [] h = refl
-no_code (end ∷ ends) h = go end.ending h
+no_code (end ∷ ends) h = go end.ending (no_code ends) h
   where
-    go : (ending : Ending) → (is_refused_by ending || was_refused ends) ≡ false → or_else (code_of ending) (first_code ends) ≡ None
-    go (Answered rows) e = no_code ends e
-    go (Refused code) e = cc
+    go : (ending : Ending) → (was_refused ends ≡ false → first_code ends ≡ None) → (is_refused_by ending || was_refused ends) ≡ false → or_else (code_of ending) (first_code ends) ≡ None
+    go (Answered rows) rest e = rest e
+    go (Refused code) rest e = cc
 
 -- so neither link, frame nor host is its cause
 pub of_local : (failed : Bool) (session : Left) (by_flash : Bool) (damage : Option Damage) → session.stopped ≡ false → session.heard.broken ≡ false
