@@ -52,9 +52,9 @@ joined_more journal bytes owed rest more frame answer joined is spelled =
     ∙ ap (λ (bs : List ℕ). bs ++ flat_map frame_bytes more) (sym (sent_one journal bytes answer)))))
 
 -- the next frame was said, or a refusal was
-abbrev pub SaysOne : (before now : ℕ) → (Stood : (file : List ℕ) → List Frame → Stand → Type 0) → (at next : Host) → (size : ℕ) → (out : List ℕ) → Type 0
-SaysOne before now Stood at next size out =
-    RefusedAs at before now size out next
+abbrev pub SaysOne : (Sure : Type 0) → (before now : ℕ) → (Stood : (file : List ℕ) → List Frame → Stand → Type 0) → (at next : Host) → (size : ℕ) → (out : List ℕ) → Type 0
+SaysOne Sure before now Stood at next size out =
+    RefusedAs Sure at before now size out next
     ⊎ ((now ≡ before) × ((file : List ℕ) (owed : List Frame) (stand : Stand) (any : List Frame) → Stood file any stand → StandsAs at file owed stand → SaysAs next file owed stand size out))
 
 -- so one more frame was sent, whatever the send's answer
@@ -69,12 +69,12 @@ owes_none at next is owing = never (sym (ap owes is) ∙ owing)
     never : false ≡ true → ⊥
     never e = cc
 
-said_more : (before between now : ℕ) (Stood : (file : List ℕ) → List Frame → Stand → Type 0) (old at next : Host) (size : ℕ) (out bytes : List ℕ) (answer : Answer) (journal : Journal) (refused : Bool)
+said_more : {Sure : Type 0} (before between now : ℕ) (Stood : (file : List ℕ) → List Frame → Stand → Type 0) (old at next : Host) (size : ℕ) (out bytes : List ℕ) (answer : Answer) (journal : Journal) (refused : Bool)
     → before ≤ between → between ≤ now → bytes ≡ take size out → owes at.stage ≡ true
     → ((serial place count : ℕ) → at.stage ≡ stage.Answering serial place count → (concat (sent journal) ≡ []) × (old.stage ≡ stage.Answering serial place count))
     → MatchBool refused (Rose before between) (between ≡ before)
     → MatchBool refused (BreaksOff old at journal) ((file : List ℕ) (owed : List Frame) (stand : Stand) → Stood file owed stand → SaidTo file owed stand journal at)
-    → SaysOne between now Stood at next size out → SaidMore before now Stood old next (journal ++ entry (Send bytes) answer ∷ [])
+    → SaysOne Sure between now Stood at next size out → SaidMore before now Stood old next (journal ++ entry (Send bytes) answer ∷ [])
 said_more before between now Stood old at next size out bytes answer journal true first second is owing fresh counted said one = absurd (owes_none at.stage (said.serial + 1) said.ended owing)
 said_more before between now Stood old at next size out bytes answer journal false first second is owing fresh counted said (inl refused) =
     let start = fresh refused.serial refused.place refused.sent refused.owed in
@@ -120,10 +120,10 @@ pub owing_now : {X : Type 0} {one : X} (said : Option X) (at : Stage) → said �
 owing_now said at is owed = sym owed ∙ ap is_some is
 
 -- one more frame was sent
-pub speaks_on : (Went Goes : Journal → Type 0) (before between now : ℕ) (Stood : (file : List ℕ) → List Frame → Stand → Type 0) (old at next : Host) (size : ℕ) (out bytes : List ℕ)
+pub speaks_on : {Sure : Type 0} (Went Goes : Journal → Type 0) (before between now : ℕ) (Stood : (file : List ℕ) → List Frame → Stand → Type 0) (old at next : Host) (size : ℕ) (out bytes : List ℕ)
     → SpeaksSoFar Went before between Stood old at → ((journal : Journal) → Went journal → Goes (journal ++ entry (Send bytes) Made ∷ []))
     → before ≤ between → between ≤ now → bytes ≡ take size out → owes at.stage ≡ true → rests next.stage ≡ true
-    → SaysOne between now Stood at next size out → SpeaksSoFar Goes before now Stood old next
+    → SaysOne Sure between now Stood at next size out → SpeaksSoFar Goes before now Stood old next
 speaks_on Went Goes before between now Stood old at next size out bytes so goes first second is owing resting one =
     let more = said_more before between now Stood old at next size out bytes Made so.journal so.refused first second is owing so.fresh so.counted so.said one in
     record {
@@ -144,10 +144,10 @@ front_said true Stood old next journal said = said
 front_said false Stood old next journal said = λ file owed stand stood. (let so = said file owed stand stood in record { rest = flat_map frame_bytes so.rest; joined = so.joined })
 
 -- the send of one more frame failed
-pub speaks_in_vain : (Went Goes : Journal → Type 0) (before between now : ℕ) (Stood : (file : List ℕ) → List Frame → Stand → Type 0) (old at next : Host) (size : ℕ) (out bytes : List ℕ)
+pub speaks_in_vain : {Sure : Type 0} (Went Goes : Journal → Type 0) (before between now : ℕ) (Stood : (file : List ℕ) → List Frame → Stand → Type 0) (old at next : Host) (size : ℕ) (out bytes : List ℕ)
     → SpeaksSoFar Went before between Stood old at → ((journal : Journal) → Went journal → Goes (journal ++ entry (Send bytes) Failed ∷ []))
     → before ≤ between → between ≤ now → bytes ≡ take size out → owes at.stage ≡ true
-    → SaysOne between now Stood at next size out → Speaks Goes false before now Stood old next
+    → SaysOne Sure between now Stood at next size out → Speaks Goes false before now Stood old next
 speaks_in_vain Went Goes before between now Stood old at next size out bytes so goes first second is owing one =
     let more = said_more before between now Stood old at next size out bytes Failed so.journal so.refused first second is owing so.fresh so.counted so.said one in
     record {
@@ -188,6 +188,17 @@ speaks_all Went before between now Stood old at next so quiet same nothing = rec
   counted = counted_on so.refused before between now quiet so.counted;
   says = all_said so.refused Stood old at next so.journal same nothing so.said;
 }
+
+-- where nothing was refused the count is as before
+pub granted_calm : (refused : Bool) (before now : ℕ) → refused ≡ false → MatchBool refused (Rose before now) (now ≡ before) → now ≡ before
+granted_calm true before now granted told = never granted
+  where
+    never : {P : Type 0} → true ≡ false → P
+    never e = cc
+granted_calm false before now granted told = told
+
+pub neither : (one other value : Bool) → value ≡ (one || other) → one ≡ false → other ≡ false → value ≡ false
+neither one other value is first second = is ∙ (ap (λ (b : Bool). b || other) first ∙ second)
 
 pub same_more : (a b c : Host) → IsSameHost a b → IsSameHost b c → IsSameHost a c
 same_more a b c one other = record { name = other.name ∙ one.name; catalog = other.catalog ∙ one.catalog; starts = other.starts ∙ one.starts }

@@ -40,16 +40,17 @@ pub record IsAnswered (held : Holding) (file : List ℕ) (stand : Stand) (frame 
   pub answer : answer_to held stand frame ≡ Some answered
   pub stands : StandsAs after file answered.says answered.stand
 
--- the host refused to go on with the reply that it owed a frame of, since the count of faults rose
-pub record Refused (host : Host) (before after size : ℕ) (out : List ℕ) (stage : Stage) : Type 0 where
+-- the host refused to go on with the reply that it owed a frame of, since the count of faults rose; no depot that is sure
+-- of the file leads to that
+pub record Refused (Sure : Type 0) (host : Host) (before after size : ℕ) (out : List ℕ) (stage : Stage) : Type 0 where
   pub serial : ℕ
   pub place : ℕ
   pub sent : ℕ
   pub owed : host.stage ≡ Answering serial place sent
-  pub refuses : Refuses before after serial size out stage
+  pub refuses : Refuses Sure before after serial size out stage
 
-abbrev pub RefusedAs : (old : Host) → (before after size : ℕ) → (out : List ℕ) → (new : Host) → Type 0
-RefusedAs old before after size out new = Refused old before after size out new.stage
+abbrev pub RefusedAs : (Sure : Type 0) → (old : Host) → (before after size : ℕ) → (out : List ℕ) → (new : Host) → Type 0
+RefusedAs Sure old before after size out new = Refused Sure old before after size out new.stage
 
 -- the next of the frames was said
 abbrev pub SaysAs : (new : Host) → (file : List ℕ) → (owed : List Frame) → Stand → (size : ℕ) → (out : List ℕ) → Type 0

@@ -90,9 +90,10 @@ owes (Welcoming _) = true
 owes (Answering _ _ _) = true
 owes _ = false
 
--- the ask with this serial was ended by a refusal, since the count of faults rose
-pub record Refuses (before after serial size : ℕ) (out : List ℕ) (stage : Stage) : Type 0 where
+-- the ask with this serial was ended by a refusal, since the count of faults rose; no depot that is sure of the file has one
+pub record Refuses (Sure : Type 0) (before after serial size : ℕ) (out : List ℕ) (stage : Stage) : Type 0 where
   pub rose : Rose before after
+  pub unsure : Sure → ⊥
   pub spelled : take size out ≡ frame_bytes (Sorry serial 1)
   pub ended : stage ≡ Listening (serial + 1)
 

@@ -1,6 +1,6 @@
 //! How a host begins: it reads the visible file through once.
 
-ghost use Rattle.std.specs.Prelude.{◌≡◌, ◌≤◌, ◌<◌, ◌^◌, ℕ, List, Some, Err, length, IfOk, IfSome, MatchBool, MatchOption, All};
+ghost use Rattle.std.specs.Prelude.{◌≡◌, ◌≤◌, ◌<◌, ◌^◌, ℕ, List, Some, Err, length, IfOk, IfSome, MatchBool, MatchOption, All, is_ok, true};
 ghost use Rattle.ghost_model.specs.Causes.{HasCause, Rose};
 ghost use Rattle.ghost_model.specs.Catalog.{BeginsWithCatalog};
 ghost use Rattle.edge_traits.specs.Files.{file_of};
@@ -39,6 +39,8 @@ fn check_file<D: Depot>(
     ensures cause { HasCause (D.faults depot.old) (D.faults depot.new) result }
     ensures appends { D.append_faults depot.new ≡ D.append_faults depot.old }
     ensures same { D.contents depot.new ≡ D.contents depot.old }
+    ensures goes_well { D.sure depot.old name.now → is_ok result ≡ true }
+    ensures stays_sure { D.sure depot.old name.now → D.sure depot.new name.now }
     ensures checked { IfOk result (λ good. (file : List ℕ) → file_of (D.contents depot.old) name.now ≡ Some file
         → MatchBool good (IsChecked catalog.now file) (IsChecked catalog.now file → ⊥)) }
 {
@@ -53,6 +55,8 @@ pub fn open<D: Depot>(depot: &mut D, name: &str) -> Result<Option<Opened>, Faile
     ensures cause { HasCause (D.faults depot.old) (D.faults depot.new) result }
     ensures appends { D.append_faults depot.new ≡ D.append_faults depot.old }
     ensures same { D.contents depot.new ≡ D.contents depot.old }
+    ensures goes_well { D.sure depot.old name.now → is_ok result ≡ true }
+    ensures stays_sure { D.sure depot.old name.now → D.sure depot.new name.now }
     ensures starts { IfOk result (λ opened. IfSome opened (λ o. AreStarts o.catalog o.places.starts.items)) }
     ensures near { IfOk result (λ opened. IfSome opened (λ o. All (λ start. start < 2 ^ 63) o.places.starts.items)) }
     ensures opened { IfOk result (λ opened. (file : List ℕ) → file_of (D.contents depot.old) name.now ≡ Some file

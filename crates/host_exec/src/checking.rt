@@ -1,6 +1,6 @@
 //! Whether the rows of the visible file spell values.
 
-ghost use Rattle.std.specs.Prelude.{◌≡◌, ◌≤◌, ◌<◌, ◌+◌, ◌*◌, ◌^◌, ℕ, List, Some, None, true, false, length, map, take, drop, IfOk, MatchBool, MatchOption, ⊤, All};
+ghost use Rattle.std.specs.Prelude.{◌≡◌, ◌≤◌, ◌<◌, ◌+◌, ◌*◌, ◌^◌, ℕ, List, Some, None, true, false, length, map, take, drop, IfOk, MatchBool, MatchOption, ⊤, All, is_ok};
 ghost use Rattle.std.specs.List.{list_all};
 ghost use Rattle.ghost_model.specs.Causes.{HasCause};
 ghost use Rattle.ghost_base.specs.Views.{kind_of};
@@ -101,6 +101,8 @@ fn check_piece<D: Depot>(
     ensures cause { HasCause (D.faults depot.old) (D.faults depot.new) result }
     ensures appends { D.append_faults depot.new ≡ D.append_faults depot.old }
     ensures same { D.contents depot.new ≡ D.contents depot.old }
+    ensures goes_well { D.sure depot.old name.now → is_ok result ≡ true }
+    ensures stays_sure { D.sure depot.old name.now → D.sure depot.new name.now }
     ensures goes_on { IfOk result (λ later. MatchOption later ⊤ (λ n. (next < n) × (n ≤ rows))) }
     ensures checked { IfOk result (λ later. (file : List ℕ) → file_of (D.contents depot.old) name.now ≡ Some file
         → MatchOption later (BadRow (map kind_of kinds.now) file start width rows) (λ n. GoodRows (map kind_of kinds.now) file start width next n)) }
@@ -133,6 +135,8 @@ fn check_rows<D: Depot>(
     ensures cause { HasCause (D.faults depot.old) (D.faults depot.new) result }
     ensures appends { D.append_faults depot.new ≡ D.append_faults depot.old }
     ensures same { D.contents depot.new ≡ D.contents depot.old }
+    ensures goes_well { D.sure depot.old name.now → is_ok result ≡ true }
+    ensures stays_sure { D.sure depot.old name.now → D.sure depot.new name.now }
     ensures checked { IfOk result (λ good. (file : List ℕ) → file_of (D.contents depot.old) name.now ≡ Some file
         → MatchBool good (GoodRows (map kind_of kinds.now) file start width 0 rows) (BadRow (map kind_of kinds.now) file start width rows)) }
 {
@@ -160,6 +164,8 @@ fn check_table<D: Depot>(
     ensures cause { HasCause (D.faults depot.old) (D.faults depot.new) result }
     ensures appends { D.append_faults depot.new ≡ D.append_faults depot.old }
     ensures same { D.contents depot.new ≡ D.contents depot.old }
+    ensures goes_well { D.sure depot.old name.now → is_ok result ≡ true }
+    ensures stays_sure { D.sure depot.old name.now → D.sure depot.new name.now }
     ensures checked { IfOk result (λ good. (file : List ℕ) → file_of (D.contents depot.old) name.now ≡ Some file
         → MatchBool good (GoodTable catalog.now file table) (BadTable catalog.now file table)) }
 {
@@ -182,6 +188,8 @@ pub fn check_tables<D: Depot>(
     ensures cause { HasCause (D.faults depot.old) (D.faults depot.new) result }
     ensures appends { D.append_faults depot.new ≡ D.append_faults depot.old }
     ensures same { D.contents depot.new ≡ D.contents depot.old }
+    ensures goes_well { D.sure depot.old name.now → is_ok result ≡ true }
+    ensures stays_sure { D.sure depot.old name.now → D.sure depot.new name.now }
     ensures checked { IfOk result (λ good. (file : List ℕ) → file_of (D.contents depot.old) name.now ≡ Some file
         → MatchBool good ((table : ℕ) → table < length catalog.now.schema → GoodTable catalog.now file table)
         ((table : ℕ) × (table < length catalog.now.schema) × BadTable catalog.now file table)) }
@@ -203,6 +211,8 @@ pub fn ends_at<D: Depot>(depot: &mut D, name: &str, end: u64) -> Result<bool, Fa
     ensures cause { HasCause (D.faults depot.old) (D.faults depot.new) result }
     ensures appends { D.append_faults depot.new ≡ D.append_faults depot.old }
     ensures same { D.contents depot.new ≡ D.contents depot.old }
+    ensures goes_well { D.sure depot.old name.now → is_ok result ≡ true }
+    ensures stays_sure { D.sure depot.old name.now → D.sure depot.new name.now }
     ensures ends { IfOk result (λ there. (file : List ℕ) → file_of (D.contents depot.old) name.now ≡ Some file
         → MatchBool there (length file ≡ end) (length file ≡ end → ⊥)) }
 {

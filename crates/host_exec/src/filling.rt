@@ -1,6 +1,6 @@
 //! Bytes of a file from a place on.
 
-ghost use Rattle.std.specs.Prelude.{◌≡◌, ◌≤◌, ◌<◌, ◌+◌, ◌-◌, ◌++◌, ◌^◌, ℕ, List, Some, length, replicate, take, drop, OnOk, IfOk};
+ghost use Rattle.std.specs.Prelude.{◌≡◌, ◌≤◌, ◌<◌, ◌+◌, ◌-◌, ◌++◌, ◌^◌, ℕ, List, Some, length, replicate, take, drop, OnOk, IfOk, is_ok, true};
 ghost use Rattle.ghost_model.specs.Causes.{HasCause};
 ghost use Rattle.edge_traits.specs.Files.{file_of, ReadsAt};
 ghost use Rattle.host_exec.specs.RowBytes.{window};
@@ -20,6 +20,8 @@ fn read_on<D: Depot>(
     ensures cause { HasCause (D.faults depot.old) (D.faults depot.new) result }
     ensures appends { D.append_faults depot.new ≡ D.append_faults depot.old }
     ensures same { D.contents depot.new ≡ D.contents depot.old }
+    ensures goes_well { D.sure depot.old name.now → is_ok result ≡ true }
+    ensures stays_sure { D.sure depot.old name.now → D.sure depot.new name.now }
     ensures within { IfOk result (λ count. have + count ≤ length buf.old) }
     ensures front { take have buf.new ≡ take have buf.old }
     ensures bytes { IfOk result (λ count. ReadsAt (D.contents depot.old) name.now at (drop have buf.old) count (drop have buf.new)) }
@@ -43,6 +45,8 @@ pub fn fill<D: Depot>(depot: &mut D, name: &str, at: u64, buf: &mut [u8]) -> Res
     ensures cause { HasCause (D.faults depot.old) (D.faults depot.new) result }
     ensures appends { D.append_faults depot.new ≡ D.append_faults depot.old }
     ensures same { D.contents depot.new ≡ D.contents depot.old }
+    ensures goes_well { D.sure depot.old name.now → is_ok result ≡ true }
+    ensures stays_sure { D.sure depot.old name.now → D.sure depot.new name.now }
     ensures filled { OnOk result ((file : List ℕ) → file_of (D.contents depot.old) name.now ≡ Some file → buf.new ≡ window file at (length buf.old)) }
 {
     let mut have = 0;

@@ -1,6 +1,6 @@
 //! The rows of one frame of a reply, gathered from the file.
 
-ghost use Rattle.std.specs.Prelude.{◌≡◌, ◌≤◌, ◌<◌, ◌+◌, ◌-◌, ◌*◌, ◌++◌, ◌^◌, ℕ, true, false, List, [], Some, length, map, flat_map, sum, take, drop, OnOk, IfOk};
+ghost use Rattle.std.specs.Prelude.{◌≡◌, ◌≤◌, ◌<◌, ◌+◌, ◌-◌, ◌*◌, ◌++◌, ◌^◌, ℕ, true, false, List, [], Some, length, map, flat_map, sum, take, drop, OnOk, IfOk, is_ok};
 ghost use Rattle.std.specs.List.{list_all};
 ghost use Rattle.arrayvec.specs.ArrayVec.{array_vec_len};
 ghost use Rattle.ghost_model.specs.Asks.{ReplyRow, row_bytes};
@@ -164,6 +164,8 @@ fn gather_piece<D: Depot>(
     ensures cause { HasCause (D.faults depot.old) (D.faults depot.new) result }
     ensures appends { D.append_faults depot.new ≡ D.append_faults depot.old }
     ensures same { D.contents depot.new ≡ D.contents depot.old }
+    ensures goes_well { D.sure depot.old name.now → is_ok result ≡ true }
+    ensures stays_sure { D.sure depot.old name.now → D.sure depot.new name.now }
     ensures room { HasRoom (form_view form.now) most batch.new }
     ensures goes_on { IfOk result (λ later. next < later) }
     ensures sparse { IfOk result (λ later. batch.new.rows + next ≤ batch.old.rows + later) }
@@ -199,6 +201,8 @@ pub fn gather<D: Depot>(
     ensures cause { HasCause (D.faults depot.old) (D.faults depot.new) result }
     ensures appends { D.append_faults depot.new ≡ D.append_faults depot.old }
     ensures same { D.contents depot.new ≡ D.contents depot.old }
+    ensures goes_well { D.sure depot.old name.now → is_ok result ≡ true }
+    ensures stays_sure { D.sure depot.old name.now → D.sure depot.new name.now }
     ensures room { HasRoom (form_view form.now) most batch.new }
     ensures goes_on { IfOk result (λ next. place ≤ next) }
     ensures sparse { IfOk result (λ next. batch.new.rows + place ≤ batch.old.rows + next) }

@@ -1,6 +1,6 @@
 //! The frames that a host says.
 
-ghost use Rattle.std.specs.Prelude.{◌≡◌, ◌≤◌, ◌<◌, ◌+◌, ◌*◌, ◌/◌, ◌^◌, ℕ, List, Some, length, take, drop, IfOk, ◌⊎◌, MatchBool, true, false};
+ghost use Rattle.std.specs.Prelude.{◌≡◌, ◌≤◌, ◌<◌, ◌+◌, ◌*◌, ◌/◌, ◌^◌, ℕ, List, Some, length, take, drop, IfOk, ◌⊎◌, MatchBool, true, false, is_ok};
 ghost use Rattle.ghost_model.specs.Catalog.{catalog_bytes};
 ghost use Rattle.ghost_model.specs.Causes.{HasCause, Rose};
 ghost use Rattle.ghost_model.specs.Channel as channel;
@@ -73,6 +73,8 @@ fn say_rows<D: Depot>(
     ensures cause { HasCause (D.faults depot.old) (D.faults depot.new) result }
     ensures appends { D.append_faults depot.new ≡ D.append_faults depot.old }
     ensures same { D.contents depot.new ≡ D.contents depot.old }
+    ensures goes_well { D.sure depot.old name.now → is_ok result ≡ true }
+    ensures stays_sure { D.sure depot.old name.now → D.sure depot.new name.now }
     ensures within { (catalog : ℕ) → 0 < catalog → IfOk result (λ said. saying.IsWithin catalog reply.now.rows said.stage) }
     ensures short { IfOk result (λ said. said.size ≤ 2048) }
     ensures fewer { (catalog : ℕ) → IfOk result (λ said. steps_left catalog said.stage < steps_left catalog (Stage.Answering serial place sent)) }
@@ -161,12 +163,14 @@ pub fn say_reply<D: Depot>(
     ensures never_falls { D.faults depot.old ≤ D.faults depot.new }
     ensures appends { D.append_faults depot.new ≡ D.append_faults depot.old }
     ensures same { D.contents depot.new ≡ D.contents depot.old }
+    ensures stays_sure { D.sure depot.old name.now → D.sure depot.new name.now }
     ensures within { (catalog : ℕ) → 0 < catalog → saying.IsWithin catalog reply.now.rows result.stage }
     ensures short { result.size ≤ 2048 }
     ensures fewer { (catalog : ℕ) → steps_left catalog result.stage < steps_left catalog (Stage.Answering serial place sent) }
     ensures rests { saying.rests result.stage ≡ true }
+    ensures granted { D.sure depot.old name.now → result.refused ≡ false }
     ensures told { MatchBool result.refused (Rose (D.faults depot.old) (D.faults depot.new)) (D.faults depot.new ≡ D.faults depot.old) }
-    ensures said { saying.Refuses (D.faults depot.old) (D.faults depot.new) serial result.size out.new result.stage
+    ensures said { saying.Refuses (D.sure depot.old name.now) (D.faults depot.old) (D.faults depot.new) serial result.size out.new result.stage
         ⊎ ((D.faults depot.new ≡ D.faults depot.old) × ((catalog file : List ℕ) (owed : List channel.Frame) (stand : host.Stand) → file_of (D.contents depot.old) name.now ≡ Some file
         → saying.Stands catalog (source_of reply.now file) (Stage.Answering serial place sent) owed stand
         → saying.Says catalog (source_of reply.now file) owed stand result.size out.new result.stage)) }

@@ -58,6 +58,8 @@ impl Host {
         ensures other { (result ≡ Err BeginFault.Depot → ⊥) → D.faults depot.new ≡ D.faults depot.old }
         ensures appends { D.append_faults depot.new ≡ D.append_faults depot.old }
         ensures same { D.contents depot.new ≡ D.contents depot.old }
+        ensures goes_well { D.sure depot.old name.now → result ≡ Err BeginFault.Depot → ⊥ }
+        ensures stays_sure { D.sure depot.old name.now → D.sure depot.new name.now }
     {
         match open(depot, name) {
             Err(_) => Err(BeginFault::Depot),
@@ -139,13 +141,15 @@ impl Host {
         ensures never_falls { D.faults depot.old ≤ D.faults depot.new }
         ensures appends { D.append_faults depot.new ≡ D.append_faults depot.old }
         ensures same { D.contents depot.new ≡ D.contents depot.old }
+        ensures stays_sure { D.sure depot.old (name_of self.now) → D.sure depot.new (name_of self.now) }
+        ensures granted { D.sure depot.old (name_of self.now) → IfSome result (λ said. said.refused ≡ false) }
         ensures none { IfNone result (D.faults depot.new ≡ D.faults depot.old) }
         ensures short { IfSome result (λ said. said.size ≤ 2048) }
         ensures within { IfSome result (λ said. saying.IsWithin (length (catalog_bytes self.now.catalog)) self.now.reply.rows said.stage) }
         ensures fewer { IfSome result (λ said. steps_left (length (catalog_bytes self.now.catalog)) said.stage < steps_of self.now) }
         ensures rests { IfSome result (λ said. saying.rests said.stage ≡ true) }
         ensures told { IfSome result (λ said. MatchBool said.refused (Rose (D.faults depot.old) (D.faults depot.new)) (D.faults depot.new ≡ D.faults depot.old)) }
-        ensures said { IfSome result (λ said. Refused self.now (D.faults depot.old) (D.faults depot.new) said.size out.new said.stage
+        ensures said { IfSome result (λ said. Refused (D.sure depot.old (name_of self.now)) self.now (D.faults depot.old) (D.faults depot.new) said.size out.new said.stage
             ⊎ ((D.faults depot.new ≡ D.faults depot.old) × ((file : List ℕ) (owed : List channel.Frame) (stand : Stand)
             → file_of (D.contents depot.old) (name_of self.now) ≡ Some file → StandsAs self.now file owed stand
             → saying.Says (catalog_bytes self.now.catalog) (source_of self.now.reply file) owed stand said.size out.new said.stage))) }
@@ -179,9 +183,11 @@ impl Host {
         ensures never_falls { D.faults depot.old ≤ D.faults depot.new }
         ensures appends { D.append_faults depot.new ≡ D.append_faults depot.old }
         ensures depot { D.contents depot.new ≡ D.contents depot.old }
+        ensures stays_sure { D.sure depot.old (name_of self.old) → D.sure depot.new (name_of self.new) }
+        ensures calm { D.sure depot.old (name_of self.old) → D.faults depot.new ≡ D.faults depot.old }
         ensures short { IfSome result (λ size. size ≤ 2048) }
         ensures fewer { IfSome result (λ size. steps_of self.new < steps_of self.old) }
-        ensures said { IfSome result (λ size. RefusedAs self.old (D.faults depot.old) (D.faults depot.new) size out.new self.new
+        ensures said { IfSome result (λ size. RefusedAs (D.sure depot.old (name_of self.old)) self.old (D.faults depot.old) (D.faults depot.new) size out.new self.new
             ⊎ ((D.faults depot.new ≡ D.faults depot.old) × ((file : List ℕ) (owed : List channel.Frame) (stand : Stand)
             → file_of (D.contents depot.old) (name_of self.old) ≡ Some file → StandsAs self.old file owed stand
             → SaysAs self.new file owed stand size out.new))) }

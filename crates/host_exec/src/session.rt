@@ -125,6 +125,8 @@ impl Host {
         ensures never_falls { D.faults depot.old ≤ D.faults depot.new }
         ensures appends { D.append_faults depot.new ≡ D.append_faults depot.old }
         ensures depot { D.contents depot.new ≡ D.contents depot.old }
+        ensures stays_sure { D.sure depot.old (name_of self.old) → D.sure depot.new (name_of self.new) }
+        ensures granted { D.sure depot.old (name_of self.old) → IfSome result (λ said. said.refused ≡ false) }
         ensures owed { is_some result ≡ owes self.old.stage }
         ensures none { IfNone result (self.new ≡ self.old) }
         ensures quiet { IfNone result (D.faults depot.new ≡ D.faults depot.old) }
@@ -133,7 +135,7 @@ impl Host {
         ensures fewer { IfSome result (λ said. steps_of self.new < steps_of self.old) }
         ensures rests { IfSome result (λ said. rests self.new.stage ≡ true) }
         ensures told { IfSome result (λ said. MatchBool said.refused (Rose (D.faults depot.old) (D.faults depot.new)) (D.faults depot.new ≡ D.faults depot.old)) }
-        ensures said { IfSome result (λ said. RefusedAs self.old (D.faults depot.old) (D.faults depot.new) said.size out.new self.new
+        ensures said { IfSome result (λ said. RefusedAs (D.sure depot.old (name_of self.old)) self.old (D.faults depot.old) (D.faults depot.new) said.size out.new self.new
             ⊎ ((D.faults depot.new ≡ D.faults depot.old) × ((file : List ℕ) (owed : List channel.Frame) (stand : Stand)
             → file_of (D.contents depot.old) (name_of self.old) ≡ Some file → StandsAs self.old file owed stand
             → SaysAs self.new file owed stand said.size out.new))) }
@@ -154,6 +156,9 @@ impl Host {
         ensures contents { D.contents depot.new ≡ D.contents depot.old }
         ensures appends { D.append_faults depot.new ≡ D.append_faults depot.old }
         ensures never_falls { D.faults depot.old ≤ D.faults depot.new }
+        ensures stays_sure { D.sure depot.old (name_of self.old) → D.sure depot.new (name_of self.new) }
+        ensures calm { D.sure depot.old (name_of self.old) → D.faults depot.new ≡ D.faults depot.old }
+        ensures granted { D.sure depot.old (name_of self.old) → IfOk result (λ refused. refused ≡ false) }
         ensures nearer { steps_of self.new ≤ steps_of self.old }
         ensures over { self.new.stage ≡ Stage.Over → self.old.stage ≡ Stage.Over }
         ensures link { LinkCounts (not (is_ok result)) (L.faults link.old) (L.faults link.new) }
@@ -188,6 +193,9 @@ impl Host {
         ensures contents { D.contents depot.new ≡ D.contents depot.old }
         ensures appends { D.append_faults depot.new ≡ D.append_faults depot.old }
         ensures never_falls { D.faults depot.old ≤ D.faults depot.new }
+        ensures stays_sure { D.sure depot.old (name_of self.old) → D.sure depot.new (name_of self.new) }
+        ensures calm { D.sure depot.old (name_of self.old) → D.faults depot.new ≡ D.faults depot.old }
+        ensures granted { D.sure depot.old (name_of self.old) → was_refused result ≡ false }
         ensures fewer { is_answered result ≡ true → steps_of self.new < steps_of self.old }
         ensures short { size_of result ≤ 2048 }
         ensures link { LinkCounts (is_lost result) (L.faults link.old) (L.faults link.new) }
@@ -218,6 +226,9 @@ impl Host {
         ensures contents { D.contents depot.new ≡ D.contents depot.old }
         ensures appends { D.append_faults depot.new ≡ D.append_faults depot.old }
         ensures never_falls { D.faults depot.old ≤ D.faults depot.new }
+        ensures stays_sure { D.sure depot.old (name_of self.old) → D.sure depot.new (name_of self.new) }
+        ensures calm { D.sure depot.old (name_of self.old) → D.faults depot.new ≡ D.faults depot.old }
+        ensures granted { D.sure depot.old (name_of self.old) → result ≡ Served.Depot → ⊥ }
         ensures link_same { (result ≡ Served.Link → ⊥) → L.faults link.new ≡ L.faults link.old }
         ensures link_rose { result ≡ Served.Link → LinkCounts true (L.faults link.old) (L.faults link.new) }
         ensures serves { Serves (λ journal. L.went link.old journal link.new) [] result (D.faults depot.old) (D.faults depot.new)
@@ -255,6 +266,9 @@ impl Host {
         ensures contents { D.contents depot.new ≡ D.contents depot.old }
         ensures appends { D.append_faults depot.new ≡ D.append_faults depot.old }
         ensures never_falls { D.faults depot.old ≤ D.faults depot.new }
+        ensures stays_sure { D.sure depot.old (name_of self.old) → D.sure depot.new (name_of self.new) }
+        ensures calm { D.sure depot.old (name_of self.old) → D.faults depot.new ≡ D.faults depot.old }
+        ensures granted { D.sure depot.old (name_of self.old) → result ≡ Served.Depot → ⊥ }
         ensures link_same { (result ≡ Served.Link → ⊥) → L.faults link.new ≡ L.faults link.old }
         ensures link_rose { result ≡ Served.Link → LinkCounts true (L.faults link.old) (L.faults link.new) }
         ensures serves { Serves (λ journal. L.went link.old journal link.new) closed result (D.faults depot.old) (D.faults depot.new)

@@ -1,15 +1,16 @@
 -- A buffer that is filled with what is owed.
-use Rattle.std.proofs.Common.{◌≡◌, inl, inr, ℕ, zero, suc, ◌+◌, ◌*◌, ◌<◌, ◌≤◌, min, List, [], ◌∷◌, ◌++◌, length, take, drop, Option, Ok, refl, sym, ◌∙◌, ap, subst, arith, append-nil, append_assoc}
+use Rattle.std.proofs.Common.{◌≡◌, inl, inr, ℕ, zero, suc, ◌+◌, ◌*◌, ◌<◌, ◌≤◌, min, true, false, List, [], ◌∷◌, ◌++◌, length, take, drop, Option, Ok, refl, sym, ◌∙◌, ap, subst, arith, append-nil, append_assoc}
 use Rattle.std.proofs.Math.Seq.{take-add, take-append_seam, drop-append_seam}
 use Rattle.std.proofs.lemmas.List.{take_all, drop_all, length-take-le, length-append}
 use Rattle.ghost_model.specs.Causes.{Rose, last_count}
 use Rattle.ghost_model.specs.Channel.{Made, Piece, Failed, Dial, Listen, Accept, Take, Close}
 use Rattle.ghost_model.specs.Host.{Holding, Stand}
 use Rattle.edge_traits.specs.Files.{Files}
+use Rattle.host_exec.specs.Hosts.{name_of}
 use Rattle.edge_traits.specs.Links.{entry, gave, faults_after}
 use Rattle.session_laws.specs.Serving.{Desk, handed}
-use Rattle.local_links.specs.Desks.{Owes, Nearer}
-use Rattle.local_links.specs.Links.{IsAt, Handed, Moves}
+use Rattle.local_links.specs.Desks.{Owes, ReadsWell, Nearer}
+use Rattle.local_links.specs.Links.{IsAt, IsSureLink, Handed, Moves}
 use Rattle.local_links.specs.declared.host_link.HostLink.{HostLink}
 
 pub came_nearer : (steps size later_steps later_size left count : ℕ) → Nearer steps size later_steps later_size → later_size ≤ 2048 → left + count ≡ later_size
@@ -32,13 +33,24 @@ rose_second before between now more rose = trans (min_more before between more) 
     trans : {a b c : ℕ} → a ≤ b → b ≤ c → a ≤ c
     trans {a} {b} {c} h k = omega (arith, h, k)
 
+-- no reading fails in either of two calls where none does in both
+pub reads_first : {Sure : Type 0} (before between now : ℕ) → between ≤ now → ReadsWell Sure before now → ReadsWell Sure before between
+reads_first before between now more (inl sure) = inl sure
+reads_first before between now more (inr calm) = inr (λ rose. calm (rose_first before between now more rose))
+
+pub reads_second : {Sure Later : Type 0} (before between now : ℕ) → before ≤ between → (Sure → Later) → ReadsWell Sure before now → ReadsWell Later between now
+reads_second before between now more stays (inl sure) = inl (stays sure)
+reads_second before between now more stays (inr calm) = inr (λ rose. calm (rose_second before between now more rose))
+
 -- so far `have` bytes were handed out
-pub record HandsSoFar {D : Type 0} (contents : D → Option Files) (faults : D → ℕ) (start now : HostLink D) (size have : ℕ) (buffer : List ℕ) : Type 0 where
+pub record HandsSoFar {D : Type 0} (contents : D → Option Files) (faults : D → ℕ) (sure : D → List ℕ → Type 0) (start now : HostLink D) (size have : ℕ) (buffer : List ℕ) : Type 0 where
   pub within : have ≤ size
   pub size_is : length buffer ≡ size
   pub never_falls : faults start.depot ≤ faults now.depot
   pub counted : now.faults ≡ start.faults
-  pub handed_so : (Rose (faults start.depot) (faults now.depot) → ⊥) → (held : Holding) (desk : Desk) → IsAt contents held start desk
+  pub stays_sure : IsSureLink sure start → IsSureLink sure now
+  pub calm : IsSureLink sure start → faults now.depot ≡ faults start.depot
+  pub handed_so : ReadsWell (IsSureLink sure start) (faults start.depot) (faults now.depot) → (held : Holding) (desk : Desk) → IsAt contents held start desk
       → Handed desk.owed (take have buffer) (λ rest. Owes held (contents now.depot) now.host now.speech rest desk.stand)
 
 -- what a take of so many bytes gave, and what is then still owed
@@ -84,13 +96,17 @@ pub record Takes {D : Type 0} (contents : D → Option Files) (now : HostLink D)
   pub is_handed : IsHanded most have buffer desk.owed rest
 
 -- a take was answered
-took : {D : Type 0} (E : Type 0) (contents : D → Option Files) (faults : D → ℕ) (start now : HostLink D) (most have : ℕ) (buffer : List ℕ)
+took : {D : Type 0} (E : Type 0) (contents : D → Option Files) (faults : D → ℕ) (sure : D → List ℕ → Type 0) (start now : HostLink D) (most have : ℕ) (buffer : List ℕ)
     → faults start.depot ≤ faults now.depot → now.faults ≡ start.faults
-    → ((Rose (faults start.depot) (faults now.depot) → ⊥) → (held : Holding) (desk : Desk) → IsAt contents held start desk → Takes contents now most have buffer held desk)
-    → Moves contents faults start (entry (Take most) (gave {E = E} (Ok have) buffer)) now
-took {D} E contents faults start now most have buffer falls counted takes = record {
+    → (IsSureLink sure start → IsSureLink sure now) → (IsSureLink sure start → faults now.depot ≡ faults start.depot)
+    → (ReadsWell (IsSureLink sure start) (faults start.depot) (faults now.depot) → (held : Holding) (desk : Desk) → IsAt contents held start desk → Takes contents now most have buffer held desk)
+    → Moves contents faults sure start (entry (Take most) (gave {E = E} (Ok have) buffer)) now
+took {D} E contents faults sure start now most have buffer falls counted stays quiet takes = record {
   never_falls = falls;
   counted = counted ∙ sym (no_fault E have buffer start.faults);
+  quiet = λ key. counted;
+  stays_sure = stays;
+  calm = quiet;
   served = λ calm held desk at free.
       let part = takes calm held desk at in
       record {
@@ -112,29 +128,32 @@ took {D} E contents faults start now most have buffer falls counted takes = reco
     same E (suc k) buffer = refl
 
 -- a take was given all that it asked for
-pub took_all : {D : Type 0} (E : Type 0) (contents : D → Option Files) (faults : D → ℕ) (start now : HostLink D) (most have : ℕ) (buffer : List ℕ) → 0 < most
-    → HandsSoFar contents faults start now most have buffer → have ≡ most
-    → Moves contents faults start (entry (Take most) (gave {E = E} (Ok have) buffer)) now
-took_all E contents faults start now most have buffer some so full =
-    took E contents faults start now most have buffer so.never_falls so.counted (λ calm held desk at.
+pub took_all : {D : Type 0} (E : Type 0) (contents : D → Option Files) (faults : D → ℕ) (sure : D → List ℕ → Type 0) (start now : HostLink D) (most have : ℕ) (buffer : List ℕ) → 0 < most
+    → HandsSoFar contents faults sure start now most have buffer → have ≡ most
+    → Moves contents faults sure start (entry (Take most) (gave {E = E} (Ok have) buffer)) now
+took_all E contents faults sure start now most have buffer some so full =
+    took E contents faults sure start now most have buffer so.never_falls so.counted so.stays_sure so.calm (λ calm held desk at.
     let part = so.handed_so calm held desk at in
     record { rest = part.rest; owes = part.owes; is_handed = handed_full most have buffer desk.owed part.rest some so.size_is full part.joined })
 
 -- more bytes were handed out
-pub hands_more : {D : Type 0} (contents : D → Option Files) (faults : D → ℕ) (start between now : HostLink D) (size have count : ℕ) (old new : List ℕ)
-    → HandsSoFar contents faults start between size have old → length new ≡ size → have + count ≤ size → take have new ≡ take have old
+pub hands_more : {D : Type 0} (contents : D → Option Files) (faults : D → ℕ) (sure : D → List ℕ → Type 0) (start between now : HostLink D) (size have count : ℕ) (old new : List ℕ)
+    → HandsSoFar contents faults sure start between size have old → length new ≡ size → have + count ≤ size → take have new ≡ take have old
     → faults between.depot ≤ faults now.depot → now.faults ≡ between.faults
-    → ((Rose (faults between.depot) (faults now.depot) → ⊥) → (held : Holding) (bytes : List ℕ) (stand : Stand) → Owes held (contents between.depot) between.host between.speech bytes stand
+    → (IsSureLink sure between → IsSureLink sure now) → (IsSureLink sure between → faults now.depot ≡ faults between.depot)
+    → (ReadsWell (IsSureLink sure between) (faults between.depot) (faults now.depot) → (held : Holding) (bytes : List ℕ) (stand : Stand) → Owes held (contents between.depot) between.host between.speech bytes stand
     → Handed bytes (take count (drop have new)) (λ rest. Owes held (contents now.depot) now.host now.speech rest stand))
-    → HandsSoFar contents faults start now size (have + count) new
-hands_more contents faults start between now size have count old new so long within front falls same more = record {
+    → HandsSoFar contents faults sure start now size (have + count) new
+hands_more contents faults sure start between now size have count old new so long within front falls same stays quiet more = record {
   within = within;
   size_is = long;
   never_falls = (let a = so.never_falls in omega (arith, a, falls));
   counted = same ∙ so.counted;
+  stays_sure = λ is. stays (so.stays_sure is);
+  calm = λ is. quiet (so.stays_sure is) ∙ so.calm is;
   handed_so = λ calm held desk at.
-      let first = so.handed_so (λ rose. calm (rose_first _ _ _ falls rose)) held desk at in
-      let next = more (λ rose. calm (rose_second _ _ _ so.never_falls rose)) held first.rest desk.stand first.owes in
+      let first = so.handed_so (reads_first _ _ _ falls calm) held desk at in
+      let next = more (reads_second _ _ _ so.never_falls so.stays_sure calm) held first.rest desk.stand first.owes in
       record {
         rest = next.rest;
         joined = first.joined ∙ (ap (λ (xs : List ℕ). take have old ++ xs) next.joined
@@ -145,16 +164,18 @@ hands_more contents faults start between now size have count old new so long wit
 }
 
 -- a take was given all that was owed
-pub took_short : {D : Type 0} (E : Type 0) (contents : D → Option Files) (faults : D → ℕ) (start between now : HostLink D) (most have : ℕ) (old new : List ℕ)
-    → HandsSoFar contents faults start between most have old → length new ≡ most → take have new ≡ take have old
+pub took_short : {D : Type 0} (E : Type 0) (contents : D → Option Files) (faults : D → ℕ) (sure : D → List ℕ → Type 0) (start between now : HostLink D) (most have : ℕ) (old new : List ℕ)
+    → HandsSoFar contents faults sure start between most have old → length new ≡ most → take have new ≡ take have old
     → faults between.depot ≤ faults now.depot → now.faults ≡ between.faults
-    → ((Rose (faults between.depot) (faults now.depot) → ⊥) → (held : Holding) (bytes : List ℕ) (stand : Stand) → Owes held (contents between.depot) between.host between.speech bytes stand
+    → (IsSureLink sure between → IsSureLink sure now) → (IsSureLink sure between → faults now.depot ≡ faults between.depot)
+    → (ReadsWell (IsSureLink sure between) (faults between.depot) (faults now.depot) → (held : Holding) (bytes : List ℕ) (stand : Stand) → Owes held (contents between.depot) between.host between.speech bytes stand
     → Handed bytes [] (λ rest. Owes held (contents now.depot) now.host now.speech rest stand) × (bytes ≡ []))
-    → Moves contents faults start (entry (Take most) (gave {E = E} (Ok have) new)) now
-took_short E contents faults start between now most have old new so long front falls same more =
-    took E contents faults start now most have new (let a = so.never_falls in omega (arith, a, falls)) (same ∙ so.counted) (λ calm held desk at.
-    let first = so.handed_so (λ rose. calm (rose_first _ _ _ falls rose)) held desk at in
-    let next = more (λ rose. calm (rose_second _ _ _ so.never_falls rose)) held first.rest desk.stand first.owes in
+    → Moves contents faults sure start (entry (Take most) (gave {E = E} (Ok have) new)) now
+took_short E contents faults sure start between now most have old new so long front falls same stays quiet more =
+    took E contents faults sure start now most have new (let a = so.never_falls in omega (arith, a, falls)) (same ∙ so.counted)
+    (λ is. stays (so.stays_sure is)) (λ is. quiet (so.stays_sure is) ∙ so.calm is) (λ calm held desk at.
+    let first = so.handed_so (reads_first _ _ _ falls calm) held desk at in
+    let next = more (reads_second _ _ _ so.never_falls so.stays_sure calm) held first.rest desk.stand first.owes in
     record {
       rest = next.0.rest;
       owes = next.0.owes;
@@ -174,34 +195,53 @@ still_at contents before after held desk host depot speech at =
 pub same_faults : {D : Type 0} (faults : D → ℕ) (before after : D) → after ≡ before → faults before ≤ faults after
 same_faults faults before after same = subst (λ d. faults before ≤ faults d) (sym same) (omega arith)
 
+-- so is a depot that is sure of the host's file
+pub still_sure : {D : Type 0} (sure : D → List ℕ → Type 0) (before after : HostLink D) → name_of after.host ≡ name_of before.host → after.depot ≡ before.depot → IsSureLink sure before → IsSureLink sure after
+still_sure sure before after name depot is = subst (λ n. sure after.depot n) (sym name) (subst (λ d. sure d (name_of before.host)) (sym depot) is)
+
 -- the link was dialled
-pub dialled : {D : Type 0} (contents : D → Option Files) (faults : D → ℕ) (link : HostLink D) (at : List ℕ) → Moves contents faults link (entry (Dial at) Made) link
-dialled contents faults link at = record {
+pub dialled : {D : Type 0} (contents : D → Option Files) (faults : D → ℕ) (sure : D → List ℕ → Type 0) (link : HostLink D) (at : List ℕ) → Moves contents faults sure link (entry (Dial at) Made) link
+dialled contents faults sure link at = record {
   never_falls = omega arith;
   counted = refl;
+  quiet = λ key. refl;
+  stays_sure = λ is. is;
+  calm = λ is. refl;
   served = λ calm held desk stands free. record { desk = desk; serves = record { made = refl; same = refl }; stands = stands };
 }
 
-pub closed : {D : Type 0} (contents : D → Option Files) (faults : D → ℕ) (link : HostLink D) → Moves contents faults link (entry Close Made) link
-closed contents faults link = record {
+pub closed : {D : Type 0} (contents : D → Option Files) (faults : D → ℕ) (sure : D → List ℕ → Type 0) (link : HostLink D) → Moves contents faults sure link (entry Close Made) link
+closed contents faults sure link = record {
   never_falls = omega arith;
   counted = refl;
+  quiet = λ key. refl;
+  stays_sure = λ is. is;
+  calm = λ is. refl;
   served = λ calm held desk stands free. record { desk = desk; serves = record { made = refl; same = refl }; stands = stands };
 }
+
+no_key : {P : Type 0} → true ≡ false → P
+no_key e = cc
 
 -- a key neither listens nor accepts
-pub listened : {D : Type 0} (contents : D → Option Files) (faults : D → ℕ) (before after : HostLink D) (at : List ℕ) → after.faults ≡ min (before.faults + 1) last_count
-    → after.host ≡ before.host → after.depot ≡ before.depot → after.speech ≡ before.speech → Moves contents faults before (entry (Listen at) Failed) after
-listened contents faults before after at counted host depot speech = record {
+pub listened : {D : Type 0} (contents : D → Option Files) (faults : D → ℕ) (sure : D → List ℕ → Type 0) (before after : HostLink D) (at : List ℕ) → after.faults ≡ min (before.faults + 1) last_count
+    → after.host ≡ before.host → after.depot ≡ before.depot → after.speech ≡ before.speech → Moves contents faults sure before (entry (Listen at) Failed) after
+listened contents faults sure before after at counted host depot speech = record {
   never_falls = same_faults faults before.depot after.depot depot;
   counted = counted;
+  quiet = λ key. no_key key;
+  stays_sure = still_sure sure before after (ap name_of host) depot;
+  calm = λ is. ap faults depot;
   served = λ calm held desk stands free. record { desk = desk; serves = tt; stands = still_at contents before after held desk host depot speech stands };
 }
 
-pub accepted : {D : Type 0} (contents : D → Option Files) (faults : D → ℕ) (before after : HostLink D) → after.faults ≡ min (before.faults + 1) last_count
-    → after.host ≡ before.host → after.depot ≡ before.depot → after.speech ≡ before.speech → Moves contents faults before (entry Accept Failed) after
-accepted contents faults before after counted host depot speech = record {
+pub accepted : {D : Type 0} (contents : D → Option Files) (faults : D → ℕ) (sure : D → List ℕ → Type 0) (before after : HostLink D) → after.faults ≡ min (before.faults + 1) last_count
+    → after.host ≡ before.host → after.depot ≡ before.depot → after.speech ≡ before.speech → Moves contents faults sure before (entry Accept Failed) after
+accepted contents faults sure before after counted host depot speech = record {
   never_falls = same_faults faults before.depot after.depot depot;
   counted = counted;
+  quiet = λ key. no_key key;
+  stays_sure = still_sure sure before after (ap name_of host) depot;
+  calm = λ is. ap faults depot;
   served = λ calm held desk stands free. record { desk = desk; serves = tt; stands = still_at contents before after held desk host depot speech stands };
 }

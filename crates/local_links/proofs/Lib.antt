@@ -1,3 +1,4 @@
 pub mod Desks
 pub mod HandedOut
 pub mod Sessions
+pub mod Short

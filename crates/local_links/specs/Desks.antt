@@ -1,5 +1,6 @@
 -- A host of the code, with what it said and the key did not take yet, as a desk.
 use Rattle.std.specs.Prelude.{◌≡◌, ◌<◌, ◌⊎◌, ℕ, ◌-◌, Option, Some, List, ◌++◌, take, drop, flat_map}
+use Rattle.ghost_model.specs.Causes.{Rose}
 use Rattle.ghost_model.specs.Channel.{Frame}
 use Rattle.ghost_model.specs.Frames.{frame_bytes}
 use Rattle.ghost_model.specs.Host.{Holding, Stand}
@@ -29,3 +30,7 @@ pub record Owes (held : Holding) (contents : Option Files) (host : Host) (speech
 abbrev pub Nearer : (steps size later_steps later_size : ℕ) → Type 0
 Nearer steps size later_steps later_size =
     (later_steps < steps) ⊎ ((later_steps ≡ steps) × (later_size ≡ size) × (0 < later_size))
+
+-- no reading of the host's file fails: the depot is sure of that file, or its count of faults did not rise
+abbrev pub ReadsWell : (Sure : Type 0) → (before after : ℕ) → Type 0
+ReadsWell Sure before after = Sure ⊎ (Rose before after → ⊥)

@@ -1,5 +1,6 @@
 pub mod Desks
 pub mod Links
+pub mod Sessions
 pub mod Journaling
 pub mod Keeping
 pub mod Appending

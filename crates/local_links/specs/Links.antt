@@ -1,15 +1,15 @@
 -- What a move does to a link to a host in the key's own process. The link serves as a host does that holds what its host
 -- holds, as long as no reading of the host's file fails, and each frame is sent when nothing is owed: so a key sends
--- them that makes its next moves alone.
-use Rattle.std.specs.Prelude.{◌≡◌, ◌≤◌, ℕ, ◌+◌, ◌*◌, List, [], ◌∷◌, ◌++◌, Option, None, Some}
+-- them that makes its next moves alone. Over a depot that is sure of the host's file no reading fails.
+use Rattle.std.specs.Prelude.{◌≡◌, ◌≤◌, ℕ, ◌+◌, ◌*◌, Bool, true, false, List, [], ◌∷◌, ◌++◌, Option, None, Some}
 use Rattle.ghost_model.specs.Causes.{Rose}
 use Rattle.ghost_model.specs.Channel.{Move, Dial, Listen, Accept, Send, Take, Close, Entry, Journal}
 use Rattle.ghost_model.specs.Host.{Holding}
 use Rattle.edge_traits.specs.Files.{Files}
 use Rattle.edge_traits.specs.Links.{Steps, faults_after}
-use Rattle.host_exec.specs.Hosts.{steps_of}
+use Rattle.host_exec.specs.Hosts.{name_of, steps_of}
 use Rattle.session_laws.specs.Serving.{Desk, serves, ServedFrom}
-use Rattle.local_links.specs.Desks.{Owes, size_of}
+use Rattle.local_links.specs.Desks.{Owes, ReadsWell, size_of}
 use Rattle.local_links.specs.declared.host_link.HostLink.{HostLink}
 
 -- the depot that has the host's file, and the count of the link's own faults
@@ -18,6 +18,19 @@ depot_of link = link.depot
 
 abbrev pub faults_of : {D : Type 0} → HostLink D → ℕ
 faults_of link = link.faults
+
+-- the depot is sure of the host's file
+abbrev pub IsSureLink : {D : Type 0} → (sure : D → List ℕ → Type 0) → HostLink D → Type 0
+IsSureLink sure link = sure link.depot (name_of link.host)
+
+-- whether a move is one of a host alone
+abbrev pub listens : Move → Bool
+listens (Dial _) = false
+listens (Listen _) = true
+listens Accept = true
+listens (Send _) = false
+listens (Take _) = false
+listens Close = false
 
 -- a link to a host that holds this stands at a desk
 abbrev pub IsAt : {D : Type 0} → (contents : D → Option Files) → Holding → HostLink D → Desk → Type 0
@@ -39,11 +52,15 @@ pub record Served {D : Type 0} (contents : D → Option Files) (held : Holding) 
   pub stands : IsAt contents held after desk
 
 -- what one move does
-pub record Moves {D : Type 0} (contents : D → Option Files) (faults : D → ℕ) (before : HostLink D) (made : Entry) (after : HostLink D) : Type 0 where
+pub record Moves {D : Type 0} (contents : D → Option Files) (faults : D → ℕ) (sure : D → List ℕ → Type 0) (before : HostLink D) (made : Entry) (after : HostLink D) : Type 0 where
   pub never_falls : faults before.depot ≤ faults after.depot
   pub counted : after.faults ≡ faults_after made.answer before.faults
-  pub served : (Rose (faults before.depot) (faults after.depot) → ⊥) → (held : Holding) (desk : Desk) → IsAt contents held before desk
-      → comes_free desk made.move → Served contents held desk made after
+  -- no move of a key fails
+  pub quiet : listens made.move ≡ false → after.faults ≡ before.faults
+  pub stays_sure : IsSureLink sure before → IsSureLink sure after
+  pub calm : IsSureLink sure before → faults after.depot ≡ faults before.depot
+  pub served : ReadsWell (IsSureLink sure before) (faults before.depot) (faults after.depot) → (held : Holding) (desk : Desk)
+      → IsAt contents held before desk → comes_free desk made.move → Served contents held desk made after
 
 -- at most so many takes give bytes yet
 abbrev pub steps_left : {D : Type 0} → HostLink D → ℕ
@@ -72,8 +89,21 @@ pub record IsServed {D : Type 0} (contents : D → Option Files) (held : Holding
   pub stands : IsAt contents held after last
 
 -- by whatever moves such a link went, they were served as by a host that holds what its host holds
-abbrev pub SessionsAreServed : {D : Type 0} → (contents : D → Option Files) → (faults : D → ℕ) → Type 0
-SessionsAreServed {D} contents faults =
-    (before after : HostLink D) (journal : Journal) (held : Holding) (desk : Desk) → Steps (Moves contents faults) before journal after
+abbrev pub SessionsAreServed : {D : Type 0} → (contents : D → Option Files) → (faults : D → ℕ) → (sure : D → List ℕ → Type 0) → Type 0
+SessionsAreServed {D} contents faults sure =
+    (before after : HostLink D) (journal : Journal) (held : Holding) (desk : Desk) → Steps (Moves contents faults sure) before journal after
     → (Rose (faults before.depot) (faults after.depot) → ⊥) → IsAt contents held before desk → SendsFree held desk journal
     → IsServed contents held desk journal after
+
+-- a journal was served, the depot is as sure of the host's file as before, and its count of faults is the same
+pub record IsServedSurely {D : Type 0} (contents : D → Option Files) (faults : D → ℕ) (sure : D → List ℕ → Type 0) (held : Holding) (desk : Desk) (before : HostLink D) (journal : Journal) (after : HostLink D) : Type 0 where
+  pub served : IsServed contents held desk journal after
+  pub sure_still : IsSureLink sure after
+  pub calm : faults after.depot ≡ faults before.depot
+
+-- over a depot that is sure of the host's file they were served so
+abbrev pub SureSessionsAreServed : {D : Type 0} → (contents : D → Option Files) → (faults : D → ℕ) → (sure : D → List ℕ → Type 0) → Type 0
+SureSessionsAreServed {D} contents faults sure =
+    (before after : HostLink D) (journal : Journal) (held : Holding) (desk : Desk) → Steps (Moves contents faults sure) before journal after
+    → IsSureLink sure before → IsAt contents held before desk → SendsFree held desk journal
+    → IsServedSurely contents faults sure held desk before journal after

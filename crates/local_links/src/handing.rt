@@ -1,10 +1,9 @@
 //! How what a host says is handed out.
 
 ghost use Rattle.std.specs.Prelude.{◌≡◌, ◌≤◌, ◌<◌, ◌+◌, ◌++◌, ◌⊎◌, ℕ, List, [], true, false, length, take, min};
-ghost use Rattle.ghost_model.specs.Causes.{Rose};
 ghost use Rattle.ghost_model.specs.Host.{Holding, Stand};
-ghost use Rattle.host_exec.specs.Hosts.{IsSameHost, steps_of};
-ghost use Rattle.local_links.specs.Desks.{kept, size_of, Owes, Nearer};
+ghost use Rattle.host_exec.specs.Hosts.{IsSameHost, name_of, steps_of};
+ghost use Rattle.local_links.specs.Desks.{kept, size_of, Owes, ReadsWell, Nearer};
 
 use crate::speech::Speech;
 use channel_codec::frame::FRAME_BYTES;
@@ -44,9 +43,11 @@ impl Speech {
         ensures never_falls { D.faults depot.old ≤ D.faults depot.new }
         ensures appends { D.append_faults depot.new ≡ D.append_faults depot.old }
         ensures contents { D.contents depot.new ≡ D.contents depot.old }
-        ensures owed { (Rose (D.faults depot.old) (D.faults depot.new) → ⊥) → (held : Holding) (bytes : List ℕ) (stand : Stand)
+        ensures stays_sure { D.sure depot.old (name_of host.old) → D.sure depot.new (name_of host.new) }
+        ensures calm { D.sure depot.old (name_of host.old) → D.faults depot.new ≡ D.faults depot.old }
+        ensures owed { ReadsWell (D.sure depot.old (name_of host.old)) (D.faults depot.old) (D.faults depot.new) → (held : Holding) (bytes : List ℕ) (stand : Stand)
             → Owes held (D.contents depot.old) host.old self.old bytes stand → Owes held (D.contents depot.new) host.new self.new bytes stand }
-        ensures none { (Rose (D.faults depot.old) (D.faults depot.new) → ⊥) → (held : Holding) (bytes : List ℕ) (stand : Stand)
+        ensures none { ReadsWell (D.sure depot.old (name_of host.old)) (D.faults depot.old) (D.faults depot.new) → (held : Holding) (bytes : List ℕ) (stand : Stand)
             → Owes held (D.contents depot.old) host.old self.old bytes stand → result ≡ false → bytes ≡ [] }
         ensures fewer { result ≡ true → Nearer (steps_of host.old) (size_of self.old) (steps_of host.new) (size_of self.new) }
     {

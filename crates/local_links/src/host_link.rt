@@ -10,8 +10,8 @@ ghost use Rattle.edge_traits.specs.Files.{file_of};
 ghost use Rattle.edge_traits.specs.Links.{entry, Steps, steps_stay, steps_join};
 ghost use Rattle.host_exec.specs.Hosts.{Holds, StandsAs, name_of};
 ghost use Rattle.session_laws.specs.Serving.{Desk, first_desk};
-ghost use Rattle.local_links.specs.Desks.{Owes};
-ghost use Rattle.local_links.specs.Links.{IsAt, Served, HandsOn, Moves, steps_left, depot_of, faults_of};
+ghost use Rattle.local_links.specs.Desks.{Owes, ReadsWell};
+ghost use Rattle.local_links.specs.Links.{IsAt, Served, HandsOn, Moves, IsSureLink, steps_left, depot_of, faults_of};
 
 use crate::speech::Speech;
 use channel_codec::reading::{Got, frame_of};
@@ -38,6 +38,7 @@ impl<D: Depot + Drop> HostLink<D> {
     pub fn new(host: Host, depot: D) -> HostLink<D>
         ensures faults { faults_of result ≡ 0 }
         ensures depot { depot_of result ≡ depot }
+        ensures sure { D.sure depot (name_of host) → IsSureLink D.sure result }
         ensures stands { (held : Holding) (file : List ℕ) → file_of (D.contents depot) (name_of host) ≡ Some file → Holds held file host
             → StandsAs host file [] standing.Greeting → IsAt D.contents held result first_desk }
     {
@@ -65,6 +66,7 @@ impl<D: Depot + Drop> HostLink<D> {
     fn hear(&mut self, bytes: &[u8])
         ensures faults { self.new.faults ≡ self.old.faults }
         ensures depot { self.new.depot ≡ self.old.depot }
+        ensures name { name_of self.new.host ≡ name_of self.old.host }
         ensures heard { (held : Holding) (desk : Desk) → IsAt D.contents held self.old desk → desk.owed ≡ []
             → Served D.contents held desk (entry (channel.Send bytes.now) channel.Made) self.new }
     {
@@ -86,7 +88,9 @@ impl<D: Depot + Drop> HostLink<D> {
         ensures faults { self.new.faults ≡ self.old.faults }
         ensures never_falls { D.faults self.old.depot ≤ D.faults self.new.depot }
         ensures fewer { IfSome result (λ count. steps_left self.new < steps_left self.old) }
-        ensures handed { (Rose (D.faults self.old.depot) (D.faults self.new.depot) → ⊥) → (held : Holding) (bytes : List ℕ) (stand : Stand)
+        ensures stays_sure { IsSureLink D.sure self.old → IsSureLink D.sure self.new }
+        ensures calm { IsSureLink D.sure self.old → D.faults self.new.depot ≡ D.faults self.old.depot }
+        ensures handed { ReadsWell (IsSureLink D.sure self.old) (D.faults self.old.depot) (D.faults self.new.depot) → (held : Holding) (bytes : List ℕ) (stand : Stand)
             → Owes held (D.contents self.old.depot) self.old.host self.old.speech bytes stand
             → HandsOn bytes result (λ count. take count (drop have buf.new)) (λ rest. Owes held (D.contents self.new.depot) self.new.host self.new.speech rest stand) }
     {
@@ -99,13 +103,13 @@ impl<D: Depot + Drop> HostLink<D> {
 }
 
 impl<D: Depot + Drop> Link for HostLink<D> {
-    ghost went = { Steps (Moves D.contents D.faults) };
+    ghost went = { Steps (Moves D.contents D.faults D.sure) };
 
     ghost faults = { λ link. link.faults };
 
-    ghost stays = { steps_stay (Moves D.contents D.faults) };
+    ghost stays = { steps_stay (Moves D.contents D.faults D.sure) };
 
-    ghost joins = { steps_join (Moves D.contents D.faults) };
+    ghost joins = { steps_join (Moves D.contents D.faults D.sure) };
 
     fn dial(&mut self, _at: &str) -> Result<(), Failed> {
         let _count = self.faults;

@@ -19,6 +19,7 @@ pieces-preserved g c =
       same = c.in_ok-check_piece.ensures.same ∙ c.pieces.invariant.same;
       faults = c.in_ok-check_piece.ensures.cause.other ∙ c.pieces.invariant.faults;
       appends = c.in_ok-check_piece.ensures.appends ∙ c.pieces.invariant.appends;
+      sure = λ is. c.in_ok-check_piece.ensures.stays_sure (c.pieces.invariant.sure is);
       within = on.1;
       good = λ file is row low high.
           (let there = ap (λ k. file_of k c.args.name.now) c.pieces.invariant.same ∙ is in

@@ -9,6 +9,7 @@ invariant-pieces g l = record {
   same : g.D.Depot.contents l.depot ≡ g.D.Depot.contents l.fn.depot;
   faults : g.D.Depot.faults l.depot ≡ g.D.Depot.faults l.fn.depot;
   appends : g.D.Depot.append_faults l.depot ≡ g.D.Depot.append_faults l.fn.depot;
+  sure : g.D.Depot.sure l.fn.depot l.name → g.D.Depot.sure l.depot l.name;
   within : l.next ≤ l.rows;
   good : (file : List ℕ) → file_of (g.D.Depot.contents l.fn.depot) l.name ≡ Some file → GoodRows (map kind_of l.kinds) file l.start l.width 0 l.next;
 }

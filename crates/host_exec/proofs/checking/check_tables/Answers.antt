@@ -15,6 +15,7 @@ tables-preserved g c = record {
   same = c.in_ok-check_table.ensures.same ∙ c.tables.invariant.same;
   faults = c.in_ok-check_table.ensures.cause.other ∙ c.tables.invariant.faults;
   appends = c.in_ok-check_table.ensures.appends ∙ c.tables.invariant.appends;
+  sure = λ is. c.in_ok-check_table.ensures.stays_sure (c.tables.invariant.sure is);
   good = λ file is table inside.
       (let there = ap (λ k. file_of k c.args.name.now) c.tables.invariant.same ∙ is in
       let now = subst (λ (b : Bool). MatchBool b (GoodTable c.args.catalog.now file c.tables.table) (BadTable c.args.catalog.now file c.tables.table)) c.if-not-branch.false (c.in_ok-check_table.ensures.checked file there) in

@@ -8,6 +8,7 @@ invariant-bytes g l = record {
   same : g.D.Depot.contents l.depot ≡ g.D.Depot.contents l.fn.depot;
   faults : g.D.Depot.faults l.depot ≡ g.D.Depot.faults l.fn.depot;
   appends : g.D.Depot.append_faults l.depot ≡ g.D.Depot.append_faults l.fn.depot;
+  sure : g.D.Depot.sure l.fn.depot l.name → g.D.Depot.sure l.depot l.name;
   within : l.have ≤ length l.buf;
   front : (file : List ℕ) → file_of (g.D.Depot.contents l.fn.depot) l.name ≡ Some file → take l.have l.buf ≡ window file l.at l.have;
 }

@@ -11,6 +11,7 @@ invariant-pieces g l = record {
   same : g.D.Depot.contents l.depot ≡ g.D.Depot.contents l.fn.depot;
   faults : g.D.Depot.faults l.depot ≡ g.D.Depot.faults l.fn.depot;
   appends : g.D.Depot.append_faults l.depot ≡ g.D.Depot.append_faults l.fn.depot;
+  sure : g.D.Depot.sure l.fn.depot l.name → g.D.Depot.sure l.depot l.name;
   room : HasRoom (form_view l.form) l.most l.batch;
   goes_on : l.place ≤ l.next;
   sparse : l.batch.rows + l.place ≤ l.fn.batch.rows + l.next;

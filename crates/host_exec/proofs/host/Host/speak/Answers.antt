@@ -2,7 +2,7 @@ use Rattle.std.proofs.Common.{◌≡◌, inl, inr, ap, sym, subst, ◌∙◌, re
 use Rattle.ghost_model.specs.Causes.{Rose}
 use Rattle.edge_traits.specs.Files.{file_of}
 use Rattle.host_exec.specs.Hosts.{name_of}
-use Rattle.host_exec.proofs.Speaking.{speaks_on, speaks_in_vain, speaks_all, told_more, same_more, owing_now, not_over_resting}
+use Rattle.host_exec.proofs.Speaking.{speaks_on, speaks_in_vain, speaks_all, told_more, same_more, owing_now, not_over_resting, granted_calm, neither}
 use Rattle.host_exec.proofs.host.Host.speak.Goals as goal
 
 pub frames-init : goal.frames-init
@@ -10,6 +10,9 @@ frames-init g c = record {
   same = record { name = refl; catalog = refl; starts = refl };
   contents = refl;
   appends = refl;
+  sure = λ is. is;
+  calm = λ is. refl;
+  granted = λ is. refl;
   never_falls = omega arith;
   nearer = omega arith;
   over = λ is. is;
@@ -34,6 +37,9 @@ frames-preserved g c =
       same = same_more _ _ _ so.same c.say.ensures.same;
       contents = c.say.ensures.depot ∙ so.contents;
       appends = c.say.ensures.appends ∙ so.appends;
+      sure = λ is. c.say.ensures.stays_sure (so.sure is);
+      calm = λ is. granted_calm c.in-Some.said.refused _ _ (c.in-Some.ensures.granted (so.sure is)) c.in-Some.ensures.told ∙ so.calm is;
+      granted = λ is. neither c.frames.refused c.in-Some.said.refused _ c.either-refused.ensures.value (so.granted is) (c.in-Some.ensures.granted (so.sure is));
       never_falls = (let a = so.never_falls in let b = c.say.ensures.never_falls in omega (arith, a, b));
       nearer = (let a = so.nearer in let b = c.in-Some.ensures.fewer in omega (arith, a, b));
       over = λ is. absurd (not_over_resting _ c.in-Some.ensures.rests is);
@@ -68,6 +74,14 @@ returns-in-Err-clause-speaks g c =
       )
     ])
 
+pub returns-in-Err-clause-stays_sure : goal.returns-in-Err-clause-stays_sure
+returns-in-Err-clause-stays_sure g c is = c.say.ensures.stays_sure (c.frames.invariant.sure is)
+
+pub returns-in-Err-clause-calm : goal.returns-in-Err-clause-calm
+returns-in-Err-clause-calm g c is =
+    let so = c.frames.invariant in
+    granted_calm c.in-Some.said.refused _ _ (c.in-Some.ensures.granted (so.sure is)) c.in-Some.ensures.told ∙ so.calm is
+
 pub returns-in-Err-clause-over : goal.returns-in-Err-clause-over
 returns-in-Err-clause-over g c over = absurd (not_over_resting _ c.in-Some.ensures.rests over)
 
@@ -75,6 +89,12 @@ pub returns-in-Err-clause-link : goal.returns-in-Err-clause-link
 returns-in-Err-clause-link g c =
     let so = c.frames.invariant in
     inl (subst (λ n. Rose n (g.L.Link.faults c.send.new.self)) so.link c.in-Err.ensures.cause.failed)
+
+pub returns-in-None-clause-stays_sure : goal.returns-in-None-clause-stays_sure
+returns-in-None-clause-stays_sure g c is = c.say.ensures.stays_sure (c.frames.invariant.sure is)
+
+pub returns-in-None-clause-calm : goal.returns-in-None-clause-calm
+returns-in-None-clause-calm g c is = c.in-None.ensures.quiet ∙ c.frames.invariant.calm is
 
 pub returns-in-None-clause-over : goal.returns-in-None-clause-over
 returns-in-None-clause-over g c over = c.frames.invariant.over (sym (ap (λ h. h.stage) c.in-None.ensures.none) ∙ over)

@@ -2,7 +2,7 @@ use Rattle.std.proofs.Common.{◌≡◌, ◌+◌, ap, sym, subst, ◌∙◌, ref
 use Rattle.ghost_model.specs.Causes.{Rose}
 use Rattle.edge_traits.specs.Files.{file_of}
 use Rattle.host_exec.specs.Hosts.{name_of}
-use Rattle.host_exec.proofs.Speaking.{same_more, told_more}
+use Rattle.host_exec.proofs.Speaking.{same_more, told_more, neither}
 use Rattle.host_exec.proofs.Silence.{holds_on}
 use Rattle.host_exec.proofs.Endings.{turns_begin, turns_on, turns_lost, turns_bad, turns_bye, turns_depot, fits_first, fits_on, never_over}
 use Rattle.host_exec.proofs.host.Host.take_turns.Goals as goal
@@ -12,6 +12,9 @@ turns-init g c = record {
   same = record { name = refl; catalog = refl; starts = refl };
   contents = refl;
   appends = refl;
+  sure = λ is. is;
+  calm = λ is. refl;
+  granted = λ is. refl;
   never_falls = omega arith;
   running = never_over _ c.requires.begins;
   fits = fits_first _ c.catalog_len-bytes.result _ (sym c.catalog_len-bytes.ensures.value) (search rules) c.requires.begins;
@@ -43,6 +46,9 @@ turns-preserved g c =
       same = same_more _ _ _ so.same c.take_turn.ensures.same;
       contents = c.take_turn.ensures.contents ∙ so.contents;
       appends = c.take_turn.ensures.appends ∙ so.appends;
+      sure = λ is. c.take_turn.ensures.stays_sure (so.sure is);
+      calm = λ is. c.take_turn.ensures.calm (so.sure is) ∙ so.calm is;
+      granted = λ is. neither c.turns.failed c.in-Answered.refused _ c.either-failed.ensures.value (so.granted is) (c.in-Answered.ensures.granted (so.sure is));
       never_falls = (let a = so.never_falls in let b = c.take_turn.ensures.never_falls in omega (arith, a, b));
       running = search rules;
       fits = fits_on c.turns.at c.in-Answered.size _ _ so.fits c.in-Answered.ensures.short (c.in-Answered.ensures.fewer refl);

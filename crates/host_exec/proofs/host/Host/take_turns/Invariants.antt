@@ -1,4 +1,4 @@
-use Rattle.std.proofs.Common.{◌≡◌, ◌≤◌, ◌+◌, ◌*◌, Some, MatchBool}
+use Rattle.std.proofs.Common.{◌≡◌, ◌≤◌, ◌+◌, ◌*◌, Some, MatchBool, false}
 use Rattle.ghost_model.specs.Causes.{Rose}
 use Rattle.edge_traits.specs.Files.{file_of}
 use Rattle.host_exec.specs.Hosts.{IsSameHost, Holds, name_of, steps_of}
@@ -11,6 +11,9 @@ invariant-turns g l = record {
   same : IsSameHost l.fn.self l.self;
   contents : g.D.Depot.contents l.depot ≡ g.D.Depot.contents l.fn.depot;
   appends : g.D.Depot.append_faults l.depot ≡ g.D.Depot.append_faults l.fn.depot;
+  sure : g.D.Depot.sure l.fn.depot (name_of l.fn.self) → g.D.Depot.sure l.depot (name_of l.self);
+  calm : g.D.Depot.sure l.fn.depot (name_of l.fn.self) → g.D.Depot.faults l.depot ≡ g.D.Depot.faults l.fn.depot;
+  granted : g.D.Depot.sure l.fn.depot (name_of l.fn.self) → l.failed ≡ false;
   never_falls : g.D.Depot.faults l.fn.depot ≤ g.D.Depot.faults l.depot;
   running : l.self.stage ≡ stage.Over → ⊥;
   fits : l.at + 2048 * steps_of l.self ≤ 18446744073709551615;

@@ -1,0 +1,143 @@
+-- How the command ended, from what its parts did.
+use Rattle.std.proofs.Common.{◌≡◌, ◌≤◌, ◌+◌, min, ℕ, Bool, true, false, List, [], Option, None, Some, Result, Ok, Err, refl, sym, ap, ◌∙◌, subst}
+use Rattle.std.specs.Prelude.{count_by}
+use Rattle.ghost_model.specs.Causes.{Rose, last_count}
+use Rattle.ghost_model.specs.Channel.{Catalog}
+use Rattle.ghost_model.specs.Database.{IsDatabase}
+use Rattle.ghost_model.specs.Flash.{HoldsCatalog, HoldsColumns}
+use Rattle.ghost_model.specs.Layout.{need}
+use Rattle.ghost_model.specs.Printed.{printed}
+use Rattle.ghost_model.specs.Schema.{Schema}
+use Rattle.ghost_model.specs.Split.{hidden_of}
+use Rattle.ghost_model.specs.Texts.{texts_of}
+use Rattle.ghost_model.specs.Values.{Database}
+use Rattle.ghost_model.specs.Work.{pages_built}
+use Rattle.edge_traits.specs.Devices.{KeepsPages}
+use Rattle.edge_traits.specs.Written.{grown}
+use Rattle.key_inputs.specs.Openings.{Opening}
+use Rattle.key_plain.specs.Openings.{PlainInput}
+use Rattle.key_lines.specs.Handing.{Hands, handed}
+use Rattle.local_lines.specs.Lines.{Gives, bytes_given, is_cut}
+use Rattle.key_local.specs.Sessions.{Subject, subject, catalog_for, World, Ran, HasLines, outside_in, is_sink}
+use Rattle.key_local.specs.Results.{EndsLocal, Ends, EndsSome, subject_of, blames_depot, blames_flash, is_faultless}
+use Rattle.key_local.specs.Making.{IsOfMaking}
+use Rattle.key_local.specs.Reading.{AreSpelled}
+use Rattle.key_local.specs.Running.{RanOver}
+use Rattle.key_local.specs.declared.ends.LocalEnd.{LocalEnd}
+use Rattle.key_local.specs.declared.ends.LocalEnd.TheVariants as ends
+use Rattle.key_local.specs.declared.ends.LocalFailure.{LocalFailure}
+use Rattle.key_local.specs.declared.ends.LocalFailure.TheVariants as failure
+use Rattle.key_local.specs.declared.opening.Opened.{Opened}
+use Rattle.key_local.proofs.Keeping.{lines_there}
+
+-- what was given since the flash was made was given since before
+gives_since : (schema : Schema) (database : Database) (texts : List (List ℕ)) (failed : Bool) (before middle after : World)
+    → middle.device.faults ≡ before.device.faults → middle.sink_faults ≡ before.sink_faults → middle.written ≡ before.written
+    → Gives schema database texts (outside_in false middle) (outside_in failed after) → Gives schema database texts (outside_in false before) (outside_in failed after)
+gives_since schema database texts failed before middle after faults sink written gives = record {
+  given = gives.given;
+  lines = gives.lines;
+  handed_on =
+      subst (λ (written : Option (List ℕ)). Hands (bytes_given gives.given) (handed false before.sink_faults written) (handed failed after.sink_faults after.written)) written
+      (subst (λ (count : ℕ). Hands (bytes_given gives.given) (handed false count middle.written) (handed failed after.sink_faults after.written)) sink gives.handed_on);
+  blamed = subst (λ (count : ℕ). min (count + count_by is_cut gives.given) last_count ≤ after.device.faults) faults gives.blamed;
+}
+
+-- the session ran over what was made for it
+pub ran_of : (told : Bool) (schema : Schema) (database : Database) (texts : List (List ℕ)) (name : Option (List ℕ)) (end : LocalEnd) (catalog : Catalog) (before middle after : World)
+    → catalog ≡ catalog_for schema database → RanOver told catalog database texts name end middle after
+    → middle.device.faults ≡ before.device.faults → middle.append_faults ≡ before.append_faults → middle.sink_faults ≡ before.sink_faults → middle.written ≡ before.written
+    → HasLines middle.files name []
+    → (told ≡ true → HoldsCatalog middle.device.page catalog) → (told ≡ true → HoldsColumns middle.device.page catalog (hidden_of schema database))
+    → middle.device.page_count ≡ need catalog → KeepsPages middle.device after.device
+    → Ran told (subject schema database texts name) end before after
+ran_of told schema database texts name end catalog before middle after same ran faults appends sink written empty catalog_there columns_there pages kept =
+    let mine : RanOver told (catalog_for schema database) database texts name end middle after = subst (λ (c : Catalog). RanOver told c database texts name end middle after) same ran in
+    record {
+      journal = mine.journal;
+      is_local = mine.is_local;
+      finished = mine.finished;
+      kept = λ calm. lines_there name mine.journal middle.files after.files mine.finished empty
+          (mine.kept (λ rose. calm (subst (λ (count : ℕ). Rose count after.append_faults) appends rose)));
+      gives = λ t. gives_since schema database texts (is_sink end) before middle after faults sink written (mine.gives t);
+      printed_all = λ t whole. mine.printed_all t whole ∙ ap (λ (held : Option (List ℕ)). grown held (printed schema texts database)) written;
+      undamaged = mine.undamaged;
+      catalog = λ t. subst (λ (page : ℕ → List ℕ). HoldsCatalog page (catalog_for schema database)) (sym kept.page)
+          (subst (λ (c : Catalog). HoldsCatalog middle.device.page c) same (catalog_there t));
+      columns = λ t. subst (λ (page : ℕ → List ℕ). HoldsColumns page (catalog_for schema database) (hidden_of schema database)) (sym kept.page)
+          (subst (λ (c : Catalog). HoldsColumns middle.device.page c (hidden_of schema database)) same (columns_there t));
+      pages = kept.page_count ∙ (pages ∙ ap need same);
+    }
+
+-- the making failed
+pub unmade : (told : Bool) (schema : Schema) (database : Database) (texts : List (List ℕ)) (name : Option (List ℕ)) (catalog : Catalog) (before after : World) (fault : LocalFailure)
+    → catalog ≡ catalog_for schema database → IsOfMaking {T = Unit {0}} (Err fault) → after.device.calls ≤ before.device.calls + pages_built catalog
+    → EndsLocal told (subject schema database texts name) (Err fault) before after
+unmade told schema database texts name catalog before after failure.NoMemory same of few = tt
+unmade told schema database texts name catalog before after failure.Depot same of few = tt
+unmade told schema database texts name catalog before after (failure.Input broken) same of few = of
+unmade told schema database texts name catalog before after failure.Flash same of few =
+    record { few_calls = subst (λ (c : Catalog). after.device.calls ≤ before.device.calls + pages_built c) same few }
+
+abbrev inputs_of : Opened → (files : List (List ℕ)) → PlainInput
+inputs_of opened files = record { schema = opened.tables.schema; files = files; script = opened.script.items }
+
+abbrev subject_read : Opened → (name : Option (List ℕ)) → Subject
+subject_read opened name = subject opened.tables.schema opened.tables.tables (texts_of opened.script.items) name
+
+same_subject : (opened : Opened) (opening : Opening PlainInput) (name : Option (List ℕ)) → (are : AreSpelled opening opened)
+    → subject_read opened name ≡ subject_of (inputs_of opened are.files) name
+same_subject opened opening name are =
+    ap (λ (database : Database). subject opened.tables.schema database (texts_of opened.script.items) name) are.tables
+
+-- the call ended so over what the files spell
+pub ends_spelled : (told : Bool) (opening : Opening PlainInput) (opened : Opened) (name : Option (List ℕ)) (result : Result LocalEnd LocalFailure) (before after : World)
+    → AreSpelled opening opened → EndsLocal told (subject_read opened name) result before after → Ends told opening name result before after
+ends_spelled told opening opened name (Ok end) before after are ended = record {
+  input = inputs_of opened are.files;
+  spelled = are.spelled;
+  ended = subst (λ (one : Subject). EndsLocal told one (Ok end) before after) (same_subject opened opening name are) ended;
+}
+ends_spelled told opening opened name (Err failure.NoMemory) before after are ended = tt
+ends_spelled told opening opened name (Err failure.Depot) before after are ended = tt
+ends_spelled told opening opened name (Err (failure.Input broken)) before after are ended = absurd ended
+ends_spelled told opening opened name (Err failure.Flash) before after are ended = record {
+  input = inputs_of opened are.files;
+  spelled = are.spelled;
+  ended = subst (λ (one : Subject). EndsLocal told one (Err failure.Flash) before after) (same_subject opened opening name are) ended;
+}
+
+-- it ended so over what was read
+pub ends_some : (told : Bool) (opened : Opened) (name : Option (List ℕ)) (result : Result LocalEnd LocalFailure) (before after : World)
+    → IsDatabase opened.tables.schema opened.tables.tables → EndsLocal told (subject_read opened name) result before after → EndsSome told name result before after
+ends_some told opened name (Ok end) before after are ended = record {
+  schema = opened.tables.schema;
+  database = opened.tables.tables;
+  texts = texts_of opened.script.items;
+  are = are;
+  ended = ended;
+}
+ends_some told opened name (Err failure.NoMemory) before after are ended = tt
+ends_some told opened name (Err failure.Depot) before after are ended = tt
+ends_some told opened name (Err (failure.Input broken)) before after are ended = tt
+ends_some told opened name (Err failure.Flash) before after are ended = record {
+  schema = opened.tables.schema;
+  database = opened.tables.tables;
+  texts = texts_of opened.script.items;
+  are = are;
+  ended = ended;
+}
+
+-- nothing that was to be unbroken ended otherwise
+pub faultless : (told : Bool) (one : Subject) (result : Result LocalEnd LocalFailure) (before after : World) → EndsLocal told one result before after
+    → (blames_depot result ≡ true → ⊥) → (blames_flash result ≡ true → ⊥) → (result ≡ Ok ends.Sink → ⊥) → is_faultless told result ≡ true
+faultless told one (Ok ends.Ok) before after ended depot flash sink = refl
+faultless told one (Ok ends.Sink) before after ended depot flash sink = absurd (sink refl)
+faultless told one (Ok ends.Depot) before after ended depot flash sink = absurd (depot refl)
+faultless told one (Ok ends.Flash) before after ended depot flash sink = absurd (flash refl)
+faultless true one (Ok (ends.Damaged page slot found)) before after ended depot flash sink = let none = ended.undamaged refl in cc
+faultless false one (Ok (ends.Damaged page slot found)) before after ended depot flash sink = refl
+faultless told one (Err failure.NoMemory) before after ended depot flash sink = refl
+faultless told one (Err failure.Depot) before after ended depot flash sink = absurd (depot refl)
+faultless told one (Err (failure.Input broken)) before after ended depot flash sink = absurd ended
+faultless told one (Err failure.Flash) before after ended depot flash sink = absurd (flash refl)

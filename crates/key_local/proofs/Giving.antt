@@ -1,0 +1,79 @@
+-- What a session ran over, from what the key, the link and the journal's file tell.
+use Rattle.std.proofs.Common.{◌≡◌, ℕ, Bool, true, false, List, [], length, Option, None, Some, refl, sym, ap, ◌∙◌, subst}
+use Rattle.std.specs.List.{list_any}
+use Rattle.ghost_model.specs.Asks.{asked_of}
+use Rattle.ghost_model.specs.Causes.{Rose}
+use Rattle.ghost_model.specs.Channel.{Catalog, Journal}
+use Rattle.ghost_model.specs.Moves.{taken}
+use Rattle.ghost_model.specs.NextMove.{Left, left, heard, IsFinished}
+use Rattle.ghost_model.specs.Printed.{printed}
+use Rattle.ghost_model.specs.Split.{hidden_of}
+use Rattle.ghost_model.specs.Values.{Database}
+use Rattle.edge_traits.specs.Written.{grown}
+use Rattle.session_laws.specs.Local.{IsLocal, IsUnbroken, LocalSessionsAreServed}
+use Rattle.key_session.specs.Refusing.{first_code}
+use Rattle.key_session.specs.Running.{IsTally, status_of, is_sink as wrote_none}
+use Rattle.key_session.specs.Telling.{Outside, AreTold}
+use Rattle.key_session.specs.declared.tally.SessionStatus.{SessionStatus}
+use Rattle.key_session.specs.declared.tally.SessionStatus.TheVariants as status
+use Rattle.key_session.specs.declared.tally.Tally.{Tally}
+use Rattle.local_lines.specs.Lines.{Gives, GivesByTally, ToldTextsAreGiven, is_cut}
+use Rattle.key_local.specs.Running.{RanOver, KeepsLines, is_damage}
+use Rattle.key_local.specs.Sessions.{World, outside_in, is_sink, is_damaged}
+use Rattle.key_local.specs.declared.ends.LocalEnd.{LocalEnd}
+use Rattle.key_local.specs.declared.ends.LocalEnd.TheVariants as ends
+use Rattle.key_local.proofs.Statuses.{none_stops, no_code, whole_status, no_damage}
+
+not_so : (b : Bool) → (b ≡ true → ⊥) → b ≡ false
+not_so true never = absurd (never refl)
+not_so false never = refl
+
+false_is_not : false ≡ true → ⊥
+false_is_not e = cc
+
+module _ (catalog : Catalog) (database : Database) (texts : List (List ℕ)) (journal : Journal) (unbroken : IsUnbroken catalog database texts journal) where
+  abbrev session : Left
+  session = left catalog (asked_of catalog.schema texts) journal
+
+  pub going : session.stopped ≡ false
+  going = none_stops journal unbroken.goes_on
+
+  pub valid : session.heard.broken ≡ false
+  valid = unbroken.valid
+
+  pub granted : first_code session.heard.ended ≡ None
+  granted = no_code session.heard.ended unbroken.none_refused
+
+-- a session was held to its end
+pub ran_over : (told : Bool) (catalog : Catalog) (database : Database) (texts : List (List ℕ)) (name : Option (List ℕ)) (end : LocalEnd) (tally : Tally) (before after : World) (journal : Journal)
+    → LocalSessionsAreServed → ToldTextsAreGiven
+    → IsLocal catalog database [] texts journal → IsFinished journal
+    → ((Rose before.append_faults after.append_faults → ⊥) → KeepsLines before.files after.files name journal)
+    → (told ≡ true → AreTold catalog (hidden_of catalog.schema database) texts journal (length texts)
+    (λ reasons. IsTally (wrote_none tally.status) (left catalog (asked_of catalog.schema texts) journal) reasons tally) (outside_in false before) (outside_in (wrote_none tally.status) after))
+    → is_sink end ≡ wrote_none tally.status → (end ≡ ends.Ok → tally.status ≡ status.Ok) → (is_damaged end ≡ true → is_damage tally.status ≡ true)
+    → RanOver told catalog database texts name end before after
+ran_over told catalog database texts name end tally before after journal served given is_local finished kept are_told sink whole damaged =
+    let unbroken = served catalog database [] texts journal is_local in
+    let stays = going catalog database texts journal unbroken in
+    let right = valid catalog database texts journal unbroken in
+    let none = granted catalog database texts journal unbroken in
+    let by_tally : told ≡ true → GivesByTally (wrote_none tally.status) (left catalog (asked_of catalog.schema texts) journal) tally catalog.schema database texts (outside_in false before) (outside_in (wrote_none tally.status) after) =
+    (λ t. given catalog database texts journal (wrote_none tally.status) (left catalog (asked_of catalog.schema texts) journal) tally (outside_in false before) (outside_in (wrote_none tally.status) after) is_local finished (are_told t)) in
+    record {
+      journal = journal;
+      is_local = is_local;
+      finished = finished;
+      kept = kept;
+      gives = λ t. subst (λ (failed : Bool). Gives catalog.schema database texts (outside_in false before) (outside_in failed after)) (sym sink) (by_tally t).gives;
+      printed_all = λ t is.
+          let all = by_tally t in
+          let fine : tally.status ≡ status.Ok = whole is in
+          let uncut : list_any is_cut all.gives.given ≡ false = whole_status (wrote_none tally.status) (left catalog (asked_of catalog.schema texts) journal) (list_any is_cut all.gives.given) stays right none (sym all.status_is ∙ fine) in
+          let took = all.gives.handed_on.whole (ap wrote_none fine) in
+          took.written ∙ ap (λ (piece : List ℕ). grown before.written piece) (all.gives.lines.whole uncut);
+      undamaged = λ t. not_so (is_damaged end) (λ found.
+          let all = by_tally t in
+          let none_found : is_damage tally.status ≡ false = ap is_damage all.status_is ∙ no_damage (wrote_none tally.status) (left catalog (asked_of catalog.schema texts) journal) (list_any is_cut all.gives.given) stays right none in
+          false_is_not (sym none_found ∙ damaged found));
+    }

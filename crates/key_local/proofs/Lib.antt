@@ -1,0 +1,6 @@
+pub mod Settings
+pub mod Journals
+pub mod Keeping
+pub mod Statuses
+pub mod Giving
+pub mod Endings

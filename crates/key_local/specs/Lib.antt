@@ -1,0 +1,7 @@
+pub mod Openings
+pub mod Sessions
+pub mod Results
+pub mod Reading
+pub mod Preparing
+pub mod Making
+pub mod Running

@@ -1,0 +1,166 @@
+-- What a call of `local` did, by its result.
+use Rattle.std.specs.Prelude.{◌≡◌, ℕ, ◌+◌, ◌≤◌, Bool, true, false, not, List, Option, Some, Result, Ok, Err, ⊤}
+use Rattle.ghost_model.specs.Database.{IsDatabase, database_of}
+use Rattle.ghost_model.specs.Schema.{Schema}
+use Rattle.ghost_model.specs.Texts.{texts_of}
+use Rattle.ghost_model.specs.Values.{Database}
+use Rattle.ghost_model.specs.Work.{pages_built}
+use Rattle.key_inputs.specs.Openings.{InputFault, Opening, Spelled, Broken}
+use Rattle.key_inputs.specs.Views.{rule_of}
+use Rattle.key_inputs.specs.declared.faults.InputFault.{InputFault as Fault}
+use Rattle.key_plain.specs.Openings.{PlainInput}
+use Rattle.key_local.specs.Sessions.{Subject, subject, catalog_in, World, Ran}
+use Rattle.key_local.specs.declared.ends.LocalEnd.{LocalEnd}
+use Rattle.key_local.specs.declared.ends.LocalEnd.TheVariants as ends
+use Rattle.key_local.specs.declared.ends.LocalFailure.{LocalFailure}
+use Rattle.key_local.specs.declared.ends.LocalFailure.TheVariants as failure
+
+-- the flash failed before it was whole: it was called no more often than the making takes
+pub record IsUnmade (one : Subject) (before after : World) : Type 0 where
+  pub few_calls : after.device.calls ≤ before.device.calls + pages_built (catalog_in one)
+
+-- how a call ended whose inputs were read
+abbrev pub EndsLocal : (told : Bool) → Subject → Result LocalEnd LocalFailure → (before after : World) → Type 0
+EndsLocal told one (Ok end) before after = Ran told one end before after
+EndsLocal told one (Err failure.NoMemory) before after = ⊤
+EndsLocal told one (Err failure.Depot) before after = ⊤
+EndsLocal told one (Err (failure.Input broken)) before after = ⊥
+EndsLocal told one (Err failure.Flash) before after = IsUnmade one before after
+
+-- a fault tells the rule that is broken first
+pub record IsTold (opening : Opening PlainInput) (broken : Fault) : Type 0 where
+  pub rule : InputFault
+  pub told : rule_of broken ≡ Some rule
+  pub first : opening ≡ Broken rule
+
+-- the inputs that the files spell, and the file that is named for the journal
+abbrev pub subject_of : PlainInput → (journal : Option (List ℕ)) → Subject
+subject_of input journal =
+    subject input.schema (database_of input.schema input.files) (texts_of input.script) journal
+
+-- the files spell inputs, and over these the call ended so
+pub record EndsSpelled (told : Bool) (opening : Opening PlainInput) (journal : Option (List ℕ)) (result : Result LocalEnd LocalFailure) (before after : World) : Type 0 where
+  pub input : PlainInput
+  pub spelled : opening ≡ Spelled input
+  pub ended : EndsLocal told (subject_of input journal) result before after
+
+-- how a call ended of which the depot tells its files
+abbrev pub Ends : (told : Bool) → Opening PlainInput → (journal : Option (List ℕ)) → Result LocalEnd LocalFailure → (before after : World) → Type 0
+Ends told opening journal (Ok end) before after = EndsSpelled told opening journal (Ok end) before after
+Ends told opening journal (Err failure.NoMemory) before after = ⊤
+Ends told opening journal (Err failure.Depot) before after = ⊤
+Ends told opening journal (Err (failure.Input broken)) before after = IsTold opening broken
+Ends told opening journal (Err failure.Flash) before after = EndsSpelled told opening journal (Err failure.Flash) before after
+
+-- some inputs were read, and over these the call ended so
+pub record EndsRead (told : Bool) (journal : Option (List ℕ)) (result : Result LocalEnd LocalFailure) (before after : World) : Type 0 where
+  pub schema : Schema
+  pub database : Database
+  pub texts : List (List ℕ)
+  pub are : IsDatabase schema database
+  pub ended : EndsLocal told (subject schema database texts journal) result before after
+
+-- how a call ended, whether or not the depot tells its files
+abbrev pub EndsSome : (told : Bool) → (journal : Option (List ℕ)) → Result LocalEnd LocalFailure → (before after : World) → Type 0
+EndsSome told journal (Ok end) before after = EndsRead told journal (Ok end) before after
+EndsSome told journal (Err failure.NoMemory) before after = ⊤
+EndsSome told journal (Err failure.Depot) before after = ⊤
+EndsSome told journal (Err (failure.Input broken)) before after = ⊤
+EndsSome told journal (Err failure.Flash) before after = EndsRead told journal (Err failure.Flash) before after
+
+-- whether a call ends so before the session, and so without a write to the sink and without an append
+abbrev pub is_failure : Result LocalEnd LocalFailure → Bool
+is_failure (Ok end) = false
+is_failure (Err _) = true
+
+-- whether a call ends so before the journal's file is begun
+abbrev pub leaves_files : Result LocalEnd LocalFailure → Bool
+leaves_files (Ok end) = false
+leaves_files (Err failure.NoMemory) = true
+leaves_files (Err failure.Depot) = false
+leaves_files (Err (failure.Input broken)) = true
+leaves_files (Err failure.Flash) = true
+
+-- whether a call ends so before the flash is made
+abbrev pub leaves_flash : Result LocalEnd LocalFailure → Bool
+leaves_flash (Ok end) = false
+leaves_flash (Err failure.NoMemory) = false
+leaves_flash (Err failure.Depot) = false
+leaves_flash (Err (failure.Input broken)) = true
+leaves_flash (Err failure.Flash) = false
+
+-- whether the depot is blamed, and whether its count may have risen without that
+abbrev pub blames_depot : Result LocalEnd LocalFailure → Bool
+blames_depot (Ok ends.Ok) = false
+blames_depot (Ok ends.Sink) = false
+blames_depot (Ok ends.Depot) = true
+blames_depot (Ok ends.Flash) = false
+blames_depot (Ok (ends.Damaged page slot found)) = false
+blames_depot (Err failure.NoMemory) = false
+blames_depot (Err failure.Depot) = true
+blames_depot (Err (failure.Input broken)) = false
+blames_depot (Err failure.Flash) = false
+
+-- whether nothing that comes before the depot is blamed, nor the depot itself
+abbrev pub clears_depot : Result LocalEnd LocalFailure → Bool
+clears_depot (Ok ends.Ok) = true
+clears_depot (Ok ends.Sink) = false
+clears_depot (Ok ends.Depot) = false
+clears_depot (Ok ends.Flash) = true
+clears_depot (Ok (ends.Damaged page slot found)) = true
+clears_depot (Err failure.NoMemory) = true
+clears_depot (Err failure.Depot) = false
+clears_depot (Err (failure.Input broken)) = true
+clears_depot (Err failure.Flash) = true
+
+-- the same of failed appends alone
+abbrev pub blames_append : Result LocalEnd LocalFailure → Bool
+blames_append (Ok ends.Ok) = false
+blames_append (Ok ends.Sink) = false
+blames_append (Ok ends.Depot) = true
+blames_append (Ok ends.Flash) = false
+blames_append (Ok (ends.Damaged page slot found)) = false
+blames_append (Err _) = false
+
+abbrev pub clears_append : Result LocalEnd LocalFailure → Bool
+clears_append (Ok ends.Ok) = true
+clears_append (Ok ends.Sink) = false
+clears_append (Ok ends.Depot) = false
+clears_append (Ok ends.Flash) = true
+clears_append (Ok (ends.Damaged page slot found)) = true
+clears_append (Err _) = true
+
+-- the same of the flash
+abbrev pub blames_flash : Result LocalEnd LocalFailure → Bool
+blames_flash (Ok ends.Ok) = false
+blames_flash (Ok ends.Sink) = false
+blames_flash (Ok ends.Depot) = false
+blames_flash (Ok ends.Flash) = true
+blames_flash (Ok (ends.Damaged page slot found)) = false
+blames_flash (Err failure.NoMemory) = false
+blames_flash (Err failure.Depot) = false
+blames_flash (Err (failure.Input broken)) = false
+blames_flash (Err failure.Flash) = true
+
+abbrev pub clears_flash : Result LocalEnd LocalFailure → Bool
+clears_flash (Ok ends.Ok) = true
+clears_flash (Ok ends.Sink) = false
+clears_flash (Ok ends.Depot) = false
+clears_flash (Ok ends.Flash) = false
+clears_flash (Ok (ends.Damaged page slot found)) = true
+clears_flash (Err failure.NoMemory) = true
+clears_flash (Err failure.Depot) = true
+clears_flash (Err (failure.Input broken)) = true
+clears_flash (Err failure.Flash) = false
+
+-- whether unbroken inputs and no fault can end so: damage only where the flash does not tell its pages
+abbrev pub is_faultless : (told : Bool) → Result LocalEnd LocalFailure → Bool
+is_faultless told (Ok ends.Ok) = true
+is_faultless told (Ok ends.Sink) = false
+is_faultless told (Ok ends.Depot) = false
+is_faultless told (Ok ends.Flash) = false
+is_faultless told (Ok (ends.Damaged page slot found)) = not told
+is_faultless told (Err failure.NoMemory) = true
+is_faultless told (Err failure.Depot) = false
+is_faultless told (Err (failure.Input broken)) = false
+is_faultless told (Err failure.Flash) = false

@@ -1,0 +1,79 @@
+-- What the session itself does, apart from what was made for it.
+use Rattle.std.specs.Prelude.{◌≡◌, ℕ, Bool, true, false, List, [], Option, None, Some, ⊤}
+use Rattle.ghost_model.specs.Causes.{Rose}
+use Rattle.ghost_model.specs.Channel.{Catalog, Journal}
+use Rattle.ghost_model.specs.Host.{Holding}
+use Rattle.ghost_model.specs.Moves.{lines}
+use Rattle.ghost_model.specs.NextMove.{IsFinished}
+use Rattle.ghost_model.specs.Printed.{printed}
+use Rattle.ghost_model.specs.SessionLaws.{IsCatalogOf}
+use Rattle.ghost_model.specs.Values.{Database}
+use Rattle.session_laws.specs.Local.{IsLocal, holding_of}
+use Rattle.edge_traits.specs.Files.{Files}
+use Rattle.edge_traits.specs.Written.{grown}
+use Rattle.local_links.specs.Journaling.{told_file}
+use Rattle.local_links.specs.declared.host_link.HostLink.{HostLink}
+use Rattle.key_session.specs.declared.tally.SessionStatus.{SessionStatus}
+use Rattle.key_session.specs.declared.tally.SessionStatus.TheVariants as status
+use Rattle.local_lines.specs.Lines.{Gives}
+use Rattle.key_local.specs.Sessions.{World, outside_in, is_sink, is_damaged}
+use Rattle.key_local.specs.Preparing.{IsHosted}
+use Rattle.key_local.specs.declared.ends.LocalEnd.{LocalEnd}
+use Rattle.key_local.specs.declared.ends.LocalEnd.TheVariants as ends
+
+-- whether a session with a host in the key's own process can end so
+abbrev pub is_of_local : SessionStatus → Bool
+is_of_local status.Ok = true
+is_of_local status.Sink = true
+is_of_local status.Link = false
+is_of_local (status.Protocol kind at) = false
+is_of_local (status.Host code) = false
+is_of_local status.Flash = true
+is_of_local (status.Damaged damage) = true
+
+-- whether damage was found
+abbrev pub is_damage : SessionStatus → Bool
+is_damage status.Ok = false
+is_damage status.Sink = false
+is_damage status.Link = false
+is_damage (status.Protocol kind at) = false
+is_damage (status.Host code) = false
+is_damage status.Flash = false
+is_damage (status.Damaged damage) = true
+
+-- whether nothing but the sink can have hidden that an append failed, and none did
+abbrev pub clears_journal : LocalEnd → Bool
+clears_journal ends.Ok = true
+clears_journal ends.Sink = false
+clears_journal ends.Depot = false
+clears_journal ends.Flash = true
+clears_journal (ends.Damaged page slot found) = true
+
+-- the same of the flash
+abbrev pub clears_flash : LocalEnd → Bool
+clears_flash ends.Ok = true
+clears_flash ends.Sink = false
+clears_flash ends.Depot = false
+clears_flash ends.Flash = false
+clears_flash (ends.Damaged page slot found) = true
+
+-- a host that holds the public part of some database of the catalog is linked
+pub record IsSomeHosted {D : Type 0} (contents : D → Option Files) (sure : D → List ℕ → Type 0) (catalog : Catalog) (link : HostLink D) : Type 0 where
+  pub database : Database
+  pub stored : IsCatalogOf catalog database
+  pub hosted : IsHosted contents sure (holding_of catalog database) link
+
+-- the named file has grown by the lines of a journal, where the depot tells its files
+abbrev pub KeepsLines : (before after : Option Files) → (name : Option (List ℕ)) → Journal → Type 0
+KeepsLines before after None journal = ⊤
+KeepsLines before after (Some name) journal = told_file after name ≡ grown (told_file before name) (lines journal)
+
+-- a session with a host that holds the public part of a database was held to its end
+pub record RanOver (told : Bool) (catalog : Catalog) (database : Database) (texts : List (List ℕ)) (name : Option (List ℕ)) (end : LocalEnd) (before after : World) : Type 0 where
+  pub journal : Journal
+  pub is_local : IsLocal catalog database [] texts journal
+  pub finished : IsFinished journal
+  pub kept : (Rose before.append_faults after.append_faults → ⊥) → KeepsLines before.files after.files name journal
+  pub gives : told ≡ true → Gives catalog.schema database texts (outside_in false before) (outside_in (is_sink end) after)
+  pub printed_all : told ≡ true → end ≡ ends.Ok → after.written ≡ grown before.written (printed catalog.schema texts database)
+  pub undamaged : told ≡ true → is_damaged end ≡ false

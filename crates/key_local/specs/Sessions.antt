@@ -1,0 +1,102 @@
+-- What a session with a host in the key's own process does: it goes by the one journal of its database and its texts, keeps
+-- that journal where a file is named for it, and gives each text's lines.
+use Rattle.std.specs.Prelude.{◌≡◌, ℕ, Bool, true, false, List, [], ◌∷◌, Option, None, Some, ⊤}
+use Rattle.ghost_model.specs.Causes.{Rose}
+use Rattle.ghost_model.specs.Channel.{Catalog, Journal}
+use Rattle.ghost_model.specs.Database.{row_counts}
+use Rattle.ghost_model.specs.Flash.{HoldsCatalog, HoldsColumns}
+use Rattle.ghost_model.specs.Layout.{need}
+use Rattle.ghost_model.specs.Moves.{lines}
+use Rattle.ghost_model.specs.NextMove.{IsFinished}
+use Rattle.ghost_model.specs.Printed.{printed}
+use Rattle.ghost_model.specs.Schema.{Schema}
+use Rattle.ghost_model.specs.Split.{hidden_of}
+use Rattle.ghost_model.specs.Values.{Database}
+use Rattle.session_laws.specs.Local.{IsLocal}
+use Rattle.edge_traits.specs.Devices.{Device}
+use Rattle.edge_traits.specs.Files.{Files, HasFile, SameBut}
+use Rattle.edge_traits.specs.Written.{grown}
+use Rattle.key_session.specs.Telling.{Outside, outside}
+use Rattle.local_lines.specs.Lines.{Gives}
+use Rattle.key_local.specs.declared.ends.LocalEnd.{LocalEnd}
+use Rattle.key_local.specs.declared.ends.LocalEnd.TheVariants as ends
+
+-- a database of a schema, the texts of a script, and the file that is named for the journal
+pub record Subject : Type 0 where
+  pub schema : Schema
+  pub database : Database
+  pub texts : List (List ℕ)
+  pub journal : Option (List ℕ)
+
+abbrev pub subject : Schema → Database → (texts : List (List ℕ)) → (journal : Option (List ℕ)) → Subject
+subject schema database texts journal =
+    record { schema = schema; database = database; texts = texts; journal = journal }
+
+-- the catalog of the first generation
+abbrev pub catalog_for : Schema → Database → Catalog
+catalog_for schema database = record { schema = schema; counts = row_counts database; generation = 1 }
+
+abbrev pub catalog_in : Subject → Catalog
+catalog_in one = catalog_for one.schema one.database
+
+-- the flash, the depot's files where they are told, the count of failed appends, the sink's count of faults, and what a
+-- sink that tells it was written
+pub record World : Type 0 where
+  pub device : Device
+  pub files : Option Files
+  pub append_faults : ℕ
+  pub sink_faults : ℕ
+  pub written : Option (List ℕ)
+
+abbrev pub world : Device → Option Files → (append_faults sink_faults : ℕ) → Option (List ℕ) → World
+world device files append_faults sink_faults written = record {
+  device = device;
+  files = files;
+  append_faults = append_faults;
+  sink_faults = sink_faults;
+  written = written;
+}
+
+-- where the lines go, and the flash, after a write failed or before
+abbrev pub outside_in : (failed : Bool) → World → Outside
+outside_in failed now = outside failed now.sink_faults now.written now.device
+
+abbrev pub is_sink : LocalEnd → Bool
+is_sink ends.Ok = false
+is_sink ends.Sink = true
+is_sink ends.Depot = false
+is_sink ends.Flash = false
+is_sink (ends.Damaged page slot found) = false
+
+abbrev pub is_damaged : LocalEnd → Bool
+is_damaged ends.Ok = false
+is_damaged ends.Sink = false
+is_damaged ends.Depot = false
+is_damaged ends.Flash = false
+is_damaged (ends.Damaged page slot found) = true
+
+-- the file that is named for it has the lines of a journal and no more, where the depot tells its files
+abbrev pub HasLines : Option Files → (name : Option (List ℕ)) → Journal → Type 0
+HasLines files None journal = ⊤
+HasLines files (Some name) journal = HasFile files name (lines journal)
+
+-- the files stay but for the one that is named
+abbrev pub SameBesides : (name : Option (List ℕ)) → (before after : Option Files) → Type 0
+SameBesides None before after = after ≡ before
+SameBesides (Some name) before after = SameBut name before after
+
+-- a session was held to its end
+pub record Ran (told : Bool) (one : Subject) (end : LocalEnd) (before after : World) : Type 0 where
+  pub journal : Journal
+  pub is_local : IsLocal (catalog_in one) one.database [] one.texts journal
+  pub finished : IsFinished journal
+  -- where no append failed, the journal is kept
+  pub kept : (Rose before.append_faults after.append_faults → ⊥) → HasLines after.files one.journal journal
+  -- each text has its lines, or a front of them where the flash failed
+  pub gives : told ≡ true → Gives one.schema one.database one.texts (outside_in false before) (outside_in (is_sink end) after)
+  pub printed_all : told ≡ true → end ≡ ends.Ok → after.written ≡ grown before.written (printed one.schema one.texts one.database)
+  pub undamaged : told ≡ true → is_damaged end ≡ false
+  -- and the flash has been made for it
+  pub catalog : told ≡ true → HoldsCatalog after.device.page (catalog_in one)
+  pub columns : told ≡ true → HoldsColumns after.device.page (catalog_in one) (hidden_of one.schema one.database)
+  pub pages : after.device.page_count ≡ need (catalog_in one)

@@ -1,0 +1,55 @@
+//! How the command ended.
+
+use key_inputs::InputFault;
+use thiserror::Error;
+
+/// How a session ended: the first of these that is so, in the order `Sink`, `Depot`, `Flash`, `Damaged`, `Ok`.
+#[derive(Clone, Copy, Debug, Drop, Error, PartialEq, Eq)]
+pub enum LocalEnd {
+    /// All lines were printed, and the journal was written where one was to be kept.
+    #[error("done")]
+    Ok,
+
+    /// A line could not be printed.
+    #[error("the lines could not be printed")]
+    Sink,
+
+    /// A line of the journal could not be written.
+    #[error("the journal could not be written")]
+    Depot,
+
+    /// The flash failed in a text.
+    #[error("the flash failed")]
+    Flash,
+
+    /// A slot of the flash has no value which may stand there.
+    #[error("the flash is damaged: slot {slot} of page {page} begins with {found}")]
+    Damaged {
+        /// The page.
+        page: u32,
+        /// The slot in it, counted from 0.
+        slot: u32,
+        /// The slot's first eight bytes as a number, with bytes 0 after a shorter one.
+        found: u64,
+    },
+}
+
+/// Why there was no session: nothing was printed, and no move was made.
+#[derive(Clone, Copy, Debug, Drop, Error, PartialEq, Eq)]
+pub enum LocalFailure {
+    /// There was no memory for what the files hold.
+    #[error("out of memory")]
+    NoMemory,
+
+    /// A file could not be read, or the journal's file could not be begun.
+    #[error("a file could not be read or written")]
+    Depot,
+
+    /// A rule of an input is broken.
+    #[error("{0}")]
+    Input(InputFault),
+
+    /// The flash could not be made or written.
+    #[error("the flash failed")]
+    Flash,
+}

@@ -1,0 +1,18 @@
+//! The command `local`: a session of a key with a host in one process, over the files that the words name, as one call.
+//!
+//! The schema, its tables and the script are read from a depot. The hidden part of the tables goes to a flash that is made
+//! for it, the visible part to a host in the process, and the key then asks this host as it would ask one elsewhere.
+//! `docs/SESSION.md` states the command.
+#![tactic(auto)]
+
+pub mod command;
+pub mod ends;
+mod making;
+mod opening;
+mod preparing;
+mod running;
+#[cfg(test)]
+mod tests;
+
+pub use command::local;
+pub use ends::{LocalEnd, LocalFailure};

@@ -1,0 +1,61 @@
+//! The making of the flash and of the journal's file.
+
+ghost use Rattle.std.specs.Prelude.{◌≡◌, ◌≤◌, ◌<◌, ◌+◌, ◌^◌, [], true, Err, OnOk, option_map};
+ghost use Rattle.ghost_model.specs.Causes.{HasCause, Rose};
+ghost use Rattle.ghost_model.specs.Flash.{HoldsCatalog, HoldsColumns};
+ghost use Rattle.ghost_model.specs.Layout as layout;
+ghost use Rattle.ghost_model.specs.Work as work;
+ghost use Rattle.flash_build.specs.Building.{IsHiddenPart};
+ghost use Rattle.key_local.specs.Making.{IsOfMaking};
+ghost use Rattle.key_local.specs.Sessions.{HasLines, SameBesides};
+ghost use Rattle.key_local.specs.declared.ends.LocalFailure.TheVariants as failure;
+
+use crate::ends::LocalFailure;
+use csv_split::Hidden;
+use edge_traits::Failed;
+use edge_traits::depot::Depot;
+use edge_traits::flash::{BLOCK_PAGES, Flash};
+use flash_build::{BuildFault, load_flash};
+use flash_layout::need;
+use std::alloc::Global;
+use tree_schema::Catalog;
+
+/// Makes a flash of just the pages that a catalog needs, and writes the hidden part and then the catalog to it.
+pub(crate) fn make_flash<F: Flash>(
+    alloc: Global,
+    cat: &Catalog,
+    hidden: Hidden,
+    flash: &mut F,
+    name: &str,
+) -> Result<(), LocalFailure>
+    requires part { IsHiddenPart cat.now hidden }
+    ensures catalog { OnOk result (F.told ≡ true → HoldsCatalog (F.state flash.new).page cat.now) }
+    ensures columns { OnOk result (F.told ≡ true → HoldsColumns (F.state flash.new).page cat.now hidden) }
+    ensures pages { OnOk result ((F.state flash.new).page_count ≡ layout.need cat.now) }
+    ensures small { layout.need cat.now < 2 ^ 32 }
+    ensures few_calls { (F.state flash.new).calls ≤ (F.state flash.old).calls + work.pages_built cat.now }
+    ensures kinds { IsOfMaking result }
+    ensures flash { result ≡ Err failure.Flash → Rose (F.state flash.old).faults (F.state flash.new).faults }
+    ensures no_flash { (result ≡ Err failure.Flash → ⊥) → (F.state flash.new).faults ≡ (F.state flash.old).faults }
+{
+    let blocks = need(cat) / BLOCK_PAGES;
+    match load_flash(alloc, cat, &hidden, flash, name, blocks) {
+        Ok(()) => Ok(()),
+        Err(BuildFault::NoMemory) => Err(LocalFailure::NoMemory),
+        Err(BuildFault::Flash) => Err(LocalFailure::Flash),
+        Err(BuildFault::TooSmall { .. }) => unreachable!(),
+    }
+}
+
+/// Begins the journal's file as an empty one, where one is named.
+pub(crate) fn begin_journal<D: Depot>(name: Option<&str>, depot: &mut D) -> Result<(), Failed>
+    ensures cause { HasCause (D.faults depot.old) (D.faults depot.new) result }
+    ensures appends { D.append_faults depot.new ≡ D.append_faults depot.old }
+    ensures begun { OnOk result (HasLines (D.contents depot.new) (option_map (λ one. one.now) name.entry) []) }
+    ensures others { SameBesides (option_map (λ one. one.now) name.entry) (D.contents depot.old) (D.contents depot.new) }
+{
+    match name {
+        None => Ok(()),
+        Some(name) => depot.replace(name, &[]),
+    }
+}

@@ -1,0 +1,133 @@
+//! What a session needs in memory: the parts of the tables, the host and its link, and the room for replies.
+
+ghost use Rattle.std.specs.Prelude.{◌≡◌, Some, IfOk};
+ghost use Rattle.ghost_model.specs.Channel as channel;
+ghost use Rattle.ghost_model.specs.Database.{IsDatabase};
+ghost use Rattle.ghost_model.specs.Host.{host_of};
+ghost use Rattle.ghost_model.specs.SessionLaws.{IsCatalogOf};
+ghost use Rattle.ghost_model.specs.Split as divided;
+ghost use Rattle.session_laws.specs.Local.{holding_of};
+ghost use Rattle.edge_traits.specs.Files.{file_of};
+ghost use Rattle.flash_build.specs.Building.{IsHiddenPart};
+ghost use Rattle.session_replies.specs.Kept.{IsKept, none_heard};
+ghost use Rattle.key_local.specs.Sessions.{catalog_for};
+ghost use Rattle.key_local.specs.Preparing.{IsSomeImage, IsHosted};
+
+use csv_split::{Hidden, split, visible_image};
+use edge_traits::depot::Depot;
+use edge_traits::mem_depot::{MemDepot, Room};
+use flash_build::catalog_of;
+use ghost_model::catalogs::catalogs_have_one_spelling;
+use ghost_model::meaning::public_parts_go_with_catalogs;
+use host_exec::laws::images_are_held;
+use host_exec::{BeginFault, Host};
+use key_inputs::Input;
+use local_links::host_link::HostLink;
+use reply_store::ReplyStore;
+use session_replies::Replies;
+use std::alloc::{AllocError, Global};
+use tree_schema::Catalog;
+use tree_schema::catalog_bytes::{a_catalog_is_short, catalogs_are_bytes};
+
+/// The name of the host's file in its depot.
+const VISIBLE: &str = "visible";
+
+/// The catalog and the hidden part of a database, and the bytes of the host's file.
+#[derive(Drop)]
+struct Parts {
+    cat: Catalog,
+    hidden: Hidden,
+    image: Vec<u8>,
+}
+
+/// The catalog and the hidden part of a database, the link to a host that holds its visible part, and the room for replies.
+#[derive(Drop)]
+pub(crate) struct Prepared {
+    pub(crate) cat: Catalog,
+    pub(crate) hidden: Hidden,
+    pub(crate) link: HostLink<MemDepot>,
+    pub(crate) replies: Replies,
+}
+
+/// Splits tables into the two parts.
+fn parts_of(alloc: Global, input: Input) -> Result<Parts, AllocError>
+    requires database { IsDatabase input.schema input.tables }
+    ensures cat { IfOk result (λ made. made.cat ≡ catalog_for input.schema input.tables) }
+    ensures stored { IfOk result (λ made. IsCatalogOf made.cat input.tables) }
+    ensures hidden { IfOk result (λ made. made.hidden ≡ divided.hidden_of input.schema input.tables) }
+    ensures part { IfOk result (λ made. IsHiddenPart made.cat made.hidden) }
+    ensures image { IfOk result (λ made. divided.SpellsImage made.cat (divided.public_of made.cat.schema input.tables) made.image.items) }
+{
+    let Input { schema, tables } = input;
+    let cat = catalog_of(schema, &tables);
+    a_catalog_is_short(&cat);
+    catalogs_are_bytes();
+    public_parts_go_with_catalogs();
+    let (public, hidden) = split(alloc, cat.schema(), tables)?;
+    let image = visible_image(alloc, &cat, &public)?;
+    Ok(Parts { cat, hidden, image })
+}
+
+/// A depot in memory that has one file of this name.
+fn depot_with(alloc: Global, name: &str, image: Vec<u8>) -> Result<MemDepot, AllocError>
+    ensures file { IfOk result (λ depot. file_of (⟦<MemDepot as Depot>⟧.contents depot) name.now ≡ Some image.items) }
+    ensures is_sure { IfOk result (λ depot. ⟦<MemDepot as Depot>⟧.sure depot name.now) }
+{
+    let room = Room {
+        files: 1,
+        name_bytes: name.len(),
+        file_bytes: image.len(),
+    };
+    let mut depot = MemDepot::new(alloc, room, &[])?;
+    if !depot.put(name, &image) {
+        return Err(AllocError);
+    }
+    Ok(depot)
+}
+
+/// A link to a host over the bytes of its file.
+fn link_over(alloc: Global, image: Vec<u8>) -> Result<HostLink<MemDepot>, AllocError>
+    requires image { IsSomeImage image.items }
+    ensures hosted { IfOk result (λ link. (catalog : channel.Catalog) (public : divided.Public) → divided.SpellsImage catalog public image.items
+        → IsHosted ⟦<MemDepot as Depot>⟧.contents ⟦<MemDepot as Depot>⟧.sure (host_of catalog public) link) }
+{
+    catalogs_have_one_spelling();
+    images_are_held();
+    let mut depot = depot_with(alloc, VISIBLE, image)?;
+    match Host::begin(alloc, &mut depot, VISIBLE) {
+        Ok(host) => Ok(HostLink::new(host, depot)),
+        Err(BeginFault::NoMemory) => Err(AllocError),
+        Err(BeginFault::Depot) => unreachable!(),
+        Err(BeginFault::BadVisibleFile) => unreachable!(),
+    }
+}
+
+/// Room for the replies of two texts, each for every row of every table.
+fn replies_for(alloc: Global, cat: &Catalog) -> Result<Replies, AllocError>
+    ensures kept { IfOk result (λ replies. IsKept cat.now (none_heard cat.now) 1 0 replies) }
+{
+    let even = ReplyStore::new(alloc, cat)?;
+    let odd = ReplyStore::new(alloc, cat)?;
+    Ok(Replies::new(even, odd))
+}
+
+/// Prepares a session over tables that were read.
+pub(crate) fn prepare(alloc: Global, input: Input) -> Result<Prepared, AllocError>
+    requires database { IsDatabase input.schema input.tables }
+    ensures cat { IfOk result (λ prepared. prepared.cat ≡ catalog_for input.schema input.tables) }
+    ensures stored { IfOk result (λ prepared. IsCatalogOf prepared.cat input.tables) }
+    ensures hidden { IfOk result (λ prepared. prepared.hidden ≡ divided.hidden_of input.schema input.tables) }
+    ensures part { IfOk result (λ prepared. IsHiddenPart prepared.cat prepared.hidden) }
+    ensures hosted { IfOk result (λ prepared. IsHosted ⟦<MemDepot as Depot>⟧.contents ⟦<MemDepot as Depot>⟧.sure (holding_of prepared.cat input.tables) prepared.link) }
+    ensures replies { IfOk result (λ prepared. IsKept prepared.cat (none_heard prepared.cat) 1 0 prepared.replies) }
+{
+    let Parts { cat, hidden, image } = parts_of(alloc, input)?;
+    let link = link_over(alloc, image)?;
+    let replies = replies_for(alloc, &cat)?;
+    Ok(Prepared {
+        cat,
+        hidden,
+        link,
+        replies,
+    })
+}
