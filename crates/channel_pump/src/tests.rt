@@ -9,11 +9,11 @@ use spj_parse::text_count;
 use tree_schema::read_catalog;
 
 /// The bytes of the clinic's catalog.
-const CATALOG: &[u8] =
+pub(crate) const CATALOG: &[u8] =
     b"GHOSTDB\x01\0\0\0\x01\0\0\x01\x51CREATE TABLE doctor (id INTEGER PRIMARY KEY, specialty CHAR(8), country CHAR(2) HIDDEN);\nCREATE TABLE patient (id INTEGER PRIMARY KEY, age INTEGER, name CHAR(8) HIDDEN);\nCREATE TABLE visit (id INTEGER PRIMARY KEY, day INTEGER, purpose CHAR(8) HIDDEN, doc INTEGER REFERENCES doctor(id) HIDDEN, pat INTEGER REFERENCES patient(id) HIDDEN);\n\0\0\0\x03\0\0\0\x02\0\0\0\x04";
 
 /// Who visited a doctor of the heart with the flu, and the days of some visits.
-const SCRIPT: &[u8] =
+pub(crate) const SCRIPT: &[u8] =
     b"SELECT visit.id, specialty FROM visit, doctor WHERE doc = doctor.id AND specialty = 'cardio' AND purpose = 'flu';
 SELECT visit.id, day FROM visit WHERE day >= 2;";
 
@@ -49,13 +49,13 @@ const DAY_DONE: &[u8] = b"\x13\x01\0\x04\0\0\0\x02\0\0\0\x04";
 
 /// A place in what a host says: a piece, and so many of its bytes.
 #[derive(Drop)]
-struct Place {
-    piece: usize,
-    done: usize,
+pub(crate) struct Place {
+    pub(crate) piece: usize,
+    pub(crate) done: usize,
 }
 
 /// Gives bytes from a place on, as many as find room and come from one piece; answers how many.
-fn give(host: &[&[u8]], place: &mut Place, room: &mut [u8]) -> usize
+pub(crate) fn give(host: &[&[u8]], place: &mut Place, room: &mut [u8]) -> usize
     ensures fits { result ≤ length room.old }
 {
     if place.piece >= host.len() {
