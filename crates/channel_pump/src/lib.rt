@@ -11,6 +11,8 @@ mod judging;
 pub mod laws;
 mod missing;
 pub mod pump;
+#[cfg(test)]
+mod random_tests;
 mod rows;
 mod script;
 pub mod state;

@@ -9,11 +9,11 @@ use spj_parse::text_count;
 use tree_schema::read_catalog;
 
 /// The bytes of the clinic's catalog.
-const CATALOG: &[u8] =
+pub(crate) const CATALOG: &[u8] =
     b"GHOSTDB\x01\0\0\0\x01\0\0\x01\x51CREATE TABLE doctor (id INTEGER PRIMARY KEY, specialty CHAR(8), country CHAR(2) HIDDEN);\nCREATE TABLE patient (id INTEGER PRIMARY KEY, age INTEGER, name CHAR(8) HIDDEN);\nCREATE TABLE visit (id INTEGER PRIMARY KEY, day INTEGER, purpose CHAR(8) HIDDEN, doc INTEGER REFERENCES doctor(id) HIDDEN, pat INTEGER REFERENCES patient(id) HIDDEN);\n\0\0\0\x03\0\0\0\x02\0\0\0\x04";
 
 /// Who visited a doctor of the heart with the flu, and the days of some visits.
-const SCRIPT: &[u8] =
+pub(crate) const SCRIPT: &[u8] =
     b"SELECT visit.id, specialty FROM visit, doctor WHERE doc = doctor.id AND specialty = 'cardio' AND purpose = 'flu';
 SELECT visit.id, day FROM visit WHERE day >= 2;";
 
@@ -49,13 +49,13 @@ const DAY_DONE: &[u8] = b"\x13\x01\0\x04\0\0\0\x02\0\0\0\x04";
 
 /// A place in what a host says: a piece, and so many of its bytes.
 #[derive(Drop)]
-struct Place {
-    piece: usize,
-    done: usize,
+pub(crate) struct Place {
+    pub(crate) piece: usize,
+    pub(crate) done: usize,
 }
 
 /// Gives bytes from a place on, as many as find room and come from one piece; answers how many.
-fn give(host: &[&[u8]], place: &mut Place, room: &mut [u8]) -> usize
+pub(crate) fn give(host: &[&[u8]], place: &mut Place, room: &mut [u8]) -> usize
     ensures fits { result ≤ length room.old }
 {
     if place.piece >= host.len() {
@@ -179,9 +179,9 @@ fn an_honest_session_is_the_same_however_the_stream_is_cut(rt: HostRuntime) {
 
 /// The end of a session of the first text by an invalid frame of this kind at this place, where it sent so many frames.
 fn breaks(host: &[&[u8]], frames: usize, told: &[Event], cause: Cause) -> bool
-    requires { frames ≤ 3 }
+    requires { frames ≤ 5 }
 {
-    let sent = [(0, HELLO), (1, ASK), (1, MORE)];
+    let sent = [(0, HELLO), (1, ASK), (1, MORE), (1, MORE), (1, MORE)];
     let outcome = Outcome {
         sent: &sent[..frames],
         told,
@@ -189,6 +189,103 @@ fn breaks(host: &[&[u8]], frames: usize, told: &[Event], cause: Cause) -> bool
         states: [ReplyState::Protocol, ReplyState::Done],
     };
     clinic_comes_to(&SCRIPT[..FIRST_TEXT], 2048, host, &outcome)
+}
+
+/// Whether a session of the first text ends by an invalid frame of this kind where the host says this to the ask.
+fn is_broken_by(reply: &[u8], kind: u8) -> bool {
+    let at = 374;
+    let told = [Event::Welcome, Event::Invalid { kind, at }];
+    breaks(
+        &[WELCOME, CATALOG, reply],
+        2,
+        &told,
+        Cause::Protocol { kind, at },
+    )
+}
+
+/// Whether a session of the first text ends by an invalid frame of this kind where the host begins with this.
+fn is_broken_at_first_by(host: &[&[u8]], kind: u8) -> bool {
+    let told = [Event::Invalid { kind, at: 0 }];
+    breaks(host, 1, &told, Cause::Protocol { kind, at: 0 })
+}
+
+#[test]
+fn a_header_that_breaks_a_rule_ends_a_session_at_once(rt: HostRuntime) {
+    let half_a_row = b"\x12\x01\0\x17\0\0\0\x01";
+    let no_row = b"\x12\x01\0\0\0\0\0\x01";
+    let too_long = b"\x12\x01\x08\x04\0\0\0\x01";
+    let other_serial = b"\x12\x01\0\x18\0\0\0\x02";
+    let other_version = b"\x12\x02\0\x18\0\0\0\x01";
+    for header in [half_a_row, no_row, too_long, other_serial, other_version] {
+        assert!(rt; is_broken_by(header, 18));
+    }
+    assert!(rt; is_broken_by(b"\x13\x02\0\x04\0\0\0\x01", 19));
+    assert!(rt; is_broken_by(b"\x01\x01\0\x04\0\0\0\0", 1));
+    assert!(rt; is_broken_at_first_by(&[b"\x12\x01\0\x18\0\0\0\x01"], 18));
+    assert!(rt; is_broken_at_first_by(&[b"\x11\x01\x01\x6f\0\0\0\0"], 17));
+}
+
+#[test]
+fn a_payload_that_breaks_a_rule_ends_a_session(rt: HostRuntime) {
+    let cell_of_no_value = b"\x12\x01\0\x0c\0\0\0\x01\0\0\0\x01c\0r\0\0\0\0\0";
+    assert!(rt; is_broken_by(cell_of_no_value, 18));
+    assert!(rt; is_broken_by(b"\x13\x01\0\x04\0\0\0\x01\0\0\0\x01", 19));
+    let not_marked = b"\x11\x01\x01\x6e\0\0\0\0\0";
+    assert!(rt; is_broken_at_first_by(&[not_marked, CATALOG], 17));
+    let (kind, at) = (18, 434);
+    let told = [
+        Event::Welcome,
+        Event::Rows(1),
+        Event::Rows(1),
+        Event::Rows(1),
+        Event::Invalid { kind, at },
+    ];
+    let first = b"\x12\x01\0\x0c\0\0\0\x01\0\0\0\x01cardio\0\0";
+    let second = b"\x12\x01\0\x0c\0\0\0\x01\0\0\0\x02cardio\0\0";
+    let third = b"\x12\x01\0\x0c\0\0\0\x01\0\0\0\x03cardio\0\0";
+    assert!(rt;
+        breaks(
+            &[WELCOME, CATALOG, first, second, third, third],
+            5,
+            &told,
+            Cause::Protocol { kind, at }
+        )
+    );
+}
+
+#[test]
+fn a_lie_in_good_form_is_not_caught(rt: HostRuntime) {
+    let outcome = Outcome {
+        sent: &[(0, HELLO), (1, ASK), (1, MORE), (0, BYE)],
+        told: &[Event::Welcome, Event::Rows(2), Event::Done],
+        cause: Cause::Finished,
+        states: [ReplyState::Done, ReplyState::Done],
+    };
+    let rows = b"\x12\x01\0\x18\0\0\0\x01\0\0\0\x01cardio\0\0\0\0\0\x02cardio\0\0";
+    assert!(rt;
+        clinic_comes_to(
+            &SCRIPT[..FIRST_TEXT],
+            2048,
+            &[WELCOME, CATALOG, rows, DONE],
+            &outcome
+        )
+    );
+}
+
+#[test]
+fn a_script_without_asks_ends_behind_the_greeting(rt: HostRuntime) {
+    let outcome = Outcome {
+        sent: &[(0, HELLO), (0, BYE)],
+        told: &[Event::Welcome],
+        cause: Cause::Finished,
+        states: [ReplyState::Done, ReplyState::Done],
+    };
+    for script in [
+        b"".as_slice(),
+        b"SELECT name FROM patient WHERE name = 'Ann';",
+    ] {
+        assert!(rt; clinic_comes_to(script, 2048, &[WELCOME, CATALOG], &outcome));
+    }
 }
 
 #[test]
