@@ -126,3 +126,30 @@ pub record LocalDid (told : Bool) (outcome : Result LocalEnd LocalFailure) (befo
   pub no_append : locally.clears_append outcome ≡ true → after.append_faults ≡ before.append_faults
   pub flash : locally.blames_flash outcome ≡ true → Rose before.device.faults after.device.faults
   pub no_flash : locally.clears_flash outcome ≡ true → after.device.faults ≡ before.device.faults
+
+abbrev pub session_side : (failed : Bool) → Outside → telling.Outside
+session_side failed one = telling.outside failed one.sink_faults one.written one.device
+
+-- the headline of `query` stands in `ran`; `goes` tells by which moves the link went
+pub record QueryDid (goes : Journal → Type 0) (link_before link_after : ℕ) (told : Bool) (outcome : Result Tally QueryFailure) (before after : Outside) (words : Query) : Type 0 where
+  pub ran : IfOk outcome (λ tally. queries.Runs goes told words before.files
+      (session_side false before) (session_side (is_sink tally.status) after) tally)
+  pub prints : IfOk outcome (λ tally. PrintsSome (handed false before.sink_faults before.written)
+      (handed (is_sink tally.status) after.sink_faults after.written))
+  pub script : IfErr outcome (λ fault. queries.TellsScript before.files words.script fault)
+  pub device : IfErr outcome (λ fault. queries.TellsFlash told after.device fault)
+  pub complete : (files : Files) → (script : List ℕ) → (cat : Catalog) → told ≡ true → before.files ≡ Some files
+      → (Rose before.depot_faults after.depot_faults → ⊥) → (Rose before.device.faults after.device.faults → ⊥)
+      → script_opening files words.script ≡ Spelled script → HasCatalog after.device cat → queries.is_faultless outcome ≡ true
+  pub no_move : OnErr outcome (goes [])
+  pub link_left : OnErr outcome (link_after ≡ link_before)
+  pub nothing_written : OnErr outcome (after.written ≡ before.written)
+  pub sink_left : OnErr outcome (after.sink_faults ≡ before.sink_faults)
+  pub no_deep_read : OnErr outcome (after.device.deep_reads ≡ before.device.deep_reads)
+  pub page : told ≡ true → after.device.page ≡ before.device.page
+  pub flash : outcome ≡ Err query_failure.Flash → Rose before.device.faults after.device.faults
+  pub no_flash : IfErr outcome (λ fault. (fault ≡ query_failure.Flash → ⊥) → after.device.faults ≡ before.device.faults)
+  pub depot : outcome ≡ Err query_failure.Depot → Rose before.depot_faults after.depot_faults
+  pub no_depot : (outcome ≡ Err query_failure.Depot → ⊥) → after.depot_faults ≡ before.depot_faults
+  pub appends : after.append_faults ≡ before.append_faults
+  pub files : after.files ≡ before.files

@@ -5,6 +5,15 @@ use Rattle.key_plain.specs.declared.faults.PlainFault.{PlainFault}
 use Rattle.key_plain.specs.declared.faults.PlainFault.TheVariants as plain_fault
 use Rattle.key_load.specs.declared.failures.LoadFailure.{LoadFailure}
 use Rattle.key_load.specs.declared.failures.LoadFailure.TheVariants as load_failure
+use Rattle.key_local.specs.declared.ends.LocalEnd.{LocalEnd}
+use Rattle.key_local.specs.declared.ends.LocalEnd.TheVariants as local_end
+use Rattle.key_local.specs.declared.ends.LocalFailure.{LocalFailure}
+use Rattle.key_local.specs.declared.ends.LocalFailure.TheVariants as local_failure
+use Rattle.key_query.specs.declared.failures.QueryFailure.{QueryFailure}
+use Rattle.key_query.specs.declared.failures.QueryFailure.TheVariants as query_failure
+use Rattle.key_session.specs.declared.tally.SessionStatus.{SessionStatus}
+use Rattle.key_session.specs.declared.tally.SessionStatus.TheVariants as status
+use Rattle.key_session.specs.declared.tally.Tally.{Tally}
 use Rattle.key_commands.specs.declared.ending.Ended.{Ended}
 use Rattle.key_commands.specs.declared.ending.Ended.TheVariants as ended
 
@@ -24,11 +33,42 @@ load_code (Err load_failure.Flash) = 6
 load_code (Err load_failure.Sink) = 9
 load_code (Err (load_failure.TooSmall needed had)) = 10
 
+abbrev pub local_code : Result LocalEnd LocalFailure → ℕ
+local_code (Ok local_end.Ok) = 0
+local_code (Ok local_end.Sink) = 9
+local_code (Ok local_end.Depot) = 5
+local_code (Ok local_end.Flash) = 6
+local_code (Ok (local_end.Damaged page slot found)) = 13
+local_code (Err local_failure.NoMemory) = 3
+local_code (Err (local_failure.Input broken)) = 4
+local_code (Err local_failure.Depot) = 5
+local_code (Err local_failure.Flash) = 6
+
+abbrev pub status_code : SessionStatus → ℕ
+status_code status.Ok = 0
+status_code status.Sink = 9
+status_code status.Link = 7
+status_code (status.Protocol kind at) = 8
+status_code (status.Host code) = 12
+status_code status.Flash = 6
+status_code (status.Damaged damage) = 13
+
+abbrev pub query_code : Result Tally QueryFailure → ℕ
+query_code (Ok tally) = status_code tally.status
+query_code (Err query_failure.NoMemory) = 3
+query_code (Err (query_failure.Input broken)) = 4
+query_code (Err query_failure.Depot) = 5
+query_code (Err query_failure.Flash) = 6
+query_code (Err (query_failure.TooSmall needed had)) = 10
+query_code (Err query_failure.NotAKey) = 11
+
 abbrev pub exit_code : Ended → ℕ
 exit_code (ended.Usage fault) = 2
 exit_code ended.NoMemory = 3
 exit_code (ended.Plain outcome) = plain_code outcome
 exit_code (ended.Load outcome) = load_code outcome
+exit_code (ended.Local outcome) = local_code outcome
+exit_code (ended.Query outcome) = query_code outcome
 
 -- whether no command was begun: the words are refused, or there was no memory to read them
 abbrev pub is_unbegun : Ended → Bool
@@ -36,12 +76,25 @@ is_unbegun (ended.Usage fault) = true
 is_unbegun ended.NoMemory = true
 is_unbegun (ended.Plain outcome) = false
 is_unbegun (ended.Load outcome) = false
+is_unbegun (ended.Local outcome) = false
+is_unbegun (ended.Query outcome) = false
 
 abbrev pub is_usage : Ended → Bool
 is_usage (ended.Usage fault) = true
 is_usage ended.NoMemory = false
 is_usage (ended.Plain outcome) = false
 is_usage (ended.Load outcome) = false
+is_usage (ended.Local outcome) = false
+is_usage (ended.Query outcome) = false
+
+-- whether the command is the one that calls on the link
+abbrev pub is_query : Ended → Bool
+is_query (ended.Usage fault) = false
+is_query ended.NoMemory = false
+is_query (ended.Plain outcome) = false
+is_query (ended.Load outcome) = false
+is_query (ended.Local outcome) = false
+is_query (ended.Query outcome) = true
 
 -- what is said of `plain`
 abbrev pub OfPlain : Ended → (Result (Unit {0}) PlainFault → Type 0) → Type 0
@@ -49,6 +102,8 @@ OfPlain (ended.Usage fault) says = ⊤
 OfPlain ended.NoMemory says = ⊤
 OfPlain (ended.Plain outcome) says = says outcome
 OfPlain (ended.Load outcome) says = ⊤
+OfPlain (ended.Local outcome) says = ⊤
+OfPlain (ended.Query outcome) says = ⊤
 
 -- what is said of `load`
 abbrev pub OfLoad : Ended → (Result (Unit {0}) LoadFailure → Type 0) → Type 0
@@ -56,6 +111,26 @@ OfLoad (ended.Usage fault) says = ⊤
 OfLoad ended.NoMemory says = ⊤
 OfLoad (ended.Plain outcome) says = ⊤
 OfLoad (ended.Load outcome) says = says outcome
+OfLoad (ended.Local outcome) says = ⊤
+OfLoad (ended.Query outcome) says = ⊤
+
+-- what is said of `local`
+abbrev pub OfLocal : Ended → (Result LocalEnd LocalFailure → Type 0) → Type 0
+OfLocal (ended.Usage fault) says = ⊤
+OfLocal ended.NoMemory says = ⊤
+OfLocal (ended.Plain outcome) says = ⊤
+OfLocal (ended.Load outcome) says = ⊤
+OfLocal (ended.Local outcome) says = says outcome
+OfLocal (ended.Query outcome) says = ⊤
+
+-- what is said of `query`
+abbrev pub OfQuery : Ended → (Result Tally QueryFailure → Type 0) → Type 0
+OfQuery (ended.Usage fault) says = ⊤
+OfQuery ended.NoMemory says = ⊤
+OfQuery (ended.Plain outcome) says = ⊤
+OfQuery (ended.Load outcome) says = ⊤
+OfQuery (ended.Local outcome) says = ⊤
+OfQuery (ended.Query outcome) says = says outcome
 
 -- the words say this command, and this was done
 pub record DoesAs {W : Type 0} (command : W → Command) (read : Option Command) (Did : W → Type 0) : Type 0 where

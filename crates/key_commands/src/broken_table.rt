@@ -51,12 +51,18 @@ fn field_line(
     };
     let name = name_in(&column.name);
     let child = child_name(schema, column);
-    let Place { rec, column: number, .. } = *place;
+    let Place {
+        rec,
+        column: number,
+        ..
+    } = *place;
     if value.is_empty() {
         return format!(in alloc; "{file}, record {rec}, column {number} ({name}): {rule}");
     }
     if let LoadFault::BadReference(_) = broken {
-        return format!(in alloc; "{file}, record {rec}, column {number} ({name}): there is no {child} {value}");
+        return format!(in alloc;
+            "{file}, record {rec}, column {number} ({name}): there is no {child} {value}"
+        );
     }
     format!(in alloc; "{file}, record {rec}, column {number} ({name}), value {value}: {rule}")
 }

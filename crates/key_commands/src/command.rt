@@ -1,26 +1,31 @@
 //! The choice of the command.
 
-ghost use Rattle.std.specs.Prelude.{◌≡◌, true, None, map, string_bytes};
-ghost use Rattle.key_words.specs.Views.{plain_view, load_view};
-ghost use Rattle.key_words.specs.Words.{reading, PlainCommand, LoadCommand};
-ghost use Rattle.key_commands.specs.Doing.{IsUntouched, PlainDid, LoadDid, outside};
-ghost use Rattle.key_commands.specs.Endings.{DoesAs, OfPlain, OfLoad, is_unbegun, is_usage};
+ghost use Rattle.std.specs.Prelude.{◌≡◌, true, false, [], None, map, string_bytes};
+ghost use Rattle.key_words.specs.Views.{plain_view, load_view, local_view, query_view};
+ghost use Rattle.key_words.specs.Words.{reading, PlainCommand, LoadCommand, LocalCommand, QueryCommand};
+ghost use Rattle.key_commands.specs.Doing.{IsUntouched, PlainDid, LoadDid, LocalDid, QueryDid, outside};
+ghost use Rattle.key_commands.specs.Endings.{DoesAs, OfPlain, OfLoad, OfLocal, OfQuery, is_unbegun, is_usage, is_query};
 
 use crate::ending::Ended;
 use edge_traits::depot::Depot;
 use edge_traits::flash::Flash;
+use edge_traits::link::Link;
 use edge_traits::sink::Sink;
 use key_load::{LoadFailure, load};
+use key_local::{LocalEnd, LocalFailure, local};
 use key_plain::{PlainFault, plain};
-use key_words::{KeyWords, LoadWords, PlainWords, WordsFault, read_words};
+use key_query::{QueryFailure, query};
+use key_session::Tally;
+use key_words::{KeyWords, LoadWords, LocalWords, PlainWords, QueryWords, WordsFault, read_words};
 use std::alloc::Global;
 
-/// Does the command that the words say, of which the first is the program's name.
-pub fn key_main<D: Depot, F: Flash, O: Sink>(
+/// Does the command that the words say, of which the first is the program's name. The link is called by `query` alone.
+pub fn key_main<D: Depot, F: Flash, L: Link, O: Sink>(
     alloc: Global,
     args: &[String],
     depot: &mut D,
     flash: &mut F,
+    link: &mut L,
     out: &mut O,
 ) -> Ended
     ensures usage { is_usage result ≡ true → reading (map string_bytes args.now) ≡ None }
@@ -33,11 +38,22 @@ pub fn key_main<D: Depot, F: Flash, O: Sink>(
     ensures load { OfLoad result (λ outcome. DoesAs LoadCommand (reading (map string_bytes args.now)) (LoadDid F.told outcome
         (outside (D.contents depot.old) (D.faults depot.old) (D.append_faults depot.old) (F.state flash.old) (O.written out.old) (O.faults out.old))
         (outside (D.contents depot.new) (D.faults depot.new) (D.append_faults depot.new) (F.state flash.new) (O.written out.new) (O.faults out.new)))) }
+    ensures local { OfLocal result (λ outcome. DoesAs LocalCommand (reading (map string_bytes args.now)) (LocalDid F.told outcome
+        (outside (D.contents depot.old) (D.faults depot.old) (D.append_faults depot.old) (F.state flash.old) (O.written out.old) (O.faults out.old))
+        (outside (D.contents depot.new) (D.faults depot.new) (D.append_faults depot.new) (F.state flash.new) (O.written out.new) (O.faults out.new)))) }
+    ensures query { OfQuery result (λ outcome. DoesAs QueryCommand (reading (map string_bytes args.now)) (QueryDid (λ journal. L.went link.old journal link.new) (L.faults link.old) (L.faults link.new) F.told outcome
+        (outside (D.contents depot.old) (D.faults depot.old) (D.append_faults depot.old) (F.state flash.old) (O.written out.old) (O.faults out.old))
+        (outside (D.contents depot.new) (D.faults depot.new) (D.append_faults depot.new) (F.state flash.new) (O.written out.new) (O.faults out.new)))) }
+    ensures no_move { is_query result ≡ false → L.went link.old [] link.new }
+    ensures link_left { is_query result ≡ false → L.faults link.new ≡ L.faults link.old }
 {
     match read_words(alloc, args) {
         Ok(KeyWords::Plain(words)) => Ended::Plain(do_plain(alloc, &words, depot, flash, out)),
         Ok(KeyWords::Load(words)) => Ended::Load(do_load(alloc, &words, depot, flash, out)),
-        Ok(KeyWords::Local(_words)) => Ended::NoMemory,
+        Ok(KeyWords::Local(words)) => Ended::Local(do_local(alloc, &words, depot, flash, out)),
+        Ok(KeyWords::Query(words)) => {
+            Ended::Query(do_query(alloc, &words, depot, flash, link, out))
+        }
         Err(WordsFault::NoMemory) => Ended::NoMemory,
         Err(WordsFault::Usage(fault)) => Ended::Usage(fault),
     }
@@ -73,4 +89,37 @@ fn do_load<D: Depot, F: Flash, O: Sink>(
         (load_view words.now) }
 {
     load(alloc, words, depot, flash, out)
+}
+
+/// Does `local`.
+fn do_local<D: Depot, F: Flash, O: Sink>(
+    alloc: Global,
+    words: &LocalWords<'_>,
+    depot: &mut D,
+    flash: &mut F,
+    out: &mut O,
+) -> Result<LocalEnd, LocalFailure>
+    ensures did { LocalDid F.told result
+        (outside (D.contents depot.old) (D.faults depot.old) (D.append_faults depot.old) (F.state flash.old) (O.written out.old) (O.faults out.old))
+        (outside (D.contents depot.new) (D.faults depot.new) (D.append_faults depot.new) (F.state flash.new) (O.written out.new) (O.faults out.new))
+        (local_view words.now) }
+{
+    local(alloc, words, depot, flash, out)
+}
+
+/// Does `query`.
+fn do_query<D: Depot, F: Flash, L: Link, O: Sink>(
+    alloc: Global,
+    words: &QueryWords<'_>,
+    depot: &mut D,
+    flash: &mut F,
+    link: &mut L,
+    out: &mut O,
+) -> Result<Tally, QueryFailure>
+    ensures did { QueryDid (λ journal. L.went link.old journal link.new) (L.faults link.old) (L.faults link.new) F.told result
+        (outside (D.contents depot.old) (D.faults depot.old) (D.append_faults depot.old) (F.state flash.old) (O.written out.old) (O.faults out.old))
+        (outside (D.contents depot.new) (D.faults depot.new) (D.append_faults depot.new) (F.state flash.new) (O.written out.new) (O.faults out.new))
+        (query_view words.now) }
+{
+    query(alloc, words, depot, flash, link, out)
 }

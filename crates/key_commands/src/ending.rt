@@ -4,7 +4,10 @@ ghost use Rattle.std.specs.Prelude.{◌≡◌};
 ghost use Rattle.key_commands.specs.Endings as endings;
 
 use key_load::LoadFailure;
+use key_local::{LocalEnd, LocalFailure};
 use key_plain::PlainFault;
+use key_query::QueryFailure;
+use key_session::{SessionStatus, Tally};
 use key_words::UsageFault;
 
 /// How a command ended, or why none was begun.
@@ -21,6 +24,12 @@ pub enum Ended {
 
     /// `load` ended so.
     Load(Result<(), LoadFailure>),
+
+    /// `local` ended so.
+    Local(Result<LocalEnd, LocalFailure>),
+
+    /// `query` ended so.
+    Query(Result<Tally, QueryFailure>),
 }
 
 impl Ended {
@@ -33,6 +42,8 @@ impl Ended {
             Ended::NoMemory => 3,
             Ended::Plain(outcome) => plain_code(outcome),
             Ended::Load(outcome) => load_code(outcome),
+            Ended::Local(outcome) => local_code(outcome),
+            Ended::Query(outcome) => query_code(outcome),
         }
     }
 }
@@ -62,5 +73,52 @@ fn load_code(outcome: &Result<(), LoadFailure>) -> u8
         Err(LoadFailure::Flash) => 6,
         Err(LoadFailure::Sink) => 9,
         Err(LoadFailure::TooSmall { .. }) => 10,
+    }
+}
+
+/// The exit code of `local`.
+fn local_code(outcome: &Result<LocalEnd, LocalFailure>) -> u8
+    ensures code { result ≡ endings.local_code outcome.now }
+{
+    match outcome {
+        Ok(LocalEnd::Ok) => 0,
+        Ok(LocalEnd::Sink) => 9,
+        Ok(LocalEnd::Depot) => 5,
+        Ok(LocalEnd::Flash) => 6,
+        Ok(LocalEnd::Damaged { .. }) => 13,
+        Err(LocalFailure::NoMemory) => 3,
+        Err(LocalFailure::Input(_)) => 4,
+        Err(LocalFailure::Depot) => 5,
+        Err(LocalFailure::Flash) => 6,
+    }
+}
+
+/// The exit code of a session that was begun.
+fn status_code(status: &SessionStatus) -> u8
+    ensures code { result ≡ endings.status_code status.now }
+{
+    match status {
+        SessionStatus::Ok => 0,
+        SessionStatus::Sink => 9,
+        SessionStatus::Link => 7,
+        SessionStatus::Protocol { .. } => 8,
+        SessionStatus::Host { .. } => 12,
+        SessionStatus::Flash => 6,
+        SessionStatus::Damaged(_) => 13,
+    }
+}
+
+/// The exit code of `query`.
+fn query_code(outcome: &Result<Tally, QueryFailure>) -> u8
+    ensures code { result ≡ endings.query_code outcome.now }
+{
+    match outcome {
+        Ok(tally) => status_code(&tally.status),
+        Err(QueryFailure::NoMemory) => 3,
+        Err(QueryFailure::Input(_)) => 4,
+        Err(QueryFailure::Depot) => 5,
+        Err(QueryFailure::Flash) => 6,
+        Err(QueryFailure::TooSmall { .. }) => 10,
+        Err(QueryFailure::NotAKey) => 11,
     }
 }

@@ -8,6 +8,7 @@ mod broken_table;
 pub mod command;
 pub mod ending;
 mod input_lines;
+mod sessions;
 pub mod telling;
 #[cfg(test)]
 mod tests;

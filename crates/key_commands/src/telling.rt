@@ -4,6 +4,7 @@ ghost use Rattle.std.specs.Prelude.{◌≡◌};
 
 use crate::ending::Ended;
 use crate::input_lines::{InputNames, input_line};
+use crate::sessions::{local_end_line, local_failure_line, query_failure_line, status_line};
 use edge_traits::depot::Depot;
 use edge_traits::flash::BLOCK_PAGES;
 use key_load::LoadFailure;
@@ -13,10 +14,10 @@ use std::alloc::{AllocError, Global};
 
 /// The words that the program takes.
 pub const USAGE: &str =
-    "usage: key_program load --schema FILE --data FOLDER --flash FILE --visible FILE [--blocks NUMBER], or key_program local --schema FILE --data FOLDER --flash FILE --script FILE [--journal FILE] [--plan scan] [--pace 0], or key_program plain --schema FILE --data FOLDER --script FILE";
+    "usage: key_program load --schema FILE --data FOLDER --flash FILE --visible FILE [--blocks NUMBER], or key_program query --flash FILE --to ADDRESS:PORT --script FILE [--plan scan] [--pace 0], or key_program local --schema FILE --data FOLDER --flash FILE --script FILE [--journal FILE] [--plan scan] [--pace 0], or key_program plain --schema FILE --data FOLDER --script FILE";
 
 /// What is told where there is no memory.
-const NO_MEMORY: &str = "out of memory: free some, or give smaller files";
+pub(crate) const NO_MEMORY: &str = "out of memory: free some, or give smaller files";
 
 /// The line, without its end, that tells how a call ended: what is wrong, in which file, in the file of a table in which
 /// record and column, and in a schema at which table and column. To name these the schema is read once more.
@@ -35,6 +36,16 @@ pub fn line_of<D: Depot>(
         }
         (Ok(KeyWords::Load(words)), Ended::Load(Err(fault))) => {
             load_line(alloc, &words, fault, depot)
+        }
+        (Ok(KeyWords::Local(words)), Ended::Local(Err(fault))) => {
+            local_failure_line(alloc, &words, fault, depot)
+        }
+        (Ok(KeyWords::Local(words)), Ended::Local(Ok(end))) => local_end_line(alloc, &words, end),
+        (Ok(KeyWords::Query(words)), Ended::Query(Err(fault))) => {
+            query_failure_line(alloc, &words, fault, depot)
+        }
+        (Ok(KeyWords::Query(words)), Ended::Query(Ok(tally))) => {
+            status_line(alloc, &words, &tally.status)
         }
         (_, Ended::Plain(Ok(())) | Ended::Load(Ok(()))) => String::from_str(alloc, "done"),
         _ => String::from_str(alloc, NO_MEMORY),
@@ -120,9 +131,7 @@ fn load_line<D: Depot>(
             )
         }
         LoadFailure::Sink => {
-            format!(in alloc;
-                "the line could not be printed, but {flash} and {visible} are whole"
-            )
+            format!(in alloc; "the line could not be printed, but {flash} and {visible} are whole")
         }
     }
 }

@@ -4,7 +4,9 @@ use crate::telling::USAGE;
 use crate::{Ended, key_main, line_of};
 use edge_traits::mem_depot::{MemDepot, Room};
 use edge_traits::mem_flash::MemFlash;
+use edge_traits::mem_link::{MemLink, Room as LinkRoom};
 use edge_traits::mem_sink::MemSink;
+use edge_traits::peer::PeerScript;
 use key_inputs::InputFault;
 use key_plain::PlainFault;
 use std::alloc::{AllocError, Global};
@@ -58,7 +60,17 @@ fn called(
     out: &mut MemSink,
 ) -> Result<Ended, AllocError> {
     let mut flash = MemFlash::new(alloc, BLOCKS, &[])?;
-    Ok(key_main(alloc, words, depot, &mut flash, out))
+    let host = PeerScript {
+        bytes: &[],
+        pieces: &[],
+        ports: &[],
+    };
+    let room = LinkRoom {
+        moves: 10,
+        bytes: 100,
+    };
+    let mut link = MemLink::new(alloc, room, &host, &[])?;
+    Ok(key_main(alloc, words, depot, &mut flash, &mut link, out))
 }
 
 /// The words of a line.
@@ -300,7 +312,10 @@ fn refused_words_are_told_with_the_usage(rt: HostRuntime) -> Result<(), AllocErr
     let cases = [
         ("key", "these are not the words of a command; "),
         ("key help", "these are not the words of a command; "),
-        ("key plain --schema schema", "these are not the words of a command; "),
+        (
+            "key plain --schema schema",
+            "these are not the words of a command; ",
+        ),
         (
             "key plain --schema schema --data tables --script script --flash flash",
             "these are not the words of a command; ",

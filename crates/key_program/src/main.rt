@@ -1,10 +1,11 @@
 //! The program of the key. What its commands do lies in `key_commands` and the crates below; here are the real files, the
-//! real device and the real output.
+//! real device, the network and the real output.
 #![tactic(auto)]
 
 use edge_real::dir_depot::DirDepot;
 use edge_real::file_flash::FileFlash;
 use edge_real::std_sink::StdSink;
+use edge_real::tcp_link::TcpLink;
 use key_commands::{Ended, key_main, line_of};
 use key_words::UsageFault;
 use std::io::ErrorKind;
@@ -34,7 +35,15 @@ fn run(rt: &HostRuntime, words: &mut Vec<String>) -> io::Result<Ended> {
     let mut depot = DirDepot::new(rt);
     let mut out = StdSink::new(rt.alloc(), rt)?;
     let mut flash = FileFlash::new(rt.alloc(), rt);
-    Ok(key_main(rt.alloc(), words, &mut depot, &mut flash, &mut out))
+    let mut link = TcpLink::new(rt);
+    Ok(key_main(
+        rt.alloc(),
+        words,
+        &mut depot,
+        &mut flash,
+        &mut link,
+        &mut out,
+    ))
 }
 
 /// Prints on standard error how a command ended.
