@@ -1,1 +1,1 @@
-SELECT body FROM note WHERE topic = 'a';
+SELECT visit.id, specialty FROM visit, doctor WHERE doc = doctor.id AND specialty = 'cardio' AND purpose = 'flu';
