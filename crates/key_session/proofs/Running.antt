@@ -1,12 +1,11 @@
 -- A whole session.
-use Rattle.std.proofs.Common.{◌≡◌, ◌≤◌, ℕ, zero, suc, ◌+◌, arith, Bool, true, false, ◌||◌, List, [], ◌∷◌, length, refl, sym, ap, ◌∙◌, subst, Option, None, Some, Ok, Err, slice_get}
+use Rattle.std.proofs.Common.{◌≡◌, ◌≤◌, ℕ, suc, ◌+◌, arith, Bool, true, false, ◌||◌, List, [], ◌∷◌, length, refl, sym, ap, ◌∙◌, subst, Option, None, Some, slice_get}
 use Rattle.std.specs.Prelude.{min, if◌then◌else◌, count_by, is_err}
 use Rattle.std.specs.List.{list_any}
 use Rattle.std.proofs.lemmas.List.Sums.{sum_by-cons}
 use Rattle.ghost_model.specs.Causes.{Rose, last_count}
 use Rattle.ghost_model.specs.Channel.{Catalog, Journal}
 use Rattle.ghost_model.specs.Asks.{asked_of}
-use Rattle.ghost_model.specs.QueryReading.{reading}
 use Rattle.ghost_model.specs.Lines.{Reason, IsRefused, WasBroken, WasAnswered, MetFault}
 use Rattle.ghost_model.specs.NextMove.{Left, Heard, left, IsFinished}
 use Rattle.edge_traits.specs.Devices.{KeepsPages}
@@ -22,12 +21,12 @@ use Rattle.session_replies.specs.Kept.{IsKept, none_heard}
 use Rattle.session_replies.specs.declared.replies.Replies.{Replies}
 use Rattle.key_lines.specs.Handing.{PiecesJoin}
 use Rattle.text_lines.specs.Rows.{PrintsSome}
-use Rattle.key_session.specs.Counting.{AreCounted, AreUndamaged, is_refusal, is_flash}
+use Rattle.key_session.specs.Counting.{AreCounted, is_refusal, is_flash}
 use Rattle.key_session.specs.Reasons.{IsReason, HasReason, is_refused_text}
 use Rattle.key_session.specs.Refusing.{first_code}
 use Rattle.key_session.specs.Telling.{Outside, AreLeft, CameOut, IsTelling, TellsOn}
 use Rattle.key_session.specs.Going.{IsGoing, HasGone}
-use Rattle.key_session.specs.Running.{HasRun, IsTallied, status_with, damaged_or, host_or, blames_flash, spares_flash}
+use Rattle.key_session.specs.Running.{HasRun, status_with, host_or, blames_flash, spares_flash}
 use Rattle.key_session.specs.declared.teller.Teller.{Teller}
 use Rattle.key_session.specs.declared.counts.Counts.{Counts}
 use Rattle.key_session.specs.declared.counts.Damage.{Damage}
@@ -113,9 +112,9 @@ refusals_read : (catalog : Catalog) (texts : List (List ℕ)) (journal : Journal
     → count_by is_refusal reasons ≡ count_by (is_refused_text catalog.schema) texts
 refusals_read catalog texts journal reasons long each =
     count_same is_refusal (is_refused_text catalog.schema) reasons texts long (λ i reason text e f.
-        let has = each i reason e in
-        refusal_read catalog texts journal (suc i) has.written reason has.is_reason
-        ∙ ap (is_refused_text catalog.schema) (same_text has.written text (slice_get texts i) has.stands f))
+    let has = each i reason e in
+    refusal_read catalog texts journal (suc i) has.written reason has.is_reason
+    ∙ ap (is_refused_text catalog.schema) (same_text has.written text (slice_get texts i) has.stands f))
 
 -- a status by all that it goes by
 abbrev status_by : (failed stopped broken : Bool) (kind at : ℕ) (code : Option ℕ) (by_flash : Bool) (damage : Option Damage) → SessionStatus
