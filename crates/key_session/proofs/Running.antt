@@ -53,6 +53,7 @@ at_first join pages_told catalog texts since teller replies all none counts kept
     pages = record { page_count = refl; page = refl; blank = refl };
     faults = omega arith;
     prints = record { piece = []; handed = join.none since.sink };
+    damaged = λ damage e. absurd (none_some damage (sym (ap (λ (c : Counts). c.damage) counts) ∙ e));
     reasons = record {
       reasons = [];
       as_many = sym none;
@@ -75,6 +76,9 @@ at_first join pages_told catalog texts since teller replies all none counts kept
   onward = λ text un. omega arith;
 }
   where
+    none_some : (damage : Damage) → None ≡ Some damage → ⊥
+    none_some damage e = cc
+
     none_counted : AreCounted [] teller.counts
     none_counted = subst (λ (c : Counts). AreCounted [] c) (sym counts) (record { refused = refl; faulted = refl; by_flash = refl; found = refl })
 
@@ -137,6 +141,15 @@ spared_so false false true kind at code by_flash damage e = cc
 spared_so false false false kind at (Some code) by_flash damage e = cc
 spared_so false false false kind at None true damage e = cc
 spared_so false false false kind at None false damage e = refl
+
+damaged_so : (failed stopped broken : Bool) (kind at : ℕ) (code : Option ℕ) (by_flash : Bool) (damage : Option Damage) (met : Damage) → status_by failed stopped broken kind at code by_flash damage ≡ way.Damaged met → damage ≡ Some met
+damaged_so true stopped broken kind at code by_flash damage met e = cc
+damaged_so false true broken kind at code by_flash damage met e = cc
+damaged_so false false true kind at code by_flash damage met e = cc
+damaged_so false false false kind at (Some code) by_flash damage met e = cc
+damaged_so false false false kind at None true damage met e = cc
+damaged_so false false false kind at None false None met e = cc
+damaged_so false false false kind at None false (Some damage) met e = (let same : damage ≡ met = cc in ap Some same)
 
 -- where a text met a failure of the flash, its count of faults rose
 one_met : (b more : Bool) (count : ℕ) → (more ≡ true → 1 ≤ count) → (b || more) ≡ true → 1 ≤ (if b then 1 else 0) + count
@@ -210,6 +223,10 @@ has_run outcomes went link_before link_now pages_told catalog at texts since mid
         status_is = status_is ∙ ap (λ (b : Bool). status_with now.sink.failed (left catalog (asked_of catalog.schema texts) gone.journal) b teller.counts.damage) last.reasons.counted.by_flash;
       };
     };
+    damaged = λ damage e.
+        last.damaged damage
+        (damaged_so now.sink.failed (left catalog (asked_of catalog.schema texts) gone.journal).stopped (left catalog (asked_of catalog.schema texts) gone.journal).heard.broken _ _ _ teller.counts.by_flash teller.counts.damage damage
+        (sym status_is ∙ e));
     told = λ database knows.
         let are = last.told database knows in
         record {
