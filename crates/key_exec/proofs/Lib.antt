@@ -2,3 +2,4 @@ pub mod Readings
 pub mod LinkLemmas
 pub mod LeadLemmas
 pub mod RowLemmas
+pub mod BlameLemmas

@@ -3,3 +3,4 @@ pub mod Reading
 pub mod Plans
 pub mod RowsGiven
 pub mod Jobs
+pub mod Blaming

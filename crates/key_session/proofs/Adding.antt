@@ -1,5 +1,5 @@
 -- One more text was told.
-use Rattle.std.proofs.Common.{◌≡◌, ◌≤◌, ℕ, zero, suc, ◌+◌, ◌⊎◌, inl, inr, arith, Bool, true, false, ◌||◌, List, [], ◌∷◌, ◌++◌, length, drop, refl, sym, ap, ◌∙◌, subst, append-nil, length-append, Some, slice_get}
+use Rattle.std.proofs.Common.{◌≡◌, ◌≤◌, ℕ, zero, suc, ◌+◌, ◌⊎◌, inl, inr, arith, Bool, true, false, ◌||◌, List, [], ◌∷◌, ◌++◌, length, drop, refl, sym, ap, ◌∙◌, subst, append-nil, length-append, Option, Some, None, slice_get}
 use Rattle.std.specs.Prelude.{if◌then◌else◌, count_by, min}
 use Rattle.std.specs.List.{list_any, concat}
 use Rattle.std.proofs.lemmas.Grind.{flat_map-append}
@@ -11,13 +11,15 @@ use Rattle.ghost_model.specs.Split.{Hidden}
 use Rattle.ghost_model.specs.Lines.{Reason}
 use Rattle.key_lines.specs.Handing.{Handed, Hands, PiecesJoin}
 use Rattle.text_lines.specs.Rows.{PrintsSome}
-use Rattle.text_lines.specs.Texts.{ToldTells}
+use Rattle.key_exec.specs.Blaming.{IsDamaged}
+use Rattle.text_lines.specs.Texts.{ToldTells, ToldBlames}
 use Rattle.text_lines.specs.declared.text.Told.{Told}
 use Rattle.text_lines.specs.declared.text.Told.TheVariants as told
-use Rattle.key_session.specs.Counting.{reason_of, is_refusal, is_fault, is_flash, is_damage, one_if, IsCounted, AreCounted, AreUndamaged}
+use Rattle.key_session.specs.Counting.{damage_in, first_damage, reason_of, is_refusal, is_fault, is_flash, is_damage, one_if, IsCounted, AreCounted, AreUndamaged}
 use Rattle.key_session.specs.Reasons.{HasReason, HaveReasons}
 use Rattle.key_session.specs.Telling.{Outside, TextTold, reasons_of, bytes_of, bytes_told, IsTold, AreTold, AreLeft}
 use Rattle.key_session.specs.declared.counts.Counts.{Counts}
+use Rattle.key_session.specs.declared.counts.Damage.{Damage}
 
 some_same : {X : Type 0} (x y : X) → Some x ≡ Some y → x ≡ y
 some_same x y e = cc
@@ -103,6 +105,23 @@ unblamed_more : (reasons : List Reason) (since before now : ℕ) (result : Told)
 unblamed_more reasons since before now result tells same e =
     let none = neither (list_any is_flash reasons) (is_flash (reason_of result)) (sym (any_more is_flash reasons (reason_of result)) ∙ e) in
     flash_stayed before now result tells none.1 ∙ same none.0
+
+-- the damage that was met first is that of a slot
+pub one_damage : (pages_told : Bool) (page : ℕ → List ℕ) (catalog : Catalog) (before after : Option Damage) (result : Told) → after ≡ first_damage before (damage_in result)
+    → ToldBlames pages_told page catalog result
+    → ((damage : Damage) → before ≡ Some damage → IsDamaged pages_told page catalog damage.page damage.slot damage.found)
+    → (damage : Damage) → after ≡ Some damage → IsDamaged pages_told page catalog damage.page damage.slot damage.found
+one_damage pages_told page catalog (Some first) after result is blames were damage e = were damage (sym is ∙ e)
+one_damage pages_told page catalog None after result is blames were damage e = by result blames (sym is ∙ e)
+  where
+    by : (result : Told) → ToldBlames pages_told page catalog result → damage_in result ≡ Some damage → IsDamaged pages_told page catalog damage.page damage.slot damage.found
+    by told.Refused blames f = cc
+    by told.Answered blames f = cc
+    by told.Host blames f = cc
+    by told.Link blames f = cc
+    by told.Protocol blames f = cc
+    by told.Flash blames f = cc
+    by (told.Damaged number slot found) blames f = subst (λ (d : Damage). IsDamaged pages_told page catalog d.page d.slot d.found) (some_same (record { page = number; slot = slot; found = found }) damage f) blames
 
 -- one more text has a reason
 pub one_reason : (catalog : Catalog) (texts : List (List ℕ)) (journal : Journal) (count : ℕ) (old new : Counts) (since between now : ℕ) (result : Told)

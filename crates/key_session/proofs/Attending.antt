@@ -112,6 +112,7 @@ module _ (over : OverTextsAreSettled) (order : TextsComeInOrder) (decided : Text
         pages = telling.pages;
         faults = telling.faults;
         prints = telling.prints;
+        damaged = telling.damaged;
         reasons = telling.reasons;
         told = telling.told;
       };

@@ -94,6 +94,7 @@ going_on stay reasons pages_told catalog texts journal more since now teller rep
     pages = going.telling.pages;
     faults = going.telling.faults;
     prints = going.telling.prints;
+    damaged = going.telling.damaged;
     reasons = record {
       reasons = going.telling.reasons.reasons;
       as_many = going.telling.reasons.as_many;

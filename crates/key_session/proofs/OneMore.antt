@@ -23,15 +23,16 @@ use Rattle.session_replies.specs.declared.replies.Replies.{Replies}
 use Rattle.key_lines.specs.Handing.{PiecesJoin}
 use Rattle.key_exec.specs.Reading.{Knows}
 use Rattle.text_lines.specs.Rows.{PrintsSome}
-use Rattle.text_lines.specs.Texts.{TellsText, ToldTells, IsToldBy, Why}
+use Rattle.key_exec.specs.Blaming.{IsDamaged}
+use Rattle.text_lines.specs.Texts.{TellsText, ToldTells, ToldBlames, IsToldBy, Why}
 use Rattle.text_lines.specs.declared.text.Told.{Told}
 use Rattle.text_lines.specs.declared.text.Told.TheVariants as told
-use Rattle.key_session.specs.Counting.{reason_of, IsCounted, AreCounted, AreUndamaged}
+use Rattle.key_session.specs.Counting.{damage_in, first_damage, reason_of, IsCounted, AreCounted, AreUndamaged}
 use Rattle.key_session.specs.Reasons.{HaveReasons, HasReason}
 use Rattle.key_session.specs.Telling.{Outside, IsTold, AreTold, AreLeft, CameOut, IsTelling}
 use Rattle.key_session.specs.declared.teller.Teller.{Teller}
 use Rattle.key_session.proofs.Coming.{told_so, done_so, all_is_done, reason_so}
-use Rattle.key_session.proofs.Adding.{one_told, one_reason, next_of, next_number, left_more, some_more}
+use Rattle.key_session.proofs.Adding.{one_told, one_reason, one_damage, next_of, next_number, left_more, some_more}
 
 -- the count of faults never falls, but for its last value
 never_falls : (since before now : ℕ) (result : Told) → min since last_count ≤ before → ToldTells before now result → min since last_count ≤ now
@@ -79,14 +80,17 @@ pub tell_one : PiecesJoin → TextsAreDecided → StoredAreGiven → RepliesAsce
     → PrintsSome between.sink now.sink → KeepsPages between.flash now.flash → ToldTells between.flash.faults now.flash.faults result
     → IsCounted (reason_of result) old.counts new.counts
     → IsToldBy catalog.schema written state result
+    → new.counts.damage ≡ first_damage old.counts.damage (damage_in result) → ToldBlames pages_told now.flash.page catalog result
     → IsTelling pages_told catalog texts journal top since now new after
-tell_one join decided same ascend pages_told catalog texts journal top since between now old new before after written state stored result telling next more came kept_now is_state is_stored tells prints pages faults counted by = record {
+tell_one join decided same ascend pages_told catalog texts journal top since between now old new before after written state stored result telling next more came kept_now is_state is_stored tells prints pages faults counted by first blames = record {
   left = subst (λ (n : ℕ). AreLeft texts new.texts n) (sym more) (left_more texts old.count old.texts new.texts written telling.left next);
   kept = subst (λ (n : ℕ). IsKept catalog (heard_in catalog texts journal) (n + 1) top after) (sym more) kept_now;
   near = (let near : top ≤ old.count + 2 = telling.near in omega (arith, near, more));
   pages = pages_stay since.flash between.flash now.flash telling.pages pages;
   faults = never_falls since.flash.faults between.flash.faults now.flash.faults result telling.faults faults;
   prints = some_more join since.sink between.sink now.sink telling.prints prints;
+  damaged = one_damage pages_told since.flash.page catalog old.counts.damage new.counts.damage result first
+      (subst (λ (p : ℕ → List ℕ). ToldBlames pages_told p catalog result) (pages.page ∙ telling.pages.page) blames) telling.damaged;
   reasons = subst (λ (n : ℕ). HaveReasons catalog texts journal n (λ reasons. AreCounted reasons new.counts) since.flash.faults now.flash.faults) (sym more)
       (one_reason catalog texts journal old.count old.counts new.counts since.flash.faults between.flash.faults now.flash.faults result telling.reasons has_reason faults counted);
   told = λ database knows.

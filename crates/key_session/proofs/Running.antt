@@ -1,12 +1,11 @@
 -- A whole session.
-use Rattle.std.proofs.Common.{◌≡◌, ◌≤◌, ℕ, zero, suc, ◌+◌, arith, Bool, true, false, ◌||◌, List, [], ◌∷◌, length, refl, sym, ap, ◌∙◌, subst, Option, None, Some, Ok, Err, slice_get}
+use Rattle.std.proofs.Common.{◌≡◌, ◌≤◌, ℕ, suc, ◌+◌, arith, Bool, true, false, ◌||◌, List, [], ◌∷◌, length, refl, sym, ap, ◌∙◌, subst, Option, None, Some, slice_get}
 use Rattle.std.specs.Prelude.{min, if◌then◌else◌, count_by, is_err}
 use Rattle.std.specs.List.{list_any}
 use Rattle.std.proofs.lemmas.List.Sums.{sum_by-cons}
 use Rattle.ghost_model.specs.Causes.{Rose, last_count}
 use Rattle.ghost_model.specs.Channel.{Catalog, Journal}
 use Rattle.ghost_model.specs.Asks.{asked_of}
-use Rattle.ghost_model.specs.QueryReading.{reading}
 use Rattle.ghost_model.specs.Lines.{Reason, IsRefused, WasBroken, WasAnswered, MetFault}
 use Rattle.ghost_model.specs.NextMove.{Left, Heard, left, IsFinished}
 use Rattle.edge_traits.specs.Devices.{KeepsPages}
@@ -22,12 +21,12 @@ use Rattle.session_replies.specs.Kept.{IsKept, none_heard}
 use Rattle.session_replies.specs.declared.replies.Replies.{Replies}
 use Rattle.key_lines.specs.Handing.{PiecesJoin}
 use Rattle.text_lines.specs.Rows.{PrintsSome}
-use Rattle.key_session.specs.Counting.{AreCounted, AreUndamaged, is_refusal, is_flash}
+use Rattle.key_session.specs.Counting.{AreCounted, is_refusal, is_flash}
 use Rattle.key_session.specs.Reasons.{IsReason, HasReason, is_refused_text}
 use Rattle.key_session.specs.Refusing.{first_code}
 use Rattle.key_session.specs.Telling.{Outside, AreLeft, CameOut, IsTelling, TellsOn}
 use Rattle.key_session.specs.Going.{IsGoing, HasGone}
-use Rattle.key_session.specs.Running.{HasRun, IsTallied, status_with, damaged_or, host_or, blames_flash, spares_flash}
+use Rattle.key_session.specs.Running.{HasRun, status_with, host_or, blames_flash, spares_flash}
 use Rattle.key_session.specs.declared.teller.Teller.{Teller}
 use Rattle.key_session.specs.declared.counts.Counts.{Counts}
 use Rattle.key_session.specs.declared.counts.Damage.{Damage}
@@ -54,6 +53,7 @@ at_first join pages_told catalog texts since teller replies all none counts kept
     pages = record { page_count = refl; page = refl; blank = refl };
     faults = omega arith;
     prints = record { piece = []; handed = join.none since.sink };
+    damaged = λ damage e. absurd (none_some damage (sym (ap (λ (c : Counts). c.damage) counts) ∙ e));
     reasons = record {
       reasons = [];
       as_many = sym none;
@@ -76,6 +76,9 @@ at_first join pages_told catalog texts since teller replies all none counts kept
   onward = λ text un. omega arith;
 }
   where
+    none_some : (damage : Damage) → None ≡ Some damage → ⊥
+    none_some damage e = cc
+
     none_counted : AreCounted [] teller.counts
     none_counted = subst (λ (c : Counts). AreCounted [] c) (sym counts) (record { refused = refl; faulted = refl; by_flash = refl; found = refl })
 
@@ -113,9 +116,9 @@ refusals_read : (catalog : Catalog) (texts : List (List ℕ)) (journal : Journal
     → count_by is_refusal reasons ≡ count_by (is_refused_text catalog.schema) texts
 refusals_read catalog texts journal reasons long each =
     count_same is_refusal (is_refused_text catalog.schema) reasons texts long (λ i reason text e f.
-        let has = each i reason e in
-        refusal_read catalog texts journal (suc i) has.written reason has.is_reason
-        ∙ ap (is_refused_text catalog.schema) (same_text has.written text (slice_get texts i) has.stands f))
+    let has = each i reason e in
+    refusal_read catalog texts journal (suc i) has.written reason has.is_reason
+    ∙ ap (is_refused_text catalog.schema) (same_text has.written text (slice_get texts i) has.stands f))
 
 -- a status by all that it goes by
 abbrev status_by : (failed stopped broken : Bool) (kind at : ℕ) (code : Option ℕ) (by_flash : Bool) (damage : Option Damage) → SessionStatus
@@ -139,15 +142,25 @@ spared_so false false false kind at (Some code) by_flash damage e = cc
 spared_so false false false kind at None true damage e = cc
 spared_so false false false kind at None false damage e = refl
 
+damaged_so : (failed stopped broken : Bool) (kind at : ℕ) (code : Option ℕ) (by_flash : Bool) (damage : Option Damage) (met : Damage) → status_by failed stopped broken kind at code by_flash damage ≡ way.Damaged met → damage ≡ Some met
+damaged_so true stopped broken kind at code by_flash damage met e = cc
+damaged_so false true broken kind at code by_flash damage met e = cc
+damaged_so false false true kind at code by_flash damage met e = cc
+damaged_so false false false kind at (Some code) by_flash damage met e = cc
+damaged_so false false false kind at None true damage met e = cc
+damaged_so false false false kind at None false None met e = cc
+damaged_so false false false kind at None false (Some damage) met e = (let same : damage ≡ met = cc in ap Some same)
+
 -- where a text met a failure of the flash, its count of faults rose
+one_met : (b more : Bool) (count : ℕ) → (more ≡ true → 1 ≤ count) → (b || more) ≡ true → 1 ≤ (if b then 1 else 0) + count
+one_met true more count met e = omega arith
+one_met false more count met e = (let some = met e in omega (arith, some))
+
 some_met : (p : Reason → Bool) (reasons : List Reason) → list_any p reasons ≡ true → 1 ≤ count_by p reasons
 some_met p [] e = cc
 some_met p (reason ∷ reasons) e =
-    subst (λ (n : ℕ). 1 ≤ n) (sym (sum_by-cons (λ (z : Reason). if p z then 1 else 0) reason reasons)) (by (p reason) e)
-  where
-    by : (b : Bool) → (b || list_any p reasons) ≡ true → 1 ≤ (if b then 1 else 0) + count_by p reasons
-    by true f = omega arith
-    by false f = (let more = some_met p reasons f in omega (arith, more))
+    subst (λ (n : ℕ). 1 ≤ n) (sym (sum_by-cons (λ (z : Reason). if p z then 1 else 0) reason reasons))
+    (one_met (p reason) (list_any p reasons) (count_by p reasons) (some_met p reasons) e)
 
 rose_once : (most before count now : ℕ) → 1 ≤ count → min (before + count) most ≤ now → min (before + 1) most ≤ now
 rose_once most before count now some e = omega (arith, some, e)
@@ -162,7 +175,7 @@ pub record IsLast (went : Journal → Type 0) (link_before link_now : ℕ) (page
 -- what the status says of the flash
 module _ {went : Journal → Type 0} {link_before link_now : ℕ} {pages_told : Bool} {catalog : Catalog} {at : List ℕ} {texts : List (List ℕ)} {since now : Outside} {tally : Tally}
     (ran : HasRun went link_before link_now pages_told catalog at texts since now tally) where
-  session : Left
+  abbrev session : Left
   session = left catalog (asked_of catalog.schema texts) ran.journal
 
   pub flash_rose : blames_flash tally.status ≡ true → Rose since.flash.faults now.flash.faults
@@ -210,6 +223,10 @@ has_run outcomes went link_before link_now pages_told catalog at texts since mid
         status_is = status_is ∙ ap (λ (b : Bool). status_with now.sink.failed (left catalog (asked_of catalog.schema texts) gone.journal) b teller.counts.damage) last.reasons.counted.by_flash;
       };
     };
+    damaged = λ damage e.
+        last.damaged damage
+        (damaged_so now.sink.failed (left catalog (asked_of catalog.schema texts) gone.journal).stopped (left catalog (asked_of catalog.schema texts) gone.journal).heard.broken _ _ _ teller.counts.by_flash teller.counts.damage damage
+        (sym status_is ∙ e));
     told = λ database knows.
         let are = last.told database knows in
         record {

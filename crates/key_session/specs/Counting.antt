@@ -1,10 +1,11 @@
 -- What is counted of the texts that were told, by the reasons for their lines.
-use Rattle.std.specs.Prelude.{◌≡◌, ℕ, ◌+◌, Bool, true, false, ◌||◌, List, count_by, if◌then◌else◌, None, is_some}
+use Rattle.std.specs.Prelude.{◌≡◌, ℕ, ◌+◌, Bool, true, false, ◌||◌, List, count_by, if◌then◌else◌, Option, None, Some, is_some}
 use Rattle.std.specs.List.{list_any}
 use Rattle.ghost_model.specs.Lines.{Reason, IsRefused, WasBroken, WasAnswered, MetFault, Fault, OnFlash, OnDamage}
 use Rattle.text_lines.specs.declared.text.Told.{Told}
 use Rattle.text_lines.specs.declared.text.Told.TheVariants as told
 use Rattle.key_session.specs.declared.counts.Counts.{Counts}
+use Rattle.key_session.specs.declared.counts.Damage.{Damage}
 
 abbrev pub reason_of : Told → Reason
 reason_of told.Refused = IsRefused
@@ -50,6 +51,20 @@ is_damage (MetFault fault) = is_on_damage fault
 
 abbrev pub one_if : Bool → ℕ
 one_if test = if test then 1 else 0
+
+-- the damage that is told of a text, and the first of two that may have been met
+abbrev pub damage_in : Told → Option Damage
+damage_in told.Refused = None
+damage_in told.Answered = None
+damage_in told.Host = None
+damage_in told.Link = None
+damage_in told.Protocol = None
+damage_in told.Flash = None
+damage_in (told.Damaged page slot found) = Some (record { page = page; slot = slot; found = found })
+
+abbrev pub first_damage : Option Damage → Option Damage → Option Damage
+first_damage None later = later
+first_damage (Some damage) later = Some damage
 
 -- one more text was counted
 pub record IsCounted (reason : Reason) (old new : Counts) : Type 0 where

@@ -11,6 +11,7 @@ use Rattle.ghost_model.specs.Split.{hidden_of}
 use Rattle.ghost_model.specs.Lines.{Reason}
 use Rattle.channel_pump.specs.State.{counted, bytes_before}
 use Rattle.channel_session.specs.Entries.{is_short_entry, FaultsTell}
+use Rattle.key_exec.specs.Blaming.{IsDamaged}
 use Rattle.key_exec.specs.Reading.{Knows}
 use Rattle.key_session.specs.Counting.{is_refusal, is_fault, is_flash, is_damage}
 use Rattle.key_session.specs.Reasons.{HaveReasons, is_refused_text}
@@ -97,6 +98,7 @@ pub record HasRun (goes : Journal → Type 0) (link_before link_now : ℕ) (page
   pub refused : tally.refused ≡ count_by (is_refused_text catalog.schema) texts
   pub reasons : HaveReasons catalog texts journal (length texts)
       (λ reasons. IsTallied now.sink.failed (left catalog (asked_of catalog.schema texts) journal) reasons tally) since.flash.faults now.flash.faults
+  pub damaged : (damage : Damage) → tally.status ≡ status.Damaged damage → IsDamaged pages_told since.flash.page catalog damage.page damage.slot damage.found
   pub told : (database : Database) → Knows pages_told since.flash.page catalog database
       → AreTold catalog (hidden_of catalog.schema database) texts journal (length texts)
       (λ reasons. IsTally now.sink.failed (left catalog (asked_of catalog.schema texts) journal) reasons tally) since now

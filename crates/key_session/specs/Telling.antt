@@ -19,10 +19,12 @@ use Rattle.session_laws.specs.TextCases.{Outcome}
 use Rattle.key_lines.specs.Handing.{Handed, Hands, handed}
 use Rattle.session_replies.specs.Kept.{IsKept}
 use Rattle.session_replies.specs.declared.replies.Replies.{Replies}
+use Rattle.key_exec.specs.Blaming.{IsDamaged}
 use Rattle.key_exec.specs.Reading.{Knows}
 use Rattle.text_lines.specs.Rows.{PrintsSome}
 use Rattle.key_session.specs.Counting.{is_flash, is_damage, AreCounted, AreUndamaged}
 use Rattle.key_session.specs.Reasons.{HaveReasons}
+use Rattle.key_session.specs.declared.counts.Damage.{Damage}
 use Rattle.key_session.specs.declared.teller.Teller.{Teller}
 
 -- where the lines go, and the flash
@@ -86,6 +88,7 @@ pub record IsTelling (pages_told : Bool) (catalog : Catalog) (texts : List (List
   -- at its last value the count stays
   pub faults : min since.flash.faults last_count ≤ now.flash.faults
   pub prints : PrintsSome since.sink now.sink
+  pub damaged : (damage : Damage) → teller.counts.damage ≡ Some damage → IsDamaged pages_told since.flash.page catalog damage.page damage.slot damage.found
   pub reasons : HaveReasons catalog texts journal teller.count (λ reasons. AreCounted reasons teller.counts) since.flash.faults now.flash.faults
   pub told : (database : Database) → Knows pages_told since.flash.page catalog database
       → AreTold catalog (hidden_of catalog.schema database) texts journal teller.count (λ reasons. AreUndamaged reasons teller.counts) since now

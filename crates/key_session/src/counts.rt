@@ -1,7 +1,7 @@
 //! What is counted of the texts that were told.
 
-ghost use Rattle.std.specs.Prelude.{◌<◌, ◌≤◌, ◌+◌};
-ghost use Rattle.key_session.specs.Counting.{IsCounted, reason_of};
+ghost use Rattle.std.specs.Prelude.{◌≡◌, ◌<◌, ◌≤◌, ◌+◌};
+ghost use Rattle.key_session.specs.Counting.{IsCounted, damage_in, first_damage, reason_of};
 
 use text_lines::Told;
 
@@ -35,6 +35,7 @@ impl Counts {
         requires refused { self.old.refused ≤ 64 }
         requires faulted { self.old.faulted ≤ 64 }
         ensures counted { IsCounted (reason_of told) self.old self.new }
+        ensures first { self.new.damage ≡ first_damage self.old.damage (damage_in told) }
         ensures refused { self.new.refused ≤ self.old.refused + 1 }
         ensures faulted { self.new.faulted ≤ self.old.faulted + 1 }
     {

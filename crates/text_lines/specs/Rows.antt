@@ -1,9 +1,11 @@
 -- How the rows of a text end: all were printed, or some from the front of them and then the flash failed.
-use Rattle.std.specs.Prelude.{◌≡◌, ℕ, ◌+◌, ⊤, List, [], ◌++◌, length, map}
+use Rattle.std.specs.Prelude.{◌≡◌, ℕ, ◌+◌, ⊤, Bool, List, [], ◌++◌, length, map}
 use Rattle.std.specs.List.{concat}
 use Rattle.ghost_model.specs.Causes.{Rose}
 use Rattle.ghost_model.specs.Values.{Row}
+use Rattle.ghost_model.specs.Channel.{Catalog}
 use Rattle.ghost_model.specs.Printed.{row_line}
+use Rattle.key_exec.specs.Blaming.{IsDamaged}
 use Rattle.key_lines.specs.Handing.{Handed, Hands}
 use Rattle.text_lines.specs.declared.rows.End.{End}
 use Rattle.text_lines.specs.declared.rows.End.TheVariants as ended
@@ -32,3 +34,9 @@ abbrev pub EndTells : (before now : ℕ) → End → Type 0
 EndTells before now (ended.Whole number) = now ≡ before
 EndTells before now ended.Flash = Rose before now
 EndTells before now (ended.Damaged page slot found) = now ≡ before
+
+-- a slot that is blamed is that of a row in the file of a hidden column, whatever the pages hold
+abbrev pub EndBlames : (pages_told : Bool) (page : ℕ → List ℕ) → Catalog → End → Type 0
+EndBlames pages_told page catalog (ended.Whole number) = ⊤
+EndBlames pages_told page catalog ended.Flash = ⊤
+EndBlames pages_told page catalog (ended.Damaged number slot found) = IsDamaged pages_told page catalog number slot found

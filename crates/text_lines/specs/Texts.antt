@@ -4,12 +4,14 @@ use Rattle.std.specs.List.{concat}
 use Rattle.ghost_model.specs.Causes.{Rose}
 use Rattle.ghost_model.specs.Schema.{Schema}
 use Rattle.ghost_model.specs.Values.{Row}
+use Rattle.ghost_model.specs.Channel.{Catalog}
 use Rattle.ghost_model.specs.Query.{Query}
 use Rattle.ghost_model.specs.QueryMeaning.{Refusal}
 use Rattle.ghost_model.specs.QueryReading.{reading}
 use Rattle.ghost_model.specs.Split.{Hidden}
 use Rattle.ghost_model.specs.Replies.{Reply, answer_from}
 use Rattle.ghost_model.specs.Printed.{row_line, answer_lines, word_line, refusal_line}
+use Rattle.key_exec.specs.Blaming.{IsDamaged}
 use Rattle.key_lines.specs.Handing.{Handed, Hands}
 use Rattle.channel_pump.specs.declared.state.ReplyState.{ReplyState}
 use Rattle.channel_pump.specs.declared.state.ReplyState.TheVariants as state_is
@@ -134,3 +136,13 @@ IsToldBy schema text state told.Link = IsAccepted schema text ((state ≡ state_
 IsToldBy schema text state told.Protocol = IsAccepted schema text (state ≡ state_is.Protocol)
 IsToldBy schema text state told.Flash = IsAccepted schema text (state ≡ state_is.Done)
 IsToldBy schema text state (told.Damaged page slot found) = IsAccepted schema text (state ≡ state_is.Done)
+
+-- a slot that is blamed is that of a row in the file of a hidden column, whatever the pages hold
+abbrev pub ToldBlames : (pages_told : Bool) (page : ℕ → List ℕ) → Catalog → Told → Type 0
+ToldBlames pages_told page catalog told.Refused = ⊤
+ToldBlames pages_told page catalog told.Answered = ⊤
+ToldBlames pages_told page catalog told.Host = ⊤
+ToldBlames pages_told page catalog told.Link = ⊤
+ToldBlames pages_told page catalog told.Protocol = ⊤
+ToldBlames pages_told page catalog told.Flash = ⊤
+ToldBlames pages_told page catalog (told.Damaged number slot found) = IsDamaged pages_told page catalog number slot found

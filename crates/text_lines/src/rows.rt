@@ -8,7 +8,7 @@ ghost use Rattle.reply_store.specs.Stored.{replies_in, are_ascending};
 ghost use Rattle.key_exec.specs.Plans.{Suffices};
 ghost use Rattle.key_exec.specs.Reading.{Knows};
 ghost use Rattle.key_exec.specs.Jobs.{rows_left};
-ghost use Rattle.text_lines.specs.Rows.{GivesEnd, PrintsSome, EndTells};
+ghost use Rattle.text_lines.specs.Rows.{GivesEnd, PrintsSome, EndTells, EndBlames};
 
 use edge_traits::flash::Flash;
 use edge_traits::sink::Sink;
@@ -43,6 +43,7 @@ pub(crate) fn print_rows<F: Flash, O: Sink>(
     ensures prints { PrintsSome (handed printer.old.failed (O.faults out.old) (O.written out.old)) (handed printer.new.failed (O.faults out.new) (O.written out.new)) }
     ensures kept { KeepsPages (F.state flash.old) (F.state flash.new) }
     ensures faults { EndTells (F.state flash.old).faults (F.state flash.new).faults result }
+    ensures blames { EndBlames F.told (F.state flash.new).page job.old.cat result }
 {
     pieces_join();
     let mut pages = Pages::none();

@@ -1,5 +1,6 @@
-use Rattle.std.proofs.Common.{◌≡◌, ap, map}
+use Rattle.std.proofs.Common.{◌≡◌, ap, map, subst}
 use Rattle.ghost_base.specs.Views.{value_of}
+use Rattle.key_exec.specs.Blaming.{IsDamaged}
 use Rattle.key_lines.specs.Handing.{handed}
 use Rattle.reply_store.specs.Stored.{replies_in}
 use Rattle.text_lines.proofs.Printing.{at_first, line_slice}
@@ -23,3 +24,8 @@ rows-preserved g c = (
       c.slice.ensures.kept c.in-Line.ensures.faults (ap (map value_of) c.as_slice.ensures.value) c.row.ensures.handed,
   c.slice.ensures.held,
 )
+
+pub returns-in-Damaged-clause-blames : goal.returns-in-Damaged-clause-blames
+returns-in-Damaged-clause-blames g c =
+    subst (λ cat. IsDamaged g.F.Flash.told (g.F.Flash.state c.slice.new.flash).page cat c.in-Damaged.page c.in-Damaged.slot c.in-Damaged.found)
+    c.rows.invariant.0.cat c.in-Damaged.ensures.blames

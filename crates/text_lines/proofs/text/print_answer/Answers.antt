@@ -4,6 +4,7 @@ use Rattle.key_lines.specs.Faults.{fault_line}
 use Rattle.key_lines.specs.Handing.{Hands, handed}
 use Rattle.key_lines.specs.declared.printer.Fault.TheVariants as fault
 use Rattle.reply_store.specs.Stored.{replies_in}
+use Rattle.key_exec.specs.Blaming.{IsDamaged}
 use Rattle.key_exec.specs.Reading.{Knows}
 use Rattle.text_lines.proofs.Printing.{prints_more}
 use Rattle.text_lines.proofs.Answering.{whole_lines, flash_lines}
@@ -33,3 +34,8 @@ returns-in-Flash-clause-prints g c = prints_more c.pieces_join.ensures _ _ _ _ c
 
 pub returns-in-Damaged-clause-prints : goal.returns-in-Damaged-clause-prints
 returns-in-Damaged-clause-prints g c = prints_more c.pieces_join.ensures _ _ _ _ c.print_rows.ensures.prints c.fault-in-Damaged.ensures.handed
+
+pub returns-in-Damaged-clause-blames : goal.returns-in-Damaged-clause-blames
+returns-in-Damaged-clause-blames g c =
+    subst (λ cat. IsDamaged g.F.Flash.told (g.F.Flash.state c.print_rows.new.flash).page cat c.in-Damaged.page c.in-Damaged.slot c.in-Damaged.found)
+    c.begin-job.ensures.cat c.in-Damaged.ensures.blames
