@@ -213,16 +213,16 @@ fn lines_of(alloc: Global, texts: &[(&str, &str)]) -> Result<Vec<u8>, AllocError
 #[test]
 fn the_texts_of_a_script_have_their_lines_in_order(rt: HostRuntime) -> Result<(), AllocError> {
     for (files, texts) in [
-        (CLINIC, WORKED.as_slice()),
-        (CLINIC, &TWICE),
-        (CLINIC, &UNLINKED),
-        (DAYS, &NEGATIVE),
-        (NO_VISITS, &NO_VISIT),
-        (NO_ROWS, &NO_ROW),
-        (NAMELESS, &EMPTY_NAME),
+        (CLINIC.as_slice(), WORKED.as_slice()),
+        (CLINIC.as_slice(), &TWICE),
+        (CLINIC.as_slice(), &UNLINKED),
+        (DAYS.as_slice(), &NEGATIVE),
+        (NO_VISITS.as_slice(), &NO_VISIT),
+        (NO_ROWS.as_slice(), &NO_ROW),
+        (NAMELESS.as_slice(), &EMPTY_NAME),
     ] {
         let script = script_of(rt.alloc(), texts)?;
-        let run = answer(rt.alloc(), &files, &script)?;
+        let run = answer(rt.alloc(), files, &script)?;
         assert_eq!(rt; run.ended, Ok(()));
         assert_eq!(rt; run.lines, lines_of(rt.alloc(), texts)?);
     }
@@ -235,6 +235,14 @@ fn scripts_are_cut_into_texts(rt: HostRuntime) -> Result<(), AllocError> {
         ("", ""),
         (" \r\n;;\t;\n", ""),
         ("SELECT a b; SELECT a b", "! 1 syntax 9\n! 2 syntax 10\n"),
+        (
+            "\r\n SELECT\tvisit\n.\nid FROM visit WHERE visit . day<=5 ",
+            "> 1\n> 2\n> 4\n= 1 3\n",
+        ),
+        (
+            "SELECT visit.id FROM visit WHERE purpose = 'fl\nu'",
+            "! 1 syntax 43\n",
+        ),
         ("  ;;\n;SELECT day FROM visit WHERE id = 1", "> 5\n= 1 1\n"),
         (
             "SELECT visit.id FROM visit WHERE purpose = 'a;b'; SELECT day FROM visit WHERE id = 4;",
