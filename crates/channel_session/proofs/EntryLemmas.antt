@@ -1,11 +1,11 @@
 -- What the moves of a session do to a link's count of failed calls, and how long they are.
-use Rattle.std.proofs.Common.{◌≡◌, ◌<◌, ◌≤◌, ◌+◌, ℕ, zero, suc, arith, Bool, true, false, ◌&&◌, ◌||◌, length, take, drop, List, [], ◌∷◌, ◌++◌, refl, sym, ◌∙◌, ap, le-leb}
-use Rattle.std.specs.Prelude.{nat_le, min}
+use Rattle.std.proofs.Common.{◌≡◌, ◌≤◌, ◌+◌, ℕ, zero, suc, arith, Bool, true, false, ◌&&◌, ◌||◌, length, take, drop, List, [], ◌∷◌, ◌++◌, refl, sym, ◌∙◌, ap, le-leb}
+use Rattle.std.specs.Prelude.{min}
 use Rattle.std.specs.List.{list_any, list_all}
 use Rattle.std.proofs.lemmas.List.{length-take}
 use Rattle.std.proofs.lemmas.List.Folds.{list_any-append, list_all-append}
 use Rattle.ghost_model.specs.Causes.{Rose, last_count}
-use Rattle.ghost_model.specs.Channel.{Move, Dial, Send, Take, Close, Answer, Made, Piece, End, Failed, Entry, Journal}
+use Rattle.ghost_model.specs.Channel.{Take, Piece, End, Entry, Journal}
 use Rattle.ghost_model.specs.Moves.{piece_of}
 use Rattle.edge_traits.specs.Links.{entry}
 use Rattle.channel_session.specs.Entries.{bytes_of, is_short_entry, is_failure, has_failed, FaultsTell, WentBy, MovesJoin}

@@ -23,7 +23,6 @@ use Rattle.session_replies.specs.declared.replies.Replies.{Replies}
 use Rattle.key_lines.specs.Handing.{PiecesJoin}
 use Rattle.key_exec.specs.Reading.{Knows}
 use Rattle.text_lines.specs.Rows.{PrintsSome}
-use Rattle.key_exec.specs.Blaming.{IsDamaged}
 use Rattle.text_lines.specs.Texts.{TellsText, ToldTells, ToldBlames, IsToldBy, Why}
 use Rattle.text_lines.specs.declared.text.Told.{Told}
 use Rattle.text_lines.specs.declared.text.Told.TheVariants as told

@@ -1,4 +1,4 @@
-use Rattle.std.proofs.Common.{◌≡◌, ap, map, subst}
+use Rattle.std.proofs.Common.{ap, map, subst}
 use Rattle.ghost_base.specs.Views.{value_of}
 use Rattle.key_exec.specs.Blaming.{IsDamaged}
 use Rattle.key_lines.specs.Handing.{handed}

@@ -1,8 +1,4 @@
-use Rattle.std.proofs.Common.{◌≡◌, ◌∙◌, ℕ, subst, sym}
-use Rattle.ghost_model.specs.Printed.{count_line}
-use Rattle.key_lines.specs.Faults.{fault_line}
-use Rattle.key_lines.specs.Handing.{Hands, handed}
-use Rattle.key_lines.specs.declared.printer.Fault.TheVariants as fault
+use Rattle.std.proofs.Common.{◌∙◌, subst, sym}
 use Rattle.reply_store.specs.Stored.{replies_in}
 use Rattle.key_exec.specs.Blaming.{IsDamaged}
 use Rattle.key_exec.specs.Reading.{Knows}
