@@ -8,8 +8,8 @@ use std::alloc::{AllocError, Global};
 
 /// The room of the files: for scripts and schemas of the greatest length, and for tables of some thousands of rows.
 const ROOM: Room = Room {
-    files: 6,
-    name_bytes: 32,
+    files: 14,
+    name_bytes: 64,
     file_bytes: 300_000,
 };
 

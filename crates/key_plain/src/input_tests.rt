@@ -272,6 +272,82 @@ fn each_schema_has_its_fault(rt: HostRuntime) -> Result<(), AllocError> {
 }
 
 #[test]
+fn schemas_within_their_limits_are_read(rt: HostRuntime) -> Result<(), AllocError> {
+    let cases: [(&str, &[File<'_>], &str, &str); 6] = [
+        (
+            "create table T(ID int primary key,V char(008)hidden);",
+            &[("tables/t.csv", "ID,V\n1,abcdefgh\n2,\n")],
+            "SELECT * FROM t",
+            "> 1\tabcdefgh\n> 2\t\n= 1 2\n",
+        ),
+        (
+            "CREATE TABLE t (id INTEGER PRIMARY KEY, n CHAR(0001));",
+            &[("tables/t.csv", "id,n\n1,x\n")],
+            "SELECT n FROM t WHERE n = 'xy';SELECT n FROM t",
+            "! 1 literal\n> x\n= 2 1\n",
+        ),
+        (
+            "CREATE TABLE id (id INTEGER PRIMARY KEY, t INTEGER); CREATE TABLE t (id INTEGER PRIMARY KEY, id2 INTEGER REFERENCES id (ID));",
+            &[
+                ("tables/id.csv", "id,t\n1,7\n2,8\n"),
+                ("tables/t.csv", "id,id2\n1,2\n2,2\n3,1\n"),
+            ],
+            "SELECT * FROM id, t WHERE id2 = id.id AND t > 7;SELECT id2 FROM t",
+            "> 2\t8\t1\t2\n> 2\t8\t2\t2\n= 1 2\n> 2\n> 2\n> 1\n= 2 3\n",
+        ),
+        (
+            "CREATE TABLE abcdefghijklmnopqrstuvwxyz_abcde (id INTEGER PRIMARY KEY, abcdefghijklmnopqrstuvwxyz_abcde CHAR(64));",
+            &[(
+                "tables/abcdefghijklmnopqrstuvwxyz_abcde.csv",
+                "id,abcdefghijklmnopqrstuvwxyz_abcde\n1,xxxxxxxxxxxxxxxxxxxxxxxxxxxxxxxxxxxxxxxxxxxxxxxxxxxxxxxxxxxxxxxx\n",
+            )],
+            "SELECT * FROM abcdefghijklmnopqrstuvwxyz_abcde",
+            "> 1\txxxxxxxxxxxxxxxxxxxxxxxxxxxxxxxxxxxxxxxxxxxxxxxxxxxxxxxxxxxxxxxx\n= 1 1\n",
+        ),
+        (
+            "CREATE TABLE t (id INTEGER PRIMARY KEY, a INT, b INT, c INT, d INT, e INT, f INT, g INT, h INT, i INT, j INT, k INT, l INT, m INT, n INT, o INT, p INT, q INT, r INT, s INT, t INT, u INT, v INT, w INT);",
+            &[(
+                "tables/t.csv",
+                "id,a,b,c,d,e,f,g,h,i,j,k,l,m,n,o,p,q,r,s,t,u,v,w\n1,2,3,4,5,6,7,8,9,10,11,12,13,14,15,16,17,18,19,20,21,22,23,24\n",
+            )],
+            "SELECT * FROM t",
+            "> 1\t2\t3\t4\t5\t6\t7\t8\t9\t10\t11\t12\t13\t14\t15\t16\t17\t18\t19\t20\t21\t22\t23\t24\n= 1 1\n",
+        ),
+        (
+            "CREATE TABLE a (id INTEGER PRIMARY KEY, ab INT REFERENCES b, ac INT REFERENCES c, ad INT REFERENCES d, ae INT REFERENCES e, af INT REFERENCES f); CREATE TABLE b (id INTEGER PRIMARY KEY); CREATE TABLE c (id INTEGER PRIMARY KEY); CREATE TABLE d (id INTEGER PRIMARY KEY); CREATE TABLE e (id INTEGER PRIMARY KEY); CREATE TABLE f (id INTEGER PRIMARY KEY, fg INT REFERENCES g, fh INT REFERENCES h, fi INT REFERENCES i, fj INT REFERENCES j, fk INT REFERENCES k, fl INT REFERENCES l); CREATE TABLE g (id INTEGER PRIMARY KEY); CREATE TABLE h (id INTEGER PRIMARY KEY); CREATE TABLE i (id INTEGER PRIMARY KEY); CREATE TABLE j (id INTEGER PRIMARY KEY); CREATE TABLE k (id INTEGER PRIMARY KEY); CREATE TABLE l (id INTEGER PRIMARY KEY);",
+            &[
+                ("tables/b.csv", "id\n1\n2\n"),
+                ("tables/c.csv", "id\n1\n2\n"),
+                ("tables/d.csv", "id\n1\n2\n"),
+                ("tables/e.csv", "id\n1\n2\n"),
+                ("tables/g.csv", "id\n1\n2\n"),
+                ("tables/h.csv", "id\n1\n2\n"),
+                ("tables/i.csv", "id\n1\n2\n"),
+                ("tables/j.csv", "id\n1\n2\n"),
+                ("tables/k.csv", "id\n1\n2\n"),
+                ("tables/l.csv", "id\n1\n2\n"),
+                (
+                    "tables/a.csv",
+                    "id,ab,ac,ad,ae,af\n1,1,1,1,1,2\n2,2,2,2,2,1\n",
+                ),
+                (
+                    "tables/f.csv",
+                    "id,fg,fh,fi,fj,fk,fl\n1,1,2,1,2,1,2\n2,2,1,2,1,2,1\n",
+                ),
+            ],
+            "SELECT a.id, g.id, l.id FROM l, k, j, i, h, g, f, e, d, c, b, a WHERE ab = b.id AND ac = c.id AND ad = d.id AND ae = e.id AND af = f.id AND fg = g.id AND fh = h.id AND fi = i.id AND fj = j.id AND fk = k.id AND fl = l.id;SELECT a.id, g.id, l.id FROM l, k, j, i, h, g, f, e, d, c, b, a WHERE ab = b.id AND ac = c.id AND ad = d.id AND ae = e.id AND af = f.id AND fg = g.id AND fh = h.id AND fi = i.id AND fj = j.id AND fk = k.id;SELECT a.id, g.id, l.id FROM l, k, j, i, h, g, f, e, d, c, b, a WHERE ab = b.id AND ac = c.id AND ad = d.id AND ae = e.id AND af = f.id AND fg = g.id AND fh = h.id AND fi = i.id AND fj = j.id AND fk = k.id AND l.id = fl AND k.id = 2",
+            "> 1\t2\t1\n> 2\t1\t2\n= 1 2\n! 2 unlinked\n> 1\t2\t1\n= 3 1\n",
+        ),
+    ];
+    for (schema, tables, script, lines) in cases.iter() {
+        let run = answer_over(rt.alloc(), schema.as_bytes(), tables, script.as_bytes())?;
+        assert_eq!(rt; run.ended, Ok(()), "{schema}");
+        assert_eq!(rt; run.lines.as_slice(), lines.as_bytes(), "{schema}");
+    }
+    Ok(())
+}
+
+#[test]
 fn a_schema_has_at_most_so_many_bytes(rt: HostRuntime) -> Result<(), AllocError> {
     let text = b"CREATE TABLE t (id INTEGER PRIMARY KEY, n INTEGER);";
     let tables = [("tables/t.csv", "id,n\n1,7\n")];
