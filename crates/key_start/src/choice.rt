@@ -66,6 +66,7 @@ pub fn start<D: Depot, O: Sink>(alloc: Global, args: &[String], depot: &mut D, o
             Ok(KeyWords::Plain(words)) => of_plain(plain(alloc, &words, depot, out)),
             Ok(KeyWords::Local(_words)) => Ended::Local(KeyStatus::Usage),
             Ok(KeyWords::Load(_words)) => Ended::Local(KeyStatus::Usage),
+            Ok(KeyWords::Query(_words)) => Ended::Local(KeyStatus::Usage),
             Err(WordsFault::NoMemory) => Ended::Local(KeyStatus::NoMemory),
             Err(WordsFault::Usage(_fault)) => Ended::Local(KeyStatus::Usage),
         },

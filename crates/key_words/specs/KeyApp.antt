@@ -27,10 +27,19 @@ load_app =
     with_rule (with_rule (with_rule (with_inputs (new_app (codes "load"))) (needed (codes "flash"))) (needed (codes "visible")))
     (optional (codes "blocks"))
 
+abbrev pub query_app : App
+query_app =
+    with_rule (with_rule (with_rule (with_rule (with_rule (new_app (codes "query")) (needed (codes "flash"))) (needed (codes "to")))
+    (needed (codes "script"))) (optional (codes "plan"))) (optional (codes "pace"))
+
 abbrev pub bare_app : App
 bare_app =
     on_top (λ shape. record shape { disable_help_flag = true; disable_help_subcommand = true; subcommand_required = true })
     (new_app (codes "key_program"))
 
+-- with the commands of one process
+abbrev pub app_alone : App
+app_alone = with_subcommand (with_subcommand (with_subcommand bare_app local_app.top) plain_app.top) load_app.top
+
 abbrev pub key_app : App
-key_app = with_subcommand (with_subcommand (with_subcommand bare_app local_app.top) plain_app.top) load_app.top
+key_app = with_subcommand app_alone query_app.top

@@ -6,6 +6,7 @@ use Rattle.key_words.specs.declared.words.KeyWords.TheVariants as key
 use Rattle.key_words.specs.declared.words.LocalWords.{LocalWords}
 use Rattle.key_words.specs.declared.words.LoadWords.{LoadWords}
 use Rattle.key_words.specs.declared.words.PlainWords.{PlainWords}
+use Rattle.key_words.specs.declared.words.QueryWords.{QueryWords}
 
 abbrev pub plain_view : PlainWords → words.Plain
 plain_view plain = record { schema = plain.schema.now; tables = plain.tables.now; script = plain.script.now }
@@ -28,7 +29,11 @@ load_view load = record {
   blocks = load.blocks;
 }
 
+abbrev pub query_view : QueryWords → words.Query
+query_view query = record { flash = query.flash.now; to = query.to.now; script = query.script.now }
+
 abbrev pub words_view : KeyWords → words.Command
 words_view (key.Local local) = words.LocalCommand (local_view local)
 words_view (key.Plain plain) = words.PlainCommand (plain_view plain)
 words_view (key.Load load) = words.LoadCommand (load_view load)
+words_view (key.Query query) = words.QueryCommand (query_view query)

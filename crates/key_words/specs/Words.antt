@@ -29,10 +29,16 @@ pub record Load : Type 0 where
   pub visible : List ℕ
   pub blocks : Option ℕ
 
+pub record Query : Type 0 where
+  pub flash : List ℕ
+  pub to : List ℕ
+  pub script : List ℕ
+
 pub data Command : Type 0 where
   LocalCommand : Local → Command
   PlainCommand : Plain → Command
   LoadCommand : Load → Command
+  QueryCommand : Query → Command
 
 -- what `clap` reads; none where it refuses the words
 abbrev pub found : List Text → Option (Text × List Row)
@@ -85,11 +91,20 @@ load_of rows =
     needs rows (codes "schema") (λ schema. needs rows (codes "data") (λ tables. needs rows (codes "flash") (λ flash.
     needs rows (codes "visible") (λ visible. with_blocks schema tables flash visible (blocks_said (first_of (codes "blocks") rows))))))
 
+abbrev pub query_of : List Row → Option Command
+query_of rows =
+    needs rows (codes "flash") (λ flash. needs rows (codes "to") (λ to. needs rows (codes "script") (λ script.
+    if has_known_values rows
+    then Some (QueryCommand (record { flash = flash; to = to; script = script }))
+    else None)))
+
 abbrev pub command_of : Text → List Row → Option Command
 command_of name rows =
     if bytes_eq name (codes "local")
     then local_of rows
-    else if bytes_eq name (codes "plain") then plain_of rows else if bytes_eq name (codes "load") then load_of rows else None
+    else if bytes_eq name (codes "plain") then plain_of rows
+    else if bytes_eq name (codes "load") then load_of rows
+    else if bytes_eq name (codes "query") then query_of rows else None
 
 -- the command that was found
 abbrev pub said : Option (Text × List Row) → Option Command

@@ -75,6 +75,19 @@ fn load_command<'a>(alloc: Global) -> Result<Command<'a>, AllocError>
     with_optional(alloc, command, "blocks")
 }
 
+/// The command `query`.
+fn query_command<'a>(alloc: Global) -> Result<Command<'a>, AllocError>
+    ensures app { IfOk result (λ c. app_of c ≡ app.query_app) }
+    ensures global { IfOk result (λ c. (out-Command c).has_globals ≡ false) }
+{
+    let command = Command::new(alloc, "query");
+    let command = with_needed(alloc, command, "flash")?;
+    let command = with_needed(alloc, command, "to")?;
+    let command = with_needed(alloc, command, "script")?;
+    let command = with_optional(alloc, command, "plan")?;
+    with_optional(alloc, command, "pace")
+}
+
 /// The program without its commands.
 fn bare_program<'a>(alloc: Global) -> Command<'a>
     ensures app { app_of result ≡ app.bare_app }
@@ -86,9 +99,9 @@ fn bare_program<'a>(alloc: Global) -> Command<'a>
         .subcommand_required(true)
 }
 
-/// The program.
-pub fn program<'a>(alloc: Global) -> Result<Command<'a>, AllocError>
-    ensures app { IfOk result (λ c. app_of c ≡ app.key_app) }
+/// The program with the commands of one process.
+fn program_alone<'a>(alloc: Global) -> Result<Command<'a>, AllocError>
+    ensures app { IfOk result (λ c. app_of c ≡ app.app_alone) }
     ensures global { IfOk result (λ c. (out-Command c).has_globals ≡ false) }
 {
     let local = local_command(alloc)?;
@@ -98,4 +111,14 @@ pub fn program<'a>(alloc: Global) -> Result<Command<'a>, AllocError>
         .subcommand(local)?
         .subcommand(plain)?
         .subcommand(load)
+}
+
+/// The program.
+pub fn program<'a>(alloc: Global) -> Result<Command<'a>, AllocError>
+    ensures app { IfOk result (λ c. app_of c ≡ app.key_app) }
+    ensures global { IfOk result (λ c. (out-Command c).has_globals ≡ false) }
+{
+    let query = query_command(alloc)?;
+    let program = program_alone(alloc)?;
+    program.subcommand(query)
 }

@@ -12,4 +12,4 @@ pub mod values;
 pub mod words;
 
 pub use reading::read_words;
-pub use words::{KeyWords, LoadWords, LocalWords, PlainWords, UsageFault, WordsFault};
+pub use words::{KeyWords, LoadWords, LocalWords, PlainWords, QueryWords, UsageFault, WordsFault};

@@ -1,6 +1,6 @@
 //! The reading of the words.
 
-ghost use Rattle.std.specs.Prelude.{◌≡◌, Some, None, Err, IfOk, map, option_map, string_bytes};
+ghost use Rattle.std.specs.Prelude.{◌≡◌, true, false, Some, None, Err, IfOk, OnOk, OnErr, map, option_map, string_bytes};
 ghost use Rattle.clap.specs.Words.{first_of, found_of, rows_of};
 ghost use Rattle.clap.specs.Simple.{subcommand_rows_of};
 ghost use Rattle.key_words.specs.Words.{reading, said};
@@ -9,7 +9,9 @@ ghost use Rattle.key_words.specs.Views.{words_view};
 
 use crate::app::program;
 use crate::values::{is_or_left_out, read_blocks};
-use crate::words::{KeyWords, LoadWords, LocalWords, PlainWords, UsageFault, WordsFault};
+use crate::words::{
+    KeyWords, LoadWords, LocalWords, PlainWords, QueryWords, UsageFault, WordsFault,
+};
 use clap::ArgMatches;
 use clap::error::ErrorKind;
 use std::alloc::Global;
@@ -61,6 +63,9 @@ fn named_command<'a>(name: &str, options: &ArgMatches<'a>) -> Result<KeyWords<'a
     if name.as_bytes() == "load".as_bytes() {
         return load_of(options);
     }
+    if name.as_bytes() == "query".as_bytes() {
+        return query_of(options);
+    }
     Err(UsageFault::Words)
 }
 
@@ -69,6 +74,20 @@ fn value_of<'a>(options: &ArgMatches<'a>, name: &str) -> Option<&'a str>
     ensures value { option_map (λ value. value.now) result ≡ first_of name.now (rows_of (found_of options.now)) }
 {
     options.get_str(name)
+}
+
+/// Whether `--plan` and `--pace` have values that they take.
+fn known_values(options: &ArgMatches<'_>) -> Result<(), UsageFault>
+    ensures known { OnOk result (words.has_known_values (rows_of (found_of options.now)) ≡ true) }
+    ensures other { OnErr result (words.has_known_values (rows_of (found_of options.now)) ≡ false) }
+{
+    if !is_or_left_out("scan", value_of(options, "plan")) {
+        return Err(UsageFault::Plan);
+    }
+    if !is_or_left_out("0", value_of(options, "pace")) {
+        return Err(UsageFault::Pace);
+    }
+    Ok(())
 }
 
 /// The words of `plain`.
@@ -121,6 +140,24 @@ fn load_of<'a>(options: &ArgMatches<'a>) -> Result<KeyWords<'a>, UsageFault>
     }
 }
 
+/// The words of `query`.
+fn query_of<'a>(options: &ArgMatches<'a>) -> Result<KeyWords<'a>, UsageFault>
+    ensures read { IfOk result (λ command. words.query_of (rows_of (found_of options.now)) ≡ Some (words_view command)) }
+    ensures usage { (fault : UsageFault) → result ≡ Err fault → words.query_of (rows_of (found_of options.now)) ≡ None }
+{
+    let Some(flash) = value_of(options, "flash") else {
+        return Err(UsageFault::Words);
+    };
+    let Some(to) = value_of(options, "to") else {
+        return Err(UsageFault::Words);
+    };
+    let Some(script) = value_of(options, "script") else {
+        return Err(UsageFault::Words);
+    };
+    known_values(options)?;
+    Ok(KeyWords::Query(QueryWords { flash, to, script }))
+}
+
 /// The words of `local`.
 fn local_of<'a>(options: &ArgMatches<'a>) -> Result<KeyWords<'a>, UsageFault>
     ensures read { IfOk result (λ command. words.local_of (rows_of (found_of options.now)) ≡ Some (words_view command)) }
@@ -138,12 +175,7 @@ fn local_of<'a>(options: &ArgMatches<'a>) -> Result<KeyWords<'a>, UsageFault>
     let Some(script) = value_of(options, "script") else {
         return Err(UsageFault::Words);
     };
-    if !is_or_left_out("scan", value_of(options, "plan")) {
-        return Err(UsageFault::Plan);
-    }
-    if !is_or_left_out("0", value_of(options, "pace")) {
-        return Err(UsageFault::Pace);
-    }
+    known_values(options)?;
     Ok(KeyWords::Local(LocalWords {
         schema,
         tables,

@@ -4,8 +4,8 @@ use crate::{KeyWords, UsageFault, WordsFault, read_words};
 use std::alloc::{AllocError, Global};
 
 /// What the words are read as: 0 for nothing, 1 for `local`, 2 for `local` with a journal, 3 for `plain`, 4 to 6 for
-/// what is wrong, 7 for `load` with no number of blocks, 8 with 14, 9 with another one, and 10 for a number of blocks that
-/// is refused.
+/// what is wrong, 7 for `load` with no number of blocks, 8 with 14, 9 with another one, 10 for a number of blocks that is
+/// refused, and 11 for `query`.
 fn read(alloc: Global, line: &str) -> Result<u8, AllocError> {
     let mut words: Vec<String> = Vec::new(alloc);
     for word in line.split(' ') {
@@ -22,6 +22,7 @@ fn read(alloc: Global, line: &str) -> Result<u8, AllocError> {
             Some(14) => 8,
             Some(_) => 9,
         },
+        Ok(KeyWords::Query(_)) => 11,
         Err(WordsFault::NoMemory) => 0,
         Err(WordsFault::Usage(UsageFault::Words)) => 4,
         Err(WordsFault::Usage(UsageFault::Plan)) => 5,
@@ -105,6 +106,18 @@ fn words_are_read(rt: HostRuntime) -> Result<(), AllocError> {
             "k load --schema s --data d --flash f --visible v --script q",
             4,
         ),
+        ("k query --flash f --to h:1 --script q", 11),
+        (
+            "k query --script=q --to=h:1 --flash=f --plan scan --pace 0",
+            11,
+        ),
+        ("k query --flash f --to h:1", 4),
+        ("k query --flash f --script q", 4),
+        ("k query --to h:1 --script q", 4),
+        ("k query --flash f --to h:1 --script q --buffers 7", 4),
+        ("k query --flash f --to h:1 --script q --visible v", 4),
+        ("k query --flash f --to h:1 --script q --plan pre", 5),
+        ("k query --flash f --to h:1 --script q --pace 1", 6),
         ("k", 4),
         ("k serve", 4),
         ("k --help", 4),

@@ -38,6 +38,19 @@ pub struct LoadWords<'a> {
     pub ghost few: { IsFew blocks } by { Prim.hlevel props },
 }
 
+/// The words of `query`.
+#[derive(Clone, Copy, Debug)]
+pub struct QueryWords<'a> {
+    /// The file of the flash.
+    pub flash: &'a str,
+
+    /// The address of the host.
+    pub to: &'a str,
+
+    /// The file of the script.
+    pub script: &'a str,
+}
+
 /// The words of `local`.
 #[derive(Clone, Copy, Debug)]
 pub struct LocalWords<'a> {
@@ -68,6 +81,9 @@ pub enum KeyWords<'a> {
 
     /// The making of both ends' files.
     Load(LoadWords<'a>),
+
+    /// A session with a host.
+    Query(QueryWords<'a>),
 }
 
 /// What is wrong with the words.
