@@ -23,7 +23,7 @@ use key_plain::{PlainFault, plain};
 use key_words::{KeyWords, WordsFault, read_words};
 use std::alloc::Global;
 
-/// Does the command that the words say. The words of `load`, and those of `local` that are not of its first form, are refused.
+/// Does the command that the words say. The words of `load` and of `query`, and those of `local` that are not of its first form, are refused.
 pub fn start<D: Depot, O: Sink>(alloc: Global, args: &[String], depot: &mut D, out: &mut O) -> Ended
     ensures usage { OfLocal result (λ status. status ≡ KeyStatus.Usage → AreOther (map string_bytes args.now)) }
     ensures other_words { local_words.names_of (map string_bytes args.now) ≡ None → OfLocal result (λ status. (status ≡ KeyStatus.Usage) ⊎ (status ≡ KeyStatus.NoMemory)) }

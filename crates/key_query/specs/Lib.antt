@@ -1,0 +1,3 @@
+pub mod PublicPages
+pub mod Openings
+pub mod Results

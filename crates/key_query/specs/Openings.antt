@@ -1,0 +1,23 @@
+-- What a session is opened over: a script, a catalog whose pages the flash has, and stores for the replies.
+use Rattle.std.specs.Prelude.{◌≡◌, ℕ, ◌≤◌, Bool, true, List, length, Option, Some}
+use Rattle.ghost_model.specs.Texts.{texts_of}
+use Rattle.edge_traits.specs.Devices.{Device}
+use Rattle.edge_traits.specs.Files.{Files}
+use Rattle.key_words.specs.Words.{Query}
+use Rattle.key_inputs.specs.Openings.{Spelled}
+use Rattle.key_inputs.specs.Scripts.{most_texts, script_opening}
+use Rattle.session_replies.specs.Kept.{IsKept, none_heard}
+use Rattle.key_exec.specs.Plans.{Suffices}
+use Rattle.key_query.specs.PublicPages.{HasCatalog}
+use Rattle.key_query.specs.declared.opening.Opened.{Opened}
+
+-- these are the bytes of the script's file, which keeps every rule
+pub record IsScript (contents : Option Files) (name script : List ℕ) : Type 0 where
+  pub spelled : (files : Files) → contents ≡ Some files → script_opening files name ≡ Spelled script
+  pub few : length (texts_of script) ≤ most_texts
+
+pub record IsOpened (told : Bool) (words : Query) (contents : Option Files) (device : Device) (opened : Opened) : Type 0 where
+  pub script : IsScript contents words.script opened.script.items
+  pub catalog : told ≡ true → HasCatalog device opened.cat
+  pub suffices : Suffices opened.cat device
+  pub stores : IsKept opened.cat (none_heard opened.cat) 1 0 opened.replies

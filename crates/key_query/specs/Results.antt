@@ -1,0 +1,98 @@
+-- What a call of `query` did, by its result.
+use Rattle.std.specs.Prelude.{◌≡◌, ℕ, ◌≤◌, ◌<◌, Bool, true, false, List, length, Option, Some, Result, Ok, Err, ⊤}
+use Rattle.ghost_model.specs.Channel.{Catalog, Journal}
+use Rattle.ghost_model.specs.Catalog.{IsCatalog}
+use Rattle.ghost_model.specs.Layout.{need}
+use Rattle.ghost_model.specs.Texts.{texts_of}
+use Rattle.edge_traits.specs.Devices.{Device, KeepsPages}
+use Rattle.edge_traits.specs.Files.{Files}
+use Rattle.key_words.specs.Words.{Query}
+use Rattle.key_inputs.specs.Openings.{InputFault, Opening, Spelled, Broken}
+use Rattle.key_inputs.specs.Scripts.{script_opening}
+use Rattle.key_inputs.specs.Views.{rule_of}
+use Rattle.key_inputs.specs.declared.faults.InputFault.{InputFault as Fault}
+use Rattle.key_session.specs.Running.{HasRun}
+use Rattle.key_session.specs.Telling.{Outside}
+use Rattle.key_session.specs.declared.tally.Tally.{Tally}
+use Rattle.key_query.specs.Openings.{IsScript}
+use Rattle.key_query.specs.PublicPages.{HasCatalog, HasNoCatalog}
+use Rattle.key_query.specs.declared.failures.QueryFailure.{QueryFailure}
+use Rattle.key_query.specs.declared.failures.QueryFailure.TheVariants as failure
+
+-- the flash as it was opened, before the first move: no fault was met, and no page past the public ones was read
+pub record Opens (told : Bool) (before opened : Device) : Type 0 where
+  pub page : told ≡ true → opened.page ≡ before.page
+  pub faults : opened.faults ≡ before.faults
+  pub deep_reads : opened.deep_reads ≡ before.deep_reads
+
+-- a session ran, over the script and over the catalog of the flash
+pub record Runs (goes : Journal → Type 0) (told : Bool) (words : Query) (contents : Option Files) (before now : Outside) (tally : Tally) : Type 0 where
+  pub opened : Device
+  pub opens : Opens told before.flash opened
+  pub cat : Catalog
+  pub proper : IsCatalog cat
+  pub catalog : told ≡ true → HasCatalog opened cat
+  pub enough : need cat ≤ opened.page_count
+  pub script : List ℕ
+  pub is_script : IsScript contents words.script script
+  pub ran : HasRun goes told cat words.to (texts_of script) (record before { flash = opened }) now tally
+  pub texts : tally.texts ≡ length (texts_of script)
+  pub kept : KeepsPages opened now.flash
+
+-- a fault tells the rule that is broken first
+pub record IsTold (opening : Opening (List ℕ)) (broken : Fault) : Type 0 where
+  pub rule : InputFault
+  pub told : rule_of broken ≡ Some rule
+  pub first : opening ≡ Broken rule
+
+-- the script's file keeps every rule
+abbrev pub HasScript : Option Files → (name : List ℕ) → Type 0
+HasScript contents name =
+    (files : Files) → contents ≡ Some files → (script : List ℕ) × (script_opening files name ≡ Spelled script)
+
+-- what a failure tells of the script: it comes before the flash
+abbrev pub TellsScript : Option Files → (name : List ℕ) → QueryFailure → Type 0
+TellsScript contents name failure.NoMemory = ⊤
+TellsScript contents name failure.Depot = ⊤
+TellsScript contents name (failure.Input broken) =
+    (files : Files) → contents ≡ Some files → IsTold (script_opening files name) broken
+TellsScript contents name failure.Flash = HasScript contents name
+TellsScript contents name failure.NotAKey = HasScript contents name
+TellsScript contents name (failure.TooSmall needed had) = HasScript contents name
+
+-- the flash has fewer pages than its catalog needs
+pub record IsTooSmall (told : Bool) (device : Device) (needed had : ℕ) : Type 0 where
+  pub cat : Catalog
+  pub proper : IsCatalog cat
+  pub catalog : told ≡ true → HasCatalog device cat
+  pub needs : needed ≡ need cat
+  pub has : had ≡ device.page_count
+  pub less : had < needed
+
+-- what a failure tells of the flash
+abbrev pub TellsFlash : (told : Bool) → Device → QueryFailure → Type 0
+TellsFlash told device failure.NoMemory = ⊤
+TellsFlash told device failure.Depot = ⊤
+TellsFlash told device (failure.Input broken) = ⊤
+TellsFlash told device failure.Flash = ⊤
+TellsFlash told device failure.NotAKey = told ≡ true → HasNoCatalog device
+TellsFlash told device (failure.TooSmall needed had) = IsTooSmall told device needed had
+
+-- whether words that are accepted, a script that keeps every rule, pages that begin with a catalog and no fault can end so
+abbrev pub is_faultless : {T : Type 0} → Result T QueryFailure → Bool
+is_faultless (Ok _) = true
+is_faultless (Err failure.NoMemory) = true
+is_faultless (Err failure.Depot) = false
+is_faultless (Err (failure.Input broken)) = false
+is_faultless (Err failure.Flash) = false
+is_faultless (Err failure.NotAKey) = false
+is_faultless (Err (failure.TooSmall needed had)) = true
+
+-- the failures of the flash's part of an opening
+abbrev pub IsOfFlash : QueryFailure → Type 0
+IsOfFlash failure.NoMemory = ⊤
+IsOfFlash failure.Depot = ⊥
+IsOfFlash (failure.Input broken) = ⊥
+IsOfFlash failure.Flash = ⊤
+IsOfFlash failure.NotAKey = ⊤
+IsOfFlash (failure.TooSmall needed had) = ⊤

@@ -1,0 +1,78 @@
+//! The command.
+
+ghost use Rattle.std.specs.Prelude.{◌≡◌, ◌≤◌, ℕ, [], List, true, false, min, Some, Err, IfOk, IfErr, OnErr};
+ghost use Rattle.ghost_model.specs.Causes.{Rose, last_count};
+ghost use Rattle.ghost_model.specs.Channel as channel;
+ghost use Rattle.edge_traits.specs.Files.{Files};
+ghost use Rattle.key_words.specs.Views.{query_view};
+ghost use Rattle.key_inputs.specs.Openings.{Spelled};
+ghost use Rattle.key_inputs.specs.Scripts.{script_opening};
+ghost use Rattle.key_lines.specs.Handing.{handed};
+ghost use Rattle.text_lines.specs.Rows.{PrintsSome};
+ghost use Rattle.key_session.specs.Running.{is_sink};
+ghost use Rattle.key_session.specs.Telling.{outside};
+ghost use Rattle.key_query.specs.PublicPages.{HasCatalog};
+ghost use Rattle.key_query.specs.Results.{Runs, TellsScript, TellsFlash, is_faultless};
+ghost use Rattle.key_query.specs.declared.failures.QueryFailure.TheVariants as failure;
+
+use crate::failures::QueryFailure;
+use crate::opening::{Opened, open};
+use edge_traits::depot::Depot;
+use edge_traits::flash::Flash;
+use edge_traits::link::Link;
+use edge_traits::sink::Sink;
+use key_session::{Tally, run_session};
+use key_words::QueryWords;
+use std::alloc::Global;
+use tree_schema::catalog_bytes::a_catalog_is_short;
+
+/// Does the command `query`: reads the script, attaches the flash, reads the catalog on its public pages, and takes the
+/// memory for two texts' replies. Then it runs the session of the script with the host at the address of `--to`, and
+/// prints the lines of each text.
+///
+/// After an error no move was made on the link, nothing was printed, and no page past the public ones was read. Once the
+/// session is begun no memory is taken, and no file is read.
+pub fn query<D: Depot, F: Flash, L: Link, O: Sink>(
+    alloc: Global,
+    words: &QueryWords<'_>,
+    depot: &mut D,
+    flash: &mut F,
+    link: &mut L,
+    out: &mut O,
+) -> Result<Tally, QueryFailure>
+    ensures ran { IfOk result (λ tally. Runs (λ journal. L.went link.old journal link.new) F.told (query_view words.now) (D.contents depot.old)
+        (outside false (O.faults out.old) (O.written out.old) (F.state flash.old)) (outside (is_sink tally.status) (O.faults out.new) (O.written out.new) (F.state flash.new)) tally) }
+    ensures prints { IfOk result (λ tally. PrintsSome (handed false (O.faults out.old) (O.written out.old)) (handed (is_sink tally.status) (O.faults out.new) (O.written out.new))) }
+    ensures script { IfErr result (λ fault. TellsScript (D.contents depot.old) words.now.script.now fault) }
+    ensures device { IfErr result (λ fault. TellsFlash F.told (F.state flash.new) fault) }
+    ensures complete { (files : Files) → (script : List ℕ) → (cat : channel.Catalog) → F.told ≡ true → D.contents depot.old ≡ Some files
+        → (Rose (D.faults depot.old) (D.faults depot.new) → ⊥) → (Rose (F.state flash.old).faults (F.state flash.new).faults → ⊥)
+        → script_opening files words.now.script.now ≡ Spelled script → HasCatalog (F.state flash.new) cat → is_faultless result ≡ true }
+    ensures no_move { OnErr result (L.went link.old [] link.new) }
+    ensures link_left { OnErr result (L.faults link.new ≡ L.faults link.old) }
+    ensures nothing_written { OnErr result (O.written out.new ≡ O.written out.old) }
+    ensures sink_left { OnErr result (O.faults out.new ≡ O.faults out.old) }
+    ensures no_deep_read { OnErr result ((F.state flash.new).deep_reads ≡ (F.state flash.old).deep_reads) }
+    ensures page { F.told ≡ true → (F.state flash.new).page ≡ (F.state flash.old).page }
+    ensures flash { result ≡ Err failure.Flash → Rose (F.state flash.old).faults (F.state flash.new).faults }
+    ensures no_flash { IfErr result (λ fault. (fault ≡ failure.Flash → ⊥) → (F.state flash.new).faults ≡ (F.state flash.old).faults) }
+    ensures flash_faults { min (F.state flash.old).faults last_count ≤ (F.state flash.new).faults }
+    ensures link_faults { L.faults link.old ≤ L.faults link.new }
+    ensures depot { result ≡ Err failure.Depot → Rose (D.faults depot.old) (D.faults depot.new) }
+    ensures no_depot { (result ≡ Err failure.Depot → ⊥) → D.faults depot.new ≡ D.faults depot.old }
+    ensures appends { D.append_faults depot.new ≡ D.append_faults depot.old }
+    ensures same { D.contents depot.new ≡ D.contents depot.old }
+{
+    match open(alloc, words, depot, flash) {
+        Ok(opened) => {
+            let Opened {
+                script,
+                cat,
+                mut replies,
+            } = opened;
+            a_catalog_is_short(&cat);
+            Ok(run_session(&cat, &script, words.to, &mut replies, flash, link, out))
+        }
+        Err(failure) => Err(failure),
+    }
+}

@@ -1,0 +1,153 @@
+//! The opening of a session.
+
+ghost use Rattle.std.specs.Prelude.{◌≡◌, ◌≤◌, true, Some, Err, IfOk, IfErr};
+ghost use Rattle.ghost_model.specs.Causes.{Rose};
+ghost use Rattle.ghost_model.specs.Channel as channel;
+ghost use Rattle.edge_traits.specs.Files.{Files};
+ghost use Rattle.key_words.specs.Views.{query_view};
+ghost use Rattle.key_inputs.specs.Openings.{Spelled};
+ghost use Rattle.key_inputs.specs.Scripts.{script_opening};
+ghost use Rattle.session_replies.specs.Kept.{IsKept, none_heard};
+ghost use Rattle.key_exec.specs.Plans.{Suffices};
+ghost use Rattle.key_query.specs.Openings.{IsOpened};
+ghost use Rattle.key_query.specs.PublicPages.{HasCatalog};
+ghost use Rattle.key_query.specs.Results.{TellsScript, TellsFlash, IsOfFlash, is_faultless};
+ghost use Rattle.key_query.specs.declared.failures.QueryFailure.TheVariants as failure;
+
+use crate::failures::QueryFailure;
+use crate::public_pages::read_public_pages;
+use edge_traits::depot::Depot;
+use edge_traits::flash::{AttachFault, Flash};
+use flash_layout::need;
+use key_inputs::{OpenFault, open_script};
+use key_words::QueryWords;
+use reply_store::ReplyStore;
+use session_replies::Replies;
+use std::alloc::{AllocError, Global};
+use tree_schema::Catalog;
+use tree_schema::catalog_bytes::a_catalog_is_short;
+
+/// What a session is opened over.
+#[derive(Drop)]
+pub(crate) struct Opened {
+    /// The script.
+    pub(crate) script: Vec<u8>,
+    /// The catalog of the flash.
+    pub(crate) cat: Catalog,
+    /// The stores of the replies, still empty.
+    pub(crate) replies: Replies,
+}
+
+/// The catalog of a flash that has as many pages as it needs.
+fn catalog_of<F: Flash>(flash: &mut F) -> Result<Catalog, QueryFailure>
+    ensures catalog { IfOk result (λ cat. F.told ≡ true → HasCatalog (F.state flash.new) cat) }
+    ensures suffices { IfOk result (λ cat. Suffices cat (F.state flash.new)) }
+    ensures device { IfErr result (λ fault. TellsFlash F.told (F.state flash.new) fault) }
+    ensures kinds { IfErr result (λ fault. IsOfFlash fault) }
+    ensures page { (F.state flash.new).page ≡ (F.state flash.old).page }
+    ensures deep_reads { (F.state flash.new).deep_reads ≡ (F.state flash.old).deep_reads }
+    ensures flash { result ≡ Err failure.Flash → Rose (F.state flash.old).faults (F.state flash.new).faults }
+    ensures no_flash { (result ≡ Err failure.Flash → ⊥) → (F.state flash.new).faults ≡ (F.state flash.old).faults }
+{
+    match read_public_pages(flash) {
+        Ok(Some(cat)) => {
+            a_catalog_is_short(&cat);
+            let need = need(&cat);
+            let have = flash.pages();
+            if have < need {
+                return Err(QueryFailure::TooSmall { need, have });
+            }
+            Ok(cat)
+        }
+        Ok(None) => Err(QueryFailure::NotAKey),
+        Err(_) => Err(QueryFailure::Flash),
+    }
+}
+
+/// Attaches the flash of a name, and reads its catalog.
+fn open_flash<F: Flash>(alloc: Global, name: &str, flash: &mut F) -> Result<Catalog, QueryFailure>
+    ensures catalog { IfOk result (λ cat. F.told ≡ true → HasCatalog (F.state flash.new) cat) }
+    ensures suffices { IfOk result (λ cat. Suffices cat (F.state flash.new)) }
+    ensures device { IfErr result (λ fault. TellsFlash F.told (F.state flash.new) fault) }
+    ensures kinds { IfErr result (λ fault. IsOfFlash fault) }
+    ensures page { F.told ≡ true → (F.state flash.new).page ≡ (F.state flash.old).page }
+    ensures deep_reads { (F.state flash.new).deep_reads ≡ (F.state flash.old).deep_reads }
+    ensures flash { result ≡ Err failure.Flash → Rose (F.state flash.old).faults (F.state flash.new).faults }
+    ensures no_flash { (result ≡ Err failure.Flash → ⊥) → (F.state flash.new).faults ≡ (F.state flash.old).faults }
+{
+    match flash.attach(alloc, name) {
+        Ok(_pages) => catalog_of(flash),
+        Err(AttachFault::NoMemory) => Err(QueryFailure::NoMemory),
+        Err(AttachFault::Failed) => Err(QueryFailure::Flash),
+    }
+}
+
+/// Two stores without replies, each with room for all rows of all tables.
+fn empty_replies(alloc: Global, cat: &Catalog) -> Result<Replies, AllocError>
+    ensures stores { IfOk result (λ replies. IsKept cat.now (none_heard cat.now) 1 0 replies) }
+{
+    let even = ReplyStore::new(alloc, cat)?;
+    let odd = ReplyStore::new(alloc, cat)?;
+    Ok(Replies::new(even, odd))
+}
+
+/// Opens a session over a script that was read.
+fn open_over<F: Flash>(
+    alloc: Global,
+    script: Vec<u8>,
+    words: &QueryWords<'_>,
+    flash: &mut F,
+) -> Result<Opened, QueryFailure>
+    ensures script { IfOk result (λ opened. opened.script ≡ script.entry) }
+    ensures catalog { IfOk result (λ opened. F.told ≡ true → HasCatalog (F.state flash.new) opened.cat) }
+    ensures suffices { IfOk result (λ opened. Suffices opened.cat (F.state flash.new)) }
+    ensures stores { IfOk result (λ opened. IsKept opened.cat (none_heard opened.cat) 1 0 opened.replies) }
+    ensures device { IfErr result (λ fault. TellsFlash F.told (F.state flash.new) fault) }
+    ensures kinds { IfErr result (λ fault. IsOfFlash fault) }
+    ensures page { F.told ≡ true → (F.state flash.new).page ≡ (F.state flash.old).page }
+    ensures deep_reads { (F.state flash.new).deep_reads ≡ (F.state flash.old).deep_reads }
+    ensures flash { result ≡ Err failure.Flash → Rose (F.state flash.old).faults (F.state flash.new).faults }
+    ensures no_flash { (result ≡ Err failure.Flash → ⊥) → (F.state flash.new).faults ≡ (F.state flash.old).faults }
+{
+    match open_flash(alloc, words.flash, flash) {
+        Ok(cat) => match empty_replies(alloc, &cat) {
+            Ok(replies) => Ok(Opened {
+                script,
+                cat,
+                replies,
+            }),
+            Err(_) => Err(QueryFailure::NoMemory),
+        },
+        Err(fault) => Err(fault),
+    }
+}
+
+/// Opens a session: reads the script, attaches the flash, reads its catalog, and takes the memory for the replies.
+pub(crate) fn open<D: Depot, F: Flash>(
+    alloc: Global,
+    words: &QueryWords<'_>,
+    depot: &mut D,
+    flash: &mut F,
+) -> Result<Opened, QueryFailure>
+    ensures opened { IfOk result (λ opened. IsOpened F.told (query_view words.now) (D.contents depot.old) (F.state flash.new) opened) }
+    ensures script { IfErr result (λ fault. TellsScript (D.contents depot.old) words.now.script.now fault) }
+    ensures device { IfErr result (λ fault. TellsFlash F.told (F.state flash.new) fault) }
+    ensures complete { (files : Files) → (script : List ℕ) → (cat : channel.Catalog) → F.told ≡ true → D.contents depot.old ≡ Some files
+        → (Rose (D.faults depot.old) (D.faults depot.new) → ⊥) → (Rose (F.state flash.old).faults (F.state flash.new).faults → ⊥)
+        → script_opening files words.now.script.now ≡ Spelled script → HasCatalog (F.state flash.new) cat → is_faultless result ≡ true }
+    ensures page { F.told ≡ true → (F.state flash.new).page ≡ (F.state flash.old).page }
+    ensures deep_reads { (F.state flash.new).deep_reads ≡ (F.state flash.old).deep_reads }
+    ensures flash { result ≡ Err failure.Flash → Rose (F.state flash.old).faults (F.state flash.new).faults }
+    ensures no_flash { (result ≡ Err failure.Flash → ⊥) → (F.state flash.new).faults ≡ (F.state flash.old).faults }
+    ensures depot { result ≡ Err failure.Depot → Rose (D.faults depot.old) (D.faults depot.new) }
+    ensures no_depot { (result ≡ Err failure.Depot → ⊥) → D.faults depot.new ≡ D.faults depot.old }
+    ensures appends { D.append_faults depot.new ≡ D.append_faults depot.old }
+    ensures same { D.contents depot.new ≡ D.contents depot.old }
+{
+    match open_script(alloc, words.script, depot) {
+        Ok(script) => open_over(alloc, script, words, flash),
+        Err(OpenFault::NoMemory) => Err(QueryFailure::NoMemory),
+        Err(OpenFault::Depot) => Err(QueryFailure::Depot),
+        Err(OpenFault::Input(fault)) => Err(QueryFailure::Input(fault)),
+    }
+}
