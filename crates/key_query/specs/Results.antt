@@ -14,6 +14,7 @@ use Rattle.key_inputs.specs.declared.faults.InputFault.{InputFault as Fault}
 use Rattle.key_session.specs.Running.{HasRun}
 use Rattle.key_session.specs.Telling.{Outside}
 use Rattle.key_session.specs.declared.tally.Tally.{Tally}
+use Rattle.key_query.specs.Answering.{AnswersWhereSound}
 use Rattle.key_query.specs.Openings.{IsScript}
 use Rattle.key_query.specs.PublicPages.{HasCatalog, HasNoCatalog}
 use Rattle.key_query.specs.declared.failures.QueryFailure.{QueryFailure}
@@ -36,6 +37,7 @@ pub record Runs (goes : Journal → Type 0) (told : Bool) (words : Query) (conte
   pub script : List ℕ
   pub is_script : IsScript contents words.script script
   pub ran : HasRun goes told cat words.to (texts_of script) (record before { flash = opened }) now tally
+  pub answered : AnswersWhereSound goes told cat words.to (texts_of script) (record before { flash = opened }) now tally ran
   pub texts : tally.texts ≡ length (texts_of script)
   pub kept : KeepsPages opened now.flash
 

@@ -23,6 +23,7 @@ use edge_traits::link::Link;
 use edge_traits::sink::Sink;
 use key_session::{Tally, run_session};
 use key_words::QueryWords;
+use session_laws::honest_sessions::{honest_lines_are_printed, honest_sessions_are_smooth};
 use std::alloc::Global;
 use tree_schema::catalog_bytes::a_catalog_is_short;
 
@@ -71,6 +72,8 @@ pub fn query<D: Depot, F: Flash, L: Link, O: Sink>(
                 mut replies,
             } = opened;
             a_catalog_is_short(&cat);
+            honest_sessions_are_smooth();
+            honest_lines_are_printed();
             Ok(run_session(&cat, &script, words.to, &mut replies, flash, link, out))
         }
         Err(failure) => Err(failure),

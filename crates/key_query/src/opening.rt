@@ -48,6 +48,7 @@ fn catalog_of<F: Flash>(flash: &mut F) -> Result<Catalog, QueryFailure>
     ensures deep_reads { (F.state flash.new).deep_reads ≡ (F.state flash.old).deep_reads }
     ensures flash { result ≡ Err failure.Flash → Rose (F.state flash.old).faults (F.state flash.new).faults }
     ensures no_flash { (result ≡ Err failure.Flash → ⊥) → (F.state flash.new).faults ≡ (F.state flash.old).faults }
+    ensures never_falls { (F.state flash.old).faults ≤ (F.state flash.new).faults }
 {
     match read_public_pages(flash) {
         Ok(Some(cat)) => {
@@ -74,6 +75,7 @@ fn open_flash<F: Flash>(alloc: Global, name: &str, flash: &mut F) -> Result<Cata
     ensures deep_reads { (F.state flash.new).deep_reads ≡ (F.state flash.old).deep_reads }
     ensures flash { result ≡ Err failure.Flash → Rose (F.state flash.old).faults (F.state flash.new).faults }
     ensures no_flash { (result ≡ Err failure.Flash → ⊥) → (F.state flash.new).faults ≡ (F.state flash.old).faults }
+    ensures never_falls { (F.state flash.old).faults ≤ (F.state flash.new).faults }
 {
     match flash.attach(alloc, name) {
         Ok(_pages) => catalog_of(flash),
@@ -108,6 +110,7 @@ fn open_over<F: Flash>(
     ensures deep_reads { (F.state flash.new).deep_reads ≡ (F.state flash.old).deep_reads }
     ensures flash { result ≡ Err failure.Flash → Rose (F.state flash.old).faults (F.state flash.new).faults }
     ensures no_flash { (result ≡ Err failure.Flash → ⊥) → (F.state flash.new).faults ≡ (F.state flash.old).faults }
+    ensures never_falls { (F.state flash.old).faults ≤ (F.state flash.new).faults }
 {
     match open_flash(alloc, words.flash, flash) {
         Ok(cat) => match empty_replies(alloc, &cat) {
@@ -139,6 +142,7 @@ pub(crate) fn open<D: Depot, F: Flash>(
     ensures deep_reads { (F.state flash.new).deep_reads ≡ (F.state flash.old).deep_reads }
     ensures flash { result ≡ Err failure.Flash → Rose (F.state flash.old).faults (F.state flash.new).faults }
     ensures no_flash { (result ≡ Err failure.Flash → ⊥) → (F.state flash.new).faults ≡ (F.state flash.old).faults }
+    ensures never_falls { (F.state flash.old).faults ≤ (F.state flash.new).faults }
     ensures depot { result ≡ Err failure.Depot → Rose (D.faults depot.old) (D.faults depot.new) }
     ensures no_depot { (result ≡ Err failure.Depot → ⊥) → D.faults depot.new ≡ D.faults depot.old }
     ensures appends { D.append_faults depot.new ≡ D.append_faults depot.old }

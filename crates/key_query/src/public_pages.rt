@@ -1,6 +1,6 @@
 //! The catalog on the public pages.
 
-ghost use Rattle.std.specs.Prelude.{◌≡◌, ◌<◌, ◌≤◌, ◌+◌, ◌*◌, ◌++◌, true, take, IfOk, IfSome, IfNone, OnOk};
+ghost use Rattle.std.specs.Prelude.{◌≡◌, ◌<◌, ◌≤◌, ◌+◌, ◌*◌, ◌++◌, true, take, drop, IfOk, IfSome, IfNone, OnOk};
 ghost use Rattle.ghost_model.specs.Causes.{HasCause};
 ghost use Rattle.edge_traits.specs.Devices.{KeepsPages};
 ghost use Rattle.key_query.specs.PublicPages.{HasCatalog, HasNoCatalog, front_bytes};
@@ -18,7 +18,7 @@ const FRONT_BYTES: usize = 18_432;
 /// Puts the bytes of a page into their place.
 fn put_page(bytes: &mut [u8; 18_432], place: u32, page: &[u8; 2048])
     requires place { place < 9 }
-    ensures put { take ((place + 1) * 2048) bytes.new ≡ take (place * 2048) bytes.old ++ page.now }
+    ensures put { bytes.new ≡ take (place * 2048) bytes.old ++ (page.now ++ drop (place * 2048 + 2048) bytes.old) }
 {
     let at = place as usize * PAGE_BYTES;
     bytes[at..at + PAGE_BYTES].copy_from_slice(page);
@@ -49,6 +49,7 @@ pub(crate) fn read_public_pages<F: Flash>(flash: &mut F) -> Result<Option<Catalo
     ensures deep_reads { (F.state flash.new).deep_reads ≡ (F.state flash.old).deep_reads }
     ensures cause { HasCause (F.state flash.old).faults (F.state flash.new).faults result }
 {
+    ghost_model::catalogs::no_catalog_is_long();
     if flash.pages() < BLOCK_PAGES {
         return Ok(None);
     }

@@ -1,0 +1,33 @@
+-- How an opening ended.
+use Rattle.std.proofs.Common.{◌≡◌, ℕ, Bool, true, List, Result, Ok, Err, refl, sym, ◌∙◌}
+use Rattle.std.specs.Prelude.{IfErr, is_some, Option, Some, None}
+use Rattle.ghost_model.specs.Channel.{Catalog}
+use Rattle.edge_traits.specs.Devices.{Device}
+use Rattle.key_inputs.specs.Openings.{Opening, Spelled, Broken, InputFault}
+use Rattle.key_inputs.specs.Views.{IsBroken, rule_of}
+use Rattle.key_inputs.specs.declared.faults.InputFault.{InputFault as Fault}
+use Rattle.key_query.specs.PublicPages.{HasCatalog}
+use Rattle.key_query.specs.Results.{IsOfFlash, TellsFlash, is_faultless}
+use Rattle.key_query.specs.declared.failures.QueryFailure.{QueryFailure}
+use Rattle.key_query.specs.declared.failures.QueryFailure.TheVariants as failure
+
+module _ {T : Type 0} where
+  pub faultless :
+      (result : Result T QueryFailure) (told : Bool) (device : Device) (cat : Catalog) → told ≡ true → HasCatalog device cat
+      → IfErr result (λ fault. IsOfFlash fault) → IfErr result (λ fault. TellsFlash told device fault)
+      → (result ≡ Err failure.Flash → ⊥) → is_faultless result ≡ true
+  faultless (Ok opened) told device cat is has of tells flash = refl
+  faultless (Err failure.NoMemory) told device cat is has of tells flash = refl
+  faultless (Err failure.Depot) told device cat is has of tells flash = absurd of
+  faultless (Err (failure.Input broken)) told device cat is has of tells flash = absurd of
+  faultless (Err failure.Flash) told device cat is has of tells flash = absurd (flash refl)
+  faultless (Err failure.NotAKey) told device cat is has of tells flash = absurd (tells is cat has)
+  faultless (Err (failure.TooSmall needed had)) told device cat is has of tells flash = refl
+
+-- the script's file cannot both keep every rule and break one
+spelled_unbroken : (rule : Option InputFault) (opening : Opening (List ℕ)) (script : List ℕ) → is_some rule ≡ true → IsBroken opening rule → opening ≡ Spelled script → ⊥
+spelled_unbroken None opening script some broken spelled = cc
+spelled_unbroken (Some rule) opening script some broken spelled = cc
+
+pub unbroken : (fault : Fault) (opening : Opening (List ℕ)) (script : List ℕ) → is_some (rule_of fault) ≡ true → IsBroken opening (rule_of fault) → opening ≡ Spelled script → ⊥
+unbroken fault opening script some broken spelled = spelled_unbroken (rule_of fault) opening script some broken spelled

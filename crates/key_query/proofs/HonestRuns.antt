@@ -1,0 +1,132 @@
+-- A session with an honest host over sound pages prints what its texts print.
+use Rattle.std.proofs.Common.{◌≡◌, ℕ, suc, zero, ◌+◌, ◌≤◌, min, Bool, true, false, ◌||◌, List, [], ◌∷◌, ◌++◌, length, map, flat_map, count_by, slice_get, Option, Some, None, refl, sym, ap, ◌∙◌, subst, arith, append_assoc}
+use Rattle.std.specs.List.{list_any, concat}
+use Rattle.ghost_model.specs.Causes.{Rose, last_count}
+use Rattle.ghost_model.specs.Values.{Database}
+use Rattle.ghost_model.specs.Channel.{Catalog, Journal, Entry, Answer}
+use Rattle.ghost_model.specs.Asks.{asked_of}
+use Rattle.ghost_model.specs.Moves.{answers}
+use Rattle.ghost_model.specs.NextMove.{Left, left, Ended, Ending, Answered, Refused, is_stop, IsFinished}
+use Rattle.ghost_model.specs.Split.{Hidden, hidden_of}
+use Rattle.ghost_model.specs.Lines.{Reason, IsRefused, WasBroken, WasAnswered, MetFault, OnFlash, OnDamage, AreLinesFor, was_refused}
+use Rattle.ghost_model.specs.Printed.{printed, printed_lines}
+use Rattle.edge_traits.specs.Written.{grown}
+use Rattle.session_laws.specs.TextEnds.{heard_in}
+use Rattle.session_laws.specs.HonestSessions.{IsHonestSession, IsSmooth, HonestSessionsAreSmooth, HonestLinesArePrinted, AreSoundLines, AreAllLines, is_own_fault}
+use Rattle.key_session.specs.Counting.{is_flash, is_damage}
+use Rattle.key_session.specs.Refusing.{first_code}
+use Rattle.key_session.specs.Running.{HasRun, status_of, host_or}
+use Rattle.key_session.specs.Telling.{Outside, TextTold, IsTold, AreTold, reasons_of, bytes_told, bytes_of}
+use Rattle.key_session.specs.declared.tally.Tally.{Tally}
+use Rattle.key_session.specs.declared.tally.SessionStatus.{SessionStatus}
+use Rattle.key_session.specs.declared.tally.SessionStatus.TheVariants as status
+use Rattle.key_query.specs.Answering.{IsSound, AnswersAll, AnswersWhereSound}
+
+lines_in : List TextTold → List (List (List ℕ))
+lines_in told = map (λ (one : TextTold). one.lines) told
+
+-- a text that was told, by the place of its lines
+told_at : (told : List TextTold) (place : ℕ) (lines : List (List ℕ)) → slice_get (lines_in told) place ≡ Some lines
+    → (one : TextTold) × (slice_get told place ≡ Some one) × (one.lines ≡ lines)
+told_at [] place lines e = cc
+told_at (one ∷ told) zero lines e = one, refl, cc
+told_at (one ∷ told) (suc place) lines e = told_at told place lines e
+
+many_in : (told : List TextTold) → length (lines_in told) ≡ length told
+many_in [] = refl
+many_in (one ∷ told) = ap suc (many_in told)
+
+-- none of the reasons is a fault of the flash
+none_counted : (told : List TextTold) (place : ℕ) (one : TextTold) → count_by is_flash (reasons_of told) ≡ 0
+    → slice_get told place ≡ Some one → is_flash one.reason ≡ false
+none_counted (first ∷ told) zero one none e = grind arith
+none_counted (first ∷ told) (suc place) one none e = none_counted told place one (grind arith) e
+
+none_any : (reasons : List Reason) → count_by is_flash reasons ≡ 0 → list_any is_flash reasons ≡ false
+none_any [] none = refl
+none_any (reason ∷ reasons) none = grind arith
+
+no_flash : (before count now : ℕ) → min (before + count) last_count ≤ now → (Rose before now → ⊥) → count ≡ 0
+no_flash before zero now blamed rose = refl
+no_flash before (suc count) now blamed rose = absurd (rose (omega (arith, blamed)))
+
+not_own : (reason : Reason) → is_flash reason ≡ false → is_damage reason ≡ false → is_own_fault reason ≡ false
+not_own IsRefused flash damage = refl
+not_own WasBroken flash damage = refl
+not_own WasAnswered flash damage = refl
+not_own (MetFault OnFlash) flash damage = cc
+not_own (MetFault OnDamage) flash damage = cc
+
+concat_two : (first second : List (List ℕ)) → concat (first ++ second) ≡ concat first ++ concat second
+concat_two [] second = refl
+concat_two (line ∷ first) second = ap (λ xs. line ++ xs) (concat_two first second) ∙ sym (append_assoc line (concat first) (concat second))
+
+bytes_in : (told : List TextTold) → bytes_told told ≡ concat (flat_map (λ lines. lines) (lines_in told))
+bytes_in [] = refl
+bytes_in (one ∷ told) =
+    ap (λ xs. bytes_of one ++ xs) (bytes_in told) ∙ sym (concat_two one.lines (flat_map (λ lines. lines) (lines_in told)))
+
+no_code : (ended : List Ended) → was_refused ended ≡ false → first_code ended ≡ None
+no_code [] none = refl
+no_code (end ∷ ended) none = code_of_end end.ending none (λ h. no_code ended h)
+  where
+    code_of_end : (ending : Ending) → was_refused (record end { ending = ending } ∷ ended) ≡ false
+        → (was_refused ended ≡ false → first_code ended ≡ None) → first_code (record end { ending = ending } ∷ ended) ≡ None
+    code_of_end (Answered rows) h later = later h
+    code_of_end (Refused code) h later = cc
+
+no_stop : (journal : Journal) → list_any is_stop (answers journal) ≡ false → list_any (λ (entry : Entry). is_stop entry.answer) journal ≡ false
+no_stop [] none = refl
+no_stop (entry ∷ journal) none = grind arith
+
+all_well : (session : Left) → session.stopped ≡ false → session.heard.broken ≡ false → first_code session.heard.ended ≡ None
+    → status_of false session false ≡ status.Ok
+all_well session stopped broken code = rw (stopped, broken, code) refl
+
+module _ (catalog : Catalog) (at : List ℕ) (texts : List (List ℕ)) (database : Database) (journal : Journal) where
+  sound_lines : (told : List TextTold) → count_by is_flash (reasons_of told) ≡ 0 → length told ≡ length texts
+      → ((place : ℕ) (one : TextTold) → slice_get told place ≡ Some one → IsTold catalog (hidden_of catalog.schema database) texts journal place one)
+      → AreAllLines catalog (hidden_of catalog.schema database) texts journal (lines_in told)
+  sound_lines told none many each = record {
+    as_many = many_in told ∙ many;
+    each = λ place lines e.
+        let found = told_at told place lines e in
+        let one = found.0 in
+        let is = each place one found.1.0 in
+        subst (λ (ls : List (List ℕ)). AreSoundLines catalog (hidden_of catalog.schema database) texts journal (suc place) ls) found.1.1
+        (record {
+          lines_are = record {
+            place = place;
+            numbered = omega arith;
+            written = is.written;
+            stands = is.stands;
+            reason = one.reason;
+            lines_are = is.lines_are;
+          };
+          sound = not_own one.reason (none_counted told place one none found.1.0) is.undamaged;
+        });
+  }
+
+pub answers_all : HonestSessionsAreSmooth → HonestLinesArePrinted → (goes : Journal → Type 0) (told : Bool) (cat : Catalog) (at : List ℕ) (texts : List (List ℕ))
+    (since now : Outside) (tally : Tally) (ran : HasRun goes told cat at texts since now tally)
+    → AnswersWhereSound goes told cat at texts since now tally ran
+answers_all smooth prints goes told cat at texts since now tally ran = λ database sound.
+    let are = ran.told database sound.pages in
+    let none : count_by is_flash (reasons_of are.told) ≡ 0 =
+    no_flash since.flash.faults (count_by is_flash (reasons_of are.told)) now.flash.faults are.blamed sound.flash in
+    let went = smooth cat database at texts ran.journal sound.host in
+    let session = left cat (asked_of cat.schema texts) ran.journal in
+    let ok : status_of false session false ≡ status.Ok =
+    all_well session (no_stop ran.journal sound.host.honest.nothing_breaks_off) went.valid
+    (no_code (heard_in cat texts ran.journal).ended went.none_refused) in
+    let all : bytes_told are.told ≡ printed cat.schema texts database =
+    bytes_in are.told
+    ∙ ap concat (prints cat database at texts ran.journal (lines_in are.told) sound.host ran.finished
+    (sound_lines cat at texts database ran.journal are.told none are.as_many are.each)) in
+    record {
+      printed_all = (are.handed_on.whole sound.sink).written ∙ ap (λ bytes. grown since.sink.written bytes) all;
+      status_is =
+          are.counted.status_is
+          ∙ (ap (λ (failed : Bool). status_of failed session (list_any is_flash (reasons_of are.told))) sound.sink
+          ∙ (ap (λ (by_flash : Bool). status_of false session by_flash) (none_any (reasons_of are.told) none) ∙ ok));
+    }

@@ -1,0 +1,32 @@
+use Rattle.std.proofs.Common.{◌≡◌, List, subst, sym, ℕ}
+use Rattle.key_words.specs.Views.{query_view}
+use Rattle.key_session.specs.Running.{is_sink}
+use Rattle.key_session.specs.Telling.{outside}
+use Rattle.key_query.specs.Openings.{IsScript}
+use Rattle.key_query.proofs.HonestRuns.{answers_all}
+use Rattle.key_query.proofs.command.query.Goals as goal
+
+pub returns-in-Ok-clause-ran : goal.returns-in-Ok-clause-ran
+returns-in-Ok-clause-ran g c =
+    let device = g.F.Flash.state c.open.new.flash in
+    let since = outside false (g.O.Sink.faults c.args.out.now) (g.O.Sink.written c.args.out.now) device in
+    let now = outside (is_sink c.run_session.result.status) (g.O.Sink.faults c.run_session.new.out) (g.O.Sink.written c.run_session.new.out) (g.F.Flash.state c.run_session.new.flash) in
+    let opened = c.in-Ok.ensures.opened in
+    record {
+      opened = device;
+      opens = record {
+        page = c.in-Ok.ensures.page;
+        faults = c.in-Ok.ensures.no_flash (λ e. cc);
+        deep_reads = c.in-Ok.ensures.deep_reads;
+      };
+      cat = c.in-Ok.opened.cat;
+      proper = c.a_catalog_is_short.ensures.catalog;
+      catalog = opened.catalog;
+      enough = opened.suffices.pages;
+      script = c.deref.result.now;
+      is_script = subst (λ (script : List ℕ). IsScript (g.D.Depot.contents c.args.depot.now) c.args.words.now.script.now script) (sym c.deref.ensures.value) opened.script;
+      ran = c.run_session.ensures.ran;
+      answered = answers_all c.honest_sessions_are_smooth.ensures c.honest_lines_are_printed.ensures _ g.F.Flash.told c.in-Ok.opened.cat c.args.words.now.to.now _ since now c.run_session.result c.run_session.ensures.ran;
+      texts = c.run_session.ensures.texts;
+      kept = c.run_session.ensures.pages;
+    }
