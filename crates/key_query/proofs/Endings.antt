@@ -1,11 +1,13 @@
 -- How an opening ended.
-use Rattle.std.proofs.Common.{◌≡◌, ℕ, Bool, true, List, Result, Ok, Err, refl, sym, ◌∙◌}
+use Rattle.std.proofs.Common.{◌≡◌, ℕ, Bool, true, List, Result, Ok, Err, refl, subst}
 use Rattle.std.specs.Prelude.{IfErr, is_some, Option, Some, None}
 use Rattle.ghost_model.specs.Channel.{Catalog}
 use Rattle.edge_traits.specs.Devices.{Device}
 use Rattle.key_inputs.specs.Openings.{Opening, Spelled, Broken, InputFault}
-use Rattle.key_inputs.specs.Views.{IsBroken, rule_of}
+use Rattle.key_inputs.specs.Views.{IsBroken, Tells, rule_of}
 use Rattle.key_inputs.specs.declared.faults.InputFault.{InputFault as Fault}
+use Rattle.key_inputs.specs.declared.faults.OpenFault.{OpenFault}
+use Rattle.key_inputs.specs.declared.faults.OpenFault.TheVariants as open_fault
 use Rattle.key_query.specs.PublicPages.{HasCatalog}
 use Rattle.key_query.specs.Results.{IsOfFlash, TellsFlash, is_faultless}
 use Rattle.key_query.specs.declared.failures.QueryFailure.{QueryFailure}
@@ -29,5 +31,7 @@ spelled_unbroken : (rule : Option InputFault) (opening : Opening (List ℕ)) (sc
 spelled_unbroken None opening script some broken spelled = cc
 spelled_unbroken (Some rule) opening script some broken spelled = cc
 
-pub unbroken : (fault : Fault) (opening : Opening (List ℕ)) (script : List ℕ) → is_some (rule_of fault) ≡ true → IsBroken opening (rule_of fault) → opening ≡ Spelled script → ⊥
-unbroken fault opening script some broken spelled = spelled_unbroken (rule_of fault) opening script some broken spelled
+pub unbroken : (fault : OpenFault) (inner : Fault) (opening : Opening (List ℕ)) (script : List ℕ) → fault ≡ open_fault.Input inner
+    → is_some (rule_of inner) ≡ true → Tells opening fault → opening ≡ Spelled script → ⊥
+unbroken fault inner opening script is some tells spelled =
+    spelled_unbroken (rule_of inner) opening script some (subst (λ (one : OpenFault). Tells opening one) is tells) spelled

@@ -1,6 +1,6 @@
 //! The opening of a session.
 
-ghost use Rattle.std.specs.Prelude.{◌≡◌, ◌≤◌, true, Some, Err, IfOk, IfErr};
+ghost use Rattle.std.specs.Prelude.{◌≡◌, ◌≤◌, ℕ, List, true, Some, Err, IfOk, IfErr};
 ghost use Rattle.ghost_model.specs.Causes.{Rose};
 ghost use Rattle.ghost_model.specs.Channel as channel;
 ghost use Rattle.edge_traits.specs.Files.{Files};
@@ -100,7 +100,7 @@ fn open_over<F: Flash>(
     words: &QueryWords<'_>,
     flash: &mut F,
 ) -> Result<Opened, QueryFailure>
-    ensures script { IfOk result (λ opened. opened.script ≡ script.entry) }
+    ensures script { IfOk result (λ opened. opened.script ≡ script) }
     ensures catalog { IfOk result (λ opened. F.told ≡ true → HasCatalog (F.state flash.new) opened.cat) }
     ensures suffices { IfOk result (λ opened. Suffices opened.cat (F.state flash.new)) }
     ensures stores { IfOk result (λ opened. IsKept opened.cat (none_heard opened.cat) 1 0 opened.replies) }

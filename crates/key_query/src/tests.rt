@@ -112,12 +112,23 @@ struct Objects {
     out: MemSink,
 }
 
-/// What a host says, in which pieces, and which calls of the link fail.
+/// What a host says, in which pieces, and which calls of the link and of the output fail.
 #[derive(Clone, Copy)]
 struct Host<'a> {
     said: &'a [&'a [u8]],
     pieces: &'a [usize],
     fails: &'a [u64],
+    out_fails: &'a [u64],
+}
+
+/// A host that says this in whole pieces, over a link and to an output that do not fail.
+fn plain_host<'a>(said: &'a [&'a [u8]]) -> Host<'a> {
+    Host {
+        said,
+        pieces: &[],
+        fails: &[],
+        out_fails: &[],
+    }
 }
 
 /// The clinic's files in memory.
@@ -234,7 +245,7 @@ fn objects_over(
         depot,
         flash,
         link: MemLink::new(alloc, room, &peer, host.fails)?,
-        out: MemSink::new(alloc, 200, 200, &[])?,
+        out: MemSink::new(alloc, 200, 200, host.out_fails)?,
     })
 }
 
@@ -304,11 +315,8 @@ fn is_untouched(objects: &Objects) -> bool {
 fn an_honest_host_is_answered_in_any_pieces(rt: HostRuntime) -> Result<(), AllocError> {
     let said = [WELCOME, CATALOG, DOCTORS, TWO_DOCTORS];
     for pieces in [[].as_slice(), BYTE_BY_BYTE] {
-        let host = Host {
-            said: &said,
-            pieces,
-            fails: &[],
-        };
+        let mut host = plain_host(&said);
+        host.pieces = pieces;
         let flash = loaded_flash(rt.alloc(), &[])?;
         let mut objects = objects_over(rt.alloc(), CARDIO, flash, &host)?;
         let whole = Tally {
@@ -380,11 +388,7 @@ fn a_host_that_breaks_a_rule_is_told(rt: HostRuntime) -> Result<(), AllocError> 
         ),
     ];
     for (script, said, status, lines) in cases.iter() {
-        let host = Host {
-            said,
-            pieces: &[],
-            fails: &[],
-        };
+        let host = plain_host(said);
         let flash = loaded_flash(rt.alloc(), &[])?;
         let mut objects = objects_over(rt.alloc(), script, flash, &host)?;
         match ask(rt.alloc(), &mut objects) {
@@ -415,11 +419,9 @@ fn after_a_failed_move_the_link_is_closed(rt: HostRuntime) -> Result<(), AllocEr
         ),
     ];
     for (call, lines) in lines.iter() {
-        let host = Host {
-            said: &said,
-            pieces: &[],
-            fails: &[*call],
-        };
+        let mut host = plain_host(&said);
+        let fails = [*call];
+        host.fails = &fails;
         let flash = loaded_flash(rt.alloc(), &[])?;
         let mut objects = objects_over(rt.alloc(), ALL, flash, &host)?;
         match ask(rt.alloc(), &mut objects) {
@@ -428,6 +430,45 @@ fn after_a_failed_move_the_link_is_closed(rt: HostRuntime) -> Result<(), AllocEr
         }
         assert_eq!(rt; objects.out.bytes(), lines.as_bytes(), "call {call}");
         assert_eq!(rt; moves(&objects.link) as u64, *call + 1, "call {call}");
+    }
+    Ok(())
+}
+
+#[test]
+fn a_failing_flash_or_output_changes_no_move(rt: HostRuntime) -> Result<(), AllocError> {
+    let said = [WELCOME, CATALOG, DOCTORS, TWO_DOCTORS, VISITS, FOUR_VISITS];
+    let first_read = [LOAD_CALLS + OPENING_CALLS + 1];
+    let cases: [(&[u64], &[u64], SessionStatus, &str); 3] = [
+        (
+            &[],
+            &[],
+            SessionStatus::Ok,
+            "> 1\tcardio\n> 3\tcardio\n= 1 2\n> 1\t5\n> 2\t5\n> 3\t9\n> 4\t2\n= 2 4\n> Ann\n= 3 1\n",
+        ),
+        (
+            &first_read,
+            &[],
+            SessionStatus::Flash,
+            "! 1 flash\n> 1\t5\n> 2\t5\n> 3\t9\n> 4\t2\n= 2 4\n> Ann\n= 3 1\n",
+        ),
+        (&[], &[2], SessionStatus::Sink, "> 1\tcardio\n"),
+    ];
+    let mut frames = Vec::new(rt.alloc());
+    for (flash_fails, out_fails, status, lines) in cases.iter() {
+        let mut host = plain_host(&said);
+        host.out_fails = out_fails;
+        let flash = loaded_flash(rt.alloc(), flash_fails)?;
+        let mut objects = objects_over(rt.alloc(), ALL, flash, &host)?;
+        match ask(rt.alloc(), &mut objects) {
+            Ok(tally) => assert_eq!(rt; tally.status, *status, "{lines}"),
+            Err(_) => assert!(rt; false, "{lines}"),
+        }
+        assert_eq!(rt; objects.out.bytes(), lines.as_bytes(), "{lines}");
+        let now = sent(rt.alloc(), &objects.link)?;
+        if frames.is_empty() {
+            frames.extend_from_slice(&now)?;
+        }
+        assert_eq!(rt; now.as_slice(), frames.as_slice(), "{lines}");
     }
     Ok(())
 }
@@ -453,11 +494,8 @@ fn a_flash_that_is_no_key_is_not_dialled_for(rt: HostRuntime) -> Result<(), Allo
         ),
     ];
     for (blocks, front, failure) in cases.iter() {
-        let host = Host {
-            said: &[WELCOME, CATALOG],
-            pieces: &[],
-            fails: &[],
-        };
+        let said = [WELCOME, CATALOG];
+        let host = plain_host(&said);
         let flash = bare_flash(rt.alloc(), *blocks, front)?;
         let mut objects = objects_over(rt.alloc(), CARDIO, flash, &host)?;
         assert_eq!(rt; ask(rt.alloc(), &mut objects), Err(*failure), "{blocks}");
@@ -469,11 +507,8 @@ fn a_flash_that_is_no_key_is_not_dialled_for(rt: HostRuntime) -> Result<(), Allo
 #[test]
 fn a_failing_call_of_the_opening_leaves_the_link_alone(rt: HostRuntime) -> Result<(), AllocError> {
     for call in LOAD_CALLS + 1..=LOAD_CALLS + OPENING_CALLS {
-        let host = Host {
-            said: &[WELCOME, CATALOG],
-            pieces: &[],
-            fails: &[],
-        };
+        let said = [WELCOME, CATALOG];
+        let host = plain_host(&said);
         let flash = loaded_flash(rt.alloc(), &[call])?;
         let mut objects = objects_over(rt.alloc(), CARDIO, flash, &host)?;
         assert_eq!(rt;
@@ -489,11 +524,8 @@ fn a_failing_call_of_the_opening_leaves_the_link_alone(rt: HostRuntime) -> Resul
 
 #[test]
 fn a_script_is_judged_before_the_flash_is_attached(rt: HostRuntime) -> Result<(), AllocError> {
-    let host = Host {
-        said: &[WELCOME, CATALOG],
-        pieces: &[],
-        fails: &[],
-    };
+    let said = [WELCOME, CATALOG];
+    let host = plain_host(&said);
     let mut many = Vec::new(rt.alloc());
     for _text in 0..65u32 {
         many.extend_from_slice(b"x;")?;
