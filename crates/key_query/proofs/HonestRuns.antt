@@ -1,6 +1,8 @@
 -- A session with an honest host over sound pages prints what its texts print.
 use Rattle.std.proofs.Common.{◌≡◌, ℕ, suc, zero, ◌+◌, ◌≤◌, min, Bool, true, false, ◌||◌, List, [], ◌∷◌, ◌++◌, length, map, flat_map, count_by, slice_get, Option, Some, None, refl, sym, ap, ◌∙◌, subst, arith, append_assoc}
 use Rattle.std.specs.List.{list_any, concat}
+use Rattle.std.specs.Prelude.{cond}
+use Rattle.std.proofs.lemmas.List.Sums.{sum_by-cons}
 use Rattle.ghost_model.specs.Causes.{Rose, last_count}
 use Rattle.ghost_model.specs.Values.{Database}
 use Rattle.ghost_model.specs.Channel.{Catalog, Journal, Entry, Answer}
@@ -22,29 +24,45 @@ use Rattle.key_session.specs.declared.tally.SessionStatus.{SessionStatus}
 use Rattle.key_session.specs.declared.tally.SessionStatus.TheVariants as status
 use Rattle.key_query.specs.Answering.{IsSound, AnswersAll, AnswersWhereSound}
 
-lines_in : List TextTold → List (List (List ℕ))
+abbrev lines_in : List TextTold → List (List (List ℕ))
 lines_in told = map (λ (one : TextTold). one.lines) told
 
 -- a text that was told, by the place of its lines
 told_at : (told : List TextTold) (place : ℕ) (lines : List (List ℕ)) → slice_get (lines_in told) place ≡ Some lines
     → (one : TextTold) × (slice_get told place ≡ Some one) × (one.lines ≡ lines)
-told_at [] place lines e = cc
-told_at (one ∷ told) zero lines e = one, refl, cc
+told_at [] place lines e = (let bad : ⊥ = cc in absurd bad)
+told_at (one ∷ told) zero lines e = (one, refl, cc)
 told_at (one ∷ told) (suc place) lines e = told_at told place lines e
 
 many_in : (told : List TextTold) → length (lines_in told) ≡ length told
 many_in [] = refl
 many_in (one ∷ told) = ap suc (many_in told)
 
+none_of_both : (test : Bool) (others : ℕ) → cond test 1 0 + others ≡ 0 → (test ≡ false) × (others ≡ 0)
+none_of_both true others none = (let bad : ⊥ = omega (arith, none) in absurd bad)
+none_of_both false others none = (refl, omega (arith, none))
+
+none_of_all : (reason : Reason) (reasons : List Reason) → count_by is_flash (reason ∷ reasons) ≡ 0
+    → (is_flash reason ≡ false) × (count_by is_flash reasons ≡ 0)
+none_of_all reason reasons none =
+    none_of_both (is_flash reason) (count_by is_flash reasons) (sym (sum_by-cons (λ (one : Reason). cond (is_flash one) 1 0) reason reasons) ∙ none)
+
 -- none of the reasons is a fault of the flash
 none_counted : (told : List TextTold) (place : ℕ) (one : TextTold) → count_by is_flash (reasons_of told) ≡ 0
     → slice_get told place ≡ Some one → is_flash one.reason ≡ false
-none_counted (first ∷ told) zero one none e = grind arith
-none_counted (first ∷ told) (suc place) one none e = none_counted told place one (grind arith) e
+none_counted [] place one none e = (let bad : ⊥ = cc in absurd bad)
+none_counted (first ∷ told) zero one none e =
+    let first_not = (none_of_all first.reason (reasons_of told) none).0 in
+    let same : first ≡ one = cc in
+    subst (λ (told : TextTold). is_flash told.reason ≡ false) same first_not
+none_counted (first ∷ told) (suc place) one none e =
+    none_counted told place one (none_of_all first.reason (reasons_of told) none).1 e
 
 none_any : (reasons : List Reason) → count_by is_flash reasons ≡ 0 → list_any is_flash reasons ≡ false
 none_any [] none = refl
-none_any (reason ∷ reasons) none = grind arith
+none_any (reason ∷ reasons) none =
+    let both = none_of_all reason reasons none in
+    rw (both.0, none_any reasons both.1) refl
 
 no_flash : (before count now : ℕ) → min (before + count) last_count ≤ now → (Rose before now → ⊥) → count ≡ 0
 no_flash before zero now blamed rose = refl
@@ -77,7 +95,9 @@ no_code (end ∷ ended) none = code_of_end end.ending none (λ h. no_code ended 
 
 no_stop : (journal : Journal) → list_any is_stop (answers journal) ≡ false → list_any (λ (entry : Entry). is_stop entry.answer) journal ≡ false
 no_stop [] none = refl
-no_stop (entry ∷ journal) none = grind arith
+no_stop (entry ∷ journal) none =
+    let later : list_any is_stop (answers journal) ≡ false = grind arith in
+    grind (arith, no_stop journal later)
 
 all_well : (session : Left) → session.stopped ≡ false → session.heard.broken ≡ false → first_code session.heard.ended ≡ None
     → status_of false session false ≡ status.Ok
@@ -92,8 +112,8 @@ module _ (catalog : Catalog) (at : List ℕ) (texts : List (List ℕ)) (database
     each = λ place lines e.
         let found = told_at told place lines e in
         let one = found.0 in
-        let is = each place one found.1.0 in
-        subst (λ (ls : List (List ℕ)). AreSoundLines catalog (hidden_of catalog.schema database) texts journal (suc place) ls) found.1.1
+        let is = each place one found.1 in
+        subst (λ (ls : List (List ℕ)). AreSoundLines catalog (hidden_of catalog.schema database) texts journal (suc place) ls) found.2
         (record {
           lines_are = record {
             place = place;
@@ -103,7 +123,7 @@ module _ (catalog : Catalog) (at : List ℕ) (texts : List (List ℕ)) (database
             reason = one.reason;
             lines_are = is.lines_are;
           };
-          sound = not_own one.reason (none_counted told place one none found.1.0) is.undamaged;
+          sound = not_own one.reason (none_counted told place one none found.1) is.undamaged;
         });
   }
 

@@ -1,4 +1,4 @@
-use Rattle.std.proofs.Common.{◌≡◌, List, subst, sym, ℕ}
+use Rattle.std.proofs.Common.{◌≡◌, List, subst, sym, ℕ, false}
 use Rattle.key_words.specs.Views.{query_view}
 use Rattle.key_session.specs.Running.{is_sink}
 use Rattle.key_session.specs.Telling.{outside}
