@@ -1,6 +1,6 @@
 -- A session that answers all its texts: the host is honest and holds the public part of a database, the flash holds its
 -- hidden part, and neither the flash nor the sink failed.
-use Rattle.std.specs.Prelude.{◌≡◌, ℕ, Bool, true, false, List}
+use Rattle.std.specs.Prelude.{◌≡◌, ℕ, Bool, false, List}
 use Rattle.ghost_model.specs.Causes.{Rose}
 use Rattle.ghost_model.specs.Values.{Database}
 use Rattle.ghost_model.specs.Channel.{Catalog, Journal}

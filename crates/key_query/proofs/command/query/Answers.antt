@@ -1,5 +1,4 @@
-use Rattle.std.proofs.Common.{◌≡◌, List, subst, sym, ℕ, false}
-use Rattle.key_words.specs.Views.{query_view}
+use Rattle.std.proofs.Common.{List, subst, sym, ℕ, false}
 use Rattle.key_session.specs.Running.{is_sink}
 use Rattle.key_session.specs.Telling.{outside}
 use Rattle.key_query.specs.Openings.{IsScript}
