@@ -126,10 +126,10 @@ module _ (catalog : Catalog) (at : List ℕ) (texts : List (List ℕ)) (database
         });
   }
 
-pub answers_all : HonestSessionsAreSmooth → HonestLinesArePrinted → (goes : Journal → Type 0) (told : Bool) (cat : Catalog) (at : List ℕ) (texts : List (List ℕ))
-    (since now : Outside) (tally : Tally) (ran : HasRun goes told cat at texts since now tally)
-    → AnswersWhereSound goes told cat at texts since now tally ran
-answers_all smooth prints goes told cat at texts since now tally ran = λ database sound.
+pub answers_all : HonestSessionsAreSmooth → HonestLinesArePrinted → (goes : Journal → Type 0) (link_before link_now : ℕ) (told : Bool) (cat : Catalog) (at : List ℕ) (texts : List (List ℕ))
+    (since now : Outside) (tally : Tally) (ran : HasRun goes link_before link_now told cat at texts since now tally)
+    → AnswersWhereSound goes link_before link_now told cat at texts since now tally ran
+answers_all smooth prints goes link_before link_now told cat at texts since now tally ran = λ database sound.
     let are = ran.told database sound.pages in
     let none : count_by is_flash (reasons_of are.told) ≡ 0 =
     no_flash since.flash.faults (count_by is_flash (reasons_of are.told)) now.flash.faults are.blamed sound.flash in
