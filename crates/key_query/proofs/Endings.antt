@@ -3,7 +3,7 @@ use Rattle.std.proofs.Common.{◌≡◌, ℕ, Bool, true, List, Result, Ok, Err,
 use Rattle.std.specs.Prelude.{IfErr, is_some, Option, Some, None}
 use Rattle.ghost_model.specs.Channel.{Catalog}
 use Rattle.edge_traits.specs.Devices.{Device}
-use Rattle.key_inputs.specs.Openings.{Opening, Spelled, Broken, InputFault}
+use Rattle.key_inputs.specs.Openings.{Opening, Spelled, InputFault}
 use Rattle.key_inputs.specs.Views.{IsBroken, Tells, rule_of}
 use Rattle.key_inputs.specs.declared.faults.InputFault.{InputFault as Fault}
 use Rattle.key_inputs.specs.declared.faults.OpenFault.{OpenFault}

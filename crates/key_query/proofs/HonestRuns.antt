@@ -1,28 +1,27 @@
 -- A session with an honest host over sound pages prints what its texts print.
-use Rattle.std.proofs.Common.{◌≡◌, ℕ, suc, zero, ◌+◌, ◌≤◌, min, Bool, true, false, ◌||◌, List, [], ◌∷◌, ◌++◌, length, map, flat_map, count_by, slice_get, Option, Some, None, refl, sym, ap, ◌∙◌, subst, arith, append_assoc}
+use Rattle.std.proofs.Common.{◌≡◌, ℕ, suc, zero, ◌+◌, ◌≤◌, min, Bool, true, false, List, [], ◌∷◌, ◌++◌, length, map, flat_map, count_by, slice_get, Some, None, refl, sym, ap, ◌∙◌, subst, arith, append_assoc}
 use Rattle.std.specs.List.{list_any, concat}
 use Rattle.std.specs.Prelude.{cond}
 use Rattle.std.proofs.lemmas.List.Sums.{sum_by-cons}
 use Rattle.ghost_model.specs.Causes.{Rose, last_count}
 use Rattle.ghost_model.specs.Values.{Database}
-use Rattle.ghost_model.specs.Channel.{Catalog, Journal, Entry, Answer}
+use Rattle.ghost_model.specs.Channel.{Catalog, Journal, Entry}
 use Rattle.ghost_model.specs.Asks.{asked_of}
 use Rattle.ghost_model.specs.Moves.{answers}
-use Rattle.ghost_model.specs.NextMove.{Left, left, Ended, Ending, Answered, Refused, is_stop, IsFinished}
-use Rattle.ghost_model.specs.Split.{Hidden, hidden_of}
-use Rattle.ghost_model.specs.Lines.{Reason, IsRefused, WasBroken, WasAnswered, MetFault, OnFlash, OnDamage, AreLinesFor, was_refused}
-use Rattle.ghost_model.specs.Printed.{printed, printed_lines}
+use Rattle.ghost_model.specs.NextMove.{Left, left, Ended, Ending, Answered, Refused, is_stop}
+use Rattle.ghost_model.specs.Split.{hidden_of}
+use Rattle.ghost_model.specs.Lines.{Reason, IsRefused, WasBroken, WasAnswered, MetFault, OnFlash, OnDamage, was_refused}
+use Rattle.ghost_model.specs.Printed.{printed}
 use Rattle.edge_traits.specs.Written.{grown}
 use Rattle.session_laws.specs.TextEnds.{heard_in}
-use Rattle.session_laws.specs.HonestSessions.{IsHonestSession, IsSmooth, HonestSessionsAreSmooth, HonestLinesArePrinted, AreSoundLines, AreAllLines, is_own_fault}
+use Rattle.session_laws.specs.HonestSessions.{HonestSessionsAreSmooth, HonestLinesArePrinted, AreSoundLines, AreAllLines, is_own_fault}
 use Rattle.key_session.specs.Counting.{is_flash, is_damage}
 use Rattle.key_session.specs.Refusing.{first_code}
-use Rattle.key_session.specs.Running.{HasRun, status_of, host_or}
-use Rattle.key_session.specs.Telling.{Outside, TextTold, IsTold, AreTold, reasons_of, bytes_told, bytes_of}
+use Rattle.key_session.specs.Running.{HasRun, status_of}
+use Rattle.key_session.specs.Telling.{Outside, TextTold, IsTold, reasons_of, bytes_told, bytes_of}
 use Rattle.key_session.specs.declared.tally.Tally.{Tally}
-use Rattle.key_session.specs.declared.tally.SessionStatus.{SessionStatus}
 use Rattle.key_session.specs.declared.tally.SessionStatus.TheVariants as status
-use Rattle.key_query.specs.Answering.{IsSound, AnswersAll, AnswersWhereSound}
+use Rattle.key_query.specs.Answering.{AnswersWhereSound}
 
 abbrev lines_in : List TextTold → List (List (List ℕ))
 lines_in told = map (λ (one : TextTold). one.lines) told
@@ -127,10 +126,10 @@ module _ (catalog : Catalog) (at : List ℕ) (texts : List (List ℕ)) (database
         });
   }
 
-pub answers_all : HonestSessionsAreSmooth → HonestLinesArePrinted → (goes : Journal → Type 0) (told : Bool) (cat : Catalog) (at : List ℕ) (texts : List (List ℕ))
-    (since now : Outside) (tally : Tally) (ran : HasRun goes told cat at texts since now tally)
-    → AnswersWhereSound goes told cat at texts since now tally ran
-answers_all smooth prints goes told cat at texts since now tally ran = λ database sound.
+pub answers_all : HonestSessionsAreSmooth → HonestLinesArePrinted → (goes : Journal → Type 0) (link_before link_now : ℕ) (told : Bool) (cat : Catalog) (at : List ℕ) (texts : List (List ℕ))
+    (since now : Outside) (tally : Tally) (ran : HasRun goes link_before link_now told cat at texts since now tally)
+    → AnswersWhereSound goes link_before link_now told cat at texts since now tally ran
+answers_all smooth prints goes link_before link_now told cat at texts since now tally ran = λ database sound.
     let are = ran.told database sound.pages in
     let none : count_by is_flash (reasons_of are.told) ≡ 0 =
     no_flash since.flash.faults (count_by is_flash (reasons_of are.told)) now.flash.faults are.blamed sound.flash in

@@ -1,6 +1,6 @@
 -- A session that answers all its texts: the host is honest and holds the public part of a database, the flash holds its
 -- hidden part, and neither the flash nor the sink failed.
-use Rattle.std.specs.Prelude.{◌≡◌, ℕ, Bool, true, false, List}
+use Rattle.std.specs.Prelude.{◌≡◌, ℕ, Bool, false, List}
 use Rattle.ghost_model.specs.Causes.{Rose}
 use Rattle.ghost_model.specs.Values.{Database}
 use Rattle.ghost_model.specs.Channel.{Catalog, Journal}
@@ -25,7 +25,7 @@ pub record AnswersAll (cat : Catalog) (texts : List (List ℕ)) (database : Data
   pub status_is : tally.status ≡ status.Ok
 
 -- whichever database it is
-abbrev pub AnswersWhereSound : (goes : Journal → Type 0) (told : Bool) (cat : Catalog) (at : List ℕ) (texts : List (List ℕ)) (since now : Outside) (tally : Tally) → HasRun goes told cat at texts since now tally → Type 0
-AnswersWhereSound goes told cat at texts since now tally ran =
+abbrev pub AnswersWhereSound : (goes : Journal → Type 0) (link_before link_now : ℕ) (told : Bool) (cat : Catalog) (at : List ℕ) (texts : List (List ℕ)) (since now : Outside) (tally : Tally) → HasRun goes link_before link_now told cat at texts since now tally → Type 0
+AnswersWhereSound goes link_before link_now told cat at texts since now tally ran =
     (database : Database) → IsSound told cat at texts database ran.journal since now
     → AnswersAll cat texts database since now tally

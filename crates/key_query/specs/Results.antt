@@ -26,8 +26,9 @@ pub record Opens (told : Bool) (before opened : Device) : Type 0 where
   pub faults : opened.faults ≡ before.faults
   pub deep_reads : opened.deep_reads ≡ before.deep_reads
 
--- a session ran, over the script and over the catalog of the flash
-pub record Runs (goes : Journal → Type 0) (told : Bool) (words : Query) (contents : Option Files) (before now : Outside) (tally : Tally) : Type 0 where
+-- a session ran, over the script and over the catalog of the flash; the link counted so many failed calls before it and
+-- after it
+pub record Runs (goes : Journal → Type 0) (link_before link_now : ℕ) (told : Bool) (words : Query) (contents : Option Files) (before now : Outside) (tally : Tally) : Type 0 where
   pub opened : Device
   pub opens : Opens told before.flash opened
   pub cat : Catalog
@@ -36,8 +37,8 @@ pub record Runs (goes : Journal → Type 0) (told : Bool) (words : Query) (conte
   pub enough : need cat ≤ opened.page_count
   pub script : List ℕ
   pub is_script : IsScript contents words.script script
-  pub ran : HasRun goes told cat words.to (texts_of script) (record before { flash = opened }) now tally
-  pub answered : AnswersWhereSound goes told cat words.to (texts_of script) (record before { flash = opened }) now tally ran
+  pub ran : HasRun goes link_before link_now told cat words.to (texts_of script) (record before { flash = opened }) now tally
+  pub answered : AnswersWhereSound goes link_before link_now told cat words.to (texts_of script) (record before { flash = opened }) now tally ran
   pub texts : tally.texts ≡ length (texts_of script)
   pub kept : KeepsPages opened now.flash
 

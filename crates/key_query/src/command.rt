@@ -9,7 +9,7 @@ ghost use Rattle.key_inputs.specs.Openings.{Spelled};
 ghost use Rattle.key_inputs.specs.Scripts.{script_opening};
 ghost use Rattle.key_lines.specs.Handing.{handed};
 ghost use Rattle.text_lines.specs.Rows.{PrintsSome};
-ghost use Rattle.key_session.specs.Running.{is_sink};
+ghost use Rattle.key_session.specs.Running.{is_sink, blames_flash, spares_flash};
 ghost use Rattle.key_session.specs.Telling.{outside};
 ghost use Rattle.key_query.specs.PublicPages.{HasCatalog};
 ghost use Rattle.key_query.specs.Results.{Runs, TellsScript, TellsFlash, is_faultless};
@@ -41,9 +41,13 @@ pub fn query<D: Depot, F: Flash, L: Link, O: Sink>(
     link: &mut L,
     out: &mut O,
 ) -> Result<Tally, QueryFailure>
-    ensures ran { IfOk result (λ tally. Runs (λ journal. L.went link.old journal link.new) F.told (query_view words.now) (D.contents depot.old)
+    ensures ran { IfOk result (λ tally. Runs (λ journal. L.went link.old journal link.new) (L.faults link.old) (L.faults link.new) F.told (query_view words.now) (D.contents depot.old)
         (outside false (O.faults out.old) (O.written out.old) (F.state flash.old)) (outside (is_sink tally.status) (O.faults out.new) (O.written out.new) (F.state flash.new)) tally) }
     ensures prints { IfOk result (λ tally. PrintsSome (handed false (O.faults out.old) (O.written out.old)) (handed (is_sink tally.status) (O.faults out.new) (O.written out.new))) }
+    ensures sink_rose { IfOk result (λ tally. is_sink tally.status ≡ true → Rose (O.faults out.old) (O.faults out.new)) }
+    ensures sink_same { IfOk result (λ tally. is_sink tally.status ≡ false → O.faults out.new ≡ O.faults out.old) }
+    ensures flash_rose { IfOk result (λ tally. blames_flash tally.status ≡ true → Rose (F.state flash.old).faults (F.state flash.new).faults) }
+    ensures flash_same { IfOk result (λ tally. spares_flash tally.status ≡ true → (F.state flash.new).faults ≡ (F.state flash.old).faults) }
     ensures script { IfErr result (λ fault. TellsScript (D.contents depot.old) words.now.script.now fault) }
     ensures device { IfErr result (λ fault. TellsFlash F.told (F.state flash.new) fault) }
     ensures complete { (files : Files) → (script : List ℕ) → (cat : channel.Catalog) → F.told ≡ true → D.contents depot.old ≡ Some files

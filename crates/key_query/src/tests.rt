@@ -311,27 +311,59 @@ fn is_untouched(objects: &Objects) -> bool {
         && objects.flash.deep_reads() == 0
 }
 
+/// What came of a call: how it ended, what was printed, and what was sent.
+#[derive(Drop)]
+struct Outcome {
+    answer: Result<Tally, QueryFailure>,
+    lines: Vec<u8>,
+    sent: Vec<u8>,
+}
+
+/// What comes of a call over the clinic's flash, some of whose calls fail.
+fn what_comes_of(
+    alloc: Global,
+    script: &[u8],
+    flash_fails: &[u64],
+    host: &Host<'_>,
+) -> Result<Outcome, AllocError> {
+    let flash = loaded_flash(alloc, flash_fails)?;
+    let mut objects = objects_over(alloc, script, flash, host)?;
+    let answer = ask(alloc, &mut objects);
+    let mut lines = Vec::new(alloc);
+    lines.extend_from_slice(objects.out.bytes())?;
+    Ok(Outcome {
+        answer,
+        lines,
+        sent: sent(alloc, &objects.link)?,
+    })
+}
+
 #[test]
 fn an_honest_host_is_answered_in_any_pieces(rt: HostRuntime) -> Result<(), AllocError> {
     let said = [WELCOME, CATALOG, DOCTORS, TWO_DOCTORS];
-    for pieces in [[].as_slice(), BYTE_BY_BYTE] {
-        let mut host = plain_host(&said);
-        host.pieces = pieces;
-        let flash = loaded_flash(rt.alloc(), &[])?;
-        let mut objects = objects_over(rt.alloc(), CARDIO, flash, &host)?;
-        let whole = Tally {
-            texts: 1,
-            refused: 0,
-            faulted: 0,
-            status: SessionStatus::Ok,
-        };
-        assert_eq!(rt; ask(rt.alloc(), &mut objects), Ok(whole));
-        assert_eq!(rt;
-            objects.out.bytes(),
-            b"> 1\tcardio\n> 3\tcardio\n= 1 2\n".as_slice()
-        );
-        assert_eq!(rt; sent(rt.alloc(), &objects.link)?.as_slice(), SENT);
-    }
+    let cut = Host {
+        said: &said,
+        pieces: BYTE_BY_BYTE,
+        fails: &[],
+        out_fails: &[],
+    };
+    let whole = what_comes_of(rt.alloc(), CARDIO, &[], &plain_host(&said))?;
+    let pieces = what_comes_of(rt.alloc(), CARDIO, &[], &cut)?;
+    let tally = Tally {
+        texts: 1,
+        refused: 0,
+        faulted: 0,
+        status: SessionStatus::Ok,
+    };
+    assert_eq!(rt; whole.answer, Ok(tally));
+    assert_eq!(rt;
+        whole.lines.as_slice(),
+        b"> 1\tcardio\n> 3\tcardio\n= 1 2\n".as_slice()
+    );
+    assert_eq!(rt; whole.sent.as_slice(), SENT);
+    assert_eq!(rt; pieces.answer, Ok(tally));
+    assert_eq!(rt; pieces.lines.as_slice(), whole.lines.as_slice());
+    assert_eq!(rt; pieces.sent.as_slice(), SENT);
     Ok(())
 }
 
@@ -437,39 +469,39 @@ fn after_a_failed_move_the_link_is_closed(rt: HostRuntime) -> Result<(), AllocEr
 #[test]
 fn a_failing_flash_or_output_changes_no_move(rt: HostRuntime) -> Result<(), AllocError> {
     let said = [WELCOME, CATALOG, DOCTORS, TWO_DOCTORS, VISITS, FOUR_VISITS];
+    let failing_output = Host {
+        said: &said,
+        pieces: &[],
+        fails: &[],
+        out_fails: &[2],
+    };
+    let sound = what_comes_of(rt.alloc(), ALL, &[], &plain_host(&said))?;
     let first_read = [LOAD_CALLS + OPENING_CALLS + 1];
-    let cases: [(&[u64], &[u64], SessionStatus, &str); 3] = [
-        (
-            &[],
-            &[],
-            SessionStatus::Ok,
-            "> 1\tcardio\n> 3\tcardio\n= 1 2\n> 1\t5\n> 2\t5\n> 3\t9\n> 4\t2\n= 2 4\n> Ann\n= 3 1\n",
-        ),
-        (
-            &first_read,
-            &[],
-            SessionStatus::Flash,
-            "! 1 flash\n> 1\t5\n> 2\t5\n> 3\t9\n> 4\t2\n= 2 4\n> Ann\n= 3 1\n",
-        ),
-        (&[], &[2], SessionStatus::Sink, "> 1\tcardio\n"),
-    ];
-    let mut frames = Vec::new(rt.alloc());
-    for (flash_fails, out_fails, status, lines) in cases.iter() {
-        let mut host = plain_host(&said);
-        host.out_fails = out_fails;
-        let flash = loaded_flash(rt.alloc(), flash_fails)?;
-        let mut objects = objects_over(rt.alloc(), ALL, flash, &host)?;
-        match ask(rt.alloc(), &mut objects) {
-            Ok(tally) => assert_eq!(rt; tally.status, *status, "{lines}"),
-            Err(_) => assert!(rt; false, "{lines}"),
-        }
-        assert_eq!(rt; objects.out.bytes(), lines.as_bytes(), "{lines}");
-        let now = sent(rt.alloc(), &objects.link)?;
-        if frames.is_empty() {
-            frames.extend_from_slice(&now)?;
-        }
-        assert_eq!(rt; now.as_slice(), frames.as_slice(), "{lines}");
-    }
+    let unread = what_comes_of(rt.alloc(), ALL, &first_read, &plain_host(&said))?;
+    let unwritten = what_comes_of(rt.alloc(), ALL, &[], &failing_output)?;
+    let mut tally = Tally {
+        texts: 3,
+        refused: 0,
+        faulted: 0,
+        status: SessionStatus::Ok,
+    };
+    assert_eq!(rt; sound.answer, Ok(tally));
+    tally.status = SessionStatus::Sink;
+    assert_eq!(rt; unwritten.answer, Ok(tally));
+    tally.status = SessionStatus::Flash;
+    tally.faulted = 1;
+    assert_eq!(rt; unread.answer, Ok(tally));
+    assert_eq!(rt;
+        sound.lines.as_slice(),
+        b"> 1\tcardio\n> 3\tcardio\n= 1 2\n> 1\t5\n> 2\t5\n> 3\t9\n> 4\t2\n= 2 4\n> Ann\n= 3 1\n".as_slice()
+    );
+    assert_eq!(rt;
+        unread.lines.as_slice(),
+        b"! 1 flash\n> 1\t5\n> 2\t5\n> 3\t9\n> 4\t2\n= 2 4\n> Ann\n= 3 1\n".as_slice()
+    );
+    assert_eq!(rt; unwritten.lines.as_slice(), b"> 1\tcardio\n".as_slice());
+    assert_eq!(rt; unread.sent.as_slice(), sound.sent.as_slice());
+    assert_eq!(rt; unwritten.sent.as_slice(), sound.sent.as_slice());
     Ok(())
 }
 

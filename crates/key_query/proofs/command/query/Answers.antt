@@ -1,5 +1,4 @@
-use Rattle.std.proofs.Common.{◌≡◌, List, subst, sym, ℕ, false}
-use Rattle.key_words.specs.Views.{query_view}
+use Rattle.std.proofs.Common.{List, subst, sym, ℕ, false}
 use Rattle.key_session.specs.Running.{is_sink}
 use Rattle.key_session.specs.Telling.{outside}
 use Rattle.key_query.specs.Openings.{IsScript}
@@ -26,7 +25,7 @@ returns-in-Ok-clause-ran g c =
       script = c.deref.result.now;
       is_script = subst (λ (script : List ℕ). IsScript (g.D.Depot.contents c.args.depot.now) c.args.words.now.script.now script) (sym c.deref.ensures.value) opened.script;
       ran = c.run_session.ensures.ran;
-      answered = answers_all c.honest_sessions_are_smooth.ensures c.honest_lines_are_printed.ensures _ g.F.Flash.told c.in-Ok.opened.cat c.args.words.now.to.now _ since now c.run_session.result c.run_session.ensures.ran;
+      answered = answers_all c.honest_sessions_are_smooth.ensures c.honest_lines_are_printed.ensures _ (g.L.Link.faults c.args.link.now) (g.L.Link.faults c.run_session.new.link) g.F.Flash.told c.in-Ok.opened.cat c.args.words.now.to.now _ since now c.run_session.result c.run_session.ensures.ran;
       texts = c.run_session.ensures.texts;
       kept = c.run_session.ensures.pages;
     }

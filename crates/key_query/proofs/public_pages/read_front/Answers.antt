@@ -1,4 +1,4 @@
-use Rattle.std.proofs.Common.{◌≡◌, ◌∙◌, ◌*◌, ◌+◌, ◌++◌, ap, sym, refl, subst, take, length, ℕ, List, arith}
+use Rattle.std.proofs.Common.{◌≡◌, ◌∙◌, ◌*◌, ◌+◌, ◌++◌, ap, sym, refl, take, ℕ, List, arith}
 use Rattle.std.proofs.Math.Seq.{take-length}
 use Rattle.key_query.specs.PublicPages.{bytes_before}
 use Rattle.key_query.proofs.Fronts.{with_page, bytes_next, none_before}

@@ -1,5 +1,4 @@
-use Rattle.std.proofs.Common.{◌≡◌, Option, Some, None, true, Bool, arith}
-use Rattle.std.specs.Prelude.{IfSome, IfNone}
+use Rattle.std.proofs.Common.{arith}
 use Rattle.key_query.proofs.Fronts.{catalog_there, none_there}
 use Rattle.key_query.proofs.public_pages.read_public_pages.Goals as goal
 
