@@ -46,7 +46,8 @@ impl From<AllocError> for BeginFault {
 }
 
 impl Host {
-    /// A host over the visible file `name`, which awaits the key's greeting. It keeps a copy of the name.
+    /// A host over the visible file `name`, which awaits the key's greeting. It keeps a copy of the name. Where the depot is
+    /// sure of the file nothing but its bytes or want of memory stands in the way.
     pub fn begin<D: Depot>(alloc: Global, depot: &mut D, name: &str) -> Result<Host, BeginFault>
         ensures name { IfOk result (λ host. name_of host ≡ name.now) }
         ensures stage { IfOk result (λ host. host.stage ≡ Stage.Greeting) }
@@ -174,7 +175,8 @@ impl Host {
     }
 
     /// Says the next frame over the front of `out`, and answers how many bytes it has; `None` exactly where the host
-    /// awaits a frame of the key, or the session is over. Where the depot fails, the ask is refused instead and ends.
+    /// awaits a frame of the key, or the session is over. Where the depot fails, the ask is refused instead and ends; a depot
+    /// that is sure of the file never does.
     pub fn reply<D: Depot>(&mut self, depot: &mut D, out: &mut [u8; FRAME_BYTES]) -> Option<u16>
         ensures same { IsSameHost self.old self.new }
         ensures owed { is_some result ≡ saying.owes self.old.stage }

@@ -258,8 +258,8 @@ impl Host {
     ///
     /// The frames of the key may be cut anywhere. Each frame of the host is one send. Where a reading of the file fails, a
     /// refusal stands in the place of the frame that would have come, which ends that ask; the session goes on, and the
-    /// frames of the key are judged so. `Link` comes where a move failed or the stream ended; else the link's count of
-    /// failed calls is as before.
+    /// frames of the key are judged so. Over a depot that is sure of the file nothing is refused. `Link` comes where a move
+    /// failed or the stream ended; else the link's count of failed calls is as before.
     pub fn serve<L: Link, D: Depot>(&mut self, link: &mut L, depot: &mut D) -> Served
         requires begins { self.old.stage ≡ Stage.Greeting }
         ensures same { IsSameHost self.old self.new }

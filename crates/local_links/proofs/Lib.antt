@@ -2,3 +2,4 @@ pub mod Desks
 pub mod HandedOut
 pub mod Sessions
 pub mod Short
+pub mod Within

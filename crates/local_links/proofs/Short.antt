@@ -4,26 +4,18 @@ use Rattle.std.specs.Prelude.{if◌then◌else◌, ◌||◌, ◌&&◌, ◌==◌,
 use Rattle.std.specs.List.{list_all}
 use Rattle.std.proofs.lemmas.Bool.{le-leb, leb-true}
 use Rattle.std.proofs.lemmas.Bool.Decides.{nat_tests}
-use Rattle.std.proofs.lemmas.List.{length-take}
 use Rattle.std.proofs.lemmas.List.Folds.{list_all-append}
-use Rattle.ghost_model.specs.Values.{Database}
-use Rattle.ghost_model.specs.Channel.{Catalog, Frame, Move, Dial, Listen, Accept, Send, Take, Close, Answer, Journal}
+use Rattle.ghost_model.specs.Channel.{Catalog, Frame, Move, Dial, Listen, Accept, Send, Take, Close, Journal}
 use Rattle.ghost_model.specs.Frames.{IsFrame, frame_bytes, kind_of, payload_of, kind_in, serial_in, size_in, version_in}
 use Rattle.ghost_model.specs.Asks.{Asked, asked_of, row_width}
 use Rattle.ghost_model.specs.Moves.{sent, sent_by, piece_of}
 use Rattle.ghost_model.specs.NextMove.{Awaits, Missing, Reply, Nothing, Short, Whole, Invalid, verdict, lacks, header_fits, Heard, Left, left, next_of, send_or, rest_of, GoesOn, IsProper, IsDue}
-use Rattle.ghost_model.specs.Host.{Holding}
 use Rattle.ghost_model.specs.SessionLaws.{IsSetting}
 use Rattle.ghost_model.proofs.ChannelLemmas.Tests.{both_hold, hold_both}
 use Rattle.ghost_model.proofs.ChannelLemmas.Sending.{sent_is_due}
 use Rattle.ghost_model.proofs.SessionLemmas.Limits.{IsSmall, schema_is_small}
 use Rattle.ghost_model.proofs.SessionLemmas.SentFrames.{AreFrames, sent_are_frames, asks_are_good}
-use Rattle.session_laws.specs.Serving.{Desk, ServedFrom, serves, handed}
-use Rattle.session_laws.specs.Local.{IsLocal, holding_of}
-use Rattle.local_links.specs.Keeping.{bytes_of, is_short}
-use Rattle.local_links.specs.Sessions.{asks_for, is_within}
-use Rattle.local_links.specs.Links.{listens}
-use Rattle.local_links.proofs.Sessions.{next_is_quiet}
+use Rattle.local_links.specs.Keeping.{bytes_of, is_short, is_within, asks_for}
 
 -- the length of what is sent
 abbrev few : List ℕ → Bool
@@ -135,39 +127,3 @@ proper_short catalog at texts journal setting proper within =
     let due : IsDue catalog asks journal = sent_is_due catalog at asks journal proper in
     let frames = sent_are_frames catalog small asks (asks_are_good catalog.schema texts) setting.serials_fit journal setting.generation_fits due in
     short_on catalog at asks [] journal proper (ap (list_all few) due.sent_are ∙ frames_are_few due.frames frames) within
-
-handed_within : (most : ℕ) (owed : List ℕ) → length (piece_of (handed most owed)) ≤ most
-handed_within most [] = omega arith
-handed_within most (byte ∷ owed) =
-    let long = length-take most (byte ∷ owed) in
-    omega (arith, long)
-
--- a host in the process gives no more than is asked for
-served_within : (held : Holding) (before after : Desk) (move : Move) (answer : Answer) → listens move ≡ false → serves held before (record { move = move; answer = answer }) after
-    → length (piece_of answer) ≤ asks_for move
-served_within held before after (Dial _) answer key served = subst (λ (a : Answer). length (piece_of a) ≤ 0) (sym served.made) (omega arith)
-served_within held before after (Listen _) answer key served = never key
-  where
-    never : {P : Type 0} → true ≡ false → P
-    never e = cc
-served_within held before after Accept answer key served = never key
-  where
-    never : {P : Type 0} → true ≡ false → P
-    never e = cc
-served_within held before after (Send _) answer key served = subst (λ (a : Answer). length (piece_of a) ≤ 0) (sym served.made) (omega arith)
-served_within held before after (Take most) answer key served = subst (λ (a : Answer). length (piece_of a) ≤ most) (sym served.given) (handed_within most before.owed)
-served_within held before after Close answer key served = subst (λ (a : Answer). length (piece_of a) ≤ 0) (sym served.made) (omega arith)
-
-all_within : (held : Holding) (catalog : Catalog) (at : List ℕ) (asks : List Asked) (gone journal : Journal) (before after : Desk) → GoesOn catalog at asks gone journal → ServedFrom held before journal after
-    → list_all is_within journal ≡ true
-all_within held catalog at asks gone [] before after goes served = refl
-all_within held catalog at asks gone (made ∷ later) before after goes served =
-    let key = next_is_quiet catalog at (left catalog asks gone) made.move goes.0 in
-    let one = served_within held before served.0 made.move made.answer key served.1 in
-    hold_both (is_within made) (list_all is_within later) (le-leb (length (piece_of made.answer)) (asks_for made.move) one)
-    (all_within held catalog at asks (gone ++ made ∷ []) later served.0 after goes.1 served.2)
-
-pub local_short : (catalog : Catalog) (database : Database) (at : List ℕ) (texts : List (List ℕ)) (journal : Journal) → IsLocal catalog database at texts journal → list_all is_short journal ≡ true
-local_short catalog database at texts journal is =
-    proper_short catalog at texts journal is.setting is.proper
-    (all_within (holding_of catalog database) catalog at (asked_of catalog.schema texts) [] journal _ is.desk is.proper is.served)

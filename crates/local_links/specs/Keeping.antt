@@ -20,6 +20,19 @@ bytes_of Close = []
 abbrev pub is_short : Entry → Bool
 is_short entry = nat_le (length (bytes_of entry.move) + length (piece_of entry.answer)) 2048
 
+-- how many bytes a move asks for
+abbrev pub asks_for : Move → ℕ
+asks_for (Dial _) = 0
+asks_for (Listen _) = 0
+asks_for Accept = 0
+asks_for (Send _) = 0
+asks_for (Take most) = most
+asks_for Close = 0
+
+-- whether no more bytes came than were asked for
+abbrev pub is_within : Entry → Bool
+is_within entry = nat_le (length (piece_of entry.answer)) (asks_for entry.move)
+
 -- where the journal stands
 abbrev pub log_of : {L D : Type 0} → (contents : D → Option Files) → (faults append_faults : D → ℕ) → Journaled L D → Log
 log_of contents faults append_faults link = log (contents link.depot.now) (faults link.depot.now) (append_faults link.depot.now) link.failed
@@ -36,11 +49,12 @@ abbrev pub Writes : Option (List ℕ) → (text : List ℕ) → Log → Log → 
 Writes None text before after = after ≡ before
 Writes (Some name) text before after = Extends name text before after
 
--- the other link went by these moves, and their lines were to be written
+-- the other link went by these moves, by which no more came than was asked for, and their lines were to be written
 pub record Kept {L D : Type 0} (Went : L → Journal → L → Type 0) (contents : D → Option Files) (faults append_faults : D → ℕ) (before : Journaled L D) (journal : Journal) (after : Journaled L D) : Type 0 where
   pub same_link : after.link.ghost_name ≡ before.link.ghost_name
   pub same_depot : after.depot.ghost_name ≡ before.depot.ghost_name
   pub same_name : after.name ≡ before.name
   pub moved : Went before.link.now journal after.link.now
+  pub within : list_all is_within journal ≡ true
   pub wrote : list_all is_short journal ≡ true
       → Writes (named before) (lines journal) (log_of contents faults append_faults before) (log_of contents faults append_faults after)

@@ -6,7 +6,7 @@ use Rattle.ghost_model.specs.Channel.{Journal}
 use Rattle.ghost_model.specs.Moves.{line, lines}
 use Rattle.edge_traits.specs.Files.{Files}
 use Rattle.local_links.specs.Journaling.{Log}
-use Rattle.local_links.specs.Keeping.{is_short, log_of, named, Writes, Kept}
+use Rattle.local_links.specs.Keeping.{is_short, is_within, log_of, named, Writes, Kept}
 use Rattle.local_links.specs.declared.journaled.Journaled.{Journaled}
 use Rattle.local_links.specs.Appending.{begins_at, goes_on_with}
 
@@ -27,6 +27,14 @@ all_short (made ∷ first) more short = by_first (is_short made) (all_short firs
     by_first true later short = later short
     by_first false later short = cc
 
+all_within : (first more : Journal) → list_all is_within first ≡ true → list_all is_within more ≡ true → list_all is_within (first ++ more) ≡ true
+all_within [] more one other = other
+all_within (made ∷ first) more one other = by_first (is_within made) (λ inside. all_within first more inside other) one
+  where
+    by_first : (b : Bool) → (list_all is_within first ≡ true → list_all is_within (first ++ more) ≡ true) → (b && list_all is_within first) ≡ true → (b && list_all is_within (first ++ more)) ≡ true
+    by_first true later inside = later inside
+    by_first false later inside = cc
+
 pub kept_stays : {L D : Type 0} (Went : L → Journal → L → Type 0) (contents : D → Option Files) (faults append_faults : D → ℕ) → ((link : L) → Went link [] link)
     → (link : Journaled L D) → Kept Went contents faults append_faults link [] link
 kept_stays Went contents faults append_faults stays link = record {
@@ -34,6 +42,7 @@ kept_stays Went contents faults append_faults stays link = record {
   same_depot = refl;
   same_name = refl;
   moved = stays link.link.now;
+  within = refl;
   wrote = λ short. writes_nothing (named link) (log_of contents faults append_faults link);
 }
 
@@ -46,6 +55,7 @@ kept_joins Went contents faults append_faults joins old between new first more o
   same_depot = other.same_depot ∙ one.same_depot;
   same_name = other.same_name ∙ one.same_name;
   moved = joins old.link.now between.link.now new.link.now first more one.moved other.moved;
+  within = all_within first more one.within other.within;
   wrote = λ short.
       let both = all_short first more short in
       let later = subst (λ n. Writes (elim n [

@@ -1,9 +1,9 @@
 -- Whole sessions of a key over a link to a host in its own process that holds the public part of a database.
-use Rattle.std.specs.Prelude.{◌≡◌, ℕ, Bool, true, nat_le, List, length, Option}
+use Rattle.std.specs.Prelude.{◌≡◌, ℕ, true, List, Option}
 use Rattle.std.specs.List.{list_all}
 use Rattle.ghost_model.specs.Values.{Database}
-use Rattle.ghost_model.specs.Channel.{Catalog, Move, Dial, Listen, Accept, Send, Take, Close, Entry, Journal}
-use Rattle.ghost_model.specs.Moves.{piece_of}
+use Rattle.ghost_model.specs.Channel.{Catalog, Journal}
+use Rattle.ghost_model.specs.Moves.{lines}
 use Rattle.ghost_model.specs.NextMove.{IsProper}
 use Rattle.ghost_model.specs.SessionLaws.{IsSetting, IsCatalogOf}
 use Rattle.edge_traits.specs.Files.{Files}
@@ -11,8 +11,9 @@ use Rattle.edge_traits.specs.Links.{Steps}
 use Rattle.session_laws.specs.Serving.{first_desk}
 use Rattle.session_laws.specs.Local.{IsLocal, holding_of}
 use Rattle.local_links.specs.Links.{IsAt, IsSureLink, Moves, depot_of, faults_of}
-use Rattle.local_links.specs.Keeping.{is_short}
+use Rattle.local_links.specs.Keeping.{Kept, Writes, is_short, is_within, log_of, named}
 use Rattle.local_links.specs.declared.host_link.HostLink.{HostLink}
+use Rattle.local_links.specs.declared.journaled.Journaled.{Journaled}
 
 -- whatever the depot, no move of a key on such a link fails
 abbrev pub ProperMovesNeverFail : {D : Type 0} → (contents : D → Option Files) → (faults : D → ℕ) → (sure : D → List ℕ → Type 0) → Type 0
@@ -40,19 +41,6 @@ SessionsAreLocal {D} contents faults sure =
     → IsSureLink sure before → IsAt contents (holding_of catalog database) before first_desk
     → GoesLocally contents faults sure catalog database at texts before journal after
 
--- how many bytes a move asks for
-abbrev pub asks_for : Move → ℕ
-asks_for (Dial _) = 0
-asks_for (Listen _) = 0
-asks_for Accept = 0
-asks_for (Send _) = 0
-asks_for (Take most) = most
-asks_for Close = 0
-
--- whether no more bytes came than were asked for
-abbrev pub is_within : Entry → Bool
-is_within entry = nat_le (length (piece_of entry.answer)) (asks_for entry.move)
-
 -- a line has room for each move of a key, whatever link it goes by, if that gives no more bytes than it is asked for
 abbrev pub ProperMovesAreShort : Type 0
 ProperMovesAreShort =
@@ -60,8 +48,9 @@ ProperMovesAreShort =
     → IsSetting catalog texts → IsProper catalog at texts journal → list_all is_within journal ≡ true
     → list_all is_short journal ≡ true
 
--- a host in the process gives no more than it is asked for, so a line has room for each move of a key there
-abbrev pub LocalMovesAreShort : Type 0
-LocalMovesAreShort =
-    (catalog : Catalog) (database : Database) (at : List ℕ) (texts : List (List ℕ)) (journal : Journal)
-    → IsLocal catalog database at texts journal → list_all is_short journal ≡ true
+-- the moves of a key on a link that keeps a journal of another go into the file that is named
+abbrev pub ProperJournalsAreWritten : {L D : Type 0} → (Went : L → Journal → L → Type 0) → (contents : D → Option Files) → (faults append_faults : D → ℕ) → Type 0
+ProperJournalsAreWritten {L} {D} Went contents faults append_faults =
+    (catalog : Catalog) (at : List ℕ) (texts : List (List ℕ)) (journal : Journal) (before after : Journaled L D)
+    → IsSetting catalog texts → IsProper catalog at texts journal → Kept Went contents faults append_faults before journal after
+    → Writes (named before) (lines journal) (log_of contents faults append_faults before) (log_of contents faults append_faults after)

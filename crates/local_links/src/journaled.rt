@@ -144,26 +144,31 @@ impl<'a, L: Link, D: Depot> Link for Journaled<'a, L, D> {
 
     ghost joins = { kept_joins L.went D.contents D.faults D.append_faults L.joins };
 
+    #[tactic(auto, using(crate::proofs::Within::done_within))]
     fn dial(&mut self, at: &str) -> Result<(), Failed> {
         let answer = self.link.dial(at);
         self.keep(&Move::Dial(at.as_bytes()), &made(answer));
         answer
     }
 
+    #[tactic(auto, using(crate::proofs::Within::listening_within))]
     fn listen(&mut self, at: &str) -> Result<u16, Failed> {
         self.link.listen(at)
     }
 
+    #[tactic(auto, using(crate::proofs::Within::done_within))]
     fn accept(&mut self) -> Result<(), Failed> {
         self.link.accept()
     }
 
+    #[tactic(auto, using(crate::proofs::Within::done_within))]
     fn send(&mut self, bytes: &[u8]) -> Result<(), Failed> {
         let answer = self.link.send(bytes);
         self.keep(&Move::Send(bytes), &made(answer));
         answer
     }
 
+    #[tactic(auto, using(crate::proofs::Within::gave_within))]
     fn take(&mut self, buf: &mut [u8]) -> Result<usize, Failed> {
         let count = self.link.take(buf);
         self.keep(&Move::Take(buf.len() as u64), &given(count, buf));

@@ -1,9 +1,10 @@
 //! What links in the key's own process promise.
 
 ghost use Rattle.local_links.specs.Links.{SessionsAreServed, SureSessionsAreServed};
-ghost use Rattle.local_links.specs.Sessions.{ProperMovesNeverFail, SessionsAreLocal, ProperMovesAreShort, LocalMovesAreShort};
+ghost use Rattle.local_links.specs.Sessions.{ProperMovesNeverFail, SessionsAreLocal, ProperMovesAreShort, ProperJournalsAreWritten};
 
 use edge_traits::depot::Depot;
+use edge_traits::link::Link;
 use session_laws::local::{next_moves_find_the_desk, served_journals_join};
 
 /// The moves of a link to a host in the key's own process are served by that host, as long as no reading of its file fails.
@@ -36,7 +37,7 @@ pub fn proper_moves_are_short()
     ensures short { ProperMovesAreShort }
 {}
 
-/// So it has for each move of a key whose host is in its own process.
-pub fn local_moves_are_short()
-    ensures short { LocalMovesAreShort }
+/// So the lines of a key's moves go into the journal's file, whatever link it goes by.
+pub fn proper_journals_are_written<L: Link, D: Depot>()
+    ensures written { ProperJournalsAreWritten L.went D.contents D.faults D.append_faults }
 {}
