@@ -26,7 +26,7 @@ use local_lines::laws::told_texts_are_given;
 use local_links::host_link::HostLink;
 use local_links::journaled::Journaled;
 use local_links::laws::{local_moves_are_short, sessions_are_local};
-use session_laws::local::{local_sessions_are_served};
+use session_laws::local::local_sessions_are_served;
 use session_replies::Replies;
 use tree_schema::Catalog;
 use tree_schema::catalog_bytes::a_catalog_is_short;
@@ -38,7 +38,7 @@ fn end_of(status: SessionStatus, append_failed: bool) -> LocalEnd
     ensures sink { is_sink result ≡ session.is_sink status }
     ensures depot { result ≡ LocalEnd.Depot → append_failed ≡ true }
     ensures no_depot { clears_journal result ≡ true → append_failed ≡ false }
-    ensures flash { result ≡ LocalEnd.Flash → status ≡ SessionStatus.Flash }
+    ensures flash { result ≡ LocalEnd.Flash → session.blames_flash status ≡ true }
     ensures no_flash { clears_flash result ≡ true → session.spares_flash status ≡ true }
     ensures whole { result ≡ LocalEnd.Ok → status ≡ SessionStatus.Ok }
     ensures damaged { is_damaged result ≡ true → is_damage status ≡ true }
