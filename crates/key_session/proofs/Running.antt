@@ -140,14 +140,15 @@ spared_so false false false kind at None true damage e = cc
 spared_so false false false kind at None false damage e = refl
 
 -- where a text met a failure of the flash, its count of faults rose
+one_met : (b more : Bool) (count : ℕ) → (more ≡ true → 1 ≤ count) → (b || more) ≡ true → 1 ≤ (if b then 1 else 0) + count
+one_met true more count met e = omega arith
+one_met false more count met e = (let some = met e in omega (arith, some))
+
 some_met : (p : Reason → Bool) (reasons : List Reason) → list_any p reasons ≡ true → 1 ≤ count_by p reasons
 some_met p [] e = cc
 some_met p (reason ∷ reasons) e =
-    subst (λ (n : ℕ). 1 ≤ n) (sym (sum_by-cons (λ (z : Reason). if p z then 1 else 0) reason reasons)) (by (p reason) e)
-  where
-    by : (b : Bool) → (b || list_any p reasons) ≡ true → 1 ≤ (if b then 1 else 0) + count_by p reasons
-    by true f = omega arith
-    by false f = (let more = some_met p reasons f in omega (arith, more))
+    subst (λ (n : ℕ). 1 ≤ n) (sym (sum_by-cons (λ (z : Reason). if p z then 1 else 0) reason reasons))
+    (one_met (p reason) (list_any p reasons) (count_by p reasons) (some_met p reasons) e)
 
 rose_once : (most before count now : ℕ) → 1 ≤ count → min (before + count) most ≤ now → min (before + 1) most ≤ now
 rose_once most before count now some e = omega (arith, some, e)
@@ -162,7 +163,7 @@ pub record IsLast (went : Journal → Type 0) (link_before link_now : ℕ) (page
 -- what the status says of the flash
 module _ {went : Journal → Type 0} {link_before link_now : ℕ} {pages_told : Bool} {catalog : Catalog} {at : List ℕ} {texts : List (List ℕ)} {since now : Outside} {tally : Tally}
     (ran : HasRun went link_before link_now pages_told catalog at texts since now tally) where
-  session : Left
+  abbrev session : Left
   session = left catalog (asked_of catalog.schema texts) ran.journal
 
   pub flash_rose : blames_flash tally.status ≡ true → Rose since.flash.faults now.flash.faults
