@@ -11,6 +11,7 @@ ghost use Rattle.session_laws.specs.Local.{holding_of};
 ghost use Rattle.edge_traits.specs.Devices.{KeepsPages};
 ghost use Rattle.key_exec.specs.Plans.{Suffices};
 ghost use Rattle.session_replies.specs.Kept.{IsKept, none_heard};
+ghost use Rattle.local_links.specs.Keeping.{named};
 ghost use Rattle.key_session.specs.Running as session;
 ghost use Rattle.key_local.specs.Preparing.{IsHosted};
 ghost use Rattle.key_local.specs.Running.{RanOver, IsSomeHosted, is_of_local, is_damage, clears_journal, clears_flash};
@@ -62,8 +63,50 @@ fn end_of(status: SessionStatus, append_failed: bool) -> LocalEnd
     }
 }
 
-/// Runs the session of a script, which has at most 64 texts, over a link to a host in the process, and keeps its journal
-/// where a file is named for it.
+/// Runs the session of a script, which has at most 64 texts, over a link to a host in the process that keeps a journal.
+fn hold<D: Depot, F: Flash, O: Sink>(
+    cat: &Catalog,
+    script: &[u8],
+    replies: &mut Replies,
+    flash: &mut F,
+    link: &mut Journaled<'_, HostLink<MemDepot>, D>,
+    out: &mut O,
+) -> LocalEnd
+    requires few { length (texts_of script.now) ≤ 64 }
+    requires suffices { Suffices cat.now (F.state flash.old) }
+    requires replies { IsKept cat.now (none_heard cat.now) 1 0 replies.old }
+    requires going { link.old.failed ≡ false }
+    requires hosted { IsSomeHosted ⟦<MemDepot as Depot>⟧.contents ⟦<MemDepot as Depot>⟧.sure cat.now link.old.link.now }
+    ensures same_link { link.new.link.ghost_name ≡ link.old.link.ghost_name }
+    ensures same_depot { link.new.depot.ghost_name ≡ link.old.depot.ghost_name }
+    ensures ran { (database : Database) → IsCatalogOf cat.now database
+        → IsHosted ⟦<MemDepot as Depot>⟧.contents ⟦<MemDepot as Depot>⟧.sure (holding_of cat.now database) link.old.link.now
+        → (F.told ≡ true → HoldsColumns (F.state flash.old).page cat.now (hidden_of cat.now.schema database))
+        → RanOver F.told cat.now database (texts_of script.now) (named link.old) result
+        (world (F.state flash.old) (D.contents link.old.depot.now) (D.append_faults link.old.depot.now) (O.faults out.old) (O.written out.old))
+        (world (F.state flash.new) (D.contents link.new.depot.now) (D.append_faults link.new.depot.now) (O.faults out.new) (O.written out.new)) }
+    ensures pages { KeepsPages (F.state flash.old) (F.state flash.new) }
+    ensures others { SameBesides (named link.old) (D.contents link.old.depot.now) (D.contents link.new.depot.now) }
+    ensures sink { is_sink result ≡ true → Rose (O.faults out.old) (O.faults out.new) }
+    ensures no_sink { is_sink result ≡ false → O.faults out.new ≡ O.faults out.old }
+    ensures depot { result ≡ LocalEnd.Depot → Rose (D.faults link.old.depot.now) (D.faults link.new.depot.now) }
+    ensures no_depot { clears_journal result ≡ true → D.faults link.new.depot.now ≡ D.faults link.old.depot.now }
+    ensures append { result ≡ LocalEnd.Depot → Rose (D.append_faults link.old.depot.now) (D.append_faults link.new.depot.now) }
+    ensures no_append { clears_journal result ≡ true → D.append_faults link.new.depot.now ≡ D.append_faults link.old.depot.now }
+    ensures flash { result ≡ LocalEnd.Flash → Rose (F.state flash.old).faults (F.state flash.new).faults }
+    ensures no_flash { clears_flash result ≡ true → (F.state flash.new).faults ≡ (F.state flash.old).faults }
+{
+    a_catalog_is_short(cat);
+    schemas_are_trees();
+    sessions_are_local::<MemDepot>();
+    proper_journals_are_written::<HostLink<MemDepot>, D>();
+    local_sessions_are_served();
+    told_texts_are_given();
+    let tally = run_session(cat, script, "", replies, flash, link, out);
+    end_of(tally.status, link.failed())
+}
+
+/// Runs that session, and keeps its journal where a file is named for it.
 pub(crate) fn run<D: Depot, F: Flash, O: Sink>(
     cat: &Catalog,
     script: &[u8],
@@ -95,14 +138,6 @@ pub(crate) fn run<D: Depot, F: Flash, O: Sink>(
     ensures flash { result ≡ LocalEnd.Flash → Rose (F.state flash.old).faults (F.state flash.new).faults }
     ensures no_flash { clears_flash result ≡ true → (F.state flash.new).faults ≡ (F.state flash.old).faults }
 {
-    a_catalog_is_short(cat);
-    schemas_are_trees();
-    sessions_are_local::<MemDepot>();
-    proper_journals_are_written::<HostLink<MemDepot>, D>();
-    local_sessions_are_served();
-    told_texts_are_given();
     let mut journaled = Journaled::new(link, depot, journal);
-    let tally = run_session(cat, script, "", replies, flash, &mut journaled, out);
-    let failed = journaled.failed();
-    end_of(tally.status, failed)
+    hold(cat, script, replies, flash, &mut journaled, out)
 }
