@@ -3,7 +3,7 @@ use Rattle.std.proofs.Common.{◌≡◌, ℕ, List, [], Option, Some, refl, sym,
 use Rattle.ghost_model.specs.Catalog.{catalog_bytes}
 use Rattle.ghost_model.specs.CatalogLaws.{CatalogsHaveOneSpelling}
 use Rattle.ghost_model.specs.Channel.{Catalog}
-use Rattle.ghost_model.specs.Host.{host_of}
+use Rattle.ghost_model.specs.Host.{Holding, host_of}
 use Rattle.ghost_model.specs.Host as standing
 use Rattle.ghost_model.specs.Split.{Public, SpellsImage, cells_of_tables}
 use Rattle.edge_traits.specs.Files.{Files, file_of}
@@ -15,6 +15,8 @@ use Rattle.host_exec.specs.Saying.{Stands}
 use Rattle.host_exec.specs.declared.host.Host.{Host}
 use Rattle.host_exec.specs.declared.stage.Stage.{Stage}
 use Rattle.host_exec.specs.declared.stage.Stage.TheVariants as stage
+use Rattle.local_links.specs.declared.host_link.HostLink.{HostLink}
+use Rattle.key_local.specs.Preparing.{IsHosted}
 
 one_image : CatalogsHaveOneSpelling → {catalog other : Catalog} {public shown : Public} (file : List ℕ) → SpellsImage catalog public file → SpellsImage other shown file → catalog ≡ other
 one_image laws {catalog} {other} {public} {shown} file first second =
@@ -39,3 +41,8 @@ awaits_greeting host file at =
 pub finds_file : (old new : Option Files) (name mine file : List ℕ) → new ≡ old → mine ≡ name → file_of old name ≡ Some file → file_of new mine ≡ Some file
 finds_file old new name mine file same named is =
     ap (λ (held : Option Files). file_of held mine) same ∙ (ap (file_of old) named ∙ is)
+
+-- a link is as before
+pub hosted_as : {D : Type 0} (contents : D → Option Files) (sure : D → List ℕ → Type 0) (held : Holding) (first second : HostLink D) → first ≡ second
+    → IsHosted contents sure held first → IsHosted contents sure held second
+hosted_as {D} contents sure held first second same hosted = subst (λ (link : HostLink D). IsHosted contents sure held link) same hosted
