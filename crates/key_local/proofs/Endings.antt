@@ -8,7 +8,7 @@ use Rattle.ghost_model.specs.Flash.{HoldsCatalog, HoldsColumns}
 use Rattle.ghost_model.specs.Layout.{need}
 use Rattle.ghost_model.specs.Printed.{printed}
 use Rattle.ghost_model.specs.Schema.{Schema}
-use Rattle.ghost_model.specs.Split.{hidden_of}
+use Rattle.ghost_model.specs.Split.{Hidden, hidden_of}
 use Rattle.ghost_model.specs.Texts.{texts_of}
 use Rattle.ghost_model.specs.Values.{Database}
 use Rattle.ghost_model.specs.Work.{pages_built}
@@ -42,6 +42,12 @@ gives_since schema database texts failed before middle after faults sink written
       (subst (λ (count : ℕ). Hands (bytes_given gives.given) (handed false count middle.written) (handed failed after.sink_faults after.written)) sink gives.handed_on);
   blamed = subst (λ (count : ℕ). min (count + count_by is_cut gives.given) last_count ≤ after.device.faults) faults gives.blamed;
 }
+
+-- the columns that were written are those of the catalog's database
+pub columns_stand : (page : ℕ → List ℕ) (catalog : Catalog) (schema : Schema) (database : Database) (hidden : Hidden) → catalog ≡ catalog_for schema database → hidden ≡ hidden_of schema database
+    → HoldsColumns page catalog hidden → HoldsColumns page catalog (hidden_of catalog.schema database)
+columns_stand page catalog schema database hidden same is holds =
+    subst (λ (part : Hidden). HoldsColumns page catalog part) (is ∙ sym (ap (λ (c : Catalog). hidden_of c.schema database) same)) holds
 
 -- the session ran over what was made for it
 pub ran_of : (told : Bool) (schema : Schema) (database : Database) (texts : List (List ℕ)) (name : Option (List ℕ)) (end : LocalEnd) (catalog : Catalog) (before middle after : World)

@@ -9,6 +9,8 @@ use Rattle.ghost_model.specs.NextMove.{Left, left, heard, IsFinished}
 use Rattle.ghost_model.specs.Printed.{printed}
 use Rattle.ghost_model.specs.Split.{hidden_of}
 use Rattle.ghost_model.specs.Values.{Database}
+use Rattle.edge_traits.specs.Devices.{Device}
+use Rattle.edge_traits.specs.Files.{Files}
 use Rattle.edge_traits.specs.Written.{grown}
 use Rattle.session_laws.specs.Local.{IsLocal, IsUnbroken, LocalSessionsAreServed}
 use Rattle.key_session.specs.Refusing.{first_code}
@@ -19,7 +21,7 @@ use Rattle.key_session.specs.declared.tally.SessionStatus.TheVariants as status
 use Rattle.key_session.specs.declared.tally.Tally.{Tally}
 use Rattle.local_lines.specs.Lines.{Gives, GivesByTally, ToldTextsAreGiven, is_cut}
 use Rattle.key_local.specs.Running.{RanOver, KeepsLines, is_damage}
-use Rattle.key_local.specs.Sessions.{World, outside_in, is_sink, is_damaged}
+use Rattle.key_local.specs.Sessions.{World, world, outside_in, is_sink, is_damaged}
 use Rattle.key_local.specs.declared.ends.LocalEnd.{LocalEnd}
 use Rattle.key_local.specs.declared.ends.LocalEnd.TheVariants as ends
 use Rattle.key_local.proofs.Statuses.{none_stops, no_code, whole_status, no_damage}
@@ -77,3 +79,14 @@ ran_over told catalog database texts name end tally before after journal served 
           let none_found : is_damage tally.status ≡ false = ap is_damage all.status_is ∙ no_damage (wrote_none tally.status) (left catalog (asked_of catalog.schema texts) journal) (list_any is_cut all.gives.given) stays right none in
           false_is_not (sym none_found ∙ damaged found));
     }
+
+-- and so over what the files and their counts are known to be
+pub ran_as : {D : Type 0} (contents : D → Option Files) (appends : D → ℕ) (told : Bool) (catalog : Catalog) (database : Database) (texts : List (List ℕ)) (name called : Option (List ℕ)) (end : LocalEnd)
+    (device device_now : Device) (before earlier after later : D) (faults faults_now : ℕ) (written written_now : Option (List ℕ))
+    → name ≡ called → before ≡ earlier → after ≡ later
+    → RanOver told catalog database texts name end (world device (contents before) (appends before) faults written) (world device_now (contents after) (appends after) faults_now written_now)
+    → RanOver told catalog database texts called end (world device (contents earlier) (appends earlier) faults written) (world device_now (contents later) (appends later) faults_now written_now)
+ran_as {D} contents appends told catalog database texts name called end device device_now before earlier after later faults faults_now written written_now names starts comes ran =
+    subst (λ (one : Option (List ℕ)). RanOver told catalog database texts one end (world device (contents earlier) (appends earlier) faults written) (world device_now (contents later) (appends later) faults_now written_now)) names
+    (subst (λ (d : D). RanOver told catalog database texts name end (world device (contents d) (appends d) faults written) (world device_now (contents later) (appends later) faults_now written_now)) starts
+    (subst (λ (d : D). RanOver told catalog database texts name end (world device (contents before) (appends before) faults written) (world device_now (contents d) (appends d) faults_now written_now)) comes ran))

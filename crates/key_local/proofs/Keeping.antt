@@ -27,6 +27,12 @@ pub besides_kept : (name : Option (List ℕ)) (text : List ℕ) (before after : 
 besides_kept None text before after wrote = ap (λ (l : Log). l.contents) wrote
 besides_kept (Some name) text before after wrote = wrote.others
 
+-- two such changes are one
+pub besides_joined : (name : Option (List ℕ)) (before between after : Option Files) → SameBesides name before between → SameBesides name between after → SameBesides name before after
+besides_joined None before between after one other = other ∙ one
+besides_joined (Some name) before between after one other =
+    record { told = other.told ∙ one.told; others = λ file differs. other.others file differs ∙ one.others file differs }
+
 false_is_not : false ≡ true → ⊥
 false_is_not e = cc
 

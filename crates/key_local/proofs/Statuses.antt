@@ -39,6 +39,10 @@ of_local false session true damage going valid none = rw (going, valid, none) re
 of_local false session false None going valid none = rw (going, valid, none) refl
 of_local false session false (Some found) going valid none = rw (going, valid, none) refl
 
+pub is_local_status : (one : SessionStatus) (failed : Bool) (session : Left) (by_flash : Bool) (damage : Option Damage) → one ≡ status_with failed session by_flash damage
+    → session.stopped ≡ false → session.heard.broken ≡ false → first_code session.heard.ended ≡ None → is_of_local one ≡ true
+is_local_status one failed session by_flash damage is going valid none = ap is_of_local is ∙ of_local failed session by_flash damage going valid none
+
 -- all is well only where the flash failed in no text
 pub whole_status : (failed : Bool) (session : Left) (by_flash : Bool) → session.stopped ≡ false → session.heard.broken ≡ false
     → first_code session.heard.ended ≡ None → status_of failed session by_flash ≡ status.Ok → by_flash ≡ false

@@ -11,6 +11,7 @@ ghost use Rattle.session_laws.specs.Local.{holding_of};
 ghost use Rattle.edge_traits.specs.Devices.{KeepsPages};
 ghost use Rattle.key_exec.specs.Plans.{Suffices};
 ghost use Rattle.session_replies.specs.Kept.{IsKept, none_heard};
+ghost use Rattle.local_links.specs.Keeping.{named};
 ghost use Rattle.key_session.specs.Running as session;
 ghost use Rattle.key_local.specs.Preparing.{IsHosted};
 ghost use Rattle.key_local.specs.Running.{RanOver, IsSomeHosted, is_of_local, is_damage, clears_journal, clears_flash};
@@ -21,16 +22,16 @@ use edge_traits::depot::Depot;
 use edge_traits::flash::Flash;
 use edge_traits::mem_depot::MemDepot;
 use edge_traits::sink::Sink;
+use ghost_model::schema::schemas_are_trees;
 use key_session::{Damage, SessionStatus, run_session};
 use local_lines::laws::told_texts_are_given;
 use local_links::host_link::HostLink;
 use local_links::journaled::Journaled;
-use local_links::laws::{local_moves_are_short, sessions_are_local};
-use session_laws::local::{local_sessions_are_served};
+use local_links::laws::{proper_journals_are_written, sessions_are_local};
+use session_laws::local::local_sessions_are_served;
 use session_replies::Replies;
 use tree_schema::Catalog;
 use tree_schema::catalog_bytes::a_catalog_is_short;
-use tree_schema::schema::schemas_are_trees;
 
 /// How a session ended, by what it answers and by whether an append to the journal failed.
 fn end_of(status: SessionStatus, append_failed: bool) -> LocalEnd
@@ -38,7 +39,7 @@ fn end_of(status: SessionStatus, append_failed: bool) -> LocalEnd
     ensures sink { is_sink result ≡ session.is_sink status }
     ensures depot { result ≡ LocalEnd.Depot → append_failed ≡ true }
     ensures no_depot { clears_journal result ≡ true → append_failed ≡ false }
-    ensures flash { result ≡ LocalEnd.Flash → status ≡ SessionStatus.Flash }
+    ensures flash { result ≡ LocalEnd.Flash → session.blames_flash status ≡ true }
     ensures no_flash { clears_flash result ≡ true → session.spares_flash status ≡ true }
     ensures whole { result ≡ LocalEnd.Ok → status ≡ SessionStatus.Ok }
     ensures damaged { is_damaged result ≡ true → is_damage status ≡ true }
@@ -62,8 +63,50 @@ fn end_of(status: SessionStatus, append_failed: bool) -> LocalEnd
     }
 }
 
-/// Runs the session of a script, which has at most 64 texts, over a link to a host in the process, and keeps its journal
-/// where a file is named for it.
+/// Runs the session of a script, which has at most 64 texts, over a link to a host in the process that keeps a journal.
+fn hold<D: Depot, F: Flash, O: Sink>(
+    cat: &Catalog,
+    script: &[u8],
+    replies: &mut Replies,
+    flash: &mut F,
+    link: &mut Journaled<'_, HostLink<MemDepot>, D>,
+    out: &mut O,
+) -> LocalEnd
+    requires few { length (texts_of script.now) ≤ 64 }
+    requires suffices { Suffices cat.now (F.state flash.old) }
+    requires replies { IsKept cat.now (none_heard cat.now) 1 0 replies.old }
+    requires going { link.old.failed ≡ false }
+    requires hosted { IsSomeHosted ⟦<MemDepot as Depot>⟧.contents ⟦<MemDepot as Depot>⟧.sure cat.now link.old.link.now }
+    ensures same_link { link.new.link.ghost_name ≡ link.old.link.ghost_name }
+    ensures same_depot { link.new.depot.ghost_name ≡ link.old.depot.ghost_name }
+    ensures ran { (database : Database) → IsCatalogOf cat.now database
+        → IsHosted ⟦<MemDepot as Depot>⟧.contents ⟦<MemDepot as Depot>⟧.sure (holding_of cat.now database) link.old.link.now
+        → (F.told ≡ true → HoldsColumns (F.state flash.old).page cat.now (hidden_of cat.now.schema database))
+        → RanOver F.told cat.now database (texts_of script.now) (named link.old) result
+        (world (F.state flash.old) (D.contents link.old.depot.now) (D.append_faults link.old.depot.now) (O.faults out.old) (O.written out.old))
+        (world (F.state flash.new) (D.contents link.new.depot.now) (D.append_faults link.new.depot.now) (O.faults out.new) (O.written out.new)) }
+    ensures pages { KeepsPages (F.state flash.old) (F.state flash.new) }
+    ensures others { SameBesides (named link.old) (D.contents link.old.depot.now) (D.contents link.new.depot.now) }
+    ensures sink { is_sink result ≡ true → Rose (O.faults out.old) (O.faults out.new) }
+    ensures no_sink { is_sink result ≡ false → O.faults out.new ≡ O.faults out.old }
+    ensures depot { result ≡ LocalEnd.Depot → Rose (D.faults link.old.depot.now) (D.faults link.new.depot.now) }
+    ensures no_depot { clears_journal result ≡ true → D.faults link.new.depot.now ≡ D.faults link.old.depot.now }
+    ensures append { result ≡ LocalEnd.Depot → Rose (D.append_faults link.old.depot.now) (D.append_faults link.new.depot.now) }
+    ensures no_append { clears_journal result ≡ true → D.append_faults link.new.depot.now ≡ D.append_faults link.old.depot.now }
+    ensures flash { result ≡ LocalEnd.Flash → Rose (F.state flash.old).faults (F.state flash.new).faults }
+    ensures no_flash { clears_flash result ≡ true → (F.state flash.new).faults ≡ (F.state flash.old).faults }
+{
+    a_catalog_is_short(cat);
+    schemas_are_trees();
+    sessions_are_local::<MemDepot>();
+    proper_journals_are_written::<HostLink<MemDepot>, D>();
+    local_sessions_are_served();
+    told_texts_are_given();
+    let tally = run_session(cat, script, "", replies, flash, link, out);
+    end_of(tally.status, link.failed())
+}
+
+/// Runs that session, and keeps its journal where a file is named for it.
 pub(crate) fn run<D: Depot, F: Flash, O: Sink>(
     cat: &Catalog,
     script: &[u8],
@@ -95,14 +138,6 @@ pub(crate) fn run<D: Depot, F: Flash, O: Sink>(
     ensures flash { result ≡ LocalEnd.Flash → Rose (F.state flash.old).faults (F.state flash.new).faults }
     ensures no_flash { clears_flash result ≡ true → (F.state flash.new).faults ≡ (F.state flash.old).faults }
 {
-    a_catalog_is_short(cat);
-    schemas_are_trees();
-    sessions_are_local::<MemDepot>();
-    local_moves_are_short();
-    local_sessions_are_served();
-    told_texts_are_given();
     let mut journaled = Journaled::new(link, depot, journal);
-    let tally = run_session(cat, script, "", replies, flash, &mut journaled, out);
-    let failed = journaled.failed();
-    end_of(tally.status, failed)
+    hold(cat, script, replies, flash, &mut journaled, out)
 }

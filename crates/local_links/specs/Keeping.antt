@@ -1,5 +1,5 @@
 -- A link that keeps a journal of another: each move is made on that one, and its line goes to the end of a file.
-use Rattle.std.specs.Prelude.{◌≡◌, ℕ, Bool, true, ◌+◌, nat_le, List, [], length, Option, None, Some}
+use Rattle.std.specs.Prelude.{◌≡◌, ℕ, Bool, true, ◌+◌, nat_le, List, [], length, Option, None, Some, if◌then◌else◌}
 use Rattle.std.specs.List.{list_all}
 use Rattle.ghost_model.specs.Channel.{Move, Dial, Listen, Accept, Send, Take, Close, Entry, Journal}
 use Rattle.ghost_model.specs.Moves.{lines, piece_of}
@@ -39,10 +39,7 @@ log_of contents faults append_faults link = log (contents link.depot.now) (fault
 
 -- the file that is named, if one is
 abbrev pub named : {L D : Type 0} → Journaled L D → Option (List ℕ)
-named link = elim link.name [
-  | None ↦ None
-  | Some name ↦ Some name.now
-]
+named link = if link.is_named then Some link.name.now else None
 
 -- text was to be added to the file, if one is named
 abbrev pub Writes : Option (List ℕ) → (text : List ℕ) → Log → Log → Type 0
@@ -53,7 +50,7 @@ Writes (Some name) text before after = Extends name text before after
 pub record Kept {L D : Type 0} (Went : L → Journal → L → Type 0) (contents : D → Option Files) (faults append_faults : D → ℕ) (before : Journaled L D) (journal : Journal) (after : Journaled L D) : Type 0 where
   pub same_link : after.link.ghost_name ≡ before.link.ghost_name
   pub same_depot : after.depot.ghost_name ≡ before.depot.ghost_name
-  pub same_name : after.name ≡ before.name
+  pub same_name : named after ≡ named before
   pub moved : Went before.link.now journal after.link.now
   pub within : list_all is_within journal ≡ true
   pub wrote : list_all is_short journal ≡ true

@@ -58,10 +58,7 @@ kept_joins Went contents faults append_faults joins old between new first more o
   within = all_within first more one.within other.within;
   wrote = λ short.
       let both = all_short first more short in
-      let later = subst (λ n. Writes (elim n [
-        | None ↦ None
-        | Some name ↦ Some name.now
-      ]) (lines more) (log_of contents faults append_faults between) (log_of contents faults append_faults new)) one.same_name (other.wrote both.1) in
+      let later = subst (λ n. Writes n (lines more) (log_of contents faults append_faults between) (log_of contents faults append_faults new)) one.same_name (other.wrote both.1) in
       subst (λ text. Writes (named old) text (log_of contents faults append_faults old) (log_of contents faults append_faults new)) (sym (flat_map-append line first more))
       (writes_more (named old) (lines first) (lines more) _ _ _ (one.wrote both.0) later);
 }

@@ -1,6 +1,6 @@
 //! A link that keeps a journal of another.
 
-ghost use Rattle.std.specs.Prelude.{◌≡◌, ◌≤◌, ◌∷◌, [], true, false, length, IfOk};
+ghost use Rattle.std.specs.Prelude.{◌≡◌, ◌≤◌, ◌∷◌, [], true, false, length, option_map, IfOk};
 ghost use Rattle.ghost_model.specs.Moves.{line};
 ghost use Rattle.edge_traits.specs.Links.{done, gave};
 ghost use Rattle.local_links.specs.Journaling.{answer_view, entry_of, move_bytes, answer_bytes, log, Extends};
@@ -24,7 +24,8 @@ const MOST_BYTES: usize = 2048;
 pub struct Journaled<'a, L, D> {
     link: &'a mut L,
     depot: &'a mut D,
-    name: Option<&'a str>,
+    name: &'a str,
+    is_named: bool,
     failed: bool,
 }
 
@@ -102,13 +103,14 @@ impl<'a, L: Link, D: Depot> Journaled<'a, L, D> {
         ensures moves { result.link.now ≡ link.old }
         ensures depot { result.depot.ghost_name ≡ depot.entry.ghost_name }
         ensures files { result.depot.now ≡ depot.old }
-        ensures name { result.name ≡ name.entry }
+        ensures name { named result ≡ option_map (λ one. one.now) name.entry }
         ensures going { result.failed ≡ false }
     {
         Journaled {
             link,
             depot,
-            name,
+            name: name.unwrap_or(""),
+            is_named: name.is_some(),
             failed: false,
         }
     }
@@ -125,12 +127,12 @@ impl<'a, L: Link, D: Depot> Journaled<'a, L, D> {
         ensures same_link { self.new.link.ghost_name ≡ self.old.link.ghost_name }
         ensures moves { self.new.link.now ≡ self.old.link.now }
         ensures same_depot { self.new.depot.ghost_name ≡ self.old.depot.ghost_name }
-        ensures name { self.new.name ≡ self.old.name }
+        ensures name { named self.new ≡ named self.old }
         ensures wrote { is_short (entry_of made.now answer.now) ≡ true → Writes (named self.old) (line (entry_of made.now answer.now))
             (log_of D.contents D.faults D.append_faults self.old) (log_of D.contents D.faults D.append_faults self.new) }
     {
-        if let Some(name) = self.name {
-            self.failed = keep_line(self.depot, name, self.failed, made, answer);
+        if self.is_named {
+            self.failed = keep_line(self.depot, self.name, self.failed, made, answer);
         }
     }
 }

@@ -1,0 +1,44 @@
+use Rattle.std.proofs.Common.{[]}
+use Rattle.std.specs.List.{list_any}
+use Rattle.ghost_model.specs.Asks.{asked_of}
+use Rattle.ghost_model.specs.Catalog.{canonical_text}
+use Rattle.ghost_model.specs.NextMove.{left}
+use Rattle.ghost_model.specs.Texts.{texts_of}
+use Rattle.key_session.specs.Counting.{is_flash}
+use Rattle.key_session.specs.Running.{is_sink}
+use Rattle.key_local.proofs.Settings.{setting_of}
+use Rattle.key_local.proofs.Statuses.{is_local_status}
+use Rattle.key_local.proofs.Giving.{ran_over, going, valid, granted}
+use Rattle.key_local.proofs.Keeping.{lines_kept}
+use Rattle.key_local.proofs.running.hold.Goals as goal
+
+pub end_of-requires : goal.end_of-requires
+end_of-requires g c =
+    let cat = c.args.cat.now in
+    let texts = texts_of c.args.script.now in
+    let is = c.a_catalog_is_short.ensures.catalog in
+    let ran = c.run_session-tally.ensures.ran in
+    let some = c.requires.hosted in
+    let setting = setting_of cat texts is (c.schemas_are_trees.ensures (canonical_text cat.schema) cat.schema is.meant) c.requires.few in
+    let goes = c.sessions_are_local.ensures.is_local cat some.database [] texts ran.journal _ _ setting some.stored ran.proper ran.went.moved some.hosted.is_sure some.hosted.at_first in
+    let unbroken = c.local_sessions_are_served.ensures cat some.database [] texts ran.journal goes.is_local in
+    record {
+      of_local = is_local_status c.run_session-tally.result.status (is_sink c.run_session-tally.result.status) (left cat (asked_of cat.schema texts) ran.journal) (list_any is_flash ran.reasons.reasons) ran.reasons.counted.damage
+          ran.reasons.counted.status_is
+          (going cat some.database texts ran.journal unbroken) (valid cat some.database texts ran.journal unbroken) (granted cat some.database texts ran.journal unbroken);
+    }
+
+pub returns-clause-ran : goal.returns-clause-ran
+returns-clause-ran g c = λ database stored hosted columns.
+    let cat = c.args.cat.now in
+    let texts = texts_of c.args.script.now in
+    let is = c.a_catalog_is_short.ensures.catalog in
+    let ran = c.run_session-tally.ensures.ran in
+    let setting = setting_of cat texts is (c.schemas_are_trees.ensures (canonical_text cat.schema) cat.schema is.meant) c.requires.few in
+    let goes = c.sessions_are_local.ensures.is_local cat database [] texts ran.journal _ _ setting stored ran.proper ran.went.moved hosted.is_sure hosted.at_first in
+    let wrote = c.proper_journals_are_written.ensures.written cat [] texts ran.journal _ _ setting ran.proper ran.went in
+    ran_over g.F.Flash.told cat database texts _ c.end_of.result c.run_session-tally.result _ _ ran.journal c.local_sessions_are_served.ensures c.told_texts_are_given.ensures.given
+    goes.is_local ran.finished
+    (λ calm. lines_kept _ ran.journal _ _ wrote c.requires.going calm)
+    (λ t. ran.told database (record { is_told = t; is = stored.is_database; counts = stored.counts_are; holds = columns t }))
+    c.end_of.ensures.sink c.end_of.ensures.whole c.end_of.ensures.damaged
