@@ -94,7 +94,7 @@ fn each_frame_is_given_in_hexadecimal(rt: HostRuntime) {
     let doctors = b"\0\0\0\x01cardio\0\0\0\0\0\x03cardio\0\0";
     let visits =
         b"\0\0\0\x01\x80\0\0\0\0\0\0\x05\0\0\0\x02\x80\0\0\0\0\0\0\x05\0\0\0\x03\x80\0\0\0\0\0\0\x09\0\0\0\x04\x80\0\0\0\0\0\0\x02";
-    let frames: [(Frame, &str); 19] = [
+    let frames: [(Frame, &str); 20] = [
         (
             Frame::Hello { generation: 1 },
             "01 01 0004 00000000 00000001",
@@ -195,6 +195,13 @@ fn each_frame_is_given_in_hexadecimal(rt: HostRuntime) {
                 payload: cardio,
             },
             "0201000e0000000200010101010163617264696f0000",
+        ),
+        (
+            Frame::Rows {
+                serial: 2,
+                rows: doctors,
+            },
+            "1201001800000002 0000000163617264696f00000000000363617264696f0000",
         ),
         (Frame::More { serial: 2 }, "0301000000000002"),
         (
