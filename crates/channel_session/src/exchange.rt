@@ -1,6 +1,7 @@
 //! The moves of a session.
 
 ghost use Rattle.std.specs.Prelude.{◌≡◌, ◌≢◌, ◌+◌, ◌<◌, ◌≤◌, ◌∷◌, List, ℕ, Some, IfOk, [], true, take};
+ghost use Rattle.ghost_model.specs.Causes.{HasCause};
 ghost use Rattle.ghost_model.specs.Channel as channel;
 ghost use Rattle.ghost_model.specs.Channel.{Catalog, Journal};
 ghost use Rattle.ghost_model.specs.Asks.{Asked};
@@ -10,6 +11,7 @@ ghost use Rattle.channel_pump.specs.Forms.{are_known};
 ghost use Rattle.channel_pump.specs.Here.{moves_left};
 ghost use Rattle.channel_pump.specs.State.{IsAfter, want_of};
 ghost use Rattle.edge_traits.specs.Links.{entry};
+ghost use Rattle.channel_session.specs.Entries.{WentBy};
 ghost use Rattle.channel_session.specs.Sessions.{IsLive, Moved, gave_at};
 
 use channel_pump::laws::pages_keep_the_part;
@@ -46,7 +48,7 @@ impl<'a> Exchange<'a> {
     pub fn step<L: Link>(&mut self, at: &str, link: &mut L) -> Event
         requires going { want_of self.old.pump ≢ Want.Closed }
         ensures moved { (catalog : Catalog) (asks : List Asked) (journal : Journal) → IsLive catalog at.now asks journal self.old
-            → Moved (λ more. L.went link.old more link.new) catalog at.now asks journal result self.new }
+            → Moved (WentBy (λ more. L.went link.old more link.new) (L.faults link.old) (L.faults link.new)) catalog at.now asks journal result self.new }
         ensures known { are_known self.old.pump.rest ≡ true → are_known self.new.pump.rest ≡ true }
         ensures fewer { moves_left self.new.pump < moves_left self.old.pump }
         ensures faults { L.faults link.old ≤ L.faults link.new }
@@ -65,7 +67,7 @@ impl<'a> Exchange<'a> {
         requires wanted { want_of self.old.pump ≡ Want.Dial }
         ensures moved { (catalog : Catalog) (asks : List Asked) (journal : Journal) → IsLive catalog at.now asks journal self.old
             → next_with catalog at.now asks journal ≡ Some (channel.Dial at.now)
-            → Moved (λ more. L.went link.old more link.new) catalog at.now asks journal result self.new }
+            → Moved (WentBy (λ more. L.went link.old more link.new) (L.faults link.old) (L.faults link.new)) catalog at.now asks journal result self.new }
         ensures known { are_known self.old.pump.rest ≡ true → are_known self.new.pump.rest ≡ true }
         ensures fewer { moves_left self.new.pump < moves_left self.old.pump }
         ensures faults { L.faults link.old ≤ L.faults link.new }
@@ -82,7 +84,7 @@ impl<'a> Exchange<'a> {
     fn send<L: Link>(&mut self, link: &mut L) -> Event
         requires wanted { want_of self.old.pump ≡ Want.Send }
         ensures moved { (catalog : Catalog) (at : List ℕ) (asks : List Asked) (journal : Journal) → IsLive catalog at asks journal self.old
-            → Moved (λ more. L.went link.old more link.new) catalog at asks journal result self.new }
+            → Moved (WentBy (λ more. L.went link.old more link.new) (L.faults link.old) (L.faults link.new)) catalog at asks journal result self.new }
         ensures known { are_known self.old.pump.rest ≡ true → are_known self.new.pump.rest ≡ true }
         ensures fewer { moves_left self.new.pump < moves_left self.old.pump }
         ensures faults { L.faults link.old ≤ L.faults link.new }
@@ -104,7 +106,7 @@ impl<'a> Exchange<'a> {
         requires fits { place + most ≤ 2048 }
         ensures moved { (catalog : Catalog) (at : List ℕ) (asks : List Asked) (journal : Journal) → IsLive catalog at asks journal self.old
             → next_with catalog at asks journal ≡ Some (channel.Take most)
-            → Moved (λ more. L.went link.old more link.new) catalog at asks journal result self.new }
+            → Moved (WentBy (λ more. L.went link.old more link.new) (L.faults link.old) (L.faults link.new)) catalog at asks journal result self.new }
         ensures known { are_known self.old.pump.rest ≡ true → are_known self.new.pump.rest ≡ true }
         ensures fewer { moves_left self.new.pump < moves_left self.old.pump }
         ensures faults { L.faults link.old ≤ L.faults link.new }
@@ -133,7 +135,7 @@ impl<'a> Exchange<'a> {
         requires wanted { want_of self.old.pump ≡ Want.Close }
         ensures moved { (catalog : Catalog) (at : List ℕ) (asks : List Asked) (journal : Journal) → IsLive catalog at asks journal self.old
             → next_with catalog at asks journal ≡ Some channel.Close
-            → Moved (λ more. L.went link.old more link.new) catalog at asks journal result self.new }
+            → Moved (WentBy (λ more. L.went link.old more link.new) (L.faults link.old) (L.faults link.new)) catalog at asks journal result self.new }
         ensures known { are_known self.old.pump.rest ≡ true → are_known self.new.pump.rest ≡ true }
         ensures fewer { moves_left self.new.pump < moves_left self.old.pump }
         ensures faults { L.faults link.old ≤ L.faults link.new }
@@ -155,9 +157,9 @@ fn take_piece<L: Link>(
     requires some { 0 < most }
     requires fits { at + most ≤ 2048 }
     ensures went { L.went link.old (entry (channel.Take most) (gave_at at result page.new) ∷ []) link.new }
+    ensures cause { HasCause (L.faults link.old) (L.faults link.new) result }
     ensures within { IfOk result (λ count. count ≤ most) }
     ensures front { take at page.new ≡ take at page.old }
-    ensures faults { L.faults link.old ≤ L.faults link.new }
 {
     let (_front, rest) = page.split_at_mut(at);
     let (place, _rest) = rest.split_at_mut(most);

@@ -14,7 +14,8 @@ use Rattle.text_lines.specs.Rows.{PrintsSome}
 use Rattle.text_lines.specs.Texts.{ToldTells}
 use Rattle.text_lines.specs.declared.text.Told.{Told}
 use Rattle.text_lines.specs.declared.text.Told.TheVariants as told
-use Rattle.key_session.specs.Counting.{reason_of, is_refusal, is_fault, is_flash, is_damage, one_if, IsCounted, AreCounted}
+use Rattle.key_session.specs.Counting.{reason_of, is_refusal, is_fault, is_flash, is_damage, one_if, IsCounted, AreCounted, AreUndamaged}
+use Rattle.key_session.specs.Reasons.{HasReason, HaveReasons}
 use Rattle.key_session.specs.Telling.{Outside, TextTold, reasons_of, bytes_of, bytes_told, IsTold, AreTold, AreLeft}
 use Rattle.key_session.specs.declared.counts.Counts.{Counts}
 
@@ -48,14 +49,20 @@ or_none : (b : Bool) → (b || false) ≡ b
 or_none true = refl
 or_none false = refl
 
+any_more : (p : Reason → Bool) (reasons : List Reason) (reason : Reason) → list_any p (reasons ++ reason ∷ []) ≡ (list_any p reasons || p reason)
+any_more p reasons reason = list_any-append p reasons (reason ∷ []) ∙ ap (λ (b : Bool). list_any p reasons || b) (or_none (p reason))
+
+neither : (first second : Bool) → (first || second) ≡ false → (first ≡ false) × (second ≡ false)
+neither true second e = cc
+neither false second e = (refl, e)
+
 -- the counts of one more text
-counted_more : (reasons : List Reason) (reason : Reason) (old new : Counts) → is_damage reason ≡ false → AreCounted reasons old → IsCounted reason old new → AreCounted (reasons ++ reason ∷ []) new
-counted_more reasons reason old new undamaged are is = record {
+counted_more : (reasons : List Reason) (reason : Reason) (old new : Counts) → AreCounted reasons old → IsCounted reason old new → AreCounted (reasons ++ reason ∷ []) new
+counted_more reasons reason old new are is = record {
   refused = is.refused ∙ ap (λ (n : ℕ). n + one_if (is_refusal reason)) are.refused ∙ sym (count_more is_refusal reasons reason);
   faulted = is.faulted ∙ ap (λ (n : ℕ). n + one_if (is_fault reason)) are.faulted ∙ sym (count_more is_fault reasons reason);
-  by_flash = is.by_flash ∙ ap (λ (b : Bool). b || is_flash reason) are.by_flash
-      ∙ sym (list_any-append is_flash reasons (reason ∷ []) ∙ ap (λ (b : Bool). list_any is_flash reasons || b) (or_none (is_flash reason)));
-  undamaged = is.damage undamaged ∙ are.undamaged;
+  by_flash = is.by_flash ∙ ap (λ (b : Bool). b || is_flash reason) are.by_flash ∙ sym (any_more is_flash reasons reason);
+  found = is.found ∙ ap (λ (b : Bool). b || is_damage reason) are.found ∙ sym (any_more is_damage reasons reason);
 }
 
 -- the faults of the flash that are told of are some of those that it counted
@@ -84,11 +91,45 @@ flash_stayed before now (told.Damaged page slot found) tells e = tells
 no_fall : (most before now : ℕ) → before ≤ most → min (before + 1) most ≤ now → before ≤ now
 no_fall most before now e r = omega (arith, e, r)
 
+-- the flash's count of faults after one more text
+blamed_more : (reasons : List Reason) (since before now : ℕ) (result : Told) → ToldTells before now result → min (since + count_by is_flash reasons) last_count ≤ before
+    → min (since + count_by is_flash (reasons ++ reason_of result ∷ [])) last_count ≤ now
+blamed_more reasons since before now result tells e =
+    subst (λ (n : ℕ). min (since + n) last_count ≤ now) (sym (count_more is_flash reasons (reason_of result)))
+    (blamed_by (is_flash (reason_of result)) last_count since before now (count_by is_flash reasons) (flash_rose before now result tells) (flash_stayed before now result tells) e)
+
+unblamed_more : (reasons : List Reason) (since before now : ℕ) (result : Told) → ToldTells before now result → (list_any is_flash reasons ≡ false → before ≡ since)
+    → list_any is_flash (reasons ++ reason_of result ∷ []) ≡ false → now ≡ since
+unblamed_more reasons since before now result tells same e =
+    let none = neither (list_any is_flash reasons) (is_flash (reason_of result)) (sym (any_more is_flash reasons (reason_of result)) ∙ e) in
+    flash_stayed before now result tells none.1 ∙ same none.0
+
+-- one more text has a reason
+pub one_reason : (catalog : Catalog) (texts : List (List ℕ)) (journal : Journal) (count : ℕ) (old new : Counts) (since between now : ℕ) (result : Told)
+    → HaveReasons catalog texts journal count (λ reasons. AreCounted reasons old) since between → HasReason catalog texts journal count (reason_of result)
+    → ToldTells between now result → IsCounted (reason_of result) old new
+    → HaveReasons catalog texts journal (count + 1) (λ reasons. AreCounted reasons new) since now
+one_reason catalog texts journal count old new since between now result are is tells counted =
+    let long : length are.reasons ≡ count = are.as_many in
+    let longer : length (are.reasons ++ reason_of result ∷ []) ≡ length are.reasons + 1 = length-append are.reasons (reason_of result ∷ []) in
+    record {
+      reasons = are.reasons ++ reason_of result ∷ [];
+      as_many = omega (arith, long, longer);
+      each = λ place it e.
+          elim (last_or_before are.reasons (reason_of result) place it e) [
+            | inl f ↦ are.each place it f
+            | inr f ↦ subst (λ (x : Reason). HasReason catalog texts journal place x) f.1 (subst (λ (n : ℕ). HasReason catalog texts journal n (reason_of result)) (sym (f.0 ∙ long)) is)
+          ];
+      blamed = blamed_more are.reasons since between now result tells are.blamed;
+      unblamed = unblamed_more are.reasons since between now result tells are.unblamed;
+      counted = counted_more are.reasons (reason_of result) old new are.counted counted;
+    }
+
 pub one_told : PiecesJoin → (catalog : Catalog) (kept : Hidden) (texts : List (List ℕ)) (journal : Journal) (count : ℕ) (old new : Counts) (since between now : Outside) (result : Told) (lines : List (List ℕ))
-    → AreTold catalog kept texts journal count (λ reasons. AreCounted reasons old) since between
+    → AreTold catalog kept texts journal count (λ reasons. AreUndamaged reasons old) since between
     → IsTold catalog kept texts journal count (record { reason = reason_of result; lines = lines })
     → Hands (concat lines) between.sink now.sink → ToldTells between.flash.faults now.flash.faults result → IsCounted (reason_of result) old new
-    → AreTold catalog kept texts journal (count + 1) (λ reasons. AreCounted reasons new) since now
+    → AreTold catalog kept texts journal (count + 1) (λ reasons. AreUndamaged reasons new) since now
 one_told join catalog kept texts journal count old new since between now result lines are is hands tells counted =
     let one : TextTold = record { reason = reason_of result; lines = lines } in
     let long : length are.told ≡ count = are.as_many in
@@ -104,12 +145,16 @@ one_told join catalog kept texts journal count old new since between now result 
             | inr f ↦ subst (λ (x : TextTold). IsTold catalog kept texts journal place x) f.1 (subst (λ (n : ℕ). IsTold catalog kept texts journal n one) (sym (f.0 ∙ long)) is)
           ];
       handed_on = subst (λ (bs : List ℕ). Hands bs since.sink now.sink) (sym bytes) (join.two (bytes_told are.told) (concat lines) since.sink between.sink now.sink are.handed_on hands);
-      blamed = subst (λ (n : ℕ). min (since.flash.faults + n) last_count ≤ now.flash.faults)
-          (sym (ap (count_by is_flash) (reasons_more are.told one) ∙ count_more is_flash (reasons_of are.told) (reason_of result)))
-          (blamed_by (is_flash (reason_of result)) last_count since.flash.faults between.flash.faults now.flash.faults (count_by is_flash (reasons_of are.told))
-          (flash_rose between.flash.faults now.flash.faults result tells) (flash_stayed between.flash.faults now.flash.faults result tells) are.blamed);
-      counted = subst (λ (rs : List Reason). AreCounted rs new) (sym (reasons_more are.told one))
-          (counted_more (reasons_of are.told) (reason_of result) old new is.undamaged are.counted counted);
+      blamed = subst (λ (rs : List Reason). min (since.flash.faults + count_by is_flash rs) last_count ≤ now.flash.faults) (sym (reasons_more are.told one))
+          (blamed_more (reasons_of are.told) since.flash.faults between.flash.faults now.flash.faults result tells are.blamed);
+      unblamed = λ e.
+          unblamed_more (reasons_of are.told) since.flash.faults between.flash.faults now.flash.faults result tells are.unblamed
+          (ap (list_any is_flash) (sym (reasons_more are.told one)) ∙ e);
+      counted = subst (λ (rs : List Reason). AreUndamaged rs new) (sym (reasons_more are.told one))
+          (record {
+            counted = counted_more (reasons_of are.told) (reason_of result) old new are.counted.counted counted;
+            undamaged = counted.damage is.undamaged ∙ are.counted.undamaged;
+          });
     }
 
 -- the first of the texts that are left

@@ -112,6 +112,7 @@ module _ (over : OverTextsAreSettled) (order : TextsComeInOrder) (decided : Text
         pages = telling.pages;
         faults = telling.faults;
         prints = telling.prints;
+        reasons = telling.reasons;
         told = telling.told;
       };
       settled = λ text from upto. before_settled text (omega (arith, upto, low));

@@ -22,10 +22,11 @@ use Rattle.channel_session.specs.Sessions.{asked_in}
 use Rattle.session_laws.specs.TextEnds.{not_ended, is_settled, heard_in, is_settled_in}
 use Rattle.session_laws.specs.TextCases.{is_refused_in, IsDecided, Outcome, IsDone, ByHost, ByLink, ByFrame}
 use Rattle.session_replies.specs.Kept.{is_refused, at_hand, all_of, done_of, stored_as}
-use Rattle.text_lines.specs.Texts.{Why, is_refused as why_refused, is_answered, is_broken, AreBrokenLines, AreAnswerLines}
+use Rattle.text_lines.specs.Texts.{IsToldBy, Why, is_refused as why_refused, is_answered, is_broken, AreBrokenLines, AreAnswerLines}
 use Rattle.text_lines.specs.declared.text.Told.{Told}
 use Rattle.text_lines.specs.declared.text.Told.TheVariants as told
 use Rattle.key_session.specs.Counting.{reason_of, is_damage}
+use Rattle.key_session.specs.Reasons.{IsReason, CameTo}
 use Rattle.key_session.specs.Telling.{IsTold}
 
 same_ending : (ending : Ending) → marks.is_refused ending ≡ is_refused_by ending
@@ -229,6 +230,42 @@ told_so catalog kept texts journal place written stands decided outcome replied 
       (came catalog texts journal place written w.query (decided w.query w.accepted) (outcome w.query w.accepted) state is_state) w.not_done result w.are;
   undamaged = broken_undamaged catalog texts journal place written w.query state lines result w.are;
 }
+
+-- the reason for the lines of the text at a place
+module _ (catalog : Catalog) (texts : List (List ℕ)) (journal : Journal) (place : ℕ) (written : List ℕ) where
+  came_done : (query : Query) → reading catalog.schema written ≡ Ok query → (state : ReplyState) → state ≡ state_is.Done → Came catalog texts journal place written query state → CameTo true catalog texts journal (suc place) written
+  came_done query accepted state e c = record { query = query; accepted = accepted; done = (subst (Came catalog texts journal place written query) e c).done }
+
+  came_broken : (query : Query) → reading catalog.schema written ≡ Ok query → (state : ReplyState) → (state ≡ state_is.Done → ⊥) → Came catalog texts journal place written query state → CameTo false catalog texts journal (suc place) written
+  came_broken query accepted state_is.Done undone c = absurd (undone refl)
+  came_broken query accepted state_is.Host undone c = record { query = query; accepted = accepted; done = c.0 }
+  came_broken query accepted state_is.Link undone c = record { query = query; accepted = accepted; done = c.0 }
+  came_broken query accepted state_is.Protocol undone c = record { query = query; accepted = accepted; done = c.0 }
+  came_broken query accepted state_is.Awaited undone c = absurd c
+
+  host_undone : (state : ReplyState) → state ≡ state_is.Host → state ≡ state_is.Done → ⊥
+  host_undone state e f = cc
+
+  protocol_undone : (state : ReplyState) → state ≡ state_is.Protocol → state ≡ state_is.Done → ⊥
+  protocol_undone state e f = cc
+
+  pub reason_so : (state : ReplyState) → state ≡ state_of (asked_of catalog.schema texts) (suc place) (left catalog (asked_of catalog.schema texts) journal)
+      → ((query : Query) → reading catalog.schema written ≡ Ok query → IsDecided catalog texts journal (suc place) query)
+      → ((query : Query) → reading catalog.schema written ≡ Ok query → Outcome catalog texts journal (suc place) query)
+      → (result : Told) → IsToldBy catalog.schema written state result → IsReason (reason_of result) catalog texts journal (suc place) written
+  reason_so state is_state decided outcome result by = of result by
+    where
+      cames : (query : Query) → reading catalog.schema written ≡ Ok query → Came catalog texts journal place written query state
+      cames query accepted = came catalog texts journal place written query (decided query accepted) (outcome query accepted) state is_state
+
+      of : (result : Told) → IsToldBy catalog.schema written state result → IsReason (reason_of result) catalog texts journal (suc place) written
+      of told.Refused is = is
+      of told.Answered is = came_done is.query is.accepted state is.came (cames is.query is.accepted)
+      of told.Host is = came_broken is.query is.accepted state (host_undone state is.came) (cames is.query is.accepted)
+      of told.Link is = came_broken is.query is.accepted state is.came.0 (cames is.query is.accepted)
+      of told.Protocol is = came_broken is.query is.accepted state (protocol_undone state is.came) (cames is.query is.accepted)
+      of told.Flash is = came_done is.query is.accepted state is.came (cames is.query is.accepted)
+      of (told.Damaged page slot found) is = came_done is.query is.accepted state is.came (cames is.query is.accepted)
 
 -- no ask of a settled text is at hand
 none_at_hand : (asks : List Asked) (schema : Schema) (text : ℕ) (rows : List ℕ) (awaits : Awaits) → is_settled asks text awaits ≡ true → at_hand schema text rows (asked_in awaits) ≡ []

@@ -7,6 +7,7 @@ use Rattle.ghost_model.specs.SchemaFaults.{MeansSchema}
 use Rattle.ghost_model.specs.Asks.{Asked, asked_of}
 use Rattle.ghost_model.specs.Moves.{taken}
 use Rattle.ghost_model.specs.NextMove.{Awaits, Missing, Reply, Nothing, Ended, Heard, hear_all}
+use Rattle.ghost_model.specs.Lines.{Reason, IsRefused, WasBroken, WasAnswered, MetFault, ended_of, all_done}
 use Rattle.ghost_model.specs.Split.{hidden_of}
 use Rattle.channel_pump.specs.Forms.{are_known}
 use Rattle.channel_pump.specs.Progress.{Tells, ended_on}
@@ -19,6 +20,7 @@ use Rattle.reply_laws.specs.Stores.{RepliesFit}
 use Rattle.session_replies.specs.Kept.{IsKept, Fits, none_heard}
 use Rattle.session_replies.specs.declared.replies.Replies.{Replies}
 use Rattle.key_session.specs.Refusing.{or_else, code_of, first_code, code_on}
+use Rattle.key_session.specs.Reasons.{CameTo, IsReason}
 use Rattle.key_session.specs.Telling.{Outside}
 use Rattle.key_session.specs.Going.{IsGoing, IsAttended, HasGone}
 use Rattle.key_session.specs.declared.teller.Teller.{Teller}
@@ -63,6 +65,22 @@ unsettled_before stay catalog texts journal more text e = by (is_settled_in cata
     by false s = s
     by true s = absurd (true_is_not_false (sym (stay catalog texts journal more text s).settled ∙ e))
 
+-- the reason of a text stays as long as what its asks came to
+came_still : (all : Bool) (catalog : Catalog) (texts : List (List ℕ)) (journal later : Journal) (number : ℕ) (written : List ℕ)
+    → ended_of catalog texts later number ≡ ended_of catalog texts journal number → CameTo all catalog texts journal number written → CameTo all catalog texts later number written
+came_still all catalog texts journal later number written same came = record {
+  query = came.query;
+  accepted = came.accepted;
+  done = ap (all_done catalog.schema came.query) same ∙ came.done;
+}
+
+reason_still : (catalog : Catalog) (texts : List (List ℕ)) (journal later : Journal) (number : ℕ) (written : List ℕ) → ended_of catalog texts later number ≡ ended_of catalog texts journal number
+    → (reason : Reason) → IsReason reason catalog texts journal number written → IsReason reason catalog texts later number written
+reason_still catalog texts journal later number written same IsRefused is = is
+reason_still catalog texts journal later number written same WasBroken is = came_still false catalog texts journal later number written same is
+reason_still catalog texts journal later number written same WasAnswered is = came_still true catalog texts journal later number written same is
+reason_still catalog texts journal later number written same (MetFault fault) is = came_still true catalog texts journal later number written same is
+
 pub going_on : EndedTextsStay → ReasonsStay → (pages_told : Bool) (catalog : Catalog) (texts : List (List ℕ)) (journal more : Journal) (since now : Outside) (teller : Teller) (replies new : Replies)
     → (going : IsGoing pages_told catalog texts journal since now teller replies)
     → IsKept catalog (heard_in catalog texts (journal ++ more)) (teller.count + 1) going.top new
@@ -76,6 +94,23 @@ going_on stay reasons pages_told catalog texts journal more since now teller rep
     pages = going.telling.pages;
     faults = going.telling.faults;
     prints = going.telling.prints;
+    reasons = record {
+      reasons = going.telling.reasons.reasons;
+      as_many = going.telling.reasons.as_many;
+      each = λ place reason e.
+          let is = going.telling.reasons.each place reason e in
+          let many : length going.telling.reasons.reasons ≡ teller.count = going.telling.reasons.as_many in
+          let within : place < length going.telling.reasons.reasons = slice_get_within going.telling.reasons.reasons place reason e in
+          record {
+            written = is.written;
+            stands = is.stands;
+            is_reason = reason_still catalog texts journal (journal ++ more) (suc place) is.written
+                (stay catalog texts journal more (suc place) (going.settled (suc place) (omega arith) (omega (arith, many, within)))).ends reason is.is_reason;
+          };
+      blamed = going.telling.reasons.blamed;
+      unblamed = going.telling.reasons.unblamed;
+      counted = going.telling.reasons.counted;
+    };
     told = λ database knows.
         let are = going.telling.told database knows in
         record {
@@ -94,6 +129,7 @@ going_on stay reasons pages_told catalog texts journal more since now teller rep
               };
           handed_on = are.handed_on;
           blamed = are.blamed;
+          unblamed = are.unblamed;
           counted = are.counted;
         };
   };

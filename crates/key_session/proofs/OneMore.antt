@@ -23,14 +23,15 @@ use Rattle.session_replies.specs.declared.replies.Replies.{Replies}
 use Rattle.key_lines.specs.Handing.{PiecesJoin}
 use Rattle.key_exec.specs.Reading.{Knows}
 use Rattle.text_lines.specs.Rows.{PrintsSome}
-use Rattle.text_lines.specs.Texts.{TellsText, ToldTells, Why}
+use Rattle.text_lines.specs.Texts.{TellsText, ToldTells, IsToldBy, Why}
 use Rattle.text_lines.specs.declared.text.Told.{Told}
 use Rattle.text_lines.specs.declared.text.Told.TheVariants as told
-use Rattle.key_session.specs.Counting.{reason_of, IsCounted, AreCounted}
+use Rattle.key_session.specs.Counting.{reason_of, IsCounted, AreCounted, AreUndamaged}
+use Rattle.key_session.specs.Reasons.{HaveReasons, HasReason}
 use Rattle.key_session.specs.Telling.{Outside, IsTold, AreTold, AreLeft, CameOut, IsTelling}
 use Rattle.key_session.specs.declared.teller.Teller.{Teller}
-use Rattle.key_session.proofs.Coming.{told_so, done_so, all_is_done}
-use Rattle.key_session.proofs.Adding.{one_told, next_of, next_number, left_more, some_more}
+use Rattle.key_session.proofs.Coming.{told_so, done_so, all_is_done, reason_so}
+use Rattle.key_session.proofs.Adding.{one_told, one_reason, next_of, next_number, left_more, some_more}
 
 -- the count of faults never falls, but for its last value
 never_falls : (since before now : ℕ) (result : Told) → min since last_count ≤ before → ToldTells before now result → min since last_count ≤ now
@@ -77,17 +78,20 @@ pub tell_one : PiecesJoin → TextsAreDecided → StoredAreGiven → RepliesAsce
     → TellsText catalog.schema (hidden_of catalog.schema database) (replies_in stored) (old.count + 1) written state between.sink now.sink result)
     → PrintsSome between.sink now.sink → KeepsPages between.flash now.flash → ToldTells between.flash.faults now.flash.faults result
     → IsCounted (reason_of result) old.counts new.counts
+    → IsToldBy catalog.schema written state result
     → IsTelling pages_told catalog texts journal top since now new after
-tell_one join decided same ascend pages_told catalog texts journal top since between now old new before after written state stored result telling next more came kept_now is_state is_stored tells prints pages faults counted = record {
+tell_one join decided same ascend pages_told catalog texts journal top since between now old new before after written state stored result telling next more came kept_now is_state is_stored tells prints pages faults counted by = record {
   left = subst (λ (n : ℕ). AreLeft texts new.texts n) (sym more) (left_more texts old.count old.texts new.texts written telling.left next);
   kept = subst (λ (n : ℕ). IsKept catalog (heard_in catalog texts journal) (n + 1) top after) (sym more) kept_now;
   near = (let near : top ≤ old.count + 2 = telling.near in omega (arith, near, more));
   pages = pages_stay since.flash between.flash now.flash telling.pages pages;
   faults = never_falls since.flash.faults between.flash.faults now.flash.faults result telling.faults faults;
   prints = some_more join since.sink between.sink now.sink telling.prints prints;
+  reasons = subst (λ (n : ℕ). HaveReasons catalog texts journal n (λ reasons. AreCounted reasons new.counts) since.flash.faults now.flash.faults) (sym more)
+      (one_reason catalog texts journal old.count old.counts new.counts since.flash.faults between.flash.faults now.flash.faults result telling.reasons has_reason faults counted);
   told = λ database knows.
       let lines = tells database (subst (λ (p : ℕ → List ℕ). Knows pages_told p catalog database) (sym telling.pages.page) knows) ascends in
-      subst (λ (n : ℕ). AreTold catalog (hidden_of catalog.schema database) texts journal n (λ reasons. AreCounted reasons new.counts) since now) (sym more)
+      subst (λ (n : ℕ). AreTold catalog (hidden_of catalog.schema database) texts journal n (λ reasons. AreUndamaged reasons new.counts) since now) (sym more)
       (one_told join catalog (hidden_of catalog.schema database) texts journal old.count old.counts new.counts since between now result lines.lines
       (telling.told database knows) (is_told database lines) lines.handed faults counted);
 }
@@ -111,12 +115,25 @@ tell_one join decided same ascend pages_told catalog texts journal top since bet
         ap (λ (xs : List Stored). are_ascending (replies_in xs)) (is_done e ∙ sym (all_is_done catalog texts journal (old.count + 1) (settled e)))
         ∙ ascend catalog texts (taken journal) (old.count + 1)
 
+    here_is : state ≡ state_of (asked_of catalog.schema texts) (suc old.count) (left catalog (asked_of catalog.schema texts) journal)
+    here_is = subst (λ (n : ℕ). state ≡ state_of (asked_of catalog.schema texts) n (left catalog (asked_of catalog.schema texts) journal)) (sym number) is_state
+
+    has_reason : HasReason catalog texts journal old.count (reason_of result)
+    has_reason = record {
+      written = written;
+      stands = here;
+      is_reason = reason_so catalog texts journal old.count written state here_is
+          (λ query accepted. decided catalog texts journal old.count written query here accepted)
+          (λ query accepted. came old.count written query (next_number old.count) here accepted)
+          result by;
+    }
+
     is_told : (database : Database) → (lines : TellsText catalog.schema (hidden_of catalog.schema database) (replies_in stored) (old.count + 1) written state between.sink now.sink result)
         → IsTold catalog (hidden_of catalog.schema database) texts journal old.count (record { reason = reason_of result; lines = lines.lines })
     is_told database lines =
         told_so catalog (hidden_of catalog.schema database) texts journal old.count written here
         (λ query accepted. decided catalog texts journal old.count written query here accepted)
         (λ query accepted. came old.count written query (next_number old.count) here accepted)
-        (replies_in stored) state (subst (λ (n : ℕ). state ≡ state_of (asked_of catalog.schema texts) n (left catalog (asked_of catalog.schema texts) journal)) (sym number) is_state)
+        (replies_in stored) state here_is
         (λ e. ap replies_in (is_done e) ∙ same catalog (asked_of catalog.schema texts) journal (old.count + 1) ∙ ap (λ (n : ℕ). replies catalog (asked_of catalog.schema texts) journal n) (sym number))
         lines.lines result (subst (λ (n : ℕ). Why catalog.schema (hidden_of catalog.schema database) (replies_in stored) n written state lines.lines result) (sym number) lines.why)

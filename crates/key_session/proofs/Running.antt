@@ -1,14 +1,18 @@
 -- A whole session.
-use Rattle.std.proofs.Common.{◌≡◌, ◌≤◌, ℕ, ◌+◌, arith, Bool, false, List, [], length, refl, sym, ap, ◌∙◌, subst, Option, None}
-use Rattle.std.specs.Prelude.{min}
-use Rattle.ghost_model.specs.Causes.{last_count}
+use Rattle.std.proofs.Common.{◌≡◌, ◌≤◌, ℕ, suc, ◌+◌, arith, Bool, true, false, ◌||◌, List, [], ◌∷◌, length, refl, sym, ap, ◌∙◌, subst, Option, None, Some, slice_get}
+use Rattle.std.specs.Prelude.{min, if◌then◌else◌, count_by, is_err}
+use Rattle.std.specs.List.{list_any}
+use Rattle.std.proofs.lemmas.List.Sums.{sum_by-cons}
+use Rattle.ghost_model.specs.Causes.{Rose, last_count}
 use Rattle.ghost_model.specs.Channel.{Catalog, Journal}
 use Rattle.ghost_model.specs.Asks.{asked_of}
+use Rattle.ghost_model.specs.Lines.{Reason, IsRefused, WasBroken, WasAnswered, MetFault}
 use Rattle.ghost_model.specs.NextMove.{Left, Heard, left, IsFinished}
 use Rattle.edge_traits.specs.Devices.{KeepsPages}
 use Rattle.channel_pump.specs.Progress.{EndsAs}
 use Rattle.channel_pump.specs.State.{IsAfter}
 use Rattle.channel_pump.specs.declared.state.Cause.{Cause}
+use Rattle.channel_session.specs.Entries.{WentBy}
 use Rattle.channel_session.specs.Sessions.{IsLive}
 use Rattle.channel_session.specs.declared.exchange.Exchange.{Exchange}
 use Rattle.session_laws.specs.TextEnds.{heard_in}
@@ -17,13 +21,17 @@ use Rattle.session_replies.specs.Kept.{IsKept, none_heard}
 use Rattle.session_replies.specs.declared.replies.Replies.{Replies}
 use Rattle.key_lines.specs.Handing.{PiecesJoin}
 use Rattle.text_lines.specs.Rows.{PrintsSome}
-use Rattle.key_session.specs.Counting.{AreCounted}
+use Rattle.key_session.specs.Counting.{AreCounted, is_refusal, is_flash}
+use Rattle.key_session.specs.Reasons.{IsReason, HasReason, is_refused_text}
 use Rattle.key_session.specs.Refusing.{first_code}
 use Rattle.key_session.specs.Telling.{Outside, AreLeft, CameOut, IsTelling, TellsOn}
 use Rattle.key_session.specs.Going.{IsGoing, HasGone}
-use Rattle.key_session.specs.Running.{HasRun, status_of}
+use Rattle.key_session.specs.Running.{HasRun, status_with, host_or, blames_flash, spares_flash}
 use Rattle.key_session.specs.declared.teller.Teller.{Teller}
 use Rattle.key_session.specs.declared.counts.Counts.{Counts}
+use Rattle.key_session.specs.declared.counts.Damage.{Damage}
+use Rattle.key_session.specs.declared.tally.SessionStatus.{SessionStatus}
+use Rattle.key_session.specs.declared.tally.SessionStatus.TheVariants as way
 use Rattle.key_session.specs.declared.tally.Tally.{Tally}
 use Rattle.key_session.proofs.Attending.{none_behind}
 use Rattle.key_session.proofs.Moving.{heard_none}
@@ -45,18 +53,30 @@ at_first join pages_told catalog texts since teller replies all none counts kept
     pages = record { page_count = refl; page = refl; blank = refl };
     faults = omega arith;
     prints = record { piece = []; handed = join.none since.sink };
+    reasons = record {
+      reasons = [];
+      as_many = sym none;
+      each = λ place reason e. cc;
+      blamed = omega arith;
+      unblamed = λ _. refl;
+      counted = none_counted;
+    };
     told = λ database knows. record {
       told = [];
       as_many = sym none;
       each = λ place one e. cc;
       handed_on = join.none since.sink;
       blamed = omega arith;
-      counted = subst (λ (c : Counts). AreCounted [] c) (sym counts) (record { refused = refl; faulted = refl; by_flash = refl; undamaged = refl });
+      unblamed = λ _. refl;
+      counted = record { counted = none_counted; undamaged = ap (λ (c : Counts). c.damage) counts };
     };
   };
   settled = λ text from upto. (let bad : ⊥ = omega (arith, from, upto, none) in absurd bad);
   onward = λ text un. omega arith;
 }
+  where
+    none_counted : AreCounted [] teller.counts
+    none_counted = subst (λ (c : Counts). AreCounted [] c) (sym counts) (record { refused = refl; faulted = refl; by_flash = refl; found = refl })
 
 -- all texts were told
 all_told : (texts left : List (List ℕ)) (count : ℕ) → AreLeft texts left count → left ≡ [] → count ≡ length texts
@@ -65,29 +85,131 @@ all_told texts left count are none =
     let within : count ≤ length texts = are.within in
     omega (arith, behind, within)
 
-pub record IsLast (goes : Journal → Type 0) (pages_told : Bool) (catalog : Catalog) (at : List ℕ) (texts : List (List ℕ)) (since now : Outside) (tally : Tally) : Type 0 where
-  pub ran : HasRun goes pages_told catalog at texts since now tally
+-- two lists whose elements at each place pass their tests alike
+count_same : {X Y : Type 0} (p : X → Bool) (q : Y → Bool) (xs : List X) (ys : List Y) → length xs ≡ length ys
+    → ((i : ℕ) (x : X) (y : Y) → slice_get xs i ≡ Some x → slice_get ys i ≡ Some y → p x ≡ q y) → count_by p xs ≡ count_by q ys
+count_same p q [] [] long same = refl
+count_same p q [] (y ∷ ys) long same = (let bad : ⊥ = omega (arith, long) in absurd bad)
+count_same p q (x ∷ xs) [] long same = (let bad : ⊥ = omega (arith, long) in absurd bad)
+count_same {X} {Y} p q (x ∷ xs) (y ∷ ys) long same =
+    sum_by-cons (λ (z : X). if p z then 1 else 0) x xs
+    ∙ ap (λ (b : Bool). (if b then 1 else 0) + count_by p xs) (same 0 x y refl refl)
+    ∙ ap (λ (n : ℕ). (if q y then 1 else 0) + n) (count_same p q xs ys (omega (arith, long)) (λ i. same (suc i)))
+    ∙ sym (sum_by-cons (λ (z : Y). if q z then 1 else 0) y ys)
+
+same_text : (x y : List ℕ) (o : Option (List ℕ)) → o ≡ Some x → o ≡ Some y → x ≡ y
+same_text x y o e f = cc
+
+refusal_read : (catalog : Catalog) (texts : List (List ℕ)) (journal : Journal) (number : ℕ) (written : List ℕ) (reason : Reason) → IsReason reason catalog texts journal number written
+    → is_refusal reason ≡ is_refused_text catalog.schema written
+refusal_read catalog texts journal number written IsRefused is = sym (ap is_err is.refused)
+refusal_read catalog texts journal number written WasBroken is = sym (ap is_err is.accepted)
+refusal_read catalog texts journal number written WasAnswered is = sym (ap is_err is.accepted)
+refusal_read catalog texts journal number written (MetFault fault) is = sym (ap is_err is.accepted)
+
+refusals_read : (catalog : Catalog) (texts : List (List ℕ)) (journal : Journal) (reasons : List Reason) → length reasons ≡ length texts
+    → ((place : ℕ) (reason : Reason) → slice_get reasons place ≡ Some reason → HasReason catalog texts journal place reason)
+    → count_by is_refusal reasons ≡ count_by (is_refused_text catalog.schema) texts
+refusals_read catalog texts journal reasons long each =
+    count_same is_refusal (is_refused_text catalog.schema) reasons texts long (λ i reason text e f.
+    let has = each i reason e in
+    refusal_read catalog texts journal (suc i) has.written reason has.is_reason
+    ∙ ap (is_refused_text catalog.schema) (same_text has.written text (slice_get texts i) has.stands f))
+
+-- a status by all that it goes by
+abbrev status_by : (failed stopped broken : Bool) (kind at : ℕ) (code : Option ℕ) (by_flash : Bool) (damage : Option Damage) → SessionStatus
+status_by failed stopped broken kind at code by_flash damage =
+    if failed then way.Sink else if stopped then way.Link else if broken then way.Protocol kind at else host_or code by_flash damage
+
+blamed_so : (failed stopped broken : Bool) (kind at : ℕ) (code : Option ℕ) (by_flash : Bool) (damage : Option Damage) → blames_flash (status_by failed stopped broken kind at code by_flash damage) ≡ true → by_flash ≡ true
+blamed_so true stopped broken kind at code by_flash damage e = cc
+blamed_so false true broken kind at code by_flash damage e = cc
+blamed_so false false true kind at code by_flash damage e = cc
+blamed_so false false false kind at (Some code) by_flash damage e = cc
+blamed_so false false false kind at None true damage e = refl
+blamed_so false false false kind at None false None e = cc
+blamed_so false false false kind at None false (Some damage) e = cc
+
+spared_so : (failed stopped broken : Bool) (kind at : ℕ) (code : Option ℕ) (by_flash : Bool) (damage : Option Damage) → spares_flash (status_by failed stopped broken kind at code by_flash damage) ≡ true → by_flash ≡ false
+spared_so true stopped broken kind at code by_flash damage e = cc
+spared_so false true broken kind at code by_flash damage e = cc
+spared_so false false true kind at code by_flash damage e = cc
+spared_so false false false kind at (Some code) by_flash damage e = cc
+spared_so false false false kind at None true damage e = cc
+spared_so false false false kind at None false damage e = refl
+
+-- where a text met a failure of the flash, its count of faults rose
+one_met : (b more : Bool) (count : ℕ) → (more ≡ true → 1 ≤ count) → (b || more) ≡ true → 1 ≤ (if b then 1 else 0) + count
+one_met true more count met e = omega arith
+one_met false more count met e = (let some = met e in omega (arith, some))
+
+some_met : (p : Reason → Bool) (reasons : List Reason) → list_any p reasons ≡ true → 1 ≤ count_by p reasons
+some_met p [] e = cc
+some_met p (reason ∷ reasons) e =
+    subst (λ (n : ℕ). 1 ≤ n) (sym (sum_by-cons (λ (z : Reason). if p z then 1 else 0) reason reasons))
+    (one_met (p reason) (list_any p reasons) (count_by p reasons) (some_met p reasons) e)
+
+rose_once : (most before count now : ℕ) → 1 ≤ count → min (before + count) most ≤ now → min (before + 1) most ≤ now
+rose_once most before count now some e = omega (arith, some, e)
+
+pub record IsLast (went : Journal → Type 0) (link_before link_now : ℕ) (pages_told : Bool) (catalog : Catalog) (at : List ℕ) (texts : List (List ℕ)) (since now : Outside) (tally : Tally) : Type 0 where
+  pub ran : HasRun went link_before link_now pages_told catalog at texts since now tally
   pub many : tally.texts ≡ length texts
   pub prints : PrintsSome since.sink now.sink
   pub pages : KeepsPages since.flash now.flash
   pub faults : min since.flash.faults last_count ≤ now.flash.faults
 
-pub has_run : TextsHaveOutcomes → (goes : Journal → Type 0) (pages_told : Bool) (catalog : Catalog) (at : List ℕ) (texts : List (List ℕ)) (since middle now : Outside) (exchange : Exchange) (old teller : Teller) (replies new : Replies)
+-- what the status says of the flash
+module _ {went : Journal → Type 0} {link_before link_now : ℕ} {pages_told : Bool} {catalog : Catalog} {at : List ℕ} {texts : List (List ℕ)} {since now : Outside} {tally : Tally}
+    (ran : HasRun went link_before link_now pages_told catalog at texts since now tally) where
+  abbrev session : Left
+  session = left catalog (asked_of catalog.schema texts) ran.journal
+
+  pub flash_rose : blames_flash tally.status ≡ true → Rose since.flash.faults now.flash.faults
+  flash_rose e =
+      rose_once last_count since.flash.faults (count_by is_flash ran.reasons.reasons) now.flash.faults
+      (some_met is_flash ran.reasons.reasons (blamed_so now.sink.failed session.stopped session.heard.broken _ _ _ (list_any is_flash ran.reasons.reasons) ran.reasons.counted.damage
+      (ap blames_flash (sym ran.reasons.counted.status_is) ∙ e)))
+      ran.reasons.blamed
+
+  pub flash_same : spares_flash tally.status ≡ true → now.flash.faults ≡ since.flash.faults
+  flash_same e =
+      ran.reasons.unblamed (spared_so now.sink.failed session.stopped session.heard.broken _ _ _ (list_any is_flash ran.reasons.reasons) ran.reasons.counted.damage
+      (ap spares_flash (sym ran.reasons.counted.status_is) ∙ e))
+
+pub has_run : TextsHaveOutcomes → (went : Journal → Type 0) (link_before link_now : ℕ) (pages_told : Bool) (catalog : Catalog) (at : List ℕ) (texts : List (List ℕ)) (since middle now : Outside) (exchange : Exchange) (old teller : Teller) (replies new : Replies)
     (refusal : Option ℕ) (cause : Option Cause) (tally : Tally)
-    → HasGone goes pages_told catalog at texts since middle exchange old replies refusal
+    → HasGone (WentBy went link_before link_now) pages_told catalog at texts since middle exchange old replies refusal
     → ((journal : Journal) → IsLive catalog at (asked_of catalog.schema texts) journal exchange → IsFinished journal)
     → TellsOn pages_told catalog exchange.pump (λ ts j. (number : ℕ) → CameOut catalog ts j number) middle old replies now teller new
     → teller.texts ≡ []
     → ((journal : Journal) → IsAfter catalog (asked_of catalog.schema texts) journal exchange.pump → EndsAs (left catalog (asked_of catalog.schema texts) journal) cause)
     → tally.texts ≡ teller.count → tally.refused ≡ teller.counts.refused → tally.faulted ≡ teller.counts.faulted
-    → ((session : Left) → EndsAs session cause → refusal ≡ first_code session.heard.ended → teller.counts.damage ≡ None → tally.status ≡ status_of now.sink.failed session teller.counts.by_flash)
-    → IsLast goes pages_told catalog at texts since now tally
-has_run outcomes goes pages_told catalog at texts since middle now exchange old teller replies new refusal cause tally gone finished tells none ends many refused faulted status = record {
+    → ((session : Left) → EndsAs session cause → refusal ≡ first_code session.heard.ended → tally.status ≡ status_with now.sink.failed session teller.counts.by_flash teller.counts.damage)
+    → IsLast went link_before link_now pages_told catalog at texts since now tally
+has_run outcomes went link_before link_now pages_told catalog at texts since middle now exchange old teller replies new refusal cause tally gone finished tells none ends many refused faulted status = record {
   ran = record {
     journal = gone.journal;
-    went = gone.went;
+    went = gone.went.gone;
+    counts = gone.went.counts;
+    short = gone.went.short;
     proper = gone.live.proper;
     finished = is_finished;
+    refused = refused ∙ last.reasons.counted.refused ∙ refusals_read catalog texts gone.journal last.reasons.reasons (last.reasons.as_many ∙ count) last.reasons.each;
+    reasons = record {
+      reasons = last.reasons.reasons;
+      as_many = last.reasons.as_many ∙ count;
+      each = last.reasons.each;
+      blamed = last.reasons.blamed;
+      unblamed = last.reasons.unblamed;
+      counted = record {
+        refused = refused ∙ last.reasons.counted.refused;
+        faulted = faulted ∙ last.reasons.counted.faulted;
+        damage = teller.counts.damage;
+        found = last.reasons.counted.found;
+        status_is = status_is ∙ ap (λ (b : Bool). status_with now.sink.failed (left catalog (asked_of catalog.schema texts) gone.journal) b teller.counts.damage) last.reasons.counted.by_flash;
+      };
+    };
     told = λ database knows.
         let are = last.told database knows in
         record {
@@ -96,11 +218,13 @@ has_run outcomes goes pages_told catalog at texts since middle now exchange old 
           each = are.each;
           handed_on = are.handed_on;
           blamed = are.blamed;
+          unblamed = are.unblamed;
           counted = record {
-            refused = refused ∙ are.counted.refused;
-            faulted = faulted ∙ are.counted.faulted;
-            status_is = status (left catalog (asked_of catalog.schema texts) gone.journal) (ends gone.journal gone.live.after) gone.refusal_is are.counted.undamaged
-                ∙ ap (λ (b : Bool). status_of now.sink.failed (left catalog (asked_of catalog.schema texts) gone.journal) b) are.counted.by_flash;
+            refused = refused ∙ are.counted.counted.refused;
+            faulted = faulted ∙ are.counted.counted.faulted;
+            status_is = status_is
+                ∙ ap (λ (d : Option Damage). status_with now.sink.failed (left catalog (asked_of catalog.schema texts) gone.journal) teller.counts.by_flash d) are.counted.undamaged
+                ∙ ap (λ (b : Bool). status_with now.sink.failed (left catalog (asked_of catalog.schema texts) gone.journal) b None) are.counted.counted.by_flash;
           };
         };
   };
@@ -117,6 +241,9 @@ has_run outcomes goes pages_told catalog at texts since middle now exchange old 
     last = tells texts gone.journal gone.going.top since gone.live.after
         (λ number place written query e stands accepted. outcomes catalog at texts gone.journal place written query gone.live.proper is_finished stands accepted)
         gone.going.telling
+
+    status_is : tally.status ≡ status_with now.sink.failed (left catalog (asked_of catalog.schema texts) gone.journal) teller.counts.by_flash teller.counts.damage
+    status_is = status (left catalog (asked_of catalog.schema texts) gone.journal) (ends gone.journal gone.live.after) gone.refusal_is
 
     count : teller.count ≡ length texts
     count = all_told texts teller.texts teller.count last.left none

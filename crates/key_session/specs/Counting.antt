@@ -1,5 +1,5 @@
 -- What is counted of the texts that were told, by the reasons for their lines.
-use Rattle.std.specs.Prelude.{◌≡◌, ℕ, ◌+◌, Bool, true, false, ◌||◌, List, count_by, if◌then◌else◌, None}
+use Rattle.std.specs.Prelude.{◌≡◌, ℕ, ◌+◌, Bool, true, false, ◌||◌, List, count_by, if◌then◌else◌, None, is_some}
 use Rattle.std.specs.List.{list_any}
 use Rattle.ghost_model.specs.Lines.{Reason, IsRefused, WasBroken, WasAnswered, MetFault, Fault, OnFlash, OnDamage}
 use Rattle.text_lines.specs.declared.text.Told.{Told}
@@ -57,10 +57,16 @@ pub record IsCounted (reason : Reason) (old new : Counts) : Type 0 where
   pub faulted : new.faulted ≡ old.faulted + one_if (is_fault reason)
   pub by_flash : new.by_flash ≡ (old.by_flash || is_flash reason)
   pub damage : is_damage reason ≡ false → new.damage ≡ old.damage
+  pub found : is_some new.damage ≡ (is_some old.damage || is_damage reason)
 
 -- the texts with these reasons were counted
 pub record AreCounted (reasons : List Reason) (counts : Counts) : Type 0 where
   pub refused : counts.refused ≡ count_by is_refusal reasons
   pub faulted : counts.faulted ≡ count_by is_fault reasons
   pub by_flash : counts.by_flash ≡ list_any is_flash reasons
+  pub found : is_some counts.damage ≡ list_any is_damage reasons
+
+-- and none of them met damage
+pub record AreUndamaged (reasons : List Reason) (counts : Counts) : Type 0 where
+  pub counted : AreCounted reasons counts
   pub undamaged : counts.damage ≡ None

@@ -1,4 +1,5 @@
 pub mod Counting
+pub mod Reasons
 pub mod Refusing
 pub mod Telling
 pub mod Going

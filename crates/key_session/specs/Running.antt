@@ -1,7 +1,7 @@
 -- What a whole session does and counts: it goes by a finished journal, each of whose moves is the next one, and tells every
 -- text of its script.
-use Rattle.std.specs.Prelude.{◌≡◌, ℕ, Bool, true, false, List, length, count_by, Option, None, Some, if◌then◌else◌}
-use Rattle.std.specs.List.{list_any}
+use Rattle.std.specs.Prelude.{◌≡◌, ℕ, Bool, true, false, List, length, count_by, Option, None, Some, is_some, if◌then◌else◌}
+use Rattle.std.specs.List.{list_any, list_all}
 use Rattle.ghost_model.specs.Values.{Database}
 use Rattle.ghost_model.specs.Channel.{Catalog, Journal}
 use Rattle.ghost_model.specs.Frames.{kind_in}
@@ -10,10 +10,13 @@ use Rattle.ghost_model.specs.NextMove.{Left, left, IsProper, IsFinished}
 use Rattle.ghost_model.specs.Split.{hidden_of}
 use Rattle.ghost_model.specs.Lines.{Reason}
 use Rattle.channel_pump.specs.State.{counted, bytes_before}
+use Rattle.channel_session.specs.Entries.{is_short_entry, FaultsTell}
 use Rattle.key_exec.specs.Reading.{Knows}
-use Rattle.key_session.specs.Counting.{is_refusal, is_fault, is_flash}
+use Rattle.key_session.specs.Counting.{is_refusal, is_fault, is_flash, is_damage}
+use Rattle.key_session.specs.Reasons.{HaveReasons, is_refused_text}
 use Rattle.key_session.specs.Refusing.{first_code}
 use Rattle.key_session.specs.Telling.{Outside, AreTold}
+use Rattle.key_session.specs.declared.counts.Damage.{Damage}
 use Rattle.key_session.specs.declared.tally.Tally.{Tally}
 use Rattle.key_session.specs.declared.tally.SessionStatus.{SessionStatus}
 use Rattle.key_session.specs.declared.tally.SessionStatus.TheVariants as status
@@ -27,19 +30,55 @@ is_sink (status.Host _) = false
 is_sink status.Flash = false
 is_sink (status.Damaged _) = false
 
--- where the link did its part: the host refused an ask, or the flash failed, or all is well
-abbrev pub host_or : Option ℕ → (by_flash : Bool) → SessionStatus
-host_or (Some code) by_flash = status.Host code
-host_or None by_flash = if by_flash then status.Flash else status.Ok
+abbrev pub blames_flash : SessionStatus → Bool
+blames_flash status.Ok = false
+blames_flash status.Sink = false
+blames_flash status.Link = false
+blames_flash (status.Protocol _ _) = false
+blames_flash (status.Host _) = false
+blames_flash status.Flash = true
+blames_flash (status.Damaged _) = false
+
+-- whether a session went well, but for damage that it may have met
+abbrev pub spares_flash : SessionStatus → Bool
+spares_flash status.Ok = true
+spares_flash status.Sink = false
+spares_flash status.Link = false
+spares_flash (status.Protocol _ _) = false
+spares_flash (status.Host _) = false
+spares_flash status.Flash = false
+spares_flash (status.Damaged _) = true
+
+-- where the flash did not fail: damage was met, or all is well
+abbrev pub damaged_or : Option Damage → SessionStatus
+damaged_or None = status.Ok
+damaged_or (Some damage) = status.Damaged damage
+
+-- where the link did its part: the host refused an ask, or the flash failed, or it is damaged, or all is well
+abbrev pub host_or : Option ℕ → (by_flash : Bool) → Option Damage → SessionStatus
+host_or (Some code) by_flash damage = status.Host code
+host_or None by_flash damage = if by_flash then status.Flash else damaged_or damage
 
 -- the first of these that is so: a write failed, the link failed or ended, a frame was invalid, the host refused an ask,
--- the flash failed
-abbrev pub status_of : (failed : Bool) → Left → (by_flash : Bool) → SessionStatus
-status_of failed left by_flash =
+-- the flash failed, damage was met
+abbrev pub status_with : (failed : Bool) → Left → (by_flash : Bool) → Option Damage → SessionStatus
+status_with failed left by_flash damage =
     if failed then status.Sink
     else if left.stopped then status.Link
     else if left.heard.broken then status.Protocol (kind_in left.heard.part) (counted (bytes_before left.heard))
-    else host_or (first_code left.heard.ended) by_flash
+    else host_or (first_code left.heard.ended) by_flash damage
+
+-- and where no damage was met
+abbrev pub status_of : (failed : Bool) → Left → (by_flash : Bool) → SessionStatus
+status_of failed left by_flash = status_with failed left by_flash None
+
+-- a tally of texts with these reasons, whatever the pages hold
+pub record IsTallied (failed : Bool) (session : Left) (reasons : List Reason) (tally : Tally) : Type 0 where
+  pub refused : tally.refused ≡ count_by is_refusal reasons
+  pub faulted : tally.faulted ≡ count_by is_fault reasons
+  pub damage : Option Damage
+  pub found : is_some damage ≡ list_any is_damage reasons
+  pub status_is : tally.status ≡ status_with failed session (list_any is_flash reasons) damage
 
 -- a tally of the texts that have their lines for these reasons
 pub record IsTally (failed : Bool) (session : Left) (reasons : List Reason) (tally : Tally) : Type 0 where
@@ -47,11 +86,17 @@ pub record IsTally (failed : Bool) (session : Left) (reasons : List Reason) (tal
   pub faulted : tally.faulted ≡ count_by is_fault reasons
   pub status_is : tally.status ≡ status_of failed session (list_any is_flash reasons)
 
-pub record HasRun (goes : Journal → Type 0) (pages_told : Bool) (catalog : Catalog) (at : List ℕ) (texts : List (List ℕ)) (since now : Outside) (tally : Tally) : Type 0 where
+-- the link counted so many failed calls before the session and after it
+pub record HasRun (goes : Journal → Type 0) (link_before link_now : ℕ) (pages_told : Bool) (catalog : Catalog) (at : List ℕ) (texts : List (List ℕ)) (since now : Outside) (tally : Tally) : Type 0 where
   pub journal : Journal
   pub went : goes journal
+  pub counts : FaultsTell link_before link_now journal
+  pub short : list_all is_short_entry journal ≡ true
   pub proper : IsProper catalog at texts journal
   pub finished : IsFinished journal
+  pub refused : tally.refused ≡ count_by (is_refused_text catalog.schema) texts
+  pub reasons : HaveReasons catalog texts journal (length texts)
+      (λ reasons. IsTallied now.sink.failed (left catalog (asked_of catalog.schema texts) journal) reasons tally) since.flash.faults now.flash.faults
   pub told : (database : Database) → Knows pages_told since.flash.page catalog database
       → AreTold catalog (hidden_of catalog.schema database) texts journal (length texts)
       (λ reasons. IsTally now.sink.failed (left catalog (asked_of catalog.schema texts) journal) reasons tally) since now

@@ -2,7 +2,7 @@
 -- definitions know. A fault of the flash is a reason only as often as the flash failed, and damage never where its pages
 -- are those of a database.
 use Rattle.std.specs.Prelude.{◌≡◌, ℕ, suc, ◌+◌, ◌≤◌, min, Bool, false, List, length, drop, map, flat_map, count_by, slice_get, Option, Some, Ok}
-use Rattle.std.specs.List.{concat}
+use Rattle.std.specs.List.{concat, list_any}
 use Rattle.ghost_model.specs.Causes.{last_count}
 use Rattle.ghost_model.specs.Values.{Database}
 use Rattle.ghost_model.specs.Query.{Query}
@@ -21,7 +21,8 @@ use Rattle.session_replies.specs.Kept.{IsKept}
 use Rattle.session_replies.specs.declared.replies.Replies.{Replies}
 use Rattle.key_exec.specs.Reading.{Knows}
 use Rattle.text_lines.specs.Rows.{PrintsSome}
-use Rattle.key_session.specs.Counting.{is_flash, is_damage, AreCounted}
+use Rattle.key_session.specs.Counting.{is_flash, is_damage, AreCounted, AreUndamaged}
+use Rattle.key_session.specs.Reasons.{HaveReasons}
 use Rattle.key_session.specs.declared.teller.Teller.{Teller}
 
 -- where the lines go, and the flash
@@ -61,6 +62,7 @@ pub record AreTold (catalog : Catalog) (kept : Hidden) (texts : List (List ℕ))
   pub each : (place : ℕ) (one : TextTold) → slice_get told place ≡ Some one → IsTold catalog kept texts journal place one
   pub handed_on : Hands (bytes_told told) since.sink now.sink
   pub blamed : min (since.flash.faults + count_by is_flash (reasons_of told)) last_count ≤ now.flash.faults
+  pub unblamed : list_any is_flash (reasons_of told) ≡ false → now.flash.faults ≡ since.flash.faults
   pub counted : Counted (reasons_of told)
 
 -- the texts that are left
@@ -84,8 +86,9 @@ pub record IsTelling (pages_told : Bool) (catalog : Catalog) (texts : List (List
   -- at its last value the count stays
   pub faults : min since.flash.faults last_count ≤ now.flash.faults
   pub prints : PrintsSome since.sink now.sink
+  pub reasons : HaveReasons catalog texts journal teller.count (λ reasons. AreCounted reasons teller.counts) since.flash.faults now.flash.faults
   pub told : (database : Database) → Knows pages_told since.flash.page catalog database
-      → AreTold catalog (hidden_of catalog.schema database) texts journal teller.count (λ reasons. AreCounted reasons teller.counts) since now
+      → AreTold catalog (hidden_of catalog.schema database) texts journal teller.count (λ reasons. AreUndamaged reasons teller.counts) since now
 
 -- a teller goes on telling, of any session in which the pump stands and of which what it needs is shown
 abbrev pub TellsOn : (pages_told : Bool) → Catalog → Pump → (Shown : List (List ℕ) → Journal → Type 0) → (before : Outside) → Teller → Replies → (now : Outside) → Teller → Replies → Type 0

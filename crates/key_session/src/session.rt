@@ -1,16 +1,17 @@
 //! A session from its first move to its last line.
 
-ghost use Rattle.std.specs.Prelude.{◌≡◌, ◌≤◌, false, min, length};
-ghost use Rattle.ghost_model.specs.Causes.{last_count};
+ghost use Rattle.std.specs.Prelude.{◌≡◌, ◌≤◌, true, false, min, length};
+ghost use Rattle.ghost_model.specs.Causes.{Rose, last_count};
 ghost use Rattle.ghost_model.specs.Texts.{texts_of};
 ghost use Rattle.edge_traits.specs.Devices.{KeepsPages};
 ghost use Rattle.channel_pump.specs.State.{want_of};
+ghost use Rattle.channel_session.specs.Entries.{WentBy};
 ghost use Rattle.key_lines.specs.Handing.{handed};
 ghost use Rattle.session_replies.specs.Kept.{IsKept, none_heard};
 ghost use Rattle.key_exec.specs.Plans.{Suffices};
 ghost use Rattle.text_lines.specs.Rows.{PrintsSome};
 ghost use Rattle.key_session.specs.Going.{GoesFrom};
-ghost use Rattle.key_session.specs.Running.{HasRun, is_sink};
+ghost use Rattle.key_session.specs.Running.{HasRun, is_sink, blames_flash, spares_flash};
 ghost use Rattle.key_session.specs.Telling.{outside};
 
 use crate::refusing::first_refusal;
@@ -18,7 +19,7 @@ use crate::tally::{Tally, status};
 use crate::teller::Teller;
 use channel_pump::state::{Pump, Want};
 use channel_session::Exchange;
-use channel_session::laws::closed_is_finished;
+use channel_session::laws::{closed_is_finished, moves_join};
 use edge_traits::flash::Flash;
 use edge_traits::link::Link;
 use edge_traits::sink::Sink;
@@ -45,7 +46,7 @@ fn converse<F: Flash, L: Link, O: Sink>(
     requires suffices { Suffices cat.now (F.state flash.old) }
     ensures suffices { Suffices cat.now (F.state flash.new) }
     ensures closed { want_of exchange.new.pump ≡ Want.Closed }
-    ensures gone { GoesFrom (λ journal. L.went link.old journal link.new) F.told cat.now at.now
+    ensures gone { GoesFrom (WentBy (λ journal. L.went link.old journal link.new) (L.faults link.old) (L.faults link.new)) F.told cat.now at.now
         (outside teller.old.printer.failed (O.faults out.old) (O.written out.old) (F.state flash.old)) exchange.old teller.old replies.old
         (outside teller.new.printer.failed (O.faults out.new) (O.written out.new) (F.state flash.new)) exchange.new teller.new replies.new result }
     ensures faults { L.faults link.old ≤ L.faults link.new }
@@ -54,6 +55,7 @@ fn converse<F: Flash, L: Link, O: Sink>(
     replies_fit();
     reasons_stay();
     ended_texts_stay();
+    moves_join();
     let mut refusal = None;
     'moves: loop {
         teller.attend(cat, &exchange.pump, replies, flash, out);
@@ -84,12 +86,16 @@ pub fn run_session<F: Flash, L: Link, O: Sink>(
     requires few { length (texts_of script.now) ≤ 64 }
     requires suffices { Suffices cat.now (F.state flash.old) }
     requires replies { IsKept cat.now (none_heard cat.now) 1 0 replies.old }
-    ensures ran { HasRun (λ journal. L.went link.old journal link.new) F.told cat.now at.now (texts_of script.now)
+    ensures ran { HasRun (λ journal. L.went link.old journal link.new) (L.faults link.old) (L.faults link.new) F.told cat.now at.now (texts_of script.now)
         (outside false (O.faults out.old) (O.written out.old) (F.state flash.old)) (outside (is_sink result.status) (O.faults out.new) (O.written out.new) (F.state flash.new)) result }
     ensures texts { result.texts ≡ length (texts_of script.now) }
     ensures prints { PrintsSome (handed false (O.faults out.old) (O.written out.old)) (handed (is_sink result.status) (O.faults out.new) (O.written out.new)) }
+    ensures sink_rose { is_sink result.status ≡ true → Rose (O.faults out.old) (O.faults out.new) }
+    ensures sink_same { is_sink result.status ≡ false → O.faults out.new ≡ O.faults out.old }
     ensures pages { KeepsPages (F.state flash.old) (F.state flash.new) }
     ensures flash_faults { min (F.state flash.old).faults last_count ≤ (F.state flash.new).faults }
+    ensures flash_rose { blames_flash result.status ≡ true → Rose (F.state flash.old).faults (F.state flash.new).faults }
+    ensures flash_same { spares_flash result.status ≡ true → (F.state flash.new).faults ≡ (F.state flash.old).faults }
     ensures link_faults { L.faults link.old ≤ L.faults link.new }
 {
     pieces_join();

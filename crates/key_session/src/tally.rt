@@ -1,11 +1,11 @@
 //! What a session counts, and how it ended.
 
-ghost use Rattle.std.specs.Prelude.{◌≡◌, false, None};
+ghost use Rattle.std.specs.Prelude.{◌≡◌, false};
 ghost use Rattle.ghost_model.specs.NextMove.{Left};
 ghost use Rattle.channel_pump.specs.Progress.{EndsAs};
 ghost use Rattle.key_session.specs.Refusing.{first_code};
 ghost use Rattle.key_session.specs.Running as running;
-ghost use Rattle.key_session.specs.Running.{is_sink, status_of};
+ghost use Rattle.key_session.specs.Running.{is_sink, status_with};
 
 use crate::counts::{Counts, Damage};
 use channel_pump::state::Cause;
@@ -53,7 +53,7 @@ pub struct Tally {
 
 /// How a session ended whose lines were written, whose link did not fail, and whose frames were valid.
 fn host_or(refusal: Option<u8>, counts: &Counts) -> SessionStatus
-    ensures status { counts.now.damage ≡ None → result ≡ running.host_or refusal counts.now.by_flash }
+    ensures status { result ≡ running.host_or refusal counts.now.by_flash counts.now.damage }
     ensures written { is_sink result ≡ false }
 {
     match refusal {
@@ -78,8 +78,8 @@ pub(crate) fn status(
     refusal: Option<u8>,
     counts: &Counts,
 ) -> SessionStatus
-    ensures status { (session : Left) → EndsAs session cause → refusal ≡ first_code session.heard.ended → counts.now.damage ≡ None
-        → result ≡ status_of failed session counts.now.by_flash }
+    ensures status { (session : Left) → EndsAs session cause → refusal ≡ first_code session.heard.ended
+        → result ≡ status_with failed session counts.now.by_flash counts.now.damage }
     ensures sink { is_sink result ≡ failed }
 {
     if failed {

@@ -1,5 +1,5 @@
 -- Lines behind the rows of a text.
-use Rattle.std.proofs.Common.{◌≡◌, ◌+◌, ℕ, arith, List, [], ◌∷◌, ◌++◌, length, map, codes, Ok, Err, refl, sym, ◌∙◌, ap, subst, append-nil}
+use Rattle.std.proofs.Common.{◌≡◌, ◌+◌, ℕ, arith, true, List, [], ◌∷◌, ◌++◌, length, map, codes, Ok, Err, refl, sym, ◌∙◌, ap, subst, append-nil}
 use Rattle.std.specs.List.{concat}
 use Rattle.ghost_model.specs.Values.{Row}
 use Rattle.ghost_model.specs.Schema.{Schema}
@@ -11,7 +11,7 @@ use Rattle.ghost_model.specs.Replies.{Reply, answer_from}
 use Rattle.ghost_model.specs.Printed.{row_line, count_line, word_line, answer_lines, refusal_line}
 use Rattle.channel_pump.specs.declared.state.ReplyState.{ReplyState}
 use Rattle.channel_pump.specs.declared.state.ReplyState.TheVariants as state_is
-use Rattle.text_lines.specs.Texts.{TellsAnswer, TellsText, is_refused, is_answered}
+use Rattle.text_lines.specs.Texts.{TellsAnswer, TellsText, is_refused, is_answered, IsToldBy, BrokenBy, is_begun}
 use Rattle.text_lines.specs.declared.text.Told.{Told}
 use Rattle.text_lines.specs.declared.text.Told.TheVariants as told
 use Rattle.key_lines.specs.Handing.{Handed, Hands, PiecesJoin}
@@ -64,3 +64,22 @@ answered_lines schema kept given number text state query a b result accepted don
   handed = tells.handed;
   why = is_answered (record { query = query; accepted = accepted; done = done; are = tells.are });
 }
+
+-- why a text is told so
+pub told_begun : (schema : Schema) (text : List ℕ) (state : ReplyState) (query : Query) (result : Told) → reading schema text ≡ Ok query → state ≡ state_is.Done → is_begun result ≡ true → IsToldBy schema text state result
+told_begun schema text state query told.Refused accepted done begun = cc
+told_begun schema text state query told.Answered accepted done begun = record { query = query; accepted = accepted; came = done }
+told_begun schema text state query told.Host accepted done begun = cc
+told_begun schema text state query told.Link accepted done begun = cc
+told_begun schema text state query told.Protocol accepted done begun = cc
+told_begun schema text state query told.Flash accepted done begun = record { query = query; accepted = accepted; came = done }
+told_begun schema text state query (told.Damaged page slot found) accepted done begun = record { query = query; accepted = accepted; came = done }
+
+pub told_broken : (schema : Schema) (text : List ℕ) (state : ReplyState) (query : Query) (result : Told) → reading schema text ≡ Ok query → (state ≡ state_is.Done → ⊥) → BrokenBy state result → IsToldBy schema text state result
+told_broken schema text state query told.Refused accepted undone broken = absurd broken
+told_broken schema text state query told.Answered accepted undone broken = absurd broken
+told_broken schema text state query told.Host accepted undone broken = record { query = query; accepted = accepted; came = broken }
+told_broken schema text state query told.Link accepted undone broken = record { query = query; accepted = accepted; came = (undone, broken) }
+told_broken schema text state query told.Protocol accepted undone broken = record { query = query; accepted = accepted; came = broken }
+told_broken schema text state query told.Flash accepted undone broken = absurd broken
+told_broken schema text state query (told.Damaged page slot found) accepted undone broken = absurd broken

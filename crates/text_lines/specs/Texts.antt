@@ -1,5 +1,5 @@
 -- What the lines of a text tell, by the state of its replies.
-use Rattle.std.specs.Prelude.{◌≡◌, ◌⊎◌, ℕ, ⊤, List, [], ◌∷◌, ◌++◌, map, codes, Ok, Err}
+use Rattle.std.specs.Prelude.{◌≡◌, ◌⊎◌, ℕ, ⊤, Bool, true, false, List, [], ◌∷◌, ◌++◌, map, codes, Ok, Err}
 use Rattle.std.specs.List.{concat}
 use Rattle.ghost_model.specs.Causes.{Rose}
 use Rattle.ghost_model.specs.Schema.{Schema}
@@ -95,3 +95,42 @@ ToldTells before now told.Link = now ≡ before
 ToldTells before now told.Protocol = now ≡ before
 ToldTells before now told.Flash = Rose before now
 ToldTells before now (told.Damaged page slot found) = now ≡ before
+
+-- why a text is told so, whatever the pages of the flash hold: its reading, and the state of its replies
+pub record IsRefusedText (schema : Schema) (text : List ℕ) : Type 0 where
+  pub refusal : Refusal
+  pub refused : reading schema text ≡ Err refusal
+
+pub record IsAccepted (schema : Schema) (text : List ℕ) (Came : Type 0) : Type 0 where
+  pub query : Query
+  pub accepted : reading schema text ≡ Ok query
+  pub came : Came
+
+-- whether an answer was begun
+abbrev pub is_begun : Told → Bool
+is_begun told.Refused = false
+is_begun told.Answered = true
+is_begun told.Host = false
+is_begun told.Link = false
+is_begun told.Protocol = false
+is_begun told.Flash = true
+is_begun (told.Damaged page slot found) = true
+
+-- the state of the replies of a text whose asks did not all come to their end, by what is told of it
+abbrev pub BrokenBy : ReplyState → Told → Type 0
+BrokenBy state told.Refused = ⊥
+BrokenBy state told.Answered = ⊥
+BrokenBy state told.Host = state ≡ state_is.Host
+BrokenBy state told.Link = (state ≡ state_is.Protocol → ⊥) × (state ≡ state_is.Host → ⊥)
+BrokenBy state told.Protocol = state ≡ state_is.Protocol
+BrokenBy state told.Flash = ⊥
+BrokenBy state (told.Damaged page slot found) = ⊥
+
+abbrev pub IsToldBy : Schema → (text : List ℕ) → ReplyState → Told → Type 0
+IsToldBy schema text state told.Refused = IsRefusedText schema text
+IsToldBy schema text state told.Answered = IsAccepted schema text (state ≡ state_is.Done)
+IsToldBy schema text state told.Host = IsAccepted schema text (state ≡ state_is.Host)
+IsToldBy schema text state told.Link = IsAccepted schema text ((state ≡ state_is.Done → ⊥) × ((state ≡ state_is.Protocol → ⊥) × (state ≡ state_is.Host → ⊥)))
+IsToldBy schema text state told.Protocol = IsAccepted schema text (state ≡ state_is.Protocol)
+IsToldBy schema text state told.Flash = IsAccepted schema text (state ≡ state_is.Done)
+IsToldBy schema text state (told.Damaged page slot found) = IsAccepted schema text (state ≡ state_is.Done)

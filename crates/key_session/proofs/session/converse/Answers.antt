@@ -1,6 +1,7 @@
-use Rattle.std.proofs.Common.{◌+◌, ◌∙◌, sym, ap, arith}
+use Rattle.std.proofs.Common.{◌+◌, ◌∙◌, refl, sym, ap, arith}
 use Rattle.std.specs.Prelude.{is_some}
 use Rattle.ghost_model.specs.Asks.{asked_of}
+use Rattle.channel_session.specs.Entries.{WentBy}
 use Rattle.session_laws.specs.TextEnds.{heard_in}
 use Rattle.key_session.proofs.Attending.{same_asked}
 use Rattle.key_session.proofs.Moving.{none_gone, attended_gone, gone_on, is_some_map}
@@ -9,7 +10,7 @@ use Rattle.key_session.proofs.session.converse.Goals as goal
 pub moves-init : goal.moves-init
 moves-init g c = (
   c.requires.suffices,
-  (λ texts since live known going. none_gone _ _ c.args.cat.now c.args.at.now texts since _ _ _ _ (g.met.L.Link.stays _) live known going),
+  (λ texts since live known going. none_gone _ _ c.args.cat.now c.args.at.now texts since _ _ _ _ (record { gone = g.met.L.Link.stays _; counts = c.moves_join.ensures.joined.none _; short = refl }) live known going),
   omega arith,
 )
 
@@ -27,10 +28,16 @@ moves-preserved g c =
       (λ texts since live known going.
           let gone = c.moves.invariant.1 texts since live known going in
           gone_on c.ended_texts_stay.ensures c.reasons_stay.ensures c.replies_fit.ensures _ c.args.cat.now c.a_catalog_is_short.ensures.catalog.meant
-          (λ journal. g.L.Link.went c.args.link.now journal c.moves.link) (λ journal. g.L.Link.went c.moves.link journal c.step-event.new.link) (λ journal. g.L.Link.went c.args.link.now journal c.step-event.new.link)
+          (WentBy (λ journal. g.L.Link.went c.args.link.now journal c.moves.link) (g.L.Link.faults c.args.link.now) (g.L.Link.faults c.moves.link))
+          (WentBy (λ journal. g.L.Link.went c.moves.link journal c.step-event.new.link) (g.L.Link.faults c.moves.link) (g.L.Link.faults c.step-event.new.link))
+          (WentBy (λ journal. g.L.Link.went c.args.link.now journal c.step-event.new.link) (g.L.Link.faults c.args.link.now) (g.L.Link.faults c.step-event.new.link))
           _ c.args.at.now texts since _ _ c.moves.exchange c.step-event.new.self c.moves.teller c.attend.new.self c.moves.replies c.attend.new.replies c.hear.new.self c.moves.refusal c.first_refusal-refusal.result
           c.step-event.result c.is_some-is_awaited.result gone
-          (λ made first second. g.met.L.Link.joins _ _ _ gone.journal made first second)
+          (λ made first second. record {
+            gone = g.met.L.Link.joins _ _ _ gone.journal made first.gone second.gone;
+            counts = c.moves_join.ensures.joined.two _ _ _ gone.journal made first.counts second.counts;
+            short = c.moves_join.ensures.joined.short gone.journal made first.short second.short;
+          })
           (c.attend.ensures.attended texts gone.journal since gone.live.after gone.known gone.going)
           (c.step-event.ensures.moved c.args.cat.now (asked_of c.args.cat.now.schema texts) gone.journal gone.live)
           (c.step-event.ensures.known gone.known)

@@ -1,0 +1,44 @@
+-- Why each text of a session has its lines, whatever the pages of the flash hold: it is refused, or its asks did not all
+-- come to their end, or they did and it was answered or met a fault of the flash. The flash's count of faults tells of the
+-- texts that it ended: it rose at least as often, and where it ended none it is as it was.
+use Rattle.std.specs.Prelude.{◌≡◌, ℕ, suc, ◌+◌, ◌≤◌, min, Bool, true, false, List, length, count_by, slice_get, Some, Ok, is_err}
+use Rattle.std.specs.List.{list_any}
+use Rattle.ghost_model.specs.Causes.{last_count}
+use Rattle.ghost_model.specs.Schema.{Schema}
+use Rattle.ghost_model.specs.Query.{Query}
+use Rattle.ghost_model.specs.QueryReading.{reading}
+use Rattle.ghost_model.specs.Channel.{Catalog, Journal}
+use Rattle.ghost_model.specs.Lines.{Reason, IsRefused, WasBroken, WasAnswered, MetFault, ended_of, all_done}
+use Rattle.text_lines.specs.Texts.{IsRefusedText}
+use Rattle.key_session.specs.Counting.{is_flash}
+
+abbrev pub is_refused_text : Schema → (written : List ℕ) → Bool
+is_refused_text schema written = is_err (reading schema written)
+
+-- an accepted text, and whether all its asks were ended by DONE
+pub record CameTo (all : Bool) (catalog : Catalog) (texts : List (List ℕ)) (journal : Journal) (number : ℕ) (written : List ℕ) : Type 0 where
+  pub query : Query
+  pub accepted : reading catalog.schema written ≡ Ok query
+  pub done : all_done catalog.schema query (ended_of catalog texts journal number) ≡ all
+
+abbrev pub IsReason : Reason → Catalog → (texts : List (List ℕ)) → Journal → (number : ℕ) → (written : List ℕ) → Type 0
+IsReason IsRefused catalog texts journal number written = IsRefusedText catalog.schema written
+IsReason WasBroken catalog texts journal number written = CameTo false catalog texts journal number written
+IsReason WasAnswered catalog texts journal number written = CameTo true catalog texts journal number written
+IsReason (MetFault fault) catalog texts journal number written = CameTo true catalog texts journal number written
+
+-- why the text at a place has its lines; the text at place 0 has number 1
+pub record HasReason (catalog : Catalog) (texts : List (List ℕ)) (journal : Journal) (place : ℕ) (reason : Reason) : Type 0 where
+  pub written : List ℕ
+  pub stands : slice_get texts place ≡ Some written
+  pub is_reason : IsReason reason catalog texts journal (suc place) written
+
+-- so many texts from the front have these reasons, which were counted; before them and after them the flash had counted so
+-- many faults
+pub record HaveReasons (catalog : Catalog) (texts : List (List ℕ)) (journal : Journal) (count : ℕ) (Counted : List Reason → Type 0) (before now : ℕ) : Type 0 where
+  pub reasons : List Reason
+  pub as_many : length reasons ≡ count
+  pub each : (place : ℕ) (reason : Reason) → slice_get reasons place ≡ Some reason → HasReason catalog texts journal place reason
+  pub blamed : min (before + count_by is_flash reasons) last_count ≤ now
+  pub unblamed : list_any is_flash reasons ≡ false → now ≡ before
+  pub counted : Counted reasons
