@@ -178,6 +178,7 @@ module _ (catalog : Catalog) (database : Database) (texts : List (List ℕ)) (jo
           lines = given_texts are.told are.as_many are.each;
           handed_on = subst (λ (bytes : List ℕ). Hands bytes since.sink now.sink) (sym (same_bytes are.told)) are.handed_on;
           blamed = rw (same_count are.told) are.blamed;
+          unblamed = λ none. are.unblamed (sym (same_any are.told) ∙ none);
         };
         status_is = are.counted.status_is ∙ ap (status_of failed session) (sym (same_any are.told));
       }

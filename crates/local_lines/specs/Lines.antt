@@ -56,12 +56,13 @@ pub record AreTextLines (schema : Schema) (database : Database) (texts : List (L
   pub whole : list_any is_cut given ≡ false → bytes_given given ≡ printed schema texts database
 
 -- what a session gave: lines of each text were handed to the sink, and the flash failed as often as it is blamed, or more
--- often
+-- often; where it is not blamed, its count is the same
 pub record Gives (schema : Schema) (database : Database) (texts : List (List ℕ)) (since now : Outside) : Type 0 where
   pub given : List TextLines
   pub lines : AreTextLines schema database texts given
   pub handed_on : Hands (bytes_given given) since.sink now.sink
   pub blamed : min (since.flash.faults + count_by is_cut given) last_count ≤ now.flash.faults
+  pub unblamed : list_any is_cut given ≡ false → now.flash.faults ≡ since.flash.faults
 
 -- the session's tally has the status of such lines: that of the flash, where it failed a text and no other cause comes first
 pub record GivesByTally (failed : Bool) (session : Left) (tally : Tally) (schema : Schema) (database : Database) (texts : List (List ℕ)) (since now : Outside) : Type 0 where
