@@ -9,7 +9,7 @@ use Rattle.key_inputs.specs.Openings.{Spelled, TablesInput, tables_opening}
 use Rattle.key_inputs.specs.Scripts.{script_opening}
 use Rattle.key_lines.specs.Handing.{handed}
 use Rattle.text_lines.specs.Rows.{PrintsSome}
-use Rattle.key_session.specs.Running.{is_sink}
+use Rattle.key_session.specs.Running.{is_sink, blames_flash, spares_flash}
 use Rattle.key_session.specs.Telling as telling
 use Rattle.key_session.specs.declared.tally.Tally.{Tally}
 use Rattle.key_plain.specs.Openings.{PlainInput, plain_opening}
@@ -132,10 +132,14 @@ session_side failed one = telling.outside failed one.sink_faults one.written one
 
 -- the headline of `query` stands in `ran`; `goes` tells by which moves the link went
 pub record QueryDid (goes : Journal → Type 0) (link_before link_after : ℕ) (told : Bool) (outcome : Result Tally QueryFailure) (before after : Outside) (words : Query) : Type 0 where
-  pub ran : IfOk outcome (λ tally. queries.Runs goes told words before.files
+  pub ran : IfOk outcome (λ tally. queries.Runs goes link_before link_after told words before.files
       (session_side false before) (session_side (is_sink tally.status) after) tally)
   pub prints : IfOk outcome (λ tally. PrintsSome (handed false before.sink_faults before.written)
       (handed (is_sink tally.status) after.sink_faults after.written))
+  pub sink_rose : IfOk outcome (λ tally. is_sink tally.status ≡ true → Rose before.sink_faults after.sink_faults)
+  pub sink_same : IfOk outcome (λ tally. is_sink tally.status ≡ false → after.sink_faults ≡ before.sink_faults)
+  pub flash_rose : IfOk outcome (λ tally. blames_flash tally.status ≡ true → Rose before.device.faults after.device.faults)
+  pub flash_same : IfOk outcome (λ tally. spares_flash tally.status ≡ true → after.device.faults ≡ before.device.faults)
   pub script : IfErr outcome (λ fault. queries.TellsScript before.files words.script fault)
   pub device : IfErr outcome (λ fault. queries.TellsFlash told after.device fault)
   pub complete : (files : Files) → (script : List ℕ) → (cat : Catalog) → told ≡ true → before.files ≡ Some files
@@ -150,6 +154,8 @@ pub record QueryDid (goes : Journal → Type 0) (link_before link_after : ℕ) (
   pub flash : outcome ≡ Err query_failure.Flash → Rose before.device.faults after.device.faults
   pub no_flash : IfErr outcome (λ fault. (fault ≡ query_failure.Flash → ⊥) → after.device.faults ≡ before.device.faults)
   pub depot : outcome ≡ Err query_failure.Depot → Rose before.depot_faults after.depot_faults
+  pub flash_faults : min before.device.faults last_count ≤ after.device.faults
+  pub link_faults : link_before ≤ link_after
   pub no_depot : (outcome ≡ Err query_failure.Depot → ⊥) → after.depot_faults ≡ before.depot_faults
   pub appends : after.append_faults ≡ before.append_faults
   pub files : after.files ≡ before.files

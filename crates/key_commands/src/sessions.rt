@@ -79,7 +79,7 @@ pub(crate) fn local_end_line(
         LocalEnd::Sink => String::from_str(alloc, NO_OUTPUT),
         LocalEnd::Depot => {
             let journal = words.journal.unwrap_or("");
-            format!(in alloc; "{journal} could not be written to its end; the texts are answered")
+            format!(in alloc; "{journal} could not be written to its end")
         }
         LocalEnd::Flash => flash_line(alloc, words.flash),
         LocalEnd::Damaged { page, slot, found } => {
