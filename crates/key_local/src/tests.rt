@@ -160,7 +160,12 @@ fn journal_is(depot: &MemDepot, pieces: &[&str]) -> bool {
 fn each_script_has_its_lines_and_its_journal(rt: HostRuntime) -> Result<(), AllocError> {
     let cases = [
         ("", "", FOUR_VISITS, ""),
-        (FLU, "> 1\tcardio\n> 3\tcardio\n= 1 2\n", FOUR_VISITS, CARDIO),
+        (
+            FLU,
+            "> 1\tcardio\n> 3\tcardio\n= 1 2\n",
+            FOUR_VISITS,
+            CARDIO,
+        ),
         (
             "SELECT visit.id, specialty FROM visit, doctor WHERE doc = doctor.id AND specialty = 'cardio' AND purpose = 'none';",
             "= 1 0\n",
@@ -212,9 +217,16 @@ fn each_script_has_its_lines_and_its_journal(rt: HostRuntime) -> Result<(), Allo
     ];
     for (script, lines, visits, exchange) in cases.iter() {
         let mut clinic = clinic_with(rt.alloc(), VISITS, script, &[], &[], &[])?;
-        assert_eq!(rt; local_clinic(rt.alloc(), &WORDS, &mut clinic), Ok(LocalEnd::Ok), "{script}");
+        assert_eq!(rt;
+            local_clinic(rt.alloc(), &WORDS, &mut clinic),
+            Ok(LocalEnd::Ok),
+            "{script}"
+        );
         assert_eq!(rt; clinic.out.bytes(), lines.as_bytes(), "{script}");
-        assert!(rt; journal_is(&clinic.depot, &[GREETING, visits, exchange, FAREWELL]), "{script}");
+        assert!(rt;
+            journal_is(&clinic.depot, &[GREETING, visits, exchange, FAREWELL]),
+            "{script}"
+        );
     }
     Ok(())
 }
@@ -223,7 +235,10 @@ fn each_script_has_its_lines_and_its_journal(rt: HostRuntime) -> Result<(), Allo
 fn a_table_of_a_header_alone_has_no_rows(rt: HostRuntime) -> Result<(), AllocError> {
     let script = "SELECT day FROM visit;";
     let mut clinic = clinic_with(rt.alloc(), NO_VISITS, script, &[], &[], &[])?;
-    assert_eq!(rt; local_clinic(rt.alloc(), &WORDS, &mut clinic), Ok(LocalEnd::Ok));
+    assert_eq!(rt;
+        local_clinic(rt.alloc(), &WORDS, &mut clinic),
+        Ok(LocalEnd::Ok)
+    );
     assert_eq!(rt; clinic.out.bytes(), b"= 1 0\n".as_slice());
     assert!(rt; journal_is(&clinic.depot, &[GREETING, NO_DAYS, FAREWELL]));
     Ok(())
@@ -233,7 +248,10 @@ fn a_table_of_a_header_alone_has_no_rows(rt: HostRuntime) -> Result<(), AllocErr
 fn a_text_twice_is_asked_twice(rt: HostRuntime) -> Result<(), AllocError> {
     let script = format!(in rt.alloc(); "{FLU}{FLU}")?;
     let mut clinic = clinic_with(rt.alloc(), VISITS, script.as_str(), &[], &[], &[])?;
-    assert_eq!(rt; local_clinic(rt.alloc(), &WORDS, &mut clinic), Ok(LocalEnd::Ok));
+    assert_eq!(rt;
+        local_clinic(rt.alloc(), &WORDS, &mut clinic),
+        Ok(LocalEnd::Ok)
+    );
     let lines = "> 1\tcardio\n> 3\tcardio\n= 1 2\n> 1\tcardio\n> 3\tcardio\n= 2 2\n";
     assert_eq!(rt; clinic.out.bytes(), lines.as_bytes());
     assert!(rt;
@@ -248,7 +266,10 @@ fn a_text_twice_is_asked_twice(rt: HostRuntime) -> Result<(), AllocError> {
 #[test]
 fn without_a_journal_no_file_is_written(rt: HostRuntime) -> Result<(), AllocError> {
     let mut clinic = clinic_with(rt.alloc(), VISITS, THREE, &[], &[], &[])?;
-    assert_eq!(rt; local_clinic(rt.alloc(), &SILENT, &mut clinic), Ok(LocalEnd::Ok));
+    assert_eq!(rt;
+        local_clinic(rt.alloc(), &SILENT, &mut clinic),
+        Ok(LocalEnd::Ok)
+    );
     assert_eq!(rt; clinic.out.bytes(), THREE_LINES.as_bytes());
     assert!(rt; clinic.depot.file("journal").is_none());
     assert_eq!(rt; clinic.depot.script.calls, DEPOT_CALLS - 1);
@@ -259,7 +280,10 @@ fn without_a_journal_no_file_is_written(rt: HostRuntime) -> Result<(), AllocErro
 fn an_older_journal_is_begun_anew(rt: HostRuntime) -> Result<(), AllocError> {
     let mut clinic = clinic_with(rt.alloc(), VISITS, "", &[], &[], &[])?;
     let _older = clinic.depot.put("journal", b"dial ok\nclose\n");
-    assert_eq!(rt; local_clinic(rt.alloc(), &WORDS, &mut clinic), Ok(LocalEnd::Ok));
+    assert_eq!(rt;
+        local_clinic(rt.alloc(), &WORDS, &mut clinic),
+        Ok(LocalEnd::Ok)
+    );
     assert!(rt; journal_is(&clinic.depot, &[GREETING, FOUR_VISITS, FAREWELL]));
     Ok(())
 }
@@ -284,8 +308,11 @@ fn a_failing_write_changes_no_move(rt: HostRuntime) -> Result<(), AllocError> {
             Ok(LocalEnd::Sink),
             "call {call}"
         );
-        let (front, _) = THREE_LINES.as_bytes().split_at(taken);
-        assert_eq!(rt; clinic.out.bytes(), front, "call {call}");
+        assert_eq!(rt; clinic.out.bytes().len(), taken, "call {call}");
+        assert!(rt;
+            THREE_LINES.as_bytes().starts_with(clinic.out.bytes()),
+            "call {call}"
+        );
         assert!(rt;
             journal_is(
                 &clinic.depot,
@@ -309,7 +336,11 @@ fn a_failing_append_changes_no_line(rt: HostRuntime) -> Result<(), AllocError> {
         );
         assert_eq!(rt; clinic.out.bytes(), THREE_LINES.as_bytes(), "call {call}");
         assert_eq!(rt; clinic.depot.append_faults(), 1, "call {call}");
-        assert_eq!(rt; clinic.depot.script.calls, DEPOT_CALLS + call, "call {call}");
+        assert_eq!(rt;
+            clinic.depot.script.calls,
+            DEPOT_CALLS + call,
+            "call {call}"
+        );
     }
     Ok(())
 }
@@ -317,8 +348,14 @@ fn a_failing_append_changes_no_line(rt: HostRuntime) -> Result<(), AllocError> {
 #[test]
 fn a_failing_read_of_the_flash_ends_one_text(rt: HostRuntime) -> Result<(), AllocError> {
     for (call, lines) in [
-        (1u64, "! 1 flash\n> 1\t5\n> 2\t5\n> 3\t9\n> 4\t2\n= 2 4\n> Ann\n= 3 1\n"),
-        (2, "! 1 flash\n> 1\t5\n> 2\t5\n> 3\t9\n> 4\t2\n= 2 4\n> Ann\n= 3 1\n"),
+        (
+            1u64,
+            "! 1 flash\n> 1\t5\n> 2\t5\n> 3\t9\n> 4\t2\n= 2 4\n> Ann\n= 3 1\n",
+        ),
+        (
+            2,
+            "! 1 flash\n> 1\t5\n> 2\t5\n> 3\t9\n> 4\t2\n= 2 4\n> Ann\n= 3 1\n",
+        ),
         (
             3,
             "> 1\tcardio\n> 3\tcardio\n= 1 2\n> 1\t5\n> 2\t5\n> 3\t9\n> 4\t2\n= 2 4\n! 3 flash\n",
