@@ -5,6 +5,7 @@ use Rattle.std.specs.Prelude.{cond}
 use Rattle.std.proofs.lemmas.List.Sums.{sum_by-cons}
 use Rattle.ghost_model.specs.Causes.{Rose, last_count}
 use Rattle.ghost_model.specs.Values.{Database}
+use Rattle.ghost_model.specs.Catalog.{IsCatalog}
 use Rattle.ghost_model.specs.Channel.{Catalog, Journal, Entry}
 use Rattle.ghost_model.specs.Asks.{asked_of}
 use Rattle.ghost_model.specs.Moves.{answers}
@@ -14,13 +15,16 @@ use Rattle.ghost_model.specs.Lines.{Reason, IsRefused, WasBroken, WasAnswered, M
 use Rattle.ghost_model.specs.Printed.{printed}
 use Rattle.edge_traits.specs.Written.{grown}
 use Rattle.session_laws.specs.TextEnds.{heard_in}
-use Rattle.session_laws.specs.HonestSessions.{HonestSessionsAreSmooth, HonestLinesArePrinted, AreSoundLines, AreAllLines, is_own_fault}
+use Rattle.session_laws.specs.HonestSessions.{IsHonestSession, HonestSessionsAreSmooth, HonestLinesArePrinted, AreSoundLines, AreAllLines, is_own_fault}
 use Rattle.key_session.specs.Counting.{is_flash, is_damage}
 use Rattle.key_session.specs.Refusing.{first_code}
 use Rattle.key_session.specs.Running.{HasRun, status_of}
 use Rattle.key_session.specs.Telling.{Outside, TextTold, IsTold, reasons_of, bytes_told, bytes_of}
 use Rattle.key_session.specs.declared.tally.Tally.{Tally}
 use Rattle.key_session.specs.declared.tally.SessionStatus.TheVariants as status
+use Rattle.flash_layout.specs.Limits.{HasLayout}
+use Rattle.tree_schema.specs.CatalogParts.{CatalogsAreBytes}
+use Rattle.key_query.proofs.Settings.{setting, stored}
 use Rattle.key_query.specs.Answering.{AnswersWhereSound}
 
 abbrev lines_in : List TextTold → List (List (List ℕ))
@@ -126,21 +130,28 @@ module _ (catalog : Catalog) (at : List ℕ) (texts : List (List ℕ)) (database
         });
   }
 
-pub answers_all : HonestSessionsAreSmooth → HonestLinesArePrinted → (goes : Journal → Type 0) (link_before link_now : ℕ) (told : Bool) (cat : Catalog) (at : List ℕ) (texts : List (List ℕ))
+pub answers_all : HonestSessionsAreSmooth → HonestLinesArePrinted → CatalogsAreBytes → (goes : Journal → Type 0) (link_before link_now : ℕ) (told : Bool) (cat : Catalog) (at : List ℕ) (texts : List (List ℕ))
     (since now : Outside) (tally : Tally) (ran : HasRun goes link_before link_now told cat at texts since now tally)
-    → AnswersWhereSound goes link_before link_now told cat at texts since now tally ran
-answers_all smooth prints goes link_before link_now told cat at texts since now tally ran = λ database sound.
+    → IsCatalog cat → HasLayout cat → length texts ≤ 64 → AnswersWhereSound goes link_before link_now told cat at texts since now tally ran
+answers_all smooth prints bytes goes link_before link_now told cat at texts since now tally ran proper layout few = λ database sound.
+    let session_is : IsHonestSession cat database at texts ran.journal =
+    record {
+      setting = setting cat texts proper layout.tree few;
+      stored = stored bytes told since.flash.page cat database proper layout.few sound.pages;
+      proper = ran.proper;
+      honest = sound.host;
+    } in
     let are = ran.told database sound.pages in
     let none : count_by is_flash (reasons_of are.told) ≡ 0 =
     no_flash since.flash.faults (count_by is_flash (reasons_of are.told)) now.flash.faults are.blamed sound.flash in
-    let went = smooth cat database at texts ran.journal sound.host in
+    let went = smooth cat database at texts ran.journal session_is in
     let session = left cat (asked_of cat.schema texts) ran.journal in
     let ok : status_of false session false ≡ status.Ok =
-    all_well session (no_stop ran.journal sound.host.honest.nothing_breaks_off) went.valid
+    all_well session (no_stop ran.journal sound.host.nothing_breaks_off) went.valid
     (no_code (heard_in cat texts ran.journal).ended went.none_refused) in
     let all : bytes_told are.told ≡ printed cat.schema texts database =
     bytes_in are.told
-    ∙ ap concat (prints cat database at texts ran.journal (lines_in are.told) sound.host ran.finished
+    ∙ ap concat (prints cat database at texts ran.journal (lines_in are.told) session_is ran.finished
     (sound_lines cat at texts database ran.journal are.told none are.as_many are.each)) in
     record {
       printed_all = (are.handed_on.whole sound.sink).written ∙ ap (λ bytes. grown since.sink.written bytes) all;

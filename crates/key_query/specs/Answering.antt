@@ -4,17 +4,18 @@ use Rattle.std.specs.Prelude.{◌≡◌, ℕ, Bool, false, List}
 use Rattle.ghost_model.specs.Causes.{Rose}
 use Rattle.ghost_model.specs.Values.{Database}
 use Rattle.ghost_model.specs.Channel.{Catalog, Journal}
+use Rattle.ghost_model.specs.Honest.{IsHonest}
 use Rattle.ghost_model.specs.Printed.{printed}
+use Rattle.ghost_model.specs.Split.{public_of}
 use Rattle.edge_traits.specs.Written.{grown}
-use Rattle.session_laws.specs.HonestSessions.{IsHonestSession}
 use Rattle.key_exec.specs.Reading.{Knows}
 use Rattle.key_session.specs.Running.{HasRun}
 use Rattle.key_session.specs.Telling.{Outside}
 use Rattle.key_session.specs.declared.tally.Tally.{Tally}
 use Rattle.key_session.specs.declared.tally.SessionStatus.TheVariants as status
 
-pub record IsSound (told : Bool) (cat : Catalog) (at : List ℕ) (texts : List (List ℕ)) (database : Database) (journal : Journal) (since now : Outside) : Type 0 where
-  pub host : IsHonestSession cat database at texts journal
+pub record IsSound (told : Bool) (cat : Catalog) (database : Database) (journal : Journal) (since now : Outside) : Type 0 where
+  pub host : IsHonest cat (public_of cat.schema database) journal
   pub pages : Knows told since.flash.page cat database
   pub flash : Rose since.flash.faults now.flash.faults → ⊥
   pub sink : now.sink.failed ≡ false
@@ -27,5 +28,5 @@ pub record AnswersAll (cat : Catalog) (texts : List (List ℕ)) (database : Data
 -- whichever database it is
 abbrev pub AnswersWhereSound : (goes : Journal → Type 0) (link_before link_now : ℕ) (told : Bool) (cat : Catalog) (at : List ℕ) (texts : List (List ℕ)) (since now : Outside) (tally : Tally) → HasRun goes link_before link_now told cat at texts since now tally → Type 0
 AnswersWhereSound goes link_before link_now told cat at texts since now tally ran =
-    (database : Database) → IsSound told cat at texts database ran.journal since now
+    (database : Database) → IsSound told cat database ran.journal since now
     → AnswersAll cat texts database since now tally

@@ -21,11 +21,12 @@ use edge_traits::depot::Depot;
 use edge_traits::flash::Flash;
 use edge_traits::link::Link;
 use edge_traits::sink::Sink;
+use flash_layout::limits::a_catalog_has_a_layout;
 use key_session::{Tally, run_session};
 use key_words::QueryWords;
 use session_laws::honest_sessions::{honest_lines_are_printed, honest_sessions_are_smooth};
 use std::alloc::Global;
-use tree_schema::catalog_bytes::a_catalog_is_short;
+use tree_schema::catalog_bytes::{a_catalog_is_short, catalogs_are_bytes};
 
 /// Does the command `query`: reads the script, attaches the flash, reads the catalog on its public pages, and takes the
 /// memory for two texts' replies. Then it runs the session of the script with the host at the address of `--to`, and
@@ -76,6 +77,8 @@ pub fn query<D: Depot, F: Flash, L: Link, O: Sink>(
                 mut replies,
             } = opened;
             a_catalog_is_short(&cat);
+            a_catalog_has_a_layout(&cat);
+            catalogs_are_bytes();
             honest_sessions_are_smooth();
             honest_lines_are_printed();
             Ok(run_session(&cat, &script, words.to, &mut replies, flash, link, out))

@@ -11,6 +11,8 @@ returns-in-Ok-clause-ran g c =
     let since = outside false (g.O.Sink.faults c.args.out.now) (g.O.Sink.written c.args.out.now) device in
     let now = outside (is_sink c.run_session.result.status) (g.O.Sink.faults c.run_session.new.out) (g.O.Sink.written c.run_session.new.out) (g.F.Flash.state c.run_session.new.flash) in
     let opened = c.in-Ok.ensures.opened in
+    let is_script : IsScript (g.D.Depot.contents c.args.depot.now) c.args.words.now.script.now c.deref.result.now =
+    subst (λ (script : List ℕ). IsScript (g.D.Depot.contents c.args.depot.now) c.args.words.now.script.now script) (sym c.deref.ensures.value) opened.script in
     record {
       opened = device;
       opens = record {
@@ -23,9 +25,10 @@ returns-in-Ok-clause-ran g c =
       catalog = opened.catalog;
       enough = opened.suffices.pages;
       script = c.deref.result.now;
-      is_script = subst (λ (script : List ℕ). IsScript (g.D.Depot.contents c.args.depot.now) c.args.words.now.script.now script) (sym c.deref.ensures.value) opened.script;
+      is_script = is_script;
       ran = c.run_session.ensures.ran;
-      answered = answers_all c.honest_sessions_are_smooth.ensures c.honest_lines_are_printed.ensures _ (g.L.Link.faults c.args.link.now) (g.L.Link.faults c.run_session.new.link) g.F.Flash.told c.in-Ok.opened.cat c.args.words.now.to.now _ since now c.run_session.result c.run_session.ensures.ran;
+      answered = answers_all c.honest_sessions_are_smooth.ensures c.honest_lines_are_printed.ensures c.catalogs_are_bytes.ensures.bytes _ (g.L.Link.faults c.args.link.now) (g.L.Link.faults c.run_session.new.link) g.F.Flash.told c.in-Ok.opened.cat c.args.words.now.to.now _ since now c.run_session.result c.run_session.ensures.ran
+          c.a_catalog_is_short.ensures.catalog c.a_catalog_has_a_layout.ensures.layout is_script.few;
       texts = c.run_session.ensures.texts;
       kept = c.run_session.ensures.pages;
     }
