@@ -31,7 +31,7 @@ use Rattle.key_local.specs.declared.opening.Opened.{Opened}
 use Rattle.key_local.proofs.Keeping.{lines_there}
 
 -- what was given since the flash was made was given since before
-gives_since : (schema : Schema) (database : Database) (texts : List (List ℕ)) (failed : Bool) (before middle after : World)
+abbrev gives_since : (schema : Schema) (database : Database) (texts : List (List ℕ)) (failed : Bool) (before middle after : World)
     → middle.device.faults ≡ before.device.faults → middle.sink_faults ≡ before.sink_faults → middle.written ≡ before.written
     → Gives schema database texts (outside_in false middle) (outside_in failed after) → Gives schema database texts (outside_in false before) (outside_in failed after)
 gives_since schema database texts failed before middle after faults sink written gives = record {
@@ -41,6 +41,7 @@ gives_since schema database texts failed before middle after faults sink written
       subst (λ (written : Option (List ℕ)). Hands (bytes_given gives.given) (handed false before.sink_faults written) (handed failed after.sink_faults after.written)) written
       (subst (λ (count : ℕ). Hands (bytes_given gives.given) (handed false count middle.written) (handed failed after.sink_faults after.written)) sink gives.handed_on);
   blamed = subst (λ (count : ℕ). min (count + count_by is_cut gives.given) last_count ≤ after.device.faults) faults gives.blamed;
+  unblamed = λ none. gives.unblamed none ∙ faults;
 }
 
 -- the columns that were written are those of the catalog's database
@@ -67,7 +68,9 @@ ran_of told schema database texts name end catalog before middle after same ran 
           (mine.kept (λ rose. calm (subst (λ (count : ℕ). Rose count after.append_faults) appends rose)));
       gives = λ t. gives_since schema database texts (is_sink end) before middle after faults sink written (mine.gives t);
       printed_all = λ t whole. mine.printed_all t whole ∙ ap (λ (held : Option (List ℕ)). grown held (printed schema texts database)) written;
+      cut = λ t is. mine.cut t is;
       undamaged = mine.undamaged;
+      damaged = mine.damaged;
       catalog = λ t. subst (λ (page : ℕ → List ℕ). HoldsCatalog page (catalog_for schema database)) (sym kept.page)
           (subst (λ (c : Catalog). HoldsCatalog middle.device.page c) same (catalog_there t));
       columns = λ t. subst (λ (page : ℕ → List ℕ). HoldsColumns page (catalog_for schema database) (hidden_of schema database)) (sym kept.page)

@@ -7,24 +7,28 @@ use Rattle.ghost_model.specs.Channel.{Catalog, Journal}
 use Rattle.ghost_model.specs.Moves.{taken}
 use Rattle.ghost_model.specs.NextMove.{Left, left, heard, IsFinished}
 use Rattle.ghost_model.specs.Printed.{printed}
+use Rattle.ghost_model.specs.Schema.{Schema}
 use Rattle.ghost_model.specs.Split.{hidden_of}
 use Rattle.ghost_model.specs.Values.{Database}
-use Rattle.edge_traits.specs.Devices.{Device}
+use Rattle.edge_traits.specs.Devices.{Device, KeepsPages}
 use Rattle.edge_traits.specs.Files.{Files}
 use Rattle.edge_traits.specs.Written.{grown}
 use Rattle.session_laws.specs.Local.{IsLocal, IsUnbroken, LocalSessionsAreServed}
 use Rattle.key_session.specs.Refusing.{first_code}
-use Rattle.key_session.specs.Running.{IsTally, status_of, is_sink as wrote_none}
+use Rattle.key_session.specs.Running.{IsTally, status_of, blames_flash, is_sink as wrote_none}
 use Rattle.key_session.specs.Telling.{Outside, AreTold}
+use Rattle.key_exec.specs.Blaming.{IsDamaged}
+use Rattle.key_session.specs.declared.counts.Damage.{Damage}
 use Rattle.key_session.specs.declared.tally.SessionStatus.{SessionStatus}
 use Rattle.key_session.specs.declared.tally.SessionStatus.TheVariants as status
 use Rattle.key_session.specs.declared.tally.Tally.{Tally}
-use Rattle.local_lines.specs.Lines.{Gives, GivesByTally, ToldTextsAreGiven, is_cut}
-use Rattle.key_local.specs.Running.{RanOver, KeepsLines, is_damage}
+use Rattle.key_lines.specs.Handing.{Hands, handed}
+use Rattle.local_lines.specs.Lines.{Gives, GivesByTally, ToldTextsAreGiven, is_cut, bytes_given}
+use Rattle.key_local.specs.Running.{RanOver, KeepsLines, damage_at}
 use Rattle.key_local.specs.Sessions.{World, world, outside_in, is_sink, is_damaged}
 use Rattle.key_local.specs.declared.ends.LocalEnd.{LocalEnd}
 use Rattle.key_local.specs.declared.ends.LocalEnd.TheVariants as ends
-use Rattle.key_local.proofs.Statuses.{none_stops, no_code, whole_status, no_damage}
+use Rattle.key_local.proofs.Statuses.{none_stops, no_code, whole_status, flash_status, is_damage, damage_found, no_damage}
 
 not_so : (b : Bool) → (b ≡ true → ⊥) → b ≡ false
 not_so true never = absurd (never refl)
@@ -46,6 +50,17 @@ module _ (catalog : Catalog) (database : Database) (texts : List (List ℕ)) (jo
   pub granted : first_code session.heard.ended ≡ None
   granted = no_code session.heard.ended unbroken.none_refused
 
+-- what was given while the sink failed so
+abbrev gives_as : (schema : Schema) (database : Database) (texts : List (List ℕ)) (wrote failed : Bool) (before after : World) → wrote ≡ failed
+    → Gives schema database texts (outside_in false before) (outside_in wrote after) → Gives schema database texts (outside_in false before) (outside_in failed after)
+gives_as schema database texts wrote failed before after same gives = record {
+  given = gives.given;
+  lines = gives.lines;
+  handed_on = subst (λ (f : Bool). Hands (bytes_given gives.given) (handed false before.sink_faults before.written) (handed f after.sink_faults after.written)) same gives.handed_on;
+  blamed = gives.blamed;
+  unblamed = gives.unblamed;
+}
+
 -- a session was held to its end
 pub ran_over : (told : Bool) (catalog : Catalog) (database : Database) (texts : List (List ℕ)) (name : Option (List ℕ)) (end : LocalEnd) (tally : Tally) (before after : World) (journal : Journal)
     → LocalSessionsAreServed → ToldTextsAreGiven
@@ -53,9 +68,11 @@ pub ran_over : (told : Bool) (catalog : Catalog) (database : Database) (texts : 
     → ((Rose before.append_faults after.append_faults → ⊥) → KeepsLines before.files after.files name journal)
     → (told ≡ true → AreTold catalog (hidden_of catalog.schema database) texts journal (length texts)
     (λ reasons. IsTally (wrote_none tally.status) (left catalog (asked_of catalog.schema texts) journal) reasons tally) (outside_in false before) (outside_in (wrote_none tally.status) after))
-    → is_sink end ≡ wrote_none tally.status → (end ≡ ends.Ok → tally.status ≡ status.Ok) → (is_damaged end ≡ true → is_damage tally.status ≡ true)
+    → ((damage : Damage) → tally.status ≡ status.Damaged damage → IsDamaged told before.device.page catalog damage.page damage.slot damage.found) → KeepsPages before.device after.device
+    → is_sink end ≡ wrote_none tally.status → (end ≡ ends.Ok → tally.status ≡ status.Ok) → (end ≡ ends.Flash → blames_flash tally.status ≡ true)
+    → ((page slot found : ℕ) → end ≡ ends.Damaged page slot found → tally.status ≡ status.Damaged (damage_at page slot found))
     → RanOver told catalog database texts name end before after
-ran_over told catalog database texts name end tally before after journal served given is_local finished kept are_told sink whole damaged =
+ran_over told catalog database texts name end tally before after journal served given is_local finished kept are_told blamed pages sink whole flash damaged =
     let unbroken = served catalog database [] texts journal is_local in
     let stays = going catalog database texts journal unbroken in
     let right = valid catalog database texts journal unbroken in
@@ -67,17 +84,23 @@ ran_over told catalog database texts name end tally before after journal served 
       is_local = is_local;
       finished = finished;
       kept = kept;
-      gives = λ t. subst (λ (failed : Bool). Gives catalog.schema database texts (outside_in false before) (outside_in failed after)) (sym sink) (by_tally t).gives;
+      gives = λ t. gives_as catalog.schema database texts (wrote_none tally.status) (is_sink end) before after (sym sink) (by_tally t).gives;
       printed_all = λ t is.
           let all = by_tally t in
           let fine : tally.status ≡ status.Ok = whole is in
           let uncut : list_any is_cut all.gives.given ≡ false = whole_status (wrote_none tally.status) (left catalog (asked_of catalog.schema texts) journal) (list_any is_cut all.gives.given) stays right none (sym all.status_is ∙ fine) in
           let took = all.gives.handed_on.whole (ap wrote_none fine) in
           took.written ∙ ap (λ (piece : List ℕ). grown before.written piece) (all.gives.lines.whole uncut);
+      cut = λ t is.
+          let all = by_tally t in
+          flash_status (wrote_none tally.status) (left catalog (asked_of catalog.schema texts) journal) (list_any is_cut all.gives.given) stays right none
+          (sym (ap blames_flash all.status_is) ∙ flash is);
       undamaged = λ t. not_so (is_damaged end) (λ found.
           let all = by_tally t in
           let none_found : is_damage tally.status ≡ false = ap is_damage all.status_is ∙ no_damage (wrote_none tally.status) (left catalog (asked_of catalog.schema texts) journal) (list_any is_cut all.gives.given) stays right none in
-          false_is_not (sym none_found ∙ damaged found));
+          false_is_not (sym none_found ∙ damage_found end tally.status damaged found));
+      damaged = λ page slot found is.
+          subst (λ (pages : ℕ → List ℕ). IsDamaged told pages catalog page slot found) (sym pages.page) (blamed (damage_at page slot found) (damaged page slot found is));
     }
 
 -- and so over what the files and their counts are known to be

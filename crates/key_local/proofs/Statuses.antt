@@ -6,11 +6,14 @@ use Rattle.ghost_model.specs.Moves.{answers}
 use Rattle.ghost_model.specs.NextMove.{Left, Ended, Ending, Answered, Refused, is_stop}
 use Rattle.ghost_model.specs.Lines.{was_refused, is_refused_by}
 use Rattle.key_session.specs.Refusing.{first_code, code_of, or_else}
-use Rattle.key_session.specs.Running.{status_of, status_with, is_sink}
+use Rattle.key_session.specs.Running.{status_of, status_with, is_sink, blames_flash}
 use Rattle.key_session.specs.declared.counts.Damage.{Damage}
 use Rattle.key_session.specs.declared.tally.SessionStatus.{SessionStatus}
 use Rattle.key_session.specs.declared.tally.SessionStatus.TheVariants as status
-use Rattle.key_local.specs.Running.{is_of_local, is_damage}
+use Rattle.key_local.specs.Running.{is_of_local, damage_at}
+use Rattle.key_local.specs.Sessions.{is_damaged}
+use Rattle.key_local.specs.declared.ends.LocalEnd.{LocalEnd}
+use Rattle.key_local.specs.declared.ends.LocalEnd.TheVariants as ends
 
 -- no answer stops it
 pub none_stops : (journal : Journal) → list_any is_stop (answers journal) ≡ false → list_any (λ entry. is_stop entry.answer) journal ≡ false
@@ -50,6 +53,33 @@ whole_status failed session false going valid none whole = refl
 whole_status true session true going valid none whole = cc
 whole_status false session true going valid none whole =
     let is : status_of false session true ≡ status.Flash = rw (going, valid, none) refl in cc
+
+-- the flash is blamed only where it failed in a text
+pub flash_status : (failed : Bool) (session : Left) (by_flash : Bool) → session.stopped ≡ false → session.heard.broken ≡ false
+    → first_code session.heard.ended ≡ None → blames_flash (status_of failed session by_flash) ≡ true → by_flash ≡ true
+flash_status failed session true going valid none blamed = refl
+flash_status true session false going valid none blamed = cc
+flash_status false session false going valid none blamed =
+    let is : status_of false session false ≡ status.Ok = rw (going, valid, none) refl in cc
+
+-- whether damage was found
+abbrev pub is_damage : SessionStatus → Bool
+is_damage status.Ok = false
+is_damage status.Sink = false
+is_damage status.Link = false
+is_damage (status.Protocol kind at) = false
+is_damage (status.Host code) = false
+is_damage status.Flash = false
+is_damage (status.Damaged damage) = true
+
+-- it was, where an end names a slot of which it was found
+pub damage_found : (end : LocalEnd) (one : SessionStatus) → ((page slot found : ℕ) → end ≡ ends.Damaged page slot found → one ≡ status.Damaged (damage_at page slot found))
+    → is_damaged end ≡ true → is_damage one ≡ true
+damage_found ends.Ok one is e = cc
+damage_found ends.Sink one is e = cc
+damage_found ends.Depot one is e = cc
+damage_found ends.Flash one is e = cc
+damage_found (ends.Damaged page slot found) one is e = ap is_damage (is page slot found refl)
 
 -- no damage is found where the pages are told
 pub no_damage : (failed : Bool) (session : Left) (by_flash : Bool) → session.stopped ≡ false → session.heard.broken ≡ false

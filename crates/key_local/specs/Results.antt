@@ -15,7 +15,8 @@ use Rattle.key_local.specs.declared.ends.LocalEnd.TheVariants as ends
 use Rattle.key_local.specs.declared.ends.LocalFailure.{LocalFailure}
 use Rattle.key_local.specs.declared.ends.LocalFailure.TheVariants as failure
 
--- the flash failed before it was whole: it was called no more often than the making takes
+-- where the flash failed while it was made: its calls have risen by no more than those of a whole making, one for the
+-- device and one for each page that is written
 pub record IsUnmade (one : Subject) (before after : World) : Type 0 where
   pub few_calls : after.device.calls ≤ before.device.calls + pages_built (catalog_in one)
 
@@ -89,7 +90,8 @@ leaves_flash (Err failure.Depot) = false
 leaves_flash (Err (failure.Input broken)) = true
 leaves_flash (Err failure.Flash) = false
 
--- whether the depot is blamed, and whether its count may have risen without that
+-- whether the depot is named as the cause: a file could not be read, the journal's could not be begun, or a line of it
+-- could not be appended
 abbrev pub blames_depot : Result LocalEnd LocalFailure → Bool
 blames_depot (Ok ends.Ok) = false
 blames_depot (Ok ends.Sink) = false
@@ -101,7 +103,8 @@ blames_depot (Err failure.Depot) = true
 blames_depot (Err (failure.Input broken)) = false
 blames_depot (Err failure.Flash) = false
 
--- whether nothing that comes before the depot is blamed, nor the depot itself
+-- whether a result comes only where no call on the depot failed: behind `Sink`, which is told first, an append may have
+-- failed too
 abbrev pub clears_depot : Result LocalEnd LocalFailure → Bool
 clears_depot (Ok ends.Ok) = true
 clears_depot (Ok ends.Sink) = false
@@ -113,7 +116,7 @@ clears_depot (Err failure.Depot) = false
 clears_depot (Err (failure.Input broken)) = true
 clears_depot (Err failure.Flash) = true
 
--- the same of failed appends alone
+-- whether a failed append is named as the cause: other failed calls on the depot come before the session
 abbrev pub blames_append : Result LocalEnd LocalFailure → Bool
 blames_append (Ok ends.Ok) = false
 blames_append (Ok ends.Sink) = false
@@ -122,6 +125,7 @@ blames_append (Ok ends.Flash) = false
 blames_append (Ok (ends.Damaged page slot found)) = false
 blames_append (Err _) = false
 
+-- whether a result comes only where no append failed
 abbrev pub clears_append : Result LocalEnd LocalFailure → Bool
 clears_append (Ok ends.Ok) = true
 clears_append (Ok ends.Sink) = false
@@ -130,7 +134,7 @@ clears_append (Ok ends.Flash) = true
 clears_append (Ok (ends.Damaged page slot found)) = true
 clears_append (Err _) = true
 
--- the same of the flash
+-- whether the flash is named as the cause: it could not be made or written, or it failed in a text
 abbrev pub blames_flash : Result LocalEnd LocalFailure → Bool
 blames_flash (Ok ends.Ok) = false
 blames_flash (Ok ends.Sink) = false
@@ -142,6 +146,8 @@ blames_flash (Err failure.Depot) = false
 blames_flash (Err (failure.Input broken)) = false
 blames_flash (Err failure.Flash) = true
 
+-- whether a result comes only where no call on the flash failed: behind `Sink` and the `Depot` of a session one in a text
+-- may have failed too
 abbrev pub clears_flash : Result LocalEnd LocalFailure → Bool
 clears_flash (Ok ends.Ok) = true
 clears_flash (Ok ends.Sink) = false

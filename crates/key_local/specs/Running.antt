@@ -1,5 +1,6 @@
 -- What the session itself does, apart from what was made for it.
 use Rattle.std.specs.Prelude.{◌≡◌, ℕ, Bool, true, false, List, [], Option, None, Some, ⊤}
+use Rattle.std.specs.List.{list_any}
 use Rattle.ghost_model.specs.Causes.{Rose}
 use Rattle.ghost_model.specs.Channel.{Catalog, Journal}
 use Rattle.ghost_model.specs.Host.{Holding}
@@ -13,9 +14,11 @@ use Rattle.edge_traits.specs.Files.{Files}
 use Rattle.edge_traits.specs.Written.{grown}
 use Rattle.local_links.specs.Journaling.{told_file}
 use Rattle.local_links.specs.declared.host_link.HostLink.{HostLink}
+use Rattle.key_exec.specs.Blaming.{IsDamaged}
+use Rattle.key_session.specs.declared.counts.Damage.{Damage}
 use Rattle.key_session.specs.declared.tally.SessionStatus.{SessionStatus}
 use Rattle.key_session.specs.declared.tally.SessionStatus.TheVariants as status
-use Rattle.local_lines.specs.Lines.{Gives}
+use Rattle.local_lines.specs.Lines.{Gives, is_cut}
 use Rattle.key_local.specs.Sessions.{World, outside_in, is_sink, is_damaged}
 use Rattle.key_local.specs.Preparing.{IsHosted}
 use Rattle.key_local.specs.declared.ends.LocalEnd.{LocalEnd}
@@ -31,17 +34,11 @@ is_of_local (status.Host code) = false
 is_of_local status.Flash = true
 is_of_local (status.Damaged damage) = true
 
--- whether damage was found
-abbrev pub is_damage : SessionStatus → Bool
-is_damage status.Ok = false
-is_damage status.Sink = false
-is_damage status.Link = false
-is_damage (status.Protocol kind at) = false
-is_damage (status.Host code) = false
-is_damage status.Flash = false
-is_damage (status.Damaged damage) = true
+-- a slot of a page, and what was found in it
+abbrev pub damage_at : (page slot found : ℕ) → Damage
+damage_at page slot found = record { page = page; slot = slot; found = found }
 
--- whether nothing but the sink can have hidden that an append failed, and none did
+-- whether an end comes only where no append failed: behind `Sink`, which is told first, one may have failed too
 abbrev pub clears_journal : LocalEnd → Bool
 clears_journal ends.Ok = true
 clears_journal ends.Sink = false
@@ -49,7 +46,7 @@ clears_journal ends.Depot = false
 clears_journal ends.Flash = true
 clears_journal (ends.Damaged page slot found) = true
 
--- the same of the flash
+-- whether an end comes only where the flash failed in no text: behind `Sink` and `Depot` it may have failed too
 abbrev pub clears_flash : LocalEnd → Bool
 clears_flash ends.Ok = true
 clears_flash ends.Sink = false
@@ -76,4 +73,6 @@ pub record RanOver (told : Bool) (catalog : Catalog) (database : Database) (text
   pub kept : (Rose before.append_faults after.append_faults → ⊥) → KeepsLines before.files after.files name journal
   pub gives : told ≡ true → Gives catalog.schema database texts (outside_in false before) (outside_in (is_sink end) after)
   pub printed_all : told ≡ true → end ≡ ends.Ok → after.written ≡ grown before.written (printed catalog.schema texts database)
+  pub cut : (t : told ≡ true) → end ≡ ends.Flash → list_any is_cut (gives t).given ≡ true
   pub undamaged : told ≡ true → is_damaged end ≡ false
+  pub damaged : (page slot found : ℕ) → end ≡ ends.Damaged page slot found → IsDamaged told after.device.page catalog page slot found

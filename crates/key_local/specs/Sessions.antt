@@ -1,6 +1,7 @@
 -- What a session with a host in the key's own process does: it goes by the one journal of its database and its texts, keeps
 -- that journal where a file is named for it, and gives each text's lines.
 use Rattle.std.specs.Prelude.{◌≡◌, ℕ, Bool, true, false, List, [], ◌∷◌, Option, None, Some, ⊤}
+use Rattle.std.specs.List.{list_any}
 use Rattle.ghost_model.specs.Causes.{Rose}
 use Rattle.ghost_model.specs.Channel.{Catalog, Journal}
 use Rattle.ghost_model.specs.Database.{row_counts}
@@ -16,8 +17,9 @@ use Rattle.session_laws.specs.Local.{IsLocal}
 use Rattle.edge_traits.specs.Devices.{Device}
 use Rattle.edge_traits.specs.Files.{Files, HasFile, SameBut}
 use Rattle.edge_traits.specs.Written.{grown}
+use Rattle.key_exec.specs.Blaming.{IsDamaged}
 use Rattle.key_session.specs.Telling.{Outside, outside}
-use Rattle.local_lines.specs.Lines.{Gives}
+use Rattle.local_lines.specs.Lines.{Gives, is_cut}
 use Rattle.key_local.specs.declared.ends.LocalEnd.{LocalEnd}
 use Rattle.key_local.specs.declared.ends.LocalEnd.TheVariants as ends
 
@@ -95,7 +97,11 @@ pub record Ran (told : Bool) (one : Subject) (end : LocalEnd) (before after : Wo
   -- each text has its lines, or a front of them where the flash failed
   pub gives : told ≡ true → Gives one.schema one.database one.texts (outside_in false before) (outside_in (is_sink end) after)
   pub printed_all : told ≡ true → end ≡ ends.Ok → after.written ≡ grown before.written (printed one.schema one.texts one.database)
+  -- the flash is blamed only where it failed a text
+  pub cut : (t : told ≡ true) → end ≡ ends.Flash → list_any is_cut (gives t).given ≡ true
+  -- and a slot only where it is one of a hidden column and has no value of it, so where the pages are told none is
   pub undamaged : told ≡ true → is_damaged end ≡ false
+  pub damaged : (page slot found : ℕ) → end ≡ ends.Damaged page slot found → IsDamaged told after.device.page (catalog_in one) page slot found
   -- and the flash has been made for it
   pub catalog : told ≡ true → HoldsCatalog after.device.page (catalog_in one)
   pub columns : told ≡ true → HoldsColumns after.device.page (catalog_in one) (hidden_of one.schema one.database)

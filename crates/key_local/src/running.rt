@@ -14,8 +14,9 @@ ghost use Rattle.session_replies.specs.Kept.{IsKept, none_heard};
 ghost use Rattle.local_links.specs.Keeping.{named};
 ghost use Rattle.key_session.specs.Running as session;
 ghost use Rattle.key_local.specs.Preparing.{IsHosted};
-ghost use Rattle.key_local.specs.Running.{RanOver, IsSomeHosted, is_of_local, is_damage, clears_journal, clears_flash};
-ghost use Rattle.key_local.specs.Sessions.{SameBesides, is_sink, is_damaged, world};
+ghost use Rattle.key_local.specs.Running.{RanOver, IsSomeHosted, is_of_local, damage_at, clears_journal, clears_flash};
+ghost use Rattle.key_local.specs.declared.ends.LocalEnd.TheVariants as ends;
+ghost use Rattle.key_local.specs.Sessions.{SameBesides, is_sink, world};
 
 use crate::ends::LocalEnd;
 use edge_traits::depot::Depot;
@@ -42,7 +43,7 @@ fn end_of(status: SessionStatus, append_failed: bool) -> LocalEnd
     ensures flash { result ≡ LocalEnd.Flash → session.blames_flash status ≡ true }
     ensures no_flash { clears_flash result ≡ true → session.spares_flash status ≡ true }
     ensures whole { result ≡ LocalEnd.Ok → status ≡ SessionStatus.Ok }
-    ensures damaged { is_damaged result ≡ true → is_damage status ≡ true }
+    ensures damaged { (page slot found : ℕ) → result ≡ ends.Damaged page slot found → status ≡ SessionStatus.Damaged (damage_at page slot found) }
 {
     if let SessionStatus::Sink = status {
         return LocalEnd::Sink;

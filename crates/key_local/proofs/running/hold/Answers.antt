@@ -41,4 +41,4 @@ returns-clause-ran g c = λ database stored hosted columns.
     goes.is_local ran.finished
     (λ calm. lines_kept _ ran.journal _ _ wrote c.requires.going calm)
     (λ t. ran.told database (record { is_told = t; is = stored.is_database; counts = stored.counts_are; holds = columns t }))
-    c.end_of.ensures.sink c.end_of.ensures.whole c.end_of.ensures.damaged
+    ran.damaged c.run_session-tally.ensures.pages c.end_of.ensures.sink c.end_of.ensures.whole c.end_of.ensures.flash c.end_of.ensures.damaged
