@@ -1,6 +1,8 @@
 pub mod Settings
 pub mod Journals
 pub mod Keeping
+pub mod Begun
+pub mod Hosting
 pub mod Statuses
 pub mod Giving
 pub mod Endings

@@ -21,16 +21,16 @@ use edge_traits::depot::Depot;
 use edge_traits::flash::Flash;
 use edge_traits::mem_depot::MemDepot;
 use edge_traits::sink::Sink;
+use ghost_model::schema::schemas_are_trees;
 use key_session::{Damage, SessionStatus, run_session};
 use local_lines::laws::told_texts_are_given;
 use local_links::host_link::HostLink;
 use local_links::journaled::Journaled;
-use local_links::laws::{local_moves_are_short, sessions_are_local};
-use session_laws::local::{local_sessions_are_served};
+use local_links::laws::{proper_journals_are_written, sessions_are_local};
+use session_laws::local::local_sessions_are_served;
 use session_replies::Replies;
 use tree_schema::Catalog;
 use tree_schema::catalog_bytes::a_catalog_is_short;
-use tree_schema::schema::schemas_are_trees;
 
 /// How a session ended, by what it answers and by whether an append to the journal failed.
 fn end_of(status: SessionStatus, append_failed: bool) -> LocalEnd
@@ -38,7 +38,7 @@ fn end_of(status: SessionStatus, append_failed: bool) -> LocalEnd
     ensures sink { is_sink result ≡ session.is_sink status }
     ensures depot { result ≡ LocalEnd.Depot → append_failed ≡ true }
     ensures no_depot { clears_journal result ≡ true → append_failed ≡ false }
-    ensures flash { result ≡ LocalEnd.Flash → status ≡ SessionStatus.Flash }
+    ensures flash { result ≡ LocalEnd.Flash → session.blames_flash status ≡ true }
     ensures no_flash { clears_flash result ≡ true → session.spares_flash status ≡ true }
     ensures whole { result ≡ LocalEnd.Ok → status ≡ SessionStatus.Ok }
     ensures damaged { is_damaged result ≡ true → is_damage status ≡ true }
@@ -98,7 +98,7 @@ pub(crate) fn run<D: Depot, F: Flash, O: Sink>(
     a_catalog_is_short(cat);
     schemas_are_trees();
     sessions_are_local::<MemDepot>();
-    local_moves_are_short();
+    proper_journals_are_written::<HostLink<MemDepot>, D>();
     local_sessions_are_served();
     told_texts_are_given();
     let mut journaled = Journaled::new(link, depot, journal);

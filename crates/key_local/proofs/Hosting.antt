@@ -1,0 +1,41 @@
+-- A host that was begun over the visible image of a public part.
+use Rattle.std.proofs.Common.{◌≡◌, ℕ, List, [], Option, Some, refl, sym, subst, ◌∙◌, ap}
+use Rattle.ghost_model.specs.Catalog.{catalog_bytes}
+use Rattle.ghost_model.specs.CatalogLaws.{CatalogsHaveOneSpelling}
+use Rattle.ghost_model.specs.Channel.{Catalog}
+use Rattle.ghost_model.specs.Host.{host_of}
+use Rattle.ghost_model.specs.Host as standing
+use Rattle.ghost_model.specs.Split.{Public, SpellsImage, cells_of_tables}
+use Rattle.edge_traits.specs.Files.{Files, file_of}
+use Rattle.host_exec.specs.Checked.{IsImage}
+use Rattle.host_exec.specs.Holdings.{HoldsFile, AreStarts, ImagesAreHeld}
+use Rattle.host_exec.specs.Hosts.{Holds, StandsAs, name_of}
+use Rattle.host_exec.specs.Replies.{source_of}
+use Rattle.host_exec.specs.Saying.{Stands}
+use Rattle.host_exec.specs.declared.host.Host.{Host}
+use Rattle.host_exec.specs.declared.stage.Stage.{Stage}
+use Rattle.host_exec.specs.declared.stage.Stage.TheVariants as stage
+
+one_image : CatalogsHaveOneSpelling → {catalog other : Catalog} {public shown : Public} (file : List ℕ) → SpellsImage catalog public file → SpellsImage other shown file → catalog ≡ other
+one_image laws {catalog} {other} {public} {shown} file first second =
+    (laws.one_beginning file catalog other
+    (record { proper = first.catalog; rest = cells_of_tables catalog.schema public.visible; begins = first.spelled })
+    (record { proper = second.catalog; rest = cells_of_tables other.schema shown.visible; begins = second.spelled })).0
+
+-- it holds that part
+pub holds_part : CatalogsHaveOneSpelling → ImagesAreHeld → (host : Host) (file : List ℕ) (catalog : Catalog) (public : Public)
+    → AreStarts host.catalog host.starts.items → IsImage host.catalog file → SpellsImage catalog public file → Holds (host_of catalog public) file host
+holds_part laws images host file catalog public starts image spells =
+    let same : catalog ≡ host.catalog = one_image laws file spells image.spells in
+    subst (λ (c : Catalog). HoldsFile (host_of catalog public) c host.starts.items file) same
+    (images catalog public file host.starts.items spells (subst (λ (c : Catalog). AreStarts c host.starts.items) (sym same) starts))
+
+-- and awaits the greeting
+pub awaits_greeting : (host : Host) (file : List ℕ) → host.stage ≡ stage.Greeting → StandsAs host file [] standing.Greeting
+awaits_greeting host file at =
+    subst (λ (s : Stage). Stands (catalog_bytes host.catalog) (source_of host.reply file) s [] standing.Greeting) (sym at) (refl, refl)
+
+-- its file is that of the depot
+pub finds_file : (old new : Option Files) (name mine file : List ℕ) → new ≡ old → mine ≡ name → file_of old name ≡ Some file → file_of new mine ≡ Some file
+finds_file old new name mine file same named is =
+    ap (λ (held : Option Files). file_of held mine) same ∙ (ap (file_of old) named ∙ is)
