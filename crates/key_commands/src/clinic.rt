@@ -86,8 +86,7 @@ pub(crate) const THREE_LINES: &str =
     "> 1\tcardio\n> 3\tcardio\n= 1 2\n> 1\t5\n> 2\t5\n> 3\t9\n> 4\t2\n= 2 4\n> Ann\n= 3 1\n";
 
 /// The lines of the three over the changed clinic.
-pub(crate) const THREE_CHANGED: &str =
-    "= 1 0\n> 1\t5\n> 2\t5\n> 3\t9\n> 4\t2\n= 2 4\n= 3 0\n";
+pub(crate) const THREE_CHANGED: &str = "= 1 0\n> 1\t5\n> 2\t5\n> 3\t9\n> 4\t2\n= 2 4\n= 3 0\n";
 
 /// The objects of a call.
 #[derive(Drop)]
@@ -164,11 +163,7 @@ pub(crate) fn words_of(alloc: Global, line: &str) -> Result<Vec<String>, AllocEr
 }
 
 /// Does the command of a line.
-pub(crate) fn call(
-    alloc: Global,
-    line: &str,
-    objects: &mut Objects,
-) -> Result<Ended, AllocError> {
+pub(crate) fn call(alloc: Global, line: &str, objects: &mut Objects) -> Result<Ended, AllocError> {
     let words = words_of(alloc, line)?;
     Ok(key_main(
         alloc,
@@ -225,11 +220,7 @@ pub(crate) fn file_is(objects: &Objects, name: &str, bytes: &[u8]) -> bool {
 }
 
 /// The lines of a journal whose host has this catalog, with what came between greeting and farewell.
-pub(crate) fn journal(
-    alloc: Global,
-    catalog: &[u8],
-    exchange: &str,
-) -> Result<String, AllocError> {
+pub(crate) fn journal(alloc: Global, catalog: &[u8], exchange: &str) -> Result<String, AllocError> {
     let size = catalog.len() + 1;
     let mut lines = format!(in alloc;
         "dial ok\nsend 010100040000000000000001 ok\ntake 8 1101{size:04x}00000000\ntake {size} 01"

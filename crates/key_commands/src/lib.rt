@@ -11,6 +11,8 @@ pub mod command;
 pub mod ending;
 mod input_lines;
 #[cfg(test)]
+mod large_tests;
+#[cfg(test)]
 mod load_tests;
 #[cfg(test)]
 mod local_tests;

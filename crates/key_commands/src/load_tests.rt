@@ -26,10 +26,7 @@ const WRITTEN: [(u32, &[u8]); 6] = [
     (0, CATALOG),
     (64, b"FRESES"),
     (71, b"Ann\0\0\0\0\0Bob\0\0\0\0\0"),
-    (
-        78,
-        b"flu\0\0\0\0\0check\0\0\0flu\0\0\0\0\0flu\0\0\0\0\0",
-    ),
+    (78, b"flu\0\0\0\0\0check\0\0\0flu\0\0\0\0\0flu\0\0\0\0\0"),
     (
         79,
         b"\x80\0\0\0\0\0\0\x01\x80\0\0\0\0\0\0\x03\x80\0\0\0\0\0\0\x03\x80\0\0\0\0\0\0\x02",
@@ -117,6 +114,7 @@ fn the_clinic_is_loaded_byte_for_byte(rt: HostRuntime) -> Result<(), AllocError>
     for line in [
         LOAD,
         "key load --schema schema --data tables --flash flash --visible visible --blocks 14",
+        "key load --blocks=000000014 --visible=visible --flash=flash --data=tables --schema=schema",
     ] {
         let mut clinic = unloaded(rt.alloc(), &NO_FAILS)?;
         let ended = call(rt.alloc(), line, &mut clinic)?;
@@ -143,13 +141,15 @@ fn a_session_in_one_process_makes_the_same_device(rt: HostRuntime) -> Result<(),
 
 #[test]
 fn more_blocks_than_are_needed_stay_blank(rt: HostRuntime) -> Result<(), AllocError> {
-    let line =
-        "key load --schema schema --data tables --flash flash --visible visible --blocks 15";
+    let line = "key load --schema schema --data tables --flash flash --visible visible --blocks 15";
     let mut clinic = unloaded(rt.alloc(), &NO_FAILS)?;
     clinic.flash.room = BLOCKS + 1;
     let ended = call(rt.alloc(), line, &mut clinic)?;
     assert_eq!(rt; ended, Ended::Load(Ok(())));
-    assert_eq!(rt; clinic.out.bytes(), b"= tables 3 rows 9 pages 960\n".as_slice());
+    assert_eq!(rt;
+        clinic.out.bytes(),
+        b"= tables 3 rows 9 pages 960\n".as_slice()
+    );
     assert!(rt; page_is(&clinic, 0, CATALOG));
     assert!(rt; page_is(&clinic, 959, &[]));
     assert!(rt; clinic.flash.page(960).is_none());
@@ -157,9 +157,36 @@ fn more_blocks_than_are_needed_stay_blank(rt: HostRuntime) -> Result<(), AllocEr
 }
 
 #[test]
+fn refused_words_call_nothing(rt: HostRuntime) -> Result<(), AllocError> {
+    for line in [
+        "key load --data tables --flash flash --visible visible",
+        "key load --schema schema --flash flash --visible visible",
+        "key load --schema schema --data tables --visible visible",
+        "key load --schema schema --data tables --flash flash",
+        "key load --schema schema --data tables --flash flash --visible",
+        "key load --schema schema --data tables --flash flash --visible visible other",
+        "key load --schema schema --data tables --flash flash --visible visible --script script",
+        "key load --schema schema --data tables --flash flash --visible visible --visible visible",
+        "key load --schema schema --data tables --flash flash --vis visible",
+        "key load --schema schema --data tables --flash flash --visible visible --blocks",
+        "key load --schema schema --data tables --flash flash --visible visible --blocks 0",
+        "key load --schema schema --data tables --flash flash --visible visible --blocks 60000001",
+        "key load --schema schema --data tables --flash flash --visible visible --blocks 0000000014",
+        "key load --schema schema --data tables --flash flash --visible visible --blocks -1",
+        "key load --schema schema --data tables --flash flash --visible visible --blocks=",
+    ] {
+        let mut clinic = unloaded(rt.alloc(), &NO_FAILS)?;
+        let ended = call(rt.alloc(), line, &mut clinic)?;
+        assert_eq!(rt; ended.exit_code(), 2, "{line}");
+        assert!(rt; is_untouched(&clinic), "{line}");
+        assert_eq!(rt; clinic.depot.script.calls, 0, "{line}");
+    }
+    Ok(())
+}
+
+#[test]
 fn a_device_that_is_too_small_is_not_made(rt: HostRuntime) -> Result<(), AllocError> {
-    let line =
-        "key load --schema schema --data tables --flash flash --visible visible --blocks 13";
+    let line = "key load --schema schema --data tables --flash flash --visible visible --blocks 13";
     let mut clinic = unloaded(rt.alloc(), &NO_FAILS)?;
     let ended = call(rt.alloc(), line, &mut clinic)?;
     let small = LoadFailure::TooSmall {

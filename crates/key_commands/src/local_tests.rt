@@ -157,8 +157,7 @@ fn a_file_of_a_header_alone_is_a_table_without_rows(rt: HostRuntime) -> Result<(
     let mut catalog = Vec::from_slice(rt.alloc(), CATALOG)?;
     let _four = catalog.pop();
     catalog.push(0)?;
-    let exchange =
-        "send 020100040000000102010100 ok\ntake 8 1301000400000001\ntake 4 00000000\n";
+    let exchange = "send 020100040000000102010100 ok\ntake 8 1301000400000001\ntake 4 00000000\n";
     let moves = journal(rt.alloc(), &catalog, exchange)?;
     assert!(rt; file_is(&clinic, "journal", moves.as_bytes()));
     Ok(())
@@ -297,7 +296,11 @@ fn each_failing_append_is_the_last(rt: HostRuntime) -> Result<(), AllocError> {
         };
         assert_eq!(rt; ended, Ended::Local(Ok(end)), "{number}");
         assert_eq!(rt; clinic.out.bytes(), THREE_LINES.as_bytes(), "{number}");
-        assert_eq!(rt; lines_of(&clinic, &moves), Some(number as usize - 1), "{number}");
+        assert_eq!(rt;
+            lines_of(&clinic, &moves),
+            Some(number as usize - 1),
+            "{number}"
+        );
         let made = number.min(THREE_MOVES) + DEPOT_CALLS;
         assert_eq!(rt; clinic.depot.script.calls, made, "{number}");
     }
@@ -376,7 +379,10 @@ fn both_ways_print_the_same(rt: HostRuntime) -> Result<(), AllocError> {
             "SELECT doc, id, doc FROM visit WHERE pat = 2",
             "> 3\t2\t3\n> 2\t4\t2\n= 1 2\n",
         ),
-        ("SELECT visit.id FROM visit WHERE doc = 3", "> 2\n> 3\n= 1 2\n"),
+        (
+            "SELECT visit.id FROM visit WHERE doc = 3",
+            "> 2\n> 3\n= 1 2\n",
+        ),
         ("SELECT visit.id FROM visit WHERE doc = 9", "= 1 0\n"),
         (
             "SELECT visit.id FROM visit WHERE id > -1 AND id <> 2",
@@ -423,14 +429,8 @@ fn both_ways_print_the_same(rt: HostRuntime) -> Result<(), AllocError> {
             "SELECT day FROM patient, visit, doctor WHERE doc = doctor.id AND patient.id = pat AND doc = doctor.id",
             "> 5\n> 5\n> 9\n> 2\n= 1 4\n",
         ),
-        (
-            "select DAY from VISIT where Day=5",
-            "> 5\n> 5\n= 1 2\n",
-        ),
-        (
-            "SELECT don't; SELECT id FROM doctor;",
-            "! 1 syntax 10\n",
-        ),
+        ("select DAY from VISIT where Day=5", "> 5\n> 5\n= 1 2\n"),
+        ("SELECT don't; SELECT id FROM doctor;", "! 1 syntax 10\n"),
         (
             "SELECT age FROM patient WHERE name = 'abcdefgh'; SELECT age FROM patient WHERE name = 'abcdefghi'",
             "= 1 0\n! 2 literal\n",

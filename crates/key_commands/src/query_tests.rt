@@ -180,24 +180,9 @@ fn a_host_out_of_form_is_told_by_kind_and_place(rt: HostRuntime) -> Result<(), A
         (&[UNENDED_WELCOME, CATALOG], 17, 0, 5),
         (&[DOCTORS], 18, 0, 4),
         (&[WELCOME, CATALOG, NO_TEXT], 18, 374, 8),
-        (
-            &[WELCOME, CATALOG, b"\x12\x01\0\x17\0\0\0\x01"],
-            18,
-            374,
-            7,
-        ),
-        (
-            &[WELCOME, CATALOG, b"\x12\x01\0\x0c\0\0\0\x02"],
-            18,
-            374,
-            7,
-        ),
-        (
-            &[WELCOME, CATALOG, b"\x13\x02\0\x04\0\0\0\x01"],
-            19,
-            374,
-            7,
-        ),
+        (&[WELCOME, CATALOG, b"\x12\x01\0\x17\0\0\0\x01"], 18, 374, 7),
+        (&[WELCOME, CATALOG, b"\x12\x01\0\x0c\0\0\0\x02"], 18, 374, 7),
+        (&[WELCOME, CATALOG, b"\x13\x02\0\x04\0\0\0\x01"], 19, 374, 7),
         (
             &[WELCOME, CATALOG, DOCTOR_1, DOCTOR_2, DOCTOR_3, DOCTOR_3],
             18,
@@ -221,7 +206,11 @@ fn a_host_out_of_form_is_told_by_kind_and_place(rt: HostRuntime) -> Result<(), A
         };
         assert_eq!(rt; status_of(&ended), Some(broken), "{kind} at {at}");
         assert_eq!(rt; ended.exit_code(), 8, "{kind} at {at}");
-        assert_eq!(rt; clinic.out.bytes(), b"! 1 protocol\n".as_slice(), "{kind} at {at}");
+        assert_eq!(rt;
+            clinic.out.bytes(),
+            b"! 1 protocol\n".as_slice(),
+            "{kind} at {at}"
+        );
         assert_eq!(rt; closed_after(&clinic.link), *moves, "{kind} at {at}");
     }
     Ok(())

@@ -64,9 +64,7 @@ fn each_end_of_local_is_told(rt: HostRuntime) -> Result<(), AllocError> {
             "schema: the schema has more than 65536 bytes",
         ),
         (
-            Err(LocalFailure::Input(InputFault::Schema(
-                SchemaFault::Syntax { at: 3 },
-            ))),
+            Err(LocalFailure::Input(InputFault::Schema(SchemaFault::Syntax { at: 3 }))),
             4,
             "schema: the text breaks the grammar at byte 3",
         ),
