@@ -5,11 +5,23 @@
 
 mod broken_schema;
 mod broken_table;
+#[cfg(test)]
+mod clinic;
 pub mod command;
 pub mod ending;
 mod input_lines;
+#[cfg(test)]
+mod large_tests;
+#[cfg(test)]
+mod load_tests;
+#[cfg(test)]
+mod local_tests;
+#[cfg(test)]
+mod query_tests;
 mod sessions;
 pub mod telling;
+#[cfg(test)]
+mod telling_tests;
 #[cfg(test)]
 mod tests;
 

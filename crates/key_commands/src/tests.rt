@@ -1,90 +1,31 @@
 //! The commands over objects in memory.
 
+use crate::Ended;
+use crate::clinic::{
+    CLINIC, DOCTORS, Fails, LOAD, NO_FAILS, NO_VISITS, Objects, PLAIN, THREE, THREE_LINES, VISITS,
+    call, objects_with, told,
+};
 use crate::telling::USAGE;
-use crate::{Ended, key_main, line_of};
-use edge_traits::mem_depot::{MemDepot, Room};
-use edge_traits::mem_flash::MemFlash;
-use edge_traits::mem_link::{MemLink, Room as LinkRoom};
 use edge_traits::mem_sink::MemSink;
-use edge_traits::peer::PeerScript;
 use key_inputs::InputFault;
 use key_plain::PlainFault;
 use std::alloc::{AllocError, Global};
 
-const ROOM: Room = Room {
-    files: 6,
-    name_bytes: 32,
-    file_bytes: 65_600,
-};
-
-/// The blocks that the clinic needs.
-const BLOCKS: u32 = 14;
-
-const PLAIN: &str = "key plain --schema schema --data tables --script script";
-
-const LOAD: &str = "key load --schema schema --data tables --flash flash --visible visible";
-
-const SCHEMA: &str =
-    "CREATE TABLE doctor (id INTEGER PRIMARY KEY, specialty CHAR(8), country CHAR(2) HIDDEN);\nCREATE TABLE patient (id INTEGER PRIMARY KEY, age INTEGER, name CHAR(8) HIDDEN);\nCREATE TABLE visit (id INTEGER PRIMARY KEY, day INTEGER, purpose CHAR(8) HIDDEN, doc INTEGER REFERENCES doctor(id) HIDDEN, pat INTEGER REFERENCES patient(id) HIDDEN);\n";
-
-const DOCTORS: &str = "id,specialty,country\n1,cardio,FR\n2,neuro,ES\n3,cardio,ES\n";
-
-const PATIENTS: &str = "id,age,name\n1,30,Ann\n2,41,Bob\n";
-
-const VISITS: &str =
-    "id,day,purpose,doc,pat\n1,5,flu,1,1\n2,5,check,3,2\n3,9,flu,3,1\n4,2,flu,2,2\n";
-
-const NO_VISITS: &str = "id,day,purpose,doc,pat\n";
-
-/// A depot with the clinic and a script, but for the files that are left out.
-fn clinic(
+/// The clinic with other doctors and visits.
+fn clinic_with(
     alloc: Global,
     doctors: &str,
     visits: &str,
-    script: &[u8],
-) -> Result<MemDepot, AllocError> {
-    let mut depot = MemDepot::new(alloc, ROOM, &[])?;
-    let _schema = depot.put("schema", SCHEMA.as_bytes());
-    let _doctors = depot.put("tables/doctor.csv", doctors.as_bytes());
-    let _patients = depot.put("tables/patient.csv", PATIENTS.as_bytes());
-    let _visits = depot.put("tables/visit.csv", visits.as_bytes());
-    let _script = depot.put("script", script);
-    Ok(depot)
-}
-
-/// What the words do over a device with room for the clinic.
-fn called(
-    alloc: Global,
-    words: &[String],
-    depot: &mut MemDepot,
-    out: &mut MemSink,
-) -> Result<Ended, AllocError> {
-    let mut flash = MemFlash::new(alloc, BLOCKS, &[])?;
-    let host = PeerScript {
-        bytes: &[],
-        pieces: &[],
-        ports: &[],
-    };
-    let room = LinkRoom {
-        moves: 10,
-        bytes: 100,
-    };
-    let mut link = MemLink::new(alloc, room, &host, &[])?;
-    Ok(key_main(alloc, words, depot, &mut flash, &mut link, out))
-}
-
-/// The words of a line.
-fn words_of(alloc: Global, line: &str) -> Result<Vec<String>, AllocError> {
-    let mut words = Vec::new(alloc);
-    for word in line.split(' ') {
-        words.push(String::from_str(alloc, word)?)?;
-    }
-    Ok(words)
+    script: &str,
+) -> Result<Objects, AllocError> {
+    let mut clinic = objects_with(alloc, &CLINIC, script, &NO_FAILS)?;
+    let _doctors = clinic.depot.put("tables/doctor.csv", doctors.as_bytes());
+    let _visits = clinic.depot.put("tables/visit.csv", visits.as_bytes());
+    Ok(clinic)
 }
 
 #[test]
 fn plain_answers_scripts_over_the_clinic(rt: HostRuntime) -> Result<(), AllocError> {
-    let words = words_of(rt.alloc(), PLAIN)?;
     let cases = [
         (
             VISITS,
@@ -111,18 +52,17 @@ fn plain_answers_scripts_over_the_clinic(rt: HostRuntime) -> Result<(), AllocErr
         (NO_VISITS, "SELECT day FROM visit;", "= 1 0\n"),
     ];
     for (visits, script, lines) in cases.iter() {
-        let mut depot = clinic(rt.alloc(), DOCTORS, visits, script.as_bytes())?;
-        let mut out = MemSink::new(rt.alloc(), 200, 5, &[])?;
-        let ended = called(rt.alloc(), &words, &mut depot, &mut out)?;
+        let mut clinic = clinic_with(rt.alloc(), DOCTORS, visits, script)?;
+        clinic.out = MemSink::new(rt.alloc(), 200, 5, &[])?;
+        let ended = call(rt.alloc(), PLAIN, &mut clinic)?;
         assert_eq!(rt; ended, Ended::Plain(Ok(())), "{script}");
-        assert_eq!(rt; out.bytes(), lines.as_bytes(), "{script}");
+        assert_eq!(rt; clinic.out.bytes(), lines.as_bytes(), "{script}");
     }
     Ok(())
 }
 
 #[test]
 fn scripts_have_limits(rt: HostRuntime) -> Result<(), AllocError> {
-    let words = words_of(rt.alloc(), PLAIN)?;
     let bytes_fault = Ended::Plain(Err(PlainFault::Input(InputFault::ScriptBytes)));
     let texts_fault = Ended::Plain(Err(PlainFault::Input(InputFault::ScriptTexts)));
     let cases = [
@@ -132,16 +72,15 @@ fn scripts_have_limits(rt: HostRuntime) -> Result<(), AllocError> {
         (" ", 65_537, bytes_fault),
     ];
     for (piece, count, expected) in cases.iter() {
-        let mut script: Vec<u8> = Vec::new(rt.alloc());
+        let mut script = String::new(rt.alloc());
         for _ in 0..*count {
-            script.extend_from_slice(piece.as_bytes())?;
+            script.push_str(piece)?;
         }
-        let mut depot = clinic(rt.alloc(), DOCTORS, VISITS, &script)?;
-        let mut out = MemSink::new(rt.alloc(), 1_000, 99, &[])?;
-        let ended = called(rt.alloc(), &words, &mut depot, &mut out)?;
+        let mut clinic = objects_with(rt.alloc(), &CLINIC, &script, &NO_FAILS)?;
+        let ended = call(rt.alloc(), PLAIN, &mut clinic)?;
         assert_eq!(rt; ended, *expected, "{count}");
         assert_eq!(rt;
-            out.bytes().ends_with(b"! 64 syntax 0\n"),
+            clinic.out.bytes().ends_with(b"! 64 syntax 0\n"),
             *count == 64,
             "{count}"
         );
@@ -149,16 +88,9 @@ fn scripts_have_limits(rt: HostRuntime) -> Result<(), AllocError> {
     Ok(())
 }
 
-const THREE: &str =
-    "SELECT visit.id, specialty FROM visit, doctor WHERE doc = doctor.id AND specialty = 'cardio' AND purpose = 'flu';\nSELECT visit.id, day FROM visit WHERE day >= 2;\nSELECT name FROM patient WHERE name = 'Ann';\n";
-
-const THREE_LINES: &str =
-    "> 1\tcardio\n> 3\tcardio\n= 1 2\n> 1\t5\n> 2\t5\n> 3\t9\n> 4\t2\n= 2 4\n> Ann\n= 3 1\n";
-
 #[test]
 fn each_failing_write_is_the_last(rt: HostRuntime) -> Result<(), AllocError> {
-    let words = words_of(rt.alloc(), PLAIN)?;
-    for (call, taken) in [
+    for (number, taken) in [
         (1u64, 0usize),
         (2, 11),
         (3, 22),
@@ -171,17 +103,23 @@ fn each_failing_write_is_the_last(rt: HostRuntime) -> Result<(), AllocError> {
         (10, 64),
         (11, 70),
     ] {
-        let mut depot = clinic(rt.alloc(), DOCTORS, VISITS, THREE.as_bytes())?;
-        let mut out = MemSink::new(rt.alloc(), 200, 99, &[call])?;
-        let ended = called(rt.alloc(), &words, &mut depot, &mut out)?;
-        let failed = if call <= 10 {
+        let fails = Fails {
+            out: &[number],
+            ..NO_FAILS
+        };
+        let mut clinic = objects_with(rt.alloc(), &CLINIC, THREE, &fails)?;
+        let ended = call(rt.alloc(), PLAIN, &mut clinic)?;
+        let failed = if number <= 10 {
             Ended::Plain(Err(PlainFault::Sink))
         } else {
             Ended::Plain(Ok(()))
         };
-        assert_eq!(rt; ended, failed, "{call}");
-        assert_eq!(rt; out.bytes().len(), taken, "{call}");
-        assert!(rt; THREE_LINES.as_bytes().starts_with(out.bytes()), "{call}");
+        assert_eq!(rt; ended, failed, "{number}");
+        assert_eq!(rt; clinic.out.bytes().len(), taken, "{number}");
+        assert!(rt;
+            THREE_LINES.as_bytes().starts_with(clinic.out.bytes()),
+            "{number}"
+        );
     }
     Ok(())
 }
@@ -253,24 +191,19 @@ fn what_went_wrong_is_told(rt: HostRuntime) -> Result<(), AllocError> {
             "a file could not be read or written: see that schema and the file of each table in folder are there, and that visible can be written",
         ),
     ];
-    for (line, doctors, visits, code, told) in cases.iter() {
-        let words = words_of(rt.alloc(), line)?;
-        let mut depot = clinic(rt.alloc(), doctors, visits, b"")?;
-        let mut out = MemSink::new(rt.alloc(), 100, 10, &[])?;
-        let ended = called(rt.alloc(), &words, &mut depot, &mut out)?;
-        assert_eq!(rt; ended.exit_code(), *code, "{told}");
-        let said = line_of(rt.alloc(), &words, &ended, &mut depot)?;
-        assert_eq!(rt; said.as_str(), *told);
+    for (line, doctors, visits, code, expected) in cases.iter() {
+        let mut clinic = clinic_with(rt.alloc(), doctors, visits, "")?;
+        let ended = call(rt.alloc(), line, &mut clinic)?;
+        assert_eq!(rt; ended.exit_code(), *code, "{expected}");
+        let said = told(rt.alloc(), line, &ended, &mut clinic)?;
+        assert_eq!(rt; said.as_str(), *expected);
     }
     Ok(())
 }
 
 #[test]
 fn a_broken_schema_is_told_by_its_names(rt: HostRuntime) -> Result<(), AllocError> {
-    let words = words_of(
-        rt.alloc(),
-        "key plain --schema script --data tables --script script",
-    )?;
+    let line = "key plain --schema script --data tables --script script";
     let cases = [
         (
             "CREATE TABLE a (id INTEGER PRIMARY KEY, n CHAR(9), N INTEGER);",
@@ -297,12 +230,11 @@ fn a_broken_schema_is_told_by_its_names(rt: HostRuntime) -> Result<(), AllocErro
             "script: 2 tables have no parent",
         ),
     ];
-    for (schema, told) in cases.iter() {
-        let mut depot = clinic(rt.alloc(), DOCTORS, VISITS, schema.as_bytes())?;
-        let mut out = MemSink::new(rt.alloc(), 10, 10, &[])?;
-        let ended = called(rt.alloc(), &words, &mut depot, &mut out)?;
-        let said = line_of(rt.alloc(), &words, &ended, &mut depot)?;
-        assert_eq!(rt; said.as_str(), *told);
+    for (schema, expected) in cases.iter() {
+        let mut clinic = objects_with(rt.alloc(), &CLINIC, schema, &NO_FAILS)?;
+        let ended = call(rt.alloc(), line, &mut clinic)?;
+        let said = told(rt.alloc(), line, &ended, &mut clinic)?;
+        assert_eq!(rt; said.as_str(), *expected);
     }
     Ok(())
 }
@@ -334,15 +266,13 @@ fn refused_words_are_told_with_the_usage(rt: HostRuntime) -> Result<(), AllocErr
         ),
     ];
     for (line, cause) in cases.iter() {
-        let words = words_of(rt.alloc(), line)?;
-        let mut depot = clinic(rt.alloc(), DOCTORS, VISITS, b"")?;
-        let mut out = MemSink::new(rt.alloc(), 10, 10, &[])?;
-        let ended = called(rt.alloc(), &words, &mut depot, &mut out)?;
+        let mut clinic = objects_with(rt.alloc(), &CLINIC, "", &NO_FAILS)?;
+        let ended = call(rt.alloc(), line, &mut clinic)?;
         assert_eq!(rt; ended.exit_code(), 2, "{line}");
-        let said = line_of(rt.alloc(), &words, &ended, &mut depot)?;
+        let said = told(rt.alloc(), line, &ended, &mut clinic)?;
         assert!(rt; said.as_str().starts_with(*cause), "{line}");
         assert!(rt; said.as_str().ends_with(USAGE), "{line}");
-        assert!(rt; out.bytes().is_empty(), "{line}");
+        assert!(rt; clinic.out.bytes().is_empty(), "{line}");
     }
     Ok(())
 }
