@@ -154,6 +154,8 @@ pub record QueryDid (goes : Journal → Type 0) (link_before link_after : ℕ) (
   pub flash : outcome ≡ Err query_failure.Flash → Rose before.device.faults after.device.faults
   pub no_flash : IfErr outcome (λ fault. (fault ≡ query_failure.Flash → ⊥) → after.device.faults ≡ before.device.faults)
   pub depot : outcome ≡ Err query_failure.Depot → Rose before.depot_faults after.depot_faults
+  pub attached : IfErr outcome (λ fault. queries.is_of_opened_flash fault ≡ true → Rose before.device.calls after.device.calls)
+  pub flash_left : IfErr outcome (λ fault. queries.is_of_script fault ≡ true → after.device ≡ before.device)
   pub flash_faults : min before.device.faults last_count ≤ after.device.faults
   pub link_faults : link_before ≤ link_after
   pub no_depot : (outcome ≡ Err query_failure.Depot → ⊥) → after.depot_faults ≡ before.depot_faults

@@ -99,3 +99,21 @@ IsOfFlash (failure.Input broken) = ⊥
 IsOfFlash failure.Flash = ⊤
 IsOfFlash failure.NotAKey = ⊤
 IsOfFlash (failure.TooSmall needed had) = ⊤
+
+-- whether a failure is of a flash that was opened, and so comes only once it was called
+abbrev pub is_of_opened_flash : QueryFailure → Bool
+is_of_opened_flash failure.NoMemory = false
+is_of_opened_flash failure.Depot = false
+is_of_opened_flash (failure.Input broken) = false
+is_of_opened_flash failure.Flash = true
+is_of_opened_flash failure.NotAKey = true
+is_of_opened_flash (failure.TooSmall needed had) = true
+
+-- whether a failure is of the script, which comes before the flash
+abbrev pub is_of_script : QueryFailure → Bool
+is_of_script failure.NoMemory = false
+is_of_script failure.Depot = true
+is_of_script (failure.Input broken) = true
+is_of_script failure.Flash = false
+is_of_script failure.NotAKey = false
+is_of_script (failure.TooSmall needed had) = false

@@ -12,7 +12,7 @@ ghost use Rattle.text_lines.specs.Rows.{PrintsSome};
 ghost use Rattle.key_session.specs.Running.{is_sink, blames_flash, spares_flash};
 ghost use Rattle.key_session.specs.Telling.{outside};
 ghost use Rattle.key_query.specs.PublicPages.{HasCatalog};
-ghost use Rattle.key_query.specs.Results.{Runs, TellsScript, TellsFlash, is_faultless};
+ghost use Rattle.key_query.specs.Results.{Runs, TellsScript, TellsFlash, is_faultless, is_of_opened_flash, is_of_script};
 ghost use Rattle.key_query.specs.declared.failures.QueryFailure.TheVariants as failure;
 
 use crate::failures::QueryFailure;
@@ -64,6 +64,8 @@ pub fn query<D: Depot, F: Flash, L: Link, O: Sink>(
     ensures no_flash { IfErr result (λ fault. (fault ≡ failure.Flash → ⊥) → (F.state flash.new).faults ≡ (F.state flash.old).faults) }
     ensures flash_faults { min (F.state flash.old).faults last_count ≤ (F.state flash.new).faults }
     ensures link_faults { L.faults link.old ≤ L.faults link.new }
+    ensures attached { IfErr result (λ fault. is_of_opened_flash fault ≡ true → Rose (F.state flash.old).calls (F.state flash.new).calls) }
+    ensures flash_left { IfErr result (λ fault. is_of_script fault ≡ true → F.state flash.new ≡ F.state flash.old) }
     ensures depot { result ≡ Err failure.Depot → Rose (D.faults depot.old) (D.faults depot.new) }
     ensures no_depot { (result ≡ Err failure.Depot → ⊥) → D.faults depot.new ≡ D.faults depot.old }
     ensures appends { D.append_faults depot.new ≡ D.append_faults depot.old }

@@ -1,7 +1,7 @@
 //! The opening of a session.
 
-ghost use Rattle.std.specs.Prelude.{◌≡◌, ◌≤◌, ℕ, List, true, Some, Err, IfOk, IfErr};
-ghost use Rattle.ghost_model.specs.Causes.{Rose};
+ghost use Rattle.std.specs.Prelude.{◌≡◌, ◌≤◌, ℕ, List, true, min, Some, Err, IfOk, IfErr};
+ghost use Rattle.ghost_model.specs.Causes.{Rose, last_count};
 ghost use Rattle.ghost_model.specs.Channel as channel;
 ghost use Rattle.edge_traits.specs.Files.{Files};
 ghost use Rattle.key_words.specs.Views.{query_view};
@@ -11,7 +11,7 @@ ghost use Rattle.session_replies.specs.Kept.{IsKept, none_heard};
 ghost use Rattle.key_exec.specs.Plans.{Suffices};
 ghost use Rattle.key_query.specs.Openings.{IsOpened};
 ghost use Rattle.key_query.specs.PublicPages.{HasCatalog};
-ghost use Rattle.key_query.specs.Results.{TellsScript, TellsFlash, IsOfFlash, is_faultless};
+ghost use Rattle.key_query.specs.Results.{TellsScript, TellsFlash, IsOfFlash, is_faultless, is_of_opened_flash, is_of_script};
 ghost use Rattle.key_query.specs.declared.failures.QueryFailure.TheVariants as failure;
 
 use crate::failures::QueryFailure;
@@ -49,6 +49,7 @@ fn catalog_of<F: Flash>(flash: &mut F) -> Result<Catalog, QueryFailure>
     ensures flash { result ≡ Err failure.Flash → Rose (F.state flash.old).faults (F.state flash.new).faults }
     ensures no_flash { (result ≡ Err failure.Flash → ⊥) → (F.state flash.new).faults ≡ (F.state flash.old).faults }
     ensures never_falls { (F.state flash.old).faults ≤ (F.state flash.new).faults }
+    ensures calls_stay { min (F.state flash.old).calls last_count ≤ (F.state flash.new).calls }
 {
     match read_public_pages(flash) {
         Ok(Some(cat)) => {
@@ -76,6 +77,7 @@ fn open_flash<F: Flash>(alloc: Global, name: &str, flash: &mut F) -> Result<Cata
     ensures flash { result ≡ Err failure.Flash → Rose (F.state flash.old).faults (F.state flash.new).faults }
     ensures no_flash { (result ≡ Err failure.Flash → ⊥) → (F.state flash.new).faults ≡ (F.state flash.old).faults }
     ensures never_falls { (F.state flash.old).faults ≤ (F.state flash.new).faults }
+    ensures attached { Rose (F.state flash.old).calls (F.state flash.new).calls }
 {
     match flash.attach(alloc, name) {
         Ok(_pages) => catalog_of(flash),
@@ -111,6 +113,7 @@ fn open_over<F: Flash>(
     ensures flash { result ≡ Err failure.Flash → Rose (F.state flash.old).faults (F.state flash.new).faults }
     ensures no_flash { (result ≡ Err failure.Flash → ⊥) → (F.state flash.new).faults ≡ (F.state flash.old).faults }
     ensures never_falls { (F.state flash.old).faults ≤ (F.state flash.new).faults }
+    ensures attached { Rose (F.state flash.old).calls (F.state flash.new).calls }
 {
     match open_flash(alloc, words.flash, flash) {
         Ok(cat) => match empty_replies(alloc, &cat) {
@@ -143,6 +146,8 @@ pub(crate) fn open<D: Depot, F: Flash>(
     ensures flash { result ≡ Err failure.Flash → Rose (F.state flash.old).faults (F.state flash.new).faults }
     ensures no_flash { (result ≡ Err failure.Flash → ⊥) → (F.state flash.new).faults ≡ (F.state flash.old).faults }
     ensures never_falls { (F.state flash.old).faults ≤ (F.state flash.new).faults }
+    ensures attached { IfErr result (λ fault. is_of_opened_flash fault ≡ true → Rose (F.state flash.old).calls (F.state flash.new).calls) }
+    ensures flash_left { IfErr result (λ fault. is_of_script fault ≡ true → F.state flash.new ≡ F.state flash.old) }
     ensures depot { result ≡ Err failure.Depot → Rose (D.faults depot.old) (D.faults depot.new) }
     ensures no_depot { (result ≡ Err failure.Depot → ⊥) → D.faults depot.new ≡ D.faults depot.old }
     ensures appends { D.append_faults depot.new ≡ D.append_faults depot.old }

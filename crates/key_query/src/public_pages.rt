@@ -1,7 +1,7 @@
 //! The catalog on the public pages.
 
-ghost use Rattle.std.specs.Prelude.{◌≡◌, ◌<◌, ◌≤◌, ◌+◌, ◌*◌, ◌++◌, true, take, drop, IfOk, IfSome, IfNone, OnOk};
-ghost use Rattle.ghost_model.specs.Causes.{HasCause};
+ghost use Rattle.std.specs.Prelude.{◌≡◌, ◌<◌, ◌≤◌, ◌+◌, ◌*◌, ◌++◌, true, min, take, drop, IfOk, IfSome, IfNone, OnOk};
+ghost use Rattle.ghost_model.specs.Causes.{HasCause, last_count};
 ghost use Rattle.edge_traits.specs.Devices.{KeepsPages};
 ghost use Rattle.key_query.specs.PublicPages.{HasCatalog, HasNoCatalog, front_bytes};
 
@@ -31,6 +31,7 @@ fn read_front<F: Flash>(flash: &mut F, bytes: &mut [u8; 18_432]) -> Result<(), F
     ensures kept { KeepsPages (F.state flash.old) (F.state flash.new) }
     ensures deep_reads { (F.state flash.new).deep_reads ≡ (F.state flash.old).deep_reads }
     ensures cause { HasCause (F.state flash.old).faults (F.state flash.new).faults result }
+    ensures calls_stay { min (F.state flash.old).calls last_count ≤ (F.state flash.new).calls }
 {
     let mut page = [0; PAGE_BYTES];
     for place in 0..FRONT_PAGES {
@@ -48,6 +49,7 @@ pub(crate) fn read_public_pages<F: Flash>(flash: &mut F) -> Result<Option<Catalo
     ensures kept { KeepsPages (F.state flash.old) (F.state flash.new) }
     ensures deep_reads { (F.state flash.new).deep_reads ≡ (F.state flash.old).deep_reads }
     ensures cause { HasCause (F.state flash.old).faults (F.state flash.new).faults result }
+    ensures calls_stay { min (F.state flash.old).calls last_count ≤ (F.state flash.new).calls }
 {
     ghost_model::catalogs::no_catalog_is_long();
     if flash.pages() < BLOCK_PAGES {

@@ -11,6 +11,7 @@ loop-place-init g c = record {
   kept = record { page_count = refl; page = refl; blank = refl };
   deep_reads = refl;
   faults = refl;
+  calls = omega arith;
 }
 
 pub loop-place-preserved : goal.loop-place-preserved
@@ -36,6 +37,7 @@ loop-place-preserved g c =
       };
       deep_reads = grind (arith, read.deep_reads, was.deep_reads, c.loop-place-test.true);
       faults = read.cause.other ∙ was.faults;
+      calls = omega (arith, was.calls, read.calls);
     }
 
 pub returns-clause-bytes : goal.returns-clause-bytes
@@ -45,3 +47,9 @@ returns-clause-bytes g c = λ told.
     sym (take-length c.loop-place.bytes)
     ∙ (ap (λ n. take n c.loop-place.bytes) (was.size ∙ sym (ap (λ n. n * 2048) last))
     ∙ (was.bytes told ∙ ap (λ n. bytes_before (g.F.Flash.state c.loop-place.flash).page n) last))
+
+pub returns-in_err-read_page-clause-calls_stay : goal.returns-in_err-read_page-clause-calls_stay
+returns-in_err-read_page-clause-calls_stay g c = omega (arith, c.loop-place.invariant.calls, c.in_err-read_page.ensures.calls)
+
+pub returns-clause-calls_stay : goal.returns-clause-calls_stay
+returns-clause-calls_stay g c = c.loop-place.invariant.calls

@@ -1,4 +1,5 @@
-use Rattle.std.proofs.Common.{◌≡◌, ◌*◌, take, length, true}
+use Rattle.std.proofs.Common.{◌≡◌, ◌≤◌, ◌*◌, min, take, length, true}
+use Rattle.ghost_model.specs.Causes.{last_count}
 use Rattle.edge_traits.specs.Devices.{KeepsPages}
 use Rattle.key_query.specs.PublicPages.{bytes_before}
 use Rattle.key_query.proofs.public_pages.read_front.Given as goal
@@ -10,4 +11,5 @@ invariant-loop-place g l = record {
   kept : KeepsPages (g.F.Flash.state l.fn.flash) (g.F.Flash.state l.flash);
   deep_reads : (g.F.Flash.state l.flash).deep_reads ≡ (g.F.Flash.state l.fn.flash).deep_reads;
   faults : (g.F.Flash.state l.flash).faults ≡ (g.F.Flash.state l.fn.flash).faults;
+  calls : min (g.F.Flash.state l.fn.flash).calls last_count ≤ (g.F.Flash.state l.flash).calls;
 }
