@@ -50,6 +50,13 @@ def main(key, host, visits, folder):
     with open(script) as file:
         given = '.mode tabs\n' + file.read()
     local = [key, 'local'] + inputs + ['--flash', name('flash'), '--script', script]
+    with open(name('empty.sql'), 'w'):
+        pass
+    bare = local[:-1] + [name('empty.sql')]
+    pairs = [(run(bare, subprocess.DEVNULL), import_into(base, folder)) for _ in range(TURNS)]
+    one, other = least([pair[0] for pair in pairs]), least([pair[1] for pair in pairs])
+    print('local, no text  %6.2f s %8d KiB   sqlite3 .import %6.2f s %8d KiB   ratio %.2f'
+          % (one[0], one[1], other[0], other[1], one[0] / other[0]))
     pairs = [(into_file(local, ours), import_index_and_answer(base, folder, given, theirs)) for _ in range(TURNS)]
     one, other = least([pair[0] for pair in pairs]), least([pair[1] for pair in pairs])
     print('local  %6.2f s %8d KiB   sqlite3 %6.2f s %8d KiB   ratio %.2f'
