@@ -334,26 +334,23 @@ fn each_failing_call_before_the_journal_ends_the_command(
 
 #[test]
 fn the_first_of_several_faults_is_the_status(rt: HostRuntime) -> Result<(), AllocError> {
-    let read = [FLASH_CALLS + 1];
-    let append = [DEPOT_CALLS + 1];
-    let write = [3];
-    let cases: [(&[u64], &[u64], &[u64], LocalEnd, u8); 4] = [
-        (&read, &append, &write, LocalEnd::Sink, 9),
-        (&read, &[], &write, LocalEnd::Sink, 9),
-        (&read, &append, &[], LocalEnd::Depot, 5),
-        (&read, &[], &[], LocalEnd::Flash, 6),
-    ];
-    for (flash, depot, out, end, code) in cases.iter() {
-        let fails = Fails {
-            flash,
-            depot,
-            out,
-            ..NO_FAILS
-        };
-        let mut clinic = objects_with(rt.alloc(), &CLINIC, THREE, &fails)?;
+    for (append, write, end, code) in [
+        (true, true, LocalEnd::Sink, 9u8),
+        (false, true, LocalEnd::Sink, 9),
+        (true, false, LocalEnd::Depot, 5),
+        (false, false, LocalEnd::Flash, 6),
+    ] {
+        let mut clinic = objects_with(rt.alloc(), &CLINIC, THREE, &NO_FAILS)?;
+        clinic.flash.script.fails.push(FLASH_CALLS + 1)?;
+        if append {
+            clinic.depot.script.fails.push(DEPOT_CALLS + 1)?;
+        }
+        if write {
+            clinic.out.script.fails.push(3)?;
+        }
         let ended = call(rt.alloc(), LOCAL, &mut clinic)?;
-        assert_eq!(rt; ended, Ended::Local(Ok(*end)), "{code}");
-        assert_eq!(rt; ended.exit_code(), *code);
+        assert_eq!(rt; ended, Ended::Local(Ok(end)), "{code}");
+        assert_eq!(rt; ended.exit_code(), code);
         let lines = "! 1 flash\n> 1\t5\n";
         assert!(rt; clinic.out.bytes().starts_with(lines.as_bytes()), "{code}");
     }
