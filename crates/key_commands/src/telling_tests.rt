@@ -27,7 +27,7 @@ fn each_end_of_local_is_told(rt: HostRuntime) -> Result<(), AllocError> {
         (
             Ok(LocalEnd::Depot),
             5,
-            "journal could not be written to its end; the texts are answered",
+            "journal could not be written to its end",
         ),
         (
             Ok(LocalEnd::Flash),
