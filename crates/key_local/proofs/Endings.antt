@@ -66,6 +66,7 @@ ran_of told schema database texts name end catalog before middle after same ran 
       finished = mine.finished;
       kept = λ calm. lines_there name mine.journal middle.files after.files mine.finished empty
           (mine.kept (λ rose. calm (subst (λ (count : ℕ). Rose count after.append_faults) appends rose)));
+      all_kept = λ fine. lines_there name mine.journal middle.files after.files mine.finished empty (mine.all_kept fine);
       gives = λ t. gives_since schema database texts (is_sink end) before middle after faults sink written (mine.gives t);
       printed_all = λ t whole. mine.printed_all t whole ∙ ap (λ (held : Option (List ℕ)). grown held (printed schema texts database)) written;
       cut = λ t is. mine.cut t is;

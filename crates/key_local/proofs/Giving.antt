@@ -66,13 +66,14 @@ pub ran_over : (told : Bool) (catalog : Catalog) (database : Database) (texts : 
     → LocalSessionsAreServed → ToldTextsAreGiven
     → IsLocal catalog database [] texts journal → IsFinished journal
     → ((Rose before.append_faults after.append_faults → ⊥) → KeepsLines before.files after.files name journal)
+    → (end ≡ ends.Ok → KeepsLines before.files after.files name journal)
     → (told ≡ true → AreTold catalog (hidden_of catalog.schema database) texts journal (length texts)
     (λ reasons. IsTally (wrote_none tally.status) (left catalog (asked_of catalog.schema texts) journal) reasons tally) (outside_in false before) (outside_in (wrote_none tally.status) after))
     → ((damage : Damage) → tally.status ≡ status.Damaged damage → IsDamaged told before.device.page catalog damage.page damage.slot damage.found) → KeepsPages before.device after.device
     → is_sink end ≡ wrote_none tally.status → (end ≡ ends.Ok → tally.status ≡ status.Ok) → (end ≡ ends.Flash → blames_flash tally.status ≡ true)
     → ((page slot found : ℕ) → end ≡ ends.Damaged page slot found → tally.status ≡ status.Damaged (damage_at page slot found))
     → RanOver told catalog database texts name end before after
-ran_over told catalog database texts name end tally before after journal served given is_local finished kept are_told blamed pages sink whole flash damaged =
+ran_over told catalog database texts name end tally before after journal served given is_local finished kept all_kept are_told blamed pages sink whole flash damaged =
     let unbroken = served catalog database [] texts journal is_local in
     let stays = going catalog database texts journal unbroken in
     let right = valid catalog database texts journal unbroken in
@@ -84,6 +85,7 @@ ran_over told catalog database texts name end tally before after journal served 
       is_local = is_local;
       finished = finished;
       kept = kept;
+      all_kept = all_kept;
       gives = λ t. gives_as catalog.schema database texts (wrote_none tally.status) (is_sink end) before after (sym sink) (by_tally t).gives;
       printed_all = λ t is.
           let all = by_tally t in

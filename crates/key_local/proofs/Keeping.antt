@@ -23,6 +23,11 @@ lines_kept None journal before after wrote going calm = tt
 lines_kept (Some name) journal before after wrote going calm =
     wrote.grew (not_so after.failed (λ failed. calm (wrote.appends_rose going failed)))
 
+pub lines_written : (name : Option (List ℕ)) (journal : Journal) (before after : Log) → Writes name (lines journal) before after → after.failed ≡ false
+    → KeepsLines before.contents after.contents name journal
+lines_written None journal before after wrote fine = tt
+lines_written (Some name) journal before after wrote fine = wrote.grew fine
+
 pub besides_kept : (name : Option (List ℕ)) (text : List ℕ) (before after : Log) → Writes name text before after → SameBesides name before.contents after.contents
 besides_kept None text before after wrote = ap (λ (l : Log). l.contents) wrote
 besides_kept (Some name) text before after wrote = wrote.others

@@ -71,6 +71,7 @@ pub record RanOver (told : Bool) (catalog : Catalog) (database : Database) (text
   pub is_local : IsLocal catalog database [] texts journal
   pub finished : IsFinished journal
   pub kept : (Rose before.append_faults after.append_faults → ⊥) → KeepsLines before.files after.files name journal
+  pub all_kept : end ≡ ends.Ok → KeepsLines before.files after.files name journal
   pub gives : told ≡ true → Gives catalog.schema database texts (outside_in false before) (outside_in (is_sink end) after)
   pub printed_all : told ≡ true → end ≡ ends.Ok → after.written ≡ grown before.written (printed catalog.schema texts database)
   pub cut : (t : told ≡ true) → end ≡ ends.Flash → list_any is_cut (gives t).given ≡ true

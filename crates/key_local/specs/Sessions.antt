@@ -94,6 +94,8 @@ pub record Ran (told : Bool) (one : Subject) (end : LocalEnd) (before after : Wo
   pub finished : IsFinished journal
   -- where no append failed, the journal is kept
   pub kept : (Rose before.append_faults after.append_faults → ⊥) → HasLines after.files one.journal journal
+  -- and so it is where all went well
+  pub all_kept : end ≡ ends.Ok → HasLines after.files one.journal journal
   -- each text has its lines, or a front of them where the flash failed
   pub gives : told ≡ true → Gives one.schema one.database one.texts (outside_in false before) (outside_in (is_sink end) after)
   pub printed_all : told ≡ true → end ≡ ends.Ok → after.written ≡ grown before.written (printed one.schema one.texts one.database)

@@ -1,4 +1,4 @@
-use Rattle.std.proofs.Common.{[]}
+use Rattle.std.proofs.Common.{[], ap, sym, ◌∙◌}
 use Rattle.std.specs.List.{list_any}
 use Rattle.ghost_model.specs.Asks.{asked_of}
 use Rattle.ghost_model.specs.Catalog.{canonical_text}
@@ -6,10 +6,11 @@ use Rattle.ghost_model.specs.NextMove.{left}
 use Rattle.ghost_model.specs.Texts.{texts_of}
 use Rattle.key_session.specs.Counting.{is_flash}
 use Rattle.key_session.specs.Running.{is_sink}
+use Rattle.key_local.specs.Running.{clears_journal}
 use Rattle.key_local.proofs.Settings.{setting_of}
 use Rattle.key_local.proofs.Statuses.{is_local_status}
 use Rattle.key_local.proofs.Giving.{ran_over, going, valid, granted}
-use Rattle.key_local.proofs.Keeping.{lines_kept}
+use Rattle.key_local.proofs.Keeping.{lines_kept, lines_written}
 use Rattle.key_local.proofs.running.hold.Goals as goal
 
 pub end_of-requires : goal.end_of-requires
@@ -40,5 +41,6 @@ returns-clause-ran g c = λ database stored hosted columns.
     ran_over g.F.Flash.told cat database texts _ c.end_of.result c.run_session-tally.result _ _ ran.journal c.local_sessions_are_served.ensures c.told_texts_are_given.ensures.given
     goes.is_local ran.finished
     (λ calm. lines_kept _ ran.journal _ _ wrote c.requires.going calm)
+    (λ fine. lines_written _ ran.journal _ _ wrote (sym c.failed.ensures.failed ∙ c.end_of.ensures.no_depot (ap clears_journal fine)))
     (λ t. ran.told database (record { is_told = t; is = stored.is_database; counts = stored.counts_are; holds = columns t }))
     ran.damaged c.run_session-tally.ensures.pages c.end_of.ensures.sink c.end_of.ensures.whole c.end_of.ensures.flash c.end_of.ensures.damaged
