@@ -1,6 +1,6 @@
 //! A file as a flash device.
 
-ghost use Rattle.std.specs.Prelude.{◌≡◌, ◌≤◌, ◌+◌, ◌*◌, IsTrue, IsOk, ◌↔◌, IfSome, false, [], vec_len};
+ghost use Rattle.std.specs.Prelude.{◌≡◌, ◌≤◌, ◌+◌, ◌*◌, IsTrue, IsOk, ◌↔◌, IfSome, None, option_map, false, [], vec_len};
 ghost use Rattle.ghost_model.specs.Causes.{HasCause};
 ghost use Rattle.edge_traits.specs.Devices.{next, since_call};
 ghost use Rattle.edge_traits.specs.Marks.{is_marked};
@@ -29,6 +29,7 @@ const MOST_BLOCKS: u64 = 60_000_000;
 pub struct FileFlash<R, F> {
     files: R,
     file: Option<F>,
+    name: Option<Vec<u8>>,
     marks: Vec<u64>,
     calls: u64,
     deep_reads: u64,
@@ -47,6 +48,7 @@ struct Opened<F> {
 impl<R: Files + Drop> FileFlash<R, R::File> {
     /// A device over the files that `files` reaches. It has no page before it is made or attached.
     pub fn new(alloc: Global, files: R) -> FileFlash<R, R::File>
+        ensures closed { result.name ≡ None }
         ensures no_page { vec_len result.marks ≡ 0 }
         ensures no_call { result.calls ≡ 0 }
         ensures no_deep_read { result.deep_reads ≡ 0 }
@@ -56,6 +58,7 @@ impl<R: Files + Drop> FileFlash<R, R::File> {
         FileFlash {
             files,
             file: None,
+            name: None,
             marks: Vec::new(alloc),
             calls: 0,
             deep_reads: 0,
@@ -66,6 +69,7 @@ impl<R: Files + Drop> FileFlash<R, R::File> {
 
     /// Lets go of the file, so that there is no page.
     fn close(&mut self)
+        ensures name { self.new.name ≡ None }
         ensures marks { vec_len self.new.marks ≡ 0 }
         ensures calls { self.new.calls ≡ self.old.calls }
         ensures deep_reads { self.new.deep_reads ≡ self.old.deep_reads }
@@ -73,6 +77,7 @@ impl<R: Files + Drop> FileFlash<R, R::File> {
         ensures since_fault { self.new.since_fault ≡ self.old.since_fault }
     {
         self.file = None;
+        self.name = None;
         self.marks.clear();
     }
 
@@ -84,6 +89,7 @@ impl<R: Files + Drop> FileFlash<R, R::File> {
         ensures one_fault { self.new.faults ≤ self.old.faults + 1 }
         ensures since_fault { self.new.since_fault ≡ since_call self.old.since_fault result }
         ensures deep_reads { self.new.deep_reads ≡ self.old.deep_reads }
+        ensures name { self.new.name ≡ self.old.name }
         ensures marks { self.new.marks ≡ self.old.marks }
     {
         self.calls = counting::one_more(self.calls);
@@ -168,6 +174,7 @@ where
     ghost told = { false };
 
     ghost state = { λ flash. record {
+      name = option_map (λ name. name.items) flash.name;
       page_count = 64 * vec_len flash.marks;
       page = λ page. [];
       blank = is_marked flash.marks.items;
@@ -179,13 +186,15 @@ where
 
     fn make(&mut self, alloc: Global, name: &str, blocks: u32) -> Result<(), AttachFault> {
         self.close();
-        let Ok(marks) = marks::all_set(alloc, blocks) else {
+        let (Ok(path), Ok(marks)) = (name.as_bytes().to_vec(alloc), marks::all_set(alloc, blocks))
+        else {
             self.count(true)?;
             return Err(AttachFault::NoMemory);
         };
         let file = create(&self.files, name, blocks);
         self.count(file.is_some())?;
         self.file = file;
+        self.name = Some(path);
         self.marks = marks;
         Ok(())
     }
@@ -199,7 +208,9 @@ where
             }
             Some(opened) => {
                 self.count(true)?;
+                let path = name.as_bytes().to_vec(alloc)?;
                 self.marks = marks::all_clear(alloc, opened.blocks)?;
+                self.name = Some(path);
                 self.file = Some(opened.file);
                 Ok(64 * opened.blocks)
             }

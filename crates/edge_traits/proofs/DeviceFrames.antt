@@ -4,6 +4,7 @@ use Rattle.edge_traits.specs.Devices.{Device, next, Counts, KeepsPages, SamePage
 
 pub kept_trans : {a b c : Device} → KeepsPages a b → KeepsPages b c → KeepsPages a c
 kept_trans first second = record {
+  name = second.name ∙ first.name;
   page_count = second.page_count ∙ first.page_count;
   page = second.page ∙ first.page;
   blank = second.blank ∙ first.blank;
@@ -17,6 +18,7 @@ same_kept kept page = record { bytes = ap (λ f. f page) kept.page; blank = ap (
 
 pub changes_trans : {a b c : Device} {low high : ℕ} → ChangesOnly low high a b → ChangesOnly low high b c → ChangesOnly low high a c
 changes_trans first second = record {
+  name = second.name ∙ first.name;
   page_count = second.page_count ∙ first.page_count;
   below = λ page before. same_trans (first.below page before) (second.below page before);
   above = λ page behind. same_trans (first.above page behind) (second.above page behind);
@@ -27,6 +29,7 @@ pub changes_wider :
     {a b : Device} {low high : ℕ} → ChangesOnly low high a b → (lower higher : ℕ) → lower ≤ low → high ≤ higher
     → ChangesOnly lower higher a b
 changes_wider changes lower higher down up = record {
+  name = changes.name;
   page_count = changes.page_count;
   below = λ page before. changes.below page (omega arith);
   above = λ page behind. changes.above page (omega arith);
@@ -34,6 +37,7 @@ changes_wider changes lower higher down up = record {
 
 pub changes_kept : {a b : Device} → KeepsPages a b → (low high : ℕ) → ChangesOnly low high a b
 changes_kept kept low high = record {
+  name = kept.name;
   page_count = kept.page_count;
   below = λ page before. same_kept kept page;
   above = λ page behind. same_kept kept page;

@@ -1,12 +1,14 @@
 -- A flash device: its pages by their numbers, which of them are blank, and what was counted of the calls on it. A block is
 -- 64 pages, a page 2,048 bytes. The bytes of pages are a function of the page's number: a clause claims something of them
 -- only where they are told.
-use Rattle.std.specs.Prelude.{◌≡◌, ℕ, ◌+◌, ◌<◌, ◌≤◌, min, Bool, true, false, if◌then◌else◌, List, replicate, Result, Ok, Err}
+use Rattle.std.specs.Prelude.{◌≡◌, ℕ, ◌+◌, ◌<◌, ◌≤◌, min, Bool, true, false, if◌then◌else◌, List, replicate, Option, Result, Ok, Err}
 use Rattle.ghost_model.specs.Causes.{Rose, last_count}
 use Rattle.edge_traits.specs.declared.flash.AttachFault.{AttachFault}
 use Rattle.edge_traits.specs.declared.flash.AttachFault.TheVariants.{Failed, NoMemory}
 
 pub record Device : Type 0 where
+  -- the name under which it is open: none before it was made or attached, and after such a call that failed
+  pub name : Option (List ℕ)
   -- how many pages there are: none before the device was made or attached
   pub page_count : ℕ
   pub page : ℕ → List ℕ
@@ -54,8 +56,9 @@ pub record AttachCause {T : Type 0} (before now : ℕ) (result : Result T Attach
   pub never_falls : before ≤ now
   pub tells : AttachTells before now result
 
--- no page changed
+-- the device is open as before, and no page changed
 pub record KeepsPages (before now : Device) : Type 0 where
+  pub name : now.name ≡ before.name
   pub page_count : now.page_count ≡ before.page_count
   pub page : now.page ≡ before.page
   pub blank : now.blank ≡ before.blank
@@ -65,8 +68,9 @@ pub record SamePage (before now : Device) (page : ℕ) : Type 0 where
   pub bytes : now.page page ≡ before.page page
   pub blank : now.blank page ≡ before.blank page
 
--- only pages from `low` on and below `high` changed
+-- the device is open as before, and only pages from `low` on and below `high` changed
 pub record ChangesOnly (low high : ℕ) (before now : Device) : Type 0 where
+  pub name : now.name ≡ before.name
   pub page_count : now.page_count ≡ before.page_count
   pub below : (page : ℕ) → page < low → SamePage before now page
   pub above : (page : ℕ) → high ≤ page → SamePage before now page

@@ -1,5 +1,5 @@
 -- What a device in memory tells.
-use Rattle.std.specs.Prelude.{if◌then◌else◌, vec_len}
+use Rattle.std.specs.Prelude.{if◌then◌else◌, Some, None, vec_len}
 use Rattle.edge_traits.specs.Devices.{Device}
 use Rattle.edge_traits.specs.Marks.{is_marked}
 use Rattle.edge_traits.specs.Pages.{page_at}
@@ -7,6 +7,7 @@ use Rattle.edge_traits.specs.declared.mem_flash.MemFlash.{MemFlash}
 
 abbrev pub device_of : MemFlash → Device
 device_of flash = record {
+  name = if flash.is_open then Some flash.name.items else None;
   page_count = if flash.is_open then vec_len flash.pages else 0;
   page = page_at flash.pages.items;
   blank = is_marked flash.marks.items;

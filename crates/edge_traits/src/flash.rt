@@ -1,6 +1,6 @@
 //! A flash device of pages and blocks.
 
-ghost use Rattle.std.specs.Prelude.{◌≡◌, ◌<◌, ◌≤◌, ◌+◌, ◌*◌, ◌%◌, Bool, true, false, IfOk, OnOk, OnErr, nat_le};
+ghost use Rattle.std.specs.Prelude.{◌≡◌, ◌<◌, ◌≤◌, ◌+◌, ◌*◌, ◌%◌, Bool, true, false, Some, None, IfOk, OnOk, OnErr, nat_le};
 ghost use Rattle.ghost_model.specs.Causes.{HasCause};
 ghost use Rattle.edge_traits.specs.Devices.{Device, next, next_if, since_call, since_attach, AttachCause, KeepsPages, ChangesOnly, IsErased, NotBlank};
 ghost use Rattle.edge_traits.specs.declared.flash.AttachFault.TheVariants.{Failed as call_failed, NoMemory as no_memory};
@@ -52,9 +52,11 @@ pub trait Flash {
 
     /// Makes a device of `blocks` blocks, all of whose pages are blank, in place of an older one of that name.
     ///
-    /// After an error the device has no page.
+    /// After an error the device is not open, and has no page.
     fn make(&mut self, alloc: Global, name: &str, blocks: u32) -> Result<(), AttachFault>
         requires { blocks ≤ 60000000 }
+        ensures open { OnOk result ((state self.new).name ≡ Some name.now) }
+        ensures closed { OnErr result ((state self.new).name ≡ None) }
         ensures pages { OnOk result ((state self.new).page_count ≡ 64 * blocks) }
         ensures erased { OnOk result (IsErased told 0 (64 * blocks) (state self.new)) }
         ensures none { OnErr result ((state self.new).page_count ≡ 0) }
@@ -66,8 +68,10 @@ pub trait Flash {
 
     /// Opens a device, and answers how many pages it has: whole blocks of them, perhaps none. None of them counts as blank.
     ///
-    /// After an error the device has no page. A device that is not there, or not of whole blocks, is a fault.
+    /// After an error the device is not open, and has no page. A device that is not there, or not of whole blocks, is a fault.
     fn attach(&mut self, alloc: Global, name: &str) -> Result<u32, AttachFault>
+        ensures open { OnOk result ((state self.new).name ≡ Some name.now) }
+        ensures closed { OnErr result ((state self.new).name ≡ None) }
         ensures pages { IfOk result (λ pages. (state self.new).page_count ≡ pages) }
         ensures whole_blocks { IfOk result (λ pages. pages % 64 ≡ 0) }
         ensures not_blank { IfOk result (λ pages. NotBlank 0 pages (state self.new)) }

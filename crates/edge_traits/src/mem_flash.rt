@@ -1,6 +1,6 @@
 //! A flash device in memory.
 
-ghost use Rattle.std.specs.Prelude.{◌≡◌, ◌≤◌, ◌<◌, ◌*◌, ◌+◌, ◌++◌, ℕ, true, false, take, drop, IfOk, IsTrue, ◌↔◌, MatchOption, [], slice_set, length, replicate, vec_len};
+ghost use Rattle.std.specs.Prelude.{◌≡◌, ◌≤◌, ◌<◌, ◌*◌, ◌+◌, ◌++◌, ℕ, true, false, None, take, drop, IfOk, IsTrue, ◌↔◌, MatchOption, [], slice_set, length, replicate, vec_len};
 ghost use Rattle.ghost_model.specs.Causes.{HasCause, Rose};
 ghost use Rattle.edge_traits.specs.Devices.{next, since_call, ChangesOnly};
 ghost use Rattle.edge_traits.specs.Scripts.{IsFresh};
@@ -25,6 +25,7 @@ pub struct MemFlash {
     deep_reads: u64,
     since_fault: u64,
     is_open: bool,
+    name: Vec<u8>,
     pages: Vec<[u8; 2048]>,
     marks: Vec<u64>,
     ghost sized: { vec_len pages ≡ 64 * vec_len marks },
@@ -36,6 +37,7 @@ impl MemFlash {
     pub fn new(alloc: Global, room: u32, fails: &[u64]) -> Result<MemFlash, AllocError>
         ensures script { IfOk result (λ flash. IsFresh fails.now flash.script) }
         ensures room { IfOk result (λ flash. flash.room ≡ room) }
+        ensures closed { IfOk result (λ flash. (⟦<MemFlash as Flash>⟧.state flash).name ≡ None) }
         ensures no_page { IfOk result (λ flash. (⟦<MemFlash as Flash>⟧.state flash).page_count ≡ 0) }
         ensures empty { IfOk result (λ flash. (page : ℕ) → (⟦<MemFlash as Flash>⟧.state flash).page page ≡ []) }
         ensures no_deep_read { IfOk result (λ flash. (⟦<MemFlash as Flash>⟧.state flash).deep_reads ≡ 0) }
@@ -47,6 +49,7 @@ impl MemFlash {
             deep_reads: 0,
             since_fault: 0,
             is_open: false,
+            name: Vec::new(alloc),
             pages: Vec::new(alloc),
             marks: Vec::new(alloc),
         })
@@ -93,6 +96,7 @@ impl MemFlash {
         ensures pages { self.new.pages ≡ self.old.pages }
         ensures marks { self.new.marks ≡ self.old.marks }
         ensures open { self.new.is_open ≡ self.old.is_open }
+        ensures name { self.new.name ≡ self.old.name }
         ensures room { self.new.room ≡ self.old.room }
         ensures deep_reads { self.new.deep_reads ≡ self.old.deep_reads }
     {
@@ -162,23 +166,26 @@ impl Flash for MemFlash {
 
     ghost state = { device_of };
 
-    fn make(&mut self, alloc: Global, _name: &str, blocks: u32) -> Result<(), AttachFault> {
+    fn make(&mut self, alloc: Global, name: &str, blocks: u32) -> Result<(), AttachFault> {
         self.is_open = false;
         self.begin()?;
         if blocks > self.room {
             return Err(AttachFault::from(self.fault()));
         }
+        let name = name.as_bytes().to_vec(alloc)?;
         let pages = blank_pages(alloc, blocks)?;
         let marks = marks::all_set(alloc, blocks)?;
+        self.name = name;
         self.pages = pages;
         self.marks = marks;
         self.is_open = true;
         Ok(())
     }
 
-    fn attach(&mut self, _alloc: Global, _name: &str) -> Result<u32, AttachFault> {
+    fn attach(&mut self, alloc: Global, name: &str) -> Result<u32, AttachFault> {
         self.is_open = false;
         self.begin()?;
+        self.name = name.as_bytes().to_vec(alloc)?;
         marks::clear_all(&mut self.marks);
         self.is_open = true;
         Ok(self.pages.len() as u32)

@@ -45,16 +45,18 @@ file_each cat narrow table column h =
 
 -- which pages changed
 pub columns_same : (cat : Catalog) (device : Device) → ChangesColumns cat device device
-columns_same cat device = record { page_count = refl; others = λ page beside. record { bytes = refl; blank = refl } }
+columns_same cat device = record { name = refl; page_count = refl; others = λ page beside. record { bytes = refl; blank = refl } }
 
 pub columns_trans : {cat : Catalog} {a b c : Device} → ChangesColumns cat a b → ChangesColumns cat b c → ChangesColumns cat a c
 columns_trans first second = record {
+  name = second.name ∙ first.name;
   page_count = second.page_count ∙ first.page_count;
   others = λ page beside. same_trans (first.others page beside) (second.others page beside);
 }
 
 pub changes_same : (low high : ℕ) (device : Device) → ChangesOnly low high device device
 changes_same low high device = record {
+  name = refl;
   page_count = refl;
   below = λ page before. record { bytes = refl; blank = refl };
   above = λ page behind. record { bytes = refl; blank = refl };
@@ -68,6 +70,7 @@ pub columns_of_file :
 columns_of_file {cat = cat} table column h changes =
     let size = pages_of_file cat table column h in
     record {
+      name = changes.name;
       page_count = changes.page_count;
       others = λ page beside.
           elim (cases_lt page (column_file cat table column).first) [
@@ -83,6 +86,7 @@ columns_of_file {cat = cat} table column h changes =
 -- column files stand between the public pages and the end of the files
 pub columns_within : {cat : Catalog} {a b : Device} → LieInOrder cat → ChangesColumns cat a b → ChangesOnly public_pages (files_end cat) a b
 columns_within {cat = cat} order changes = record {
+  name = changes.name;
   page_count = changes.page_count;
   below = λ page before. changes.others page (λ table column h stands.
       absurd (omega (arith, before, stands.from, order.after_public table column)));

@@ -15,9 +15,9 @@ use Rattle.ghost_model.specs.Split.{Hidden}
 use Rattle.ghost_model.specs.Replies.{hidden_places}
 use Rattle.ghost_model.specs.Layout.{hidden_or_none, is_hidden, width_or_none}
 use Rattle.ghost_model.specs.LayoutLaws.{AreNarrow}
-use Rattle.ghost_model.specs.Flash.{IsHidden, cell_or_none, hidden_cells}
+use Rattle.ghost_model.specs.Flash.{GoesWith, cell_or_none, hidden_cells}
 use Rattle.ghost_model.specs.FlashLaws.{hidden_before, CellsFit, HiddenValuesByPlace, HiddenValuesOfDatabases, HiddenPartsGoWithCatalogs, HiddenCellsFit}
-use Rattle.flash_build.specs.Building.{IsHiddenPart}
+use Rattle.ghost_model.specs.Flash.{IsHidden}
 use Rattle.flash_build.specs.Cells.{AreOfKind, cell_at, cells_at, value_at}
 
 -- a hidden column is there
@@ -35,7 +35,7 @@ of_rows f g (Some row) same = same row
 
 pub of_kind :
     (cat : Catalog) (hidden : Hidden) → IsTree cat.schema → AreNarrow cat → HiddenValuesByPlace → HiddenValuesOfDatabases
-    → IsHiddenPart cat hidden → (table column : ℕ) → is_hidden cat.schema table column ≡ true
+    → IsHidden cat hidden → (table column : ℕ) → is_hidden cat.schema table column ≡ true
     → AreOfKind (kind_at cat.schema table column) (hidden_before cat.schema table column) (rows_of hidden.hidden table)
 of_kind cat hidden tree narrow by_place of_databases is table column h =
     let there = declared (column_at cat.schema table column) h in
@@ -86,9 +86,9 @@ source_cells {kind = kind} {same_place = same_place} rows is at same =
 
 -- a hidden part's cells fit its catalog
 pub part_fits :
-    (cat : Catalog) (hidden : Hidden) → IsTree cat.schema → HiddenPartsGoWithCatalogs → HiddenCellsFit → IsHiddenPart cat hidden → CellsFit cat hidden
+    (cat : Catalog) (hidden : Hidden) → IsTree cat.schema → HiddenPartsGoWithCatalogs → HiddenCellsFit → IsHidden cat hidden → CellsFit cat hidden
 part_fits cat hidden tree parts fit is =
-    fit cat hidden tree (subst (λ h. IsHidden cat h) (sym is.part) (parts cat is.database is.proper is.counted))
+    fit cat hidden tree (subst (λ h. GoesWith cat h) (sym is.part) (parts cat is.database is.proper is.counted))
 
 pub cell_widths :
     (cells kept : List (List ℕ)) (width : ℕ) → cells ≡ kept

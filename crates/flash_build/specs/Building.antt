@@ -1,19 +1,9 @@
 -- What is written when the hidden part of a database is put on the flash: the pages of the column files, and no other.
 use Rattle.std.specs.Prelude.{◌≡◌, ℕ, ◌<◌, ◌≤◌, true}
-use Rattle.ghost_model.specs.Values.{Database}
 use Rattle.ghost_model.specs.Channel.{Catalog}
-use Rattle.ghost_model.specs.Database.{IsDatabase, row_counts}
-use Rattle.ghost_model.specs.Split.{Hidden, hidden_of}
 use Rattle.ghost_model.specs.Runs.{Run, run_end}
 use Rattle.ghost_model.specs.Layout.{is_hidden, column_file}
 use Rattle.edge_traits.specs.Devices.{Device, SamePage}
-
--- the hidden part of a database that a catalog tells of
-pub record IsHiddenPart (cat : Catalog) (hidden : Hidden) : Type 0 where
-  pub database : Database
-  pub proper : IsDatabase cat.schema database
-  pub counted : row_counts database ≡ cat.counts
-  pub part : hidden ≡ hidden_of cat.schema database
 
 -- the pages from `low` on and below `high` are blank, as far as the device has them
 pub record IsBlank (low high : ℕ) (device : Device) : Type 0 where
@@ -29,7 +19,8 @@ abbrev pub IsBeside : Catalog → (page : ℕ) → Type 0
 IsBeside cat page =
     (table column : ℕ) → is_hidden cat.schema table column ≡ true → StandsIn page (column_file cat table column) → ⊥
 
--- only pages of column files changed
+-- the device is open as before, and only pages of column files changed
 pub record ChangesColumns (cat : Catalog) (before now : Device) : Type 0 where
+  pub name : now.name ≡ before.name
   pub page_count : now.page_count ≡ before.page_count
   pub others : (page : ℕ) → IsBeside cat page → SamePage before now page

@@ -5,7 +5,8 @@ ghost use Rattle.ghost_model.specs.Flash.{HoldsColumns};
 ghost use Rattle.ghost_model.specs.Layout as layout;
 ghost use Rattle.ghost_model.specs.Work as work;
 ghost use Rattle.edge_traits.specs.Devices.{Counts, ChangesOnly};
-ghost use Rattle.flash_build.specs.Building.{IsHiddenPart, IsBlank, ChangesColumns};
+ghost use Rattle.flash_build.specs.Building.{IsBlank, ChangesColumns};
+ghost use Rattle.ghost_model.specs.Flash.{IsHidden};
 ghost use Rattle.flash_build.specs.Faults.{BuildCause, EndsAtFault, BlamesFlash};
 ghost use Rattle.flash_build.specs.declared.faults.BuildFault.TheVariants as fault;
 
@@ -28,7 +29,7 @@ pub fn build<F: Flash>(
     hidden: &Hidden,
     flash: &mut F,
 ) -> Result<(), BuildFault>
-    requires part { IsHiddenPart cat.now hidden.now }
+    requires part { IsHidden cat.now hidden.now }
     requires blank { IsBlank layout.public_pages (layout.files_end cat.now) (F.state flash.old) }
     ensures holds { OnOk result (F.told ≡ true → HoldsColumns (F.state flash.new).page cat.now hidden.now) }
     ensures too_small { (F.state flash.old).page_count < layout.need cat.now → result ≡ Err (fault.TooSmall (layout.need cat.now) (F.state flash.old).page_count) }

@@ -12,7 +12,8 @@ ghost use Rattle.edge_traits.specs.Devices.{Counts, ChangesOnly};
 ghost use Rattle.flash_pages.specs.Filling.{CanFill};
 ghost use Rattle.ghost_base.specs.Views.{kind_of};
 ghost use Rattle.flash_build.specs.Sources.{cells_of};
-ghost use Rattle.flash_build.specs.Building.{IsHiddenPart, ChangesColumns};
+ghost use Rattle.flash_build.specs.Building.{ChangesColumns};
+ghost use Rattle.ghost_model.specs.Flash.{IsHidden};
 
 use crate::source::ColumnCells;
 use csv_split::Hidden;
@@ -55,7 +56,7 @@ fn column_cells<'h>(
     table: usize,
     column: usize,
 ) -> ColumnCells<'h>
-    requires part { IsHiddenPart cat.now hidden.now }
+    requires part { IsHidden cat.now hidden.now }
     requires hidden { layout.is_hidden cat.now.schema table column ≡ true }
     ensures cells { cells_of result ≡ hidden_cells cat.now.schema hidden.now table column }
     ensures count { length (cells_of result) ≡ layout.count_of cat.now table }
@@ -84,7 +85,7 @@ fn write_file<F: Flash>(
     flash: &mut F,
     buf: &mut [u8; 2048],
 ) -> Result<(), Failed>
-    requires part { IsHiddenPart cat.now hidden.now }
+    requires part { IsHidden cat.now hidden.now }
     requires hidden { layout.is_hidden cat.now.schema table column ≡ true }
     requires can { CanFill (F.state flash.old) (layout.column_file cat.now table column).first (layout.column_pages cat.now table column) }
     ensures stores { OnOk result (F.told ≡ true → Stores (F.state flash.new).page (layout.column_file cat.now table column) (hidden_cells cat.now.schema hidden.now table column)) }
@@ -113,7 +114,7 @@ fn write_column<F: Flash>(
     flash: &mut F,
     buf: &mut [u8; 2048],
 ) -> Result<(), Failed>
-    requires part { IsHiddenPart cat.now hidden.now }
+    requires part { IsHidden cat.now hidden.now }
     requires can { CanFill (F.state flash.old) (layout.column_file cat.now table column).first (layout.column_pages cat.now table column) }
     ensures stores { OnOk result (F.told ≡ true → layout.is_hidden cat.now.schema table column ≡ true → Stores (F.state flash.new).page (layout.column_file cat.now table column) (hidden_cells cat.now.schema hidden.now table column)) }
     ensures others { ChangesOnly (layout.column_file cat.now table column).first ((layout.column_file cat.now table column).first + layout.column_pages cat.now table column) (F.state flash.old) (F.state flash.new) }
@@ -139,7 +140,7 @@ fn write_table<F: Flash>(
     flash: &mut F,
     buf: &mut [u8; 2048],
 ) -> Result<(), Failed>
-    requires part { IsHiddenPart cat.now hidden.now }
+    requires part { IsHidden cat.now hidden.now }
     requires can { CanFill (F.state flash.old) (layout.table_begin cat.now table) (layout.columns_pages cat.now table) }
     ensures stores { OnOk result (F.told ≡ true → (column : ℕ) → layout.is_hidden cat.now.schema table column ≡ true → Stores (F.state flash.new).page (layout.column_file cat.now table column) (hidden_cells cat.now.schema hidden.now table column)) }
     ensures others { ChangesOnly (layout.table_begin cat.now table) (layout.table_begin cat.now table + layout.columns_pages cat.now table) (F.state flash.old) (F.state flash.new) }
@@ -164,7 +165,7 @@ pub(crate) fn write_columns<F: Flash>(
     hidden: &Hidden,
     flash: &mut F,
 ) -> Result<(), Failed>
-    requires part { IsHiddenPart cat.now hidden.now }
+    requires part { IsHidden cat.now hidden.now }
     requires can { CanFill (F.state flash.old) layout.public_pages (layout.files_end cat.now - layout.public_pages) }
     ensures stores { OnOk result (F.told ≡ true → (table column : ℕ) → layout.is_hidden cat.now.schema table column ≡ true → Stores (F.state flash.new).page (layout.column_file cat.now table column) (hidden_cells cat.now.schema hidden.now table column)) }
     ensures columns { ChangesColumns cat.now (F.state flash.old) (F.state flash.new) }

@@ -1,11 +1,11 @@
 //! The whole of a new flash.
 
-ghost use Rattle.std.specs.Prelude.{◌≡◌, ◌<◌, ◌≤◌, ◌+◌, ◌*◌, true, false, Err, OnOk};
+ghost use Rattle.std.specs.Prelude.{◌≡◌, ◌<◌, ◌≤◌, ◌+◌, ◌*◌, ℕ, List, true, false, Some, Err, OnOk};
 ghost use Rattle.ghost_model.specs.Flash.{HoldsCatalog, HoldsColumns};
 ghost use Rattle.ghost_model.specs.Layout as layout;
 ghost use Rattle.ghost_model.specs.Work as work;
 ghost use Rattle.edge_traits.specs.Devices.{Counts, IsErased};
-ghost use Rattle.flash_build.specs.Building.{IsHiddenPart};
+ghost use Rattle.ghost_model.specs.Flash.{IsHidden};
 ghost use Rattle.flash_build.specs.Faults.{BuildCause, EndsAtFault, IsLargeEnough};
 ghost use Rattle.flash_build.specs.Sealing.{HoldsFrom, SpellsNoCatalog};
 ghost use Rattle.flash_build.specs.declared.faults.BuildFault.TheVariants as fault;
@@ -24,7 +24,7 @@ use tree_schema::Catalog;
 /// database to it. The catalog is not written yet: the public pages are erased.
 ///
 /// So many blocks may be too small for the catalog, and then no call is made. After any other error the device has no
-/// page, or its pages spell no catalog.
+/// page, or its pages spell no catalog; it is open under that name, or not at all.
 pub fn make_and_build<F: Flash>(
     alloc: Global,
     cat: &Catalog,
@@ -33,9 +33,11 @@ pub fn make_and_build<F: Flash>(
     name: &str,
     blocks: u32,
 ) -> Result<(), BuildFault>
-    requires part { IsHiddenPart cat.now hidden.now }
+    requires part { IsHidden cat.now hidden.now }
     requires blocks { blocks ≤ 60000000 }
     ensures holds { OnOk result (F.told ≡ true → HoldsColumns (F.state flash.new).page cat.now hidden.now) }
+    ensures named { OnOk result ((F.state flash.new).name ≡ Some name.now) }
+    ensures never_other { layout.need cat.now ≤ 64 * blocks → (other : List ℕ) → (F.state flash.new).name ≡ Some other → other ≡ name.now }
     ensures pages { OnOk result ((F.state flash.new).page_count ≡ 64 * blocks) }
     ensures erased { OnOk result (IsErased F.told 0 layout.public_pages (F.state flash.new)) }
     ensures too_small { 64 * blocks < layout.need cat.now → result ≡ Err (fault.TooSmall (layout.need cat.now) (64 * blocks)) }
@@ -74,10 +76,12 @@ pub fn load_flash<F: Flash>(
     name: &str,
     blocks: u32,
 ) -> Result<(), BuildFault>
-    requires part { IsHiddenPart cat.now hidden.now }
+    requires part { IsHidden cat.now hidden.now }
     requires blocks { blocks ≤ 60000000 }
     ensures catalog { OnOk result (F.told ≡ true → HoldsCatalog (F.state flash.new).page cat.now) }
     ensures columns { OnOk result (F.told ≡ true → HoldsColumns (F.state flash.new).page cat.now hidden.now) }
+    ensures named { OnOk result ((F.state flash.new).name ≡ Some name.now) }
+    ensures never_other { layout.need cat.now ≤ 64 * blocks → (other : List ℕ) → (F.state flash.new).name ≡ Some other → other ≡ name.now }
     ensures pages { OnOk result ((F.state flash.new).page_count ≡ 64 * blocks) }
     ensures too_small { 64 * blocks < layout.need cat.now → result ≡ Err (fault.TooSmall (layout.need cat.now) (64 * blocks)) }
     ensures untouched { 64 * blocks < layout.need cat.now → F.state flash.new ≡ F.state flash.old }

@@ -2,7 +2,7 @@
 
 ghost use Rattle.std.specs.Prelude.{IfSome};
 ghost use Rattle.ghost_model.specs.Database.{IsDatabase};
-ghost use Rattle.flash_build.specs.Building.{IsHiddenPart};
+ghost use Rattle.ghost_model.specs.Flash.{IsHidden};
 
 use crate::{BuildFault, build, catalog_of, load_flash};
 use csv_split::{Hidden, Tables, read_tables, split};
@@ -55,7 +55,7 @@ fn files(alloc: Global) -> Result<Vec<Vec<u8>>, AllocError> {
 /// The catalog and the hidden part of the tables of a schema.
 fn load_parts(alloc: Global, schema: Schema, tables: Tables) -> Option<Loaded>
     requires database { IsDatabase schema tables }
-    ensures part { IfSome result (λ loaded. IsHiddenPart loaded.cat loaded.hidden) }
+    ensures part { IfSome result (λ loaded. IsHidden loaded.cat loaded.hidden) }
 {
     let cat = catalog_of(schema, &tables);
     match split(alloc, cat.schema(), tables) {
@@ -66,7 +66,7 @@ fn load_parts(alloc: Global, schema: Schema, tables: Tables) -> Option<Loaded>
 
 /// The clinic.
 fn clinic(alloc: Global) -> Option<Loaded>
-    ensures part { IfSome result (λ loaded. IsHiddenPart loaded.cat loaded.hidden) }
+    ensures part { IfSome result (λ loaded. IsHidden loaded.cat loaded.hidden) }
 {
     let Ok(schema) = read_schema(SCHEMA) else {
         return None;

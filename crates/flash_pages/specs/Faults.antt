@@ -24,3 +24,9 @@ abbrev pub EndsAtFault : {T : Type 0} → ℕ → Result T PageFault → Type 0
 EndsAtFault since_fault (Ok value) = ⊤
 EndsAtFault since_fault (Err Flash) = since_fault ≡ 0
 EndsAtFault since_fault (Err (Damaged page slot found)) = ⊤
+
+-- where the flash is blamed, its count of calls rose
+abbrev pub MadeCall : {T : Type 0} → (before now : ℕ) → Result T PageFault → Type 0
+MadeCall before now (Ok value) = ⊤
+MadeCall before now (Err Flash) = Rose before now
+MadeCall before now (Err (Damaged page slot found)) = ⊤

@@ -1,9 +1,9 @@
 //! The ascending identifiers of a list.
 
-ghost use Rattle.std.specs.Prelude.{◌≡◌, ◌<◌, ◌≤◌, ◌+◌, ◌^◌, true, None, Ok, Some, length, IfOk, IfSome, MatchOption};
+ghost use Rattle.std.specs.Prelude.{◌≡◌, ◌<◌, ◌≤◌, ◌+◌, ◌^◌, ◌&&◌, true, None, Ok, Some, length, nat_le, IfOk, IfSome, MatchOption};
 ghost use Rattle.edge_traits.specs.Devices.{next_if, KeepsPages};
 ghost use Rattle.flash_pages.specs.Cursors.{GivesNext, BlamesNext, SameList, IsReady, IsNext, will_read, place, page_next};
-ghost use Rattle.flash_pages.specs.Faults.{PageCause, EndsAtFault};
+ghost use Rattle.flash_pages.specs.Faults.{PageCause, EndsAtFault, MadeCall};
 ghost use Rattle.flash_pages.specs.Runs.{run_of, HasRun, IsHeld};
 
 use crate::cells::{cell_of, found_of, number_at};
@@ -67,6 +67,8 @@ impl RunCursor {
         ensures kept { KeepsPages (F.state flash.old) (F.state flash.new) }
         ensures calls { (F.state flash.new).calls ≡ next_if (will_read self.old) (F.state flash.old).calls }
         ensures at_most { (F.state flash.new).calls ≤ (F.state flash.old).calls + 1 }
+        ensures made { MadeCall (F.state flash.old).calls (F.state flash.new).calls result }
+        ensures deep_reads { (F.state flash.new).deep_reads ≡ next_if (will_read self.old && nat_le 64 (page_next self.old)) (F.state flash.old).deep_reads }
         ensures cause { PageCause (F.state flash.old).faults (F.state flash.new).faults result }
         ensures last { EndsAtFault (F.state flash.new).since_fault result }
     {

@@ -1,6 +1,6 @@
 //! One record of a run.
 
-ghost use Rattle.std.specs.Prelude.{◌≡◌, ◌<◌, ◌≤◌, ◌+◌, true, Some, None, length, OnOk, OnErr};
+ghost use Rattle.std.specs.Prelude.{◌≡◌, ◌<◌, ◌≤◌, ◌+◌, ◌&&◌, true, Some, None, length, nat_le, OnOk, OnErr};
 ghost use Rattle.ghost_model.specs.Runs.{record_at, page_of};
 ghost use Rattle.edge_traits.specs.Devices.{next_if, KeepsPages};
 ghost use Rattle.flash_pages.specs.Faults.{PageCause, BlamesNoSlot, EndsAtFault};
@@ -36,6 +36,8 @@ pub fn fixed_get<F: Flash>(
     ensures kept { KeepsPages (F.state flash.old) (F.state flash.new) }
     ensures calls { (F.state flash.new).calls ≡ next_if (reads held.old (page_of (run_of run.now) i)) (F.state flash.old).calls }
     ensures at_most { (F.state flash.new).calls ≤ (F.state flash.old).calls + 1 }
+    ensures made { OnErr result (reads held.old (page_of (run_of run.now) i) ≡ true) }
+    ensures deep_reads { (F.state flash.new).deep_reads ≡ next_if (reads held.old (page_of (run_of run.now) i) && nat_le 64 (page_of (run_of run.now) i)) (F.state flash.old).deep_reads }
     ensures cause { PageCause (F.state flash.old).faults (F.state flash.new).faults result }
     ensures no_slot { BlamesNoSlot result }
     ensures last { EndsAtFault (F.state flash.new).since_fault result }

@@ -1,6 +1,6 @@
 //! Which page stands in a buffer.
 
-ghost use Rattle.std.specs.Prelude.{◌≡◌, ◌<◌, ◌≤◌, ◌+◌, Bool, true, Some, None, not, OnOk, OnErr};
+ghost use Rattle.std.specs.Prelude.{◌≡◌, ◌<◌, ◌≤◌, ◌+◌, ◌&&◌, Bool, true, Some, None, not, nat_le, OnOk, OnErr};
 ghost use Rattle.ghost_model.specs.Causes.{HasCause};
 ghost use Rattle.edge_traits.specs.Devices.{next_if, KeepsPages};
 ghost use Rattle.flash_pages.specs.Runs.{IsHeld};
@@ -49,6 +49,8 @@ impl Held {
         ensures kept { KeepsPages (F.state flash.old) (F.state flash.new) }
         ensures calls { (F.state flash.new).calls ≡ next_if (reads self.old page) (F.state flash.old).calls }
         ensures at_most { (F.state flash.new).calls ≤ (F.state flash.old).calls + 1 }
+        ensures made { OnErr result (reads self.old page ≡ true) }
+        ensures deep_reads { (F.state flash.new).deep_reads ≡ next_if (reads self.old page && nat_le 64 page) (F.state flash.old).deep_reads }
         ensures cause { HasCause (F.state flash.old).faults (F.state flash.new).faults result }
         ensures last { OnErr result ((F.state flash.new).since_fault ≡ 0) }
     {

@@ -13,11 +13,11 @@ use Rattle.std.specs.Ordering.{nat_cmp}
 use Rattle.ghost_model.specs.Schema.{Schema, Table, Kind, is_empty, is_table}
 use Rattle.ghost_model.specs.Values.{Value, Number, Row, Rows, Database}
 use Rattle.ghost_model.specs.Channel.{Catalog}
-use Rattle.ghost_model.specs.Database.{rows_or_none, leads}
+use Rattle.ghost_model.specs.Database.{IsDatabase, rows_or_none, row_counts, leads}
 use Rattle.ghost_model.specs.Cells.{encode_cell}
 use Rattle.ghost_model.specs.Catalog.{catalog_bytes}
 use Rattle.ghost_model.specs.Asks.{kind_at}
-use Rattle.ghost_model.specs.Split.{Hidden, rejoined, value_at, kind_of, are_of_kinds}
+use Rattle.ghost_model.specs.Split.{Hidden, hidden_of, rejoined, value_at, kind_of, are_of_kinds}
 use Rattle.ghost_model.specs.Replies.{hidden_places}
 use Rattle.ghost_model.specs.Runs.{page_bytes, number_cell, Stores}
 use Rattle.ghost_model.specs.Layout.{below, is_hidden, count_of, levels_of, above_of, descendants_of, public_pages, column_file, subtree_table, index_header, index_directory, index_level, id_directory, id_level}
@@ -39,9 +39,15 @@ hidden_rows hidden table = rows_or_none (slice_get hidden.hidden table)
 abbrev pub hidden_kinds : Table → List Kind
 hidden_kinds table = map kind_of (filter (λ column. column.hidden) (drop 1 table.columns))
 
--- a hidden part that goes with a catalog: each table has as many rows as the catalog says, and a row one value for each
--- hidden column, of its kind
+-- the hidden part of a database that a catalog tells of
 pub record IsHidden (cat : Catalog) (hidden : Hidden) : Type 0 where
+  pub database : Database
+  pub proper : IsDatabase cat.schema database
+  pub counted : row_counts database ≡ cat.counts
+  pub part : hidden ≡ hidden_of cat.schema database
+
+-- so each table has as many rows as the catalog says, and a row one value for each hidden column, of its kind
+pub record GoesWith (cat : Catalog) (hidden : Hidden) : Type 0 where
   pub counted : map length hidden.hidden ≡ cat.counts
   pub kinds : (table place : ℕ) (declared : Table) (row : Row) → slice_get cat.schema table ≡ Some declared
       → slice_get (hidden_rows hidden table) place ≡ Some row → IsTrue (are_of_kinds (hidden_kinds declared) row)

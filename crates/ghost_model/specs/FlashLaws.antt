@@ -13,7 +13,7 @@ use Rattle.ghost_model.specs.Replies.{hidden_places, hidden_value}
 use Rattle.ghost_model.specs.Runs.{number_cell, record_at}
 use Rattle.ghost_model.specs.RunLaws.{AgreeOn}
 use Rattle.ghost_model.specs.Layout.{below, is_hidden, width_at, count_of, public_pages, files_end, column_file, subtree_table, index_directory, id_directory}
-use Rattle.ghost_model.specs.Flash.{IsHidden, HoldsCatalog, HoldsColumns, hidden_cells, cell_or_none, leads_to, subtree_record, directory_record, id_record}
+use Rattle.ghost_model.specs.Flash.{GoesWith, HoldsCatalog, HoldsColumns, hidden_cells, cell_or_none, leads_to, subtree_record, directory_record, id_record}
 
 -- how many hidden columns a table has before a column
 abbrev pub hidden_before : Schema → (table column : ℕ) → ℕ
@@ -28,7 +28,7 @@ HiddenValuesByPlace =
 abbrev pub HiddenPartsGoWithCatalogs : Type 0
 HiddenPartsGoWithCatalogs =
     (cat : Catalog) (database : Database) → IsDatabase cat.schema database → row_counts database ≡ cat.counts
-    → IsHidden cat (hidden_of cat.schema database)
+    → GoesWith cat (hidden_of cat.schema database)
 
 -- the cells of a hidden part that goes with a catalog: one for each row, each as wide as its column, and each reads as
 -- the value of its row
@@ -46,7 +46,7 @@ pub record CellsFit (cat : Catalog) (hidden : Hidden) : Type 0 where
       → decode_cell (kind_at cat.schema table column) cell ≡ hidden_value cat.schema hidden table (suc place) column
 
 abbrev pub HiddenCellsFit : Type 0
-HiddenCellsFit = (cat : Catalog) (hidden : Hidden) → IsTree cat.schema → IsHidden cat hidden → CellsFit cat hidden
+HiddenCellsFit = (cat : Catalog) (hidden : Hidden) → IsTree cat.schema → GoesWith cat hidden → CellsFit cat hidden
 
 -- the cells of the hidden part of a database are those of its values
 abbrev pub HiddenCellsOfDatabases : Type 0
@@ -72,7 +72,7 @@ HiddenValuesOfDatabases =
 -- what column files give: the record of each row reads as the row's value
 abbrev pub ColumnFilesGiveValues : Type 0
 ColumnFilesGiveValues =
-    (page : ℕ → List ℕ) (cat : Catalog) (hidden : Hidden) → IsTree cat.schema → IsHidden cat hidden
+    (page : ℕ → List ℕ) (cat : Catalog) (hidden : Hidden) → IsTree cat.schema → GoesWith cat hidden
     → HoldsColumns page cat hidden → (table column : ℕ) → is_hidden cat.schema table column ≡ true
     → (place : ℕ) → place < count_of cat table
     → decode_cell (kind_at cat.schema table column) (record_at page (column_file cat table column) place)

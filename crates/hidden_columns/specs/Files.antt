@@ -1,5 +1,5 @@
 -- The file of a hidden column, and what a call on it gives.
-use Rattle.std.specs.Prelude.{◌≡◌, ℕ, ◌-◌, ◌≤◌, ⊤, pos, List, length, Option, Some, None, Result, Ok, Err, IsTrue}
+use Rattle.std.specs.Prelude.{◌≡◌, ℕ, ◌-◌, ◌≤◌, ⊤, Bool, true, pos, List, length, Option, Some, None, Result, Ok, Err, IsTrue}
 use Rattle.ghost_model.specs.Values.{Value, Number}
 use Rattle.ghost_model.specs.Channel.{Catalog}
 use Rattle.ghost_model.specs.Cells.{cell_width}
@@ -86,6 +86,11 @@ pub record BlamesSlot (file : ColumnFile) (identifier number slot found : ℕ) :
 abbrev pub Blames : ColumnFile → (identifier : ℕ) → PageFault → Type 0
 Blames file identifier Flash = ⊤
 Blames file identifier (Damaged number slot found) = BlamesSlot file identifier number slot found
+
+-- where the flash is blamed, a page was to be read
+abbrev pub FailsInRead : (reads : Bool) → PageFault → Type 0
+FailsInRead reads Flash = reads ≡ true
+FailsInRead reads (Damaged number slot found) = ⊤
 
 -- the page that stands in the buffer after a call that needed one
 abbrev pub left_by : PageFault → (page : ℕ) → Option ℕ

@@ -9,7 +9,7 @@ use Rattle.ghost_model.specs.Split.{Hidden, hidden_of}
 use Rattle.ghost_model.specs.Replies.{Reply, hidden_value, known_value}
 use Rattle.ghost_model.specs.Runs.{record_at}
 use Rattle.ghost_model.specs.Layout.{is_hidden, count_of, column_file}
-use Rattle.ghost_model.specs.Flash.{IsHidden, HoldsColumns}
+use Rattle.ghost_model.specs.Flash.{GoesWith, HoldsColumns}
 use Rattle.edge_traits.specs.Devices.{Device}
 use Rattle.hidden_columns.specs.declared.file.ColumnFile.{ColumnFile}
 use Rattle.hidden_columns.specs.Slots.{child_rows, spelled}
@@ -47,7 +47,7 @@ IsColumnBut page cat hidden table column =
 
 abbrev pub HeldColumnsAreRight : Type 0
 HeldColumnsAreRight =
-    (page : ℕ → List ℕ) (cat : Catalog) (hidden : Hidden) → IsTree cat.schema → IsHidden cat hidden
+    (page : ℕ → List ℕ) (cat : Catalog) (hidden : Hidden) → IsTree cat.schema → GoesWith cat hidden
     → HoldsColumns page cat hidden → (table column : ℕ) → is_hidden cat.schema table column ≡ true
     → IsColumnBut page cat hidden table column
 

@@ -11,14 +11,14 @@ use Rattle.ghost_model.specs.Runs.{record_at}
 use Rattle.ghost_model.specs.RunLaws.{AgreeOn}
 use Rattle.ghost_model.specs.Layout.{is_hidden, count_of, public_pages, files_end, column_file}
 use Rattle.ghost_model.specs.LayoutLaws.{AreNarrow, LieInOrder}
-use Rattle.ghost_model.specs.Flash.{IsHidden, HoldsColumns, hidden_cells}
+use Rattle.ghost_model.specs.Flash.{GoesWith, HoldsColumns, hidden_cells}
 use Rattle.ghost_model.specs.FlashLaws.{HoldingsAreKept}
 use Rattle.ghost_model.proofs.RunLemmas.{run_kept}
 use Rattle.ghost_model.proofs.LayoutLemmas.Order.{lie_in_order}
 use Rattle.ghost_model.proofs.LayoutLemmas.Small.{are_narrow}
 use Rattle.ghost_model.proofs.FlashLemmas.Values.{cells_fit}
 
-pub give_values : (page : ℕ → List ℕ) (cat : Catalog) (hidden : Hidden) → IsTree cat.schema → IsHidden cat hidden
+pub give_values : (page : ℕ → List ℕ) (cat : Catalog) (hidden : Hidden) → IsTree cat.schema → GoesWith cat hidden
     → HoldsColumns page cat hidden → (table column : ℕ) → is_hidden cat.schema table column ≡ true
     → (place : ℕ) → place < count_of cat table
     → decode_cell (kind_at cat.schema table column) (record_at page (column_file cat table column) place)

@@ -7,7 +7,7 @@ use Rattle.ghost_model.specs.Values.{Row, Database}
 use Rattle.ghost_model.specs.Channel.{Catalog}
 use Rattle.ghost_model.specs.Database.{IsDatabase, is_of_kind, rows_of, row_counts}
 use Rattle.ghost_model.specs.Split.{hidden_flags, hidden_values, rows_by, hidden_of, kind_of, are_of_kinds}
-use Rattle.ghost_model.specs.Flash.{hidden_kinds, IsHidden}
+use Rattle.ghost_model.specs.Flash.{hidden_kinds, GoesWith}
 use Rattle.ghost_model.proofs.MeaningLemmas.PublicPart.{AreOfKinds, row_without, rows_in_tables, counts_of_tables, mapped_row}
 
 kinds_of_hidden : (columns : List Column) (values : Row) → length values ≡ length columns → AreOfKinds columns values
@@ -26,7 +26,7 @@ kinds_of_hidden (c ∷ cs) (v ∷ vs) same are =
     ])
 
 pub goes_with : (cat : Catalog) (database : Database) → IsDatabase cat.schema database
-    → row_counts database ≡ cat.counts → IsHidden cat (hidden_of cat.schema database)
+    → row_counts database ≡ cat.counts → GoesWith cat (hidden_of cat.schema database)
 goes_with cat database is counts = record {
   counted = counts_of_tables hidden_values cat.schema database is.tables ∙ counts;
   kinds = λ table place declared row hd hr.

@@ -16,7 +16,7 @@ use Rattle.ghost_model.specs.Asks.{kind_or_none, kind_at}
 use Rattle.ghost_model.specs.Split.{Hidden, value_at, kind_of, are_of_kinds, hidden_values, hidden_flags, hidden_of}
 use Rattle.ghost_model.specs.Replies.{hidden_places}
 use Rattle.ghost_model.specs.Layout.{below, hidden_or_none, is_hidden, width_or_none, count_of}
-use Rattle.ghost_model.specs.Flash.{hidden_rows, IsHidden, cell_or_none, hidden_cell, hidden_cells}
+use Rattle.ghost_model.specs.Flash.{hidden_rows, GoesWith, cell_or_none, hidden_cell, hidden_cells}
 use Rattle.ghost_model.specs.FlashLaws.{hidden_before, CellsFit}
 use Rattle.ghost_model.proofs.ChannelLemmas.Asks.{cell_is_read, cell_length}
 use Rattle.ghost_model.proofs.MeaningLemmas.Leading.{get_within}
@@ -200,7 +200,7 @@ mapped : (f : Row → List ℕ) (o : Option Row) (cell : List ℕ) → option_ma
 mapped f None cell h = absurd (cc (h))
 mapped f (Some row) cell h = (row, refl, ap (λ o. unwrap_or o (f row)) h)
 
-module _ (cat : Catalog) (hidden : Hidden) (tree : IsTree cat.schema) (is : IsHidden cat hidden) where
+module _ (cat : Catalog) (hidden : Hidden) (tree : IsTree cat.schema) (is : GoesWith cat hidden) where
   count_fits : (table column : ℕ) → length (hidden_cells cat.schema hidden table column) ≡ count_of cat table
   count_fits table column =
       length-map (hidden_rows hidden table) (hidden_cell cat.schema table column)
