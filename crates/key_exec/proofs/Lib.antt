@@ -3,3 +3,4 @@ pub mod LinkLemmas
 pub mod LeadLemmas
 pub mod RowLemmas
 pub mod BlameLemmas
+pub mod TurnLemmas

@@ -10,8 +10,8 @@ mod known;
 mod leading;
 mod links;
 pub mod pages;
-mod plan;
 mod rows;
+mod scan;
 #[cfg(test)]
 mod tests;
 mod values;

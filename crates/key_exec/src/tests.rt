@@ -10,6 +10,7 @@ use edge_traits::flash::{AttachFault, Flash};
 use edge_traits::mem_flash::MemFlash;
 use flash_layout::need;
 use ghost_base::{Text64, Value};
+use leakless_plan::Plan;
 use reply_store::ReplyStore;
 use spj_parse::read_query;
 use std::alloc::Global;
@@ -113,21 +114,33 @@ fn an_answer_comes_in_slices(rt: HostRuntime) -> Result<(), AttachFault> {
     store.push_rows(
         b"\0\0\0\x01\x80\0\0\0\0\0\0\x05\0\0\0\x02\x80\0\0\0\0\0\0\x05\0\0\0\x03\x80\0\0\0\0\0\0\x09",
     );
-    let mut job = Job::begin(&cat, &query);
+    let mut job = Job::begin(&cat, &query, Plan::Scan);
     let mut pages = Pages::none();
     let mut row = Row::new();
-    assert_eq!(rt; job.left(), 4);
-    let first = job.slice(&mut flash, &mut pages, &store, &mut row);
-    assert_eq!(rt; first, Turn::More);
+    let before = flash.script.calls;
+    assert_eq!(rt; job.left(), 5);
+    assert_eq!(rt; job.spent(), 0);
+    let Turn::More = job.slice(&mut flash, &mut pages, &store, &mut row) else {
+        assert!(rt; false);
+        return Ok(());
+    };
     assert_eq!(rt; flash.script.calls, 9);
-    let second = job.slice(&mut flash, &mut pages, &store, &mut row);
-    assert_eq!(rt; second, Turn::Line);
+    assert_eq!(rt; job.left(), 4);
+    assert_eq!(rt; job.spent(), u128::from(flash.script.calls - before));
+    let Turn::Line = job.slice(&mut flash, &mut pages, &store, &mut row) else {
+        assert!(rt; false);
+        return Ok(());
+    };
     assert!(rt; is_row(&row, 2, b"Bob", 5));
-    let third = job.slice(&mut flash, &mut pages, &store, &mut row);
-    assert_eq!(rt; third, Turn::Line);
+    let Turn::Line = job.slice(&mut flash, &mut pages, &store, &mut row) else {
+        assert!(rt; false);
+        return Ok(());
+    };
     assert!(rt; is_row(&row, 3, b"Ann", 9));
     let last = job.slice(&mut flash, &mut pages, &store, &mut row);
     assert_eq!(rt; last, Turn::Done(2));
     assert_eq!(rt; flash.script.calls, 10);
+    assert_eq!(rt; job.left(), 0);
+    assert_eq!(rt; job.spent(), u128::from(flash.script.calls - before));
     Ok(())
 }

@@ -1,0 +1,7 @@
+-- The names of the plans in a command line.
+use Rattle.std.specs.Prelude.{ℕ, List, Option, Some, None, codes, bytes_eq, if◌then◌else◌}
+use Rattle.leakless_plan.specs.declared.plan.Plan.{Plan}
+use Rattle.leakless_plan.specs.declared.plan.Plan.TheVariants as plan
+
+abbrev pub plan_named : List ℕ → Option Plan
+plan_named name = if bytes_eq name (codes "scan") then Some plan.Scan else None
