@@ -1,5 +1,5 @@
 -- The ask at hand is the one whose reply is awaited.
-use Rattle.std.proofs.Common.{◌≡◌, ℕ, true, Option, Some, None, IfSome, IfNone, List, [], ◌∷◌, refl, ap₂, sym, ◌∙◌, subst}
+use Rattle.std.proofs.Common.{◌≡◌, ℕ, Option, Some, None, IfSome, IfNone, List, [], ◌∷◌, refl, ap₂, sym, ◌∙◌}
 use Rattle.ghost_model.specs.Channel.{Catalog, Ask}
 use Rattle.ghost_model.specs.Asks.{Asked}
 use Rattle.ghost_model.specs.NextMove as next
@@ -7,7 +7,7 @@ use Rattle.ghost_model.specs.NextMove.{Awaits, Missing, Nothing}
 use Rattle.channel_pump.specs.declared.state.Pump.{Pump}
 use Rattle.channel_pump.specs.declared.state.Phase.TheVariants.{Greeting, Reply, Over}
 use Rattle.channel_pump.specs.Asked.{AreAsked}
-use Rattle.channel_pump.specs.Forms.{Form, IsFirst, are_known}
+use Rattle.channel_pump.specs.Forms.{Form, IsFirst}
 use Rattle.channel_pump.specs.Marks.{asked_at}
 use Rattle.channel_pump.specs.State.{IsAwaiting}
 
@@ -18,18 +18,16 @@ not_none : {X : Type 0} (x : X) (xs : List X) → x ∷ xs ≡ [] → ⊥
 not_none x xs e = cc
 
 first_asked : (catalog : Catalog) (forms : List Form) (its : Asked) (later : List Asked) (first : Option Asked) → AreAsked catalog forms (its ∷ later)
-    → IfSome first (λ a. IsFirst forms a.text a.ask) → IfNone first (are_known forms ≡ true → forms ≡ []) → are_known forms ≡ true → first ≡ Some its
-first_asked catalog [] its later first h some none known = absurd h
-first_asked catalog (form ∷ forms) its later None h some none known = absurd (not_none form forms (none known))
-first_asked catalog (form ∷ forms) its later (Some a) h some none known =
-    let same : a.ask ≡ its.ask = subst (λ (x : Option Ask). IfSome x (λ ask. ask ≡ its.ask)) some.1 h.0.ask in
-    ap₂ numbered (sym some.0 ∙ h.0.text) same
+    → IfSome first (λ a. IsFirst forms a.text a.ask) → IfNone first (forms ≡ []) → first ≡ Some its
+first_asked catalog [] its later first h some none = absurd h
+first_asked catalog (form ∷ forms) its later None h some none = absurd (not_none form forms none)
+first_asked catalog (form ∷ forms) its later (Some a) h some none = ap₂ numbered (sym some.0 ∙ h.0.text) (sym some.1 ∙ h.0.ask)
 
 pub asked_in_reply : (catalog : Catalog) (p : Pump) (awaits : Awaits) (first : Option Asked) → IsAwaiting catalog p Reply awaits
-    → IfSome first (λ a. IsFirst p.rest a.text a.ask) → IfNone first (are_known p.rest ≡ true → p.rest ≡ []) → are_known p.rest ≡ true → first ≡ asked_at awaits
-asked_in_reply catalog p (Missing bytes) first h some none known = absurd h
-asked_in_reply catalog p (next.Reply its serial later count last) first h some none known = first_asked catalog p.rest its later first h.asks some none known
-asked_in_reply catalog p Nothing first h some none known = absurd h
+    → IfSome first (λ a. IsFirst p.rest a.text a.ask) → IfNone first (p.rest ≡ []) → first ≡ asked_at awaits
+asked_in_reply catalog p (Missing bytes) first h some none = absurd h
+asked_in_reply catalog p (next.Reply its serial later count last) first h some none = first_asked catalog p.rest its later first h.asks some none
+asked_in_reply catalog p Nothing first h some none = absurd h
 
 pub asked_in_greeting : (catalog : Catalog) (p : Pump) (awaits : Awaits) → IsAwaiting catalog p Greeting awaits → None ≡ asked_at awaits
 asked_in_greeting catalog p (Missing bytes) h = refl

@@ -3,8 +3,8 @@ pub mod TurningLemmas
 pub mod JournalLemmas
 pub mod CuttingLemmas
 pub mod PlaceLemmas
-pub mod SourceLemmas
-pub mod ScriptLemmas
+pub mod ListLemmas
+pub mod AsksLemmas
 pub mod AskedLemmas
 pub mod ReportLemmas
 pub mod TookLemmas

@@ -259,6 +259,24 @@ made_as : (catalog : Catalog) (at : List ℕ) (asks : List Asked) (journal : Jou
 made_as catalog at asks journal q move known n k h =
     subst (λ (m : Move). IsAfter catalog asks (journal ++ entry m channel.Made ∷ []) q) (same_some known move (sym k ∙ n)) h
 
+made_on : (catalog : Catalog) (asks : List Asked) (journal : Journal) (p q : Pump) (was is : Stage) (move : Move) → Same p q → q.before ≡ p.before → p.stage ≡ was → q.stage ≡ is
+    → is_opened is ≡ true → (is_closed was || is_close move) ≡ is_closed is → has_stopped was ≡ has_stopped is → has_broken was ≡ has_broken is
+    → IsAfter catalog asks journal p → IsStage catalog q (goes_to (left catalog asks journal) (entry move channel.Made) (left catalog asks journal).heard) is
+    → IsAfter catalog asks (journal ++ entry move channel.Made ∷ []) q
+made_on catalog asks journal p q was is move s before old new opened closed stopped broken h stage =
+    let l : Left = left catalog asks journal in
+    after_silent catalog asks journal q (entry move channel.Made) refl (record {
+      opened = sym (ap is_opened new ∙ opened);
+      closed = ap (λ (b : Bool). b || is_close move) (h.closed ∙ ap is_closed old) ∙ (closed ∙ sym (ap is_closed new));
+      stopped = or_nothing l.stopped (has_stopped q.stage) (h.stopped ∙ (ap has_stopped old ∙ (stopped ∙ sym (ap has_stopped new))));
+      broken = h.broken ∙ (ap has_broken old ∙ (broken ∙ sym (ap has_broken new)));
+      awaits = awaits_on catalog p q l.heard.awaits s h.awaits;
+      fresh = fresh_on catalog asks p q s h.fresh;
+      before = before ∙ h.before;
+      refused = marks_on p q l.heard.ended s h.refused;
+      stage = subst (λ (x : Stage). IsStage catalog q (goes_to l (entry move channel.Made) l.heard) x) (sym new) stage;
+    })
+
 pub dialled : (catalog : Catalog) (at : List ℕ) (asks : List Asked) (journal : Journal) (p q : Pump) (move : Move)
     → Same p q → q.before ≡ p.before → q.generation ≡ p.generation → q.stage ≡ Sending Hello → p.stage ≡ Dialling
     → IsAfter catalog asks journal p → next_with catalog at asks journal ≡ Some move → IsAfter catalog asks (journal ++ entry move channel.Made ∷ []) q
@@ -266,21 +284,11 @@ dialled catalog at asks journal p q move s before generation stage was h n =
     let l : Left = left catalog asks journal in
     let first : IsDialling p l = subst (λ (x : Stage). IsStage catalog p l x) was h.stage in
     made_as catalog at asks journal q move (channel.Dial at) n (wants_dial catalog at asks p l h was)
-    (after_silent catalog asks journal q (entry (channel.Dial at) channel.Made) refl (record {
-      opened = sym (ap is_opened stage);
-      closed = or_nothing l.closed (is_closed q.stage) (h.closed ∙ (ap is_closed was ∙ sym (ap is_closed stage)));
-      stopped = or_nothing l.stopped (has_stopped q.stage) (h.stopped ∙ (ap has_stopped was ∙ sym (ap has_stopped stage)));
-      broken = h.broken ∙ (ap has_broken was ∙ sym (ap has_broken stage));
-      awaits = awaits_on catalog p q l.heard.awaits s h.awaits;
-      fresh = fresh_on catalog asks p q s h.fresh;
-      before = before ∙ h.before;
-      refused = marks_on p q l.heard.ended s h.refused;
-      stage = subst (λ (x : Stage). IsStage catalog q (goes_to l (entry (channel.Dial at) channel.Made) l.heard) x) (sym stage) (record {
-        phase = ap is_over s.phase ∙ first.phase;
-        frame = first_due l.heard.due (l.sent + 0) p q generation first.due (plus_nothing l.sent 0 first.sent);
-        last = ap length first.due ∙ sym (ap (λ (k : ℕ). k + 1) (plus_nothing l.sent 0 first.sent));
-        part = first.part;
-      });
+    (made_on catalog asks journal p q Dialling (Sending Hello) (channel.Dial at) s before was stage refl refl refl refl h (record {
+      phase = ap is_over s.phase ∙ first.phase;
+      frame = first_due l.heard.due (l.sent + 0) p q generation first.due (plus_nothing l.sent 0 first.sent);
+      last = ap length first.due ∙ sym (ap (λ (k : ℕ). k + 1) (plus_nothing l.sent 0 first.sent));
+      part = first.part;
     }))
   where
     first_due : (due : List channel.Frame) (sent : ℕ) (p q : Pump) → q.generation ≡ p.generation → due ≡ channel.Hello p.generation ∷ [] → sent ≡ 0
@@ -295,18 +303,8 @@ sent_last catalog at asks journal p q move s before stage was h n =
     let l : Left = left catalog asks journal in
     let sending : IsSending p Bye l = subst (λ (x : Stage). IsStage catalog p l x) was h.stage in
     made_as catalog at asks journal q move (channel.Send (frame_bytes channel.Bye)) n (wants_send catalog at asks p l Bye h was)
-    (after_silent catalog asks journal q (entry (channel.Send (frame_bytes channel.Bye)) channel.Made) refl (record {
-      opened = sym (ap is_opened stage);
-      closed = or_nothing l.closed (is_closed q.stage) (h.closed ∙ (ap is_closed was ∙ sym (ap is_closed stage)));
-      stopped = or_nothing l.stopped (has_stopped q.stage) (h.stopped ∙ (ap has_stopped was ∙ sym (ap has_stopped stage)));
-      broken = h.broken ∙ (ap has_broken was ∙ sym (ap has_broken stage));
-      awaits = awaits_on catalog p q l.heard.awaits s h.awaits;
-      fresh = fresh_on catalog asks p q s h.fresh;
-      before = before ∙ h.before;
-      refused = marks_on p q l.heard.ended s h.refused;
-      stage = subst (λ (x : Stage). IsStage catalog q (goes_to l (entry (channel.Send (frame_bytes channel.Bye)) channel.Made) l.heard) x) (sym stage)
-          (record { phase = ap is_over s.phase ∙ sending.phase; sent = sending.last });
-    }))
+    (made_on catalog asks journal p q (Sending Bye) (Closing Finished) (channel.Send (frame_bytes channel.Bye)) s before was stage refl refl refl refl h
+    (record { phase = ap is_over s.phase ∙ sending.phase; sent = sending.last }))
 
 pub sent_other : (catalog : Catalog) (at : List ℕ) (asks : List Asked) (journal : Journal) (p q : Pump) (outgoing : Outgoing) (move : Move)
     → Same p q → q.before ≡ p.before → q.stage ≡ Taking → q.have ≡ 0 → q.lacks ≡ 8 → p.stage ≡ Sending outgoing → is_bye outgoing ≡ false
@@ -314,23 +312,13 @@ pub sent_other : (catalog : Catalog) (at : List ℕ) (asks : List Asked) (journa
 sent_other catalog at asks journal p q outgoing move s before stage have lacking was more h n =
     let l : Left = left catalog asks journal in
     let sending : IsSending p outgoing l = subst (λ (x : Stage). IsStage catalog p l x) was h.stage in
-    let known : Move = channel.Send (frame_bytes (frame_due p outgoing)) in
-    made_as catalog at asks journal q move known n (wants_send catalog at asks p l outgoing h was)
-    (after_silent catalog asks journal q (entry known channel.Made) refl (record {
-      opened = sym (ap is_opened stage);
-      closed = or_nothing l.closed (is_closed q.stage) (h.closed ∙ (ap is_closed was ∙ sym (ap is_closed stage)));
-      stopped = or_nothing l.stopped (has_stopped q.stage) (h.stopped ∙ (ap has_stopped was ∙ sym (ap has_stopped stage)));
-      broken = h.broken ∙ (ap has_broken was ∙ sym (ap has_broken stage));
-      awaits = awaits_on catalog p q l.heard.awaits s h.awaits;
-      fresh = fresh_on catalog asks p q s h.fresh;
-      before = before ∙ h.before;
-      refused = marks_on p q l.heard.ended s h.refused;
-      stage = subst (λ (x : Stage). IsStage catalog q (goes_to l (entry known channel.Made) l.heard) x) (sym stage) (record {
-        phase = ap is_over s.phase ∙ (sending.phase ∙ more);
-        sent = sending.last;
-        have = ap length sending.part ∙ sym have;
-        lacks = ap (λ (part : List ℕ). next.verdict catalog l.heard.awaits part) sending.part ∙ ap (λ (k : ℕ). next.Short k) (sym lacking);
-      });
+    let due : Move = channel.Send (frame_bytes (frame_due p outgoing)) in
+    made_as catalog at asks journal q move due n (wants_send catalog at asks p l outgoing h was)
+    (made_on catalog asks journal p q (Sending outgoing) Taking due s before was stage refl refl refl refl h (record {
+      phase = ap is_over s.phase ∙ (sending.phase ∙ more);
+      sent = sending.last;
+      have = ap length sending.part ∙ sym have;
+      lacks = ap (λ (part : List ℕ). next.verdict catalog l.heard.awaits part) sending.part ∙ ap (λ (k : ℕ). next.Short k) (sym lacking);
     }))
 
 same_cause : (p q : Pump) (l : Left) (e : channel.Entry) (cause : Cause) → Same p q → length (sent_by e.move) ≡ 0 → IsCause p l cause → IsCause q (goes_to l e l.heard) cause
@@ -345,39 +333,28 @@ closed_after catalog at asks journal p q cause move s before stage was h n =
     let l : Left = left catalog asks journal in
     let ending : IsCause p l cause = subst (λ (x : Stage). IsStage catalog p l x) was h.stage in
     made_as catalog at asks journal q move channel.Close n (wants_close catalog at asks p l cause h was)
-    (after_silent catalog asks journal q (entry channel.Close channel.Made) refl (record {
-      opened = sym (ap is_opened stage);
-      closed = or_second l.closed true refl ∙ sym (ap is_closed stage);
-      stopped = or_nothing l.stopped (has_stopped q.stage) (h.stopped ∙ (ap has_stopped was ∙ sym (ap has_stopped stage)));
-      broken = h.broken ∙ (ap has_broken was ∙ sym (ap has_broken stage));
-      awaits = awaits_on catalog p q l.heard.awaits s h.awaits;
-      fresh = fresh_on catalog asks p q s h.fresh;
-      before = before ∙ h.before;
-      refused = marks_on p q l.heard.ended s h.refused;
-      stage = subst (λ (x : Stage). IsStage catalog q (goes_to l (entry channel.Close channel.Made) l.heard) x) (sym stage)
-          (same_cause p q l (entry channel.Close channel.Made) cause s refl ending);
-    }))
+    (made_on catalog asks journal p q (Closing cause) (Closed cause) channel.Close s before was stage refl refl refl refl h
+    (same_cause p q l (entry channel.Close channel.Made) cause s refl ending))
 
 -- before the first move
-pub begun : (catalog : Catalog) (asks : List Asked) (q : Pump) (generation : ℕ) (bytes : List ℕ) (forms : List Form) → catalog.generation ≡ generation → catalog_bytes catalog ≡ bytes → AreAsked catalog forms asks
-    → q.generation ≡ generation → q.missing ≡ bytes → q.rest ≡ forms → q.serial ≡ 1 → q.before ≡ 0 → q.phase ≡ Greeting → q.stage ≡ Dialling → q.refused ≡ replicate 65 false
-    → IsAfter catalog asks [] q
-begun catalog asks q generation bytes forms its_generation its_bytes its_asks g m r serial before phase stage refused =
+pub begun : (catalog : Catalog) (asks : List Asked) (q : Pump) → q.generation ≡ catalog.generation → q.missing ≡ catalog_bytes catalog → AreAsked catalog q.rest asks
+    → q.serial ≡ 1 → q.before ≡ 0 → q.phase ≡ Greeting → q.stage ≡ Dialling → q.refused ≡ replicate 65 false → IsAfter catalog asks [] q
+begun catalog asks q generation missing rest serial before phase stage refused =
     subst (λ (h : next.Heard). IsLeft catalog asks q (left_of false false false 0 h)) (sym (hear_none catalog asks (next.at_first catalog)))
     (record {
       opened = sym (ap is_opened stage);
       closed = sym (ap is_closed stage);
       stopped = sym (ap has_stopped stage);
       broken = sym (ap has_broken stage);
-      awaits = subst (λ (x : Phase). IsAwaiting catalog q x (next.at_first catalog).awaits) (sym phase) (m ∙ sym its_bytes);
+      awaits = subst (λ (x : Phase). IsAwaiting catalog q x (next.at_first catalog).awaits) (sym phase) missing;
       fresh = subst (λ (x : Phase). IsFresh catalog asks q x) (sym phase)
-          (record { all = subst (λ (x : List Form). AreAsked catalog x asks) (sym r) its_asks; serial = serial });
+          (record { all = rest; serial = serial });
       before = before;
       refused = subst (λ (x : List Bool). AreMarked x []) (sym refused) (record { size = refl; each = λ text h. get_or-replicate 65 text false false (omega (arith, h)) });
       stage = subst (λ (x : Stage). IsStage catalog q (left_of false false false 0 (next.at_first catalog)) x) (sym stage) (record {
         phase = ap is_over phase;
         sent = refl;
-        due = ap (λ (n : ℕ). channel.Hello n ∷ []) (its_generation ∙ sym g);
+        due = ap (λ (n : ℕ). channel.Hello n ∷ []) (sym generation);
         part = refl;
       });
     })

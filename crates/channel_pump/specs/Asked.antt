@@ -1,6 +1,6 @@
 -- What the pump is told of an ask, beside the ask of the definitions: the bytes of its payload, the kinds of the asked
 -- columns and the number of its table's rows, for a catalog.
-use Rattle.std.specs.Prelude.{◌≡◌, ℕ, ◌+◌, ◌≤◌, ◌/◌, List, [], ◌∷◌, length, map, sum, IfSome}
+use Rattle.std.specs.Prelude.{◌≡◌, ℕ, ◌+◌, ◌≤◌, ◌/◌, List, [], ◌∷◌, length, map, sum}
 use Rattle.ghost_model.specs.Schema as schema
 use Rattle.ghost_model.specs.Cells.{cell_width}
 use Rattle.ghost_model.specs.Channel.{Catalog}
@@ -18,7 +18,7 @@ pub record IsAskForm (catalog : Catalog) (form : Form) (asked : Asked) : Type 0 
   pub kinds : form_kinds form ≡ kinds_of catalog.schema asked.ask
   pub rows : form.rows ≡ rows_of catalog asked.ask.table
   pub in_script : form.text ≤ 64
-  pub ask : IfSome form.ask (λ ask. ask ≡ asked.ask)
+  pub ask : form.ask ≡ asked.ask
 
 -- the forms are those of the asks, one by one
 abbrev pub AreAsked : Catalog → List Form → List Asked → Type 0

@@ -1,7 +1,6 @@
 pub mod Narrow
 pub mod Forms
 pub mod Scripts
-pub mod Sources
 pub mod Asked
 pub mod Rows
 pub mod Here

@@ -1,5 +1,5 @@
 -- The asks of a script over a catalog, as the pump sees them.
-use Rattle.std.specs.Prelude.{◌≡◌, ◌≤◌, ℕ, true, List, [], ◌∷◌, length, map, Some, IsTrue}
+use Rattle.std.specs.Prelude.{◌≡◌, ◌≤◌, ℕ, true, List, [], ◌∷◌, length, map, IsTrue}
 use Rattle.std.specs.List.{list_all}
 use Rattle.ghost_model.specs.Schema.{Schema, Kind}
 use Rattle.ghost_model.specs.Channel.{Catalog}
@@ -15,7 +15,7 @@ form_asked catalog asked = record {
   payload = ask_payload catalog.schema asked.ask;
   kinds = kinds_of catalog.schema asked.ask;
   rows = rows_of catalog asked.ask.table;
-  ask = Some asked.ask;
+  ask = asked.ask;
 }
 
 abbrev pub forms_asked : Catalog → List Asked → List Form

@@ -1,16 +1,14 @@
 -- When a pump stands where a journal leaves the key: its fields are what is left of the journal, for a catalog and the
 -- asks of the session.
-use Rattle.std.specs.Prelude.{◌≡◌, ℕ, ◌+◌, ◌-◌, ◌^◌, ◌<◌, ◌≤◌, Bool, true, false, List, [], ◌∷◌, length, take, drop, flat_map, map, slice_get, min, Option, Some, None}
+use Rattle.std.specs.Prelude.{◌≡◌, ℕ, ◌+◌, ◌-◌, ◌^◌, ◌<◌, ◌≤◌, Bool, true, false, List, [], ◌∷◌, length, take, drop, flat_map, slice_get, min, Option, Some, None}
 use Rattle.ghost_model.specs.Channel as channel
 use Rattle.ghost_model.specs.Channel.{Catalog, Journal, Move}
-use Rattle.ghost_model.specs.Catalog.{catalog_bytes}
 use Rattle.ghost_model.specs.Frames.{frame_bytes, kind_in}
 use Rattle.ghost_model.specs.Asks.{Asked}
 use Rattle.ghost_model.specs.Moves.{taken}
 use Rattle.ghost_model.specs.NextMove as next
 use Rattle.ghost_model.specs.NextMove.{Awaits, Missing, Nothing, Heard, Left, Turn, left, next_with, heard}
-use Rattle.channel_pump.specs.Forms.{Form, are_known, form_of}
-use Rattle.channel_pump.specs.declared.forms.AskForm.{AskForm}
+use Rattle.channel_pump.specs.Forms.{Form}
 use Rattle.channel_pump.specs.declared.state.Pump.{Pump}
 use Rattle.channel_pump.specs.declared.state.Phase.{Phase}
 use Rattle.channel_pump.specs.declared.state.Phase.TheVariants.{Greeting, Reply, Over}
@@ -172,10 +170,6 @@ pub record IsLeft (catalog : Catalog) (asks : List Asked) (p : Pump) (l : Left) 
 abbrev pub IsAfter : Catalog → (asks : List Asked) → Journal → Pump → Type 0
 IsAfter catalog asks journal p = IsLeft catalog asks p (left catalog asks journal)
 
--- each ask that is left is known, as in a session of a script
-abbrev pub KnowsAsks : Pump → Type 0
-KnowsAsks p = are_known p.rest ≡ true
-
 -- a page begins with the part of the frame at hand
 abbrev pub Keeps : Catalog → (asks : List Asked) → Journal → (page : List ℕ) → Type 0
 Keeps catalog asks journal page =
@@ -250,12 +244,6 @@ entry move answer = record { move = move; answer = answer }
 -- the entry of a take that was answered by the first so many bytes behind the part in a page
 abbrev pub taken_entry : Pump → (page : List ℕ) → (n : ℕ) → channel.Entry
 taken_entry p page n = entry (channel.Take p.lacks) (channel.Piece (take n (drop p.have page)))
-
--- a session with these forms of its asks begins here
-pub record Begins (catalog : Catalog) (asks : List Asked) (generation : ℕ) (bytes : List ℕ) (forms : List AskForm) : Type 0 where
-  pub its_generation : catalog.generation ≡ generation
-  pub its_bytes : catalog_bytes catalog ≡ bytes
-  pub its_asks : AreAsked catalog (map (form_of None) forms) asks
 
 -- the move that is wanted is a take
 abbrev pub is_take : Want → Bool

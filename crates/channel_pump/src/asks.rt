@@ -1,108 +1,153 @@
-//! The asks of a session that are left.
+//! The asks of a session that are left: those of a script over a catalog, which are read as they come due.
 
-ghost use Rattle.std.specs.Prelude.{◌≡◌, ◌≤◌, ◌*◌, ◌==◌, true, [], ◌∷◌, List, take_while, length, drop, Option, IfSome, IfNone, is_some, map, Some, None};
-ghost use Rattle.std.specs.List.{list_any};
-ghost use Rattle.ghost_model.specs.Channel as channel;
+ghost use Rattle.std.specs.Prelude.{◌≡◌, ◌≤◌, ◌==◌, ◌*◌, true, [], ◌∷◌, List, take, length, drop, map, IfSome, IfNone, IsTrue};
+ghost use Rattle.std.specs.List.{list_all, list_any};
+ghost use Rattle.ghost_model.specs.Asks as asked;
 ghost use Rattle.ghost_model.specs.Schema.{is_empty};
-ghost use Rattle.ghost_model.specs.Asks.{asked_of};
+ghost use Rattle.ghost_model.specs.NextMove.{rows_of as table_rows};
 ghost use Rattle.ghost_model.specs.Texts.{texts_of};
+ghost use Rattle.ghost_base.specs.Views.{kind_of};
 ghost use Rattle.channel_codec.specs.AskViews.{ask_view};
+ghost use Rattle.script_asks.specs.Left.{are_proper};
 ghost use Rattle.channel_pump.specs.Asked.{AreAsked};
-ghost use Rattle.channel_pump.specs.Forms.{Form, IsFirst, are_known, form_of};
+ghost use Rattle.channel_pump.specs.Forms.{Form, IsFirst, form_of};
+ghost use Rattle.channel_pump.specs.Narrow.{is_narrow};
+ghost use Rattle.channel_pump.specs.Scripts.{forms_asked, kinds_held, payload_held};
 ghost use Rattle.channel_pump.specs.State as state;
 ghost use Rattle.channel_pump.specs.Turning.{forms_after};
 
 use crate::forms::AskForm;
-use crate::script::Script;
-use channel_codec::ask::Ask;
-use ghost_base::limits::{MAX_TABLES, MAX_TEXTS};
+use arrayvec::ArrayVec;
+use channel_codec::ask::{Ask, kind_at, put_ask};
+use channel_codec::frame::PAYLOAD_BYTES;
+use ghost_base::Kind;
+use ghost_base::limits::{MAX_COLUMNS, MAX_TABLES, MAX_TEXTS};
+use script_asks::scripts::ScriptAsks;
 use std::marker::Model;
-use tree_schema::Catalog;
-
-/// Where asks come from.
-#[derive(Drop)]
-enum Source<'a> {
-    /// They are these.
-    Forms(&'a [AskForm<'a>]),
-    /// They are those of a script.
-    Script(Script<'a>),
-}
+use tree_schema::{Catalog, Schema};
 
 /// The asks of a session that are left.
 #[derive(Drop)]
 pub struct Asks<'a> {
-    from: Source<'a>,
+    catalog: &'a Catalog,
+    asks: ScriptAsks<'a>,
+    /// The payload of the first ask's frame stands at the front.
+    payload: [u8; PAYLOAD_BYTES],
+    /// How many bytes it has.
+    size: usize,
+    /// The kinds of the first ask's columns in their order.
+    kinds: ArrayVec<Kind, MAX_COLUMNS>,
 }
 
 impl<'a> Model for Asks<'a> {
-    ghost use Rattle.std.specs.Prelude.{List};
+    ghost use Rattle.std.specs.Prelude.{List, take, map, ◌≤◌};
+    ghost use Rattle.ghost_base.specs.Views.{kind_of};
     ghost use Rattle.channel_pump.specs.Forms.{Form};
+    ghost use Rattle.channel_pump.specs.Scripts.{IsHeld, forms_asked};
 
     ghost Value = { List Form };
 
-    ghost use Rattle.channel_pump.specs.Sources.{forms_left};
+    ghost view = { λ left. forms_asked left.catalog.now left.asks };
 
-    ghost view = { λ asks. forms_left asks.from };
+    ghost invariant = { λ left. (left.size ≤ 2040)
+        × IsHeld left.catalog.now left.asks (take left.size left.payload) (map kind_of left.kinds.items) };
 }
 
-/// Whether an ask is of this text.
-fn has_text(text: u32, asks: &[AskForm]) -> bool
-    ensures { result ≡ list_any (λ form. form.text == text) asks.now }
+/// The kinds of an ask's columns.
+fn column_kinds(schema: &Schema, ask: &Ask) -> ArrayVec<Kind, MAX_COLUMNS>
+    ensures kinds { map kind_of result.items ≡ asked.kinds_of schema.now (ask_view ask.now) }
+    ensures narrow { IsTrue (list_all is_narrow (map kind_of result.items)) }
 {
-    asks.iter().any(|form| form.text == text)
+    let mut kinds = ArrayVec::new();
+    let mut rest = ask.columns.as_slice();
+    'columns: while let Some((column, later)) = rest.split_first() {
+        kinds.push(kind_at(schema, ask.table as usize, *column as usize));
+        rest = later;
+    }
+    kinds
 }
 
-/// Whether an ask is of this text, as the pump sees them.
-fn any_has_text(text: u32, asks: &[AskForm]) -> bool
-    ensures { result ≡ list_any (λ form. form.text == text) (map (form_of None) asks.now) }
+/// The kinds of the columns of the first of some asks.
+fn first_kinds(schema: &Schema, asks: &ScriptAsks) -> ArrayVec<Kind, MAX_COLUMNS>
+    ensures kinds { map kind_of result.items ≡ kinds_held schema.now asks.now }
+    ensures narrow { IsTrue (list_all is_narrow (map kind_of result.items)) }
 {
-    has_text(text, asks)
+    match asks.first() {
+        Some((_text, ask)) => column_kinds(schema, ask),
+        None => ArrayVec::new(),
+    }
 }
 
-/// How many asks at the front are of this text.
-fn count_of_text(text: u32, asks: &[AskForm]) -> usize
-    ensures { result ≡ length (take_while (λ form. form.text == text) asks.now) }
+/// Writes the payload of the first of some asks, all of which are proper, over the front of `out`, and answers how many
+/// bytes it has.
+fn put_first(schema: &Schema, asks: &ScriptAsks, out: &mut [u8; PAYLOAD_BYTES]) -> usize
+    requires proper { are_proper schema.now asks.now ≡ true }
+    ensures bytes { take result out.new ≡ payload_held schema.now asks.now }
+    ensures most { result ≤ 2040 }
 {
-    asks.iter().take_while(|form| form.text == text).count()
+    match asks.first() {
+        Some((_text, ask)) => put_ask(schema, ask, out),
+        None => 0,
+    }
 }
 
-/// These asks without those at their front that are of this text.
-fn after_text<'a>(text: u32, asks: &'a [AskForm<'a>]) -> &'a [AskForm<'a>]
-    ensures after { map (form_of None) result.now ≡ forms_after text (map (form_of None) asks.now) }
-    ensures fewer { length result.now ≤ length asks.now }
+/// The number of rows of a table of a catalog.
+fn row_count(catalog: &Catalog, table: usize) -> u32
+    ensures rows { result ≡ table_rows catalog.now table }
 {
-    let (_given_up, later) = asks.split_at(count_of_text(text, asks));
-    later
-}
-
-/// These asks without the first.
-fn without_first<'a>(asks: &'a [AskForm<'a>]) -> &'a [AskForm<'a>]
-    ensures rest { map (form_of None) result.now ≡ drop 1 (map (form_of None) asks.now) }
-{
-    let (_first, later) = asks.split_at(asks.len().min(1));
-    later
+    catalog.rows(table).unwrap_or(0)
 }
 
 impl<'a> Asks<'a> {
-    /// These asks.
-    pub(crate) fn of_forms(forms: &'a [AskForm<'a>]) -> Self
-        ensures forms { result ≡ map (form_of None) forms.now }
+    /// All asks of a script of at most 64 texts over a catalog.
+    pub(crate) fn new(catalog: &'a Catalog, script: &'a [u8]) -> Self
+        requires few { length (texts_of script.now) ≤ MAX_TEXTS }
+        ensures asked { AreAsked catalog.now result (asked.asked_of catalog.now.schema (texts_of script.now)) }
+        ensures count { length result ≤ MAX_TABLES * MAX_TEXTS }
     {
+        let asks = ScriptAsks::new(catalog.schema(), script);
+        let mut payload = [0; PAYLOAD_BYTES];
+        let size = put_first(catalog.schema(), &asks, &mut payload);
+        let kinds = first_kinds(catalog.schema(), &asks);
         Asks {
-            from: Source::Forms(forms),
+            catalog,
+            asks,
+            payload,
+            size,
+            kinds,
         }
     }
 
-    /// The asks of a script of at most 64 texts over a catalog.
-    pub(crate) fn of_script(catalog: &'a Catalog, script: &'a [u8]) -> Self
-        requires few { length (texts_of script.now) ≤ MAX_TEXTS }
-        ensures asked { AreAsked catalog.now result (asked_of catalog.now.schema (texts_of script.now)) }
-        ensures known { are_known result ≡ true }
-        ensures count { length result ≤ MAX_TABLES * MAX_TEXTS }
+    /// The first ask, as the pump needs it.
+    pub(crate) fn first(&self) -> Option<AskForm<'_>>
+        ensures some { IfSome result (λ form. (later : List Form) × (self.now ≡ form_of form ∷ later)) }
+        ensures none { IfNone result (self.now ≡ []) }
     {
-        Asks {
-            from: Source::Script(Script::new(catalog, script)),
+        match self.asks.first() {
+            Some((text, ask)) => Some(AskForm {
+                text,
+                ask,
+                payload: &self.payload[..self.size],
+                kinds: self.kinds.as_slice(),
+                rows: row_count(self.catalog, ask.table as usize),
+            }),
+            None => None,
         }
+    }
+
+    /// The first ask, and the number of its text.
+    pub(crate) fn asked(&self) -> Option<(u32, &Ask)>
+        ensures some { IfSome result (λ first. IsFirst self.now first.0 (ask_view first.1.now)) }
+        ensures none { IfNone result (self.now ≡ []) }
+    {
+        self.asks.first()
+    }
+
+    /// Whether an ask of this text is left.
+    pub(crate) fn has_text(&self, text: u32) -> bool
+        ensures any { result ≡ list_any (λ form. form.text == text) self.now }
+    {
+        self.asks.has_text(text)
     }
 
     /// Whether none is left.
@@ -110,38 +155,6 @@ impl<'a> Asks<'a> {
         ensures none { result ≡ is_empty self.now }
     {
         self.first().is_none()
-    }
-
-    /// The first ask.
-    pub(crate) fn first(&self) -> Option<AskForm<'_>>
-        ensures some { IfSome result (λ form. (ask : Option channel.Ask) × (later : List Form) × (self.now ≡ form_of ask form ∷ later)) }
-        ensures none { IfNone result (self.now ≡ []) }
-    {
-        match &self.from {
-            Source::Forms(forms) => forms.first().copied(),
-            Source::Script(script) => script.first(),
-        }
-    }
-
-    /// The first ask and the number of its text, where it is known.
-    pub(crate) fn asked(&self) -> Option<(u32, &Ask)>
-        ensures some { IfSome result (λ first. IsFirst self.now first.0 (ask_view first.1.now)) }
-        ensures none { IfNone result (are_known self.now ≡ true → self.now ≡ []) }
-    {
-        match &self.from {
-            Source::Forms(_forms) => None,
-            Source::Script(script) => script.asked(),
-        }
-    }
-
-    /// Whether an ask is of this text.
-    pub(crate) fn any_of(&self, text: u32) -> bool
-        ensures any { result ≡ list_any (λ form. form.text == text) self.now }
-    {
-        match &self.from {
-            Source::Forms(forms) => any_has_text(text, forms),
-            Source::Script(script) => script.has_text(text),
-        }
     }
 
     /// The payload of the first ask's frame, and no bytes where there is none.
@@ -159,20 +172,17 @@ impl<'a> Asks<'a> {
     pub(crate) fn leave_out(&mut self)
         ensures rest { self.new ≡ drop 1 self.old }
     {
-        match &mut self.from {
-            Source::Forms(forms) => *forms = without_first(forms),
-            Source::Script(script) => script.leave_out(),
-        }
+        self.asks.leave_out();
+        self.size = put_first(self.catalog.schema(), &self.asks, &mut self.payload);
+        self.kinds = first_kinds(self.catalog.schema(), &self.asks);
     }
 
     /// Leaves those at the front out that are of this text.
     pub(crate) fn give_up(&mut self, text: u32)
         ensures rest { self.new ≡ forms_after text self.old }
-        ensures fewer { length self.new ≤ length self.old }
     {
-        match &mut self.from {
-            Source::Forms(forms) => *forms = after_text(text, forms),
-            Source::Script(script) => script.give_up(text),
-        }
+        self.asks.give_up(text);
+        self.size = put_first(self.catalog.schema(), &self.asks, &mut self.payload);
+        self.kinds = first_kinds(self.catalog.schema(), &self.asks);
     }
 }

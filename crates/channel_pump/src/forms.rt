@@ -5,21 +5,23 @@ ghost use Rattle.std.specs.List.{list_all};
 ghost use Rattle.ghost_base.specs.Views.{kind_of};
 ghost use Rattle.channel_pump.specs.Narrow.{is_narrow};
 
+use channel_codec::ask::Ask;
 use ghost_base::Kind;
 
 /// An ask of a session, as the pump needs it.
 #[derive(Clone, Copy)]
-pub struct AskForm<'a> {
-    /// The number of its text, from 1 to 64.
-    pub text: u32,
+pub(crate) struct AskForm<'a> {
+    /// The number of its text, at most 64.
+    pub(crate) text: u32,
+    pub(crate) ask: &'a Ask,
     /// The payload of its ASK frame, at most 2,040 bytes.
-    pub payload: &'a [u8],
+    pub(crate) payload: &'a [u8],
     /// The kinds of the asked columns in their order, at most 24 and each at most 64 bytes wide.
-    pub kinds: &'a [Kind],
+    pub(crate) kinds: &'a [Kind],
     /// The number of rows of its table.
-    pub rows: u32,
-    pub ghost in_script: { text ≤ 64 },
-    pub ghost sendable: { length payload.now ≤ 2040 },
-    pub ghost few: { length kinds.now ≤ 24 },
-    pub ghost narrow: { IsTrue (list_all is_narrow (map kind_of kinds.now)) },
+    pub(crate) rows: u32,
+    ghost in_script: { text ≤ 64 },
+    ghost sendable: { length payload.now ≤ 2040 },
+    ghost few: { length kinds.now ≤ 24 },
+    ghost narrow: { IsTrue (list_all is_narrow (map kind_of kinds.now)) },
 }

@@ -1,6 +1,6 @@
 //! What the bytes of the frame at hand amount to.
 
-ghost use Rattle.std.specs.Prelude.{◌≡◌, ◌+◌, ◌≤◌, ◌&&◌, ◌==◌, true, length, drop, is_some, IfSome, slice_index, IsTrue, map, None};
+ghost use Rattle.std.specs.Prelude.{◌≡◌, ◌+◌, ◌≤◌, ◌&&◌, ◌==◌, true, length, drop, is_some, IfSome, slice_index, IsTrue, map};
 ghost use Rattle.ghost_model.specs.Frames as frames;
 ghost use Rattle.ghost_model.specs.NextMove as next;
 ghost use Rattle.ghost_base.specs.Views.{kind_of};
@@ -82,8 +82,8 @@ fn welcomes(missing: &Missing, payload: &[u8]) -> bool
 fn reply_payload(form: &AskForm, count: u32, last: u32, part: &[u8]) -> Option<Tally>
     requires whole { 8 + frames.size_in part.now ≤ length part.now }
     requires size { next.reply_size_fits (width_of (map kind_of form.now.kinds.now)) (frames.kind_in part.now) (frames.size_in part.now) ≡ true }
-    ensures fits { is_some result ≡ form_fits (form_of None form.now) count last (frames.frame_in part.now) }
-    ensures tally { IfSome result (λ tally. IsTally last form.now.rows (form_rows (form_of None form.now) (frames.frame_in part.now)) tally) }
+    ensures fits { is_some result ≡ form_fits (form_of form.now) count last (frames.frame_in part.now) }
+    ensures tally { IfSome result (λ tally. IsTally last form.now.rows (form_rows (form_of form.now) (frames.frame_in part.now)) tally) }
 {
     let (_header, after) = part.split_at(HEADER_BYTES);
     let (payload, _rest) = after.split_at(size_in(part) as usize);

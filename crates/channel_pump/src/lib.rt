@@ -6,7 +6,7 @@
 #![tactic(auto)]
 
 mod asks;
-pub mod forms;
+mod forms;
 mod judging;
 pub mod laws;
 mod missing;
@@ -14,7 +14,6 @@ pub mod pump;
 #[cfg(test)]
 mod random_tests;
 mod rows;
-mod script;
 pub mod state;
 #[cfg(test)]
 mod tests;

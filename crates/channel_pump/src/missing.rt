@@ -7,29 +7,20 @@ use std::marker::Model;
 use tree_schema::Catalog;
 use tree_schema::catalog_bytes::{a_catalog_is_short, catalog_len, is_catalog_part};
 
-/// Where the bytes come from.
-#[derive(Clone, Copy)]
-enum Welcome<'a> {
-    /// They are these.
-    Bytes(&'a [u8]),
-    /// They are those of a catalog from a place on, which is at most their number.
-    Of(&'a Catalog, usize),
-}
-
-/// The bytes of a catalog that were not welcomed yet.
+/// The bytes of a catalog that were not welcomed yet: those from a place on.
 #[derive(Drop)]
 pub struct Missing<'a> {
-    from: Welcome<'a>,
+    cat: &'a Catalog,
+    at: usize,
 }
 
 impl<'a> Model for Missing<'a> {
-    ghost use Rattle.std.specs.Prelude.{ℕ, List};
+    ghost use Rattle.std.specs.Prelude.{ℕ, List, drop};
+    ghost use Rattle.ghost_model.specs.Catalog.{catalog_bytes};
 
     ghost Value = { List ℕ };
 
-    ghost use Rattle.channel_pump.specs.Sources.{bytes_missing};
-
-    ghost view = { λ missing. bytes_missing missing.from };
+    ghost view = { λ missing. drop missing.at (catalog_bytes missing.cat.now) };
 }
 
 /// The place in the bytes of a catalog that comes so many bytes after another.
@@ -42,42 +33,25 @@ fn place_after(cat: &Catalog, at: usize, count: usize) -> usize
 }
 
 impl<'a> Missing<'a> {
-    /// These bytes.
-    pub(crate) fn of_bytes(bytes: &'a [u8]) -> Self
-        ensures bytes { result ≡ bytes.now }
-    {
-        Missing {
-            from: Welcome::Bytes(bytes),
-        }
-    }
-
     /// All bytes of a catalog.
-    pub(crate) fn of_catalog(cat: &'a Catalog) -> Self
+    pub(crate) fn new(cat: &'a Catalog) -> Self
         ensures bytes { result ≡ catalog_bytes cat.now }
     {
-        Missing {
-            from: Welcome::Of(cat, 0),
-        }
+        Missing { cat, at: 0 }
     }
 
     /// How many bytes there are.
     pub(crate) fn len(&self) -> usize
         ensures count { result ≡ length self.now }
     {
-        match self.from {
-            Welcome::Bytes(bytes) => bytes.len(),
-            Welcome::Of(cat, at) => (catalog_len(cat) as usize).saturating_sub(at),
-        }
+        (catalog_len(self.cat) as usize).saturating_sub(self.at)
     }
 
     /// Whether they begin with these.
     pub(crate) fn begins_with(&self, part: &[u8]) -> bool
         ensures same { result ≡ bytes_eq part.now (take (length part.now) self.now) }
     {
-        match self.from {
-            Welcome::Bytes(bytes) => part.len() <= bytes.len() && part == &bytes[..part.len()],
-            Welcome::Of(cat, at) => is_catalog_part(cat, at, part),
-        }
+        is_catalog_part(self.cat, self.at, part)
     }
 
     /// Leaves the first of them out.
@@ -85,12 +59,6 @@ impl<'a> Missing<'a> {
         requires { count ≤ length self.old }
         ensures rest { self.new ≡ drop count self.old }
     {
-        match self.from {
-            Welcome::Bytes(bytes) => {
-                let (_welcomed, rest) = bytes.split_at(count);
-                self.from = Welcome::Bytes(rest);
-            }
-            Welcome::Of(cat, at) => self.from = Welcome::Of(cat, place_after(cat, at, count)),
-        }
+        self.at = place_after(self.cat, self.at, count);
     }
 }

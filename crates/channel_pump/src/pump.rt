@@ -10,19 +10,16 @@ ghost use Rattle.ghost_model.specs.Moves.{taken};
 ghost use Rattle.ghost_model.specs.NextMove as next;
 ghost use Rattle.ghost_model.specs.NextMove.{next_with, heard, left};
 ghost use Rattle.ghost_model.specs.Frames.{payload_of};
-ghost use Rattle.ghost_model.specs.Catalog.{catalog_bytes};
 ghost use Rattle.channel_codec.specs.AskViews.{ask_view};
 ghost use Rattle.channel_codec.specs.Views.{frame_view};
-ghost use Rattle.channel_pump.specs.Asked.{AreAsked};
 ghost use Rattle.channel_pump.specs.Here.{moves_left, awaits_at};
 ghost use Rattle.channel_pump.specs.Marks.{asked_at, state_of};
 ghost use Rattle.channel_pump.specs.State as state;
-ghost use Rattle.channel_pump.specs.State.{IsAfter, Keeps, KnowsAsks, IsWanted, IsTakenBy, FitsPage, Begins, want_of, want_at, is_done_by, can_fail, is_take, entry, taken_entry, cause_at, frame_due};
+ghost use Rattle.channel_pump.specs.State.{IsAfter, Keeps, IsWanted, IsTakenBy, FitsPage, want_of, want_at, is_done_by, can_fail, is_take, entry, taken_entry, cause_at, frame_due};
 ghost use Rattle.channel_pump.specs.Turning.{event_after};
 ghost use Rattle.channel_pump.specs.Progress.{RowsHere, Tells, EndsAs};
 
 use crate::asks::Asks;
-use crate::forms::AskForm;
 use crate::judging::Judged;
 use crate::missing::Missing;
 use crate::state::{Cause, Event, Outgoing, Phase, Pump, ReplyState, Stage, Want};
@@ -31,18 +28,17 @@ use channel_codec::frame::{Frame, put_frame};
 use ghost_base::limits::MAX_TEXTS;
 
 impl<'a> Pump<'a> {
-    /// A session of these asks with these bytes of a catalog, before its first move.
-    fn start(generation: u32, missing: Missing<'a>, rest: Asks<'a>) -> Self
-        requires { 1 + length rest < 2 ^ 32 }
-        ensures after { (cat : Catalog) (asked : List Asked) → cat.generation ≡ generation → catalog_bytes cat ≡ missing.entry → AreAsked cat rest.entry asked
-            → IsAfter cat asked [] result }
-        ensures asks { result.rest ≡ rest.entry }
+    /// A session of the asks of a script, which has at most 64 texts, over a catalog, before its first move. Texts are read
+    /// as their asks come due, and the catalog's bytes are made as they are compared.
+    pub fn begin(cat: &'a tree_schema::Catalog, script: &'a [u8]) -> Self
+        requires texts { length (texts_of script.now) ≤ MAX_TEXTS }
+        ensures after { IsAfter cat.now (asked_of cat.now.schema (texts_of script.now)) [] result }
         ensures want { want_of result ≡ Want.Dial }
     {
         Pump {
-            generation,
-            missing,
-            rest,
+            generation: cat.generation(),
+            missing: Missing::new(cat),
+            rest: Asks::new(cat, script),
             phase: Phase::Greeting,
             stage: Stage::Dialling,
             serial: 1,
@@ -53,30 +49,6 @@ impl<'a> Pump<'a> {
             before: 0,
             refused: [false; 65],
         }
-    }
-
-    /// A session of the asks of a script, which has at most 64 texts, over a catalog, before its first move. Texts are read
-    /// as their asks come due, and the catalog's bytes are made as they are compared.
-    pub fn begin(cat: &'a tree_schema::Catalog, script: &'a [u8]) -> Self
-        requires texts { length (texts_of script.now) ≤ MAX_TEXTS }
-        ensures after { IsAfter cat.now (asked_of cat.now.schema (texts_of script.now)) [] result }
-        ensures known { KnowsAsks result }
-        ensures want { want_of result ≡ Want.Dial }
-    {
-        Pump::start(
-            cat.generation(),
-            Missing::of_catalog(cat),
-            Asks::of_script(cat, script),
-        )
-    }
-
-    /// A session of these asks, with a catalog of this generation and of these bytes, before its first move.
-    pub fn begin_with(generation: u32, catalog: &'a [u8], asks: &'a [AskForm<'a>]) -> Self
-        requires { 1 + length asks.now < 2 ^ 32 }
-        ensures after { (cat : Catalog) (asked : List Asked) → Begins cat asked generation catalog.now asks.now → IsAfter cat asked [] result }
-        ensures want { want_of result ≡ Want.Dial }
-    {
-        Pump::start(generation, Missing::of_bytes(catalog), Asks::of_forms(asks))
     }
 
     /// What is wanted: the next move of the session.
@@ -115,8 +87,8 @@ impl<'a> Pump<'a> {
         ensures { result ≡ awaits_at self.now.phase self.now text }
     {
         match self.phase {
-            Phase::Greeting => self.rest.any_of(text),
-            Phase::Reply => self.rest.any_of(text),
+            Phase::Greeting => self.rest.has_text(text),
+            Phase::Reply => self.rest.has_text(text),
             Phase::Over => false,
         }
     }
@@ -145,8 +117,7 @@ impl<'a> Pump<'a> {
     /// greeting, and none behind the last ask.
     pub fn asked(&self) -> Option<(u32, &Ask)>
         ensures awaited { (catalog : Catalog) (asks : List Asked) (journal : Journal)
-            → IsAfter catalog asks journal self.now → KnowsAsks self.now
-            → option_map (λ first. asked first.0 (ask_view first.1.now)) result ≡ asked_at (heard catalog asks (taken journal)).awaits }
+            → IsAfter catalog asks journal self.now → option_map (λ first. asked first.0 (ask_view first.1.now)) result ≡ asked_at (heard catalog asks (taken journal)).awaits }
     {
         match self.phase {
             Phase::Greeting | Phase::Over => None,
@@ -196,7 +167,6 @@ impl<'a> Pump<'a> {
         ensures after { (catalog : Catalog) (at : List ℕ) (asks : List Asked) (journal : Journal) (move : Move)
             → IsAfter catalog asks journal self.old → next_with catalog at asks journal ≡ Some move
             → IsAfter catalog asks (journal ++ entry move channel.Made ∷ []) self.new }
-        ensures known { KnowsAsks self.old → KnowsAsks self.new }
         ensures fewer { moves_left self.new < moves_left self.old }
     {
         match self.stage {
@@ -218,7 +188,6 @@ impl<'a> Pump<'a> {
         ensures after { (catalog : Catalog) (at : List ℕ) (asks : List Asked) (journal : Journal) (move : Move)
             → IsAfter catalog asks journal self.old → next_with catalog at asks journal ≡ Some move
             → IsAfter catalog asks (journal ++ entry move channel.Failed ∷ []) self.new }
-        ensures known { KnowsAsks self.old → KnowsAsks self.new }
         ensures fewer { moves_left self.new < moves_left self.old }
     {
         self.stage = Stage::Closing(Cause::Link);
@@ -230,7 +199,6 @@ impl<'a> Pump<'a> {
         ensures after { (catalog : Catalog) (at : List ℕ) (asks : List Asked) (journal : Journal) (move : Move)
             → IsAfter catalog asks journal self.old → next_with catalog at asks journal ≡ Some move
             → IsAfter catalog asks (journal ++ entry move channel.End ∷ []) self.new }
-        ensures known { KnowsAsks self.old → KnowsAsks self.new }
         ensures fewer { moves_left self.new < moves_left self.old }
     {
         self.stage = Stage::Closing(Cause::Link);
@@ -254,7 +222,6 @@ impl<'a> Pump<'a> {
             → IsAfter catalog asks journal self.old → Keeps catalog asks journal page.now
             → Tells catalog page.now result (heard catalog asks (taken journal)) (heard catalog asks (taken (journal ++ taken_entry self.old page.now n ∷ []))) }
         ensures rows { RowsHere self.old page.now result }
-        ensures known { KnowsAsks self.old → KnowsAsks self.new }
         ensures fewer { moves_left self.new < moves_left self.old }
     {
         let (part, _rest) = page.split_at(self.have + n);

@@ -2,12 +2,10 @@
 
 ghost use Rattle.std.specs.Prelude.{◌<◌};
 
-use crate::forms::AskForm;
 use crate::state::{Cause, Event, Pump, Want};
 use crate::tests::{CATALOG, Place, SCRIPT, give};
 use arrayvec::ArrayVec;
 use channel_codec::bytes::front;
-use ghost_base::Kind;
 use spj_parse::text_count;
 use tree_schema::{Catalog, read_catalog};
 
@@ -234,26 +232,17 @@ fn common_end(chance: &mut Chance, whole: &mut Session, cut: &mut Session) -> Op
     None
 }
 
-/// What both sessions of a trial are given.
-#[derive(Drop)]
-struct Given<'a> {
-    catalog: &'a Catalog,
-    asks: &'a [AskForm<'a>; 2],
-}
-
-/// A session of the two texts: in one of eight trials of the script itself, and else of the asks that it comes to, which says
-/// the same and takes less time.
-fn pump_of<'a>(given: &Given<'a>, trial: usize) -> Pump<'a> {
-    let asks = given.asks;
-    if trial % 8 > 0 || text_count(SCRIPT) > 64 {
-        return Pump::begin_with(1, CATALOG, asks);
+/// A session of the two texts before its first move.
+fn pump_of(catalog: &Catalog) -> Option<Pump<'_>> {
+    if text_count(SCRIPT) > 64 {
+        return None;
     }
-    Pump::begin(given.catalog, SCRIPT)
+    Some(Pump::begin(catalog, SCRIPT))
 }
 
 /// How many frames came in two sessions with a random host, once in whole pieces and once cut; `None` where they differ, or
 /// do not end as what the host says leads to. In one of four trials some byte of the stream is another, or it is cut off.
-fn frames_of_trial(chance: &mut Chance, given: &Given, trial: usize) -> Option<u32> {
+fn frames_of_trial(chance: &mut Chance, catalog: &Catalog) -> Option<u32> {
     let mut saying = random_saying(chance);
     let expected = saying.broken.unwrap_or(Cause::Finished);
     let bytes = saying.bytes.as_mut_slice();
@@ -268,8 +257,8 @@ fn frames_of_trial(chance: &mut Chance, given: &Given, trial: usize) -> Option<u
         }
     }
     let host = front(bytes, size);
-    let mut whole = Session::new(pump_of(given, 1), host);
-    let mut cut = Session::new(pump_of(given, trial), host);
+    let mut whole = Session::new(pump_of(catalog)?, host);
+    let mut cut = Session::new(pump_of(catalog)?, host);
     let (frames, cause) = common_end(chance, &mut whole, &mut cut)?;
     if is_known && cause != expected {
         return None;
@@ -283,28 +272,10 @@ fn random_sessions_do_not_depend_on_the_cutting(rt: HostRuntime) {
         assert!(rt; false);
         return;
     };
-    let asks = [
-        AskForm {
-            text: 1,
-            payload: b"\0\x01\x01\x01\x01\x01cardio\0\0",
-            kinds: &[Kind::Chars(8)],
-            rows: 3,
-        },
-        AskForm {
-            text: 2,
-            payload: b"\x02\x01\x01\x01\x01\x06\x80\0\0\0\0\0\0\x02",
-            kinds: &[Kind::Integer],
-            rows: 4,
-        },
-    ];
-    let given = Given {
-        catalog: &catalog,
-        asks: &asks,
-    };
     let mut chance = Chance { state: 3 };
     let mut frames: u32 = 0;
-    for trial in 0..1_800 {
-        match frames_of_trial(&mut chance, &given, trial) {
+    for _ in 0..1_800 {
+        match frames_of_trial(&mut chance, &catalog) {
             Some(count) => frames = frames.saturating_add(count),
             None => assert!(rt; false),
         }

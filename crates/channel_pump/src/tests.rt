@@ -2,9 +2,7 @@
 
 ghost use Rattle.std.specs.Prelude.{◌<◌, ◌≤◌, length};
 
-use crate::forms::AskForm;
 use crate::state::{Cause, Event, Pump, ReplyState, Want};
-use ghost_base::Kind;
 use spj_parse::text_count;
 use tree_schema::read_catalog;
 
@@ -367,33 +365,24 @@ fn a_refused_text_and_a_broken_link_are_told(rt: HostRuntime) {
 }
 
 #[test]
-fn asks_may_be_handed_in(rt: HostRuntime) {
-    let asks = [
-        AskForm {
-            text: 1,
-            payload: &[0, 1, 1, 0],
-            kinds: &[Kind::Chars(2)],
-            rows: 3,
-        },
-        AskForm {
-            text: 2,
-            payload: &[0, 0, 0],
-            kinds: &[],
-            rows: 3,
-        },
-    ];
-    let host: [&[u8]; 4] = [
-        b"\x11\x01\0\x08\0\0\0\0\x01catalog",
-        b"\x12\x01\0\x0C\0\0\0\x01\0\0\0\x01ab\0\0\0\x03c\0",
-        b"\x13\x01\0\x04\0\0\0\x01\0\0\0\x02",
+fn a_text_may_be_asked_without_conditions_or_without_columns(rt: HostRuntime) {
+    let script = b"SELECT specialty FROM doctor; SELECT name FROM patient WHERE age = 30;";
+    let host = [
+        WELCOME,
+        CATALOG,
+        ROWS,
+        DONE,
         b"\x14\x01\0\x01\0\0\0\x02\x07",
     ];
     let outcome = Outcome {
         sent: &[
-            (0, b"\x01\x01\0\x04\0\0\0\0\0\0\0\x05"),
-            (0, b"\x02\x01\0\x04\0\0\0\x01\0\x01\x01\0"),
-            (0, MORE),
-            (0, b"\x02\x01\0\x03\0\0\0\x02\0\0\0"),
+            (0, HELLO),
+            (1, b"\x02\x01\0\x04\0\0\0\x01\0\x01\x01\0"),
+            (1, MORE),
+            (
+                2,
+                b"\x02\x01\0\x0d\0\0\0\x02\x01\0\x01\x01\x01\x80\0\0\0\0\0\0\x1e",
+            ),
             (0, BYE),
         ],
         told: &[Event::Welcome, Event::Rows(2), Event::Done, Event::Sorry(7)],
@@ -401,13 +390,6 @@ fn asks_may_be_handed_in(rt: HostRuntime) {
         states: [ReplyState::Done, ReplyState::Host],
     };
     for step in [2048, 1] {
-        assert!(rt;
-            comes_to(
-                Pump::begin_with(5, b"catalog", &asks),
-                step,
-                &host,
-                &outcome
-            )
-        );
+        assert!(rt; clinic_comes_to(script, step, &host, &outcome));
     }
 }

@@ -9,7 +9,7 @@ ghost use Rattle.channel_pump.specs.Asked.{AreAsked};
 ghost use Rattle.channel_pump.specs.Here.{Stands, header_at, payload_at, frames_left, frames_for};
 ghost use Rattle.channel_pump.specs.State.{IsAwaiting, IsFresh, IsBefore, IsTurned, IsGoing};
 ghost use Rattle.channel_pump.specs.Marks.{marked_on};
-ghost use Rattle.channel_pump.specs.Forms.{Form, are_known};
+ghost use Rattle.channel_pump.specs.Forms.{Form};
 ghost use Rattle.channel_pump.specs.Turning.{event_of};
 
 use crate::rows::Tally;
@@ -30,7 +30,6 @@ impl<'a> Pump<'a> {
         ensures lacks { self.new.lacks ≡ self.old.lacks }
         ensures before { self.new.before ≡ self.old.before }
         ensures generation { self.new.generation ≡ self.old.generation }
-        ensures known { are_known self.old.rest ≡ true → are_known self.new.rest ≡ true }
         ensures refused { self.new.refused ≡ self.old.refused }
     {
         self.serial = serial;
@@ -59,7 +58,6 @@ impl<'a> Pump<'a> {
         ensures lacks { self.new.lacks ≡ self.old.lacks }
         ensures before { self.new.before ≡ self.old.before }
         ensures generation { self.new.generation ≡ self.old.generation }
-        ensures known { are_known self.old.rest ≡ true → are_known self.new.rest ≡ true }
         ensures refused { self.new.refused ≡ self.old.refused }
     {
         let size = size_in(part) as usize - 1;
@@ -97,7 +95,6 @@ impl<'a> Pump<'a> {
         ensures lacks { self.new.lacks ≡ self.old.lacks }
         ensures before { self.new.before ≡ self.old.before }
         ensures generation { self.new.generation ≡ self.old.generation }
-        ensures known { are_known self.old.rest ≡ true → are_known self.new.rest ≡ true }
         ensures refused { self.new.refused ≡ marked_on result self.old.rest self.old.refused }
         ensures event { result ≡ event_of tally.rows (frames.frame_in part.now) }
     {
@@ -140,7 +137,6 @@ impl<'a> Pump<'a> {
         ensures lacks { self.new.lacks ≡ self.old.lacks }
         ensures before { self.new.before ≡ self.old.before }
         ensures generation { self.new.generation ≡ self.old.generation }
-        ensures known { are_known self.old.rest ≡ true → are_known self.new.rest ≡ true }
         ensures refused { self.new.refused ≡ marked_on result self.old.rest self.old.refused }
         ensures event { result ≡ event_of tally.rows (frames.frame_in part.now) }
     {

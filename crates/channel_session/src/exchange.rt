@@ -1,13 +1,12 @@
 //! The moves of a session.
 
-ghost use Rattle.std.specs.Prelude.{◌≡◌, ◌≢◌, ◌+◌, ◌<◌, ◌≤◌, ◌∷◌, List, ℕ, Some, IfOk, [], true, take};
+ghost use Rattle.std.specs.Prelude.{◌≡◌, ◌≢◌, ◌+◌, ◌<◌, ◌≤◌, ◌∷◌, List, ℕ, Some, IfOk, [], take};
 ghost use Rattle.ghost_model.specs.Causes.{HasCause};
 ghost use Rattle.ghost_model.specs.Channel as channel;
 ghost use Rattle.ghost_model.specs.Channel.{Catalog, Journal};
 ghost use Rattle.ghost_model.specs.Asks.{Asked};
 ghost use Rattle.ghost_model.specs.Frames.{AreBytes};
 ghost use Rattle.ghost_model.specs.NextMove.{next_with};
-ghost use Rattle.channel_pump.specs.Forms.{are_known};
 ghost use Rattle.channel_pump.specs.Here.{moves_left};
 ghost use Rattle.channel_pump.specs.State.{IsAfter, want_of};
 ghost use Rattle.edge_traits.specs.Links.{entry};
@@ -49,7 +48,6 @@ impl<'a> Exchange<'a> {
         requires going { want_of self.old.pump ≢ Want.Closed }
         ensures moved { (catalog : Catalog) (asks : List Asked) (journal : Journal) → IsLive catalog at.now asks journal self.old
             → Moved (WentBy (λ more. L.went link.old more link.new) (L.faults link.old) (L.faults link.new)) catalog at.now asks journal result self.new }
-        ensures known { are_known self.old.pump.rest ≡ true → are_known self.new.pump.rest ≡ true }
         ensures fewer { moves_left self.new.pump < moves_left self.old.pump }
         ensures faults { L.faults link.old ≤ L.faults link.new }
     {
@@ -68,7 +66,6 @@ impl<'a> Exchange<'a> {
         ensures moved { (catalog : Catalog) (asks : List Asked) (journal : Journal) → IsLive catalog at.now asks journal self.old
             → next_with catalog at.now asks journal ≡ Some (channel.Dial at.now)
             → Moved (WentBy (λ more. L.went link.old more link.new) (L.faults link.old) (L.faults link.new)) catalog at.now asks journal result self.new }
-        ensures known { are_known self.old.pump.rest ≡ true → are_known self.new.pump.rest ≡ true }
         ensures fewer { moves_left self.new.pump < moves_left self.old.pump }
         ensures faults { L.faults link.old ≤ L.faults link.new }
     {
@@ -85,7 +82,6 @@ impl<'a> Exchange<'a> {
         requires wanted { want_of self.old.pump ≡ Want.Send }
         ensures moved { (catalog : Catalog) (at : List ℕ) (asks : List Asked) (journal : Journal) → IsLive catalog at asks journal self.old
             → Moved (WentBy (λ more. L.went link.old more link.new) (L.faults link.old) (L.faults link.new)) catalog at asks journal result self.new }
-        ensures known { are_known self.old.pump.rest ≡ true → are_known self.new.pump.rest ≡ true }
         ensures fewer { moves_left self.new.pump < moves_left self.old.pump }
         ensures faults { L.faults link.old ≤ L.faults link.new }
     {
@@ -107,7 +103,6 @@ impl<'a> Exchange<'a> {
         ensures moved { (catalog : Catalog) (at : List ℕ) (asks : List Asked) (journal : Journal) → IsLive catalog at asks journal self.old
             → next_with catalog at asks journal ≡ Some (channel.Take most)
             → Moved (WentBy (λ more. L.went link.old more link.new) (L.faults link.old) (L.faults link.new)) catalog at asks journal result self.new }
-        ensures known { are_known self.old.pump.rest ≡ true → are_known self.new.pump.rest ≡ true }
         ensures fewer { moves_left self.new.pump < moves_left self.old.pump }
         ensures faults { L.faults link.old ≤ L.faults link.new }
     {
@@ -136,7 +131,6 @@ impl<'a> Exchange<'a> {
         ensures moved { (catalog : Catalog) (at : List ℕ) (asks : List Asked) (journal : Journal) → IsLive catalog at asks journal self.old
             → next_with catalog at asks journal ≡ Some channel.Close
             → Moved (WentBy (λ more. L.went link.old more link.new) (L.faults link.old) (L.faults link.new)) catalog at asks journal result self.new }
-        ensures known { are_known self.old.pump.rest ≡ true → are_known self.new.pump.rest ≡ true }
         ensures fewer { moves_left self.new.pump < moves_left self.old.pump }
         ensures faults { L.faults link.old ≤ L.faults link.new }
     {

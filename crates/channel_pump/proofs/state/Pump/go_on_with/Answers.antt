@@ -1,5 +1,5 @@
 use Rattle.std.proofs.Common.{refl, sym, ◌∙◌}
-use Rattle.channel_pump.proofs.SourceLemmas.{not_empty}
+use Rattle.channel_pump.proofs.ListLemmas.{not_empty}
 use Rattle.channel_pump.proofs.TurningLemmas.{asks_on}
 use Rattle.channel_pump.proofs.state.Pump.go_on_with.Goals as goal
 

@@ -2,8 +2,6 @@ use Rattle.std.proofs.Common.{◌≢◌, ℕ, ◌+◌, refl, ap, sym, ◌∙◌,
 use Rattle.ghost_model.specs.Frames as frames
 use Rattle.ghost_model.specs.NextMove as next
 use Rattle.channel_pump.specs.State.{IsTurned}
-use Rattle.channel_pump.specs.Forms.{are_known}
-use Rattle.channel_pump.proofs.ScriptLemmas.{later_known, still_known}
 use Rattle.channel_pump.proofs.TurningLemmas.{fewer_by_rows, fewer_given_up, asks_given_up, refused_turn}
 use Rattle.channel_pump.proofs.state.Pump.replied.Goals as goal
 
@@ -27,8 +25,3 @@ returns-in_default-clause-frames c =
     let first = c.text-text.ensures.first in
     fewer_given_up c.args.self.now c.go_on_with-in_default.new.self _ _ first.0 first.1 c.text-text.result c.requires.phase first.2 first.3
     c.leave_out-in_default.ensures.rest c.give_up.ensures.rest c.go_on_with-in_default.ensures.frames
-
-pub returns-in_default-clause-known : goal.returns-in_default-clause-known
-returns-in_default-clause-known c h =
-    c.go_on_with-in_default.ensures.known
-    (ap are_known c.give_up.ensures.rest ∙ later_known c.text-text.result _ (ap are_known c.leave_out-in_default.ensures.rest ∙ still_known 1 c.args.self.now.rest h))

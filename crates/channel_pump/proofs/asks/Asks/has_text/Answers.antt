@@ -1,8 +1,8 @@
 use Rattle.std.proofs.Common.{◌==◌, ap, ◌∙◌}
 use Rattle.std.specs.List.{list_any}
 use Rattle.channel_pump.specs.Forms.{Form}
-use Rattle.channel_pump.proofs.ScriptLemmas.{any_asked_text}
-use Rattle.channel_pump.proofs.script.Script.has_text.Goals as goal
+use Rattle.channel_pump.proofs.AsksLemmas.{any_asked_text}
+use Rattle.channel_pump.proofs.asks.Asks.has_text.Goals as goal
 
 pub returns : goal.returns
 returns c = record {

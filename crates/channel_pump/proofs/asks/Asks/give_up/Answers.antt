@@ -2,8 +2,8 @@ use Rattle.std.proofs.Common.{ap, ap₂, ◌∙◌}
 use Rattle.script_asks.specs.Left.{are_proper}
 use Rattle.channel_pump.specs.Scripts.{forms_asked}
 use Rattle.channel_pump.specs.Turning.{forms_after}
-use Rattle.channel_pump.proofs.ScriptLemmas.{after_asked, held_of, later_proper}
-use Rattle.channel_pump.proofs.script.Script.give_up.Goals as goal
+use Rattle.channel_pump.proofs.AsksLemmas.{after_asked, held_of, later_proper}
+use Rattle.channel_pump.proofs.asks.Asks.give_up.Goals as goal
 
 pub put_first-self-inside-requires : goal.put_first-self-inside-requires
 put_first-self-inside-requires c = record {

@@ -1,5 +1,5 @@
 -- The asks of a script, as the pump sees them.
-use Rattle.std.proofs.Common.{◌≡◌, ◌≤◌, ◌==◌, ◌&&◌, ◌||◌, nat_lt, nat_le, ℕ, zero, suc, Bool, true, false, cond, arith, Option, Some, None, is_some, IfSome, IfNone, option_map, List, [], ◌∷◌, length, take, drop, map, take_while, length-take, IsTrue, refl, ap, sym, ◌∙◌}
+use Rattle.std.proofs.Common.{◌≡◌, ◌≤◌, ◌==◌, ◌&&◌, ◌||◌, nat_lt, nat_le, ℕ, zero, suc, Bool, true, false, cond, arith, Option, Some, None, IfSome, IfNone, option_map, List, [], ◌∷◌, length, take, drop, take_while, length-take, IsTrue, refl, ap, sym, ◌∙◌}
 use Rattle.std.specs.List.{list_all, list_any}
 use Rattle.std.specs.Cmp.{first_so, second_so}
 use Rattle.std.proofs.lemmas.Bool.Decides.{nat_tests}
@@ -10,8 +10,7 @@ use Rattle.ghost_model.specs.Asks.{Asked, ask_payload, kinds_of, is_proper_ask}
 use Rattle.ghost_model.specs.NextMove.{of_later_texts}
 use Rattle.script_asks.specs.Left.{are_numbered, are_proper}
 use Rattle.channel_pump.specs.Asked.{AreAsked}
-use Rattle.channel_pump.specs.declared.forms.AskForm.{AskForm}
-use Rattle.channel_pump.specs.Forms.{Form, are_known, form_of}
+use Rattle.channel_pump.specs.Forms.{Form}
 use Rattle.channel_pump.specs.Narrow.{is_narrow}
 use Rattle.channel_pump.specs.Scripts.{IsHeld, form_asked, forms_asked, payload_held, kinds_held}
 use Rattle.channel_pump.specs.Turning.{forms_after}
@@ -33,20 +32,10 @@ are_asked catalog (asked ∷ asks) h = (
   are_asked catalog asks (second_so (nat_lt 0 asked.text && nat_le asked.text 64) (are_numbered asks) h),
 )
 
-pub all_known : (catalog : Catalog) (asks : List Asked) → are_known (forms_asked catalog asks) ≡ true
-all_known catalog [] = refl
-all_known catalog (asked ∷ asks) = all_known catalog asks
-
 all_drop : {X : Type 0} (p : X → Bool) (n : ℕ) (xs : List X) → list_all p xs ≡ true → list_all p (drop n xs) ≡ true
 all_drop p zero xs h = h
 all_drop p (suc n) [] h = h
 all_drop p (suc n) (x ∷ xs) h = all_drop p n xs (second_so (p x) (list_all p xs) h)
-
-pub still_known : (n : ℕ) (forms : List Form) → are_known forms ≡ true → are_known (drop n forms) ≡ true
-still_known n forms h = all_drop (λ (form : Form). is_some form.ask) n forms h
-
-pub later_known : (text : ℕ) (forms : List Form) → are_known forms ≡ true → are_known (forms_after text forms) ≡ true
-later_known text forms h = still_known (length (take_while (λ (form : Form). form.text == text) forms)) forms h
 
 pub still_proper : (schema : Schema) (n : ℕ) (asks : List Asked) → are_proper schema asks ≡ true → are_proper schema (drop n asks) ≡ true
 still_proper schema n asks h = all_drop (λ (asked : Asked). is_proper_ask schema asked.ask) n asks h
@@ -118,8 +107,3 @@ held_of catalog one other asks out n kinds e f most payload its narrow proper = 
     narrow = narrow;
   },
 )
-
--- asks that are handed in are not known
-pub none_known : (forms : List AskForm) → are_known (map (form_of None) forms) ≡ true → map (form_of None) forms ≡ []
-none_known [] h = refl
-none_known (form ∷ forms) h = cc

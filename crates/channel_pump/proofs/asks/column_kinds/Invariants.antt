@@ -5,7 +5,7 @@ use Rattle.ghost_model.specs.Asks as asks
 use Rattle.ghost_base.specs.Views.{kind_of}
 use Rattle.channel_codec.specs.AskViews.{ask_view}
 use Rattle.channel_pump.specs.Narrow.{is_narrow}
-use Rattle.channel_pump.proofs.script.column_kinds.Given as goal
+use Rattle.channel_pump.proofs.asks.column_kinds.Given as goal
 
 abbrev pub invariant-columns : goal.invariant-columns
 invariant-columns l = record {
