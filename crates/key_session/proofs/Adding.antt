@@ -1,21 +1,21 @@
 -- One more text was told.
-use Rattle.std.proofs.Common.{◌≡◌, ◌≤◌, ℕ, zero, suc, ◌+◌, ◌⊎◌, inl, inr, arith, Bool, true, false, ◌||◌, List, [], ◌∷◌, ◌++◌, length, drop, refl, sym, ap, ◌∙◌, subst, append-nil, length-append, Option, Some, None, slice_get}
-use Rattle.std.specs.Prelude.{if◌then◌else◌, count_by, min}
+use Rattle.std.proofs.Common.{◌≡◌, ◌≤◌, ℕ, zero, suc, ◌+◌, ◌⊎◌, inl, inr, arith, Bool, true, false, ◌||◌, List, [], ◌∷◌, ◌++◌, length, map, drop, refl, sym, ap, ◌∙◌, subst, append-nil, length-append, Option, Some, None, slice_get}
+use Rattle.std.specs.Prelude.{if◌then◌else◌, count_by, min, is_some}
 use Rattle.std.specs.List.{list_any, concat}
 use Rattle.std.proofs.lemmas.Grind.{flat_map-append}
 use Rattle.std.proofs.lemmas.List.Folds.{list_any-append}
 use Rattle.std.proofs.lemmas.List.Sums.{sum_by-append}
-use Rattle.ghost_model.specs.Causes.{last_count}
+use Rattle.ghost_model.specs.Causes.{Rose, last_count}
 use Rattle.ghost_model.specs.Channel.{Catalog, Journal}
 use Rattle.ghost_model.specs.Split.{Hidden}
 use Rattle.ghost_model.specs.Lines.{Reason}
 use Rattle.key_lines.specs.Handing.{Handed, Hands, PiecesJoin}
 use Rattle.text_lines.specs.Rows.{PrintsSome}
-use Rattle.key_exec.specs.Blaming.{IsDamaged}
-use Rattle.text_lines.specs.Texts.{ToldTells, ToldBlames}
+use Rattle.text_lines.specs.Texts.{ToldTells, ToldCalls, ToldBlames}
 use Rattle.text_lines.specs.declared.text.Told.{Told}
 use Rattle.text_lines.specs.declared.text.Told.TheVariants as told
-use Rattle.key_session.specs.Counting.{damage_in, first_damage, reason_of, is_refusal, is_fault, is_flash, is_damage, one_if, IsCounted, AreCounted, AreUndamaged}
+use Rattle.key_session.specs.Counting.{damage_in, first_damage, first_of, reason_of, is_refusal, is_fault, is_flash, is_damage, one_if, IsCounted, AreCounted, AreUndamaged}
+use Rattle.key_session.specs.Damages.{IsSlot, MeetsFirst, AreKept}
 use Rattle.key_session.specs.Reasons.{HasReason, HaveReasons}
 use Rattle.key_session.specs.Telling.{Outside, TextTold, reasons_of, bytes_of, bytes_told, IsTold, AreTold, AreLeft}
 use Rattle.key_session.specs.declared.counts.Counts.{Counts}
@@ -43,9 +43,12 @@ count_more p reasons reason =
     only true = refl
     only false = refl
 
+map_more : {X Y : Type 0} (f : X → Y) (xs : List X) (x : X) → map f (xs ++ x ∷ []) ≡ map f xs ++ f x ∷ []
+map_more f [] x = refl
+map_more {X} {Y} f (first ∷ xs) x = ap (λ (rest : List Y). f first ∷ rest) (map_more f xs x)
+
 reasons_more : (told : List TextTold) (one : TextTold) → reasons_of (told ++ one ∷ []) ≡ reasons_of told ++ one.reason ∷ []
-reasons_more [] one = refl
-reasons_more (first ∷ told) one = ap (λ (rest : List Reason). first.reason ∷ rest) (reasons_more told one)
+reasons_more told one = map_more (λ (text : TextTold). text.reason) told one
 
 or_none : (b : Bool) → (b || false) ≡ b
 or_none true = refl
@@ -106,43 +109,113 @@ unblamed_more reasons since before now result tells same e =
     let none = neither (list_any is_flash reasons) (is_flash (reason_of result)) (sym (any_more is_flash reasons (reason_of result)) ∙ e) in
     flash_stayed before now result tells none.1 ∙ same none.0
 
--- the damage that was met first is that of a slot
-pub one_damage : (pages_told : Bool) (page : ℕ → List ℕ) (catalog : Catalog) (before after : Option Damage) (result : Told) → after ≡ first_damage before (damage_in result)
-    → ToldBlames pages_told page catalog result
-    → ((damage : Damage) → before ≡ Some damage → IsDamaged pages_told page catalog damage.page damage.slot damage.found)
-    → (damage : Damage) → after ≡ Some damage → IsDamaged pages_told page catalog damage.page damage.slot damage.found
-one_damage pages_told page catalog (Some first) after result is blames were damage e = were damage (sym is ∙ e)
-one_damage pages_told page catalog None after result is blames were damage e = by result blames (sym is ∙ e)
-  where
-    by : (result : Told) → ToldBlames pages_told page catalog result → damage_in result ≡ Some damage → IsDamaged pages_told page catalog damage.page damage.slot damage.found
-    by told.Refused blames f = cc
-    by told.Answered blames f = cc
-    by told.Host blames f = cc
-    by told.Link blames f = cc
-    by told.Protocol blames f = cc
-    by told.Flash blames f = cc
-    by (told.Damaged number slot found) blames f = subst (λ (d : Damage). IsDamaged pages_told page catalog d.page d.slot d.found) (some_same (record { page = number; slot = slot; found = found }) damage f) blames
+-- a rise of the count of calls in either of two parts is one in both
+either : (first second : Bool) → (first || second) ≡ true → (first ≡ true) ⊎ (second ≡ true)
+either true second e = inl refl
+either false second e = inr e
 
--- one more text has a reason
-pub one_reason : (catalog : Catalog) (texts : List (List ℕ)) (journal : Journal) (count : ℕ) (old new : Counts) (since between now : ℕ) (result : Told)
-    → HaveReasons catalog texts journal count (λ reasons. AreCounted reasons old) since between → HasReason catalog texts journal count (reason_of result)
-    → ToldTells between now result → IsCounted (reason_of result) old new
-    → HaveReasons catalog texts journal (count + 1) (λ reasons. AreCounted reasons new) since now
-one_reason catalog texts journal count old new since between now result are is tells counted =
-    let long : length are.reasons ≡ count = are.as_many in
-    let longer : length (are.reasons ++ reason_of result ∷ []) ≡ length are.reasons + 1 = length-append are.reasons (reason_of result ∷ []) in
-    record {
-      reasons = are.reasons ++ reason_of result ∷ [];
-      as_many = omega (arith, long, longer);
-      each = λ place it e.
-          elim (last_or_before are.reasons (reason_of result) place it e) [
-            | inl f ↦ are.each place it f
-            | inr f ↦ subst (λ (x : Reason). HasReason catalog texts journal place x) f.1 (subst (λ (n : ℕ). HasReason catalog texts journal n (reason_of result)) (sym (f.0 ∙ long)) is)
-          ];
-      blamed = blamed_more are.reasons since between now result tells are.blamed;
-      unblamed = unblamed_more are.reasons since between now result tells are.unblamed;
-      counted = counted_more are.reasons (reason_of result) old new are.counted counted;
-    }
+flash_called : (before now : ℕ) (result : Told) → ToldCalls before now result → is_flash (reason_of result) ≡ true → Rose before now
+flash_called before now told.Flash called e = called
+flash_called before now told.Refused called e = cc
+flash_called before now told.Answered called e = cc
+flash_called before now told.Host called e = cc
+flash_called before now told.Link called e = cc
+flash_called before now told.Protocol called e = cc
+flash_called before now (told.Damaged page slot found) called e = cc
+
+pub still_no_fall : (most since before now : ℕ) → min since most ≤ before → min before most ≤ now → min since most ≤ now
+still_no_fall most since before now e f = omega (arith, e, f)
+
+rose_before : (most since before now : ℕ) → min (since + 1) most ≤ before → min before most ≤ now → min (since + 1) most ≤ now
+rose_before most since before now e f = omega (arith, e, f)
+
+rose_then : (most since before now : ℕ) → min since most ≤ before → min (before + 1) most ≤ now → min (since + 1) most ≤ now
+rose_then most since before now e f = omega (arith, e, f)
+
+-- the flash was called where one of the texts met a fault of it
+pub called_more : (since before now : ℕ) (old new : Counts) (result : Told) → IsCounted (reason_of result) old new
+    → min since last_count ≤ before → (old.by_flash ≡ true → Rose since before)
+    → min before last_count ≤ now → ToldCalls before now result → new.by_flash ≡ true → Rose since now
+called_more since before now old new result counted stayed called stays calls e =
+    elim (either old.by_flash (is_flash (reason_of result)) (sym counted.by_flash ∙ e)) [
+      | inl f ↦ rose_before last_count since before now (called f) stays
+      | inr f ↦ rose_then last_count since before now stayed (flash_called before now result calls f)
+    ]
+
+-- the damage that is told of a text is that of a slot
+damage_told : (result : Told) → is_some (damage_in result) ≡ is_damage (reason_of result)
+damage_told told.Refused = refl
+damage_told told.Answered = refl
+damage_told told.Host = refl
+damage_told told.Link = refl
+damage_told told.Protocol = refl
+damage_told told.Flash = refl
+damage_told (told.Damaged page slot found) = refl
+
+module _ (pages_told : Bool) (page : ℕ → List ℕ) (catalog : Catalog) where
+  slot_told : (result : Told) (damage : Damage) → ToldBlames pages_told page catalog result → damage_in result ≡ Some damage → IsSlot pages_told page catalog damage
+  slot_told told.Refused damage blames e = cc
+  slot_told told.Answered damage blames e = cc
+  slot_told told.Host damage blames e = cc
+  slot_told told.Link damage blames e = cc
+  slot_told told.Protocol damage blames e = cc
+  slot_told told.Flash damage blames e = cc
+  slot_told (told.Damaged number slot found) damage blames e = subst (λ (d : Damage). IsSlot pages_told page catalog d) (some_same (record { page = number; slot = slot; found = found }) damage e) blames
+
+  -- the damage that was met first is that of a slot
+  pub one_damage : (before after : Option Damage) (result : Told) → after ≡ first_damage before (damage_in result) → ToldBlames pages_told page catalog result
+      → ((damage : Damage) → before ≡ Some damage → IsSlot pages_told page catalog damage)
+      → (damage : Damage) → after ≡ Some damage → IsSlot pages_told page catalog damage
+  one_damage (Some first) after result is blames were damage e = were damage (sym is ∙ e)
+  one_damage None after result is blames were damage e = slot_told result damage blames (sym is ∙ e)
+
+  first_more : (damages : List (Option Damage)) (met : Option Damage) → first_of (damages ++ met ∷ []) ≡ first_damage (first_of damages) met
+  first_more [] None = refl
+  first_more [] (Some damage) = refl
+  first_more (None ∷ damages) met = first_more damages met
+  first_more (Some damage ∷ damages) met = refl
+
+  -- the first damage after one more text
+  met_more : (reasons : List Reason) (before after : Option Damage) (result : Told) → after ≡ first_damage before (damage_in result) → ToldBlames pages_told page catalog result
+      → MeetsFirst pages_told page catalog reasons before → MeetsFirst pages_told page catalog (reasons ++ reason_of result ∷ []) after
+  met_more reasons before after result is blames met = record {
+    damages = met.damages ++ damage_in result ∷ [];
+    by_reason = map_more (λ (one : Option Damage). is_some one) met.damages (damage_in result)
+        ∙ ap (λ (tests : List Bool). tests ++ is_some (damage_in result) ∷ []) met.by_reason
+        ∙ ap (λ (test : Bool). map is_damage reasons ++ test ∷ []) (damage_told result)
+        ∙ sym (map_more is_damage reasons (reason_of result));
+    each = λ place damage e.
+        elim (last_or_before met.damages (damage_in result) place (Some damage) e) [
+          | inl f ↦ met.each place damage f
+          | inr f ↦ slot_told result damage blames f.1
+        ];
+    first_is = is ∙ ap (λ (first : Option Damage). first_damage first (damage_in result)) met.first_is ∙ sym (first_more met.damages (damage_in result));
+  }
+
+  -- one more text has a reason
+  pub one_reason : (texts : List (List ℕ)) (journal : Journal) (count : ℕ) (old new : Counts) (since between now : ℕ) (result : Told)
+      → HaveReasons catalog texts journal count (λ reasons. AreKept pages_told page catalog reasons old) since between → HasReason catalog texts journal count (reason_of result)
+      → ToldTells between now result → IsCounted (reason_of result) old new
+      → new.damage ≡ first_damage old.damage (damage_in result) → ToldBlames pages_told page catalog result
+      → HaveReasons catalog texts journal (count + 1) (λ reasons. AreKept pages_told page catalog reasons new) since now
+  one_reason texts journal count old new since between now result are is tells counted first blames =
+      let long : length are.reasons ≡ count = are.as_many in
+      let longer : length (are.reasons ++ reason_of result ∷ []) ≡ length are.reasons + 1 = length-append are.reasons (reason_of result ∷ []) in
+      record {
+        reasons = are.reasons ++ reason_of result ∷ [];
+        as_many = omega (arith, long, longer);
+        each = λ place it e.
+            elim (last_or_before are.reasons (reason_of result) place it e) [
+              | inl f ↦ are.each place it f
+              | inr f ↦ subst (λ (x : Reason). HasReason catalog texts journal place x) f.1 (subst (λ (n : ℕ). HasReason catalog texts journal n (reason_of result)) (sym (f.0 ∙ long)) is)
+            ];
+        blamed = blamed_more are.reasons since between now result tells are.blamed;
+        unblamed = unblamed_more are.reasons since between now result tells are.unblamed;
+        counted = record {
+          counted = counted_more are.reasons (reason_of result) old new are.counted.counted counted;
+          met = met_more are.reasons old.damage new.damage result first blames are.counted.met;
+        };
+      }
 
 pub one_told : PiecesJoin → (catalog : Catalog) (kept : Hidden) (texts : List (List ℕ)) (journal : Journal) (count : ℕ) (old new : Counts) (since between now : Outside) (result : Told) (lines : List (List ℕ))
     → AreTold catalog kept texts journal count (λ reasons. AreUndamaged reasons old) since between

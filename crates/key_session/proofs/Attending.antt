@@ -110,6 +110,8 @@ module _ (over : OverTextsAreSettled) (order : TextsComeInOrder) (decided : Text
         kept = opened (teller.count + 1) going.top in_order.numbered (going.onward asked.text unsettled) low (omega (arith, close)) telling.kept;
         near = close;
         pages = telling.pages;
+        calls = telling.calls;
+        called = telling.called;
         faults = telling.faults;
         prints = telling.prints;
         damaged = telling.damaged;

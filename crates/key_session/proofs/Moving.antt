@@ -9,7 +9,6 @@ use Rattle.ghost_model.specs.Moves.{taken}
 use Rattle.ghost_model.specs.NextMove.{Awaits, Missing, Reply, Nothing, Ended, Heard, hear_all}
 use Rattle.ghost_model.specs.Lines.{Reason, IsRefused, WasBroken, WasAnswered, MetFault, ended_of, all_done}
 use Rattle.ghost_model.specs.Split.{hidden_of}
-use Rattle.channel_pump.specs.Forms.{are_known}
 use Rattle.channel_pump.specs.Progress.{Tells, ended_on}
 use Rattle.channel_pump.specs.declared.state.Event.{Event}
 use Rattle.channel_pump.specs.declared.state.Event.TheVariants as event_is
@@ -92,6 +91,8 @@ going_on stay reasons pages_told catalog texts journal more since now teller rep
     kept = kept;
     near = going.telling.near;
     pages = going.telling.pages;
+    calls = going.telling.calls;
+    called = going.telling.called;
     faults = going.telling.faults;
     prints = going.telling.prints;
     damaged = going.telling.damaged;
@@ -145,7 +146,6 @@ pub gone_on : EndedTextsStay → ReasonsStay → RepliesFit → (schema_text : L
     → ((made : Journal) → goes gone.journal → moves made → later (gone.journal ++ made))
     → IsAttended pages_told catalog texts gone.journal since now teller middle
     → Moved moves catalog at (asked_of catalog.schema texts) gone.journal event new_exchange
-    → are_known new_exchange.pump.rest ≡ true
     → ((after : Heard) (top : ℕ) → Tells catalog new_exchange.page event (heard_in catalog texts gone.journal) after
     → (leads_on event ≡ false → asked_in after.awaits ≡ asked_in (heard_in catalog texts gone.journal).awaits)
     → (event ≡ event_is.Welcome → asked_in (heard_in catalog texts gone.journal).awaits ≡ None)
@@ -154,13 +154,12 @@ pub gone_on : EndedTextsStay → ReasonsStay → RepliesFit → (schema_text : L
     → is_awaited ≡ is_some (asked_in (heard_in catalog texts gone.journal).awaits)
     → new_refusal ≡ or_else refusal (code_on is_awaited event)
     → HasGone later pages_told catalog at texts since now new_exchange teller new new_refusal
-gone_on stay reasons fit schema_text catalog meant goes moves later pages_told at texts since before now exchange new_exchange old teller replies middle new refusal new_refusal event is_awaited gone joins attended moved known hears awaited refusal_is =
+gone_on stay reasons fit schema_text catalog meant goes moves later pages_told at texts since before now exchange new_exchange old teller replies middle new refusal new_refusal event is_awaited gone joins attended moved hears awaited refusal_is =
     let more : Journal = moved.made ∷ [] in
     record {
       journal = gone.journal ++ more;
       went = joins more gone.went moved.went;
       live = moved.live;
-      known = known;
       going = going_on stay reasons pages_told catalog texts gone.journal more since now teller middle new attended.going
           (hears (heard_in catalog texts (gone.journal ++ more)) attended.going.top moved.tells moved.same_ask moved.greeting attended.begun
           (λ text. fit catalog schema_text texts (taken (gone.journal ++ more)) text meant) attended.going.telling.kept);
@@ -176,13 +175,12 @@ unfolding hear_all
 heard_none catalog texts = refl
 
 pub none_gone : (goes : Journal → Type 0) (pages_told : Bool) (catalog : Catalog) (at : List ℕ) (texts : List (List ℕ)) (since now : Outside) (exchange : Exchange) (teller : Teller) (replies : Replies)
-    → goes [] → IsLive catalog at (asked_of catalog.schema texts) [] exchange → are_known exchange.pump.rest ≡ true → IsGoing pages_told catalog texts [] since now teller replies
+    → goes [] → IsLive catalog at (asked_of catalog.schema texts) [] exchange → IsGoing pages_told catalog texts [] since now teller replies
     → HasGone goes pages_told catalog at texts since now exchange teller replies None
-none_gone goes pages_told catalog at texts since now exchange teller replies stays live known going = record {
+none_gone goes pages_told catalog at texts since now exchange teller replies stays live going = record {
   journal = [];
   went = stays;
   live = live;
-  known = known;
   going = going;
   refusal_is = sym (ap (λ (h : Heard). first_code h.ended) (heard_none catalog texts));
 }
@@ -194,7 +192,6 @@ attended_gone goes pages_told catalog at texts since before now exchange old tel
   journal = gone.journal;
   went = gone.went;
   live = gone.live;
-  known = gone.known;
   going = attended.going;
   refusal_is = gone.refusal_is;
 }

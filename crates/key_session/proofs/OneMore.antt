@@ -23,15 +23,16 @@ use Rattle.session_replies.specs.declared.replies.Replies.{Replies}
 use Rattle.key_lines.specs.Handing.{PiecesJoin}
 use Rattle.key_exec.specs.Reading.{Knows}
 use Rattle.text_lines.specs.Rows.{PrintsSome}
-use Rattle.text_lines.specs.Texts.{TellsText, ToldTells, ToldBlames, IsToldBy, Why}
+use Rattle.text_lines.specs.Texts.{TellsText, ToldTells, ToldCalls, ToldBlames, IsToldBy, Why}
 use Rattle.text_lines.specs.declared.text.Told.{Told}
 use Rattle.text_lines.specs.declared.text.Told.TheVariants as told
-use Rattle.key_session.specs.Counting.{damage_in, first_damage, reason_of, IsCounted, AreCounted, AreUndamaged}
+use Rattle.key_session.specs.Counting.{damage_in, first_damage, reason_of, IsCounted, AreUndamaged}
+use Rattle.key_session.specs.Damages.{AreKept}
 use Rattle.key_session.specs.Reasons.{HaveReasons, HasReason}
 use Rattle.key_session.specs.Telling.{Outside, IsTold, AreTold, AreLeft, CameOut, IsTelling}
 use Rattle.key_session.specs.declared.teller.Teller.{Teller}
 use Rattle.key_session.proofs.Coming.{told_so, done_so, all_is_done, reason_so}
-use Rattle.key_session.proofs.Adding.{one_told, one_reason, one_damage, next_of, next_number, left_more, some_more}
+use Rattle.key_session.proofs.Adding.{one_told, one_reason, one_damage, called_more, still_no_fall, next_of, next_number, left_more, some_more}
 
 -- the count of faults never falls, but for its last value
 never_falls : (since before now : ℕ) (result : Told) → min since last_count ≤ before → ToldTells before now result → min since last_count ≤ now
@@ -51,6 +52,7 @@ never_falls since before now result e tells = by result tells
 
 pub pages_stay : (since between now : Device) → KeepsPages since between → KeepsPages between now → KeepsPages since now
 pages_stay since between now first second = record {
+  name = second.name ∙ first.name;
   page_count = second.page_count ∙ first.page_count;
   page = second.page ∙ first.page;
   blank = second.blank ∙ first.blank;
@@ -76,22 +78,25 @@ pub tell_one : PiecesJoin → TextsAreDecided → StoredAreGiven → RepliesAsce
     → stored ≡ kept before (old.count + 1)
     → ((database : Database) → Knows pages_told between.flash.page catalog database → (state ≡ state_is.Done → are_ascending (replies_in stored) ≡ true)
     → TellsText catalog.schema (hidden_of catalog.schema database) (replies_in stored) (old.count + 1) written state between.sink now.sink result)
-    → PrintsSome between.sink now.sink → KeepsPages between.flash now.flash → ToldTells between.flash.faults now.flash.faults result
+    → PrintsSome between.sink now.sink → KeepsPages between.flash now.flash
+    → min between.flash.calls last_count ≤ now.flash.calls → ToldCalls between.flash.calls now.flash.calls result → ToldTells between.flash.faults now.flash.faults result
     → IsCounted (reason_of result) old.counts new.counts
     → IsToldBy catalog.schema written state result
     → new.counts.damage ≡ first_damage old.counts.damage (damage_in result) → ToldBlames pages_told now.flash.page catalog result
     → IsTelling pages_told catalog texts journal top since now new after
-tell_one join decided same ascend pages_told catalog texts journal top since between now old new before after written state stored result telling next more came kept_now is_state is_stored tells prints pages faults counted by first blames = record {
+tell_one join decided same ascend pages_told catalog texts journal top since between now old new before after written state stored result telling next more came kept_now is_state is_stored tells prints pages calls called faults counted by first blames = record {
   left = subst (λ (n : ℕ). AreLeft texts new.texts n) (sym more) (left_more texts old.count old.texts new.texts written telling.left next);
   kept = subst (λ (n : ℕ). IsKept catalog (heard_in catalog texts journal) (n + 1) top after) (sym more) kept_now;
   near = (let near : top ≤ old.count + 2 = telling.near in omega (arith, near, more));
   pages = pages_stay since.flash between.flash now.flash telling.pages pages;
+  calls = still_no_fall last_count since.flash.calls between.flash.calls now.flash.calls telling.calls calls;
+  called = called_more since.flash.calls between.flash.calls now.flash.calls old.counts new.counts result counted telling.calls telling.called calls called;
   faults = never_falls since.flash.faults between.flash.faults now.flash.faults result telling.faults faults;
   prints = some_more join since.sink between.sink now.sink telling.prints prints;
   damaged = one_damage pages_told since.flash.page catalog old.counts.damage new.counts.damage result first
-      (subst (λ (p : ℕ → List ℕ). ToldBlames pages_told p catalog result) (pages.page ∙ telling.pages.page) blames) telling.damaged;
-  reasons = subst (λ (n : ℕ). HaveReasons catalog texts journal n (λ reasons. AreCounted reasons new.counts) since.flash.faults now.flash.faults) (sym more)
-      (one_reason catalog texts journal old.count old.counts new.counts since.flash.faults between.flash.faults now.flash.faults result telling.reasons has_reason faults counted);
+      blames_now telling.damaged;
+  reasons = subst (λ (n : ℕ). HaveReasons catalog texts journal n (λ reasons. AreKept pages_told since.flash.page catalog reasons new.counts) since.flash.faults now.flash.faults) (sym more)
+      (one_reason pages_told since.flash.page catalog texts journal old.count old.counts new.counts since.flash.faults between.flash.faults now.flash.faults result telling.reasons has_reason faults counted first blames_now);
   told = λ database knows.
       let lines = tells database (subst (λ (p : ℕ → List ℕ). Knows pages_told p catalog database) (sym telling.pages.page) knows) ascends in
       subst (λ (n : ℕ). AreTold catalog (hidden_of catalog.schema database) texts journal n (λ reasons. AreUndamaged reasons new.counts) since now) (sym more)
@@ -99,6 +104,9 @@ tell_one join decided same ascend pages_told catalog texts journal top since bet
       (telling.told database knows) (is_told database lines) lines.handed faults counted);
 }
   where
+    blames_now : ToldBlames pages_told since.flash.page catalog result
+    blames_now = subst (λ (p : ℕ → List ℕ). ToldBlames pages_told p catalog result) (pages.page ∙ telling.pages.page) blames
+
     number : suc old.count ≡ old.count + 1
     number = sym (next_number old.count)
 

@@ -4,10 +4,12 @@ use Rattle.std.specs.Prelude.{min, if◌then◌else◌, count_by, is_err}
 use Rattle.std.specs.List.{list_any}
 use Rattle.std.proofs.lemmas.List.Sums.{sum_by-cons}
 use Rattle.ghost_model.specs.Causes.{Rose, last_count}
+use Rattle.ghost_model.specs.Values.{Database}
 use Rattle.ghost_model.specs.Channel.{Catalog, Journal}
 use Rattle.ghost_model.specs.Asks.{asked_of}
 use Rattle.ghost_model.specs.Lines.{Reason, IsRefused, WasBroken, WasAnswered, MetFault}
-use Rattle.ghost_model.specs.NextMove.{Left, Heard, left, IsFinished}
+use Rattle.ghost_model.specs.NextMove.{Left, Heard, left, IsProper, IsFinished}
+use Rattle.ghost_model.specs.Split.{hidden_of}
 use Rattle.edge_traits.specs.Devices.{KeepsPages}
 use Rattle.channel_pump.specs.Progress.{EndsAs}
 use Rattle.channel_pump.specs.State.{IsAfter}
@@ -20,13 +22,15 @@ use Rattle.session_laws.specs.TextCases.{TextsHaveOutcomes}
 use Rattle.session_replies.specs.Kept.{IsKept, none_heard}
 use Rattle.session_replies.specs.declared.replies.Replies.{Replies}
 use Rattle.key_lines.specs.Handing.{PiecesJoin}
+use Rattle.key_exec.specs.Reading.{Knows}
 use Rattle.text_lines.specs.Rows.{PrintsSome}
+use Rattle.key_session.specs.Answering.{AnswersWhereSound}
 use Rattle.key_session.specs.Counting.{AreCounted, is_refusal, is_flash}
 use Rattle.key_session.specs.Reasons.{IsReason, HasReason, is_refused_text}
 use Rattle.key_session.specs.Refusing.{first_code}
-use Rattle.key_session.specs.Telling.{Outside, AreLeft, CameOut, IsTelling, TellsOn}
+use Rattle.key_session.specs.Telling.{Outside, AreTold, AreLeft, CameOut, IsTelling, TellsOn}
 use Rattle.key_session.specs.Going.{IsGoing, HasGone}
-use Rattle.key_session.specs.Running.{HasRun, status_with, host_or, blames_flash, spares_flash}
+use Rattle.key_session.specs.Running.{HasRun, IsTally, status_with, host_or, blames_flash, spares_flash}
 use Rattle.key_session.specs.declared.teller.Teller.{Teller}
 use Rattle.key_session.specs.declared.counts.Counts.{Counts}
 use Rattle.key_session.specs.declared.counts.Damage.{Damage}
@@ -50,7 +54,9 @@ at_first join pages_told catalog texts since teller replies all none counts kept
     kept = subst (λ (n : ℕ). IsKept catalog (heard_in catalog texts []) (n + 1) 0 replies) (sym none)
         (subst (λ (h : Heard). IsKept catalog h 1 0 replies) (sym (heard_none catalog texts)) kept);
     near = omega arith;
-    pages = record { page_count = refl; page = refl; blank = refl };
+    pages = record { name = refl; page_count = refl; page = refl; blank = refl };
+    calls = omega arith;
+    called = λ e. absurd (none_failed (sym (ap (λ (c : Counts). c.by_flash) counts) ∙ e));
     faults = omega arith;
     prints = record { piece = []; handed = join.none since.sink };
     damaged = λ damage e. absurd (none_some damage (sym (ap (λ (c : Counts). c.damage) counts) ∙ e));
@@ -60,7 +66,10 @@ at_first join pages_told catalog texts since teller replies all none counts kept
       each = λ place reason e. cc;
       blamed = omega arith;
       unblamed = λ _. refl;
-      counted = none_counted;
+      counted = record {
+        counted = none_counted;
+        met = record { damages = []; by_reason = refl; each = λ place damage e. cc; first_is = ap (λ (c : Counts). c.damage) counts };
+      };
     };
     told = λ database knows. record {
       told = [];
@@ -76,6 +85,9 @@ at_first join pages_told catalog texts since teller replies all none counts kept
   onward = λ text un. omega arith;
 }
   where
+    none_failed : false ≡ true → ⊥
+    none_failed e = cc
+
     none_some : (damage : Damage) → None ≡ Some damage → ⊥
     none_some damage e = cc
 
@@ -170,6 +182,8 @@ pub record IsLast (went : Journal → Type 0) (link_before link_now : ℕ) (page
   pub many : tally.texts ≡ length texts
   pub prints : PrintsSome since.sink now.sink
   pub pages : KeepsPages since.flash now.flash
+  pub calls : min since.flash.calls last_count ≤ now.flash.calls
+  pub called : blames_flash tally.status ≡ true → Rose since.flash.calls now.flash.calls
   pub faults : min since.flash.faults last_count ≤ now.flash.faults
 
 -- what the status says of the flash
@@ -199,8 +213,12 @@ pub has_run : TextsHaveOutcomes → (went : Journal → Type 0) (link_before lin
     → ((journal : Journal) → IsAfter catalog (asked_of catalog.schema texts) journal exchange.pump → EndsAs (left catalog (asked_of catalog.schema texts) journal) cause)
     → tally.texts ≡ teller.count → tally.refused ≡ teller.counts.refused → tally.faulted ≡ teller.counts.faulted
     → ((session : Left) → EndsAs session cause → refusal ≡ first_code session.heard.ended → tally.status ≡ status_with now.sink.failed session teller.counts.by_flash teller.counts.damage)
+    → ((journal : Journal) → IsProper catalog at texts journal → IsFinished journal
+    → ((database : Database) → Knows pages_told since.flash.page catalog database
+    → AreTold catalog (hidden_of catalog.schema database) texts journal (length texts) (λ reasons. IsTally now.sink.failed (left catalog (asked_of catalog.schema texts) journal) reasons tally) since now)
+    → AnswersWhereSound pages_told catalog texts journal since now tally)
     → IsLast went link_before link_now pages_told catalog at texts since now tally
-has_run outcomes went link_before link_now pages_told catalog at texts since middle now exchange old teller replies new refusal cause tally gone finished tells none ends many refused faulted status = record {
+has_run outcomes went link_before link_now pages_told catalog at texts since middle now exchange old teller replies new refusal cause tally gone finished tells none ends many refused faulted status answers = record {
   ran = record {
     journal = gone.journal;
     went = gone.went.gone;
@@ -208,7 +226,7 @@ has_run outcomes went link_before link_now pages_told catalog at texts since mid
     short = gone.went.short;
     proper = gone.live.proper;
     finished = is_finished;
-    refused = refused ∙ last.reasons.counted.refused ∙ refusals_read catalog texts gone.journal last.reasons.reasons (last.reasons.as_many ∙ count) last.reasons.each;
+    refused = refused ∙ last.reasons.counted.counted.refused ∙ refusals_read catalog texts gone.journal last.reasons.reasons (last.reasons.as_many ∙ count) last.reasons.each;
     reasons = record {
       reasons = last.reasons.reasons;
       as_many = last.reasons.as_many ∙ count;
@@ -216,38 +234,29 @@ has_run outcomes went link_before link_now pages_told catalog at texts since mid
       blamed = last.reasons.blamed;
       unblamed = last.reasons.unblamed;
       counted = record {
-        refused = refused ∙ last.reasons.counted.refused;
-        faulted = faulted ∙ last.reasons.counted.faulted;
+        refused = refused ∙ last.reasons.counted.counted.refused;
+        faulted = faulted ∙ last.reasons.counted.counted.faulted;
         damage = teller.counts.damage;
-        found = last.reasons.counted.found;
-        status_is = status_is ∙ ap (λ (b : Bool). status_with now.sink.failed (left catalog (asked_of catalog.schema texts) gone.journal) b teller.counts.damage) last.reasons.counted.by_flash;
+        found = last.reasons.counted.counted.found;
+        first = last.reasons.counted.met;
+        status_is = status_is ∙ ap (λ (b : Bool). status_with now.sink.failed (left catalog (asked_of catalog.schema texts) gone.journal) b teller.counts.damage) last.reasons.counted.counted.by_flash;
       };
     };
     damaged = λ damage e.
         last.damaged damage
         (damaged_so now.sink.failed (left catalog (asked_of catalog.schema texts) gone.journal).stopped (left catalog (asked_of catalog.schema texts) gone.journal).heard.broken _ _ _ teller.counts.by_flash teller.counts.damage damage
         (sym status_is ∙ e));
-    told = λ database knows.
-        let are = last.told database knows in
-        record {
-          told = are.told;
-          as_many = are.as_many ∙ count;
-          each = are.each;
-          handed_on = are.handed_on;
-          blamed = are.blamed;
-          unblamed = are.unblamed;
-          counted = record {
-            refused = refused ∙ are.counted.counted.refused;
-            faulted = faulted ∙ are.counted.counted.faulted;
-            status_is = status_is
-                ∙ ap (λ (d : Option Damage). status_with now.sink.failed (left catalog (asked_of catalog.schema texts) gone.journal) teller.counts.by_flash d) are.counted.undamaged
-                ∙ ap (λ (b : Bool). status_with now.sink.failed (left catalog (asked_of catalog.schema texts) gone.journal) b None) are.counted.counted.by_flash;
-          };
-        };
+    told = told;
+    answered = answers gone.journal gone.live.proper is_finished told;
   };
   many = many ∙ count;
   prints = last.prints;
   pages = last.pages;
+  calls = last.calls;
+  called = λ e.
+      last.called
+      (blamed_so now.sink.failed (left catalog (asked_of catalog.schema texts) gone.journal).stopped (left catalog (asked_of catalog.schema texts) gone.journal).heard.broken _ _ _ teller.counts.by_flash teller.counts.damage
+      (ap blames_flash (sym status_is) ∙ e));
   faults = last.faults;
 }
   where
@@ -264,6 +273,26 @@ has_run outcomes went link_before link_now pages_told catalog at texts since mid
 
     count : teller.count ≡ length texts
     count = all_told texts teller.texts teller.count last.left none
+
+    told : (database : Database) → Knows pages_told since.flash.page catalog database
+        → AreTold catalog (hidden_of catalog.schema database) texts gone.journal (length texts) (λ reasons. IsTally now.sink.failed (left catalog (asked_of catalog.schema texts) gone.journal) reasons tally) since now
+    told database knows =
+        let are = last.told database knows in
+        record {
+          told = are.told;
+          as_many = are.as_many ∙ count;
+          each = are.each;
+          handed_on = are.handed_on;
+          blamed = are.blamed;
+          unblamed = are.unblamed;
+          counted = record {
+            refused = refused ∙ are.counted.counted.refused;
+            faulted = faulted ∙ are.counted.counted.faulted;
+            status_is = status_is
+                ∙ ap (λ (d : Option Damage). status_with now.sink.failed (left catalog (asked_of catalog.schema texts) gone.journal) teller.counts.by_flash d) are.counted.undamaged
+                ∙ ap (λ (b : Bool). status_with now.sink.failed (left catalog (asked_of catalog.schema texts) gone.journal) b None) are.counted.counted.by_flash;
+          };
+        }
 
 -- a claim of whether a write failed, at the first and at last
 pub as_said : (P : Bool → Bool → Type 0) (first last said : Bool) → first ≡ false → said ≡ last → P first last → P false said

@@ -1,5 +1,5 @@
 -- What is counted of the texts that were told, by the reasons for their lines.
-use Rattle.std.specs.Prelude.{◌≡◌, ℕ, ◌+◌, Bool, true, false, ◌||◌, List, count_by, if◌then◌else◌, Option, None, Some, is_some}
+use Rattle.std.specs.Prelude.{◌≡◌, ℕ, ◌+◌, Bool, true, false, ◌||◌, List, [], ◌∷◌, count_by, if◌then◌else◌, Option, None, Some, is_some}
 use Rattle.std.specs.List.{list_any}
 use Rattle.ghost_model.specs.Lines.{Reason, IsRefused, WasBroken, WasAnswered, MetFault, Fault, OnFlash, OnDamage}
 use Rattle.text_lines.specs.declared.text.Told.{Told}
@@ -65,6 +65,11 @@ damage_in (told.Damaged page slot found) = Some (record { page = page; slot = sl
 abbrev pub first_damage : Option Damage → Option Damage → Option Damage
 first_damage None later = later
 first_damage (Some damage) later = Some damage
+
+-- the first damage that one of some texts met
+abbrev pub first_of : List (Option Damage) → Option Damage
+first_of [] = None
+first_of (met ∷ later) = first_damage met (first_of later)
 
 -- one more text was counted
 pub record IsCounted (reason : Reason) (old new : Counts) : Type 0 where

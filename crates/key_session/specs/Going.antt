@@ -3,7 +3,6 @@ use Rattle.std.specs.Prelude.{◌≡◌, ℕ, ◌≤◌, ◌+◌, Bool, true, fa
 use Rattle.ghost_model.specs.Channel.{Catalog, Journal}
 use Rattle.ghost_model.specs.Asks.{Asked, asked_of}
 use Rattle.session_laws.specs.TextEnds.{heard_in, is_settled_in}
-use Rattle.channel_pump.specs.Forms.{are_known}
 use Rattle.channel_session.specs.Sessions.{IsLive, asked_in}
 use Rattle.channel_session.specs.declared.exchange.Exchange.{Exchange}
 use Rattle.session_replies.specs.declared.replies.Replies.{Replies}
@@ -29,7 +28,6 @@ pub record HasGone (goes : Journal → Type 0) (pages_told : Bool) (catalog : Ca
   pub journal : Journal
   pub went : goes journal
   pub live : IsLive catalog at (asked_of catalog.schema texts) journal exchange
-  pub known : are_known exchange.pump.rest ≡ true
   pub going : IsGoing pages_told catalog texts journal since now teller replies
   pub refusal_is : refusal ≡ first_code (heard_in catalog texts journal).ended
 
@@ -37,6 +35,6 @@ pub record HasGone (goes : Journal → Type 0) (pages_told : Bool) (catalog : Ca
 abbrev pub GoesFrom : (goes : Journal → Type 0) (pages_told : Bool) → Catalog → (at : List ℕ) → (before : Outside) → Exchange → Teller → Replies → (now : Outside) → Exchange → Teller → Replies → Option ℕ → Type 0
 GoesFrom goes pages_told catalog at before exchange teller replies now new_exchange new_teller new_replies refusal =
     (texts : List (List ℕ)) (since : Outside)
-    → IsLive catalog at (asked_of catalog.schema texts) [] exchange → are_known exchange.pump.rest ≡ true
+    → IsLive catalog at (asked_of catalog.schema texts) [] exchange
     → IsGoing pages_told catalog texts [] since before teller replies
     → HasGone goes pages_told catalog at texts since now new_exchange new_teller new_replies refusal

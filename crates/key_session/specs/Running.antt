@@ -11,9 +11,10 @@ use Rattle.ghost_model.specs.Split.{hidden_of}
 use Rattle.ghost_model.specs.Lines.{Reason}
 use Rattle.channel_pump.specs.State.{counted, bytes_before}
 use Rattle.channel_session.specs.Entries.{is_short_entry, FaultsTell}
-use Rattle.key_exec.specs.Blaming.{IsDamaged}
 use Rattle.key_exec.specs.Reading.{Knows}
+use Rattle.key_session.specs.Answering.{AnswersWhereSound}
 use Rattle.key_session.specs.Counting.{is_refusal, is_fault, is_flash, is_damage}
+use Rattle.key_session.specs.Damages.{IsSlot, MeetsFirst}
 use Rattle.key_session.specs.Reasons.{HaveReasons, is_refused_text}
 use Rattle.key_session.specs.Refusing.{first_code}
 use Rattle.key_session.specs.Telling.{Outside, AreTold}
@@ -73,12 +74,14 @@ status_with failed left by_flash damage =
 abbrev pub status_of : (failed : Bool) → Left → (by_flash : Bool) → SessionStatus
 status_of failed left by_flash = status_with failed left by_flash None
 
--- a tally of texts with these reasons, whatever the pages hold
-pub record IsTallied (failed : Bool) (session : Left) (reasons : List Reason) (tally : Tally) : Type 0 where
+-- a tally of texts with these reasons, whatever the pages hold: a status that names damage names that of the first text
+-- that it ended
+pub record IsTallied (pages_told : Bool) (page : ℕ → List ℕ) (catalog : Catalog) (failed : Bool) (session : Left) (reasons : List Reason) (tally : Tally) : Type 0 where
   pub refused : tally.refused ≡ count_by is_refusal reasons
   pub faulted : tally.faulted ≡ count_by is_fault reasons
   pub damage : Option Damage
   pub found : is_some damage ≡ list_any is_damage reasons
+  pub first : MeetsFirst pages_told page catalog reasons damage
   pub status_is : tally.status ≡ status_with failed session (list_any is_flash reasons) damage
 
 -- a tally of the texts that have their lines for these reasons
@@ -97,8 +100,10 @@ pub record HasRun (goes : Journal → Type 0) (link_before link_now : ℕ) (page
   pub finished : IsFinished journal
   pub refused : tally.refused ≡ count_by (is_refused_text catalog.schema) texts
   pub reasons : HaveReasons catalog texts journal (length texts)
-      (λ reasons. IsTallied now.sink.failed (left catalog (asked_of catalog.schema texts) journal) reasons tally) since.flash.faults now.flash.faults
-  pub damaged : (damage : Damage) → tally.status ≡ status.Damaged damage → IsDamaged pages_told since.flash.page catalog damage.page damage.slot damage.found
+      (λ reasons. IsTallied pages_told since.flash.page catalog now.sink.failed (left catalog (asked_of catalog.schema texts) journal) reasons tally) since.flash.faults now.flash.faults
+  pub damaged : (damage : Damage) → tally.status ≡ status.Damaged damage → IsSlot pages_told since.flash.page catalog damage
   pub told : (database : Database) → Knows pages_told since.flash.page catalog database
       → AreTold catalog (hidden_of catalog.schema database) texts journal (length texts)
       (λ reasons. IsTally now.sink.failed (left catalog (asked_of catalog.schema texts) journal) reasons tally) since now
+  -- an honest host, pages that hold and no fault: all is printed, and the status is Ok
+  pub answered : AnswersWhereSound pages_told catalog texts journal since now tally

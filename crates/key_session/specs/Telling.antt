@@ -1,9 +1,9 @@
 -- What a session told of its texts: the lines of each text from the front of its script, each for a reason that the
 -- definitions know. A fault of the flash is a reason only as often as the flash failed, and damage never where its pages
 -- are those of a database.
-use Rattle.std.specs.Prelude.{◌≡◌, ℕ, suc, ◌+◌, ◌≤◌, min, Bool, false, List, length, drop, map, flat_map, count_by, slice_get, Option, Some, Ok}
+use Rattle.std.specs.Prelude.{◌≡◌, ℕ, suc, ◌+◌, ◌≤◌, min, Bool, true, false, List, length, drop, map, flat_map, count_by, slice_get, Option, Some, Ok}
 use Rattle.std.specs.List.{concat, list_any}
-use Rattle.ghost_model.specs.Causes.{last_count}
+use Rattle.ghost_model.specs.Causes.{Rose, last_count}
 use Rattle.ghost_model.specs.Values.{Database}
 use Rattle.ghost_model.specs.Query.{Query}
 use Rattle.ghost_model.specs.QueryReading.{reading}
@@ -19,10 +19,10 @@ use Rattle.session_laws.specs.TextCases.{Outcome}
 use Rattle.key_lines.specs.Handing.{Handed, Hands, handed}
 use Rattle.session_replies.specs.Kept.{IsKept}
 use Rattle.session_replies.specs.declared.replies.Replies.{Replies}
-use Rattle.key_exec.specs.Blaming.{IsDamaged}
 use Rattle.key_exec.specs.Reading.{Knows}
 use Rattle.text_lines.specs.Rows.{PrintsSome}
-use Rattle.key_session.specs.Counting.{is_flash, is_damage, AreCounted, AreUndamaged}
+use Rattle.key_session.specs.Counting.{is_flash, is_damage, AreUndamaged}
+use Rattle.key_session.specs.Damages.{IsSlot, AreKept}
 use Rattle.key_session.specs.Reasons.{HaveReasons}
 use Rattle.key_session.specs.declared.counts.Damage.{Damage}
 use Rattle.key_session.specs.declared.teller.Teller.{Teller}
@@ -85,11 +85,13 @@ pub record IsTelling (pages_told : Bool) (catalog : Catalog) (texts : List (List
   pub kept : IsKept catalog (heard_in catalog texts journal) (teller.count + 1) top replies
   pub near : top ≤ teller.count + 2
   pub pages : KeepsPages since.flash now.flash
-  -- at its last value the count stays
+  -- at its last value a count stays
+  pub calls : min since.flash.calls last_count ≤ now.flash.calls
+  pub called : teller.counts.by_flash ≡ true → Rose since.flash.calls now.flash.calls
   pub faults : min since.flash.faults last_count ≤ now.flash.faults
   pub prints : PrintsSome since.sink now.sink
-  pub damaged : (damage : Damage) → teller.counts.damage ≡ Some damage → IsDamaged pages_told since.flash.page catalog damage.page damage.slot damage.found
-  pub reasons : HaveReasons catalog texts journal teller.count (λ reasons. AreCounted reasons teller.counts) since.flash.faults now.flash.faults
+  pub damaged : (damage : Damage) → teller.counts.damage ≡ Some damage → IsSlot pages_told since.flash.page catalog damage
+  pub reasons : HaveReasons catalog texts journal teller.count (λ reasons. AreKept pages_told since.flash.page catalog reasons teller.counts) since.flash.faults now.flash.faults
   pub told : (database : Database) → Knows pages_told since.flash.page catalog database
       → AreTold catalog (hidden_of catalog.schema database) texts journal teller.count (λ reasons. AreUndamaged reasons teller.counts) since now
 

@@ -5,8 +5,11 @@
 #![tactic(auto)]
 
 mod counts;
+pub mod options;
 mod refusing;
 pub mod session;
+#[cfg(test)]
+mod stream_tests;
 pub mod tally;
 mod teller;
 mod telling;
@@ -14,5 +17,6 @@ mod telling;
 mod tests;
 
 pub use counts::Damage;
+pub use options::Options;
 pub use session::run_session;
 pub use tally::{SessionStatus, Tally};

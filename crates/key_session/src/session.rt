@@ -14,6 +14,7 @@ ghost use Rattle.key_session.specs.Going.{GoesFrom};
 ghost use Rattle.key_session.specs.Running.{HasRun, is_sink, blames_flash, spares_flash};
 ghost use Rattle.key_session.specs.Telling.{outside};
 
+use crate::options::Options;
 use crate::refusing::first_refusal;
 use crate::tally::{Tally, status};
 use crate::teller::Teller;
@@ -23,13 +24,16 @@ use channel_session::laws::{closed_is_finished, moves_join};
 use edge_traits::flash::Flash;
 use edge_traits::link::Link;
 use edge_traits::sink::Sink;
+use flash_layout::limits::a_catalog_has_a_layout;
 use key_lines::printer::pieces_join;
 use reply_laws::stores::replies_fit;
+use script_asks::laws::asks_are_few;
+use session_laws::honest_sessions::{honest_lines_are_printed, honest_sessions_are_smooth};
 use session_laws::text_cases::texts_have_outcomes;
 use session_laws::text_ends::{ended_texts_stay, reasons_stay};
 use session_replies::Replies;
 use tree_schema::Catalog;
-use tree_schema::catalog_bytes::a_catalog_is_short;
+use tree_schema::catalog_bytes::{a_catalog_is_short, catalogs_are_bytes};
 
 /// Makes the moves of a session to the host at the address `at`, up to its close, and tells the texts that it can tell in
 /// between. Answers the code of the first ask that the host refused.
@@ -69,30 +73,33 @@ fn converse<F: Flash, L: Link, O: Sink>(
     }
 }
 
-/// Runs the session of a script, which has at most 64 texts, with the host at the address `at`, and prints the lines of each
-/// text: the replies of the host and the key's own flash answer it.
+/// Runs the session of a script, which has at most 64 texts, with the host at the options' address, and prints the lines of
+/// each text: the replies of the host and the key's own flash answer it.
 ///
 /// The replies are kept in stores that are empty at first. After a failed write no further line is printed, but the session
 /// goes on to its end.
 pub fn run_session<F: Flash, L: Link, O: Sink>(
     cat: &Catalog,
     script: &[u8],
-    at: &str,
+    options: &Options<'_>,
     replies: &mut Replies,
     flash: &mut F,
     link: &mut L,
     out: &mut O,
 ) -> Tally
     requires few { length (texts_of script.now) ≤ 64 }
+    requires pace { options.now.pace ≡ 0 }
     requires suffices { Suffices cat.now (F.state flash.old) }
     requires replies { IsKept cat.now (none_heard cat.now) 1 0 replies.old }
-    ensures ran { HasRun (λ journal. L.went link.old journal link.new) (L.faults link.old) (L.faults link.new) F.told cat.now at.now (texts_of script.now)
+    ensures ran { HasRun (λ journal. L.went link.old journal link.new) (L.faults link.old) (L.faults link.new) F.told cat.now options.now.at.now (texts_of script.now)
         (outside false (O.faults out.old) (O.written out.old) (F.state flash.old)) (outside (is_sink result.status) (O.faults out.new) (O.written out.new) (F.state flash.new)) result }
     ensures texts { result.texts ≡ length (texts_of script.now) }
     ensures prints { PrintsSome (handed false (O.faults out.old) (O.written out.old)) (handed (is_sink result.status) (O.faults out.new) (O.written out.new)) }
     ensures sink_rose { is_sink result.status ≡ true → Rose (O.faults out.old) (O.faults out.new) }
     ensures sink_same { is_sink result.status ≡ false → O.faults out.new ≡ O.faults out.old }
     ensures pages { KeepsPages (F.state flash.old) (F.state flash.new) }
+    ensures flash_calls { min (F.state flash.old).calls last_count ≤ (F.state flash.new).calls }
+    ensures flash_called { blames_flash result.status ≡ true → Rose (F.state flash.old).calls (F.state flash.new).calls }
     ensures flash_faults { min (F.state flash.old).faults last_count ≤ (F.state flash.new).faults }
     ensures flash_rose { blames_flash result.status ≡ true → Rose (F.state flash.old).faults (F.state flash.new).faults }
     ensures flash_same { spares_flash result.status ≡ true → (F.state flash.new).faults ≡ (F.state flash.old).faults }
@@ -101,11 +108,17 @@ pub fn run_session<F: Flash, L: Link, O: Sink>(
     pieces_join();
     closed_is_finished();
     texts_have_outcomes();
+    a_catalog_is_short(cat);
+    a_catalog_has_a_layout(cat);
+    catalogs_are_bytes();
+    asks_are_few();
+    honest_sessions_are_smooth();
+    honest_lines_are_printed();
     let mut exchange = Exchange::begin(Pump::begin(cat, script));
-    let mut teller = Teller::new(script);
+    let mut teller = Teller::new(script, options.plan);
     let refusal = converse(
         cat,
-        at,
+        options.at,
         &mut exchange,
         &mut teller,
         replies,

@@ -3,7 +3,7 @@
 ghost use Rattle.std.specs.Prelude.{◌≡◌, ◌<◌, ◌≤◌, ◌+◌, ℕ, List, [], true, false, length};
 ghost use Rattle.ghost_model.specs.Channel.{Journal};
 ghost use Rattle.ghost_model.specs.Asks.{asked_of};
-ghost use Rattle.channel_pump.specs.State.{IsAfter, KnowsAsks};
+ghost use Rattle.channel_pump.specs.State.{IsAfter};
 ghost use Rattle.key_exec.specs.Plans.{Suffices};
 ghost use Rattle.key_session.specs.Going.{IsGoing, IsAttended};
 ghost use Rattle.key_session.specs.Telling.{Outside, outside, CameOut, TellsOn};
@@ -56,6 +56,7 @@ impl<'a> Teller<'a> {
             &mut self.printer,
             out,
             cat,
+            self.plan,
             number,
             text,
             state,
@@ -122,7 +123,7 @@ impl<'a> Teller<'a> {
         requires suffices { Suffices cat.now (F.state flash.old) }
         ensures suffices { Suffices cat.now (F.state flash.new) }
         ensures attended { (texts : List (List ℕ)) (journal : Journal) (since : Outside)
-            → IsAfter cat.now (asked_of cat.now.schema texts) journal pump.now → KnowsAsks pump.now
+            → IsAfter cat.now (asked_of cat.now.schema texts) journal pump.now
             → IsGoing F.told cat.now texts journal since (outside self.old.printer.failed (O.faults out.old) (O.written out.old) (F.state flash.old)) self.old replies.old
             → IsAttended F.told cat.now texts journal since (outside self.new.printer.failed (O.faults out.new) (O.written out.new) (F.state flash.new)) self.new replies.new }
     {

@@ -98,6 +98,16 @@ ToldTells before now told.Protocol = now ≡ before
 ToldTells before now told.Flash = Rose before now
 ToldTells before now (told.Damaged page slot found) = now ≡ before
 
+-- a flash that is blamed was called
+abbrev pub ToldCalls : (before now : ℕ) → Told → Type 0
+ToldCalls before now told.Refused = ⊤
+ToldCalls before now told.Answered = ⊤
+ToldCalls before now told.Host = ⊤
+ToldCalls before now told.Link = ⊤
+ToldCalls before now told.Protocol = ⊤
+ToldCalls before now told.Flash = Rose before now
+ToldCalls before now (told.Damaged page slot found) = ⊤
+
 -- why a text is told so, whatever the pages of the flash hold: its reading, and the state of its replies
 pub record IsRefusedText (schema : Schema) (text : List ℕ) : Type 0 where
   pub refusal : Refusal

@@ -1,14 +1,15 @@
 //! The lines of rows.
 
-ghost use Rattle.std.specs.Prelude.{◌≡◌, true, map};
+ghost use Rattle.std.specs.Prelude.{◌≡◌, ◌≤◌, true, false, map, min};
+ghost use Rattle.ghost_model.specs.Causes.{last_count};
 ghost use Rattle.ghost_model.specs.Values.{Database};
 ghost use Rattle.edge_traits.specs.Devices.{KeepsPages};
 ghost use Rattle.key_lines.specs.Handing.{handed};
 ghost use Rattle.reply_store.specs.Stored.{replies_in, are_ascending};
 ghost use Rattle.key_exec.specs.Plans.{Suffices};
 ghost use Rattle.key_exec.specs.Reading.{Knows};
-ghost use Rattle.key_exec.specs.Jobs.{rows_left};
-ghost use Rattle.text_lines.specs.Rows.{GivesEnd, PrintsSome, EndTells, EndBlames};
+ghost use Rattle.key_exec.specs.Jobs.{is_over, rows_left};
+ghost use Rattle.text_lines.specs.Rows.{GivesEnd, PrintsSome, EndTells, EndCalls, EndBlames};
 
 use edge_traits::flash::Flash;
 use edge_traits::sink::Sink;
@@ -36,6 +37,7 @@ pub(crate) fn print_rows<F: Flash, O: Sink>(
     flash: &mut F,
     store: &ReplyStore,
 ) -> End
+    requires going { is_over job.old ≡ false }
     requires suffices { Suffices job.old.cat (F.state flash.old) }
     ensures rows { (database : Database) → Knows F.told (F.state flash.old).page job.old.cat database → are_ascending (replies_in store.now.stored) ≡ true
         → GivesEnd (rows_left job.old database (replies_in store.now.stored)) job.old.given
@@ -43,6 +45,8 @@ pub(crate) fn print_rows<F: Flash, O: Sink>(
     ensures prints { PrintsSome (handed printer.old.failed (O.faults out.old) (O.written out.old)) (handed printer.new.failed (O.faults out.new) (O.written out.new)) }
     ensures kept { KeepsPages (F.state flash.old) (F.state flash.new) }
     ensures faults { EndTells (F.state flash.old).faults (F.state flash.new).faults result }
+    ensures calls_stay { min (F.state flash.old).calls last_count ≤ (F.state flash.new).calls }
+    ensures called { EndCalls (F.state flash.old).calls (F.state flash.new).calls result }
     ensures blames { EndBlames F.told (F.state flash.new).page job.old.cat result }
 {
     pieces_join();

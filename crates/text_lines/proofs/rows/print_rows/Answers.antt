@@ -9,7 +9,8 @@ use Rattle.text_lines.proofs.rows.print_rows.Goals as goal
 pub rows-init : goal.rows-init
 rows-init g c = (
   at_first c.pieces_join.ensures g.F.Flash.told (g.F.Flash.state c.args.flash.now) c.args.job.now (replies_in c.args.store.now.stored)
-      (handed c.args.printer.now.failed (g.O.Sink.faults c.args.out.now) (g.O.Sink.written c.args.out.now)),
+      (handed c.args.printer.now.failed (g.O.Sink.faults c.args.out.now) (g.O.Sink.written c.args.out.now))
+      c.requires.going,
   c.none-pages.ensures.held g.F.Flash.told (g.F.Flash.state c.args.flash.now).page,
 )
 
@@ -21,7 +22,7 @@ rows-preserved g c = (
       (handed c.rows.printer.failed (g.O.Sink.faults c.rows.out) (g.O.Sink.written c.rows.out))
       (handed c.row.new.self.failed (g.O.Sink.faults c.row.new.out) (g.O.Sink.written c.row.new.out))
       (map value_of c.slice.new.row.items) (map value_of c.as_slice.result.now) c.rows.invariant.0 c.in-Line.ensures.gives c.slice.ensures.cat c.in-Line.ensures.given
-      c.slice.ensures.kept c.in-Line.ensures.faults (ap (map value_of) c.as_slice.ensures.value) c.row.ensures.handed,
+      c.slice.ensures.kept c.in-Line.ensures.faults c.in-Line.ensures.over c.slice.ensures.never_falls (ap (map value_of) c.as_slice.ensures.value) c.row.ensures.handed,
   c.slice.ensures.held,
 )
 

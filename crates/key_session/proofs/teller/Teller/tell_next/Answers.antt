@@ -12,5 +12,5 @@ returns-clause-told g c = λ texts journal top since after came telling.
     (c.leave_earlier.ensures.kept c.args.cat.now (heard_in c.args.cat.now texts journal) top (omega arith) (omega (arith, near)) telling.kept)
     (c.reply_state-state.ensures c.args.cat.now _ journal after)
     (c.store.ensures.stored ∙ c.leave_earlier.ensures.stored)
-    c.print_text-told.ensures.lines c.print_text-told.ensures.prints c.print_text-told.ensures.kept c.print_text-told.ensures.faults c.add.ensures.counted c.print_text-told.ensures.told
+    c.print_text-told.ensures.lines c.print_text-told.ensures.prints c.print_text-told.ensures.kept c.print_text-told.ensures.calls_stay c.print_text-told.ensures.called c.print_text-told.ensures.faults c.add.ensures.counted c.print_text-told.ensures.told
     c.add.ensures.first c.print_text-told.ensures.blames

@@ -1,0 +1,14 @@
+//! What a session is told beside its script.
+
+use leakless_plan::Plan;
+
+/// Where the host is, and how the key works.
+#[derive(Clone, Copy, Debug)]
+pub struct Options<'a> {
+    /// The address of the host: empty where it stands in the same process.
+    pub at: &'a str,
+    /// The plan by which each text is answered.
+    pub plan: Plan,
+    /// How much work is done between two moves: 0 as long as texts are answered whole.
+    pub pace: u32,
+}
