@@ -1,2 +1,5 @@
+pub mod Fields
+pub mod Placing
 pub mod ReadFiles
+pub mod Showing
 pub mod Telling

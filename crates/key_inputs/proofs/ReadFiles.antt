@@ -1,5 +1,6 @@
 -- The tables' files while they are read one after another.
-use Rattle.std.proofs.Common.{◌≡◌, ℕ, zero, suc, ◌+◌, ◌<◌, ◌≤◌, List, [], ◌∷◌, ◌++◌, length, drop, slice_get, Option, Some, refl, sym, ap, ◌∙◌, subst, append_assoc, append-nil, arith}
+use Rattle.std.proofs.Common.{◌≡◌, ℕ, zero, suc, ◌+◌, ◌<◌, ◌≤◌, List, [], ◌∷◌, ◌++◌, length, map as each, drop, slice_get, Option, Some, refl, sym, ap, ◌∙◌, subst, append_assoc, append-nil, arith}
+use Rattle.std.proofs.lemmas.List.{map-append}
 use Rattle.std.specs.FinMap as map
 use Rattle.ghost_model.specs.Schema.{Schema, Table, columns_or_none, columns_of}
 use Rattle.ghost_model.specs.Values.{Rows, Database}
@@ -7,7 +8,7 @@ use Rattle.ghost_model.specs.LoadFaults.{file_faults, files_faults}
 use Rattle.ghost_model.specs.Database.{database_of, rows_spelled}
 use Rattle.edge_traits.specs.Files.{Files, HasFile}
 use Rattle.key_inputs.specs.Openings.{on_table, unless_broken, table_file, tables_from}
-use Rattle.key_inputs.specs.Views.{ReadsTable, ReadsFiles, name_or_none, name_at, opening_at}
+use Rattle.key_inputs.specs.Views.{ReadsTable, ReadsFiles, file_for, name_or_none, name_at, opening_at}
 
 -- the files of the tables before a place were read, and keep every rule
 pub record ReadSoFar (contents : Option Files) (folder : List ℕ) (schema : Schema) (i : ℕ) (tables : Database) : Type 0 where
@@ -17,6 +18,7 @@ pub record ReadSoFar (contents : Option Files) (folder : List ℕ) (schema : Sch
   pub faults : (later : List (List ℕ)) → files_faults 0 schema (read ++ later) ≡ files_faults i (drop i schema) later
   pub spelled : (later : List (List ℕ)) → database_of schema (read ++ later) ≡ tables ++ database_of (drop i schema) later
   pub told : (files : Files) → contents ≡ Some files → tables_from files folder schema 0 schema [] ≡ tables_from files folder schema i (drop i schema) read
+  pub found : (files : Files) → contents ≡ Some files → each (file_for files folder) schema ≡ each Some read ++ each (file_for files folder) (drop i schema)
 
 -- what the reading keeps of the depot
 pub record Keeps (contents_before contents_now : Option Files) (faults_before faults_now appends_before appends_now : ℕ) : Type 0 where
@@ -42,6 +44,7 @@ nothing_read contents folder schema = record {
   faults = λ later. refl;
   spelled = λ later. refl;
   told = λ files h. refl;
+  found = λ files h. refl;
 }
 
 -- the opening at a place
@@ -65,6 +68,7 @@ file_read contents folder schema i tables now rows so_far within one pushed =
     let t = table_there schema i within in
     let columns : columns_of schema i ≡ t.0.columns = ap columns_or_none t.1 in
     let clean : file_faults i t.0.columns one.file ≡ [] = ap (λ c. file_faults i c one.file) (sym columns) ∙ one.clean in
+    let left = λ (files : Files). each (file_for files folder) (drop (i + 1) schema) in
     let spelled : rows ≡ rows_spelled t.0.columns one.file = one.spelled ∙ ap (λ c. rows_spelled c one.file) columns in
     record {
       read = so_far.read ++ one.file ∷ [];
@@ -87,6 +91,14 @@ file_read contents folder schema i tables now rows so_far within one pushed =
           so_far.told files h ∙ at_table files folder schema i so_far.read within
           ∙ ap (on_table (λ bytes. tables_from files folder schema (i + 1) (drop (i + 1) schema) (so_far.read ++ bytes ∷ [])) (file_faults i (columns_of schema i))) found
           ∙ ap (unless_broken (tables_from files folder schema (i + 1) (drop (i + 1) schema) (so_far.read ++ one.file ∷ []))) one.clean;
+      found = λ files h.
+          let there : HasFile (Some files) (table_file folder (name_at schema i)) one.file = subst (λ c. HasFile c (table_file folder (name_at schema i)) one.file) h one.read in
+          let named : file_for files folder t.0 ≡ Some one.file = ap (λ (o : Option Table). map.get files (table_file folder (name_or_none o))) (sym t.1) ∙ there in
+          so_far.found files h
+          ∙ ap (λ (later : List Table). each Some so_far.read ++ each (file_for files folder) later) t.2
+          ∙ ap (λ (file : Option (List ℕ)). each Some so_far.read ++ (file ∷ left files)) named
+          ∙ sym (append_assoc (each Some so_far.read) (Some one.file ∷ []) (left files))
+          ∙ ap (λ front. front ++ left files) (sym (map-append Some so_far.read (one.file ∷ [])));
     }
   where
     length-snoc : (xs : List (List ℕ)) (x : List ℕ) → length (xs ++ x ∷ []) ≡ length xs + 1
@@ -112,6 +124,9 @@ all_read contents folder schema i tables so_far past =
       clean = ap (files_faults 0 schema) (sym (append-nil so_far.read)) ∙ so_far.faults [] ∙ ap (λ left. files_faults i left []) none;
       spelled = append_nil_sym tables ∙ ap (λ left. tables ++ database_of left []) (sym none) ∙ sym (so_far.spelled []) ∙ ap (database_of schema) (append-nil so_far.read);
       told = λ files h. so_far.told files h ∙ ap (λ left. tables_from files folder schema i left so_far.read) none;
+      files_read = λ files h.
+          so_far.found files h ∙ ap (λ (left : List Table). each Some so_far.read ++ each (file_for files folder) left) none
+          ∙ append-nil (each Some so_far.read);
     }
   where
     append_nil_sym : (tables : Database) → tables ≡ tables ++ []

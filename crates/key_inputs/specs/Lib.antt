@@ -1,3 +1,5 @@
+pub mod Naming
 pub mod Openings
+pub mod Rules
 pub mod Scripts
 pub mod Views

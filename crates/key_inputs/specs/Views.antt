@@ -1,29 +1,29 @@
 -- What the results of an opening tell.
-use Rattle.std.specs.Prelude.{◌≡◌, ℕ, List, [], length, slice_get, Option, Some, None, Result, Ok, Err, ⊤}
+use Rattle.std.specs.Prelude.{◌≡◌, ℕ, List, [], length, slice_get, map as each, Option, Some, None, Result, Ok, Err, ⊤}
 use Rattle.std.specs.FinMap as map
 use Rattle.ghost_model.specs.LoadFaults as load
 use Rattle.ghost_model.specs.Database.{database_of, rows_spelled}
 use Rattle.ghost_model.specs.Schema.{Schema, Table, Column, columns_of}
 use Rattle.ghost_model.specs.Values.{Rows, Database}
-use Rattle.tree_schema.specs.Faults.{fault_of}
-use Rattle.csv_split.specs.Faults.{told}
 use Rattle.edge_traits.specs.Files.{Files, HasFile}
 use Rattle.key_inputs.specs.Openings.{InputFault, SchemaBytes, SchemaRule, TableRule, ScriptBytes, ScriptTexts, Opening, Spelled, Broken, TablesInput, on_table, table_file, after_tables, tables_from, tables_opening}
+use Rattle.key_inputs.specs.Rules.{schema_rule, table_rule}
 use Rattle.key_inputs.specs.declared.faults.InputFault.{InputFault as Fault}
 use Rattle.key_inputs.specs.declared.faults.InputFault.TheVariants as fault
 use Rattle.key_inputs.specs.declared.faults.OpenFault.{OpenFault}
 use Rattle.key_inputs.specs.declared.faults.OpenFault.TheVariants as open_fault
 use Rattle.key_inputs.specs.declared.opening.Input.{Input}
 
--- the broken rule that a fault tells
+-- the rule of a table's file that is broken, where one is
 abbrev pub rule_or : Option load.LoadFault → Option InputFault
 rule_or None = None
 rule_or (Some rule) = Some (TableRule rule)
 
+-- the broken rule that a fault tells: its numbers, whatever names it shows
 abbrev pub rule_of : Fault → Option InputFault
 rule_of fault.SchemaBytes = Some SchemaBytes
-rule_of (fault.Schema other) = Some (SchemaRule (fault_of other))
-rule_of (fault.Table other) = rule_or (told other)
+rule_of (fault.Schema other) = Some (SchemaRule (schema_rule other))
+rule_of (fault.Table other) = Some (TableRule (table_rule other))
 rule_of fault.ScriptBytes = Some ScriptBytes
 rule_of fault.ScriptTexts = Some ScriptTexts
 
@@ -62,6 +62,14 @@ pub record ReadsTable (contents : Option Files) (name : List ℕ) (columns : Lis
   pub clean : load.file_faults table columns file ≡ []
   pub spelled : rows ≡ rows_spelled columns file
 
+-- the file of a table
+abbrev pub file_for : Files → (folder : List ℕ) → Table → Option (List ℕ)
+file_for files folder declared = map.get files (table_file folder declared.name)
+
+-- these are the files of a schema's tables, in their order
+abbrev pub AreFiles : Files → (folder : List ℕ) → Schema → (read : List (List ℕ)) → Type 0
+AreFiles files folder schema read = each (file_for files folder) schema ≡ each Some read
+
 -- the files of all tables were read, and keep every rule but, perhaps, that of foreign keys
 pub record ReadsFiles (contents : Option Files) (folder : List ℕ) (schema : Schema) (tables : Database) : Type 0 where
   pub read : List (List ℕ)
@@ -69,6 +77,7 @@ pub record ReadsFiles (contents : Option Files) (folder : List ℕ) (schema : Sc
   pub clean : load.files_faults 0 schema read ≡ []
   pub spelled : tables ≡ database_of schema read
   pub told : (files : Files) → contents ≡ Some files → tables_from files folder schema 0 schema [] ≡ after_tables schema read
+  pub files_read : (files : Files) → contents ≡ Some files → AreFiles files folder schema read
 
 -- after a schema was read the tables' files are left
 abbrev pub OpensSchema : Files → (name folder : List ℕ) → Result Schema OpenFault → Type 0

@@ -1,8 +1,8 @@
 //! Why an input was not read.
 
-use csv_split::LoadFault;
+use crate::broken_schema::BrokenSchema;
+use crate::broken_table::BrokenTable;
 use thiserror::Error;
-use tree_schema::SchemaFault;
 
 /// A broken rule of an input.
 #[derive(Clone, Copy, Debug, Drop, Error, PartialEq, Eq)]
@@ -13,11 +13,11 @@ pub enum InputFault {
 
     /// The schema breaks a rule.
     #[error("the schema: {0}")]
-    Schema(SchemaFault),
+    Schema(BrokenSchema),
 
     /// A table's file breaks a rule.
     #[error("{0}")]
-    Table(LoadFault),
+    Table(BrokenTable),
 
     /// The script's file is too long.
     #[error("the script has more than 65536 bytes")]

@@ -4,13 +4,22 @@
 //! `docs/QUERIES.md` state the rules.
 #![tactic(auto)]
 
+pub mod broken_schema;
+pub mod broken_table;
 pub mod faults;
+mod field_values;
 pub mod names;
+mod naming;
 pub mod opening;
+mod schema_names;
 pub mod script;
+pub mod shown;
 #[cfg(test)]
 mod tests;
 
+pub use broken_schema::{BrokenSchema, ColumnNamed, TableNamed};
+pub use broken_table::{BrokenTable, FieldNamed, RecordNamed};
 pub use faults::{InputFault, OpenFault};
 pub use opening::{Input, open_tables};
 pub use script::open_script;
+pub use shown::{Front, Shown};

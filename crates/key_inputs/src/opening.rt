@@ -1,20 +1,23 @@
 //! The reading of inputs.
 
-ghost use Rattle.std.specs.Prelude.{◌≡◌, ◌≤◌, ◌<◌, ℕ, true, List, [], Some, Err, IfOk, IfErr, MatchResult, is_some, length, string_bytes};
+ghost use Rattle.std.specs.Prelude.{◌≡◌, ◌≤◌, ◌<◌, ◌^◌, ℕ, true, List, [], Some, Err, IfOk, IfErr, MatchResult, is_some, length, string_bytes};
 ghost use Rattle.ghost_model.specs.Causes.{Rose};
 ghost use Rattle.ghost_model.specs.Database as database;
 ghost use Rattle.edge_traits.specs.Files.{Files};
 ghost use Rattle.key_inputs.specs.Openings.{tables_opening, tables_from};
-ghost use Rattle.key_inputs.specs.Views.{OpensTables, OpensSchema, ReadsFiles, ReadsTable, Tells, TellsRule, rule_in, rule_of, rule_or, name_at, opening_at};
+ghost use Rattle.key_inputs.specs.Naming.{IsNamedBy, IsNamedIn, IsShownBy, IsSpelledIn, OfKey, OfTable, ShowsKey};
+ghost use Rattle.key_inputs.specs.Views.{OpensTables, OpensSchema, ReadsFiles, ReadsTable, Tells, TellsRule, rule_in, rule_of, name_at, opening_at};
 ghost use Rattle.ghost_model.specs.LoadFaults as load;
 ghost use Rattle.ghost_model.specs.Schema as schemas;
-ghost use Rattle.csv_split.specs.Faults.{told};
 ghost use Rattle.key_inputs.specs.Openings as openings;
 ghost use Rattle.key_inputs.specs.Openings.{Opening, TablesInput};
 
+use crate::broken_table::{BrokenTable, RecordNamed};
 use crate::faults::{InputFault, OpenFault};
 use crate::names::table_file;
-use csv_split::{LoadFault, Place, Table, Tables, check_references, read_table};
+use crate::naming::{fault_of_file, fault_of_keys, table_name};
+use crate::schema_names::broken_in;
+use csv_split::{Place, Table, Tables, check_references, read_table};
 use edge_traits::depot::Depot;
 use edge_traits::reading::{ReadFault, read_file};
 use ghost_base::limits::MAX_CSV;
@@ -46,6 +49,7 @@ pub fn open_tables<D: Depot>(
     ensures opened { (files : Files) → D.contents depot.old ≡ Some files → OpensTables (tables_opening files schema.now folder.now) result }
     ensures database { IfOk result (λ input. database.IsDatabase input.schema input.tables) }
     ensures rule { (fault : InputFault) → result ≡ Err (OpenFault.Input fault) → is_some (rule_of fault) ≡ true }
+    ensures names { (files : Files) → D.contents depot.old ≡ Some files → IfErr result (λ fault. IsNamedIn files schema.now folder.now fault) }
     ensures never_falls { D.faults depot.old ≤ D.faults depot.new }
     ensures failed { result ≡ Err OpenFault.Depot → Rose (D.faults depot.old) (D.faults depot.new) }
     ensures other { (result ≡ Err OpenFault.Depot → ⊥) → D.faults depot.new ≡ D.faults depot.old }
@@ -64,6 +68,8 @@ pub fn open_tables<D: Depot>(
 /// Reads a schema.
 fn open_schema<D: Depot>(alloc: Global, name: &str, depot: &mut D) -> Result<Schema, OpenFault>
     ensures opened { (files : Files) → D.contents depot.old ≡ Some files → (folder : List ℕ) → OpensSchema files name.now folder result }
+    ensures spelled { (files : Files) → D.contents depot.old ≡ Some files → IfOk result (λ schema. IsSpelledIn files name.now schema) }
+    ensures no_table { IfErr result (OfTable (λ _. ⊥)) }
     ensures rule { (fault : InputFault) → result ≡ Err (OpenFault.Input fault) → is_some (rule_of fault) ≡ true }
     ensures never_falls { D.faults depot.old ≤ D.faults depot.new }
     ensures failed { result ≡ Err OpenFault.Depot → Rose (D.faults depot.old) (D.faults depot.new) }
@@ -79,7 +85,7 @@ fn open_schema<D: Depot>(alloc: Global, name: &str, depot: &mut D) -> Result<Sch
     };
     match read_schema(&text) {
         Ok(schema) => Ok(schema),
-        Err(fault) => Err(OpenFault::Input(InputFault::Schema(fault))),
+        Err(fault) => Err(OpenFault::Input(InputFault::Schema(broken_in(&text, fault)))),
     }
 }
 
@@ -92,6 +98,7 @@ fn open_files<D: Depot>(
 ) -> Result<Tables, OpenFault>
     ensures read { IfOk result (λ tables. ReadsFiles (D.contents depot.old) folder.now schema.now tables) }
     ensures told { IfErr result (λ fault. (files : Files) → D.contents depot.old ≡ Some files → Tells (tables_from files folder.now schema.now 0 schema.now []) fault) }
+    ensures names { (files : Files) → D.contents depot.old ≡ Some files → IfErr result (OfTable (IsShownBy files folder.now schema.now)) }
     ensures rule { (fault : InputFault) → result ≡ Err (OpenFault.Input fault) → is_some (rule_of fault) ≡ true }
     ensures never_falls { D.faults depot.old ≤ D.faults depot.new }
     ensures failed { result ≡ Err OpenFault.Depot → Rose (D.faults depot.old) (D.faults depot.new) }
@@ -120,6 +127,7 @@ fn open_table<D: Depot>(
     requires within { table < length schema.now }
     ensures read { IfOk result (λ rows. ReadsTable (D.contents depot.old) (openings.table_file folder.now (name_at schema.now table)) (schemas.columns_of schema.now table) table rows) }
     ensures told { IfErr result (λ fault. (files : Files) → D.contents depot.old ≡ Some files → (next : List ℕ → Opening TablesInput) → Tells (opening_at files folder.now schema.now table next) fault) }
+    ensures names { (files : Files) → D.contents depot.old ≡ Some files → IfErr result (OfTable (IsShownBy files folder.now schema.now)) }
     ensures rule { (fault : InputFault) → result ≡ Err (OpenFault.Input fault) → is_some (rule_of fault) ≡ true }
     ensures never_falls { D.faults depot.old ≤ D.faults depot.new }
     ensures failed { result ≡ Err OpenFault.Depot → Rose (D.faults depot.old) (D.faults depot.new) }
@@ -135,38 +143,29 @@ fn open_table<D: Depot>(
         Ok(file) => file,
         Err(ReadFault::Depot) => return Err(OpenFault::Depot),
         Err(ReadFault::NoMemory) => return Err(OpenFault::NoMemory),
-        Err(ReadFault::TooLong) => return Err(too_long(table as u8)),
+        Err(ReadFault::TooLong) => return Err(too_long(schema, table)),
     };
     match read_table(alloc, schema, table, &file) {
         Ok(read) => Ok(read),
-        Err(fault) => Err(of_load(fault)),
+        Err(fault) => Err(fault_of_file(alloc, schema, &file, fault)),
     }
 }
 
 /// That the file of a table is too long.
-fn too_long(table: u8) -> OpenFault
+fn too_long(schema: &Schema, table: usize) -> OpenFault
+    requires within { table < 2 ^ 8 }
     ensures rule { rule_in result ≡ Some (openings.TableRule (load.FileLimit (load.place table 0 0))) }
     ensures not_depot { result ≡ OpenFault.Depot → ⊥ }
     ensures broken { (broken : InputFault) → result ≡ OpenFault.Input broken → is_some (rule_of broken) ≡ true }
+    ensures names { OfTable (IsNamedBy schema.now) result }
 {
     let at = Place {
-        table,
+        table: table as u8,
         rec: 0,
         column: 0,
     };
-    OpenFault::Input(InputFault::Table(LoadFault::FileLimit(at)))
-}
-
-/// What a fault of a table's file is to the input.
-fn of_load(fault: LoadFault) -> OpenFault
-    ensures rule { rule_in result ≡ rule_or (told fault) }
-    ensures not_depot { result ≡ OpenFault.Depot → ⊥ }
-    ensures broken { (broken : InputFault) → result ≡ OpenFault.Input broken → is_some (rule_of broken) ≡ true }
-{
-    match fault {
-        LoadFault::NoMemory => OpenFault::NoMemory,
-        broken => OpenFault::Input(InputFault::Table(broken)),
-    }
+    let table = table_name(schema, table);
+    OpenFault::Input(InputFault::Table(BrokenTable::FileLimit(RecordNamed { at, table })))
 }
 
 /// The name of the file of a table's rows.
@@ -187,9 +186,11 @@ fn check_keys(schema: &Schema, tables: &Tables) -> Result<(), OpenFault>
     ensures judged { MatchResult result (λ _. load.reference_faults schema.now tables.now ≡ []) (λ fault. TellsRule (rule_in fault) (load.reference_faults schema.now tables.now)) }
     ensures not_depot { result ≡ Err OpenFault.Depot → ⊥ }
     ensures rule { (fault : InputFault) → result ≡ Err (OpenFault.Input fault) → is_some (rule_of fault) ≡ true }
+    ensures names { IfErr result (OfTable (IsNamedBy schema.now)) }
+    ensures keys { IfErr result (OfTable (OfKey (ShowsKey tables.now))) }
 {
     match check_references(schema, tables) {
         Ok(()) => Ok(()),
-        Err(fault) => Err(of_load(fault)),
+        Err(fault) => Err(fault_of_keys(schema, tables, fault)),
     }
 }

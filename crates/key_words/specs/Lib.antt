@@ -1,4 +1,5 @@
 pub mod Blocks
 pub mod KeyApp
+pub mod Refusals
 pub mod Words
 pub mod Views

@@ -18,6 +18,8 @@ local_view local = record {
   flash = local.flash.now;
   script = local.script.now;
   journal = option_map (λ name. name.now) local.journal;
+  plan = local.plan;
+  pace = local.pace;
 }
 
 abbrev pub load_view : LoadWords → words.Load
@@ -30,7 +32,7 @@ load_view load = record {
 }
 
 abbrev pub query_view : QueryWords → words.Query
-query_view query = record { flash = query.flash.now; to = query.to.now; script = query.script.now }
+query_view query = record { flash = query.flash.now; to = query.to.now; script = query.script.now; plan = query.plan; pace = query.pace }
 
 abbrev pub words_view : KeyWords → words.Command
 words_view (key.Local local) = words.LocalCommand (local_view local)

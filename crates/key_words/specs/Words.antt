@@ -1,8 +1,11 @@
--- What the words of the program say: the reading of `clap`, and then the rule of each value. `--plan` takes `scan` alone,
--- which it is where it is left out, and `--pace` takes 0 alone, likewise. `--blocks` takes a number from 1 to 60,000,000,
--- as one to nine decimal digits, and may be left out.
-use Rattle.std.specs.Prelude.{ℕ, Bool, true, ◌&&◌, nat_le, List, length, Option, Some, None, codes, bytes_eq, option_map, option_and_then, if◌then◌else◌}
+-- What the words of the program say: the reading of `clap`, and then the rule of each value. `--plan` takes the name of a
+-- plan, and stands for `scan` where it is left out; `--pace` takes 0 alone, which it is where it is left out. `--blocks`
+-- takes a number from 1 to 60,000,000, as one to nine decimal digits, and may be left out.
+use Rattle.std.specs.Prelude.{ℕ, Bool, ◌&&◌, nat_le, List, length, Option, Some, None, codes, bytes_eq, option_map, option_and_then, if◌then◌else◌}
 use Rattle.std.specs.List.{list_all}
+use Rattle.leakless_plan.specs.declared.plan.Plan.{Plan}
+use Rattle.leakless_plan.specs.declared.plan.Plan.TheVariants as plan
+use Rattle.leakless_plan.specs.Names.{plan_named}
 use Rattle.ghost_model.specs.Tokens.{is_digit, is_between, number_of}
 use Rattle.clap.specs.Walk.{Row, Text, is_empty, first_of}
 use Rattle.clap.specs.Simple.{subcommand_of}
@@ -21,6 +24,8 @@ pub record Local : Type 0 where
   pub flash : List ℕ
   pub script : List ℕ
   pub journal : Option (List ℕ)
+  pub plan : Plan
+  pub pace : ℕ
 
 pub record Load : Type 0 where
   pub schema : List ℕ
@@ -33,6 +38,8 @@ pub record Query : Type 0 where
   pub flash : List ℕ
   pub to : List ℕ
   pub script : List ℕ
+  pub plan : Plan
+  pub pace : ℕ
 
 pub data Command : Type 0 where
   LocalCommand : Local → Command
@@ -47,27 +54,42 @@ found words = if is_empty (fault_of key_app words) then subcommand_of key_app wo
 abbrev pub needs : List Row → Text → (List ℕ → Option Command) → Option Command
 needs rows name next = option_and_then next (first_of name rows)
 
--- whether an option is left out or has this value
-abbrev pub is_or_left_out : Text → Option Text → Bool
-is_or_left_out value None = true
-is_or_left_out value (Some given) = bytes_eq given value
+-- the plan that its option says
+abbrev pub plan_said : Option Text → Option Plan
+plan_said None = Some plan.Scan
+plan_said (Some name) = plan_named name
+
+-- the pace that its option says
+abbrev pub pace_said : Option Text → Option ℕ
+pace_said None = Some 0
+pace_said (Some digits) = if bytes_eq digits (codes "0") then Some 0 else None
 
 abbrev pub plain_of : List Row → Option Command
 plain_of rows =
     needs rows (codes "schema") (λ schema. needs rows (codes "data") (λ tables. needs rows (codes "script") (λ script.
     Some (PlainCommand (record { schema = schema; tables = tables; script = script })))))
 
-abbrev pub has_known_values : List Row → Bool
-has_known_values rows =
-    is_or_left_out (codes "scan") (first_of (codes "plan") rows) && is_or_left_out (codes "0") (first_of (codes "pace") rows)
+-- the command that is made of the plan and the pace
+abbrev pub with_pace : Option ℕ → (ℕ → Command) → Option Command
+with_pace said made = option_map made said
+
+abbrev pub with_plan : List Row → (Plan → ℕ → Command) → Option Command
+with_plan rows made =
+    option_and_then (λ way. with_pace (pace_said (first_of (codes "pace") rows)) (made way)) (plan_said (first_of (codes "plan") rows))
 
 abbrev pub local_of : List Row → Option Command
 local_of rows =
     needs rows (codes "schema") (λ schema. needs rows (codes "data") (λ tables. needs rows (codes "flash") (λ flash.
-    needs rows (codes "script") (λ script.
-    if has_known_values rows
-    then Some (LocalCommand (record { schema = schema; tables = tables; flash = flash; script = script; journal = first_of (codes "journal") rows }))
-    else None))))
+    needs rows (codes "script") (λ script. with_plan rows (λ way pace.
+    LocalCommand (record {
+      schema = schema;
+      tables = tables;
+      flash = flash;
+      script = script;
+      journal = first_of (codes "journal") rows;
+      plan = way;
+      pace = pace;
+    }))))))
 
 -- the number of blocks that a value says
 abbrev pub is_block_number : Text → Bool
@@ -94,9 +116,7 @@ load_of rows =
 abbrev pub query_of : List Row → Option Command
 query_of rows =
     needs rows (codes "flash") (λ flash. needs rows (codes "to") (λ to. needs rows (codes "script") (λ script.
-    if has_known_values rows
-    then Some (QueryCommand (record { flash = flash; to = to; script = script }))
-    else None)))
+    with_plan rows (λ way pace. QueryCommand (record { flash = flash; to = to; script = script; plan = way; pace = pace })))))
 
 abbrev pub command_of : Text → List Row → Option Command
 command_of name rows =

@@ -6,10 +6,13 @@
 
 pub mod app;
 pub mod reading;
+pub mod refusing;
 #[cfg(test)]
 mod tests;
 pub mod values;
 pub mod words;
 
 pub use reading::read_words;
-pub use words::{KeyWords, LoadWords, LocalWords, PlainWords, QueryWords, UsageFault, WordsFault};
+pub use words::{
+    KeyWords, LoadWords, LocalWords, PlainWords, QueryWords, ShownWord, UsageFault, WordsFault,
+};

@@ -1,25 +1,29 @@
 //! The reading of the words.
 
-ghost use Rattle.std.specs.Prelude.{◌≡◌, true, false, Some, None, Err, IfOk, OnOk, OnErr, map, option_map, string_bytes};
+ghost use Rattle.std.specs.Prelude.{◌≡◌, Some, None, Err, IfOk, IfErr, OnErr, map, option_map, string_bytes, codes};
 ghost use Rattle.clap.specs.Words.{first_of, found_of, rows_of};
 ghost use Rattle.clap.specs.Simple.{subcommand_rows_of};
+ghost use Rattle.key_words.specs.Refusals.{BreaksRule, BreaksRuleIn, HasCause, told_kind};
 ghost use Rattle.key_words.specs.Words.{reading, said};
 ghost use Rattle.key_words.specs.Words as words;
 ghost use Rattle.key_words.specs.Views.{words_view};
 
 use crate::app::program;
-use crate::values::{is_or_left_out, read_blocks};
+use crate::refusing::refusal;
+use crate::values::{read_blocks, read_pace, read_plan};
 use crate::words::{
     KeyWords, LoadWords, LocalWords, PlainWords, QueryWords, UsageFault, WordsFault,
 };
 use clap::ArgMatches;
 use clap::error::ErrorKind;
+use leakless_plan::Plan;
 use std::alloc::Global;
 
 /// Reads the words, of which the first is the program's name.
 pub fn read_words<'a>(alloc: Global, words: &'a [String]) -> Result<KeyWords<'a>, WordsFault>
     ensures read { IfOk result (λ command. reading (map string_bytes words.now) ≡ Some (words_view command)) }
     ensures usage { (fault : UsageFault) → result ≡ Err (WordsFault.Usage fault) → reading (map string_bytes words.now) ≡ None }
+    ensures cause { (fault : UsageFault) → result ≡ Err (WordsFault.Usage fault) → HasCause (map string_bytes words.now) fault (told_kind fault) }
 {
     let Ok(command) = program(alloc) else {
         return Err(WordsFault::NoMemory);
@@ -33,7 +37,10 @@ pub fn read_words<'a>(alloc: Global, words: &'a [String]) -> Result<KeyWords<'a>
             if error.kind() == ErrorKind::OutOfMemory {
                 return Err(WordsFault::NoMemory);
             }
-            Err(WordsFault::Usage(UsageFault::Words))
+            match format!(in alloc; "{error}") {
+                Ok(message) => Err(WordsFault::Usage(refusal(error.kind(), message.as_str()))),
+                Err(_) => Err(WordsFault::NoMemory),
+            }
         }
     }
 }
@@ -42,6 +49,8 @@ pub fn read_words<'a>(alloc: Global, words: &'a [String]) -> Result<KeyWords<'a>
 fn command_of<'a>(matches: &ArgMatches<'a>) -> Result<KeyWords<'a>, UsageFault>
     ensures read { IfOk result (λ command. said (subcommand_rows_of matches.now) ≡ Some (words_view command)) }
     ensures usage { (fault : UsageFault) → result ≡ Err fault → said (subcommand_rows_of matches.now) ≡ None }
+    ensures rule { (fault : UsageFault) → result ≡ Err fault → BreaksRuleIn (subcommand_rows_of matches.now) fault }
+    ensures value { (fault : UsageFault) → result ≡ Err fault → told_kind fault ≡ None }
 {
     let Some((name, options)) = matches.subcommand() else {
         return Err(UsageFault::Words);
@@ -53,6 +62,8 @@ fn command_of<'a>(matches: &ArgMatches<'a>) -> Result<KeyWords<'a>, UsageFault>
 fn named_command<'a>(name: &str, options: &ArgMatches<'a>) -> Result<KeyWords<'a>, UsageFault>
     ensures read { IfOk result (λ command. words.command_of name.now (rows_of (found_of options.now)) ≡ Some (words_view command)) }
     ensures usage { (fault : UsageFault) → result ≡ Err fault → words.command_of name.now (rows_of (found_of options.now)) ≡ None }
+    ensures rule { (fault : UsageFault) → result ≡ Err fault → BreaksRule fault (rows_of (found_of options.now)) }
+    ensures value { (fault : UsageFault) → result ≡ Err fault → told_kind fault ≡ None }
 {
     if name.as_bytes() == "local".as_bytes() {
         return local_of(options);
@@ -76,24 +87,37 @@ fn value_of<'a>(options: &ArgMatches<'a>, name: &str) -> Option<&'a str>
     options.get_str(name)
 }
 
-/// Whether `--plan` and `--pace` have values that they take.
-fn known_values(options: &ArgMatches<'_>) -> Result<(), UsageFault>
-    ensures known { OnOk result (words.has_known_values (rows_of (found_of options.now)) ≡ true) }
-    ensures other { OnErr result (words.has_known_values (rows_of (found_of options.now)) ≡ false) }
+/// The plan of the session.
+fn plan_of(options: &ArgMatches<'_>) -> Result<Plan, UsageFault>
+    ensures read { IfOk result (λ plan. words.plan_said (first_of (codes "plan") (rows_of (found_of options.now))) ≡ Some plan) }
+    ensures usage { OnErr result (words.plan_said (first_of (codes "plan") (rows_of (found_of options.now))) ≡ None) }
+    ensures fault { IfErr result (λ fault. fault ≡ UsageFault.Plan) }
 {
-    if !is_or_left_out("scan", value_of(options, "plan")) {
-        return Err(UsageFault::Plan);
+    match read_plan(value_of(options, "plan")) {
+        Some(plan) => Ok(plan),
+        None => Err(UsageFault::Plan),
     }
-    if !is_or_left_out("0", value_of(options, "pace")) {
-        return Err(UsageFault::Pace);
+}
+
+/// The pace of the session.
+fn pace_of(options: &ArgMatches<'_>) -> Result<u32, UsageFault>
+    ensures read { IfOk result (λ pace. words.pace_said (first_of (codes "pace") (rows_of (found_of options.now))) ≡ Some pace) }
+    ensures usage { OnErr result (words.pace_said (first_of (codes "pace") (rows_of (found_of options.now))) ≡ None) }
+    ensures unpaced { IfOk result (λ pace. pace ≡ 0) }
+    ensures fault { IfErr result (λ fault. fault ≡ UsageFault.Pace) }
+{
+    match read_pace(value_of(options, "pace")) {
+        Some(pace) => Ok(pace),
+        None => Err(UsageFault::Pace),
     }
-    Ok(())
 }
 
 /// The words of `plain`.
 fn plain_of<'a>(options: &ArgMatches<'a>) -> Result<KeyWords<'a>, UsageFault>
     ensures read { IfOk result (λ command. words.plain_of (rows_of (found_of options.now)) ≡ Some (words_view command)) }
     ensures usage { (fault : UsageFault) → result ≡ Err fault → words.plain_of (rows_of (found_of options.now)) ≡ None }
+    ensures rule { (fault : UsageFault) → result ≡ Err fault → BreaksRule fault (rows_of (found_of options.now)) }
+    ensures value { (fault : UsageFault) → result ≡ Err fault → told_kind fault ≡ None }
 {
     let Some(schema) = value_of(options, "schema") else {
         return Err(UsageFault::Words);
@@ -115,6 +139,8 @@ fn plain_of<'a>(options: &ArgMatches<'a>) -> Result<KeyWords<'a>, UsageFault>
 fn load_of<'a>(options: &ArgMatches<'a>) -> Result<KeyWords<'a>, UsageFault>
     ensures read { IfOk result (λ command. words.load_of (rows_of (found_of options.now)) ≡ Some (words_view command)) }
     ensures usage { (fault : UsageFault) → result ≡ Err fault → words.load_of (rows_of (found_of options.now)) ≡ None }
+    ensures rule { (fault : UsageFault) → result ≡ Err fault → BreaksRule fault (rows_of (found_of options.now)) }
+    ensures value { (fault : UsageFault) → result ≡ Err fault → told_kind fault ≡ None }
 {
     let Some(schema) = value_of(options, "schema") else {
         return Err(UsageFault::Words);
@@ -144,6 +170,8 @@ fn load_of<'a>(options: &ArgMatches<'a>) -> Result<KeyWords<'a>, UsageFault>
 fn query_of<'a>(options: &ArgMatches<'a>) -> Result<KeyWords<'a>, UsageFault>
     ensures read { IfOk result (λ command. words.query_of (rows_of (found_of options.now)) ≡ Some (words_view command)) }
     ensures usage { (fault : UsageFault) → result ≡ Err fault → words.query_of (rows_of (found_of options.now)) ≡ None }
+    ensures rule { (fault : UsageFault) → result ≡ Err fault → BreaksRule fault (rows_of (found_of options.now)) }
+    ensures value { (fault : UsageFault) → result ≡ Err fault → told_kind fault ≡ None }
 {
     let Some(flash) = value_of(options, "flash") else {
         return Err(UsageFault::Words);
@@ -154,14 +182,23 @@ fn query_of<'a>(options: &ArgMatches<'a>) -> Result<KeyWords<'a>, UsageFault>
     let Some(script) = value_of(options, "script") else {
         return Err(UsageFault::Words);
     };
-    known_values(options)?;
-    Ok(KeyWords::Query(QueryWords { flash, to, script }))
+    let plan = plan_of(options)?;
+    let pace = pace_of(options)?;
+    Ok(KeyWords::Query(QueryWords {
+        flash,
+        to,
+        script,
+        plan,
+        pace,
+    }))
 }
 
 /// The words of `local`.
 fn local_of<'a>(options: &ArgMatches<'a>) -> Result<KeyWords<'a>, UsageFault>
     ensures read { IfOk result (λ command. words.local_of (rows_of (found_of options.now)) ≡ Some (words_view command)) }
     ensures usage { (fault : UsageFault) → result ≡ Err fault → words.local_of (rows_of (found_of options.now)) ≡ None }
+    ensures rule { (fault : UsageFault) → result ≡ Err fault → BreaksRule fault (rows_of (found_of options.now)) }
+    ensures value { (fault : UsageFault) → result ≡ Err fault → told_kind fault ≡ None }
 {
     let Some(schema) = value_of(options, "schema") else {
         return Err(UsageFault::Words);
@@ -175,12 +212,15 @@ fn local_of<'a>(options: &ArgMatches<'a>) -> Result<KeyWords<'a>, UsageFault>
     let Some(script) = value_of(options, "script") else {
         return Err(UsageFault::Words);
     };
-    known_values(options)?;
+    let plan = plan_of(options)?;
+    let pace = pace_of(options)?;
     Ok(KeyWords::Local(LocalWords {
         schema,
         tables,
         flash,
         script,
         journal: value_of(options, "journal"),
+        plan,
+        pace,
     }))
 }

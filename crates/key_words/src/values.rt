@@ -5,7 +5,8 @@ ghost use Rattle.std.specs.List.{list_all};
 ghost use Rattle.ghost_model.specs.Tokens.{is_digit};
 ghost use Rattle.key_words.specs.Blocks.{IsFew};
 ghost use Rattle.key_words.specs.Words as words;
-ghost use Rattle.key_words.specs.Words.{is_or_left_out};
+
+use leakless_plan::{Plan, plan_named};
 
 /// The most digits of a number.
 const MAX_DIGITS: usize = 9;
@@ -13,14 +14,28 @@ const MAX_DIGITS: usize = 9;
 /// The most blocks of a flash.
 const MAX_BLOCKS: u32 = 60_000_000;
 
-/// Whether an option is left out or has this value.
-pub fn is_or_left_out(value: &str, given: Option<&str>) -> bool
-    ensures held { result ≡ is_or_left_out value.now (option_map (λ text. text.now) given.entry) }
+/// The plan that its option says: `scan` where it is left out, and `None` where its value names no plan.
+pub fn read_plan(given: Option<&str>) -> Option<Plan>
+    ensures value { result ≡ words.plan_said (option_map (λ text. text.now) given.entry) }
 {
     match given {
-        None => true,
-        Some(text) => text.as_bytes() == value.as_bytes(),
+        None => Some(Plan::Scan),
+        Some(name) => plan_named(name),
     }
+}
+
+/// The pace that its option says: 0 where it is left out, and `None` where its value is another one.
+pub fn read_pace(given: Option<&str>) -> Option<u32>
+    ensures value { result ≡ words.pace_said (option_map (λ text. text.now) given.entry) }
+    ensures unpaced { IfSome result (λ pace. pace ≡ 0) }
+{
+    let Some(text) = given else {
+        return Some(0);
+    };
+    if text.as_bytes() == "0".as_bytes() {
+        return Some(0);
+    }
+    None
 }
 
 /// Whether there are digits alone.

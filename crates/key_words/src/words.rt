@@ -1,8 +1,11 @@
 //! What the words of the program say.
 
+ghost use Rattle.std.specs.Prelude.{◌≡◌};
 ghost use Rattle.std.proofs.Props.{props};
 ghost use Rattle.key_words.specs.Blocks.{IsFew};
 
+use arrayvec::ArrayString;
+use leakless_plan::Plan;
 use thiserror::Error;
 
 /// The words of `plain`.
@@ -49,6 +52,13 @@ pub struct QueryWords<'a> {
 
     /// The file of the script.
     pub script: &'a str,
+
+    /// The plan by which each text is answered.
+    pub plan: Plan,
+
+    /// How much is done between the moves: 0 as long as no work falls between them.
+    pub pace: u32,
+    pub ghost unpaced: { pace ≡ 0 } by { Prim.hlevel props },
 }
 
 /// The words of `local`.
@@ -68,6 +78,13 @@ pub struct LocalWords<'a> {
 
     /// The file of the journal, where one is to be kept.
     pub journal: Option<&'a str>,
+
+    /// The plan by which each text is answered.
+    pub plan: Plan,
+
+    /// How much is done between the moves: 0 as long as no work falls between them.
+    pub pace: u32,
+    pub ghost unpaced: { pace ≡ 0 } by { Prim.hlevel props },
 }
 
 /// A command with its words.
@@ -86,12 +103,46 @@ pub enum KeyWords<'a> {
     Query(QueryWords<'a>),
 }
 
+/// The most bytes of a word that are shown.
+pub const MAX_SHOWN: usize = 48;
+
+/// A word as a line shows it: its first bytes, with a question mark for each control character.
+pub type ShownWord = ArrayString<MAX_SHOWN>;
+
 /// What is wrong with the words.
 #[derive(Clone, Copy, Debug, Drop, Error, PartialEq, Eq)]
 pub enum UsageFault {
     /// They are not those of a command.
     #[error("these are not the words of a command")]
     Words,
+
+    /// There is no command.
+    #[error("no command is given")]
+    NoCommand,
+
+    /// This word stands where a command is to stand.
+    #[error("{0} is no command")]
+    NotACommand(ShownWord),
+
+    /// This word is no option of the command, nor the value of one.
+    #[error("{0} is no option here")]
+    NotAnOption(ShownWord),
+
+    /// The command needs this option.
+    #[error("{0} is missing")]
+    Missing(ShownWord),
+
+    /// This option stands more than once.
+    #[error("{0} is given twice")]
+    Twice(ShownWord),
+
+    /// This option has no value.
+    #[error("{0} has no value")]
+    NoValue(ShownWord),
+
+    /// A word is not UTF-8.
+    #[error("a word is not UTF-8")]
+    NotUtf8,
 
     /// `--plan` has a value that it does not take.
     #[error("--plan takes scan alone")]

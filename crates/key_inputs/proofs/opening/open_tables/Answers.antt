@@ -2,10 +2,13 @@ use Rattle.std.proofs.Common.{◌≡◌, ◌++◌, [], ◌∙◌, sym, subst, ap
 use Rattle.std.proofs.lemmas.Result.{err_from_is_err_and}
 use Rattle.ghost_model.specs.Database as database
 use Rattle.ghost_model.specs.LoadFaults as faults
+use Rattle.ghost_model.specs.Schema.{Schema}
 use Rattle.ghost_model.specs.Values.{Database}
 use Rattle.edge_traits.specs.Files.{Files}
 use Rattle.key_inputs.specs.Openings.{Opening, TablesInput}
 use Rattle.key_inputs.specs.Views.{Tells, rule_in}
+use Rattle.key_inputs.specs.Naming.{IsShownBy, IsSpelledIn, OfTable}
+use Rattle.key_inputs.proofs.Showing.{one_schema, shown_of_keys}
 use Rattle.key_inputs.proofs.Telling.{keys_are_good, keys_are_told}
 use Rattle.key_inputs.proofs.opening.open_tables.Goals as goal
 
@@ -52,3 +55,24 @@ returns-clause-database g c =
     let none : faults.load_faults c.in_ok-schema.schema read.read ≡ [] = ap₂ (λ front back. front ++ back) read.clean keys in
     let P : Database → Type 0 = λ tables. database.IsDatabase c.in_ok-schema.schema tables in
     subst P are (c.files_spell_a_database.ensures c.in_ok-schema.schema read.read tree read.many none)
+
+pub returns-in_err-tables-clause-names : goal.returns-in_err-tables-clause-names
+returns-in_err-tables-clause-names g c =
+    let p = err_from_is_err_and c.from_residual-in_err-tables.result c.from_residual-in_err-tables.ensures.1 in
+    let told = λ (files : Files) (h : g.D.Depot.contents c.args.depot.now ≡ Some files) (schema : Schema) (spelled : IsSpelledIn files c.args.schema.now schema).
+    subst (λ (one : Schema). OfTable (IsShownBy files c.args.folder.now one) c.in_err-tables.field-0.0)
+    (one_schema files c.args.schema.now c.in_ok-schema.schema schema (c.in_ok-schema.ensures.spelled files h) spelled)
+    (c.in_err-tables.ensures.names files (c.open_schema.ensures.same ∙ h)) in
+    rw (p.1, p.2) told
+
+pub returns-in_err-check_keys-clause-names : goal.returns-in_err-check_keys-clause-names
+returns-in_err-check_keys-clause-names g c =
+    let p = err_from_is_err_and c.from_residual-in_err-check_keys.result c.from_residual-in_err-check_keys.ensures.1 in
+    let read = c.in_ok-tables.ensures.read in
+    let told = λ (files : Files) (h : g.D.Depot.contents c.args.depot.now ≡ Some files) (schema : Schema) (spelled : IsSpelledIn files c.args.schema.now schema).
+    subst (λ (one : Schema). OfTable (IsShownBy files c.args.folder.now one) c.in_err-check_keys.field-0.0)
+    (one_schema files c.args.schema.now c.in_ok-schema.schema schema (c.in_ok-schema.ensures.spelled files h) spelled)
+    (shown_of_keys files c.args.folder.now c.in_ok-schema.schema read.read c.in_ok-tables.tables c.in_err-check_keys.field-0.0
+    (read.files_read files (c.open_schema.ensures.same ∙ h)) read.spelled c.in_err-check_keys.ensures.judged
+    c.in_err-check_keys.ensures.names c.in_err-check_keys.ensures.keys) in
+    rw (p.1, p.2) told

@@ -1,0 +1,117 @@
+-- What an error shows of a table's file, by where its fault stands.
+use Rattle.std.proofs.Common.{◌≡◌, ℕ, List, [], ◌∷◌, Option, Some, None, refl, sym, ap, ◌∙◌, subst, map as each}
+use Rattle.std.specs.FinMap as map
+use Rattle.ghost_model.specs.Schema.{Schema, columns_of}
+use Rattle.ghost_model.specs.SchemaFaults.{schema_reading}
+use Rattle.ghost_model.specs.LoadFaults as load
+use Rattle.ghost_model.specs.Values.{Database}
+use Rattle.ghost_model.specs.Database.{database_of}
+use Rattle.edge_traits.specs.Files.{Files}
+use Rattle.key_inputs.specs.Openings.{TableRule, table_file}
+use Rattle.key_inputs.specs.Rules.{table_rule}
+use Rattle.key_inputs.specs.Views.{TellsRule, AreFiles, rule_in, rule_or, name_at}
+use Rattle.key_inputs.specs.Naming.{IsNamedBy, IsShownBy, IsSpelledIn, OfTable, OfField, OfKey, ShowsField, ShowsKey}
+use Rattle.key_inputs.specs.declared.shown.Shown.{Shown}
+use Rattle.key_inputs.specs.declared.broken_table.BrokenTable.{BrokenTable}
+use Rattle.key_inputs.specs.declared.broken_table.BrokenTable.TheVariants as broken
+use Rattle.key_inputs.specs.declared.broken_table.FieldNamed.{FieldNamed}
+use Rattle.key_inputs.specs.declared.faults.InputFault.TheVariants as fault
+use Rattle.key_inputs.specs.declared.faults.OpenFault.{OpenFault}
+use Rattle.key_inputs.specs.declared.faults.OpenFault.TheVariants as open_fault
+use Rattle.key_inputs.proofs.Placing.{IsOfFile, IsOfKey, of_file, of_keys}
+
+-- a file spells one schema
+pub one_schema : (files : Files) (name : List ℕ) (one other : Schema) → IsSpelledIn files name one → IsSpelledIn files name other → one ≡ other
+one_schema files name one other a b =
+    let texts : Some a.text ≡ Some b.text = sym a.file ∙ b.file in
+    let same : a.text ≡ b.text = cc (texts) in
+    let spelled = sym a.spelled ∙ ap schema_reading same ∙ b.spelled in
+    cc (spelled)
+
+value_of_file : (files : Files) (folder : List ℕ) (schema : Schema) (table : ℕ) (file : List ℕ) (field : FieldNamed) (value : Shown)
+    → map.get files (table_file folder (name_at schema table)) ≡ Some file → field.at.table ≡ table → ShowsField file field.at value
+    → (other : List ℕ) → map.get files (table_file folder (name_at schema field.at.table)) ≡ Some other → ShowsField other field.at value
+value_of_file files folder schema table file field value found is shows other here =
+    let both : Some file ≡ Some other = sym found ∙ ap (λ t. map.get files (table_file folder (name_at schema t))) (sym is) ∙ here in
+    let same : file ≡ other = cc (both) in
+    subst (λ f. ShowsField f field.at value) same shows
+
+broken_in_file : (files : Files) (folder : List ℕ) (schema : Schema) (table : ℕ) (file : List ℕ) (told : BrokenTable)
+    → map.get files (table_file folder (name_at schema table)) ≡ Some file → IsOfFile table (table_rule told)
+    → IsNamedBy schema told → OfField (ShowsField file) told → IsShownBy files folder schema told
+broken_in_file files folder schema table file (broken.FileLimit named) found of names shows = record { names = names; value = tt; key = tt }
+broken_in_file files folder schema table file (broken.Header named) found of names shows = record { names = names; value = tt; key = tt }
+broken_in_file files folder schema table file (broken.RowLimit named) found of names shows = record { names = names; value = tt; key = tt }
+broken_in_file files folder schema table file (broken.FieldCount named) found of names shows = record { names = names; value = tt; key = tt }
+broken_in_file files folder schema table file (broken.BadId field value) found of names shows =
+    record { names = names; value = value_of_file files folder schema table file field value found of shows; key = tt }
+broken_in_file files folder schema table file (broken.BadInt field value) found of names shows =
+    record { names = names; value = value_of_file files folder schema table file field value found of shows; key = tt }
+broken_in_file files folder schema table file (broken.BadChars field value) found of names shows =
+    record { names = names; value = value_of_file files folder schema table file field value found of shows; key = tt }
+broken_in_file files folder schema table file (broken.BadReference field child value) found of names shows = absurd of
+
+rule_first : (told : Option load.LoadFault) (rule : load.LoadFault) (faults : List load.LoadFault) → load.TellsFirst told faults
+    → Some (TableRule rule) ≡ rule_or told → load.IsFirst rule faults
+rule_first None rule faults first is = absurd (cc (is))
+rule_first (Some other) rule faults first is =
+    let same : other ≡ rule = cc (is) in subst (λ one. load.IsFirst one faults) same first
+
+-- the error of a table's file
+pub shown_of_file : (files : Files) (folder : List ℕ) (schema : Schema) (table : ℕ) (file : List ℕ) (told : Option load.LoadFault) (error : OpenFault)
+    → map.get files (table_file folder (name_at schema table)) ≡ Some file
+    → load.TellsFirst told (load.file_faults table (columns_of schema table) file) → rule_in error ≡ rule_or told
+    → OfTable (IsNamedBy schema) error → OfTable (OfField (ShowsField file)) error → OfTable (IsShownBy files folder schema) error
+shown_of_file files folder schema table file told open_fault.NoMemory found first rule names shows = tt
+shown_of_file files folder schema table file told open_fault.Depot found first rule names shows = tt
+shown_of_file files folder schema table file told (open_fault.Input fault.SchemaBytes) found first rule names shows = tt
+shown_of_file files folder schema table file told (open_fault.Input (fault.Schema other)) found first rule names shows = tt
+shown_of_file files folder schema table file told (open_fault.Input (fault.Table one)) found first rule names shows =
+    broken_in_file files folder schema table file one found
+    (of_file table (columns_of schema table) file (table_rule one) (rule_first told (table_rule one) (load.file_faults table (columns_of schema table) file) first rule))
+    names shows
+shown_of_file files folder schema table file told (open_fault.Input fault.ScriptBytes) found first rule names shows = tt
+shown_of_file files folder schema table file told (open_fault.Input fault.ScriptTexts) found first rule names shows = tt
+
+same_files : (one other : List (List ℕ)) → each Some one ≡ each Some other → one ≡ other
+same_files [] [] h = refl
+same_files [] (y ∷ other) h = absurd (cc (h))
+same_files (x ∷ one) [] h = absurd (cc (h))
+same_files (x ∷ one) (y ∷ other) h =
+    let first : x ≡ y = cc (h) in
+    let later : each Some one ≡ each Some other = cc (h) in
+    let rest = same_files one other later in
+    cc (first, rest)
+
+broken_key : (files : Files) (folder : List ℕ) (schema : Schema) (read : List (List ℕ)) (tables : Database) (told : BrokenTable)
+    → AreFiles files folder schema read → tables ≡ database_of schema read → IsOfKey (table_rule told)
+    → IsNamedBy schema told → OfKey (ShowsKey tables) told → IsShownBy files folder schema told
+broken_key files folder schema read tables (broken.FileLimit named) are is of names shows = absurd of
+broken_key files folder schema read tables (broken.Header named) are is of names shows = absurd of
+broken_key files folder schema read tables (broken.RowLimit named) are is of names shows = absurd of
+broken_key files folder schema read tables (broken.FieldCount named) are is of names shows = absurd of
+broken_key files folder schema read tables (broken.BadId field value) are is of names shows = absurd of
+broken_key files folder schema read tables (broken.BadInt field value) are is of names shows = absurd of
+broken_key files folder schema read tables (broken.BadChars field value) are is of names shows = absurd of
+broken_key files folder schema read tables (broken.BadReference field child value) are is of names shows = record {
+  names = names;
+  value = tt;
+  key = λ other there.
+      let same : read ≡ other = same_files read other (sym are ∙ there) in
+      subst (λ (database : Database). ShowsKey database field.at value) (is ∙ ap (database_of schema) same) shows;
+}
+
+-- the error of foreign keys
+pub shown_of_keys : (files : Files) (folder : List ℕ) (schema : Schema) (read : List (List ℕ)) (tables : Database) (error : OpenFault)
+    → AreFiles files folder schema read → tables ≡ database_of schema read → TellsRule (rule_in error) (load.reference_faults schema tables)
+    → OfTable (IsNamedBy schema) error → OfTable (OfKey (ShowsKey tables)) error → OfTable (IsShownBy files folder schema) error
+shown_of_keys files folder schema read tables open_fault.NoMemory are is rule names shows = tt
+shown_of_keys files folder schema read tables open_fault.Depot are is rule names shows = tt
+shown_of_keys files folder schema read tables (open_fault.Input fault.SchemaBytes) are is rule names shows = tt
+shown_of_keys files folder schema read tables (open_fault.Input (fault.Schema other)) are is rule names shows = tt
+shown_of_keys files folder schema read tables (open_fault.Input (fault.Table one)) are is rule names shows =
+    let same : rule.0 ≡ table_rule one = (let h = rule.1 in cc (h)) in
+    broken_key files folder schema read tables one are is
+    (subst IsOfKey same (of_keys schema tables rule.0 rule.2)) names shows
+shown_of_keys files folder schema read tables (open_fault.Input fault.ScriptBytes) are is rule names shows = tt
+shown_of_keys files folder schema read tables (open_fault.Input fault.ScriptTexts) are is rule names shows = tt

@@ -1,0 +1,22 @@
+use Rattle.std.proofs.Common.{◌∙◌, subst}
+use Rattle.ghost_model.specs.Schema.{columns_of}
+use Rattle.ghost_model.specs.LoadFaults.{TellsFirst, file_faults}
+use Rattle.csv_split.specs.Faults.{told}
+use Rattle.edge_traits.specs.Files.{HasFile}
+use Rattle.key_inputs.specs.Openings.{table_file}
+use Rattle.key_inputs.specs.Naming.{OfField, OfTable, ShowsField}
+use Rattle.key_inputs.specs.Views.{name_at}
+use Rattle.key_inputs.proofs.Showing.{shown_of_file}
+use Rattle.key_inputs.proofs.opening.open_table.Goals as goal
+
+pub returns-clause-names : goal.returns-clause-names
+returns-clause-names g c files h =
+    let file = c.in-Ok-read_file.file.items in
+    let name = table_file c.args.folder.now (name_at c.args.schema.now c.args.table) in
+    let named = c.as_str.ensures.value ∙ c.in-Ok.ensures.name in
+    let read = subst (λ one. HasFile (g.D.Depot.contents c.args.depot.now) one file) named c.in-Ok-read_file.ensures.file in
+    let found = subst (λ contents. HasFile contents name file) h read in
+    shown_of_file files c.args.folder.now c.args.schema.now c.args.table file (told c.in-Err.fault) c.fault_of_file.result found
+    (subst (λ bytes. TellsFirst (told c.in-Err.fault) (file_faults c.args.table (columns_of c.args.schema.now c.args.table) bytes)) c.deref.ensures.value c.in-Err.ensures.judged)
+    c.fault_of_file.ensures.rule c.fault_of_file.ensures.names
+    (subst (λ bytes. OfTable (OfField (ShowsField bytes)) c.fault_of_file.result) c.deref-in-Err.ensures.value c.fault_of_file.ensures.value)
