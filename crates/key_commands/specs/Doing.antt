@@ -90,6 +90,7 @@ pub record LoadDid (told : Bool) (outcome : Result (Unit {0}) LoadFailure) (befo
   pub nothing_made : loads.makes_nothing outcome ≡ true → after.device ≡ before.device
   pub file_left : loads.leaves_file outcome ≡ true → after.files ≡ before.files
   pub made_first : after.device.page_count ≡ 0 → after.files ≡ before.files
+  pub never_other : (after.device ≡ before.device) ⊎ ((other : List ℕ) → after.device.name ≡ Some other → other ≡ words.flash)
   pub page_0 : loads.leaves_page_0 outcome ≡ true
       → (after.device ≡ before.device) ⊎ loads.HasBlankPage0 after.device
   pub unsealed : (after.device ≡ before.device) ⊎ loads.IsUnsealed told after.device
@@ -108,14 +109,15 @@ local_world_in one = locals.world one.device one.files one.append_faults one.sin
 -- the headline of `local` stands in `ends` and `ran`
 pub record LocalDid (told : Bool) (outcome : Result LocalEnd LocalFailure) (before after : Outside) (words : Local) : Type 0 where
   pub ends : (files : Files) → before.files ≡ Some files
-      → locally.Ends told (local_opening files words) words.journal outcome (local_world_in before) (local_world_in after)
-  pub ran : locally.EndsSome told words.journal outcome (local_world_in before) (local_world_in after)
+      → locally.Ends told (local_opening files words) words outcome (local_world_in before) (local_world_in after)
+  pub ran : locally.EndsSome told words outcome (local_world_in before) (local_world_in after)
   pub complete : (files : Files) → (input : PlainInput) → before.files ≡ Some files
       → (Rose before.depot_faults after.depot_faults → ⊥) → (Rose before.device.faults after.device.faults → ⊥)
       → (Rose before.sink_faults after.sink_faults → ⊥)
       → local_opening files words ≡ Spelled input → locally.is_faultless told outcome ≡ true
   pub nothing_written : locally.is_failure outcome ≡ true → after.written ≡ before.written
   pub flash_left : locally.leaves_flash outcome ≡ true → after.device ≡ before.device
+  pub never_other : (after.device ≡ before.device) ⊎ ((other : List ℕ) → after.device.name ≡ Some other → other ≡ words.flash)
   pub files_left : locally.leaves_files outcome ≡ true → after.files ≡ before.files
   pub others : locals.SameBesides words.journal before.files after.files
   pub sink : outcome ≡ Ok local_end.Sink → Rose before.sink_faults after.sink_faults
@@ -141,7 +143,7 @@ pub record QueryDid (goes : Journal → Type 0) (link_before link_after : ℕ) (
   pub flash_rose : IfOk outcome (λ tally. blames_flash tally.status ≡ true → Rose before.device.faults after.device.faults)
   pub flash_same : IfOk outcome (λ tally. spares_flash tally.status ≡ true → after.device.faults ≡ before.device.faults)
   pub script : IfErr outcome (λ fault. queries.TellsScript before.files words.script fault)
-  pub device : IfErr outcome (λ fault. queries.TellsFlash told after.device fault)
+  pub device : IfErr outcome (λ fault. queries.TellsFlash told words.flash after.device fault)
   pub complete : (files : Files) → (script : List ℕ) → (cat : Catalog) → told ≡ true → before.files ≡ Some files
       → (Rose before.depot_faults after.depot_faults → ⊥) → (Rose before.device.faults after.device.faults → ⊥)
       → script_opening files words.script ≡ Spelled script → HasCatalog after.device cat → queries.is_faultless outcome ≡ true

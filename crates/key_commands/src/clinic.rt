@@ -176,14 +176,9 @@ pub(crate) fn call(alloc: Global, line: &str, objects: &mut Objects) -> Result<E
 }
 
 /// What is told of a line's command that ended so.
-pub(crate) fn told(
-    alloc: Global,
-    line: &str,
-    ended: &Ended,
-    objects: &mut Objects,
-) -> Result<String, AllocError> {
+pub(crate) fn told(alloc: Global, line: &str, ended: &Ended) -> Result<String, AllocError> {
     let words = words_of(alloc, line)?;
-    line_of(alloc, &words, ended, &mut objects.depot)
+    line_of(alloc, &words, ended)
 }
 
 /// The clinic, or another one, loaded, with a script beside it, before any call that is counted and with nothing printed.

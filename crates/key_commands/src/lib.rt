@@ -3,8 +3,6 @@
 //! The words are read by `clap`. `docs/SESSION.md` states what each command does.
 #![tactic(auto)]
 
-mod broken_schema;
-mod broken_table;
 #[cfg(test)]
 mod clinic;
 pub mod command;

@@ -8,7 +8,6 @@ use crate::clinic::{
 use edge_traits::mem_link::MemLink;
 use edge_traits::told::Told;
 use key_session::{Damage, SessionStatus, Tally};
-use key_words::UsageFault;
 use std::alloc::{AllocError, Global};
 
 /// The front of the frame that brings the whole catalog; and the same as if more of it were to come.
@@ -125,7 +124,7 @@ fn words_without_a_script_call_nothing(rt: HostRuntime) -> Result<(), AllocError
     ] {
         let mut clinic = loaded(rt.alloc(), &CLINIC, THREE)?;
         let ended = call(rt.alloc(), line, &mut clinic)?;
-        assert_eq!(rt; ended, Ended::Usage(UsageFault::Words), "{line}");
+        assert!(rt; matches!(ended, Ended::Usage(_)), "{line}");
         assert_eq!(rt; ended.exit_code(), 2, "{line}");
         assert_eq!(rt; clinic.depot.script.calls, 0, "{line}");
         assert_eq!(rt; clinic.flash.script.calls, 0, "{line}");

@@ -1,10 +1,7 @@
 //! What is told of a session that did not end well, or was not begun.
 
-ghost use Rattle.std.specs.Prelude.{◌≡◌};
-
 use crate::input_lines::{InputNames, input_line};
 use crate::telling::NO_MEMORY;
-use edge_traits::depot::Depot;
 use key_local::{LocalEnd, LocalFailure};
 use key_query::QueryFailure;
 use key_session::{Damage, SessionStatus};
@@ -30,14 +27,11 @@ fn flash_line(alloc: Global, flash: &str) -> Result<String, AllocError> {
 }
 
 /// The line of `local` without a session.
-pub(crate) fn local_failure_line<D: Depot>(
+pub(crate) fn local_failure_line(
     alloc: Global,
     words: &LocalWords<'_>,
     fault: &LocalFailure,
-    depot: &mut D,
-) -> Result<String, AllocError>
-    ensures same { D.contents depot.new ≡ D.contents depot.old }
-{
+) -> Result<String, AllocError> {
     let LocalWords {
         schema,
         tables,
@@ -58,7 +52,7 @@ pub(crate) fn local_failure_line<D: Depot>(
                 tables,
                 script,
             };
-            input_line(alloc, &names, broken, depot)
+            input_line(alloc, &names, broken)
         }
         LocalFailure::Flash => {
             format!(in alloc;
@@ -94,14 +88,11 @@ pub(crate) fn local_end_line(
 }
 
 /// The line of `query` without a session.
-pub(crate) fn query_failure_line<D: Depot>(
+pub(crate) fn query_failure_line(
     alloc: Global,
     words: &QueryWords<'_>,
     fault: &QueryFailure,
-    depot: &mut D,
-) -> Result<String, AllocError>
-    ensures same { D.contents depot.new ≡ D.contents depot.old }
-{
+) -> Result<String, AllocError> {
     let QueryWords { flash, script, .. } = *words;
     match fault {
         QueryFailure::NoMemory => String::from_str(alloc, NO_MEMORY),
@@ -114,7 +105,7 @@ pub(crate) fn query_failure_line<D: Depot>(
                 tables: "",
                 script,
             };
-            input_line(alloc, &names, broken, depot)
+            input_line(alloc, &names, broken)
         }
         QueryFailure::Flash => {
             format!(in alloc;

@@ -1,11 +1,8 @@
 //! What is told of a command that did not end well.
 
-ghost use Rattle.std.specs.Prelude.{◌≡◌};
-
 use crate::ending::Ended;
 use crate::input_lines::{InputNames, input_line};
 use crate::sessions::{local_end_line, local_failure_line, query_failure_line, status_line};
-use edge_traits::depot::Depot;
 use edge_traits::flash::BLOCK_PAGES;
 use key_load::LoadFailure;
 use key_plain::PlainFault;
@@ -20,29 +17,20 @@ pub const USAGE: &str =
 pub(crate) const NO_MEMORY: &str = "out of memory: free some, or give smaller files";
 
 /// The line, without its end, that tells how a call ended: what is wrong, in which file, in the file of a table in which
-/// record and column, and in a schema at which table and column. To name these the schema is read once more.
-pub fn line_of<D: Depot>(
-    alloc: Global,
-    args: &[String],
-    ended: &Ended,
-    depot: &mut D,
-) -> Result<String, AllocError>
-    ensures same { D.contents depot.new ≡ D.contents depot.old }
-{
+/// record and column, and in a schema at which table and column.
+pub fn line_of(alloc: Global, args: &[String], ended: &Ended) -> Result<String, AllocError> {
     match (read_words(alloc, args), ended) {
         (_, Ended::Usage(fault)) => format!(in alloc; "{fault}; {USAGE}"),
         (Ok(KeyWords::Plain(words)), Ended::Plain(Err(fault))) => {
-            plain_line(alloc, &words, fault, depot)
+            plain_line(alloc, &words, fault)
         }
-        (Ok(KeyWords::Load(words)), Ended::Load(Err(fault))) => {
-            load_line(alloc, &words, fault, depot)
-        }
+        (Ok(KeyWords::Load(words)), Ended::Load(Err(fault))) => { load_line(alloc, &words, fault) }
         (Ok(KeyWords::Local(words)), Ended::Local(Err(fault))) => {
-            local_failure_line(alloc, &words, fault, depot)
+            local_failure_line(alloc, &words, fault)
         }
         (Ok(KeyWords::Local(words)), Ended::Local(Ok(end))) => local_end_line(alloc, &words, end),
         (Ok(KeyWords::Query(words)), Ended::Query(Err(fault))) => {
-            query_failure_line(alloc, &words, fault, depot)
+            query_failure_line(alloc, &words, fault)
         }
         (Ok(KeyWords::Query(words)), Ended::Query(Ok(tally))) => {
             status_line(alloc, &words, &tally.status)
@@ -53,14 +41,11 @@ pub fn line_of<D: Depot>(
 }
 
 /// The line of a fault of `plain`.
-fn plain_line<D: Depot>(
+fn plain_line(
     alloc: Global,
     words: &PlainWords<'_>,
     fault: &PlainFault,
-    depot: &mut D,
-) -> Result<String, AllocError>
-    ensures same { D.contents depot.new ≡ D.contents depot.old }
-{
+) -> Result<String, AllocError> {
     let PlainWords {
         schema,
         tables,
@@ -79,7 +64,7 @@ fn plain_line<D: Depot>(
                 tables,
                 script,
             };
-            input_line(alloc, &names, broken, depot)
+            input_line(alloc, &names, broken)
         }
         PlainFault::Sink => String::from_str(
             alloc,
@@ -89,14 +74,11 @@ fn plain_line<D: Depot>(
 }
 
 /// The line of a fault of `load`.
-fn load_line<D: Depot>(
+fn load_line(
     alloc: Global,
     words: &LoadWords<'_>,
     fault: &LoadFailure,
-    depot: &mut D,
-) -> Result<String, AllocError>
-    ensures same { D.contents depot.new ≡ D.contents depot.old }
-{
+) -> Result<String, AllocError> {
     let LoadWords {
         schema,
         tables,
@@ -117,7 +99,7 @@ fn load_line<D: Depot>(
                 tables,
                 script: "",
             };
-            input_line(alloc, &names, broken, depot)
+            input_line(alloc, &names, broken)
         }
         LoadFailure::TooSmall { need, have } => {
             let blocks = need / BLOCK_PAGES;

@@ -1,22 +1,31 @@
 //! What is told of how `local` and `query` ended, each kind once.
 
 use crate::Ended;
-use crate::clinic::{CLINIC, LOCAL, NO_FAILS, QUERY, objects_with, told};
-use csv_split::{LoadFault, Place};
-use key_inputs::InputFault;
+use crate::clinic::{LOCAL, QUERY, told};
+use csv_split::Place;
+use key_inputs::{BrokenSchema, BrokenTable, FieldNamed, InputFault, Shown};
 use key_local::{LocalEnd, LocalFailure};
 use key_query::QueryFailure;
 use key_session::{Damage, SessionStatus, Tally};
 use std::alloc::AllocError;
-use tree_schema::SchemaFault;
 
 #[test]
 fn each_end_of_local_is_told(rt: HostRuntime) -> Result<(), AllocError> {
-    let reference = LoadFault::BadReference(Place {
+    let at = Place {
         table: 2,
         rec: 2,
         column: 3,
-    });
+    };
+    let field = FieldNamed {
+        at,
+        table: Shown::of(b"visit"),
+        column: Shown::of(b"doc"),
+    };
+    let reference = BrokenTable::BadReference {
+        field,
+        child: Shown::of(b"doctor"),
+        value: Shown::of(b"1"),
+    };
     let cases = [
         (Ok(LocalEnd::Ok), 0u8, "done"),
         (
@@ -64,7 +73,7 @@ fn each_end_of_local_is_told(rt: HostRuntime) -> Result<(), AllocError> {
             "schema: the schema has more than 65536 bytes",
         ),
         (
-            Err(LocalFailure::Input(InputFault::Schema(SchemaFault::Syntax { at: 3 }))),
+            Err(LocalFailure::Input(InputFault::Schema(BrokenSchema::Syntax { at: 3 }))),
             4,
             "schema: the text breaks the grammar at byte 3",
         ),
@@ -86,8 +95,7 @@ fn each_end_of_local_is_told(rt: HostRuntime) -> Result<(), AllocError> {
     ];
     for (outcome, code, line) in cases.iter() {
         let ended = Ended::Local(*outcome);
-        let mut clinic = objects_with(rt.alloc(), &CLINIC, "", &NO_FAILS)?;
-        let said = told(rt.alloc(), LOCAL, &ended, &mut clinic)?;
+        let said = told(rt.alloc(), LOCAL, &ended)?;
         assert_eq!(rt; said.as_str(), *line);
         assert_eq!(rt; ended.exit_code(), *code, "{line}");
     }
@@ -140,8 +148,7 @@ fn each_end_of_a_session_is_told(rt: HostRuntime) -> Result<(), AllocError> {
             faulted: 1,
             status: *status,
         }));
-        let mut clinic = objects_with(rt.alloc(), &CLINIC, "", &NO_FAILS)?;
-        let said = told(rt.alloc(), QUERY, &ended, &mut clinic)?;
+        let said = told(rt.alloc(), QUERY, &ended)?;
         assert_eq!(rt; said.as_str(), *line);
         assert_eq!(rt; ended.exit_code(), *code, "{line}");
     }
@@ -193,8 +200,7 @@ fn each_reason_for_no_session_is_told(rt: HostRuntime) -> Result<(), AllocError>
     ];
     for (failure, code, line) in cases.iter() {
         let ended = Ended::Query(Err(*failure));
-        let mut clinic = objects_with(rt.alloc(), &CLINIC, "", &NO_FAILS)?;
-        let said = told(rt.alloc(), QUERY, &ended, &mut clinic)?;
+        let said = told(rt.alloc(), QUERY, &ended)?;
         assert_eq!(rt; said.as_str(), *line);
         assert_eq!(rt; ended.exit_code(), *code, "{line}");
     }

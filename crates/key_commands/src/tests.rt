@@ -195,7 +195,7 @@ fn what_went_wrong_is_told(rt: HostRuntime) -> Result<(), AllocError> {
         let mut clinic = clinic_with(rt.alloc(), doctors, visits, "")?;
         let ended = call(rt.alloc(), line, &mut clinic)?;
         assert_eq!(rt; ended.exit_code(), *code, "{expected}");
-        let said = told(rt.alloc(), line, &ended, &mut clinic)?;
+        let said = told(rt.alloc(), line, &ended)?;
         assert_eq!(rt; said.as_str(), *expected);
     }
     Ok(())
@@ -233,7 +233,7 @@ fn a_broken_schema_is_told_by_its_names(rt: HostRuntime) -> Result<(), AllocErro
     for (schema, expected) in cases.iter() {
         let mut clinic = objects_with(rt.alloc(), &CLINIC, schema, &NO_FAILS)?;
         let ended = call(rt.alloc(), line, &mut clinic)?;
-        let said = told(rt.alloc(), line, &ended, &mut clinic)?;
+        let said = told(rt.alloc(), line, &ended)?;
         assert_eq!(rt; said.as_str(), *expected);
     }
     Ok(())
@@ -242,15 +242,12 @@ fn a_broken_schema_is_told_by_its_names(rt: HostRuntime) -> Result<(), AllocErro
 #[test]
 fn refused_words_are_told_with_the_usage(rt: HostRuntime) -> Result<(), AllocError> {
     let cases = [
-        ("key", "these are not the words of a command; "),
-        ("key help", "these are not the words of a command; "),
-        (
-            "key plain --schema schema",
-            "these are not the words of a command; ",
-        ),
+        ("key", "no command is given; "),
+        ("key help", "help is no command; "),
+        ("key plain --schema schema", "--data is missing; "),
         (
             "key plain --schema schema --data tables --script script --flash flash",
-            "these are not the words of a command; ",
+            "--flash is no option here; ",
         ),
         (
             "key load --schema schema --data tables --flash flash --visible visible --blocks none",
@@ -269,7 +266,7 @@ fn refused_words_are_told_with_the_usage(rt: HostRuntime) -> Result<(), AllocErr
         let mut clinic = objects_with(rt.alloc(), &CLINIC, "", &NO_FAILS)?;
         let ended = call(rt.alloc(), line, &mut clinic)?;
         assert_eq!(rt; ended.exit_code(), 2, "{line}");
-        let said = told(rt.alloc(), line, &ended, &mut clinic)?;
+        let said = told(rt.alloc(), line, &ended)?;
         assert!(rt; said.as_str().starts_with(*cause), "{line}");
         assert!(rt; said.as_str().ends_with(USAGE), "{line}");
         assert!(rt; clinic.out.bytes().is_empty(), "{line}");

@@ -1,5 +1,5 @@
 -- How a loading ended, from what its parts did.
-use Rattle.std.proofs.Common.{◌≡◌, ℕ, ◌≤◌, ◌<◌, ◌*◌, Bool, true, false, List, Result, Ok, Err, OnOk, ap, subst, ◌∙◌}
+use Rattle.std.proofs.Common.{◌≡◌, ◌⊎◌, inl, inr, ℕ, ◌≤◌, ◌<◌, ◌*◌, Bool, true, false, List, Some, Result, Ok, Err, OnOk, refl, ap, subst, ◌∙◌}
 use Rattle.ghost_model.specs.Database.{IsDatabase}
 use Rattle.ghost_model.specs.Flash.{HoldsCatalog, HoldsColumns}
 use Rattle.ghost_model.specs.Layout.{need}
@@ -14,8 +14,8 @@ use Rattle.key_inputs.specs.Views.{AreSpelled}
 use Rattle.key_inputs.specs.declared.opening.Input.{Input}
 use Rattle.key_words.specs.Words.{Load}
 use Rattle.key_load.specs.Loadings.{catalog_for, pages_for, loaded_line}
-use Rattle.key_load.specs.Preparing.{IsPrepared}
-use Rattle.key_load.specs.Results.{World, Loading, loading, catalog_in, pages_in, HasHostFile, Stands, EndsLoading, Ends, EndsSome, IsOfMaking}
+use Rattle.key_load.specs.Preparing.{IsPrepared, IsBuilt}
+use Rattle.key_load.specs.Results.{World, Loading, loading, catalog_in, pages_in, HasHostFile, LeavesBoth, Builds, WritesFile, Stands, EndsLoading, Ends, EndsSome, IsOfMaking, TellsPreparing}
 use Rattle.key_load.specs.declared.failures.LoadFailure.{LoadFailure}
 use Rattle.key_load.specs.declared.failures.LoadFailure.TheVariants as failure
 use Rattle.key_load.specs.declared.preparing.Prepared.{Prepared}
@@ -24,18 +24,31 @@ pub on_ok : {T E : Type 0} (result : Result T E) (P : Type 0) → P → OnOk res
 on_ok (Ok value) P holds = holds
 on_ok (Err fault) P holds = tt
 
+-- nothing was prepared
+pub unprepared : (T : Type 0) (told : Bool) (one : Loading) (before after : World) (fault : LoadFailure) → LeavesBoth before after
+    → TellsPreparing (catalog_in one) one.words.blocks fault → EndsLoading {T = T} told one (Err fault) before after
+unprepared T told one before after failure.NoMemory leaves tells = inl leaves
+unprepared T told one before after failure.Depot leaves tells = absurd tells
+unprepared T told one before after (failure.Input broken) leaves tells = tells
+unprepared T told one before after (failure.TooSmall needed had) leaves tells = tells
+unprepared T told one before after failure.Flash leaves tells = absurd tells
+unprepared T told one before after failure.Sink leaves tells = absurd tells
+
 -- the writing failed
 pub failed : {T : Type 0} (result : Result T LoadFailure) (told : Bool) (one : Loading) (before after : World) (fault : LoadFailure) → IsOfMaking {T = T} (Err fault)
     → need (catalog_in one) ≤ pages_in one
+    → (fault ≡ failure.Depot → Builds told one after)
+    → (fault ≡ failure.Flash → (after.files ≡ before.files) ⊎ WritesFile told one before after)
     → (0 < after.device.page_count → after.device.blank 0 ≡ false → HasHostFile one before after)
     → (0 < after.device.page_count → after.device.blank 0 ≡ false → told ≡ true → HoldsColumns after.device.page (catalog_in one) (hidden_of one.schema one.database))
     → EndsLoading {T = T} told one (Err fault) before after
-failed result told one before after failure.NoMemory of enough file columns = tt
-failed result told one before after failure.Depot of enough file columns = tt
-failed result told one before after (failure.Input broken) of enough file columns = of
-failed result told one before after (failure.TooSmall needed had) of enough file columns = absurd of
-failed result told one before after failure.Flash of enough file columns = record { enough = enough; file = file; columns = columns }
-failed result told one before after failure.Sink of enough file columns = absurd of
+failed result told one before after failure.NoMemory of enough builds files file columns = inr enough
+failed result told one before after failure.Depot of enough builds files file columns = builds refl
+failed result told one before after (failure.Input broken) of enough builds files file columns = of
+failed result told one before after (failure.TooSmall needed had) of enough builds files file columns = absurd of
+failed result told one before after failure.Flash of enough builds files file columns =
+    record { enough = enough; files = files refl; file = file; columns = columns }
+failed result told one before after failure.Sink of enough builds files file columns = absurd of
 
 module _ {T : Type 0} where
   -- a loading ended so of the tables that the files spell
@@ -47,8 +60,16 @@ module _ {T : Type 0} where
     spelled = are.spelled;
     ended = subst (λ (database : Database). EndsLoading told (loading input.schema database words) (Ok done) before after) are.tables ended;
   }
-  ends_spelled told opening input words (Err failure.NoMemory) before after are ended = tt
-  ends_spelled told opening input words (Err failure.Depot) before after are ended = tt
+  ends_spelled told opening input words (Err failure.NoMemory) before after are ended = inr (record {
+    input = record { schema = input.schema; files = are.files };
+    spelled = are.spelled;
+    ended = subst (λ (database : Database). EndsLoading {T = T} told (loading input.schema database words) (Err failure.NoMemory) before after) are.tables ended;
+  })
+  ends_spelled told opening input words (Err failure.Depot) before after are ended = inr (record {
+    input = record { schema = input.schema; files = are.files };
+    spelled = are.spelled;
+    ended = subst (λ (database : Database). EndsLoading {T = T} told (loading input.schema database words) (Err failure.Depot) before after) are.tables ended;
+  })
   ends_spelled told opening input words (Err (failure.Input broken)) before after are ended = absurd ended
   ends_spelled told opening input words (Err (failure.TooSmall needed had)) before after are ended = record {
     input = record { schema = input.schema; files = are.files };
@@ -72,8 +93,10 @@ module _ {T : Type 0} where
       → EndsSome told words result before after
   ends_some told schema database words (Ok done) before after are ended =
       record { schema = schema; database = database; are = are; ended = ended }
-  ends_some told schema database words (Err failure.NoMemory) before after are ended = tt
-  ends_some told schema database words (Err failure.Depot) before after are ended = tt
+  ends_some told schema database words (Err failure.NoMemory) before after are ended =
+      inr (record { schema = schema; database = database; are = are; ended = ended })
+  ends_some told schema database words (Err failure.Depot) before after are ended =
+      inr (record { schema = schema; database = database; are = are; ended = ended })
   ends_some told schema database words (Err (failure.Input broken)) before after are ended = tt
   ends_some told schema database words (Err (failure.TooSmall needed had)) before after are ended =
       record { schema = schema; database = database; are = are; ended = ended }
@@ -99,15 +122,37 @@ module _ (schema : Schema) (database : Database) (words : Load) (prepared : Prep
       subst (λ (hidden : Hidden). HoldsColumns page (catalog_for schema database) hidden) are.hidden
       (subst (λ (cat : Catalog). HoldsColumns page cat prepared.hidden) are.cat holds)
 
+  -- what was prepared was built
+  pub built : (told : Bool) → IsPrepared schema database words.blocks prepared → need prepared.cat ≤ 64 * prepared.blocks
+      → (after : World) → IsBuilt told prepared words.flash after.device → Builds told (loading schema database words) after
+  built told are enough after is = record {
+    enough = large_enough are enough;
+    name = is.name;
+    pages = is.pages ∙ ap (λ blocks. 64 * blocks) are.blocks;
+    columns = λ t. columns_stand are after.device.page (is.columns t);
+  }
+
+  -- the host's file is as before, or written where it was
+  pub written : (told : Bool) → IsPrepared schema database words.blocks prepared → need prepared.cat ≤ 64 * prepared.blocks → (before after : World)
+      → (after.files ≡ before.files) ⊎ IsBuilt told prepared words.flash after.device
+      → (after.files ≡ before.files) ⊎ (after.files ≡ with_file before.files words.visible prepared.image.items)
+      → (after.files ≡ before.files) ⊎ WritesFile told (loading schema database words) before after
+  written told are enough before after (inl same) file = inl same
+  written told are enough before after (inr is) (inl same) = inl same
+  written told are enough before after (inr is) (inr file) =
+      inr (record { builds = built told are enough after is; file = host_file are before after file })
+
   -- what was prepared stands
   pub stands : (told : Bool) → IsPrepared schema database words.blocks prepared → (before after : World)
       → need prepared.cat ≤ 64 * prepared.blocks
+      → after.device.name ≡ Some words.flash
       → (told ≡ true → HoldsCatalog after.device.page prepared.cat)
       → (told ≡ true → HoldsColumns after.device.page prepared.cat prepared.hidden)
       → after.device.page_count ≡ 64 * prepared.blocks
       → after.files ≡ with_file before.files words.visible prepared.image.items
       → Stands told (loading schema database words) before after
-  stands told are before after enough catalog columns pages file = record {
+  stands told are before after enough name catalog columns pages file = record {
+    name = name;
     catalog = λ t. subst (λ (cat : Catalog). HoldsCatalog after.device.page cat) are.cat (catalog t);
     columns = λ t. columns_stand are after.device.page (columns t);
     pages = pages ∙ ap (λ blocks. 64 * blocks) are.blocks;

@@ -1,8 +1,10 @@
--- What was prepared of a database.
-use Rattle.std.specs.Prelude.{◌≡◌, ℕ, Option}
+-- What was prepared of a database, and what stands of it on the flash.
+use Rattle.std.specs.Prelude.{◌≡◌, ℕ, ◌*◌, Bool, true, List, Option, Some}
+use Rattle.ghost_model.specs.Flash.{HoldsColumns}
 use Rattle.ghost_model.specs.Schema.{Schema}
 use Rattle.ghost_model.specs.Split.{public_of, hidden_of, image}
 use Rattle.ghost_model.specs.Values.{Database}
+use Rattle.edge_traits.specs.Devices.{Device}
 use Rattle.key_load.specs.Loadings.{catalog_for, blocks_for}
 use Rattle.key_load.specs.declared.preparing.Prepared.{Prepared}
 
@@ -11,3 +13,9 @@ pub record IsPrepared (schema : Schema) (database : Database) (asked : Option �
   pub hidden : prepared.hidden ≡ hidden_of schema database
   pub image : prepared.image.items ≡ image (catalog_for schema database) (public_of schema database)
   pub blocks : prepared.blocks ≡ blocks_for (catalog_for schema database) asked
+
+-- the device is open under that name, and the files of the hidden part stand on it
+pub record IsBuilt (told : Bool) (prepared : Prepared) (flash : List ℕ) (device : Device) : Type 0 where
+  pub name : device.name ≡ Some flash
+  pub pages : device.page_count ≡ 64 * prepared.blocks
+  pub columns : told ≡ true → HoldsColumns device.page prepared.cat prepared.hidden

@@ -1,5 +1,5 @@
 -- What a call of `load` did, by its result.
-use Rattle.std.specs.Prelude.{◌≡◌, ℕ, ◌≤◌, ◌<◌, Bool, true, false, List, Option, Some, Result, Ok, Err, ⊤}
+use Rattle.std.specs.Prelude.{◌≡◌, ◌⊎◌, ℕ, ◌≤◌, ◌<◌, Bool, true, false, List, Option, Some, Result, Ok, Err, ⊤}
 use Rattle.ghost_model.specs.Channel.{Catalog}
 use Rattle.ghost_model.specs.Database.{IsDatabase, database_of}
 use Rattle.ghost_model.specs.Flash.{HoldsCatalog, HoldsColumns}
@@ -55,8 +55,21 @@ pub record IsTooSmall (cat : Catalog) (pages : ℕ) (needed had : ℕ) : Type 0 
   pub has : had ≡ pages
   pub less : had < needed
 
+-- flash and files are as before
+pub record LeavesBoth (before after : World) : Type 0 where
+  pub device : after.device ≡ before.device
+  pub files : after.files ≡ before.files
+
+-- the flash was to be large enough, and the files of the hidden part stand on it
+pub record Builds (told : Bool) (one : Loading) (after : World) : Type 0 where
+  pub enough : need (catalog_in one) ≤ pages_in one
+  pub name : after.device.name ≡ Some one.words.flash
+  pub pages : after.device.page_count ≡ pages_in one
+  pub columns : told ≡ true → HoldsColumns after.device.page (catalog_in one) (hidden_of one.schema one.database)
+
 -- both ends' files stand
 pub record Stands (told : Bool) (one : Loading) (before after : World) : Type 0 where
+  pub name : after.device.name ≡ Some one.words.flash
   pub catalog : told ≡ true → HoldsCatalog after.device.page (catalog_in one)
   pub columns : told ≡ true → HoldsColumns after.device.page (catalog_in one) (hidden_of one.schema one.database)
   pub pages : after.device.page_count ≡ pages_in one
@@ -73,9 +86,16 @@ pub record LoadsUnprinted (told : Bool) (one : Loading) (before after : World) :
   pub stands : Stands told one before after
   pub front : GrowsByFront before.written (loaded_line (catalog_in one) (pages_in one)) after.written
 
--- the flash failed: it was to be large enough, and where page 0 was begun the files of both ends stand
+-- the host's file is written where the files of the hidden part stand
+pub record WritesFile (told : Bool) (one : Loading) (before after : World) : Type 0 where
+  pub builds : Builds told one after
+  pub file : HasHostFile one before after
+
+-- the flash failed: it was to be large enough, the files are as before or have the host's file, and where page 0 was begun
+-- the files of both ends stand
 pub record LeavesUnsealed (told : Bool) (one : Loading) (before after : World) : Type 0 where
   pub enough : need (catalog_in one) ≤ pages_in one
+  pub files : (after.files ≡ before.files) ⊎ WritesFile told one before after
   pub file : 0 < after.device.page_count → after.device.blank 0 ≡ false → HasHostFile one before after
   pub columns :
       0 < after.device.page_count → after.device.blank 0 ≡ false → told ≡ true
@@ -84,8 +104,9 @@ pub record LeavesUnsealed (told : Bool) (one : Loading) (before after : World) :
 -- how a loading of tables that were read ended
 abbrev pub EndsLoading : {T : Type 0} → (told : Bool) → Loading → Result T LoadFailure → (before after : World) → Type 0
 EndsLoading told one (Ok _) before after = Loads told one before after
-EndsLoading told one (Err failure.NoMemory) before after = ⊤
-EndsLoading told one (Err failure.Depot) before after = ⊤
+EndsLoading told one (Err failure.NoMemory) before after =
+    LeavesBoth before after ⊎ (need (catalog_in one) ≤ pages_in one)
+EndsLoading told one (Err failure.Depot) before after = Builds told one after
 EndsLoading told one (Err (failure.Input broken)) before after = ⊥
 EndsLoading told one (Err (failure.TooSmall needed had)) before after =
     IsTooSmall (catalog_in one) (pages_in one) needed had
@@ -108,8 +129,10 @@ pub record EndsSpelled {T : Type 0} (told : Bool) (opening : Opening TablesInput
 -- how a call ended of which the depot tells its files
 abbrev pub Ends : {T : Type 0} → (told : Bool) → Opening TablesInput → Load → Result T LoadFailure → (before after : World) → Type 0
 Ends told opening words (Ok done) before after = EndsSpelled told opening words (Ok done) before after
-Ends told opening words (Err failure.NoMemory) before after = ⊤
-Ends told opening words (Err failure.Depot) before after = ⊤
+Ends {T = T} told opening words (Err failure.NoMemory) before after =
+    LeavesBoth before after ⊎ EndsSpelled {T = T} told opening words (Err failure.NoMemory) before after
+Ends {T = T} told opening words (Err failure.Depot) before after =
+    LeavesBoth before after ⊎ EndsSpelled {T = T} told opening words (Err failure.Depot) before after
 Ends told opening words (Err (failure.Input broken)) before after = IsTold opening broken
 Ends {T = T} told opening words (Err (failure.TooSmall needed had)) before after =
     EndsSpelled {T = T} told opening words (Err (failure.TooSmall needed had)) before after
@@ -126,8 +149,10 @@ pub record EndsRead {T : Type 0} (told : Bool) (words : Load) (result : Result T
 -- how a call ended, whether or not the depot tells its files
 abbrev pub EndsSome : {T : Type 0} → (told : Bool) → Load → Result T LoadFailure → (before after : World) → Type 0
 EndsSome told words (Ok done) before after = EndsRead told words (Ok done) before after
-EndsSome told words (Err failure.NoMemory) before after = ⊤
-EndsSome told words (Err failure.Depot) before after = ⊤
+EndsSome {T = T} told words (Err failure.NoMemory) before after =
+    LeavesBoth before after ⊎ EndsRead {T = T} told words (Err failure.NoMemory) before after
+EndsSome {T = T} told words (Err failure.Depot) before after =
+    LeavesBoth before after ⊎ EndsRead {T = T} told words (Err failure.Depot) before after
 EndsSome told words (Err (failure.Input broken)) before after = ⊤
 EndsSome {T = T} told words (Err (failure.TooSmall needed had)) before after =
     EndsRead {T = T} told words (Err (failure.TooSmall needed had)) before after

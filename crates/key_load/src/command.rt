@@ -1,13 +1,13 @@
 //! The command.
 
-ghost use Rattle.std.specs.Prelude.{◌≡◌, ◌⊎◌, ◌≤◌, ◌*◌, true, false, Some, Err};
+ghost use Rattle.std.specs.Prelude.{◌≡◌, ◌⊎◌, ◌≤◌, ◌*◌, true, false, Some, Err, ℕ, List};
 ghost use Rattle.ghost_model.specs.Causes.{Rose};
 ghost use Rattle.ghost_model.specs.Database.{IsDatabase};
 ghost use Rattle.ghost_model.specs.Layout as layout;
 ghost use Rattle.ghost_model.specs.Schema.{Schema};
 ghost use Rattle.ghost_model.specs.Values.{Database};
 ghost use Rattle.edge_traits.specs.Files.{Files, SameBut};
-ghost use Rattle.flash_build.specs.Building.{IsHiddenPart};
+ghost use Rattle.ghost_model.specs.Flash.{IsHidden};
 ghost use Rattle.key_words.specs.Blocks.{most_blocks};
 ghost use Rattle.key_words.specs.Views.{load_view};
 ghost use Rattle.key_inputs.specs.Openings.{Spelled, TablesInput, tables_opening};
@@ -30,8 +30,9 @@ use std::alloc::Global;
 /// hidden part to it, then writes the host's file, then the catalog's pages from the last to page 0, and prints
 /// `= tables t rows r pages p`.
 ///
-/// Until the flash is made, it and the host's file are as before. As long as page 0 is blank, its pages spell no catalog.
-/// Where only the line could not be printed, both files stand.
+/// Until the flash is made, it and the host's file are as before: it is made where all files were read and it is to be large
+/// enough, and under its own name. As long as page 0 is blank, its pages spell no catalog. Where only the line could not be
+/// printed, both files stand.
 pub fn load<D: Depot, F: Flash, O: Sink>(
     alloc: Global,
     words: &LoadWords<'_>,
@@ -51,6 +52,7 @@ pub fn load<D: Depot, F: Flash, O: Sink>(
     ensures nothing_made { makes_nothing result ≡ true → F.state flash.new ≡ F.state flash.old }
     ensures file_left { leaves_file result ≡ true → D.contents depot.new ≡ D.contents depot.old }
     ensures made_first { (F.state flash.new).page_count ≡ 0 → D.contents depot.new ≡ D.contents depot.old }
+    ensures never_other { (F.state flash.new ≡ F.state flash.old) ⊎ ((other : List ℕ) → (F.state flash.new).name ≡ Some other → other ≡ words.now.flash.now) }
     ensures page_0 { leaves_page_0 result ≡ true → (F.state flash.new ≡ F.state flash.old) ⊎ HasBlankPage0 (F.state flash.new) }
     ensures unsealed { (F.state flash.new ≡ F.state flash.old) ⊎ IsUnsealed F.told (F.state flash.new) }
     ensures others { SameBut words.now.visible.now (D.contents depot.old) (D.contents depot.new) }
@@ -86,6 +88,7 @@ fn load_input<D: Depot, F: Flash, O: Sink>(
     ensures nothing_made { makes_nothing result ≡ true → F.state flash.new ≡ F.state flash.old }
     ensures file_left { leaves_file result ≡ true → D.contents depot.new ≡ D.contents depot.old }
     ensures made_first { (F.state flash.new).page_count ≡ 0 → D.contents depot.new ≡ D.contents depot.old }
+    ensures never_other { (F.state flash.new ≡ F.state flash.old) ⊎ ((other : List ℕ) → (F.state flash.new).name ≡ Some other → other ≡ words.now.flash.now) }
     ensures page_0 { leaves_page_0 result ≡ true → (F.state flash.new ≡ F.state flash.old) ⊎ HasBlankPage0 (F.state flash.new) }
     ensures unsealed { (F.state flash.new ≡ F.state flash.old) ⊎ IsUnsealed F.told (F.state flash.new) }
     ensures others { SameBut words.now.visible.now (D.contents depot.old) (D.contents depot.new) }
@@ -112,7 +115,7 @@ fn load_prepared<D: Depot, F: Flash, O: Sink>(
     flash: &mut F,
     out: &mut O,
 ) -> Result<(), LoadFailure>
-    requires part { IsHiddenPart prepared.now.cat prepared.now.hidden }
+    requires part { IsHidden prepared.now.cat prepared.now.hidden }
     requires enough { layout.need prepared.now.cat ≤ 64 * prepared.now.blocks }
     requires most { prepared.now.blocks ≤ most_blocks }
     ensures ends { (schema : Schema) → (database : Database) → IsPrepared schema database words.now.blocks prepared.now
@@ -122,6 +125,7 @@ fn load_prepared<D: Depot, F: Flash, O: Sink>(
     ensures made { makes_nothing result ≡ false }
     ensures file_left { leaves_file result ≡ true → D.contents depot.new ≡ D.contents depot.old }
     ensures made_first { (F.state flash.new).page_count ≡ 0 → D.contents depot.new ≡ D.contents depot.old }
+    ensures never_other { (other : List ℕ) → (F.state flash.new).name ≡ Some other → other ≡ words.now.flash.now }
     ensures page_0 { leaves_page_0 result ≡ true → HasBlankPage0 (F.state flash.new) }
     ensures unsealed { IsUnsealed F.told (F.state flash.new) }
     ensures others { SameBut words.now.visible.now (D.contents depot.old) (D.contents depot.new) }

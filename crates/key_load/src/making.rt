@@ -1,15 +1,16 @@
 //! The writing of both ends' files.
 
-ghost use Rattle.std.specs.Prelude.{◌≡◌, ◌<◌, ◌≤◌, ◌*◌, true, false, Err, OnOk, OnErr};
+ghost use Rattle.std.specs.Prelude.{◌≡◌, ◌⊎◌, ◌<◌, ◌≤◌, ◌*◌, true, false, Some, Err, OnOk, ℕ, List};
 ghost use Rattle.ghost_model.specs.Causes.{Rose};
 ghost use Rattle.ghost_model.specs.Flash.{HoldsCatalog, HoldsColumns};
 ghost use Rattle.ghost_model.specs.Layout as layout;
 ghost use Rattle.ghost_model.specs.Split.{Hidden};
 ghost use Rattle.edge_traits.specs.Devices.{IsErased};
 ghost use Rattle.edge_traits.specs.Files.{SameBut, with_file};
-ghost use Rattle.flash_build.specs.Building.{IsHiddenPart};
+ghost use Rattle.ghost_model.specs.Flash.{IsHidden};
 ghost use Rattle.flash_build.specs.Sealing.{SpellsNoCatalog};
 ghost use Rattle.key_words.specs.Blocks.{most_blocks};
+ghost use Rattle.key_load.specs.Preparing.{IsBuilt};
 ghost use Rattle.key_load.specs.Results.{IsOfMaking, IsOfWriting, leaves_file, leaves_page_0};
 ghost use Rattle.key_load.specs.declared.failures.LoadFailure.TheVariants as failure;
 
@@ -30,11 +31,13 @@ pub(crate) fn make_both<D: Depot, F: Flash>(
     depot: &mut D,
     flash: &mut F,
 ) -> Result<(), LoadFailure>
-    requires part { IsHiddenPart prepared.now.cat prepared.now.hidden }
+    requires part { IsHidden prepared.now.cat prepared.now.hidden }
     requires enough { layout.need prepared.now.cat ≤ 64 * prepared.now.blocks }
     requires most { prepared.now.blocks ≤ most_blocks }
     ensures catalog { OnOk result (F.told ≡ true → HoldsCatalog (F.state flash.new).page prepared.now.cat) }
     ensures columns { OnOk result (F.told ≡ true → HoldsColumns (F.state flash.new).page prepared.now.cat prepared.now.hidden) }
+    ensures named { OnOk result ((F.state flash.new).name ≡ Some words.now.flash.now) }
+    ensures never_other { (other : List ℕ) → (F.state flash.new).name ≡ Some other → other ≡ words.now.flash.now }
     ensures pages { OnOk result ((F.state flash.new).page_count ≡ 64 * prepared.now.blocks) }
     ensures file { OnOk result (D.contents depot.new ≡ with_file (D.contents depot.old) words.now.visible.now prepared.now.image.items) }
     ensures kinds { IsOfMaking result }
@@ -42,6 +45,9 @@ pub(crate) fn make_both<D: Depot, F: Flash>(
     ensures sealed_last { 0 < (F.state flash.new).page_count → (F.state flash.new).blank 0 ≡ false → D.contents depot.new ≡ with_file (D.contents depot.old) words.now.visible.now prepared.now.image.items }
     ensures page_0 { leaves_page_0 result ≡ true → 0 < (F.state flash.new).page_count → (F.state flash.new).blank 0 ≡ true }
     ensures files_first { 0 < (F.state flash.new).page_count → (F.state flash.new).blank 0 ≡ false → F.told ≡ true → HoldsColumns (F.state flash.new).page prepared.now.cat prepared.now.hidden }
+    ensures built_first { (D.contents depot.new ≡ D.contents depot.old) ⊎ IsBuilt F.told prepared.now words.now.flash.now (F.state flash.new) }
+    ensures depot_last { result ≡ Err failure.Depot → IsBuilt F.told prepared.now words.now.flash.now (F.state flash.new) }
+    ensures flash_file { result ≡ Err failure.Flash → (D.contents depot.new ≡ D.contents depot.old) ⊎ (D.contents depot.new ≡ with_file (D.contents depot.old) words.now.visible.now prepared.now.image.items) }
     ensures file_left { leaves_file result ≡ true → D.contents depot.new ≡ D.contents depot.old }
     ensures made_first { (F.state flash.new).page_count ≡ 0 → D.contents depot.new ≡ D.contents depot.old }
     ensures others { SameBut words.now.visible.now (D.contents depot.old) (D.contents depot.new) }
@@ -79,8 +85,10 @@ fn write_both<D: Depot, F: Flash>(
     requires unsealed { 0 < (F.state flash.old).page_count → F.told ≡ true → SpellsNoCatalog (F.state flash.old).page }
     ensures catalog { OnOk result (F.told ≡ true → HoldsCatalog (F.state flash.new).page prepared.now.cat) }
     ensures columns { (hidden : Hidden) → HoldsColumns (F.state flash.old).page prepared.now.cat hidden → HoldsColumns (F.state flash.new).page prepared.now.cat hidden }
+    ensures named { (F.state flash.new).name ≡ (F.state flash.old).name }
     ensures pages { (F.state flash.new).page_count ≡ (F.state flash.old).page_count }
     ensures file { OnOk result (D.contents depot.new ≡ with_file (D.contents depot.old) words.now.visible.now prepared.now.image.items) }
+    ensures flash_file { result ≡ Err failure.Flash → D.contents depot.new ≡ with_file (D.contents depot.old) words.now.visible.now prepared.now.image.items }
     ensures kinds { IsOfWriting result }
     ensures unsealed { F.told ≡ true → (F.state flash.new).blank 0 ≡ true → SpellsNoCatalog (F.state flash.new).page }
     ensures page_0 { leaves_page_0 result ≡ true → (F.state flash.new).blank 0 ≡ true }

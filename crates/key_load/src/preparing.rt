@@ -4,7 +4,7 @@ ghost use Rattle.std.specs.Prelude.{◌≡◌, ◌≤◌, ◌*◌, Some, MatchRe
 ghost use Rattle.ghost_model.specs.Database.{IsDatabase};
 ghost use Rattle.ghost_model.specs.Layout as layout;
 ghost use Rattle.ghost_model.specs.Split as parts;
-ghost use Rattle.flash_build.specs.Building.{IsHiddenPart};
+ghost use Rattle.ghost_model.specs.Flash.{IsHidden};
 ghost use Rattle.key_words.specs.Blocks.{most_blocks, IsFew};
 ghost use Rattle.key_load.specs.Loadings.{catalog_for, blocks_for};
 ghost use Rattle.key_load.specs.Results.{TellsPreparing, TellsBlocks};
@@ -55,7 +55,7 @@ pub(crate) fn prepare(
     ensures cat { IfOk result (λ prepared. prepared.cat ≡ catalog_for input.schema input.tables) }
     ensures hidden { IfOk result (λ prepared. prepared.hidden ≡ parts.hidden_of input.schema input.tables) }
     ensures image { IfOk result (λ prepared. prepared.image.items ≡ parts.image (catalog_for input.schema input.tables) (parts.public_of input.schema input.tables)) }
-    ensures part { IfOk result (λ prepared. IsHiddenPart prepared.cat prepared.hidden) }
+    ensures part { IfOk result (λ prepared. IsHidden prepared.cat prepared.hidden) }
     ensures blocks { IfOk result (λ prepared. prepared.blocks ≡ blocks_for (catalog_for input.schema input.tables) asked) }
     ensures enough { IfOk result (λ prepared. layout.need prepared.cat ≤ 64 * prepared.blocks) }
     ensures most { IfOk result (λ prepared. prepared.blocks ≤ most_blocks) }

@@ -1,6 +1,7 @@
 -- How the command ended, from what its parts did.
-use Rattle.std.proofs.Common.{◌≡◌, ◌≤◌, ◌+◌, min, ℕ, Bool, true, false, List, [], Option, None, Some, Result, Ok, Err, refl, sym, ap, ◌∙◌, subst}
+use Rattle.std.proofs.Common.{◌≡◌, ◌⊎◌, inl, inr, ◌≤◌, ◌<◌, ◌+◌, min, ℕ, Bool, true, false, List, [], Option, None, Some, Result, Ok, Err, refl, sym, ap, ◌∙◌, subst, arith}
 use Rattle.std.specs.Prelude.{count_by}
+use Rattle.std.proofs.lemmas.Bool.{cases_lt}
 use Rattle.ghost_model.specs.Causes.{Rose, last_count}
 use Rattle.ghost_model.specs.Channel.{Catalog}
 use Rattle.ghost_model.specs.Database.{IsDatabase}
@@ -12,14 +13,15 @@ use Rattle.ghost_model.specs.Split.{Hidden, hidden_of}
 use Rattle.ghost_model.specs.Texts.{texts_of}
 use Rattle.ghost_model.specs.Values.{Database}
 use Rattle.ghost_model.specs.Work.{pages_built}
-use Rattle.edge_traits.specs.Devices.{KeepsPages}
+use Rattle.edge_traits.specs.Devices.{Counts, KeepsPages}
 use Rattle.edge_traits.specs.Written.{grown}
 use Rattle.key_inputs.specs.Openings.{Opening}
+use Rattle.key_words.specs.Words.{Local}
 use Rattle.key_plain.specs.Openings.{PlainInput}
 use Rattle.key_lines.specs.Handing.{Hands, handed}
 use Rattle.local_lines.specs.Lines.{Gives, bytes_given, is_cut}
 use Rattle.key_local.specs.Sessions.{Subject, subject, catalog_for, World, Ran, HasLines, outside_in, is_sink}
-use Rattle.key_local.specs.Results.{EndsLocal, Ends, EndsSome, subject_of, blames_depot, blames_flash, is_faultless}
+use Rattle.key_local.specs.Results.{EndsLocal, Ends, EndsSome, IsMade, subject_of, blames_depot, blames_flash, is_faultless}
 use Rattle.key_local.specs.Making.{IsOfMaking}
 use Rattle.key_local.specs.Reading.{AreSpelled}
 use Rattle.key_local.specs.Running.{RanOver}
@@ -50,87 +52,133 @@ pub columns_stand : (page : ℕ → List ℕ) (catalog : Catalog) (schema : Sche
 columns_stand page catalog schema database hidden same is holds =
     subst (λ (part : Hidden). HoldsColumns page catalog part) (is ∙ sym (ap (λ (c : Catalog). hidden_of c.schema database) same)) holds
 
+-- a call after those that were counted
+rose_after : (before more now later : ℕ) → Counts more before now → Rose now later → Rose (before + more) later
+rose_after before more now later counts rose = of_cases (cases_lt now last_count)
+  where
+    of_cases : (now < last_count) ⊎ (last_count ≤ now) → Rose (before + more) later
+    of_cases (inl below) = let is = counts.exact below in omega (arith, is, rose)
+    of_cases (inr last) = omega (arith, last, rose)
+
 -- the session ran over what was made for it
-pub ran_of : (told : Bool) (schema : Schema) (database : Database) (texts : List (List ℕ)) (name : Option (List ℕ)) (end : LocalEnd) (catalog : Catalog) (before middle after : World)
-    → catalog ≡ catalog_for schema database → RanOver told catalog database texts name end middle after
+pub ran_of : (told : Bool) (schema : Schema) (database : Database) (texts : List (List ℕ)) (words : Local) (end : LocalEnd) (catalog : Catalog) (before middle after : World)
+    → catalog ≡ catalog_for schema database → RanOver told catalog database texts words.journal end middle after
     → middle.device.faults ≡ before.device.faults → middle.append_faults ≡ before.append_faults → middle.sink_faults ≡ before.sink_faults → middle.written ≡ before.written
-    → HasLines middle.files name []
+    → HasLines middle.files words.journal []
+    → middle.device.name ≡ Some words.flash → Counts (pages_built catalog) before.device.calls middle.device.calls
     → (told ≡ true → HoldsCatalog middle.device.page catalog) → (told ≡ true → HoldsColumns middle.device.page catalog (hidden_of schema database))
     → middle.device.page_count ≡ need catalog → KeepsPages middle.device after.device
-    → Ran told (subject schema database texts name) end before after
-ran_of told schema database texts name end catalog before middle after same ran faults appends sink written empty catalog_there columns_there pages kept =
-    let mine : RanOver told (catalog_for schema database) database texts name end middle after = subst (λ (c : Catalog). RanOver told c database texts name end middle after) same ran in
+    → Ran told (subject schema database texts words) end before after
+ran_of told schema database texts words end catalog before middle after same ran faults appends sink written empty named counts catalog_there columns_there pages kept =
+    let mine : RanOver told (catalog_for schema database) database texts words.journal end middle after = subst (λ (c : Catalog). RanOver told c database texts words.journal end middle after) same ran in
     record {
       journal = mine.journal;
       is_local = mine.is_local;
       finished = mine.finished;
-      kept = λ calm. lines_there name mine.journal middle.files after.files mine.finished empty
+      kept = λ calm. lines_there words.journal mine.journal middle.files after.files mine.finished empty
           (mine.kept (λ rose. calm (subst (λ (count : ℕ). Rose count after.append_faults) appends rose)));
-      all_kept = λ fine. lines_there name mine.journal middle.files after.files mine.finished empty (mine.all_kept fine);
+      all_kept = λ fine. lines_there words.journal mine.journal middle.files after.files mine.finished empty (mine.all_kept fine);
       gives = λ t. gives_since schema database texts (is_sink end) before middle after faults sink written (mine.gives t);
       printed_all = λ t whole. mine.printed_all t whole ∙ ap (λ (held : Option (List ℕ)). grown held (printed schema texts database)) written;
       cut = λ t is. mine.cut t is;
+      more_calls = λ is.
+          let built = subst (λ (c : Catalog). Counts (pages_built c) before.device.calls middle.device.calls) same counts in
+          rose_after before.device.calls (pages_built (catalog_for schema database)) middle.device.calls after.device.calls built (mine.called is);
       undamaged = mine.undamaged;
       damaged = mine.damaged;
       catalog = λ t. subst (λ (page : ℕ → List ℕ). HoldsCatalog page (catalog_for schema database)) (sym kept.page)
           (subst (λ (c : Catalog). HoldsCatalog middle.device.page c) same (catalog_there t));
       columns = λ t. subst (λ (page : ℕ → List ℕ). HoldsColumns page (catalog_for schema database) (hidden_of schema database)) (sym kept.page)
           (subst (λ (c : Catalog). HoldsColumns middle.device.page c (hidden_of schema database)) same (columns_there t));
+      name = kept.name ∙ named;
       pages = kept.page_count ∙ (pages ∙ ap need same);
     }
 
+-- what was made for the session
+pub made_of : (told : Bool) (schema : Schema) (database : Database) (texts : List (List ℕ)) (words : Local) (catalog : Catalog) (hidden : Hidden) (after : World)
+    → catalog ≡ catalog_for schema database → hidden ≡ hidden_of schema database → after.device.name ≡ Some words.flash
+    → (told ≡ true → HoldsCatalog after.device.page catalog) → (told ≡ true → HoldsColumns after.device.page catalog hidden)
+    → after.device.page_count ≡ need catalog → IsMade told (subject schema database texts words) after
+made_of told schema database texts words catalog hidden after same is named catalog_there columns_there pages = record {
+  name = named;
+  catalog = λ t. subst (λ (c : Catalog). HoldsCatalog after.device.page c) same (catalog_there t);
+  columns = λ t. subst (λ (part : Hidden). HoldsColumns after.device.page (catalog_for schema database) part) is
+      (subst (λ (c : Catalog). HoldsColumns after.device.page c hidden) same (columns_there t));
+  pages = pages ∙ ap need same;
+}
+
 -- the making failed
-pub unmade : (told : Bool) (schema : Schema) (database : Database) (texts : List (List ℕ)) (name : Option (List ℕ)) (catalog : Catalog) (before after : World) (fault : LocalFailure)
+pub unmade : (told : Bool) (schema : Schema) (database : Database) (texts : List (List ℕ)) (words : Local) (catalog : Catalog) (before after : World) (fault : LocalFailure)
     → catalog ≡ catalog_for schema database → IsOfMaking {T = Unit {0}} (Err fault) → after.device.calls ≤ before.device.calls + pages_built catalog
-    → EndsLocal told (subject schema database texts name) (Err fault) before after
-unmade told schema database texts name catalog before after failure.NoMemory same of few = tt
-unmade told schema database texts name catalog before after failure.Depot same of few = tt
-unmade told schema database texts name catalog before after (failure.Input broken) same of few = of
-unmade told schema database texts name catalog before after failure.Flash same of few =
+    → EndsLocal told (subject schema database texts words) (Err fault) before after
+unmade told schema database texts words catalog before after failure.NoMemory same of few = tt
+unmade told schema database texts words catalog before after failure.Depot same of few = absurd of
+unmade told schema database texts words catalog before after (failure.Input broken) same of few = of
+unmade told schema database texts words catalog before after failure.Flash same of few =
     record { few_calls = subst (λ (c : Catalog). after.device.calls ≤ before.device.calls + pages_built c) same few }
 
 abbrev inputs_of : Opened → (files : List (List ℕ)) → PlainInput
 inputs_of opened files = record { schema = opened.tables.schema; files = files; script = opened.script.items }
 
-abbrev subject_read : Opened → (name : Option (List ℕ)) → Subject
-subject_read opened name = subject opened.tables.schema opened.tables.tables (texts_of opened.script.items) name
+abbrev subject_read : Opened → Local → Subject
+subject_read opened words = subject opened.tables.schema opened.tables.tables (texts_of opened.script.items) words
 
-same_subject : (opened : Opened) (opening : Opening PlainInput) (name : Option (List ℕ)) → (are : AreSpelled opening opened)
-    → subject_read opened name ≡ subject_of (inputs_of opened are.files) name
-same_subject opened opening name are =
-    ap (λ (database : Database). subject opened.tables.schema database (texts_of opened.script.items) name) are.tables
+same_subject : (opened : Opened) (opening : Opening PlainInput) (words : Local) → (are : AreSpelled opening opened)
+    → subject_read opened words ≡ subject_of (inputs_of opened are.files) words
+same_subject opened opening words are =
+    ap (λ (database : Database). subject opened.tables.schema database (texts_of opened.script.items) words) are.tables
 
 -- the call ended so over what the files spell
-pub ends_spelled : (told : Bool) (opening : Opening PlainInput) (opened : Opened) (name : Option (List ℕ)) (result : Result LocalEnd LocalFailure) (before after : World)
-    → AreSpelled opening opened → EndsLocal told (subject_read opened name) result before after → Ends told opening name result before after
-ends_spelled told opening opened name (Ok end) before after are ended = record {
+pub ends_spelled : (told : Bool) (opening : Opening PlainInput) (opened : Opened) (words : Local) (result : Result LocalEnd LocalFailure) (before after : World)
+    → AreSpelled opening opened → EndsLocal told (subject_read opened words) result before after → Ends told opening words result before after
+ends_spelled told opening opened words (Ok end) before after are ended = record {
   input = inputs_of opened are.files;
   spelled = are.spelled;
-  ended = subst (λ (one : Subject). EndsLocal told one (Ok end) before after) (same_subject opened opening name are) ended;
+  ended = subst (λ (one : Subject). EndsLocal told one (Ok end) before after) (same_subject opened opening words are) ended;
 }
-ends_spelled told opening opened name (Err failure.NoMemory) before after are ended = tt
-ends_spelled told opening opened name (Err failure.Depot) before after are ended = tt
-ends_spelled told opening opened name (Err (failure.Input broken)) before after are ended = absurd ended
-ends_spelled told opening opened name (Err failure.Flash) before after are ended = record {
+ends_spelled told opening opened words (Err failure.NoMemory) before after are ended = inr (record {
   input = inputs_of opened are.files;
   spelled = are.spelled;
-  ended = subst (λ (one : Subject). EndsLocal told one (Err failure.Flash) before after) (same_subject opened opening name are) ended;
+  ended = subst (λ (one : Subject). EndsLocal told one (Err failure.NoMemory) before after) (same_subject opened opening words are) ended;
+})
+ends_spelled told opening opened words (Err failure.Depot) before after are ended = inr (record {
+  input = inputs_of opened are.files;
+  spelled = are.spelled;
+  ended = subst (λ (one : Subject). EndsLocal told one (Err failure.Depot) before after) (same_subject opened opening words are) ended;
+})
+ends_spelled told opening opened words (Err (failure.Input broken)) before after are ended = absurd ended
+ends_spelled told opening opened words (Err failure.Flash) before after are ended = record {
+  input = inputs_of opened are.files;
+  spelled = are.spelled;
+  ended = subst (λ (one : Subject). EndsLocal told one (Err failure.Flash) before after) (same_subject opened opening words are) ended;
 }
 
 -- it ended so over what was read
-pub ends_some : (told : Bool) (opened : Opened) (name : Option (List ℕ)) (result : Result LocalEnd LocalFailure) (before after : World)
-    → IsDatabase opened.tables.schema opened.tables.tables → EndsLocal told (subject_read opened name) result before after → EndsSome told name result before after
-ends_some told opened name (Ok end) before after are ended = record {
+pub ends_some : (told : Bool) (opened : Opened) (words : Local) (result : Result LocalEnd LocalFailure) (before after : World)
+    → IsDatabase opened.tables.schema opened.tables.tables → EndsLocal told (subject_read opened words) result before after → EndsSome told words result before after
+ends_some told opened words (Ok end) before after are ended = record {
   schema = opened.tables.schema;
   database = opened.tables.tables;
   texts = texts_of opened.script.items;
   are = are;
   ended = ended;
 }
-ends_some told opened name (Err failure.NoMemory) before after are ended = tt
-ends_some told opened name (Err failure.Depot) before after are ended = tt
-ends_some told opened name (Err (failure.Input broken)) before after are ended = tt
-ends_some told opened name (Err failure.Flash) before after are ended = record {
+ends_some told opened words (Err failure.NoMemory) before after are ended = inr (record {
+  schema = opened.tables.schema;
+  database = opened.tables.tables;
+  texts = texts_of opened.script.items;
+  are = are;
+  ended = ended;
+})
+ends_some told opened words (Err failure.Depot) before after are ended = inr (record {
+  schema = opened.tables.schema;
+  database = opened.tables.tables;
+  texts = texts_of opened.script.items;
+  are = are;
+  ended = ended;
+})
+ends_some told opened words (Err (failure.Input broken)) before after are ended = tt
+ends_some told opened words (Err failure.Flash) before after are ended = record {
   schema = opened.tables.schema;
   database = opened.tables.tables;
   texts = texts_of opened.script.items;

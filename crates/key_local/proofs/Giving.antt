@@ -71,9 +71,10 @@ pub ran_over : (told : Bool) (catalog : Catalog) (database : Database) (texts : 
     (λ reasons. IsTally (wrote_none tally.status) (left catalog (asked_of catalog.schema texts) journal) reasons tally) (outside_in false before) (outside_in (wrote_none tally.status) after))
     → ((damage : Damage) → tally.status ≡ status.Damaged damage → IsDamaged told before.device.page catalog damage.page damage.slot damage.found) → KeepsPages before.device after.device
     → is_sink end ≡ wrote_none tally.status → (end ≡ ends.Ok → tally.status ≡ status.Ok) → (end ≡ ends.Flash → blames_flash tally.status ≡ true)
+    → (blames_flash tally.status ≡ true → Rose before.device.calls after.device.calls)
     → ((page slot found : ℕ) → end ≡ ends.Damaged page slot found → tally.status ≡ status.Damaged (damage_at page slot found))
     → RanOver told catalog database texts name end before after
-ran_over told catalog database texts name end tally before after journal served given is_local finished kept all_kept are_told blamed pages sink whole flash damaged =
+ran_over told catalog database texts name end tally before after journal served given is_local finished kept all_kept are_told blamed pages sink whole flash called damaged =
     let unbroken = served catalog database [] texts journal is_local in
     let stays = going catalog database texts journal unbroken in
     let right = valid catalog database texts journal unbroken in
@@ -97,6 +98,7 @@ ran_over told catalog database texts name end tally before after journal served 
           let all = by_tally t in
           flash_status (wrote_none tally.status) (left catalog (asked_of catalog.schema texts) journal) (list_any is_cut all.gives.given) stays right none
           (sym (ap blames_flash all.status_is) ∙ flash is);
+      called = λ is. called (flash is);
       undamaged = λ t. not_so (is_damaged end) (λ found.
           let all = by_tally t in
           let none_found : is_damage tally.status ≡ false = ap is_damage all.status_is ∙ no_damage (wrote_none tally.status) (left catalog (asked_of catalog.schema texts) journal) (list_any is_cut all.gives.given) stays right none in

@@ -1,13 +1,17 @@
 -- What a call of `local` did, by its result.
-use Rattle.std.specs.Prelude.{◌≡◌, ℕ, ◌+◌, ◌≤◌, Bool, true, false, not, List, Option, Some, Result, Ok, Err, ⊤}
+use Rattle.std.specs.Prelude.{◌≡◌, ◌⊎◌, ℕ, ◌+◌, ◌≤◌, Bool, true, false, not, List, Option, Some, Result, Ok, Err, ⊤}
 use Rattle.ghost_model.specs.Database.{IsDatabase, database_of}
+use Rattle.ghost_model.specs.Flash.{HoldsCatalog, HoldsColumns}
+use Rattle.ghost_model.specs.Layout.{need}
 use Rattle.ghost_model.specs.Schema.{Schema}
+use Rattle.ghost_model.specs.Split.{hidden_of}
 use Rattle.ghost_model.specs.Texts.{texts_of}
 use Rattle.ghost_model.specs.Values.{Database}
 use Rattle.ghost_model.specs.Work.{pages_built}
 use Rattle.key_inputs.specs.Openings.{InputFault, Opening, Spelled, Broken}
 use Rattle.key_inputs.specs.Views.{rule_of}
 use Rattle.key_inputs.specs.declared.faults.InputFault.{InputFault as Fault}
+use Rattle.key_words.specs.Words.{Local}
 use Rattle.key_plain.specs.Openings.{PlainInput}
 use Rattle.key_local.specs.Sessions.{Subject, subject, catalog_in, World, Ran}
 use Rattle.key_local.specs.declared.ends.LocalEnd.{LocalEnd}
@@ -20,11 +24,23 @@ use Rattle.key_local.specs.declared.ends.LocalFailure.TheVariants as failure
 pub record IsUnmade (one : Subject) (before after : World) : Type 0 where
   pub few_calls : after.device.calls ≤ before.device.calls + pages_built (catalog_in one)
 
+-- the flash was made, and holds the hidden part
+pub record IsMade (told : Bool) (one : Subject) (after : World) : Type 0 where
+  pub name : after.device.name ≡ Some one.words.flash
+  pub catalog : told ≡ true → HoldsCatalog after.device.page (catalog_in one)
+  pub columns : told ≡ true → HoldsColumns after.device.page (catalog_in one) (hidden_of one.schema one.database)
+  pub pages : after.device.page_count ≡ need (catalog_in one)
+
+-- flash and files are as before
+pub record LeavesBoth (before after : World) : Type 0 where
+  pub device : after.device ≡ before.device
+  pub files : after.files ≡ before.files
+
 -- how a call ended whose inputs were read
 abbrev pub EndsLocal : (told : Bool) → Subject → Result LocalEnd LocalFailure → (before after : World) → Type 0
 EndsLocal told one (Ok end) before after = Ran told one end before after
 EndsLocal told one (Err failure.NoMemory) before after = ⊤
-EndsLocal told one (Err failure.Depot) before after = ⊤
+EndsLocal told one (Err failure.Depot) before after = IsMade told one after
 EndsLocal told one (Err (failure.Input broken)) before after = ⊥
 EndsLocal told one (Err failure.Flash) before after = IsUnmade one before after
 
@@ -34,40 +50,44 @@ pub record IsTold (opening : Opening PlainInput) (broken : Fault) : Type 0 where
   pub told : rule_of broken ≡ Some rule
   pub first : opening ≡ Broken rule
 
--- the inputs that the files spell, and the file that is named for the journal
-abbrev pub subject_of : PlainInput → (journal : Option (List ℕ)) → Subject
-subject_of input journal =
-    subject input.schema (database_of input.schema input.files) (texts_of input.script) journal
+-- the inputs that the files spell, and the words
+abbrev pub subject_of : PlainInput → Local → Subject
+subject_of input words =
+    subject input.schema (database_of input.schema input.files) (texts_of input.script) words
 
 -- the files spell inputs, and over these the call ended so
-pub record EndsSpelled (told : Bool) (opening : Opening PlainInput) (journal : Option (List ℕ)) (result : Result LocalEnd LocalFailure) (before after : World) : Type 0 where
+pub record EndsSpelled (told : Bool) (opening : Opening PlainInput) (words : Local) (result : Result LocalEnd LocalFailure) (before after : World) : Type 0 where
   pub input : PlainInput
   pub spelled : opening ≡ Spelled input
-  pub ended : EndsLocal told (subject_of input journal) result before after
+  pub ended : EndsLocal told (subject_of input words) result before after
 
 -- how a call ended of which the depot tells its files
-abbrev pub Ends : (told : Bool) → Opening PlainInput → (journal : Option (List ℕ)) → Result LocalEnd LocalFailure → (before after : World) → Type 0
-Ends told opening journal (Ok end) before after = EndsSpelled told opening journal (Ok end) before after
-Ends told opening journal (Err failure.NoMemory) before after = ⊤
-Ends told opening journal (Err failure.Depot) before after = ⊤
-Ends told opening journal (Err (failure.Input broken)) before after = IsTold opening broken
-Ends told opening journal (Err failure.Flash) before after = EndsSpelled told opening journal (Err failure.Flash) before after
+abbrev pub Ends : (told : Bool) → Opening PlainInput → Local → Result LocalEnd LocalFailure → (before after : World) → Type 0
+Ends told opening words (Ok end) before after = EndsSpelled told opening words (Ok end) before after
+Ends told opening words (Err failure.NoMemory) before after =
+    LeavesBoth before after ⊎ EndsSpelled told opening words (Err failure.NoMemory) before after
+Ends told opening words (Err failure.Depot) before after =
+    LeavesBoth before after ⊎ EndsSpelled told opening words (Err failure.Depot) before after
+Ends told opening words (Err (failure.Input broken)) before after = IsTold opening broken
+Ends told opening words (Err failure.Flash) before after = EndsSpelled told opening words (Err failure.Flash) before after
 
 -- some inputs were read, and over these the call ended so
-pub record EndsRead (told : Bool) (journal : Option (List ℕ)) (result : Result LocalEnd LocalFailure) (before after : World) : Type 0 where
+pub record EndsRead (told : Bool) (words : Local) (result : Result LocalEnd LocalFailure) (before after : World) : Type 0 where
   pub schema : Schema
   pub database : Database
   pub texts : List (List ℕ)
   pub are : IsDatabase schema database
-  pub ended : EndsLocal told (subject schema database texts journal) result before after
+  pub ended : EndsLocal told (subject schema database texts words) result before after
 
 -- how a call ended, whether or not the depot tells its files
-abbrev pub EndsSome : (told : Bool) → (journal : Option (List ℕ)) → Result LocalEnd LocalFailure → (before after : World) → Type 0
-EndsSome told journal (Ok end) before after = EndsRead told journal (Ok end) before after
-EndsSome told journal (Err failure.NoMemory) before after = ⊤
-EndsSome told journal (Err failure.Depot) before after = ⊤
-EndsSome told journal (Err (failure.Input broken)) before after = ⊤
-EndsSome told journal (Err failure.Flash) before after = EndsRead told journal (Err failure.Flash) before after
+abbrev pub EndsSome : (told : Bool) → Local → Result LocalEnd LocalFailure → (before after : World) → Type 0
+EndsSome told words (Ok end) before after = EndsRead told words (Ok end) before after
+EndsSome told words (Err failure.NoMemory) before after =
+    LeavesBoth before after ⊎ EndsRead told words (Err failure.NoMemory) before after
+EndsSome told words (Err failure.Depot) before after =
+    LeavesBoth before after ⊎ EndsRead told words (Err failure.Depot) before after
+EndsSome told words (Err (failure.Input broken)) before after = ⊤
+EndsSome told words (Err failure.Flash) before after = EndsRead told words (Err failure.Flash) before after
 
 -- whether a call ends so before the session, and so without a write to the sink and without an append
 abbrev pub is_failure : Result LocalEnd LocalFailure → Bool

@@ -1,6 +1,6 @@
 -- What a session with a host in the key's own process does: it goes by the one journal of its database and its texts, keeps
 -- that journal where a file is named for it, and gives each text's lines.
-use Rattle.std.specs.Prelude.{◌≡◌, ℕ, Bool, true, false, List, [], ◌∷◌, Option, None, Some, ⊤}
+use Rattle.std.specs.Prelude.{◌≡◌, ℕ, ◌+◌, Bool, true, false, List, [], ◌∷◌, Option, None, Some, ⊤}
 use Rattle.std.specs.List.{list_any}
 use Rattle.ghost_model.specs.Causes.{Rose}
 use Rattle.ghost_model.specs.Channel.{Catalog, Journal}
@@ -13,26 +13,28 @@ use Rattle.ghost_model.specs.Printed.{printed}
 use Rattle.ghost_model.specs.Schema.{Schema}
 use Rattle.ghost_model.specs.Split.{hidden_of}
 use Rattle.ghost_model.specs.Values.{Database}
+use Rattle.ghost_model.specs.Work.{pages_built}
 use Rattle.session_laws.specs.Local.{IsLocal}
 use Rattle.edge_traits.specs.Devices.{Device}
 use Rattle.edge_traits.specs.Files.{Files, HasFile, SameBut}
 use Rattle.edge_traits.specs.Written.{grown}
 use Rattle.key_exec.specs.Blaming.{IsDamaged}
 use Rattle.key_session.specs.Telling.{Outside, outside}
+use Rattle.key_words.specs.Words.{Local}
 use Rattle.local_lines.specs.Lines.{Gives, is_cut}
 use Rattle.key_local.specs.declared.ends.LocalEnd.{LocalEnd}
 use Rattle.key_local.specs.declared.ends.LocalEnd.TheVariants as ends
 
--- a database of a schema, the texts of a script, and the file that is named for the journal
+-- a database of a schema, the texts of a script, and the words of the command, which name the files
 pub record Subject : Type 0 where
   pub schema : Schema
   pub database : Database
   pub texts : List (List ℕ)
-  pub journal : Option (List ℕ)
+  pub words : Local
 
-abbrev pub subject : Schema → Database → (texts : List (List ℕ)) → (journal : Option (List ℕ)) → Subject
-subject schema database texts journal =
-    record { schema = schema; database = database; texts = texts; journal = journal }
+abbrev pub subject : Schema → Database → (texts : List (List ℕ)) → Local → Subject
+subject schema database texts words =
+    record { schema = schema; database = database; texts = texts; words = words }
 
 -- the catalog of the first generation
 abbrev pub catalog_for : Schema → Database → Catalog
@@ -93,18 +95,21 @@ pub record Ran (told : Bool) (one : Subject) (end : LocalEnd) (before after : Wo
   pub is_local : IsLocal (catalog_in one) one.database [] one.texts journal
   pub finished : IsFinished journal
   -- where no append failed, the journal is kept
-  pub kept : (Rose before.append_faults after.append_faults → ⊥) → HasLines after.files one.journal journal
+  pub kept : (Rose before.append_faults after.append_faults → ⊥) → HasLines after.files one.words.journal journal
   -- and so it is where all went well
-  pub all_kept : end ≡ ends.Ok → HasLines after.files one.journal journal
+  pub all_kept : end ≡ ends.Ok → HasLines after.files one.words.journal journal
   -- each text has its lines, or a front of them where the flash failed
   pub gives : told ≡ true → Gives one.schema one.database one.texts (outside_in false before) (outside_in (is_sink end) after)
   pub printed_all : told ≡ true → end ≡ ends.Ok → after.written ≡ grown before.written (printed one.schema one.texts one.database)
   -- the flash is blamed only where it failed a text
   pub cut : (t : told ≡ true) → end ≡ ends.Flash → list_any is_cut (gives t).given ≡ true
+  -- and by a call of the session, after those of the making
+  pub more_calls : end ≡ ends.Flash → Rose (before.device.calls + pages_built (catalog_in one)) after.device.calls
   -- and a slot only where it is one of a hidden column and has no value of it, so where the pages are told none is
   pub undamaged : told ≡ true → is_damaged end ≡ false
   pub damaged : (page slot found : ℕ) → end ≡ ends.Damaged page slot found → IsDamaged told after.device.page (catalog_in one) page slot found
-  -- and the flash has been made for it
+  -- and the flash has been made for it, under the name that the words say
+  pub name : after.device.name ≡ Some one.words.flash
   pub catalog : told ≡ true → HoldsCatalog after.device.page (catalog_in one)
   pub columns : told ≡ true → HoldsColumns after.device.page (catalog_in one) (hidden_of one.schema one.database)
   pub pages : after.device.page_count ≡ need (catalog_in one)

@@ -1,6 +1,6 @@
 //! The command.
 
-ghost use Rattle.std.specs.Prelude.{◌≡◌, ◌≤◌, ℕ, true, false, Some, Ok, Err, length, option_map};
+ghost use Rattle.std.specs.Prelude.{◌≡◌, ◌⊎◌, ◌≤◌, ℕ, true, false, Some, Ok, Err, length, option_map, List};
 ghost use Rattle.ghost_model.specs.Causes.{Rose};
 ghost use Rattle.ghost_model.specs.Database.{IsDatabase};
 ghost use Rattle.ghost_model.specs.Schema.{Schema};
@@ -10,7 +10,7 @@ ghost use Rattle.ghost_model.specs.Texts.{texts_of};
 ghost use Rattle.ghost_model.specs.Values.{Database};
 ghost use Rattle.session_laws.specs.Local.{holding_of};
 ghost use Rattle.edge_traits.specs.Files.{Files};
-ghost use Rattle.flash_build.specs.Building.{IsHiddenPart};
+ghost use Rattle.ghost_model.specs.Flash.{IsHidden};
 ghost use Rattle.session_replies.specs.Kept.{IsKept, none_heard};
 ghost use Rattle.key_words.specs.Views.{local_view};
 ghost use Rattle.key_inputs.specs.Openings.{Spelled};
@@ -39,8 +39,9 @@ use std::alloc::Global;
 /// flash and writes the hidden part to it, and holds the session of the script with a host in the process. Where a journal
 /// is named, its file begins anew when all else is ready, and each move of the session has a line in it.
 ///
-/// The first broken rule of the files is told before anything is made or printed. After a failed write no further line is
-/// printed, and after a failed append no further line of the journal is written; the session goes on to its end.
+/// The first broken rule of the files is told before anything is made or printed: the flash is made, under its own name, where
+/// all was read. After a failed write no further line is printed, and after a failed append no further line of the journal is
+/// written; the session goes on to its end.
 pub fn local<D: Depot, F: Flash, O: Sink>(
     alloc: Global,
     words: &LocalWords<'_>,
@@ -49,10 +50,10 @@ pub fn local<D: Depot, F: Flash, O: Sink>(
     out: &mut O,
 ) -> Result<LocalEnd, LocalFailure>
     ensures ends { (files : Files) → D.contents depot.old ≡ Some files
-        → Ends F.told (local_opening files (local_view words.now)) (local_view words.now).journal result
+        → Ends F.told (local_opening files (local_view words.now)) (local_view words.now) result
         (world (F.state flash.old) (D.contents depot.old) (D.append_faults depot.old) (O.faults out.old) (O.written out.old))
         (world (F.state flash.new) (D.contents depot.new) (D.append_faults depot.new) (O.faults out.new) (O.written out.new)) }
-    ensures ran { EndsSome F.told (local_view words.now).journal result
+    ensures ran { EndsSome F.told (local_view words.now) result
         (world (F.state flash.old) (D.contents depot.old) (D.append_faults depot.old) (O.faults out.old) (O.written out.old))
         (world (F.state flash.new) (D.contents depot.new) (D.append_faults depot.new) (O.faults out.new) (O.written out.new)) }
     ensures complete { (files : Files) → (input : PlainInput) → D.contents depot.old ≡ Some files
@@ -60,6 +61,7 @@ pub fn local<D: Depot, F: Flash, O: Sink>(
         → local_opening files (local_view words.now) ≡ Spelled input → is_faultless F.told result ≡ true }
     ensures nothing_written { is_failure result ≡ true → O.written out.new ≡ O.written out.old }
     ensures flash_left { leaves_flash result ≡ true → F.state flash.new ≡ F.state flash.old }
+    ensures never_other { (F.state flash.new ≡ F.state flash.old) ⊎ ((other : List ℕ) → (F.state flash.new).name ≡ Some other → other ≡ words.now.flash.now) }
     ensures files_left { leaves_files result ≡ true → D.contents depot.new ≡ D.contents depot.old }
     ensures others { SameBesides (local_view words.now).journal (D.contents depot.old) (D.contents depot.new) }
     ensures sink { result ≡ Ok ends.Sink → Rose (O.faults out.old) (O.faults out.new) }
@@ -90,10 +92,11 @@ fn local_opened<D: Depot, F: Flash, O: Sink>(
 ) -> Result<LocalEnd, LocalFailure>
     requires database { IsDatabase opened.tables.schema opened.tables.tables }
     requires few { length (texts_of opened.script.items) ≤ 64 }
-    ensures ends { EndsLocal F.told (subject opened.tables.schema opened.tables.tables (texts_of opened.script.items) (local_view words.now).journal) result
+    ensures ends { EndsLocal F.told (subject opened.tables.schema opened.tables.tables (texts_of opened.script.items) (local_view words.now)) result
         (world (F.state flash.old) (D.contents depot.old) (D.append_faults depot.old) (O.faults out.old) (O.written out.old))
         (world (F.state flash.new) (D.contents depot.new) (D.append_faults depot.new) (O.faults out.new) (O.written out.new)) }
     ensures nothing_written { is_failure result ≡ true → O.written out.new ≡ O.written out.old }
+    ensures never_other { (F.state flash.new ≡ F.state flash.old) ⊎ ((other : List ℕ) → (F.state flash.new).name ≡ Some other → other ≡ words.now.flash.now) }
     ensures files_left { leaves_files result ≡ true → D.contents depot.new ≡ D.contents depot.old }
     ensures others { SameBesides (local_view words.now).journal (D.contents depot.old) (D.contents depot.new) }
     ensures sink { result ≡ Ok ends.Sink → Rose (O.faults out.old) (O.faults out.new) }
@@ -122,17 +125,18 @@ fn local_prepared<D: Depot, F: Flash, O: Sink>(
     flash: &mut F,
     out: &mut O,
 ) -> Result<LocalEnd, LocalFailure>
-    requires part { IsHiddenPart prepared.cat prepared.hidden }
+    requires part { IsHidden prepared.cat prepared.hidden }
     requires few { length (texts_of script.now) ≤ 64 }
     requires replies { IsKept prepared.cat (none_heard prepared.cat) 1 0 prepared.replies }
     requires hosted { IsSomeHosted ⟦<MemDepot as Depot>⟧.contents ⟦<MemDepot as Depot>⟧.sure prepared.cat prepared.link }
     ensures ends { (schema : Schema) → (database : Database) → prepared.cat ≡ catalog_for schema database → prepared.hidden ≡ hidden_of schema database
         → IsCatalogOf prepared.cat database
         → IsHosted ⟦<MemDepot as Depot>⟧.contents ⟦<MemDepot as Depot>⟧.sure (holding_of prepared.cat database) prepared.link
-        → EndsLocal F.told (subject schema database (texts_of script.now) (local_view words.now).journal) result
+        → EndsLocal F.told (subject schema database (texts_of script.now) (local_view words.now)) result
         (world (F.state flash.old) (D.contents depot.old) (D.append_faults depot.old) (O.faults out.old) (O.written out.old))
         (world (F.state flash.new) (D.contents depot.new) (D.append_faults depot.new) (O.faults out.new) (O.written out.new)) }
     ensures nothing_written { is_failure result ≡ true → O.written out.new ≡ O.written out.old }
+    ensures never_other { (other : List ℕ) → (F.state flash.new).name ≡ Some other → other ≡ words.now.flash.now }
     ensures files_left { leaves_files result ≡ true → D.contents depot.new ≡ D.contents depot.old }
     ensures others { SameBesides (local_view words.now).journal (D.contents depot.old) (D.contents depot.new) }
     ensures sink { result ≡ Ok ends.Sink → Rose (O.faults out.old) (O.faults out.new) }
@@ -157,9 +161,9 @@ fn local_prepared<D: Depot, F: Flash, O: Sink>(
             Ok(()) => Ok(run(
                 &cat,
                 script,
+                words,
                 &mut link,
                 &mut replies,
-                words.journal,
                 depot,
                 flash,
                 out,

@@ -1,11 +1,12 @@
 //! The making of the flash and of the journal's file.
 
-ghost use Rattle.std.specs.Prelude.{◌≡◌, ◌≤◌, ◌<◌, ◌+◌, ◌^◌, [], true, Err, OnOk, option_map};
+ghost use Rattle.std.specs.Prelude.{◌≡◌, ◌≤◌, ◌<◌, ◌+◌, ◌^◌, [], true, Some, Err, OnOk, option_map, ℕ, List};
 ghost use Rattle.ghost_model.specs.Causes.{HasCause, Rose};
 ghost use Rattle.ghost_model.specs.Flash.{HoldsCatalog, HoldsColumns};
 ghost use Rattle.ghost_model.specs.Layout as layout;
 ghost use Rattle.ghost_model.specs.Work as work;
-ghost use Rattle.flash_build.specs.Building.{IsHiddenPart};
+ghost use Rattle.ghost_model.specs.Flash.{IsHidden};
+ghost use Rattle.edge_traits.specs.Devices.{Counts};
 ghost use Rattle.key_local.specs.Making.{IsOfMaking};
 ghost use Rattle.key_local.specs.Sessions.{HasLines, SameBesides};
 ghost use Rattle.key_local.specs.declared.ends.LocalFailure.TheVariants as failure;
@@ -28,10 +29,13 @@ pub(crate) fn make_flash<F: Flash>(
     flash: &mut F,
     name: &str,
 ) -> Result<(), LocalFailure>
-    requires part { IsHiddenPart cat.now hidden }
+    requires part { IsHidden cat.now hidden }
     ensures catalog { OnOk result (F.told ≡ true → HoldsCatalog (F.state flash.new).page cat.now) }
     ensures columns { OnOk result (F.told ≡ true → HoldsColumns (F.state flash.new).page cat.now hidden) }
     ensures pages { OnOk result ((F.state flash.new).page_count ≡ layout.need cat.now) }
+    ensures named { OnOk result ((F.state flash.new).name ≡ Some name.now) }
+    ensures never_other { (other : List ℕ) → (F.state flash.new).name ≡ Some other → other ≡ name.now }
+    ensures exact { OnOk result (Counts (work.pages_built cat.now) (F.state flash.old).calls (F.state flash.new).calls) }
     ensures small { layout.need cat.now < 2 ^ 32 }
     ensures few_calls { (F.state flash.new).calls ≤ (F.state flash.old).calls + work.pages_built cat.now }
     ensures kinds { IsOfMaking result }

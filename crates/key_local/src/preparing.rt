@@ -8,7 +8,7 @@ ghost use Rattle.ghost_model.specs.SessionLaws.{IsCatalogOf};
 ghost use Rattle.ghost_model.specs.Split as divided;
 ghost use Rattle.session_laws.specs.Local.{holding_of};
 ghost use Rattle.edge_traits.specs.Files.{file_of};
-ghost use Rattle.flash_build.specs.Building.{IsHiddenPart};
+ghost use Rattle.ghost_model.specs.Flash.{IsHidden};
 ghost use Rattle.session_replies.specs.Kept.{IsKept, none_heard};
 ghost use Rattle.key_local.specs.Sessions.{catalog_for};
 ghost use Rattle.key_local.specs.Preparing.{IsSomeImage, IsHosted};
@@ -55,7 +55,7 @@ fn parts_of(alloc: Global, input: Input) -> Result<Parts, AllocError>
     ensures cat { IfOk result (λ made. made.cat ≡ catalog_for input.schema input.tables) }
     ensures stored { IfOk result (λ made. IsCatalogOf made.cat input.tables) }
     ensures hidden { IfOk result (λ made. made.hidden ≡ divided.hidden_of input.schema input.tables) }
-    ensures part { IfOk result (λ made. IsHiddenPart made.cat made.hidden) }
+    ensures part { IfOk result (λ made. IsHidden made.cat made.hidden) }
     ensures image { IfOk result (λ made. divided.SpellsImage made.cat (divided.public_of made.cat.schema input.tables) made.image.items) }
 {
     let Input { schema, tables } = input;
@@ -117,7 +117,7 @@ pub(crate) fn prepare(alloc: Global, input: Input) -> Result<Prepared, AllocErro
     ensures cat { IfOk result (λ prepared. prepared.cat ≡ catalog_for input.schema input.tables) }
     ensures stored { IfOk result (λ prepared. IsCatalogOf prepared.cat input.tables) }
     ensures hidden { IfOk result (λ prepared. prepared.hidden ≡ divided.hidden_of input.schema input.tables) }
-    ensures part { IfOk result (λ prepared. IsHiddenPart prepared.cat prepared.hidden) }
+    ensures part { IfOk result (λ prepared. IsHidden prepared.cat prepared.hidden) }
     ensures hosted { IfOk result (λ prepared. IsHosted ⟦<MemDepot as Depot>⟧.contents ⟦<MemDepot as Depot>⟧.sure (holding_of prepared.cat input.tables) prepared.link) }
     ensures replies { IfOk result (λ prepared. IsKept prepared.cat (none_heard prepared.cat) 1 0 prepared.replies) }
 {

@@ -1,6 +1,6 @@
 //! The session.
 
-ghost use Rattle.std.specs.Prelude.{◌≡◌, ◌≤◌, ℕ, true, false, length, option_map};
+ghost use Rattle.std.specs.Prelude.{◌≡◌, ◌≤◌, ℕ, true, false, length};
 ghost use Rattle.ghost_model.specs.Causes.{Rose};
 ghost use Rattle.ghost_model.specs.Flash.{HoldsColumns};
 ghost use Rattle.ghost_model.specs.SessionLaws.{IsCatalogOf};
@@ -12,6 +12,7 @@ ghost use Rattle.edge_traits.specs.Devices.{KeepsPages};
 ghost use Rattle.key_exec.specs.Plans.{Suffices};
 ghost use Rattle.session_replies.specs.Kept.{IsKept, none_heard};
 ghost use Rattle.local_links.specs.Keeping.{named};
+ghost use Rattle.key_words.specs.Views.{local_view};
 ghost use Rattle.key_session.specs.Running as session;
 ghost use Rattle.key_local.specs.Preparing.{IsHosted};
 ghost use Rattle.key_local.specs.Running.{RanOver, IsSomeHosted, is_of_local, damage_at, clears_journal, clears_flash};
@@ -24,11 +25,13 @@ use edge_traits::flash::Flash;
 use edge_traits::mem_depot::MemDepot;
 use edge_traits::sink::Sink;
 use ghost_model::schema::schemas_are_trees;
-use key_session::{Damage, SessionStatus, run_session};
+use key_session::{Damage, Options, SessionStatus, run_session};
+use key_words::LocalWords;
 use local_lines::laws::told_texts_are_given;
 use local_links::host_link::HostLink;
 use local_links::journaled::Journaled;
 use local_links::laws::{proper_journals_are_written, sessions_are_local};
+use script_asks::laws::asks_are_few;
 use session_laws::local::local_sessions_are_served;
 use session_replies::Replies;
 use tree_schema::Catalog;
@@ -68,6 +71,7 @@ fn end_of(status: SessionStatus, append_failed: bool) -> LocalEnd
 fn hold<D: Depot, F: Flash, O: Sink>(
     cat: &Catalog,
     script: &[u8],
+    words: &LocalWords<'_>,
     replies: &mut Replies,
     flash: &mut F,
     link: &mut Journaled<'_, HostLink<MemDepot>, D>,
@@ -103,7 +107,13 @@ fn hold<D: Depot, F: Flash, O: Sink>(
     proper_journals_are_written::<HostLink<MemDepot>, D>();
     local_sessions_are_served();
     told_texts_are_given();
-    let tally = run_session(cat, script, "", replies, flash, link, out);
+    asks_are_few();
+    let options = Options {
+        at: "",
+        plan: words.plan,
+        pace: words.pace,
+    };
+    let tally = run_session(cat, script, &options, replies, flash, link, out);
     end_of(tally.status, link.failed())
 }
 
@@ -111,9 +121,9 @@ fn hold<D: Depot, F: Flash, O: Sink>(
 pub(crate) fn run<D: Depot, F: Flash, O: Sink>(
     cat: &Catalog,
     script: &[u8],
+    words: &LocalWords<'_>,
     link: &mut HostLink<MemDepot>,
     replies: &mut Replies,
-    journal: Option<&str>,
     depot: &mut D,
     flash: &mut F,
     out: &mut O,
@@ -125,11 +135,11 @@ pub(crate) fn run<D: Depot, F: Flash, O: Sink>(
     ensures ran { (database : Database) → IsCatalogOf cat.now database
         → IsHosted ⟦<MemDepot as Depot>⟧.contents ⟦<MemDepot as Depot>⟧.sure (holding_of cat.now database) link.old
         → (F.told ≡ true → HoldsColumns (F.state flash.old).page cat.now (hidden_of cat.now.schema database))
-        → RanOver F.told cat.now database (texts_of script.now) (option_map (λ one. one.now) journal.entry) result
+        → RanOver F.told cat.now database (texts_of script.now) (local_view words.now).journal result
         (world (F.state flash.old) (D.contents depot.old) (D.append_faults depot.old) (O.faults out.old) (O.written out.old))
         (world (F.state flash.new) (D.contents depot.new) (D.append_faults depot.new) (O.faults out.new) (O.written out.new)) }
     ensures pages { KeepsPages (F.state flash.old) (F.state flash.new) }
-    ensures others { SameBesides (option_map (λ one. one.now) journal.entry) (D.contents depot.old) (D.contents depot.new) }
+    ensures others { SameBesides (local_view words.now).journal (D.contents depot.old) (D.contents depot.new) }
     ensures sink { is_sink result ≡ true → Rose (O.faults out.old) (O.faults out.new) }
     ensures no_sink { is_sink result ≡ false → O.faults out.new ≡ O.faults out.old }
     ensures depot { result ≡ LocalEnd.Depot → Rose (D.faults depot.old) (D.faults depot.new) }
@@ -139,6 +149,6 @@ pub(crate) fn run<D: Depot, F: Flash, O: Sink>(
     ensures flash { result ≡ LocalEnd.Flash → Rose (F.state flash.old).faults (F.state flash.new).faults }
     ensures no_flash { clears_flash result ≡ true → (F.state flash.new).faults ≡ (F.state flash.old).faults }
 {
-    let mut journaled = Journaled::new(link, depot, journal);
-    hold(cat, script, replies, flash, &mut journaled, out)
+    let mut journaled = Journaled::new(link, depot, words.journal);
+    hold(cat, script, words, replies, flash, &mut journaled, out)
 }

@@ -6,6 +6,7 @@ use edge_traits::mem_flash::MemFlash;
 use edge_traits::mem_sink::MemSink;
 use key_inputs::InputFault;
 use key_words::LocalWords;
+use leakless_plan::Plan;
 use std::alloc::{AllocError, Global};
 
 const ROOM: Room = Room {
@@ -85,6 +86,8 @@ const WORDS: LocalWords<'static> = LocalWords {
     flash: "flash",
     script: "script",
     journal: Some("journal"),
+    plan: Plan::Scan,
+    pace: 0,
 };
 
 /// The words of a call that keeps none.
@@ -94,6 +97,8 @@ const SILENT: LocalWords<'static> = LocalWords {
     flash: "flash",
     script: "script",
     journal: None,
+    plan: Plan::Scan,
+    pace: 0,
 };
 
 /// The files and the devices of a call.

@@ -1,10 +1,10 @@
 //! The command over objects in memory.
 
 use crate::{PlainFault, plain};
-use csv_split::{LoadFault, Place};
+use csv_split::Place;
 use edge_traits::mem_depot::{MemDepot, Room};
 use edge_traits::mem_sink::MemSink;
-use key_inputs::InputFault;
+use key_inputs::{BrokenTable, FieldNamed, InputFault, Shown};
 use key_words::PlainWords;
 use std::alloc::{AllocError, Global};
 
@@ -105,11 +105,18 @@ fn the_tables_are_judged_before_the_script(rt: HostRuntime) -> Result<(), AllocE
     let Ok(script) = std::str::from_utf8(&script) else {
         return Ok(());
     };
-    let broken = LoadFault::BadInt(Place {
+    let at = Place {
         table: 1,
         rec: 2,
         column: 1,
-    });
+    };
+    let field = FieldNamed {
+        at,
+        table: Shown::of(b"visit"),
+        column: Shown::of(b"day"),
+    };
+    let value = Shown::of(b"x");
+    let broken = BrokenTable::BadInt { field, value };
     let cases = [
         ("id,day,doc\n1,x,1\n", InputFault::Table(broken)),
         (VISITS, InputFault::ScriptTexts),

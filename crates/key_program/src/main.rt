@@ -19,6 +19,7 @@ fn main(rt: HostRuntime) -> ExitCode {
     let ended = match run(&rt, &mut words) {
         Ok(ended) => ended,
         Err(error) if error.kind() == ErrorKind::OutOfMemory => Ended::NoMemory,
+        Err(error) if error.kind() == ErrorKind::InvalidData => Ended::Usage(UsageFault::NotUtf8),
         Err(_) => Ended::Usage(UsageFault::Words),
     };
     if ended.exit_code() != 0 {
@@ -48,8 +49,7 @@ fn run(rt: &HostRuntime, words: &mut Vec<String>) -> io::Result<Ended> {
 
 /// Prints on standard error how a command ended.
 fn tell(rt: &HostRuntime, words: &[String], ended: &Ended) {
-    let mut depot = DirDepot::new(rt);
-    let _printed = match line_of(rt.alloc(), words, ended, &mut depot) {
+    let _printed = match line_of(rt.alloc(), words, ended) {
         Ok(line) => eprintln!(rt; "{line}"),
         Err(_) => eprintln!(rt; "out of memory"),
     };

@@ -15,16 +15,16 @@ use Rattle.key_query.specs.declared.failures.QueryFailure.TheVariants as failure
 
 module _ {T : Type 0} where
   pub faultless :
-      (result : Result T QueryFailure) (told : Bool) (device : Device) (cat : Catalog) → told ≡ true → HasCatalog device cat
-      → IfErr result (λ fault. IsOfFlash fault) → IfErr result (λ fault. TellsFlash told device fault)
+      (result : Result T QueryFailure) (told : Bool) (flash : List ℕ) (device : Device) (cat : Catalog) → told ≡ true → HasCatalog device cat
+      → IfErr result (λ fault. IsOfFlash fault) → IfErr result (λ fault. TellsFlash told flash device fault)
       → (result ≡ Err failure.Flash → ⊥) → is_faultless result ≡ true
-  faultless (Ok opened) told device cat is has of tells flash = refl
-  faultless (Err failure.NoMemory) told device cat is has of tells flash = refl
-  faultless (Err failure.Depot) told device cat is has of tells flash = absurd of
-  faultless (Err (failure.Input broken)) told device cat is has of tells flash = absurd of
-  faultless (Err failure.Flash) told device cat is has of tells flash = absurd (flash refl)
-  faultless (Err failure.NotAKey) told device cat is has of tells flash = absurd (tells is cat has)
-  faultless (Err (failure.TooSmall needed had)) told device cat is has of tells flash = refl
+  faultless (Ok opened) told flash device cat is has of tells fine = refl
+  faultless (Err failure.NoMemory) told flash device cat is has of tells fine = refl
+  faultless (Err failure.Depot) told flash device cat is has of tells fine = absurd of
+  faultless (Err (failure.Input broken)) told flash device cat is has of tells fine = absurd of
+  faultless (Err failure.Flash) told flash device cat is has of tells fine = absurd (fine refl)
+  faultless (Err failure.NotAKey) told flash device cat is has of tells fine = absurd (tells.none is cat has)
+  faultless (Err (failure.TooSmall needed had)) told flash device cat is has of tells fine = refl
 
 -- the script's file cannot both keep every rule and break one
 spelled_unbroken : (rule : Option InputFault) (opening : Opening (List ℕ)) (script : List ℕ) → is_some rule ≡ true → IsBroken opening rule → opening ≡ Spelled script → ⊥

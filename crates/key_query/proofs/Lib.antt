@@ -1,4 +1,2 @@
 pub mod Endings
 pub mod Fronts
-pub mod HonestRuns
-pub mod Settings

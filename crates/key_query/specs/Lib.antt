@@ -1,4 +1,3 @@
 pub mod PublicPages
 pub mod Openings
-pub mod Answering
 pub mod Results

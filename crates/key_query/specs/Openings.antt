@@ -18,6 +18,7 @@ pub record IsScript (contents : Option Files) (name script : List ℕ) : Type 0 
 
 pub record IsOpened (told : Bool) (words : Query) (contents : Option Files) (device : Device) (opened : Opened) : Type 0 where
   pub script : IsScript contents words.script opened.script.items
+  pub name : device.name ≡ Some words.flash
   pub catalog : told ≡ true → HasCatalog device opened.cat
   pub suffices : Suffices opened.cat device
   pub stores : IsKept opened.cat (none_heard opened.cat) 1 0 opened.replies

@@ -1,5 +1,6 @@
 -- What a call of `query` did, by its result.
 use Rattle.std.specs.Prelude.{◌≡◌, ℕ, ◌≤◌, ◌<◌, Bool, true, false, List, length, Option, Some, Result, Ok, Err, ⊤}
+use Rattle.ghost_model.specs.Causes.{Rose}
 use Rattle.ghost_model.specs.Channel.{Catalog, Journal}
 use Rattle.ghost_model.specs.Catalog.{IsCatalog}
 use Rattle.ghost_model.specs.Layout.{need}
@@ -11,17 +12,19 @@ use Rattle.key_inputs.specs.Openings.{InputFault, Opening, Spelled, Broken}
 use Rattle.key_inputs.specs.Scripts.{script_opening}
 use Rattle.key_inputs.specs.Views.{rule_of}
 use Rattle.key_inputs.specs.declared.faults.InputFault.{InputFault as Fault}
-use Rattle.key_session.specs.Running.{HasRun}
+use Rattle.key_session.specs.Answering.{AnswersWhereSound}
+use Rattle.key_session.specs.Running.{HasRun, blames_flash}
 use Rattle.key_session.specs.Telling.{Outside}
 use Rattle.key_session.specs.declared.tally.Tally.{Tally}
-use Rattle.key_query.specs.Answering.{AnswersWhereSound}
 use Rattle.key_query.specs.Openings.{IsScript}
 use Rattle.key_query.specs.PublicPages.{HasCatalog, HasNoCatalog}
 use Rattle.key_query.specs.declared.failures.QueryFailure.{QueryFailure}
 use Rattle.key_query.specs.declared.failures.QueryFailure.TheVariants as failure
 
--- the flash as it was opened, before the first move: no fault was met, and no page past the public ones was read
-pub record Opens (told : Bool) (before opened : Device) : Type 0 where
+-- the flash as it was opened under that name, before the first move: no fault was met, and no page past the public ones was
+-- read
+pub record Opens (told : Bool) (flash : List ℕ) (before opened : Device) : Type 0 where
+  pub name : opened.name ≡ Some flash
   pub page : told ≡ true → opened.page ≡ before.page
   pub faults : opened.faults ≡ before.faults
   pub deep_reads : opened.deep_reads ≡ before.deep_reads
@@ -30,7 +33,7 @@ pub record Opens (told : Bool) (before opened : Device) : Type 0 where
 -- after it
 pub record Runs (goes : Journal → Type 0) (link_before link_now : ℕ) (told : Bool) (words : Query) (contents : Option Files) (before now : Outside) (tally : Tally) : Type 0 where
   pub opened : Device
-  pub opens : Opens told before.flash opened
+  pub opens : Opens told words.flash before.flash opened
   pub cat : Catalog
   pub proper : IsCatalog cat
   pub catalog : told ≡ true → HasCatalog opened cat
@@ -38,9 +41,11 @@ pub record Runs (goes : Journal → Type 0) (link_before link_now : ℕ) (told :
   pub script : List ℕ
   pub is_script : IsScript contents words.script script
   pub ran : HasRun goes link_before link_now told cat words.to (texts_of script) (record before { flash = opened }) now tally
-  pub answered : AnswersWhereSound goes link_before link_now told cat words.to (texts_of script) (record before { flash = opened }) now tally ran
+  pub answered : AnswersWhereSound told cat (texts_of script) ran.journal (record before { flash = opened }) now tally
   pub texts : tally.texts ≡ length (texts_of script)
   pub kept : KeepsPages opened now.flash
+  -- the flash is blamed only for a call of the session
+  pub called : blames_flash tally.status ≡ true → Rose opened.calls now.flash.calls
 
 -- a fault tells the rule that is broken first
 pub record IsTold (opening : Opening (List ℕ)) (broken : Fault) : Type 0 where
@@ -63,8 +68,14 @@ TellsScript contents name failure.Flash = HasScript contents name
 TellsScript contents name failure.NotAKey = HasScript contents name
 TellsScript contents name (failure.TooSmall needed had) = HasScript contents name
 
--- the flash has fewer pages than its catalog needs
-pub record IsTooSmall (told : Bool) (device : Device) (needed had : ℕ) : Type 0 where
+-- the flash was opened under that name, and its pages begin with no catalog
+pub record IsNoKey (told : Bool) (flash : List ℕ) (device : Device) : Type 0 where
+  pub name : device.name ≡ Some flash
+  pub none : told ≡ true → HasNoCatalog device
+
+-- the flash was opened under that name, and has fewer pages than its catalog needs
+pub record IsTooSmall (told : Bool) (flash : List ℕ) (device : Device) (needed had : ℕ) : Type 0 where
+  pub name : device.name ≡ Some flash
   pub cat : Catalog
   pub proper : IsCatalog cat
   pub catalog : told ≡ true → HasCatalog device cat
@@ -72,14 +83,14 @@ pub record IsTooSmall (told : Bool) (device : Device) (needed had : ℕ) : Type 
   pub has : had ≡ device.page_count
   pub less : had < needed
 
--- what a failure tells of the flash
-abbrev pub TellsFlash : (told : Bool) → Device → QueryFailure → Type 0
-TellsFlash told device failure.NoMemory = ⊤
-TellsFlash told device failure.Depot = ⊤
-TellsFlash told device (failure.Input broken) = ⊤
-TellsFlash told device failure.Flash = ⊤
-TellsFlash told device failure.NotAKey = told ≡ true → HasNoCatalog device
-TellsFlash told device (failure.TooSmall needed had) = IsTooSmall told device needed had
+-- what a failure tells of the flash, which was to be opened under that name
+abbrev pub TellsFlash : (told : Bool) → (flash : List ℕ) → Device → QueryFailure → Type 0
+TellsFlash told flash device failure.NoMemory = ⊤
+TellsFlash told flash device failure.Depot = ⊤
+TellsFlash told flash device (failure.Input broken) = ⊤
+TellsFlash told flash device failure.Flash = ⊤
+TellsFlash told flash device failure.NotAKey = IsNoKey told flash device
+TellsFlash told flash device (failure.TooSmall needed had) = IsTooSmall told flash device needed had
 
 -- whether words that are accepted, a script that keeps every rule, pages that begin with a catalog and no fault can end so
 abbrev pub is_faultless : {T : Type 0} → Result T QueryFailure → Bool

@@ -21,12 +21,10 @@ use edge_traits::depot::Depot;
 use edge_traits::flash::Flash;
 use edge_traits::link::Link;
 use edge_traits::sink::Sink;
-use flash_layout::limits::a_catalog_has_a_layout;
-use key_session::{Tally, run_session};
+use key_session::{Options, Tally, run_session};
 use key_words::QueryWords;
-use session_laws::honest_sessions::{honest_lines_are_printed, honest_sessions_are_smooth};
 use std::alloc::Global;
-use tree_schema::catalog_bytes::{a_catalog_is_short, catalogs_are_bytes};
+use tree_schema::catalog_bytes::a_catalog_is_short;
 
 /// Does the command `query`: reads the script, attaches the flash, reads the catalog on its public pages, and takes the
 /// memory for two texts' replies. Then it runs the session of the script with the host at the address of `--to`, and
@@ -50,7 +48,7 @@ pub fn query<D: Depot, F: Flash, L: Link, O: Sink>(
     ensures flash_rose { IfOk result (λ tally. blames_flash tally.status ≡ true → Rose (F.state flash.old).faults (F.state flash.new).faults) }
     ensures flash_same { IfOk result (λ tally. spares_flash tally.status ≡ true → (F.state flash.new).faults ≡ (F.state flash.old).faults) }
     ensures script { IfErr result (λ fault. TellsScript (D.contents depot.old) words.now.script.now fault) }
-    ensures device { IfErr result (λ fault. TellsFlash F.told (F.state flash.new) fault) }
+    ensures device { IfErr result (λ fault. TellsFlash F.told words.now.flash.now (F.state flash.new) fault) }
     ensures complete { (files : Files) → (script : List ℕ) → (cat : channel.Catalog) → F.told ≡ true → D.contents depot.old ≡ Some files
         → (Rose (D.faults depot.old) (D.faults depot.new) → ⊥) → (Rose (F.state flash.old).faults (F.state flash.new).faults → ⊥)
         → script_opening files words.now.script.now ≡ Spelled script → HasCatalog (F.state flash.new) cat → is_faultless result ≡ true }
@@ -79,11 +77,12 @@ pub fn query<D: Depot, F: Flash, L: Link, O: Sink>(
                 mut replies,
             } = opened;
             a_catalog_is_short(&cat);
-            a_catalog_has_a_layout(&cat);
-            catalogs_are_bytes();
-            honest_sessions_are_smooth();
-            honest_lines_are_printed();
-            Ok(run_session(&cat, &script, words.to, &mut replies, flash, link, out))
+            let options = Options {
+                at: words.to,
+                plan: words.plan,
+                pace: words.pace,
+            };
+            Ok(run_session(&cat, &script, &options, &mut replies, flash, link, out))
         }
         Err(failure) => Err(failure),
     }

@@ -42,7 +42,8 @@ pub(crate) struct Opened {
 fn catalog_of<F: Flash>(flash: &mut F) -> Result<Catalog, QueryFailure>
     ensures catalog { IfOk result (λ cat. F.told ≡ true → HasCatalog (F.state flash.new) cat) }
     ensures suffices { IfOk result (λ cat. Suffices cat (F.state flash.new)) }
-    ensures device { IfErr result (λ fault. TellsFlash F.told (F.state flash.new) fault) }
+    ensures device { (name : List ℕ) → (F.state flash.old).name ≡ Some name → IfErr result (λ fault. TellsFlash F.told name (F.state flash.new) fault) }
+    ensures named { (F.state flash.new).name ≡ (F.state flash.old).name }
     ensures kinds { IfErr result (λ fault. IsOfFlash fault) }
     ensures page { (F.state flash.new).page ≡ (F.state flash.old).page }
     ensures deep_reads { (F.state flash.new).deep_reads ≡ (F.state flash.old).deep_reads }
@@ -70,7 +71,8 @@ fn catalog_of<F: Flash>(flash: &mut F) -> Result<Catalog, QueryFailure>
 fn open_flash<F: Flash>(alloc: Global, name: &str, flash: &mut F) -> Result<Catalog, QueryFailure>
     ensures catalog { IfOk result (λ cat. F.told ≡ true → HasCatalog (F.state flash.new) cat) }
     ensures suffices { IfOk result (λ cat. Suffices cat (F.state flash.new)) }
-    ensures device { IfErr result (λ fault. TellsFlash F.told (F.state flash.new) fault) }
+    ensures named { IfOk result (λ cat. (F.state flash.new).name ≡ Some name.now) }
+    ensures device { IfErr result (λ fault. TellsFlash F.told name.now (F.state flash.new) fault) }
     ensures kinds { IfErr result (λ fault. IsOfFlash fault) }
     ensures page { F.told ≡ true → (F.state flash.new).page ≡ (F.state flash.old).page }
     ensures deep_reads { (F.state flash.new).deep_reads ≡ (F.state flash.old).deep_reads }
@@ -106,7 +108,8 @@ fn open_over<F: Flash>(
     ensures catalog { IfOk result (λ opened. F.told ≡ true → HasCatalog (F.state flash.new) opened.cat) }
     ensures suffices { IfOk result (λ opened. Suffices opened.cat (F.state flash.new)) }
     ensures stores { IfOk result (λ opened. IsKept opened.cat (none_heard opened.cat) 1 0 opened.replies) }
-    ensures device { IfErr result (λ fault. TellsFlash F.told (F.state flash.new) fault) }
+    ensures named { IfOk result (λ opened. (F.state flash.new).name ≡ Some words.now.flash.now) }
+    ensures device { IfErr result (λ fault. TellsFlash F.told words.now.flash.now (F.state flash.new) fault) }
     ensures kinds { IfErr result (λ fault. IsOfFlash fault) }
     ensures page { F.told ≡ true → (F.state flash.new).page ≡ (F.state flash.old).page }
     ensures deep_reads { (F.state flash.new).deep_reads ≡ (F.state flash.old).deep_reads }
@@ -137,7 +140,7 @@ pub(crate) fn open<D: Depot, F: Flash>(
 ) -> Result<Opened, QueryFailure>
     ensures opened { IfOk result (λ opened. IsOpened F.told (query_view words.now) (D.contents depot.old) (F.state flash.new) opened) }
     ensures script { IfErr result (λ fault. TellsScript (D.contents depot.old) words.now.script.now fault) }
-    ensures device { IfErr result (λ fault. TellsFlash F.told (F.state flash.new) fault) }
+    ensures device { IfErr result (λ fault. TellsFlash F.told words.now.flash.now (F.state flash.new) fault) }
     ensures complete { (files : Files) → (script : List ℕ) → (cat : channel.Catalog) → F.told ≡ true → D.contents depot.old ≡ Some files
         → (Rose (D.faults depot.old) (D.faults depot.new) → ⊥) → (Rose (F.state flash.old).faults (F.state flash.new).faults → ⊥)
         → script_opening files words.now.script.now ≡ Spelled script → HasCatalog (F.state flash.new) cat → is_faultless result ≡ true }

@@ -2,7 +2,7 @@
 
 ghost use Rattle.std.specs.Prelude.{IfSome};
 ghost use Rattle.ghost_model.specs.Database.{IsDatabase};
-ghost use Rattle.flash_build.specs.Building.{IsHiddenPart};
+ghost use Rattle.ghost_model.specs.Flash.{IsHidden};
 
 use crate::{QueryFailure, query};
 use csv_split::{Hidden, Tables, read_tables, split};
@@ -17,6 +17,7 @@ use flash_build::{catalog_of, load_flash};
 use key_inputs::InputFault;
 use key_session::{SessionStatus, Tally};
 use key_words::QueryWords;
+use leakless_plan::Plan;
 use std::alloc::{AllocError, Global};
 use tree_schema::{Catalog, Schema, read_schema};
 
@@ -147,7 +148,7 @@ fn files(alloc: Global) -> Result<Vec<Vec<u8>>, AllocError> {
 /// The catalog and the hidden part of the tables of a schema.
 fn load_parts(alloc: Global, schema: Schema, tables: Tables) -> Option<Loaded>
     requires database { IsDatabase schema tables }
-    ensures part { IfSome result (λ loaded. IsHiddenPart loaded.cat loaded.hidden) }
+    ensures part { IfSome result (λ loaded. IsHidden loaded.cat loaded.hidden) }
 {
     let cat = catalog_of(schema, &tables);
     match split(alloc, cat.schema(), tables) {
@@ -158,7 +159,7 @@ fn load_parts(alloc: Global, schema: Schema, tables: Tables) -> Option<Loaded>
 
 /// The clinic.
 fn clinic(alloc: Global) -> Option<Loaded>
-    ensures part { IfSome result (λ loaded. IsHiddenPart loaded.cat loaded.hidden) }
+    ensures part { IfSome result (λ loaded. IsHidden loaded.cat loaded.hidden) }
 {
     let Ok(schema) = read_schema(SCHEMA) else {
         return None;
@@ -255,6 +256,8 @@ fn ask(alloc: Global, objects: &mut Objects) -> Result<Tally, QueryFailure> {
         flash: "key",
         to: "host:1",
         script: "script",
+        plan: Plan::Scan,
+        pace: 0,
     };
     query(
         alloc,
@@ -576,6 +579,8 @@ fn a_script_is_judged_before_the_flash_is_attached(rt: HostRuntime) -> Result<()
         flash: "key",
         to: "host:1",
         script: "other",
+        plan: Plan::Scan,
+        pace: 0,
     };
     let answer = query(
         rt.alloc(),

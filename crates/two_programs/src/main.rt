@@ -107,7 +107,7 @@ fn be_key(rt: &HostRuntime, line: &str) -> io::Result<u8> {
     );
     let code = ended.exit_code();
     if code != 0 {
-        let told = line_of(rt.alloc(), &words, &ended, &mut depot)?;
+        let told = line_of(rt.alloc(), &words, &ended)?;
         let _printed = eprintln!(rt; "{told}");
     }
     Ok(code)

@@ -2,7 +2,6 @@ use Rattle.std.proofs.Common.{List, subst, sym, ℕ, false}
 use Rattle.key_session.specs.Running.{is_sink}
 use Rattle.key_session.specs.Telling.{outside}
 use Rattle.key_query.specs.Openings.{IsScript}
-use Rattle.key_query.proofs.HonestRuns.{answers_all}
 use Rattle.key_query.proofs.command.query.Goals as goal
 
 pub returns-in-Ok-clause-ran : goal.returns-in-Ok-clause-ran
@@ -16,6 +15,7 @@ returns-in-Ok-clause-ran g c =
     record {
       opened = device;
       opens = record {
+        name = opened.name;
         page = c.in-Ok.ensures.page;
         faults = c.in-Ok.ensures.no_flash (λ e. cc);
         deep_reads = c.in-Ok.ensures.deep_reads;
@@ -27,8 +27,8 @@ returns-in-Ok-clause-ran g c =
       script = c.deref.result.now;
       is_script = is_script;
       ran = c.run_session.ensures.ran;
-      answered = answers_all c.honest_sessions_are_smooth.ensures c.honest_lines_are_printed.ensures c.catalogs_are_bytes.ensures.bytes _ (g.L.Link.faults c.args.link.now) (g.L.Link.faults c.run_session.new.link) g.F.Flash.told c.in-Ok.opened.cat c.args.words.now.to.now _ since now c.run_session.result c.run_session.ensures.ran
-          c.a_catalog_is_short.ensures.catalog c.a_catalog_has_a_layout.ensures.layout is_script.few;
+      answered = c.run_session.ensures.ran.answered;
       texts = c.run_session.ensures.texts;
       kept = c.run_session.ensures.pages;
+      called = c.run_session.ensures.flash_called;
     }

@@ -8,7 +8,7 @@ pub loop-place-init : goal.loop-place-init
 loop-place-init g c = record {
   bytes = λ told. none_before (g.F.Flash.state c.args.flash.now).page;
   size = c.told-bytes;
-  kept = record { page_count = refl; page = refl; blank = refl };
+  kept = record { name = refl; page_count = refl; page = refl; blank = refl };
   deep_reads = refl;
   faults = refl;
   calls = omega arith;
@@ -31,6 +31,7 @@ loop-place-preserved g c =
           ∙ ap (λ (page : ℕ → List ℕ). bytes_before page (place + 1)) (sym read.kept.page)))));
       size = c.put_page.array_long;
       kept = record {
+        name = read.kept.name ∙ was.kept.name;
         page_count = read.kept.page_count ∙ was.kept.page_count;
         page = read.kept.page ∙ was.kept.page;
         blank = read.kept.blank ∙ was.kept.blank;

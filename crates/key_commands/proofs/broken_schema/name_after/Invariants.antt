@@ -1,5 +1,0 @@
-use Rattle.std.proofs.Common.{length}
-use Rattle.key_commands.proofs.broken_schema.name_after.Given as goal
-
-abbrev pub decreases-loop-token : goal.decreases-loop-token
-decreases-loop-token l = length l.cursor
