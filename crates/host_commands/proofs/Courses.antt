@@ -1,5 +1,5 @@
 -- The courses of a call of the host's program.
-use Rattle.std.proofs.Common.{◌≡◌, ◌⊎◌, ℕ, Bool, true, false, List, Option, None, Some, inl, inr, refl, sym, ◌∙◌, ap, subst}
+use Rattle.std.proofs.Common.{◌≡◌, ◌⊎◌, ℕ, Bool, false, List, Option, None, Some, inl, inr, refl, sym, ◌∙◌, ap, subst}
 use Rattle.ghost_model.specs.Causes.{Rose}
 use Rattle.ghost_model.specs.CatalogLaws.{CatalogsHaveOneSpelling}
 use Rattle.ghost_model.specs.Channel.{Catalog, Journal}

@@ -1,5 +1,5 @@
 -- What `clap` reads is what the words say.
-use Rattle.std.proofs.Common.{◌≡◌, true, List, [], ◌∷◌, Option, Some, None, Ok, refl, sym, ◌∙◌, ap, subst}
+use Rattle.std.proofs.Common.{◌≡◌, true, List, [], ◌∷◌, Some, None, Ok, refl, sym, ◌∙◌, ap, subst}
 use Rattle.std.specs.Prelude.{option_and_then, if◌then◌else◌}
 use Rattle.clap.specs.Words.{App, Row, Text, HasMatchesOf, FailsBy, Kinds, found_of, rows_of, matches_of, fault_of, is_simple_and_free}
 use Rattle.clap.specs.Walk.{is_empty}

@@ -1,5 +1,5 @@
 -- How a call of the host's program went: how far it came, what it printed, and how it ended.
-use Rattle.std.specs.Prelude.{◌≡◌, ◌⊎◌, ℕ, Bool, false, List, [], ◌∷◌, ◌++◌, Option, None, codes, decimal}
+use Rattle.std.specs.Prelude.{◌≡◌, ◌⊎◌, ℕ, false, List, [], ◌∷◌, ◌++◌, Option, None, codes, decimal}
 use Rattle.ghost_model.specs.Causes.{Rose}
 use Rattle.ghost_model.specs.Channel.{Catalog, Journal, Listen, Accept, Made, Port, Failed}
 use Rattle.ghost_model.specs.Host.{Holding, host_of, bad_request}

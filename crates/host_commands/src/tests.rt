@@ -5,6 +5,7 @@ use edge_traits::mem_depot::{self, MemDepot};
 use edge_traits::mem_link::{self, MemLink};
 use edge_traits::mem_sink::MemSink;
 use edge_traits::peer::PeerScript;
+use edge_traits::told::Told;
 use std::alloc::{AllocError, Global};
 
 /// The visible image: the catalog in 365 bytes, and the cells of 3 doctors, 2 patients and 4 visits.
@@ -20,6 +21,13 @@ const FOURTH: &[u8] = b"\x01\x01\0\x04\0\0\0\0\0\0\0\x01\x02\x01\0\x03\0\0\0\x01
 
 const WORDS: &str = "host --visible c --at here:0";
 
+/// The header of the frame that says the catalog, and the byte that tells that it says all of it.
+const WELCOME: &[u8] = b"\x11\x01\x01\x6E\0\0\0\0\x01";
+
+/// The doctors 1 and 3 with their specialty, and the end of that reply, which has 2 rows.
+const REPLY: &[u8] =
+    b"\x12\x01\0\x18\0\0\0\x01\0\0\0\x01cardio\0\0\0\0\0\x03cardio\0\0\x13\x01\0\x04\0\0\0\x01\0\0\0\x02";
+
 /// What a call is made over.
 #[derive(Clone, Copy)]
 struct Case<'a> {
@@ -30,13 +38,44 @@ struct Case<'a> {
     sink_fails: &'a [u64],
 }
 
-/// What a call did: how it ended, what it printed, how many moves it made, and what is told of it.
+/// What a call did: how it ended, what it printed, how many moves it made, what it sent, how many bytes by each send, and what
+/// is told of it.
 #[derive(Drop)]
 struct Outcome {
     status: HostStatus,
     out: MemSink,
     moves: usize,
+    sends: Vec<usize>,
+    sent: Vec<u8>,
     line: String,
+}
+
+/// How many bytes of a journal belong to a move.
+fn size_of(told: &Told) -> usize {
+    match told {
+        Told::Dial { size, .. } | Told::Listen { size, .. } | Told::Send { size, .. } => *size,
+        Told::Take { answer, .. } => answer.unwrap_or(0),
+        Told::Accept { .. } | Told::Close => 0,
+    }
+}
+
+/// Adds the bytes that were sent on a link, and how many by each send.
+fn add_sent(link: &MemLink, sent: &mut Vec<u8>, sends: &mut Vec<usize>) -> Result<(), AllocError> {
+    let Some(journal) = link.journal() else {
+        return Ok(());
+    };
+    let mut rest = journal.bytes;
+    for told in journal.moves {
+        let Some((bytes, later)) = rest.split_at_checked(size_of(told)) else {
+            return Ok(());
+        };
+        if let Told::Send { size, .. } = told {
+            sent.extend_from_slice(bytes)?;
+            sends.push(*size)?;
+        }
+        rest = later;
+    }
+    Ok(())
 }
 
 /// Makes the call.
@@ -68,11 +107,16 @@ fn call_over(alloc: Global, case: &Case<'_>) -> Result<Outcome, AllocError> {
         Some(told) => told.moves.len(),
         None => 0,
     };
+    let mut sent = Vec::new(alloc);
+    let mut sends = Vec::new(alloc);
+    add_sent(&link, &mut sent, &mut sends)?;
     let line = line_of(alloc, &words, &status)?;
     Ok(Outcome {
         status,
         out,
         moves,
+        sends,
+        sent,
         line,
     })
 }
@@ -94,20 +138,43 @@ fn a_key_is_served(rt: HostRuntime) -> Result<(), AllocError> {
     assert_eq!(rt; served.status, HostStatus::Ok);
     assert_eq!(rt; served.status.exit_code(), 0);
     assert_eq!(rt; served.out.bytes(), b"port 4711\n".as_slice());
+    let (catalog, _cells) = IMAGE.split_at(365);
+    let mut said = Vec::new(rt.alloc());
+    said.extend_from_slice(WELCOME)?;
+    said.extend_from_slice(catalog)?;
+    said.extend_from_slice(REPLY)?;
+    assert_eq!(rt; served.sent.as_slice(), said.as_slice());
+    assert_eq!(rt; served.sends.as_slice(), [374, 32, 12].as_slice());
     Ok(())
 }
 
 #[test]
 fn other_words_and_files_end_it_before_it_listens(rt: HostRuntime) -> Result<(), AllocError> {
     let (short, _last) = IMAGE.split_at(436);
+    let usage =
+        "usage: host_program --visible FILE --at ADDRESS:PORT, where port 0 stands for a free one";
     let cases = [
-        (over("host --visible c", IMAGE, SESSION), 2u8),
-        (over("host --visible c --at h:0 --help", IMAGE, SESSION), 2),
-        (over("host --visible d --at here:0", IMAGE, SESSION), 5),
-        (over(WORDS, short, SESSION), 14),
+        (over("host --visible c", IMAGE, SESSION), 2u8, usage),
+        (over("host --at here:0", IMAGE, SESSION), 2, usage),
+        (
+            over("host --visible c --at h:0 --help", IMAGE, SESSION),
+            2,
+            usage,
+        ),
+        (
+            over("host --visible d --at here:0", IMAGE, SESSION),
+            5,
+            "d could not be read: see that the file is there",
+        ),
+        (
+            over(WORDS, short, SESSION),
+            14,
+            "c is no visible image: `key_program load` writes one with --visible c",
+        ),
     ];
-    for (case, code) in cases.iter() {
+    for (case, code, line) in cases.iter() {
         let ended = call_over(rt.alloc(), case)?;
+        assert_eq!(rt; ended.line.as_str(), *line);
         assert_eq!(rt; ended.status.exit_code(), *code);
         assert_eq!(rt; ended.moves, 0);
         assert_eq!(rt; ended.out.bytes(), b"".as_slice());
@@ -141,6 +208,12 @@ fn a_failing_move_ends_it(rt: HostRuntime) -> Result<(), AllocError> {
             },
         )?;
         assert_eq!(rt; ended.status, HostStatus::Link, "call {call}");
+        assert_eq!(rt; ended.status.exit_code(), 7, "call {call}");
+        assert_eq!(rt;
+            ended.line.as_str(),
+            "the link at here:0 failed: where no port was printed, it is in use or not of this machine, and port 0 takes a free one; else the key broke off, and both are to be started again",
+            "call {call}"
+        );
     }
     Ok(())
 }
@@ -158,6 +231,7 @@ fn no_key_is_accepted_where_the_port_is_not_printed(rt: HostRuntime) -> Result<(
         },
     )?;
     assert_eq!(rt; ended.status, HostStatus::Sink);
+    assert_eq!(rt; ended.status.exit_code(), 9);
     assert_eq!(rt; ended.out.bytes(), b"port".as_slice());
     assert_eq!(rt; ended.moves, 1);
     Ok(())
