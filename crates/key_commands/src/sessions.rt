@@ -22,7 +22,7 @@ fn damage_line(alloc: Global, flash: &str, damage: &Damage) -> Result<String, Al
 /// The line of a flash that failed in a session.
 fn flash_line(alloc: Global, flash: &str) -> Result<String, AllocError> {
     format!(in alloc;
-        "{flash} could not always be read, and the texts that met that have the word flash; the others are answered"
+        "{flash} could not always be read, and the texts that met that have the word flash, while the others are answered; see that the device can be read, and ask again"
     )
 }
 
@@ -73,7 +73,9 @@ pub(crate) fn local_end_line(
         LocalEnd::Sink => String::from_str(alloc, NO_OUTPUT),
         LocalEnd::Depot => {
             let journal = words.journal.unwrap_or("");
-            format!(in alloc; "{journal} could not be written to its end")
+            format!(in alloc;
+                "{journal} could not be written to its end: see that its folder has room, and ask again"
+            )
         }
         LocalEnd::Flash => flash_line(alloc, words.flash),
         LocalEnd::Damaged { page, slot, found } => {

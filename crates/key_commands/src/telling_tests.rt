@@ -36,12 +36,12 @@ fn each_end_of_local_is_told(rt: HostRuntime) -> Result<(), AllocError> {
         (
             Ok(LocalEnd::Depot),
             5,
-            "journal could not be written to its end",
+            "journal could not be written to its end: see that its folder has room, and ask again",
         ),
         (
             Ok(LocalEnd::Flash),
             6,
-            "flash could not always be read, and the texts that met that have the word flash; the others are answered",
+            "flash could not always be read, and the texts that met that have the word flash, while the others are answered; see that the device can be read, and ask again",
         ),
         (
             Ok(LocalEnd::Damaged {
@@ -129,7 +129,7 @@ fn each_end_of_a_session_is_told(rt: HostRuntime) -> Result<(), AllocError> {
         (
             SessionStatus::Flash,
             6,
-            "flash could not always be read, and the texts that met that have the word flash; the others are answered",
+            "flash could not always be read, and the texts that met that have the word flash, while the others are answered; see that the device can be read, and ask again",
         ),
         (
             SessionStatus::Damaged(Damage {
