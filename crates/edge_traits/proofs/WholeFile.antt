@@ -10,10 +10,11 @@ pub record StartsFile (contents : Option Files) (name bytes : List ℕ) : Type 0
   pub front : (file : List ℕ) → file_of contents name ≡ Some file → bytes ≡ take (length bytes) file
 
 -- the state of a read of a whole file
-pub record ReadSoFar (before now : Option Files) (faults_before faults_now appends_before appends_now : ℕ) (name bytes : List ℕ) (count limit : ℕ) : Type 0 where
+pub record ReadSoFar (before now : Option Files) (faults_before faults_now appends_before appends_now : ℕ) (sure_before sure_now : List ℕ → Type 0) (name bytes : List ℕ) (count limit : ℕ) : Type 0 where
   pub same : now ≡ before
   pub faults : faults_now ≡ faults_before
   pub appends : appends_now ≡ appends_before
+  pub stays_sure : (other : List ℕ) → sure_before other → sure_now other
   pub within : count ≤ limit
   pub starts : StartsFile before name bytes
 

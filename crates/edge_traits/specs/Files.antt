@@ -34,6 +34,10 @@ abbrev pub HasLonger : Option Files → List ℕ → ℕ → Type 0
 HasLonger None name limit = ⊤
 HasLonger (Some files) name limit = MatchOption (map.get files name) ⊥ (λ bytes. limit < length bytes)
 
+-- each file that is there is one whose reads go well
+abbrev pub AreSure : Files → (List ℕ → Type 0) → Type 0
+AreSure files sure = (name bytes : List ℕ) → map.get files name ≡ Some bytes → sure name
+
 -- every file but the named one is as it was, and what was told is told
 pub record SameBut (name : List ℕ) (before after : Option Files) : Type 0 where
   pub told : is_some after ≡ is_some before

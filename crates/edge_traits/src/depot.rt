@@ -31,7 +31,7 @@ pub trait Depot {
         ensures bytes { IfOk result (λ count. ReadsAt (contents self.old) name.now at buf.old count buf.new) }
         ensures same { contents self.new ≡ contents self.old }
         ensures goes_well { sure self.old name.now → is_ok result ≡ true }
-        ensures stays_sure { sure self.old name.now → sure self.new name.now };
+        ensures stays_sure { (other : List ℕ) → sure self.old other → sure self.new other };
 
     /// Makes `bytes` the whole of the file `name`, new or not. After a failure nothing is known of that one file.
     fn replace(&mut self, name: &str, bytes: &[u8]) -> Result<(), Failed>

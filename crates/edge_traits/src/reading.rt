@@ -1,6 +1,6 @@
 //! Reading a file whole.
 
-ghost use Rattle.std.specs.Prelude.{◌≡◌, ◌≤◌, IfOk, Err, vec_len};
+ghost use Rattle.std.specs.Prelude.{◌≡◌, ◌≤◌, ℕ, List, IfOk, Err, vec_len};
 ghost use Rattle.ghost_model.specs.Causes.{Rose};
 ghost use Rattle.edge_traits.specs.Files.{HasFile, HasLonger};
 ghost use Rattle.edge_traits.specs.declared.reading.ReadFault.TheVariants.{Depot as depot_failed, NoMemory as no_memory};
@@ -52,6 +52,8 @@ pub fn read_file<D: Depot>(
     ensures other { (result ≡ Err ReadFault.Depot → ⊥) → D.faults depot.new ≡ D.faults depot.old }
     ensures appends { D.append_faults depot.new ≡ D.append_faults depot.old }
     ensures same { D.contents depot.new ≡ D.contents depot.old }
+    ensures goes_well { D.sure depot.old name.now → result ≡ Err ReadFault.Depot → ⊥ }
+    ensures stays_sure { (other : List ℕ) → D.sure depot.old other → D.sure depot.new other }
 {
     let mut bytes = Vec::new(alloc);
     let mut piece = [0u8; 4096];

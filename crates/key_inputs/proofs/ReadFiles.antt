@@ -21,10 +21,11 @@ pub record ReadSoFar (contents : Option Files) (folder : List ℕ) (schema : Sch
   pub found : (files : Files) → contents ≡ Some files → each (file_for files folder) schema ≡ each Some read ++ each (file_for files folder) (drop i schema)
 
 -- what the reading keeps of the depot
-pub record Keeps (contents_before contents_now : Option Files) (faults_before faults_now appends_before appends_now : ℕ) : Type 0 where
+pub record Keeps (contents_before contents_now : Option Files) (faults_before faults_now appends_before appends_now : ℕ) (sure_before sure_now : List ℕ → Type 0) : Type 0 where
   pub contents : contents_now ≡ contents_before
   pub faults : faults_now ≡ faults_before
   pub appends : appends_now ≡ appends_before
+  pub stays_sure : (other : List ℕ) → sure_before other → sure_now other
 
 -- the table at a place, and those after it
 table_there : (schema : Schema) (i : ℕ) → i < length schema

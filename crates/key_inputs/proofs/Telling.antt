@@ -1,5 +1,5 @@
 -- What faults tell of an opening.
-use Rattle.std.proofs.Common.{◌≡◌, ℕ, true, List, [], Option, Some, None, ◌&&◌, not, refl, sym, ap, ◌∙◌, subst, bytes_eq}
+use Rattle.std.proofs.Common.{◌≡◌, ℕ, true, List, [], Option, Some, None, Result, Ok, Err, ◌&&◌, not, refl, sym, ap, ◌∙◌, subst, bytes_eq}
 use Rattle.std.specs.List.{list_all}
 use Rattle.ghost_model.specs.Schema.{Schema}
 use Rattle.ghost_model.specs.Spelled.{is_name, begins_as_name, is_reserved}
@@ -9,6 +9,7 @@ use Rattle.ghost_model.proofs.MeaningLemmas.OneRow.{both_true}
 use Rattle.ghost_model.specs.Values.{Database}
 use Rattle.ghost_model.specs.Database.{database_of}
 use Rattle.key_inputs.specs.Openings.{InputFault, Opening, Spelled, Broken, TablesInput, unless_broken, after_tables}
+use Rattle.key_inputs.specs.declared.faults.OpenFault.{OpenFault}
 use Rattle.key_inputs.specs.Views.{TellsRule, IsBroken, rule_or}
 
 -- the bytes of a name may stand in a word
@@ -18,6 +19,14 @@ name_bytes name h =
     let first = both_true (begins_as_name name && list_all is_name_byte name && bytes_eq (in_lower_case name) name) (not (is_reserved name)) h in
     let second = both_true (begins_as_name name && list_all is_name_byte name) (bytes_eq (in_lower_case name) name) first.0 in
     (both_true (begins_as_name name) (list_all is_name_byte name) second.0).1
+
+-- a fault that is another one is so in a result of any type
+abbrev fault_or : {X : Type 0} → OpenFault → Result X OpenFault → OpenFault
+fault_or other (Ok value) = other
+fault_or other (Err fault) = fault
+
+pub same_fault : {X Y : Type 0} (fault other : OpenFault) → ◌≡◌ {A = Result X OpenFault} (Err fault) (Err other) → ◌≡◌ {A = Result Y OpenFault} (Err fault) (Err other)
+same_fault fault other is = ap (λ one. Err one) (ap (fault_or other) is)
 
 -- the rule that is told of some faults breaks an opening that goes on only without faults
 pub broken_by : {X : Type 0} (next : Opening X) (rule : Option InputFault) (faults : List load.LoadFault) → TellsRule rule faults

@@ -3,14 +3,14 @@
 ghost use Rattle.std.specs.Prelude.{◌≡◌, ◌≤◌, ◌<◌, ◌^◌, ℕ, true, List, [], Some, Err, IfOk, IfErr, MatchResult, is_some, length, string_bytes};
 ghost use Rattle.ghost_model.specs.Causes.{Rose};
 ghost use Rattle.ghost_model.specs.Database as database;
-ghost use Rattle.edge_traits.specs.Files.{Files};
+ghost use Rattle.edge_traits.specs.Files.{Files, AreSure};
 ghost use Rattle.key_inputs.specs.Openings.{tables_opening, tables_from};
 ghost use Rattle.key_inputs.specs.Naming.{IsNamedBy, IsNamedIn, IsShownBy, IsSpelledIn, OfKey, OfTable, ShowsKey};
 ghost use Rattle.key_inputs.specs.Views.{OpensTables, OpensSchema, ReadsFiles, ReadsTable, Tells, TellsRule, rule_in, rule_of, name_at, opening_at};
 ghost use Rattle.ghost_model.specs.LoadFaults as load;
 ghost use Rattle.ghost_model.specs.Schema as schemas;
 ghost use Rattle.key_inputs.specs.Openings as openings;
-ghost use Rattle.key_inputs.specs.Openings.{Opening, TablesInput};
+ghost use Rattle.key_inputs.specs.Openings.{Opening, Missing, TablesInput};
 
 use crate::broken_table::{BrokenTable, RecordNamed};
 use crate::faults::{InputFault, OpenFault};
@@ -55,6 +55,8 @@ pub fn open_tables<D: Depot>(
     ensures other { (result ≡ Err OpenFault.Depot → ⊥) → D.faults depot.new ≡ D.faults depot.old }
     ensures appends { D.append_faults depot.new ≡ D.append_faults depot.old }
     ensures same { D.contents depot.new ≡ D.contents depot.old }
+    ensures stays_sure { (other : List ℕ) → D.sure depot.old other → D.sure depot.new other }
+    ensures missing { (files : Files) → D.contents depot.old ≡ Some files → AreSure files (D.sure depot.old) → result ≡ Err OpenFault.Depot → tables_opening files schema.now folder.now ≡ Missing }
 {
     let schema = open_schema(alloc, schema, depot)?;
     let tables = open_files(alloc, &schema, folder, depot)?;
@@ -76,6 +78,8 @@ fn open_schema<D: Depot>(alloc: Global, name: &str, depot: &mut D) -> Result<Sch
     ensures other { (result ≡ Err OpenFault.Depot → ⊥) → D.faults depot.new ≡ D.faults depot.old }
     ensures appends { D.append_faults depot.new ≡ D.append_faults depot.old }
     ensures same { D.contents depot.new ≡ D.contents depot.old }
+    ensures stays_sure { (other : List ℕ) → D.sure depot.old other → D.sure depot.new other }
+    ensures missing { (files : Files) → D.contents depot.old ≡ Some files → AreSure files (D.sure depot.old) → result ≡ Err OpenFault.Depot → (folder : List ℕ) → tables_opening files name.now folder ≡ Missing }
 {
     let text = match read_file(alloc, depot, name, MAX_TEXT) {
         Ok(text) => text,
@@ -105,6 +109,8 @@ fn open_files<D: Depot>(
     ensures other { (result ≡ Err OpenFault.Depot → ⊥) → D.faults depot.new ≡ D.faults depot.old }
     ensures appends { D.append_faults depot.new ≡ D.append_faults depot.old }
     ensures same { D.contents depot.new ≡ D.contents depot.old }
+    ensures stays_sure { (other : List ℕ) → D.sure depot.old other → D.sure depot.new other }
+    ensures missing { (files : Files) → D.contents depot.old ≡ Some files → AreSure files (D.sure depot.old) → result ≡ Err OpenFault.Depot → tables_from files folder.now schema.now 0 schema.now [] ≡ Missing }
 {
     let mut tables = Tables::new(alloc);
     for table in 0..schema.tables() {
@@ -134,6 +140,8 @@ fn open_table<D: Depot>(
     ensures other { (result ≡ Err OpenFault.Depot → ⊥) → D.faults depot.new ≡ D.faults depot.old }
     ensures appends { D.append_faults depot.new ≡ D.append_faults depot.old }
     ensures same { D.contents depot.new ≡ D.contents depot.old }
+    ensures stays_sure { (other : List ℕ) → D.sure depot.old other → D.sure depot.new other }
+    ensures missing { (files : Files) → D.contents depot.old ≡ Some files → AreSure files (D.sure depot.old) → result ≡ Err OpenFault.Depot → (next : List ℕ → Opening TablesInput) → opening_at files folder.now schema.now table next ≡ Missing }
 {
     let _tables = schema.tables();
     let Ok(name) = file_of(alloc, schema, table, folder) else {

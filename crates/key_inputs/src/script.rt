@@ -1,10 +1,10 @@
 //! The reading of a script.
 
-ghost use Rattle.std.specs.Prelude.{◌≡◌, ◌≤◌, true, Some, Err, IfOk, IfErr, is_some, length};
+ghost use Rattle.std.specs.Prelude.{◌≡◌, ◌≤◌, ℕ, List, true, Some, Err, IfOk, IfErr, is_some, length};
 ghost use Rattle.ghost_model.specs.Causes.{Rose};
 ghost use Rattle.ghost_model.specs.Texts.{texts_of};
-ghost use Rattle.edge_traits.specs.Files.{Files};
-ghost use Rattle.key_inputs.specs.Openings.{Spelled, most_text};
+ghost use Rattle.edge_traits.specs.Files.{Files, AreSure};
+ghost use Rattle.key_inputs.specs.Openings.{Spelled, Missing, most_text};
 ghost use Rattle.key_inputs.specs.Scripts.{most_texts, script_opening};
 ghost use Rattle.key_inputs.specs.Views.{Tells, rule_of};
 
@@ -30,6 +30,8 @@ pub fn open_script<D: Depot>(alloc: Global, name: &str, depot: &mut D) -> Result
     ensures other { (result ≡ Err OpenFault.Depot → ⊥) → D.faults depot.new ≡ D.faults depot.old }
     ensures appends { D.append_faults depot.new ≡ D.append_faults depot.old }
     ensures same { D.contents depot.new ≡ D.contents depot.old }
+    ensures stays_sure { (other : List ℕ) → D.sure depot.old other → D.sure depot.new other }
+    ensures missing { (files : Files) → D.contents depot.old ≡ Some files → AreSure files (D.sure depot.old) → result ≡ Err OpenFault.Depot → script_opening files name.now ≡ Missing }
 {
     let script = match read_file(alloc, depot, name, MAX_TEXT) {
         Ok(script) => script,
