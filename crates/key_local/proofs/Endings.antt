@@ -84,6 +84,9 @@ ran_of told schema database texts words end catalog before middle after same ran
       more_calls = λ is.
           let built = subst (λ (c : Catalog). Counts (pages_built c) before.device.calls middle.device.calls) same counts in
           rose_after before.device.calls (pages_built (catalog_for schema database)) middle.device.calls after.device.calls built (mine.called is);
+      damage_called = λ is.
+          let built = subst (λ (c : Catalog). Counts (pages_built c) before.device.calls middle.device.calls) same counts in
+          rose_after before.device.calls (pages_built (catalog_for schema database)) middle.device.calls after.device.calls built (mine.damage_called is);
       undamaged = mine.undamaged;
       damaged = mine.damaged;
       catalog = λ t. subst (λ (page : ℕ → List ℕ). HoldsCatalog page (catalog_for schema database)) (sym kept.page)

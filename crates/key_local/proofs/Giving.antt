@@ -15,7 +15,7 @@ use Rattle.edge_traits.specs.Files.{Files}
 use Rattle.edge_traits.specs.Written.{grown}
 use Rattle.session_laws.specs.Local.{IsLocal, IsUnbroken, LocalSessionsAreServed}
 use Rattle.key_session.specs.Refusing.{first_code}
-use Rattle.key_session.specs.Running.{IsTally, status_of, blames_flash, is_sink as wrote_none}
+use Rattle.key_session.specs.Running.{IsTally, status_of, blames_flash, is_sink as wrote_none, is_damaged as is_damage}
 use Rattle.key_session.specs.Telling.{Outside, AreTold}
 use Rattle.key_exec.specs.Blaming.{IsDamaged}
 use Rattle.key_session.specs.declared.counts.Damage.{Damage}
@@ -28,7 +28,7 @@ use Rattle.key_local.specs.Running.{RanOver, KeepsLines, damage_at}
 use Rattle.key_local.specs.Sessions.{World, world, outside_in, is_sink, is_damaged}
 use Rattle.key_local.specs.declared.ends.LocalEnd.{LocalEnd}
 use Rattle.key_local.specs.declared.ends.LocalEnd.TheVariants as ends
-use Rattle.key_local.proofs.Statuses.{none_stops, no_code, whole_status, flash_status, is_damage, damage_found, no_damage}
+use Rattle.key_local.proofs.Statuses.{none_stops, no_code, whole_status, flash_status, damage_found, no_damage}
 
 not_so : (b : Bool) → (b ≡ true → ⊥) → b ≡ false
 not_so true never = absurd (never refl)
@@ -71,10 +71,10 @@ pub ran_over : (told : Bool) (catalog : Catalog) (database : Database) (texts : 
     (λ reasons. IsTally (wrote_none tally.status) (left catalog (asked_of catalog.schema texts) journal) reasons tally) (outside_in false before) (outside_in (wrote_none tally.status) after))
     → ((damage : Damage) → tally.status ≡ status.Damaged damage → IsDamaged told before.device.page catalog damage.page damage.slot damage.found) → KeepsPages before.device after.device
     → is_sink end ≡ wrote_none tally.status → (end ≡ ends.Ok → tally.status ≡ status.Ok) → (end ≡ ends.Flash → blames_flash tally.status ≡ true)
-    → (blames_flash tally.status ≡ true → Rose before.device.calls after.device.calls)
+    → (blames_flash tally.status ≡ true → Rose before.device.calls after.device.calls) → (is_damage tally.status ≡ true → Rose before.device.calls after.device.calls)
     → ((page slot found : ℕ) → end ≡ ends.Damaged page slot found → tally.status ≡ status.Damaged (damage_at page slot found))
     → RanOver told catalog database texts name end before after
-ran_over told catalog database texts name end tally before after journal served given is_local finished kept all_kept are_told blamed pages sink whole flash called damaged =
+ran_over told catalog database texts name end tally before after journal served given is_local finished kept all_kept are_told blamed pages sink whole flash called read damaged =
     let unbroken = served catalog database [] texts journal is_local in
     let stays = going catalog database texts journal unbroken in
     let right = valid catalog database texts journal unbroken in
@@ -99,6 +99,7 @@ ran_over told catalog database texts name end tally before after journal served 
           flash_status (wrote_none tally.status) (left catalog (asked_of catalog.schema texts) journal) (list_any is_cut all.gives.given) stays right none
           (sym (ap blames_flash all.status_is) ∙ flash is);
       called = λ is. called (flash is);
+      damage_called = λ is. read (damage_found end tally.status damaged is);
       undamaged = λ t. not_so (is_damaged end) (λ found.
           let all = by_tally t in
           let none_found : is_damage tally.status ≡ false = ap is_damage all.status_is ∙ no_damage (wrote_none tally.status) (left catalog (asked_of catalog.schema texts) journal) (list_any is_cut all.gives.given) stays right none in

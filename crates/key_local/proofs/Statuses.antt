@@ -6,7 +6,7 @@ use Rattle.ghost_model.specs.Moves.{answers}
 use Rattle.ghost_model.specs.NextMove.{Left, Ended, Ending, Answered, Refused, is_stop}
 use Rattle.ghost_model.specs.Lines.{was_refused, is_refused_by}
 use Rattle.key_session.specs.Refusing.{first_code, code_of, or_else}
-use Rattle.key_session.specs.Running.{status_of, status_with, is_sink, blames_flash}
+use Rattle.key_session.specs.Running.{status_of, status_with, is_sink, blames_flash, is_damaged as is_damage}
 use Rattle.key_session.specs.declared.counts.Damage.{Damage}
 use Rattle.key_session.specs.declared.tally.SessionStatus.{SessionStatus}
 use Rattle.key_session.specs.declared.tally.SessionStatus.TheVariants as status
@@ -62,17 +62,7 @@ flash_status true session false going valid none blamed = cc
 flash_status false session false going valid none blamed =
     let is : status_of false session false ≡ status.Ok = rw (going, valid, none) refl in cc
 
--- whether damage was found
-abbrev pub is_damage : SessionStatus → Bool
-is_damage status.Ok = false
-is_damage status.Sink = false
-is_damage status.Link = false
-is_damage (status.Protocol kind at) = false
-is_damage (status.Host code) = false
-is_damage status.Flash = false
-is_damage (status.Damaged damage) = true
-
--- it was, where an end names a slot of which it was found
+-- damage was found, where an end names a slot of which it was found
 pub damage_found : (end : LocalEnd) (one : SessionStatus) → ((page slot found : ℕ) → end ≡ ends.Damaged page slot found → one ≡ status.Damaged (damage_at page slot found))
     → is_damaged end ≡ true → is_damage one ≡ true
 damage_found ends.Ok one is e = cc

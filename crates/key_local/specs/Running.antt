@@ -76,5 +76,6 @@ pub record RanOver (told : Bool) (catalog : Catalog) (database : Database) (text
   pub printed_all : told ≡ true → end ≡ ends.Ok → after.written ≡ grown before.written (printed catalog.schema texts database)
   pub cut : (t : told ≡ true) → end ≡ ends.Flash → list_any is_cut (gives t).given ≡ true
   pub called : end ≡ ends.Flash → Rose before.device.calls after.device.calls
+  pub damage_called : is_damaged end ≡ true → Rose before.device.calls after.device.calls
   pub undamaged : told ≡ true → is_damaged end ≡ false
   pub damaged : (page slot found : ℕ) → end ≡ ends.Damaged page slot found → IsDamaged told after.device.page catalog page slot found

@@ -105,7 +105,9 @@ pub record Ran (told : Bool) (one : Subject) (end : LocalEnd) (before after : Wo
   pub cut : (t : told ≡ true) → end ≡ ends.Flash → list_any is_cut (gives t).given ≡ true
   -- and by a call of the session, after those of the making
   pub more_calls : end ≡ ends.Flash → Rose (before.device.calls + pages_built (catalog_in one)) after.device.calls
-  -- and a slot only where it is one of a hidden column and has no value of it, so where the pages are told none is
+  -- and a slot only by a call of the session, and where it is one of a hidden column and has no value of it, so where the
+  -- pages are told none is
+  pub damage_called : is_damaged end ≡ true → Rose (before.device.calls + pages_built (catalog_in one)) after.device.calls
   pub undamaged : told ≡ true → is_damaged end ≡ false
   pub damaged : (page slot found : ℕ) → end ≡ ends.Damaged page slot found → IsDamaged told after.device.page (catalog_in one) page slot found
   -- and the flash has been made for it, under the name that the words say

@@ -13,7 +13,7 @@ use Rattle.key_inputs.specs.Scripts.{script_opening}
 use Rattle.key_inputs.specs.Views.{rule_of}
 use Rattle.key_inputs.specs.declared.faults.InputFault.{InputFault as Fault}
 use Rattle.key_session.specs.Answering.{AnswersWhereSound}
-use Rattle.key_session.specs.Running.{HasRun, blames_flash}
+use Rattle.key_session.specs.Running.{HasRun, blames_flash, is_damaged}
 use Rattle.key_session.specs.Telling.{Outside}
 use Rattle.key_session.specs.declared.tally.Tally.{Tally}
 use Rattle.key_query.specs.Openings.{IsScript}
@@ -44,8 +44,9 @@ pub record Runs (goes : Journal → Type 0) (link_before link_now : ℕ) (told :
   pub answered : AnswersWhereSound told cat (texts_of script) ran.journal (record before { flash = opened }) now tally
   pub texts : tally.texts ≡ length (texts_of script)
   pub kept : KeepsPages opened now.flash
-  -- the flash is blamed only for a call of the session
+  -- the flash is blamed, or a slot of it, only for a call of the session
   pub called : blames_flash tally.status ≡ true → Rose opened.calls now.flash.calls
+  pub damage_called : is_damaged tally.status ≡ true → Rose opened.calls now.flash.calls
 
 -- a fault tells the rule that is broken first
 pub record IsTold (opening : Opening (List ℕ)) (broken : Fault) : Type 0 where

@@ -123,6 +123,15 @@ flash_called before now told.Link called e = cc
 flash_called before now told.Protocol called e = cc
 flash_called before now (told.Damaged page slot found) called e = cc
 
+damage_called : (before now : ℕ) (result : Told) → ToldCalls before now result → is_damage (reason_of result) ≡ true → Rose before now
+damage_called before now told.Flash called e = cc
+damage_called before now told.Refused called e = cc
+damage_called before now told.Answered called e = cc
+damage_called before now told.Host called e = cc
+damage_called before now told.Link called e = cc
+damage_called before now told.Protocol called e = cc
+damage_called before now (told.Damaged page slot found) called e = called
+
 pub still_no_fall : (most since before now : ℕ) → min since most ≤ before → min before most ≤ now → min since most ≤ now
 still_no_fall most since before now e f = omega (arith, e, f)
 
@@ -132,15 +141,27 @@ rose_before most since before now e f = omega (arith, e, f)
 rose_then : (most since before now : ℕ) → min since most ≤ before → min (before + 1) most ≤ now → min (since + 1) most ≤ now
 rose_then most since before now e f = omega (arith, e, f)
 
+rose_more : (since before now : ℕ) (first second : Bool) → min since last_count ≤ before → (first ≡ true → Rose since before)
+    → min before last_count ≤ now → (second ≡ true → Rose before now) → (first || second) ≡ true → Rose since now
+rose_more since before now first second stayed called stays calls e =
+    elim (either first second e) [
+      | inl f ↦ rose_before last_count since before now (called f) stays
+      | inr f ↦ rose_then last_count since before now stayed (calls f)
+    ]
+
 -- the flash was called where one of the texts met a fault of it
 pub called_more : (since before now : ℕ) (old new : Counts) (result : Told) → IsCounted (reason_of result) old new
     → min since last_count ≤ before → (old.by_flash ≡ true → Rose since before)
     → min before last_count ≤ now → ToldCalls before now result → new.by_flash ≡ true → Rose since now
 called_more since before now old new result counted stayed called stays calls e =
-    elim (either old.by_flash (is_flash (reason_of result)) (sym counted.by_flash ∙ e)) [
-      | inl f ↦ rose_before last_count since before now (called f) stays
-      | inr f ↦ rose_then last_count since before now stayed (flash_called before now result calls f)
-    ]
+    rose_more since before now old.by_flash (is_flash (reason_of result)) stayed called stays (flash_called before now result calls) (sym counted.by_flash ∙ e)
+
+-- and where one of them met damage
+pub damage_called_more : (since before now : ℕ) (old new : Counts) (result : Told) → IsCounted (reason_of result) old new
+    → min since last_count ≤ before → (is_some old.damage ≡ true → Rose since before)
+    → min before last_count ≤ now → ToldCalls before now result → is_some new.damage ≡ true → Rose since now
+damage_called_more since before now old new result counted stayed called stays calls e =
+    rose_more since before now (is_some old.damage) (is_damage (reason_of result)) stayed called stays (damage_called before now result calls) (sym counted.found ∙ e)
 
 -- the damage that is told of a text is that of a slot
 damage_told : (result : Told) → is_some (damage_in result) ≡ is_damage (reason_of result)

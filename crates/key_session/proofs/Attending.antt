@@ -112,6 +112,7 @@ module _ (over : OverTextsAreSettled) (order : TextsComeInOrder) (decided : Text
         pages = telling.pages;
         calls = telling.calls;
         called = telling.called;
+        damage_called = telling.damage_called;
         faults = telling.faults;
         prints = telling.prints;
         damaged = telling.damaged;

@@ -93,6 +93,7 @@ going_on stay reasons pages_told catalog texts journal more since now teller rep
     pages = going.telling.pages;
     calls = going.telling.calls;
     called = going.telling.called;
+    damage_called = going.telling.damage_called;
     faults = going.telling.faults;
     prints = going.telling.prints;
     damaged = going.telling.damaged;

@@ -32,7 +32,7 @@ use Rattle.key_session.specs.Reasons.{HaveReasons, HasReason}
 use Rattle.key_session.specs.Telling.{Outside, IsTold, AreTold, AreLeft, CameOut, IsTelling}
 use Rattle.key_session.specs.declared.teller.Teller.{Teller}
 use Rattle.key_session.proofs.Coming.{told_so, done_so, all_is_done, reason_so}
-use Rattle.key_session.proofs.Adding.{one_told, one_reason, one_damage, called_more, still_no_fall, next_of, next_number, left_more, some_more}
+use Rattle.key_session.proofs.Adding.{one_told, one_reason, one_damage, called_more, damage_called_more, still_no_fall, next_of, next_number, left_more, some_more}
 
 -- the count of faults never falls, but for its last value
 never_falls : (since before now : ℕ) (result : Told) → min since last_count ≤ before → ToldTells before now result → min since last_count ≤ now
@@ -91,6 +91,7 @@ tell_one join decided same ascend pages_told catalog texts journal top since bet
   pages = pages_stay since.flash between.flash now.flash telling.pages pages;
   calls = still_no_fall last_count since.flash.calls between.flash.calls now.flash.calls telling.calls calls;
   called = called_more since.flash.calls between.flash.calls now.flash.calls old.counts new.counts result counted telling.calls telling.called calls called;
+  damage_called = damage_called_more since.flash.calls between.flash.calls now.flash.calls old.counts new.counts result counted telling.calls telling.damage_called calls called;
   faults = never_falls since.flash.faults between.flash.faults now.flash.faults result telling.faults faults;
   prints = some_more join since.sink between.sink now.sink telling.prints prints;
   damaged = one_damage pages_told since.flash.page catalog old.counts.damage new.counts.damage result first

@@ -1,6 +1,6 @@
 -- A whole session.
 use Rattle.std.proofs.Common.{◌≡◌, ◌≤◌, ℕ, suc, ◌+◌, arith, Bool, true, false, ◌||◌, List, [], ◌∷◌, length, refl, sym, ap, ◌∙◌, subst, Option, None, Some, slice_get}
-use Rattle.std.specs.Prelude.{min, if◌then◌else◌, count_by, is_err}
+use Rattle.std.specs.Prelude.{min, if◌then◌else◌, count_by, is_err, is_some}
 use Rattle.std.specs.List.{list_any}
 use Rattle.std.proofs.lemmas.List.Sums.{sum_by-cons}
 use Rattle.ghost_model.specs.Causes.{Rose, last_count}
@@ -30,7 +30,7 @@ use Rattle.key_session.specs.Reasons.{IsReason, HasReason, is_refused_text}
 use Rattle.key_session.specs.Refusing.{first_code}
 use Rattle.key_session.specs.Telling.{Outside, AreTold, AreLeft, CameOut, IsTelling, TellsOn}
 use Rattle.key_session.specs.Going.{IsGoing, HasGone}
-use Rattle.key_session.specs.Running.{HasRun, IsTally, status_with, host_or, blames_flash, spares_flash}
+use Rattle.key_session.specs.Running.{HasRun, IsTally, status_with, host_or, blames_flash, is_damaged, spares_flash}
 use Rattle.key_session.specs.declared.teller.Teller.{Teller}
 use Rattle.key_session.specs.declared.counts.Counts.{Counts}
 use Rattle.key_session.specs.declared.counts.Damage.{Damage}
@@ -57,6 +57,7 @@ at_first join pages_told catalog texts since teller replies all none counts kept
     pages = record { name = refl; page_count = refl; page = refl; blank = refl };
     calls = omega arith;
     called = λ e. absurd (none_failed (sym (ap (λ (c : Counts). c.by_flash) counts) ∙ e));
+    damage_called = λ e. absurd (none_failed (sym (ap (λ (c : Counts). is_some c.damage) counts) ∙ e));
     faults = omega arith;
     prints = record { piece = []; handed = join.none since.sink };
     damaged = λ damage e. absurd (none_some damage (sym (ap (λ (c : Counts). c.damage) counts) ∙ e));
@@ -163,6 +164,15 @@ damaged_so false false false kind at None true damage met e = cc
 damaged_so false false false kind at None false None met e = cc
 damaged_so false false false kind at None false (Some damage) met e = (let same : damage ≡ met = cc in ap Some same)
 
+met_so : (failed stopped broken : Bool) (kind at : ℕ) (code : Option ℕ) (by_flash : Bool) (damage : Option Damage) → is_damaged (status_by failed stopped broken kind at code by_flash damage) ≡ true → is_some damage ≡ true
+met_so true stopped broken kind at code by_flash damage e = cc
+met_so false true broken kind at code by_flash damage e = cc
+met_so false false true kind at code by_flash damage e = cc
+met_so false false false kind at (Some code) by_flash damage e = cc
+met_so false false false kind at None true damage e = cc
+met_so false false false kind at None false None e = cc
+met_so false false false kind at None false (Some damage) e = refl
+
 -- where a text met a failure of the flash, its count of faults rose
 one_met : (b more : Bool) (count : ℕ) → (more ≡ true → 1 ≤ count) → (b || more) ≡ true → 1 ≤ (if b then 1 else 0) + count
 one_met true more count met e = omega arith
@@ -184,6 +194,7 @@ pub record IsLast (went : Journal → Type 0) (link_before link_now : ℕ) (page
   pub pages : KeepsPages since.flash now.flash
   pub calls : min since.flash.calls last_count ≤ now.flash.calls
   pub called : blames_flash tally.status ≡ true → Rose since.flash.calls now.flash.calls
+  pub damage_called : is_damaged tally.status ≡ true → Rose since.flash.calls now.flash.calls
   pub faults : min since.flash.faults last_count ≤ now.flash.faults
 
 -- what the status says of the flash
@@ -257,6 +268,10 @@ has_run outcomes went link_before link_now pages_told catalog at texts since mid
       last.called
       (blamed_so now.sink.failed (left catalog (asked_of catalog.schema texts) gone.journal).stopped (left catalog (asked_of catalog.schema texts) gone.journal).heard.broken _ _ _ teller.counts.by_flash teller.counts.damage
       (ap blames_flash (sym status_is) ∙ e));
+  damage_called = λ e.
+      last.damage_called
+      (met_so now.sink.failed (left catalog (asked_of catalog.schema texts) gone.journal).stopped (left catalog (asked_of catalog.schema texts) gone.journal).heard.broken _ _ _ teller.counts.by_flash teller.counts.damage
+      (ap is_damaged (sym status_is) ∙ e));
   faults = last.faults;
 }
   where

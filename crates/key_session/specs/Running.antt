@@ -41,6 +41,15 @@ blames_flash (status.Host _) = false
 blames_flash status.Flash = true
 blames_flash (status.Damaged _) = false
 
+abbrev pub is_damaged : SessionStatus → Bool
+is_damaged status.Ok = false
+is_damaged status.Sink = false
+is_damaged status.Link = false
+is_damaged (status.Protocol _ _) = false
+is_damaged (status.Host _) = false
+is_damaged status.Flash = false
+is_damaged (status.Damaged _) = true
+
 -- whether a session went well, but for damage that it may have met
 abbrev pub spares_flash : SessionStatus → Bool
 spares_flash status.Ok = true

@@ -1,7 +1,7 @@
 -- What a session told of its texts: the lines of each text from the front of its script, each for a reason that the
 -- definitions know. A fault of the flash is a reason only as often as the flash failed, and damage never where its pages
 -- are those of a database.
-use Rattle.std.specs.Prelude.{◌≡◌, ℕ, suc, ◌+◌, ◌≤◌, min, Bool, true, false, List, length, drop, map, flat_map, count_by, slice_get, Option, Some, Ok}
+use Rattle.std.specs.Prelude.{◌≡◌, ℕ, suc, ◌+◌, ◌≤◌, min, Bool, true, false, List, length, drop, map, flat_map, count_by, slice_get, Option, Some, Ok, is_some}
 use Rattle.std.specs.List.{concat, list_any}
 use Rattle.ghost_model.specs.Causes.{Rose, last_count}
 use Rattle.ghost_model.specs.Values.{Database}
@@ -88,6 +88,7 @@ pub record IsTelling (pages_told : Bool) (catalog : Catalog) (texts : List (List
   -- at its last value a count stays
   pub calls : min since.flash.calls last_count ≤ now.flash.calls
   pub called : teller.counts.by_flash ≡ true → Rose since.flash.calls now.flash.calls
+  pub damage_called : is_some teller.counts.damage ≡ true → Rose since.flash.calls now.flash.calls
   pub faults : min since.flash.faults last_count ≤ now.flash.faults
   pub prints : PrintsSome since.sink now.sink
   pub damaged : (damage : Damage) → teller.counts.damage ≡ Some damage → IsSlot pages_told since.flash.page catalog damage

@@ -11,7 +11,7 @@ ghost use Rattle.session_replies.specs.Kept.{IsKept, none_heard};
 ghost use Rattle.key_exec.specs.Plans.{Suffices};
 ghost use Rattle.text_lines.specs.Rows.{PrintsSome};
 ghost use Rattle.key_session.specs.Going.{GoesFrom};
-ghost use Rattle.key_session.specs.Running.{HasRun, is_sink, blames_flash, spares_flash};
+ghost use Rattle.key_session.specs.Running.{HasRun, is_sink, blames_flash, is_damaged, spares_flash};
 ghost use Rattle.key_session.specs.Telling.{outside};
 
 use crate::options::Options;
@@ -100,6 +100,7 @@ pub fn run_session<F: Flash, L: Link, O: Sink>(
     ensures pages { KeepsPages (F.state flash.old) (F.state flash.new) }
     ensures flash_calls { min (F.state flash.old).calls last_count ≤ (F.state flash.new).calls }
     ensures flash_called { blames_flash result.status ≡ true → Rose (F.state flash.old).calls (F.state flash.new).calls }
+    ensures damage_called { is_damaged result.status ≡ true → Rose (F.state flash.old).calls (F.state flash.new).calls }
     ensures flash_faults { min (F.state flash.old).faults last_count ≤ (F.state flash.new).faults }
     ensures flash_rose { blames_flash result.status ≡ true → Rose (F.state flash.old).faults (F.state flash.new).faults }
     ensures flash_same { spares_flash result.status ≡ true → (F.state flash.new).faults ≡ (F.state flash.old).faults }

@@ -35,11 +35,11 @@ EndTells before now (ended.Whole number) = now ≡ before
 EndTells before now ended.Flash = Rose before now
 EndTells before now (ended.Damaged page slot found) = now ≡ before
 
--- a flash that is blamed was called
+-- a flash that is blamed, or a slot of it, was called
 abbrev pub EndCalls : (before now : ℕ) → End → Type 0
 EndCalls before now (ended.Whole number) = ⊤
 EndCalls before now ended.Flash = Rose before now
-EndCalls before now (ended.Damaged page slot found) = ⊤
+EndCalls before now (ended.Damaged page slot found) = Rose before now
 
 -- a slot that is blamed is that of a row in the file of a hidden column, whatever the pages hold
 abbrev pub EndBlames : (pages_told : Bool) (page : ℕ → List ℕ) → Catalog → End → Type 0

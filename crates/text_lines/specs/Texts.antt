@@ -98,7 +98,7 @@ ToldTells before now told.Protocol = now ≡ before
 ToldTells before now told.Flash = Rose before now
 ToldTells before now (told.Damaged page slot found) = now ≡ before
 
--- a flash that is blamed was called
+-- a flash that is blamed, or a slot of it, was called
 abbrev pub ToldCalls : (before now : ℕ) → Told → Type 0
 ToldCalls before now told.Refused = ⊤
 ToldCalls before now told.Answered = ⊤
@@ -106,7 +106,7 @@ ToldCalls before now told.Host = ⊤
 ToldCalls before now told.Link = ⊤
 ToldCalls before now told.Protocol = ⊤
 ToldCalls before now told.Flash = Rose before now
-ToldCalls before now (told.Damaged page slot found) = ⊤
+ToldCalls before now (told.Damaged page slot found) = Rose before now
 
 -- why a text is told so, whatever the pages of the flash hold: its reading, and the state of its replies
 pub record IsRefusedText (schema : Schema) (text : List ℕ) : Type 0 where

@@ -31,4 +31,5 @@ returns-in-Ok-clause-ran g c =
       texts = c.run_session.ensures.texts;
       kept = c.run_session.ensures.pages;
       called = c.run_session.ensures.flash_called;
+      damage_called = c.run_session.ensures.damage_called;
     }

@@ -57,6 +57,9 @@ returns-clause-flash_calls g c = (last g c).calls
 pub returns-clause-flash_called : goal.returns-clause-flash_called
 returns-clause-flash_called g c = λ e. (last g c).called e
 
+pub returns-clause-damage_called : goal.returns-clause-damage_called
+returns-clause-damage_called g c = λ e. (last g c).damage_called e
+
 pub returns-clause-flash_faults : goal.returns-clause-flash_faults
 returns-clause-flash_faults g c = (last g c).faults
 

@@ -1,5 +1,5 @@
 use Rattle.key_exec.specs.Jobs.{left}
-use Rattle.key_exec.specs.Held.{AreHeld}
+use Rattle.key_exec.specs.Held.{AreHeld, AreEmptyOrRead}
 use Rattle.key_lines.specs.Handing.{handed}
 use Rattle.reply_store.specs.Stored.{replies_in}
 use Rattle.text_lines.proofs.Printing.{SoFar}
@@ -14,3 +14,4 @@ invariant-rows g l =
     (handed l.initial.printer.failed (g.O.Sink.faults l.initial.out) (g.O.Sink.written l.initial.out))
     (handed l.printer.failed (g.O.Sink.faults l.out) (g.O.Sink.written l.out))
     × AreHeld g.F.Flash.told (g.F.Flash.state l.flash).page l.pages.slots
+    × AreEmptyOrRead (g.F.Flash.state l.initial.flash).calls (g.F.Flash.state l.flash).calls l.pages.slots
