@@ -6,11 +6,11 @@ ghost use Rattle.ghost_model.specs.Database.{IsDatabase};
 ghost use Rattle.ghost_model.specs.Layout as layout;
 ghost use Rattle.ghost_model.specs.Schema.{Schema};
 ghost use Rattle.ghost_model.specs.Values.{Database};
-ghost use Rattle.edge_traits.specs.Files.{Files, SameBut};
+ghost use Rattle.edge_traits.specs.Files.{Files, AreSure, SameBut};
 ghost use Rattle.ghost_model.specs.Flash.{IsHidden};
 ghost use Rattle.key_words.specs.Blocks.{most_blocks};
 ghost use Rattle.key_words.specs.Views.{load_view};
-ghost use Rattle.key_inputs.specs.Openings.{Spelled, TablesInput, tables_opening};
+ghost use Rattle.key_inputs.specs.Openings.{InputFault, Spelled, Broken, TablesInput, tables_opening};
 ghost use Rattle.key_load.specs.Results.{Ends, EndsSome, EndsLoading, IsUnsealed, HasBlankPage0, is_faultless, makes_nothing, leaves_file, leaves_page_0, writes_nothing, world, loading};
 ghost use Rattle.key_load.specs.Preparing.{IsPrepared};
 ghost use Rattle.key_load.specs.declared.failures.LoadFailure.TheVariants as failure;
@@ -63,6 +63,8 @@ pub fn load<D: Depot, F: Flash, O: Sink>(
     ensures depot { result ≡ Err failure.Depot → Rose (D.faults depot.old) (D.faults depot.new) }
     ensures no_depot { (result ≡ Err failure.Depot → ⊥) → D.faults depot.new ≡ D.faults depot.old }
     ensures appends { D.append_faults depot.new ≡ D.append_faults depot.old }
+    ensures judged { (files : Files) → D.contents depot.old ≡ Some files → AreSure files (D.sure depot.old) → result ≡ Err failure.Depot
+        → (rule : InputFault) → tables_opening files words.now.schema.now words.now.tables.now ≡ Broken rule → ⊥ }
 {
     match open_tables(alloc, words.schema, words.tables, depot) {
         Ok(input) => load_input(alloc, input, words, depot, flash, out),

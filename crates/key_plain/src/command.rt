@@ -2,9 +2,9 @@
 
 ghost use Rattle.std.specs.Prelude.{◌≡◌, ◌⊎◌, true, Some, Ok, Err};
 ghost use Rattle.ghost_model.specs.Causes.{Rose};
-ghost use Rattle.edge_traits.specs.Files.{Files};
+ghost use Rattle.edge_traits.specs.Files.{Files, AreSure};
 ghost use Rattle.key_words.specs.Views.{plain_view};
-ghost use Rattle.key_inputs.specs.Openings.{Spelled};
+ghost use Rattle.key_inputs.specs.Openings.{Spelled, Missing};
 ghost use Rattle.key_plain.specs.Openings.{PlainInput, plain_opening};
 ghost use Rattle.key_plain.specs.Views.{Ends, PrintsSome, writes_nothing};
 
@@ -40,6 +40,8 @@ pub fn plain<D: Depot, O: Sink>(
     ensures no_depot { (result ≡ Err PlainFault.Depot → ⊥) → D.faults depot.new ≡ D.faults depot.old }
     ensures appends { D.append_faults depot.new ≡ D.append_faults depot.old }
     ensures same { D.contents depot.new ≡ D.contents depot.old }
+    ensures missing { (files : Files) → D.contents depot.old ≡ Some files → AreSure files (D.sure depot.old) → result ≡ Err PlainFault.Depot
+        → plain_opening files (plain_view words.now) ≡ Missing }
 {
     match open(alloc, words, depot) {
         Ok(opened) => {

@@ -1,12 +1,12 @@
 //! The reading of what the command is given.
 
-ghost use Rattle.std.specs.Prelude.{◌≡◌, ◌≤◌, true, Some, Err, IfOk, IfErr, is_some, length};
+ghost use Rattle.std.specs.Prelude.{◌≡◌, ◌≤◌, ℕ, List, true, Some, Err, IfOk, IfErr, is_some, length};
 ghost use Rattle.ghost_model.specs.Causes.{Rose};
 ghost use Rattle.ghost_model.specs.Database as database;
 ghost use Rattle.ghost_model.specs.Texts.{texts_of};
-ghost use Rattle.edge_traits.specs.Files.{Files};
+ghost use Rattle.edge_traits.specs.Files.{Files, AreSure};
 ghost use Rattle.key_words.specs.Views.{plain_view};
-ghost use Rattle.key_inputs.specs.Openings.{most_text};
+ghost use Rattle.key_inputs.specs.Openings.{Missing, most_text};
 ghost use Rattle.key_inputs.specs.Scripts.{most_texts};
 ghost use Rattle.key_inputs.specs.Views.{Tells, rule_of};
 ghost use Rattle.key_plain.specs.Openings.{plain_opening};
@@ -41,6 +41,8 @@ pub(crate) fn open<D: Depot>(
     ensures other { (result ≡ Err OpenFault.Depot → ⊥) → D.faults depot.new ≡ D.faults depot.old }
     ensures appends { D.append_faults depot.new ≡ D.append_faults depot.old }
     ensures same { D.contents depot.new ≡ D.contents depot.old }
+    ensures stays_sure { (other : List ℕ) → D.sure depot.old other → D.sure depot.new other }
+    ensures missing { (files : Files) → D.contents depot.old ≡ Some files → AreSure files (D.sure depot.old) → result ≡ Err OpenFault.Depot → plain_opening files (plain_view words.now) ≡ Missing }
 {
     let tables = open_tables(alloc, words.schema, words.tables, depot)?;
     let script = open_script(alloc, words.script, depot)?;
