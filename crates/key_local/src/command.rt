@@ -9,11 +9,11 @@ ghost use Rattle.ghost_model.specs.Split.{hidden_of};
 ghost use Rattle.ghost_model.specs.Texts.{texts_of};
 ghost use Rattle.ghost_model.specs.Values.{Database};
 ghost use Rattle.session_laws.specs.Local.{holding_of};
-ghost use Rattle.edge_traits.specs.Files.{Files};
+ghost use Rattle.edge_traits.specs.Files.{Files, AreSure};
 ghost use Rattle.ghost_model.specs.Flash.{IsHidden};
 ghost use Rattle.session_replies.specs.Kept.{IsKept, none_heard};
 ghost use Rattle.key_words.specs.Views.{local_view};
-ghost use Rattle.key_inputs.specs.Openings.{Spelled};
+ghost use Rattle.key_inputs.specs.Openings.{InputFault, Spelled, Broken};
 ghost use Rattle.key_plain.specs.Openings.{PlainInput};
 ghost use Rattle.key_local.specs.Openings.{local_opening};
 ghost use Rattle.key_local.specs.Preparing.{IsHosted};
@@ -21,6 +21,7 @@ ghost use Rattle.key_local.specs.Running.{IsSomeHosted};
 ghost use Rattle.key_local.specs.Sessions.{SameBesides, catalog_for, subject, world};
 ghost use Rattle.key_local.specs.Results.{Ends, EndsSome, EndsLocal, is_failure, is_faultless, leaves_files, leaves_flash, blames_depot, clears_depot, blames_append, clears_append, blames_flash, clears_flash};
 ghost use Rattle.key_local.specs.declared.ends.LocalEnd.TheVariants as ends;
+ghost use Rattle.key_local.specs.declared.ends.LocalFailure.TheVariants as failure;
 
 use crate::ends::{LocalEnd, LocalFailure};
 use crate::making::{begin_journal, make_flash};
@@ -72,6 +73,8 @@ pub fn local<D: Depot, F: Flash, O: Sink>(
     ensures no_append { clears_append result ≡ true → D.append_faults depot.new ≡ D.append_faults depot.old }
     ensures flash { blames_flash result ≡ true → Rose (F.state flash.old).faults (F.state flash.new).faults }
     ensures no_flash { clears_flash result ≡ true → (F.state flash.new).faults ≡ (F.state flash.old).faults }
+    ensures judged { (files : Files) → D.contents depot.old ≡ Some files → AreSure files (D.sure depot.old) → result ≡ Err failure.Depot
+        → (rule : InputFault) → local_opening files (local_view words.now) ≡ Broken rule → ⊥ }
 {
     match open_inputs(alloc, words, depot) {
         Ok(opened) => local_opened(alloc, opened, words, depot, flash, out),

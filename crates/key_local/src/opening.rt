@@ -4,8 +4,9 @@ ghost use Rattle.std.specs.Prelude.{◌≡◌, ◌≤◌, true, Some, Err, IfOk,
 ghost use Rattle.ghost_model.specs.Causes.{Rose};
 ghost use Rattle.ghost_model.specs.Database as database;
 ghost use Rattle.ghost_model.specs.Texts.{texts_of};
-ghost use Rattle.edge_traits.specs.Files.{Files};
+ghost use Rattle.edge_traits.specs.Files.{Files, AreSure};
 ghost use Rattle.key_words.specs.Views.{local_view};
+ghost use Rattle.key_inputs.specs.Openings.{Missing};
 ghost use Rattle.key_inputs.specs.Scripts.{most_texts};
 ghost use Rattle.key_inputs.specs.Views.{Tells, rule_of};
 ghost use Rattle.key_local.specs.Openings.{local_opening};
@@ -39,6 +40,7 @@ pub(crate) fn open_inputs<D: Depot>(
     ensures other { (result ≡ Err OpenFault.Depot → ⊥) → D.faults depot.new ≡ D.faults depot.old }
     ensures appends { D.append_faults depot.new ≡ D.append_faults depot.old }
     ensures same { D.contents depot.new ≡ D.contents depot.old }
+    ensures missing { (files : Files) → D.contents depot.old ≡ Some files → AreSure files (D.sure depot.old) → result ≡ Err OpenFault.Depot → local_opening files (local_view words.now) ≡ Missing }
 {
     let tables = open_tables(alloc, words.schema, words.tables, depot)?;
     let script = open_script(alloc, words.script, depot)?;

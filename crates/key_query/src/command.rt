@@ -3,9 +3,9 @@
 ghost use Rattle.std.specs.Prelude.{◌≡◌, ◌≤◌, ℕ, [], List, true, false, min, Some, Err, IfOk, IfErr, OnErr};
 ghost use Rattle.ghost_model.specs.Causes.{Rose, last_count};
 ghost use Rattle.ghost_model.specs.Channel as channel;
-ghost use Rattle.edge_traits.specs.Files.{Files};
+ghost use Rattle.edge_traits.specs.Files.{Files, AreSure};
 ghost use Rattle.key_words.specs.Views.{query_view};
-ghost use Rattle.key_inputs.specs.Openings.{Spelled};
+ghost use Rattle.key_inputs.specs.Openings.{Spelled, Missing};
 ghost use Rattle.key_inputs.specs.Scripts.{script_opening};
 ghost use Rattle.key_lines.specs.Handing.{handed};
 ghost use Rattle.text_lines.specs.Rows.{PrintsSome};
@@ -68,6 +68,7 @@ pub fn query<D: Depot, F: Flash, L: Link, O: Sink>(
     ensures no_depot { (result ≡ Err failure.Depot → ⊥) → D.faults depot.new ≡ D.faults depot.old }
     ensures appends { D.append_faults depot.new ≡ D.append_faults depot.old }
     ensures same { D.contents depot.new ≡ D.contents depot.old }
+    ensures missing { (files : Files) → D.contents depot.old ≡ Some files → AreSure files (D.sure depot.old) → result ≡ Err failure.Depot → script_opening files words.now.script.now ≡ Missing }
 {
     match open(alloc, words, depot, flash) {
         Ok(opened) => {

@@ -3,9 +3,9 @@
 ghost use Rattle.std.specs.Prelude.{◌≡◌, ◌≤◌, ℕ, List, true, min, Some, Err, IfOk, IfErr};
 ghost use Rattle.ghost_model.specs.Causes.{Rose, last_count};
 ghost use Rattle.ghost_model.specs.Channel as channel;
-ghost use Rattle.edge_traits.specs.Files.{Files};
+ghost use Rattle.edge_traits.specs.Files.{Files, AreSure};
 ghost use Rattle.key_words.specs.Views.{query_view};
-ghost use Rattle.key_inputs.specs.Openings.{Spelled};
+ghost use Rattle.key_inputs.specs.Openings.{Spelled, Missing};
 ghost use Rattle.key_inputs.specs.Scripts.{script_opening};
 ghost use Rattle.session_replies.specs.Kept.{IsKept, none_heard};
 ghost use Rattle.key_exec.specs.Plans.{Suffices};
@@ -155,6 +155,7 @@ pub(crate) fn open<D: Depot, F: Flash>(
     ensures no_depot { (result ≡ Err failure.Depot → ⊥) → D.faults depot.new ≡ D.faults depot.old }
     ensures appends { D.append_faults depot.new ≡ D.append_faults depot.old }
     ensures same { D.contents depot.new ≡ D.contents depot.old }
+    ensures missing { (files : Files) → D.contents depot.old ≡ Some files → AreSure files (D.sure depot.old) → result ≡ Err failure.Depot → script_opening files words.now.script.now ≡ Missing }
 {
     match open_script(alloc, words.script, depot) {
         Ok(script) => open_over(alloc, script, words, flash),
