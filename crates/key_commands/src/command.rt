@@ -1,11 +1,13 @@
 //! The choice of the command.
 
-ghost use Rattle.std.specs.Prelude.{◌≡◌, true, false, [], None, map, string_bytes};
+ghost use Rattle.std.specs.Prelude.{◌≡◌, true, false, [], None, Some, map, string_bytes};
+ghost use Rattle.edge_traits.specs.Files.{Files, AreSure};
 ghost use Rattle.key_words.specs.Views.{plain_view, load_view, local_view, query_view};
 ghost use Rattle.key_words.specs.Refusals.{HasCause, told_kind};
 ghost use Rattle.key_words.specs.Words.{reading, PlainCommand, LoadCommand, LocalCommand, QueryCommand};
 ghost use Rattle.key_commands.specs.Doing.{IsUntouched, PlainDid, LoadDid, LocalDid, QueryDid, outside};
 ghost use Rattle.key_commands.specs.Endings.{DoesAs, OfUsage, OfPlain, OfLoad, OfLocal, OfQuery, is_unbegun, is_usage, is_query};
+ghost use Rattle.key_commands.specs.Judging.{Judges, JudgesPlain, JudgesLoad, JudgesLocal, JudgesQuery};
 
 use crate::ending::Ended;
 use edge_traits::depot::Depot;
@@ -48,6 +50,7 @@ pub fn key_main<D: Depot, F: Flash, L: Link, O: Sink>(
         (outside (D.contents depot.new) (D.faults depot.new) (D.append_faults depot.new) (F.state flash.new) (O.written out.new) (O.faults out.new)))) }
     ensures no_move { is_query result ≡ false → L.went link.old [] link.new }
     ensures link_left { is_query result ≡ false → L.faults link.new ≡ L.faults link.old }
+    ensures judged { (files : Files) → D.contents depot.old ≡ Some files → AreSure files (D.sure depot.old) → Judges files (reading (map string_bytes args.now)) result }
 {
     match read_words(alloc, args) {
         Ok(KeyWords::Plain(words)) => Ended::Plain(do_plain(alloc, &words, depot, flash, out)),
@@ -73,6 +76,7 @@ fn do_plain<D: Depot, F: Flash, O: Sink>(
         (outside (D.contents depot.old) (D.faults depot.old) (D.append_faults depot.old) (F.state _flash.old) (O.written out.old) (O.faults out.old))
         (outside (D.contents depot.new) (D.faults depot.new) (D.append_faults depot.new) (F.state _flash.new) (O.written out.new) (O.faults out.new))
         (plain_view words.now) }
+    ensures judged { (files : Files) → D.contents depot.old ≡ Some files → AreSure files (D.sure depot.old) → JudgesPlain files result (plain_view words.now) }
 {
     plain(alloc, words, depot, out)
 }
@@ -89,6 +93,7 @@ fn do_load<D: Depot, F: Flash, O: Sink>(
         (outside (D.contents depot.old) (D.faults depot.old) (D.append_faults depot.old) (F.state flash.old) (O.written out.old) (O.faults out.old))
         (outside (D.contents depot.new) (D.faults depot.new) (D.append_faults depot.new) (F.state flash.new) (O.written out.new) (O.faults out.new))
         (load_view words.now) }
+    ensures judged { (files : Files) → D.contents depot.old ≡ Some files → AreSure files (D.sure depot.old) → JudgesLoad files result (load_view words.now) }
 {
     load(alloc, words, depot, flash, out)
 }
@@ -105,6 +110,7 @@ fn do_local<D: Depot, F: Flash, O: Sink>(
         (outside (D.contents depot.old) (D.faults depot.old) (D.append_faults depot.old) (F.state flash.old) (O.written out.old) (O.faults out.old))
         (outside (D.contents depot.new) (D.faults depot.new) (D.append_faults depot.new) (F.state flash.new) (O.written out.new) (O.faults out.new))
         (local_view words.now) }
+    ensures judged { (files : Files) → D.contents depot.old ≡ Some files → AreSure files (D.sure depot.old) → JudgesLocal files result (local_view words.now) }
 {
     local(alloc, words, depot, flash, out)
 }
@@ -122,6 +128,7 @@ fn do_query<D: Depot, F: Flash, L: Link, O: Sink>(
         (outside (D.contents depot.old) (D.faults depot.old) (D.append_faults depot.old) (F.state flash.old) (O.written out.old) (O.faults out.old))
         (outside (D.contents depot.new) (D.faults depot.new) (D.append_faults depot.new) (F.state flash.new) (O.written out.new) (O.faults out.new))
         (query_view words.now) }
+    ensures judged { (files : Files) → D.contents depot.old ≡ Some files → AreSure files (D.sure depot.old) → JudgesQuery files result (query_view words.now) }
 {
     query(alloc, words, depot, flash, link, out)
 }

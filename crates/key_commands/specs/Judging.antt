@@ -1,0 +1,48 @@
+-- How a fault of the depot that comes before a session stands to the rules of the inputs, over files that are told and
+-- whose reads go well: no file that was read up to there breaks one.
+use Rattle.std.specs.Prelude.{◌≡◌, Result, Err, Option}
+use Rattle.edge_traits.specs.Files.{Files}
+use Rattle.key_words.specs.Words.{Command, Plain, Load, Local, Query, PlainCommand, LoadCommand, LocalCommand, QueryCommand}
+use Rattle.key_inputs.specs.Openings.{InputFault, Opening, Broken, tables_opening}
+use Rattle.key_inputs.specs.Scripts.{script_opening}
+use Rattle.key_session.specs.declared.tally.Tally.{Tally}
+use Rattle.key_plain.specs.Openings.{plain_opening}
+use Rattle.key_plain.specs.declared.faults.PlainFault.{PlainFault}
+use Rattle.key_plain.specs.declared.faults.PlainFault.TheVariants as plain_fault
+use Rattle.key_load.specs.declared.failures.LoadFailure.{LoadFailure}
+use Rattle.key_load.specs.declared.failures.LoadFailure.TheVariants as load_failure
+use Rattle.key_local.specs.Openings.{local_opening}
+use Rattle.key_local.specs.declared.ends.LocalEnd.{LocalEnd}
+use Rattle.key_local.specs.declared.ends.LocalFailure.{LocalFailure}
+use Rattle.key_local.specs.declared.ends.LocalFailure.TheVariants as local_failure
+use Rattle.key_query.specs.declared.failures.QueryFailure.{QueryFailure}
+use Rattle.key_query.specs.declared.failures.QueryFailure.TheVariants as query_failure
+use Rattle.key_commands.specs.Endings.{DoesAs, OfPlain, OfLoad, OfLocal, OfQuery}
+use Rattle.key_commands.specs.declared.ending.Ended.{Ended}
+
+-- no rule is the first to be broken
+abbrev pub IsUnbroken : {X : Type 0} → Opening X → Type 0
+IsUnbroken opening = (rule : InputFault) → opening ≡ Broken rule → ⊥
+
+abbrev pub JudgesPlain : Files → Result (Unit {0}) PlainFault → Plain → Type 0
+JudgesPlain files outcome words =
+    outcome ≡ Err plain_fault.Depot → IsUnbroken (plain_opening files words)
+
+abbrev pub JudgesLoad : Files → Result (Unit {0}) LoadFailure → Load → Type 0
+JudgesLoad files outcome words =
+    outcome ≡ Err load_failure.Depot → IsUnbroken (tables_opening files words.schema words.tables)
+
+abbrev pub JudgesLocal : Files → Result LocalEnd LocalFailure → Local → Type 0
+JudgesLocal files outcome words =
+    outcome ≡ Err local_failure.Depot → IsUnbroken (local_opening files words)
+
+abbrev pub JudgesQuery : Files → Result Tally QueryFailure → Query → Type 0
+JudgesQuery files outcome words =
+    outcome ≡ Err query_failure.Depot → IsUnbroken (script_opening files words.script)
+
+-- where a command ended by the depot before a session, no rule of the inputs that its words name is broken first
+pub record Judges (files : Files) (read : Option Command) (ending : Ended) : Type 0 where
+  pub plain : OfPlain ending (λ outcome. DoesAs PlainCommand read (JudgesPlain files outcome))
+  pub load : OfLoad ending (λ outcome. DoesAs LoadCommand read (JudgesLoad files outcome))
+  pub local : OfLocal ending (λ outcome. DoesAs LocalCommand read (JudgesLocal files outcome))
+  pub query : OfQuery ending (λ outcome. DoesAs QueryCommand read (JudgesQuery files outcome))
