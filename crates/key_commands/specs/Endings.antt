@@ -1,6 +1,7 @@
 -- How a call ended: its exit code, and what is said of one command alone.
 use Rattle.std.specs.Prelude.{◌≡◌, ℕ, Bool, true, false, Option, Some, Result, Ok, Err, ⊤}
 use Rattle.key_words.specs.Words.{Command}
+use Rattle.key_words.specs.declared.words.UsageFault.{UsageFault}
 use Rattle.key_plain.specs.declared.faults.PlainFault.{PlainFault}
 use Rattle.key_plain.specs.declared.faults.PlainFault.TheVariants as plain_fault
 use Rattle.key_load.specs.declared.failures.LoadFailure.{LoadFailure}
@@ -95,6 +96,15 @@ is_query (ended.Plain outcome) = false
 is_query (ended.Load outcome) = false
 is_query (ended.Local outcome) = false
 is_query (ended.Query outcome) = true
+
+-- what is said of refused words
+abbrev pub OfUsage : Ended → (UsageFault → Type 0) → Type 0
+OfUsage (ended.Usage fault) says = says fault
+OfUsage ended.NoMemory says = ⊤
+OfUsage (ended.Plain outcome) says = ⊤
+OfUsage (ended.Load outcome) says = ⊤
+OfUsage (ended.Local outcome) says = ⊤
+OfUsage (ended.Query outcome) says = ⊤
 
 -- what is said of `plain`
 abbrev pub OfPlain : Ended → (Result (Unit {0}) PlainFault → Type 0) → Type 0

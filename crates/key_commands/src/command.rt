@@ -3,9 +3,10 @@
 ghost use Rattle.std.specs.Prelude.{◌≡◌, true, false, [], None, Some, map, string_bytes};
 ghost use Rattle.edge_traits.specs.Files.{Files, AreSure};
 ghost use Rattle.key_words.specs.Views.{plain_view, load_view, local_view, query_view};
+ghost use Rattle.key_words.specs.Refusals.{HasCause, told_kind};
 ghost use Rattle.key_words.specs.Words.{reading, PlainCommand, LoadCommand, LocalCommand, QueryCommand};
 ghost use Rattle.key_commands.specs.Doing.{IsUntouched, PlainDid, LoadDid, LocalDid, QueryDid, outside};
-ghost use Rattle.key_commands.specs.Endings.{DoesAs, OfPlain, OfLoad, OfLocal, OfQuery, is_unbegun, is_usage, is_query};
+ghost use Rattle.key_commands.specs.Endings.{DoesAs, OfUsage, OfPlain, OfLoad, OfLocal, OfQuery, is_unbegun, is_usage, is_query};
 ghost use Rattle.key_commands.specs.Judging.{Judges, JudgesPlain, JudgesLoad, JudgesLocal, JudgesQuery};
 
 use crate::ending::Ended;
@@ -31,6 +32,7 @@ pub fn key_main<D: Depot, F: Flash, L: Link, O: Sink>(
     out: &mut O,
 ) -> Ended
     ensures usage { is_usage result ≡ true → reading (map string_bytes args.now) ≡ None }
+    ensures cause { OfUsage result (λ fault. HasCause (map string_bytes args.now) fault (told_kind fault)) }
     ensures untouched { is_unbegun result ≡ true → IsUntouched
         (outside (D.contents depot.old) (D.faults depot.old) (D.append_faults depot.old) (F.state flash.old) (O.written out.old) (O.faults out.old))
         (outside (D.contents depot.new) (D.faults depot.new) (D.append_faults depot.new) (F.state flash.new) (O.written out.new) (O.faults out.new)) }

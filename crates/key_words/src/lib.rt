@@ -1,18 +1,18 @@
 //! The words of the key's program, read by `clap`.
 //!
 //! A command has options of one value each. What the words are read as is a function of the words alone, and so is
-//! whether they are refused. The README lists the commands and their options.
+//! whether they are refused. `docs/SESSION.md` lists the commands and their options.
 #![tactic(auto)]
 
 pub mod app;
 pub mod reading;
 pub mod refusing;
+pub mod shown;
 #[cfg(test)]
 mod tests;
 pub mod values;
 pub mod words;
 
 pub use reading::read_words;
-pub use words::{
-    KeyWords, LoadWords, LocalWords, PlainWords, QueryWords, ShownWord, UsageFault, WordsFault,
-};
+pub use shown::ShownWord;
+pub use words::{KeyWords, LoadWords, LocalWords, PlainWords, QueryWords, UsageFault, WordsFault};

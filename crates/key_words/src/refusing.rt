@@ -3,7 +3,8 @@
 ghost use Rattle.std.specs.Prelude.{◌≡◌, true, false, Some};
 ghost use Rattle.key_words.specs.Refusals.{is_told, told_kind};
 
-use crate::words::{ShownWord, UsageFault};
+use crate::shown::ShownWord;
+use crate::words::UsageFault;
 use clap::error::ErrorKind;
 
 /// What a refusal of this kind, with this message, tells of the words.
@@ -13,11 +14,15 @@ pub(crate) fn refusal(kind: ErrorKind, message: &str) -> UsageFault
 {
     match kind {
         ErrorKind::MissingSubcommand => UsageFault::NoCommand,
-        ErrorKind::InvalidSubcommand => UsageFault::NotACommand(shown(quoted(message))),
-        ErrorKind::UnknownArgument => UsageFault::NotAnOption(shown(quoted(message))),
-        ErrorKind::MissingRequiredArgument => UsageFault::Missing(shown(first_listed(message))),
-        ErrorKind::ArgumentConflict => UsageFault::Twice(shown(first_word(quoted(message)))),
-        ErrorKind::InvalidValue => UsageFault::NoValue(shown(first_word(quoted(message)))),
+        ErrorKind::InvalidSubcommand => UsageFault::NotACommand(ShownWord::of(quoted(message))),
+        ErrorKind::UnknownArgument => UsageFault::NotAnOption(ShownWord::of(quoted(message))),
+        ErrorKind::MissingRequiredArgument => UsageFault::Missing(ShownWord::of(first_listed(
+            message,
+        ))),
+        ErrorKind::ArgumentConflict => UsageFault::Twice(ShownWord::of(first_word(quoted(
+            message,
+        )))),
+        ErrorKind::InvalidValue => UsageFault::NoValue(ShownWord::of(first_word(quoted(message)))),
         _ => UsageFault::Words,
     }
 }
@@ -35,16 +40,4 @@ fn first_listed(message: &str) -> &str {
 /// What stands before the first blank.
 fn first_word(text: &str) -> &str {
     text.split(' ').next().unwrap_or("")
-}
-
-/// A word as a line shows it.
-fn shown(word: &str) -> ShownWord {
-    let mut shown = ShownWord::new();
-    for letter in word.chars() {
-        let letter = if letter.is_control() { '?' } else { letter };
-        if shown.try_push(letter).is_err() {
-            break;
-        }
-    }
-    shown
 }

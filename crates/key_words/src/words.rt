@@ -4,7 +4,7 @@ ghost use Rattle.std.specs.Prelude.{◌≡◌};
 ghost use Rattle.std.proofs.Props.{props};
 ghost use Rattle.key_words.specs.Blocks.{IsFew};
 
-use arrayvec::ArrayString;
+use crate::shown::ShownWord;
 use leakless_plan::Plan;
 use thiserror::Error;
 
@@ -102,12 +102,6 @@ pub enum KeyWords<'a> {
     /// A session with a host.
     Query(QueryWords<'a>),
 }
-
-/// The most bytes of a word that are shown.
-pub const MAX_SHOWN: usize = 48;
-
-/// A word as a line shows it: its first bytes, with a question mark for each control character.
-pub type ShownWord = ArrayString<MAX_SHOWN>;
 
 /// What is wrong with the words.
 #[derive(Clone, Copy, Debug, Drop, Error, PartialEq, Eq)]
