@@ -24,21 +24,17 @@ use Rattle.key_commands.specs.declared.ending.Ended.{Ended}
 abbrev pub IsUnbroken : {X : Type 0} → Opening X → Type 0
 IsUnbroken opening = (rule : InputFault) → opening ≡ Broken rule → ⊥
 
-abbrev pub JudgesPlain : Files → Result (Unit {0}) PlainFault → Plain → Type 0
-JudgesPlain files outcome words =
-    outcome ≡ Err plain_fault.Depot → IsUnbroken (plain_opening files words)
+pub record JudgesPlain (files : Files) (outcome : Result (Unit {0}) PlainFault) (words : Plain) : Type 0 where
+  pub unbroken : outcome ≡ Err plain_fault.Depot → IsUnbroken (plain_opening files words)
 
-abbrev pub JudgesLoad : Files → Result (Unit {0}) LoadFailure → Load → Type 0
-JudgesLoad files outcome words =
-    outcome ≡ Err load_failure.Depot → IsUnbroken (tables_opening files words.schema words.tables)
+pub record JudgesLoad (files : Files) (outcome : Result (Unit {0}) LoadFailure) (words : Load) : Type 0 where
+  pub unbroken : outcome ≡ Err load_failure.Depot → IsUnbroken (tables_opening files words.schema words.tables)
 
-abbrev pub JudgesLocal : Files → Result LocalEnd LocalFailure → Local → Type 0
-JudgesLocal files outcome words =
-    outcome ≡ Err local_failure.Depot → IsUnbroken (local_opening files words)
+pub record JudgesLocal (files : Files) (outcome : Result LocalEnd LocalFailure) (words : Local) : Type 0 where
+  pub unbroken : outcome ≡ Err local_failure.Depot → IsUnbroken (local_opening files words)
 
-abbrev pub JudgesQuery : Files → Result Tally QueryFailure → Query → Type 0
-JudgesQuery files outcome words =
-    outcome ≡ Err query_failure.Depot → IsUnbroken (script_opening files words.script)
+pub record JudgesQuery (files : Files) (outcome : Result Tally QueryFailure) (words : Query) : Type 0 where
+  pub unbroken : outcome ≡ Err query_failure.Depot → IsUnbroken (script_opening files words.script)
 
 -- where a command ended by the depot before a session, no rule of the inputs that its words name is broken first
 pub record Judges (files : Files) (read : Option Command) (ending : Ended) : Type 0 where
