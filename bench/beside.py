@@ -138,9 +138,9 @@ def tell_growth(sizes, measured):
     """Prints how seconds and peak memory grow from the first size on."""
     for what, first in measured[0].items():
         for size, spent in zip(sizes[1:], measured[1:]):
-            print('%-24s %.1f times the visits: %.1f times the CPU seconds, %.1f times the seconds; peak %d KiB, before %d'
+            print('%-24s %.1f times the visits: %.1f times the CPU seconds, %.1f times the seconds, %.1f times the peak memory'
                   % (what, size / sizes[0], spent[what].cpu / first.cpu, spent[what].seconds / first.seconds,
-                     spent[what].peak, first.peak))
+                     spent[what].peak / first.peak))
 
 
 def main(measure, programs):
