@@ -1,5 +1,5 @@
 #!/usr/bin/env python3
-"""Runs `load` over a generated clinic beside sqlite3, and prints times as ratios of one run, and peak memory.
+"""Runs `load` over a generated clinic beside sqlite3, and prints times as ratios, and peak memory.
 
     load_beside_sqlite.py PROGRAM VISITS[,VISITS..] [FOLDER]
 
@@ -29,8 +29,8 @@ def measure(program, visits, folder):
     tell('load', ours, theirs, ' (at most 0.5)')
     tables = tables_size(folder)
     print('tables %d KiB, flash %d KiB, visible %d KiB, peak memory %.1f times the tables'
-          % (tables >> 10, os.path.getsize(flash) >> 10, os.path.getsize(visible) >> 10, ours[1] * 1024 / tables))
-    return True, {'load': ours[0]}
+          % (tables >> 10, os.path.getsize(flash) >> 10, os.path.getsize(visible) >> 10, ours.peak * 1024 / tables), flush=True)
+    return True, {'load': ours}
 
 
 if __name__ == '__main__':

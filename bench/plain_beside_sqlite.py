@@ -1,5 +1,5 @@
 #!/usr/bin/env python3
-"""Runs `plain` over a generated clinic beside sqlite3, and prints times as ratios of one run, and peak memory.
+"""Runs `plain` over a generated clinic beside sqlite3, and prints times as ratios, and peak memory.
 
     plain_beside_sqlite.py PROGRAM VISITS[,VISITS..] [FOLDER]
 
@@ -8,7 +8,7 @@ what both printed. Each figure is the least of three times, the two programs tak
 """
 import os
 
-from beside import INDEXES, are_same_rows, build_indexes, import_into, into_file, into_pipe, main, tell, turns
+from beside import INDEXES, SQLITE, build_indexes, import_into, into_file, into_pipe, main, tell, tell_rows, turns
 from clinic import write_clinic
 
 
@@ -21,15 +21,14 @@ def measure(program, visits, folder):
         given = '.mode tabs\n' + file.read()
     read, imported = turns(lambda: into_pipe(plain + [name('empty.sql')]), lambda: import_into(base, folder))
     tell('reading, no text', read, imported, ' (at most 0.2)')
-    build_indexes(base, INDEXES)
+    if SQLITE:
+        build_indexes(base, INDEXES)
     filed, others = turns(lambda: into_file(plain + [script], ours),
-                          lambda: into_file(['sqlite3', base], theirs, given))
+                          lambda: into_file([SQLITE, base], theirs, given))
     tell('forty texts into a file', filed, others, ' (at most 2)')
-    piped, others = turns(lambda: into_pipe(plain + [script]), lambda: into_pipe(['sqlite3', base], given))
+    piped, others = turns(lambda: into_pipe(plain + [script]), lambda: into_pipe([SQLITE, base], given))
     tell('forty texts into a pipe', piped, others, ' (at most 2)')
-    count, same = are_same_rows(ours, theirs)
-    print('%d rows, %s' % (count, 'the same' if same else 'which DIFFER'))
-    return same, {'plain, no text': read[0], 'plain, into a file': filed[0], 'plain, into a pipe': piped[0]}
+    return tell_rows(ours, theirs), {'plain, no text': read, 'plain, into a file': filed, 'plain, into a pipe': piped}
 
 
 if __name__ == '__main__':

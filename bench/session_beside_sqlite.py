@@ -6,13 +6,13 @@
 The programs are the built ones. FOLDER (a temporary one, where none is named) gets the clinic and all that is written.
 Each figure but those of the small asks is the least of three times. README.md says what is compared.
 """
+import filecmp
 import os
 import statistics
 import subprocess
-import sys
 
-from beside import (INDEXES, TURNS, are_same_rows, build_indexes, import_into, into_file, joined, least, main, run, tell,
-                    turns)
+from beside import (INDEXES, SQLITE, TURNS, build_indexes, end, figures, import_into, into_file, joined, least, main, run,
+                    tell, tell_rows, turns)
 from clinic import write_clinic
 
 SMALL_ASKS = 10000
@@ -22,18 +22,17 @@ SMALL_TEXT = 'SELECT id FROM doctor WHERE specialty = \'none\';\n'
 
 def import_index_and_answer(base, folder, given, out):
     """What `local` does, by sqlite3: reads the files, indexes each column, and prints the rows of the texts."""
-    return joined(import_into(base, folder), build_indexes(base, INDEXES), into_file(['sqlite3', base], out, given))
+    return joined(import_into(base, folder), build_indexes(base, INDEXES), into_file([SQLITE, base], out, given))
 
 
 def query_once(key, host, name, script, out):
-    """A session of two processes; the key's seconds and peak memory."""
+    """A session of two processes: the key's seconds and peak memory, and the seconds of both on a processor."""
     server = subprocess.Popen([host, '--visible', name('visible'), '--at', '127.0.0.1:0'], stdout=subprocess.PIPE, text=True)
     port = int(server.stdout.readline().split()[1])
     query = [key, 'query', '--flash', name('flash'), '--to', '127.0.0.1:%d' % port, '--script', name(script)]
     spent = into_file(query, name(out))
-    if server.wait() != 0:
-        sys.exit('the host ended with %d' % server.returncode)
-    return spent
+    cpu, _ = end(server, host)
+    return spent._replace(cpu=spent.cpu + cpu)
 
 
 def ask_small(key, host, name):
@@ -43,12 +42,12 @@ def ask_small(key, host, name):
     for texts in sessions:
         with open(name('small.sql'), 'w') as file:
             file.write(SMALL_TEXT * texts)
-        spent.append(query_once(key, host, name, 'small.sql', 'small.out')[0])
-    each = [seconds / texts for seconds, texts in zip(spent[:-1], sessions)]
+        spent.append(query_once(key, host, name, 'small.sql', 'small.out'))
+    each = [one.seconds / texts for one, texts in zip(spent[:-1], sessions)]
     median = statistics.median(each)
     print('%d small asks in %d sessions, %.2f s; an ask takes %.3f ms in the median session, %.2f times that in the slowest'
-          % (sum(sessions), len(sessions), sum(spent), median * 1000, max(each) / median), flush=True)
-    return sum(spent)
+          % (sum(sessions), len(sessions), joined(*spent).seconds, median * 1000, max(each) / median), flush=True)
+    return joined(*spent)
 
 
 def measure(key, host, visits, folder):
@@ -66,15 +65,15 @@ def measure(key, host, visits, folder):
     tell('local, forty texts', one, other)
     run([key, 'load'] + inputs + ['--flash', name('flash'), '--visible', name('visible')], subprocess.DEVNULL)
     two = least([query_once(key, host, name, 'script.sql', 'query.out') for _ in range(TURNS)])
-    print('%-24s %6.2f s %8d KiB   beside local %.2f' % ('query, forty texts', *two, two[0] / one[0]), flush=True)
+    print('%-24s %s   beside local %.2f' % ('query, forty texts', figures(two), two.seconds / one.seconds), flush=True)
     into_file([key, 'plain'] + inputs + ['--script', name('script.sql')], name('plain.out'))
-    count, same = are_same_rows(name('local.out'), name('sqlite.out'))
-    printed = [open(name(out)).read() for out in ['local.out', 'plain.out', 'query.out']]
-    same = same and printed[0] == printed[1] == printed[2]
-    print('%d rows, %s' % (count, 'the same' if same else 'which DIFFER'), flush=True)
+    same = tell_rows(name('local.out'), name('sqlite.out'))
+    for out in ['plain.out', 'query.out']:
+        if not filecmp.cmp(name('local.out'), name(out), shallow=False):
+            print('%s DIFFERS from local.out' % out, flush=True)
+            same = False
     small = ask_small(key, host, name)
-    return same, {'local, no text': bare[0], 'local, forty texts': one[0], 'query, forty texts': two[0],
-                  'small asks': small}
+    return same, {'local, no text': bare, 'local, forty texts': one, 'query, forty texts': two, 'small asks': small}
 
 
 if __name__ == '__main__':
