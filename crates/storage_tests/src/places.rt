@@ -1,0 +1,206 @@
+//! Where the files and areas of worked catalogs lie.
+
+ghost use Rattle.std.specs.Prelude.{◌≡◌, ◌<◌, length, true};
+ghost use Rattle.ghost_model.specs.Layout as layout;
+
+use arrayvec::ArrayVec;
+use flash_layout::{
+    column_file, id_directory, id_level, index_directory, index_header, index_level, is_hidden,
+    is_leaf, levels_of, need, pages, pages_built, scratch_area, spool_area, static_end,
+    subtree_table,
+};
+use flash_pages::run::Run;
+use tree_schema::{Catalog, read_catalog};
+
+/// The canonical text of visits of patients to doctors.
+pub(crate) const CLINIC: &str =
+    "CREATE TABLE doctor (id INTEGER PRIMARY KEY, specialty CHAR(8), country CHAR(2) HIDDEN);\nCREATE TABLE patient (id INTEGER PRIMARY KEY, age INTEGER, name CHAR(8) HIDDEN);\nCREATE TABLE visit (id INTEGER PRIMARY KEY, day INTEGER, purpose CHAR(8) HIDDEN, doc INTEGER REFERENCES doctor(id) HIDDEN, pat INTEGER REFERENCES patient(id) HIDDEN);\n";
+
+/// That of a leaf below a top table.
+const LEAF: &str =
+    "CREATE TABLE leaf (id INTEGER PRIMARY KEY, tag INTEGER, mark INTEGER HIDDEN);\nCREATE TABLE top (id INTEGER PRIMARY KEY, num INTEGER, val INTEGER HIDDEN, lf INTEGER REFERENCES leaf(id) HIDDEN);\n";
+
+/// That of a table without a visible column.
+const SECRET: &str = "CREATE TABLE secret (id INTEGER PRIMARY KEY, value INTEGER HIDDEN);\n";
+
+/// How many records the files of the clinic have, and of how many bytes, page after page from 64 on.
+const CLINIC_FILES: [(u32, u32); 27] = [
+    (3, 2),
+    (1, 4),
+    (3, 18),
+    (3, 4),
+    (4, 4),
+    (3, 8),
+    (4, 4),
+    (2, 8),
+    (1, 4),
+    (2, 24),
+    (2, 4),
+    (4, 4),
+    (2, 8),
+    (4, 4),
+    (4, 8),
+    (4, 8),
+    (4, 8),
+    (4, 8),
+    (1, 4),
+    (4, 16),
+    (4, 4),
+    (1, 4),
+    (4, 16),
+    (4, 4),
+    (1, 4),
+    (4, 16),
+    (4, 4),
+];
+
+/// Some files: the first page of each, how many records it has, and of how many bytes.
+type Files = ArrayVec<(u32, u32, u32), 40>;
+
+/// Puts a file behind others.
+fn put(found: &mut Files, run: Run) {
+    let _ = found.try_push((run.first, run.count, run.width));
+}
+
+/// The bytes of the catalog of a canonical text and so many rows for each table.
+pub(crate) fn catalog_bytes(text: &str, counts: &[u32]) -> ArrayVec<u8, 600> {
+    let mut bytes: ArrayVec<u8, 600> = ArrayVec::new();
+    let _ = bytes.try_extend_from_slice(b"GHOSTDB\x01\0\0\0\x01");
+    let _ = bytes.try_extend_from_slice(&u32::try_from(text.len()).unwrap_or(0).to_be_bytes());
+    let _ = bytes.try_extend_from_slice(text.as_bytes());
+    for count in counts {
+        let _ = bytes.try_extend_from_slice(&count.to_be_bytes());
+    }
+    bytes
+}
+
+/// The column files of a table.
+fn put_columns(cat: &Catalog, table: usize, found: &mut Files) {
+    for column in 0..cat.schema().columns(table) {
+        if is_hidden(cat, table, column) {
+            put(found, column_file(cat, table, column));
+        }
+    }
+}
+
+/// The files of an index.
+fn put_index(cat: &Catalog, table: usize, column: usize, found: &mut Files)
+    requires there { table < length cat.now.schema }
+    requires hidden { layout.is_hidden cat.now.schema table column ≡ true }
+{
+    put(found, index_header(cat, table, column));
+    put(found, index_directory(cat, table, column));
+    for level in 0..levels_of(cat, table).len() {
+        put(found, index_level(cat, table, column, level));
+    }
+}
+
+/// The files of the indexes of a table.
+fn put_indexes(cat: &Catalog, table: usize, found: &mut Files)
+    requires there { table < length cat.now.schema }
+{
+    for column in 0..cat.schema().columns(table) {
+        if is_hidden(cat, table, column) {
+            put_index(cat, table, column, found);
+        }
+    }
+}
+
+/// The files of the id index of a table.
+fn put_id_index(cat: &Catalog, table: usize, found: &mut Files)
+    requires there { table < length cat.now.schema }
+{
+    let above = levels_of(cat, table).len() - 1;
+    if above > 0 {
+        put(found, id_directory(cat, table));
+    }
+    for level in 0..above {
+        put(found, id_level(cat, table, level));
+    }
+}
+
+/// All files, in order.
+fn files_of(cat: &Catalog) -> Files {
+    let mut found = ArrayVec::new();
+    for table in 0..cat.schema().tables() {
+        put_columns(cat, table, &mut found);
+        if !is_leaf(cat, table) {
+            put(&mut found, subtree_table(cat, table));
+        }
+        put_indexes(cat, table, &mut found);
+        put_id_index(cat, table, &mut found);
+    }
+    found
+}
+
+/// The areas of both halves of the spool and of scratch.
+fn areas_of(cat: &Catalog) -> Files {
+    let mut found = ArrayVec::new();
+    for half in 0..2 {
+        for table in 0..cat.schema().tables() {
+            put(&mut found, spool_area(cat, half, table));
+        }
+    }
+    for area in 0..6 {
+        put(&mut found, scratch_area(cat, area));
+    }
+    found
+}
+
+#[test]
+fn the_files_and_areas_of_the_clinic_lie_where_they_should(rt: HostRuntime) {
+    let Some(cat) = read_catalog(&catalog_bytes(CLINIC, &[3, 2, 4])) else {
+        assert!(rt; false);
+        return;
+    };
+    let files = files_of(&cat);
+    assert!(rt; files.len() == CLINIC_FILES.len());
+    for (at, (file, (count, width))) in files.iter().zip(CLINIC_FILES).enumerate() {
+        assert!(rt; *file == (64 + at as u32, count, width), "file {at}");
+    }
+    for (at, (first, _count, width)) in areas_of(&cat).iter().enumerate() {
+        let wide = if at < 6 { 12 } else { 4 };
+        assert!(rt;
+            *first == 128 + 64 * at as u32 && *width == wide,
+            "area {at}"
+        );
+    }
+}
+
+#[test]
+fn a_device_has_whole_blocks(rt: HostRuntime) {
+    for (text, counts, end, most, built) in [
+        (CLINIC, [3u32, 2, 4].as_slice(), 128u32, 896u32, 7u32),
+        (LEAF, &[50, 12_000], 512, 1280, 97),
+        (LEAF, &[41_000, 100], 1024, 2432, 165),
+        (SECRET, &[1], 128, 512, 3),
+        (SECRET, &[1_000_000], 13_760, 25_664, 3909),
+    ] {
+        match read_catalog(&catalog_bytes(text, counts)) {
+            None => assert!(rt; false),
+            Some(cat) => {
+                assert!(rt; static_end(&cat) == end && need(&cat) == most, "{end}");
+                assert!(rt; pages_built(&cat) == built, "{end}");
+            }
+        }
+    }
+}
+
+#[test]
+fn pages_take_whole_records(rt: HostRuntime) {
+    for (count, width, wanted) in [
+        (0u32, 4u32, 0u32),
+        (512, 4, 1),
+        (513, 4, 2),
+        (3, 1540, 3),
+        (2, 1024, 1),
+        (1, 2048, 1),
+        (1_000_000, 4, 1954),
+    ] {
+        if 0 < width && width <= 2048 && count <= 1_000_000 {
+            assert!(rt; pages(count, width) == wanted, "{count} {width}");
+        } else {
+            assert!(rt; false);
+        }
+    }
+}
