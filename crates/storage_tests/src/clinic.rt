@@ -151,21 +151,6 @@ fn value(
     ))
 }
 
-/// The identifier in a foreign key of a row, where there is such a row and column.
-fn key(loaded: &mut Loaded, table: usize, column: usize, identifier: u32) -> Option<u32> {
-    let file = file_on(&loaded.flash, &loaded.cat, table, column)?;
-    if file.child_rows.is_none() || identifier == 0 || identifier > file.run.count {
-        return None;
-    }
-    file.key(
-        &mut loaded.flash,
-        &mut Held::none(),
-        &mut [0; 2048],
-        identifier,
-    )
-    .ok()
-}
-
 /// Whether a value is spelled so.
 fn is_spelled(value: &Value, word: &str) -> bool {
     match value {
@@ -202,5 +187,4 @@ fn each_slot_has_the_value_of_its_row(rt: HostRuntime) {
     ] {
         assert!(rt; has_values(&mut loaded, table, column, words), "{words}");
     }
-    assert!(rt; key(&mut loaded, 2, 3, 4) == Some(2));
 }

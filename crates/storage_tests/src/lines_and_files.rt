@@ -30,26 +30,36 @@ fn a_sink_in_memory_takes_a_piece_within_its_room(rt: HostRuntime) -> Result<(),
     Ok(())
 }
 
+/// The room of a depot in memory.
+const ROOM: Room = Room {
+    files: 2,
+    name_bytes: 4,
+    file_bytes: 7,
+};
+
 #[test]
 fn a_depot_in_memory_holds_files_within_its_room(rt: HostRuntime) -> Result<(), AllocError> {
-    let room = Room {
-        files: 2,
-        name_bytes: 3,
-        file_bytes: 6,
-    };
-    let mut depot = MemDepot::new(rt.alloc(), room, &[])?;
+    let mut depot = MemDepot::new(rt.alloc(), ROOM, &[])?;
     for (name, bytes, done, file) in [
-        ("a", "1234567", false, ""),
-        ("long", "1", false, ""),
-        ("a", "1234", true, "1234"),
-        ("a", "567", false, "1234"),
-        ("a", "56", true, "123456"),
+        ("note", "12345678", false, ""),
+        ("notes", "1", false, ""),
+        ("note", "1234", true, "1234"),
+        ("note", "5678", false, "1234"),
+        ("note", "567", true, "1234567"),
         ("b", "1", true, "1"),
         ("c", "1", false, ""),
     ] {
         let appended = depot.append(name, bytes.as_bytes()).is_ok();
         let held = depot.file(name).unwrap_or(b"");
         assert!(rt; appended == done && held == file.as_bytes(), "{bytes}");
+    }
+    assert!(rt; depot.put("b", b"1234567"));
+    for (name, limit, well) in [("b", 7usize, true), ("b", 6, false), ("c", 7, false)] {
+        let whole = match read_file(rt.alloc(), &mut depot, name, limit) {
+            Ok(bytes) => bytes.as_slice() == b"1234567".as_slice(),
+            Err(_fault) => false,
+        };
+        assert!(rt; whole == well, "{name} {limit}");
     }
     Ok(())
 }
@@ -76,40 +86,11 @@ fn keeps_files<D: Depot>(depot: &mut D) -> bool {
 
 #[test]
 fn files_keep_what_they_are_given(rt: HostRuntime) -> Result<(), AllocError> {
-    let room = Room {
-        files: 1,
-        name_bytes: 4,
-        file_bytes: 7,
-    };
-    let mut depot = MemDepot::new(rt.alloc(), room, &[])?;
+    let mut depot = MemDepot::new(rt.alloc(), ROOM, &[])?;
     assert!(rt; keeps_files(&mut depot));
     let mut depot = DirDepot::new(&rt);
     assert!(rt; keeps_files(&mut depot));
     assert!(rt; depot.append("none/note", b"8").is_err());
-    Ok(())
-}
-
-#[test]
-fn a_file_is_read_whole_up_to_its_limit(rt: HostRuntime) -> Result<(), AllocError> {
-    let room = Room {
-        files: 1,
-        name_bytes: 1,
-        file_bytes: 5_000,
-    };
-    let mut depot = MemDepot::new(rt.alloc(), room, &[])?;
-    let file = [b'x'; 5_000];
-    assert!(rt; depot.put("a", &file));
-    for (name, limit, well) in [
-        ("a", 5_000usize, true),
-        ("a", 4_999, false),
-        ("b", 5_000, false),
-    ] {
-        let whole = match read_file(rt.alloc(), &mut depot, name, limit) {
-            Ok(bytes) => bytes.as_slice() == file.as_slice(),
-            Err(_fault) => false,
-        };
-        assert!(rt; whole == well, "{name} {limit}");
-    }
     Ok(())
 }
 
