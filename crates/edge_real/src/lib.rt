@@ -5,9 +5,5 @@
 
 pub mod dir_depot;
 pub mod file_flash;
-#[cfg(test)]
-mod link_tests;
 pub mod std_sink;
 pub mod tcp_link;
-#[cfg(test)]
-mod tests;

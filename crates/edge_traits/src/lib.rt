@@ -28,8 +28,3 @@ pub mod writing;
 /// A call on the outside failed, and the object counted it as a fault.
 #[derive(Clone, Copy, Debug, PartialEq, Eq)]
 pub struct Failed;
-
-#[cfg(test)]
-mod link_tests;
-#[cfg(test)]
-mod tests;

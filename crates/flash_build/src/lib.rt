@@ -18,6 +18,3 @@ pub use catalogs::catalog_of;
 pub use faults::BuildFault;
 pub use loading::{load_flash, make_and_build};
 pub use sealing::seal;
-
-#[cfg(test)]
-mod tests;

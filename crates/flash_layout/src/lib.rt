@@ -23,6 +23,3 @@ pub use files::{
 pub use runs::{pages, run_pages};
 pub use tables::{is_leaf, levels_of};
 pub use work::pages_built;
-
-#[cfg(test)]
-mod tests;

@@ -11,6 +11,4 @@ pub mod filling;
 pub mod fixed;
 pub mod held;
 pub mod run;
-#[cfg(test)]
-mod tests;
 pub mod writer;

@@ -7,7 +7,5 @@
 pub mod file;
 pub mod laws;
 mod range;
-#[cfg(test)]
-mod tests;
 
 pub use file::ColumnFile;

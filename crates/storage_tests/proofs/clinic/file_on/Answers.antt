@@ -1,5 +1,5 @@
 use Rattle.std.proofs.Common.{arith}
-use Rattle.hidden_columns.proofs.tests.file_on.Goals as goal
+use Rattle.storage_tests.proofs.clinic.file_on.Goals as goal
 
 pub returns : goal.returns
 returns c = record {

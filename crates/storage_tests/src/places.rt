@@ -1,0 +1,185 @@
+//! Where the files and areas of worked catalogs lie.
+
+ghost use Rattle.std.specs.Prelude.{◌≡◌, ◌<◌, length, true};
+ghost use Rattle.ghost_model.specs.Layout as layout;
+
+use arrayvec::ArrayVec;
+use flash_layout::{
+    column_file, id_directory, id_level, index_directory, index_header, index_level, is_hidden,
+    is_leaf, levels_of, need, pages, pages_built, scratch_area, spool_area, static_end,
+    subtree_table,
+};
+use flash_pages::run::Run;
+use std::alloc::{AllocError, Global};
+use tree_schema::{Catalog, read_catalog};
+
+/// The canonical text of visits of patients to doctors.
+pub(crate) const CLINIC: &str =
+    "CREATE TABLE doctor (id INTEGER PRIMARY KEY, specialty CHAR(8), country CHAR(2) HIDDEN);\nCREATE TABLE patient (id INTEGER PRIMARY KEY, age INTEGER, name CHAR(8) HIDDEN);\nCREATE TABLE visit (id INTEGER PRIMARY KEY, day INTEGER, purpose CHAR(8) HIDDEN, doc INTEGER REFERENCES doctor(id) HIDDEN, pat INTEGER REFERENCES patient(id) HIDDEN);\n";
+
+/// That of a leaf below a top table.
+const LEAF: &str =
+    "CREATE TABLE leaf (id INTEGER PRIMARY KEY, tag INTEGER, mark INTEGER HIDDEN);\nCREATE TABLE top (id INTEGER PRIMARY KEY, num INTEGER, val INTEGER HIDDEN, lf INTEGER REFERENCES leaf(id) HIDDEN);\n";
+
+/// That of a table without a visible column.
+const SECRET: &str = "CREATE TABLE secret (id INTEGER PRIMARY KEY, value INTEGER HIDDEN);\n";
+
+/// How many records the files of the clinic have, and of how many bytes, page after page from 64 on.
+const CLINIC_FILES: &str =
+    "3x2 1x4 3x18 3x4 4x4 3x8 4x4 2x8 1x4 2x24 2x4 4x4 2x8 4x4 4x8 4x8 4x8 4x8 1x4 4x16 4x4 1x4 4x16 4x4 1x4 4x16 4x4";
+
+/// Some files: the first page of each, how many records it has, and of how many bytes.
+type Files = ArrayVec<(u32, u32, u32), 40>;
+
+/// Puts a file behind others.
+fn put(found: &mut Files, run: Run) {
+    let _ = found.try_push((run.first, run.count, run.width));
+}
+
+/// The bytes of the catalog of a canonical text and so many rows for each table.
+pub(crate) fn catalog_bytes(text: &str, counts: &[u32]) -> ArrayVec<u8, 600> {
+    let mut bytes: ArrayVec<u8, 600> = ArrayVec::new();
+    let _ = bytes.try_extend_from_slice(b"GHOSTDB\x01\0\0\0\x01");
+    let _ = bytes.try_extend_from_slice(&u32::try_from(text.len()).unwrap_or(0).to_be_bytes());
+    let _ = bytes.try_extend_from_slice(text.as_bytes());
+    for count in counts {
+        let _ = bytes.try_extend_from_slice(&count.to_be_bytes());
+    }
+    bytes
+}
+
+/// The column files of a table.
+fn put_columns(cat: &Catalog, table: usize, found: &mut Files) {
+    for column in 0..cat.schema().columns(table) {
+        if is_hidden(cat, table, column) {
+            put(found, column_file(cat, table, column));
+        }
+    }
+}
+
+/// The files of an index.
+fn put_index(cat: &Catalog, table: usize, column: usize, found: &mut Files)
+    requires there { table < length cat.now.schema }
+    requires hidden { layout.is_hidden cat.now.schema table column ≡ true }
+{
+    put(found, index_header(cat, table, column));
+    put(found, index_directory(cat, table, column));
+    for level in 0..levels_of(cat, table).len() {
+        put(found, index_level(cat, table, column, level));
+    }
+}
+
+/// The files of the indexes of a table.
+fn put_indexes(cat: &Catalog, table: usize, found: &mut Files)
+    requires there { table < length cat.now.schema }
+{
+    for column in 0..cat.schema().columns(table) {
+        if is_hidden(cat, table, column) {
+            put_index(cat, table, column, found);
+        }
+    }
+}
+
+/// The files of the id index of a table.
+fn put_id_index(cat: &Catalog, table: usize, found: &mut Files)
+    requires there { table < length cat.now.schema }
+{
+    let above = levels_of(cat, table).len() - 1;
+    if above > 0 {
+        put(found, id_directory(cat, table));
+    }
+    for level in 0..above {
+        put(found, id_level(cat, table, level));
+    }
+}
+
+/// All files, in order.
+fn files_of(cat: &Catalog) -> Files {
+    let mut found = ArrayVec::new();
+    for table in 0..cat.schema().tables() {
+        put_columns(cat, table, &mut found);
+        if !is_leaf(cat, table) {
+            put(&mut found, subtree_table(cat, table));
+        }
+        put_indexes(cat, table, &mut found);
+        put_id_index(cat, table, &mut found);
+    }
+    found
+}
+
+/// The areas of both halves of the spool and of scratch.
+fn areas_of(cat: &Catalog) -> Files {
+    let mut found = ArrayVec::new();
+    for half in 0..2 {
+        for table in 0..cat.schema().tables() {
+            put(&mut found, spool_area(cat, half, table));
+        }
+    }
+    for area in 0..6 {
+        put(&mut found, scratch_area(cat, area));
+    }
+    found
+}
+
+/// Whether files begin on page after page, each with so many records of so many bytes.
+fn lie_so(alloc: Global, files: &Files, wanted: &str) -> Result<bool, AllocError> {
+    let mut page = 64u32;
+    for (file, word) in files.iter().zip(wanted.split(' ')) {
+        let told = format!(in alloc; "{}x{}", file.1, file.2)?;
+        if file.0 != page || told.as_str() != word {
+            return Ok(false);
+        }
+        page = page.saturating_add(1);
+    }
+    Ok(page == 91 && files.len() == 27)
+}
+
+#[test]
+fn the_files_and_areas_of_the_clinic_lie_where_they_should(
+    rt: HostRuntime,
+) -> Result<(), AllocError> {
+    let Some(cat) = read_catalog(&catalog_bytes(CLINIC, &[3, 2, 4])) else {
+        assert!(rt; false);
+        return Ok(());
+    };
+    assert!(rt; lie_so(rt.alloc(), &files_of(&cat), CLINIC_FILES)?);
+    for (at, (first, _count, width)) in areas_of(&cat).iter().enumerate() {
+        let wide = if at < 6 { 12 } else { 4 };
+        assert!(rt;
+            *first == 128 + 64 * at as u32 && *width == wide,
+            "area {at}"
+        );
+    }
+    Ok(())
+}
+
+#[test]
+fn a_device_has_whole_blocks(rt: HostRuntime) {
+    for (text, counts, end, most, built) in [
+        (CLINIC, [3u32, 2, 4].as_slice(), 128u32, 896u32, 7u32),
+        (LEAF, &[50, 12_000], 512, 1280, 97),
+        (LEAF, &[41_000, 100], 1024, 2432, 165),
+        (SECRET, &[1], 128, 512, 3),
+        (SECRET, &[1_000_000], 13_760, 25_664, 3909),
+    ] {
+        match read_catalog(&catalog_bytes(text, counts)) {
+            None => assert!(rt; false),
+            Some(cat) => {
+                assert!(rt; static_end(&cat) == end && need(&cat) == most, "{end}");
+                assert!(rt; pages_built(&cat) == built, "{end}");
+            }
+        }
+    }
+}
+
+#[test]
+fn pages_take_whole_records(rt: HostRuntime) {
+    let counts = [0u32, 512, 513, 3, 2, 1, 1_000_000];
+    let widths = [4u32, 4, 4, 1540, 1024, 2048, 4];
+    let wanted = [0u32, 1, 2, 3, 1, 1, 1954];
+    for at in 0..7 {
+        let (count, width) = (counts[at], widths[at]);
+        let fits = 0 < width && width <= 2048 && count <= 1_000_000;
+        assert!(rt; fits && pages(count, width) == wanted[at], "row {at}");
+    }
+}
