@@ -1,10 +1,11 @@
-//! `local` over tables whose columns and replies take many pages.
+//! `local` and `plain` over tables whose columns and replies take many pages.
 
 use edge_traits::mem_depot::{MemDepot, Room};
 use edge_traits::mem_flash::MemFlash;
 use edge_traits::mem_sink::MemSink;
 use key_local::{LocalEnd, local};
-use key_words::LocalWords;
+use key_plain::plain;
+use key_words::{LocalWords, PlainWords};
 use leakless_plan::Plan;
 use std::alloc::{AllocError, Global};
 use std::fmt::Write;
@@ -14,7 +15,7 @@ const SCHEMA: &str =
 
 /// A condition on a hidden and on a visible column; visible values alone; a join; and hidden values far behind.
 const SCRIPT: &str =
-    "SELECT top.id, num FROM top WHERE val = 7 AND num > 6000; SELECT num FROM top WHERE num <= 11000; SELECT top.id FROM top, leaf WHERE lf = leaf.id AND tag = 0 AND mark >= 30000; SELECT leaf.id, mark FROM leaf WHERE mark BETWEEN 40990 AND 99999;";
+    "SELECT num FROM top WHERE val = 7 AND num > 6000; SELECT num FROM top WHERE num <= 11000; SELECT top.id FROM top, leaf WHERE lf = leaf.id AND tag = 0 AND mark >= 30000; SELECT mark FROM leaf WHERE mark BETWEEN 40990 AND 99999;";
 
 const WORDS: LocalWords<'static> = LocalWords {
     schema: "schema",
@@ -24,6 +25,12 @@ const WORDS: LocalWords<'static> = LocalWords {
     journal: None,
     plan: Plan::Scan,
     pace: 0,
+};
+
+const PLAIN_WORDS: PlainWords<'static> = PlainWords {
+    schema: "schema",
+    tables: "tables",
+    script: "script",
 };
 
 /// The file of the leaves: each has its own number as its mark, and tag 0 up to row 40,000 and then 1.
@@ -47,23 +54,14 @@ fn tops(alloc: Global) -> Result<String, AllocError> {
     Ok(lines)
 }
 
-/// The lines of a text: every so many numbers from one to another, each once or twice.
-fn put_lines(
-    lines: &mut String,
-    text: u32,
-    numbers: (u32, u32, u32),
-    twice: bool,
-) -> Result<(), AllocError> {
+/// The lines of a text: every so many numbers from one to another.
+fn put_lines(lines: &mut String, text: u32, numbers: (u32, u32, u32)) -> Result<(), AllocError> {
     let (first, last, step) = numbers;
     let mut count = 0u32;
     for number in first..=last {
         if step != 0 && number % step == first % step {
             count = count.saturating_add(1);
-            if twice {
-                write!(lines, "> {number}\t{number}\n")?;
-            } else {
-                write!(lines, "> {number}\n")?;
-            }
+            write!(lines, "> {number}\n")?;
         }
     }
     write!(lines, "= {text} {count}\n")?;
@@ -75,10 +73,10 @@ fn columns_and_replies_of_many_pages_are_answered_in_order(
     rt: HostRuntime,
 ) -> Result<(), AllocError> {
     let mut lines = String::new(rt.alloc());
-    put_lines(&mut lines, 1, (6_007, 11_607, 400), true)?;
-    put_lines(&mut lines, 2, (1, 11_000, 1), false)?;
-    put_lines(&mut lines, 3, (1_000, 11_000, 1), false)?;
-    put_lines(&mut lines, 4, (40_990, 41_000, 1), true)?;
+    put_lines(&mut lines, 1, (6_007, 11_607, 400))?;
+    put_lines(&mut lines, 2, (1, 11_000, 1))?;
+    put_lines(&mut lines, 3, (1_000, 11_000, 1))?;
+    put_lines(&mut lines, 4, (40_990, 41_000, 1))?;
     let room = Room {
         files: 4,
         name_bytes: 32,
@@ -97,6 +95,9 @@ fn columns_and_replies_of_many_pages_are_answered_in_order(
     let mut out = MemSink::new(rt.alloc(), 300_000, 300_000, &[])?;
     let ended = local(rt.alloc(), &WORDS, &mut depot, &mut flash, &mut out);
     assert!(rt; matches!(&ended, Ok(LocalEnd::Ok)));
+    assert!(rt; out.bytes() == lines.as_bytes());
+    let mut out = MemSink::new(rt.alloc(), 300_000, 300_000, &[])?;
+    assert!(rt; plain(rt.alloc(), &PLAIN_WORDS, &mut depot, &mut out).is_ok());
     assert!(rt; out.bytes() == lines.as_bytes());
     Ok(())
 }

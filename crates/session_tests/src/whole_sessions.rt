@@ -88,9 +88,10 @@ fn a_session_is_told_alike_however_its_stream_is_cut(rt: HostRuntime) -> Result<
         };
         let mut link = MemLink::new(rt.alloc(), room, &peer, &[])?;
         let mut out = MemSink::new(rt.alloc(), 200, 99, &[])?;
-        let even = ReplyStore::new(rt.alloc(), &cat)?;
-        let odd = ReplyStore::new(rt.alloc(), &cat)?;
-        let mut replies = Replies::new(even, odd);
+        let mut replies = Replies::new(
+            ReplyStore::new(rt.alloc(), &cat)?,
+            ReplyStore::new(rt.alloc(), &cat)?,
+        );
         assert!(rt; need(&cat) <= flash.pages());
         let tally = run_session(
             &cat,
