@@ -12,8 +12,6 @@ mod links;
 pub mod pages;
 mod rows;
 mod scan;
-#[cfg(test)]
-mod tests;
 mod values;
 
 pub use job::{Job, Row, Turn};

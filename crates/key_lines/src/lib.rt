@@ -5,7 +5,5 @@
 
 pub mod line;
 pub mod printer;
-#[cfg(test)]
-mod tests;
 
 pub use printer::{Fault, Printer};

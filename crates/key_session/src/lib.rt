@@ -8,13 +8,9 @@ mod counts;
 pub mod options;
 mod refusing;
 pub mod session;
-#[cfg(test)]
-mod stream_tests;
 pub mod tally;
 mod teller;
 mod telling;
-#[cfg(test)]
-mod tests;
 
 pub use counts::Damage;
 pub use options::Options;

@@ -7,8 +7,6 @@
 pub mod answer;
 mod keys;
 mod rows;
-#[cfg(test)]
-mod tests;
 pub mod ways;
 
 pub use answer::{Answer, Row};

@@ -11,7 +11,5 @@ mod rows;
 mod search;
 mod segment;
 pub mod store;
-#[cfg(test)]
-mod tests;
 
 pub use store::ReplyStore;

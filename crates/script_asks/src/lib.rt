@@ -7,5 +7,3 @@
 pub mod laws;
 pub mod queries;
 pub mod scripts;
-#[cfg(test)]
-mod tests;

@@ -6,7 +6,5 @@
 
 mod half;
 pub mod replies;
-#[cfg(test)]
-mod tests;
 
 pub use replies::Replies;

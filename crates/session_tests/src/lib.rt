@@ -1,0 +1,20 @@
+//! Tests of the crates of a session: the plain answer, the asks of a script, the printed lines, the kept replies, the key's
+//! answer and whole sessions, each shown by a worked example over the clinic, and `local` over tables of many pages.
+#![tactic(auto)]
+
+#[cfg(test)]
+mod clinic;
+#[cfg(test)]
+mod kept_replies;
+#[cfg(test)]
+mod key_answers;
+#[cfg(test)]
+mod large_tables;
+#[cfg(test)]
+mod plain_answers;
+#[cfg(test)]
+mod printed_lines;
+#[cfg(test)]
+mod texts_asked;
+#[cfg(test)]
+mod whole_sessions;
