@@ -8,24 +8,17 @@ use tree_schema::{Catalog, catalog_len, catalog_part, is_catalog_part, read_cata
 /// What stands in front of the text's length in a catalog of generation 1.
 const FIRST: &[u8; 12] = b"GHOSTDB\x01\0\0\0\x01";
 
-/// The bytes of a catalog, put together from parts of seven.
-fn in_sevens(alloc: Global, cat: &Catalog) -> Result<Vec<u8>, AllocError> {
-    let mut bytes = Vec::new(alloc);
-    for i in 0..60 {
-        let mut part = [0xEE; 7];
-        let count = catalog_part(cat, 7 * i, &mut part);
-        bytes.extend_from_slice(part.get(..count).unwrap_or(&[]))?;
-    }
-    Ok(bytes)
-}
-
 #[test]
 fn the_clinic_has_its_bytes(rt: HostRuntime) -> Result<(), Fail> {
     let bytes = catalog_bytes(rt.alloc(), FIRST, SCHEMA, &[3, 2, 4])?;
     let cat = read_catalog(&bytes).ok_or("no catalog")?;
     assert!(rt; bytes.len() == 365 && catalog_len(&cat) == 365 && cat.generation() == 1);
     assert!(rt; cat.schema().tables() == 3 && cat.rows(2) == Some(4) && cat.rows(3) == None);
-    assert!(rt; *in_sevens(rt.alloc(), &cat)? == *bytes);
+    let mut page = [0xEE; 400];
+    let count = catalog_part(&cat, 0, &mut page);
+    assert!(rt; page.get(..count) == Some(bytes.as_slice()));
+    let count = catalog_part(&cat, 360, &mut page);
+    assert!(rt; count == 5 && page.get(..5) == bytes.get(360..));
     for (at, part, held) in [
         (0, bytes.as_slice(), true),
         (16, SCHEMA.as_bytes(), true),
@@ -61,39 +54,35 @@ fn begin_with_one(alloc: Global, head: &[u8], text: &str, count: u32) -> Result<
 }
 
 #[test]
-fn heads_and_counts_of_catalogs(rt: HostRuntime) -> Result<(), Fail> {
-    for (head, count, begins) in [
-        (FIRST, 0, true),
-        (b"GHOSTDB\x01\xFF\xFF\xFF\xFF", 1_000_000, true),
-        (FIRST, 1_000_001, false),
-        (b"HHOSTDB\x01\0\0\0\x01", 1, false),
-        (b"GHOSTDB\x02\0\0\0\x01", 1, false),
-        (b"GHOSTDB\0\0\0\0\x01", 1, false),
-        (b"GHOSTDB\x01\0\0\0\0", 1, false),
+fn bytes_begin_with_a_catalog_or_with_none(rt: HostRuntime) -> Result<(), Fail> {
+    for (head, text, count, begins) in [
+        (FIRST, NOTE, 0, true),
+        (b"GHOSTDB\x01\xFF\xFF\xFF\xFF", NOTE, 1_000_000, true),
+        (FIRST, NOTE, 1_000_001, false),
+        (b"HHOSTDB\x01\0\0\0\x01", NOTE, 1, false),
+        (b"GHOSTDB\x02\0\0\0\x01", NOTE, 1, false),
+        (b"GHOSTDB\0\0\0\0\x01", NOTE, 1, false),
+        (b"GHOSTDB\x01\0\0\0\0", NOTE, 1, false),
+        (FIRST, "CREATE TABLE t (id INTEGER PRIMARY KEY);\n", 1, true),
+        (
+            FIRST,
+            "CREATE  TABLE t (id INTEGER PRIMARY KEY);\n",
+            1,
+            false,
+        ),
+        (
+            FIRST,
+            "CREATE TABLE T (id INTEGER PRIMARY KEY);\n",
+            1,
+            false,
+        ),
+        (FIRST, "CREATE TABLE t (id INT PRIMARY KEY);\n", 1, false),
+        (FIRST, "CREATE TABLE t (id INTEGER PRIMARY KEY);", 1, false),
+        (FIRST, "CREATE TABLE t (id INTEGER PRIMARY KEY)", 1, false),
+        (FIRST, "", 1, false),
     ] {
-        assert!(rt;
-            begin_with_one(rt.alloc(), head, NOTE, count)? == begins,
-            "{head:?} {count}"
-        );
-    }
-    Ok(())
-}
-
-#[test]
-fn only_canonical_texts_stand_in_catalogs(rt: HostRuntime) -> Result<(), Fail> {
-    for (text, begins) in [
-        ("CREATE TABLE t (id INTEGER PRIMARY KEY);\n", true),
-        ("CREATE  TABLE t (id INTEGER PRIMARY KEY);\n", false),
-        ("CREATE TABLE T (id INTEGER PRIMARY KEY);\n", false),
-        ("CREATE TABLE t (id INT PRIMARY KEY);\n", false),
-        ("CREATE TABLE t (id INTEGER PRIMARY KEY);", false),
-        ("CREATE TABLE t (id INTEGER PRIMARY KEY)", false),
-        ("", false),
-    ] {
-        assert!(rt;
-            begin_with_one(rt.alloc(), FIRST, text, 1)? == begins,
-            "{text}"
-        );
+        let found = begin_with_one(rt.alloc(), head, text, count)?;
+        assert!(rt; found == begins, "{head:?} {text} {count}");
     }
     Ok(())
 }

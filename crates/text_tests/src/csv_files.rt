@@ -1,8 +1,8 @@
 //! What CSV files are read as.
 
 use crate::clinic::{FILES, SCHEMA, files_of, rows_of};
-use csv_split::{Cells, LoadFault, Place, Tables, check_references, read_table, read_tables};
-use ghost_base::{Kind, Value};
+use csv_split::{LoadFault, Tables, check_references, read_table, read_tables};
+use ghost_base::Value;
 use std::alloc::{AllocError, Global};
 use std::fmt::Write;
 use std::test::Fail;
@@ -86,30 +86,6 @@ fn tables_are_read_one_by_one(rt: HostRuntime) -> Result<(), Fail> {
     let visits = tables.table(2).ok_or("no table")?;
     assert!(rt; visits.rows() == 4 && visits.value(3, 1) == Some(Value::Int(9)));
     assert!(rt; visits.column(0).is_none() && visits.column(4).is_some());
-    Ok(())
-}
-
-#[test]
-fn cells_take_the_fields_of_their_kind(rt: HostRuntime) -> Result<(), Fail> {
-    let at = Place {
-        table: 0,
-        rec: 2,
-        column: 1,
-    };
-    let mut texts = Cells::new(rt.alloc(), Kind::Chars(3));
-    texts.take(at, b"ab")?;
-    assert!(rt; texts.take(at, b"abcd").is_err());
-    texts.take(at, b"")?;
-    assert!(rt; texts.len() == 2 && texts.get(2).is_none());
-    if let Cells::Texts(kept) = &texts {
-        assert!(rt; kept.len() == 2 && kept.width() == 3 && !kept.is_empty());
-        if kept.len() > 1 {
-            assert!(rt; kept.get(0) == b"ab".as_slice() && kept.cell(0) == b"ab\0".as_slice());
-        }
-    }
-    let mut numbers = Cells::new(rt.alloc(), Kind::Integer);
-    numbers.take(at, b"-7")?;
-    assert!(rt; numbers.len() == 1 && numbers.get(0) == Some(Value::Int(-7)));
     Ok(())
 }
 
