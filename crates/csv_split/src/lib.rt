@@ -23,8 +23,6 @@ mod schema_columns;
 pub mod splitting;
 pub mod table;
 pub mod tables;
-#[cfg(test)]
-mod tests;
 pub mod texts;
 
 pub use cells::Cells;
@@ -39,6 +37,3 @@ pub use splitting::split;
 pub use table::Table;
 pub use tables::Tables;
 pub use texts::Texts;
-
-#[cfg(test)]
-mod parts_tests;

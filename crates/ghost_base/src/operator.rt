@@ -52,32 +52,3 @@ impl Operator {
         self.meets(compare(left, right))
     }
 }
-
-#[cfg(test)]
-mod tests {
-    use super::*;
-
-    #[test]
-    fn operators_hold_between_values(rt: HostRuntime) {
-        let two = Value::Int(2);
-        let cases = [
-            (Operator::Equal, [false, true, false]),
-            (Operator::Unequal, [true, false, true]),
-            (Operator::Less, [true, false, false]),
-            (Operator::AtMost, [true, true, false]),
-            (Operator::More, [false, false, true]),
-            (Operator::AtLeast, [false, true, true]),
-        ];
-        for (operator, expected) in cases.iter() {
-            assert!(rt;
-                operator.holds(&Value::Int(-3), &two) == expected[0],
-                "below"
-            );
-            assert!(rt; operator.holds(&two, &two) == expected[1], "equal");
-            assert!(rt;
-                operator.holds(&Value::Int(7), &two) == expected[2],
-                "above"
-            );
-        }
-    }
-}

@@ -36,29 +36,3 @@ pub fn compare(a: &Value, b: &Value) -> Ordering
 {
     a.cmp(b)
 }
-
-#[cfg(test)]
-mod tests {
-    use super::*;
-
-    #[test]
-    fn values_are_ordered(rt: HostRuntime) {
-        let ascending = [
-            Value::Int(i64::MIN),
-            Value::Int(-1),
-            Value::Int(0),
-            Value::Int(5),
-            Value::Chars(Text64::of(b"")),
-            Value::Chars(Text64::of(b"B")),
-            Value::Chars(Text64::of(b"a")),
-            Value::Chars(Text64::of(b"aa")),
-            Value::Chars(Text64::of(b"b")),
-        ];
-        for (i, a) in ascending.iter().enumerate() {
-            for (j, b) in ascending.iter().enumerate() {
-                assert!(rt; compare(a, b) == i.cmp(&j), "at {i} and {j}");
-                assert!(rt; (a == b) == (i == j), "at {i} and {j}");
-            }
-        }
-    }
-}

@@ -25,10 +25,3 @@ pub use query::{Comparison, Field, Join, Query};
 pub use reading::read_query;
 pub use refusal::Refusal;
 pub use texts::{Texts, text_count};
-
-#[cfg(test)]
-mod query_tests;
-#[cfg(test)]
-mod refusal_tests;
-#[cfg(test)]
-mod tests;

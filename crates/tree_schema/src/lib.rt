@@ -25,8 +25,3 @@ pub use faults::SchemaFault;
 pub use reading::read_schema;
 pub use schema::{Column, Schema, Table};
 pub use tokens::{Cursor, Mark, Token};
-
-#[cfg(test)]
-mod catalog_tests;
-#[cfg(test)]
-mod tests;

@@ -297,28 +297,3 @@ impl<'a> Cursor<'a> {
         Some(Token { mark, at, bytes })
     }
 }
-
-#[cfg(test)]
-mod tests {
-    use super::*;
-
-    #[test]
-    fn tokens_stand_at_their_offsets(rt: HostRuntime) {
-        let mut cursor = Cursor::of(b"SELECT a.b <= 'it''s'");
-        for (mark, offset) in [
-            (Mark::Select, 0),
-            (Mark::Name, 7),
-            (Mark::Point, 8),
-            (Mark::Name, 9),
-            (Mark::AtMost, 11),
-            (Mark::Quoted, 14),
-            (Mark::End, 21),
-        ] {
-            match cursor.next() {
-                Some(token) => assert!(rt; token.mark == mark && token.at == offset, "at {offset}"),
-                None => assert!(rt; false, "no token at {offset}"),
-            }
-        }
-        assert!(rt; cursor.next().is_none());
-    }
-}

@@ -1,0 +1,132 @@
+//! What query texts over the clinic mean, and how a script is cut into texts.
+
+use crate::clinic::{SCHEMA, put_value};
+use ghost_base::Operator;
+use spj_parse::{Field, Query, Texts, read_query, text_count};
+use std::alloc::{AllocError, Global};
+use std::fmt::Write;
+use std::test::Fail;
+use tree_schema::{Schema, read_schema};
+
+/// Texts, and the query that each means or its fault: one case a line, with `|` behind the text. Tables and columns are
+/// told by their places.
+const CASES: &str = "SELECT*FROM doctor|from 0 top 0 select 0.0 0.1 0.2
+select DAY from VISIT where Day=5|from 2 top 2 select 2.1 where 2.1=5
+SELECT * FROM doctor, visit WHERE doctor.id = doc|from 0 2 top 2 select 0.0 0.1 0.2 2.0 2.1 2.2 2.3 2.4 join 2.3=0.0
+SELECT doc, id, doc FROM visit|from 2 top 2 select 2.3 2.0 2.3
+SELECT visit.id, Specialty, name FROM patient, visit, doctor WHERE doc = doctor.id AND pat = patient.id|from 1 2 0 top 2 select 2.0 0.1 1.2 join 2.4=1.0 2.3=0.0
+SELECT day FROM patient, visit, doctor WHERE doc = doctor.id AND day = 5 AND patient.id = pat AND doc = doctor.id|from 1 2 0 top 2 select 2.1 join 2.4=1.0 2.3=0.0 where 2.1=5
+SELECT day FROM visit WHERE day = - 5|from 2 top 2 select 2.1 where 2.1=-5
+SELECT day FROM visit WHERE day = +5|from 2 top 2 select 2.1 where 2.1=5
+SELECT day FROM visit WHERE day = 1AND day<>2|from 2 top 2 select 2.1 where 2.1=1 2.1<>2
+SELECT day FROM visit WHERE day BETWEEN -1 AND +5 AND day = 5|from 2 top 2 select 2.1 where 2.1>=-1 2.1<=5 2.1=5
+SELECT day FROM visit WHERE day < 1 AND day <= 2 AND doc > 3 AND id >= 4|from 2 top 2 select 2.1 where 2.1<1 2.1<=2 2.3>3 2.0>=4
+SELECT day FROM visit WHERE purpose = 'it''s' AND purpose <> '' AND purpose > ''''|from 2 top 2 select 2.1 where 2.2='it's' 2.2<>'' 2.2>'''
+SELECT age FROM patient WHERE name = 'abcdefg'''|from 1 top 1 select 1.1 where 1.2='abcdefg''
+SELECT age FROM patient WHERE age = 000000000000000000000000000000000041|from 1 top 1 select 1.1 where 1.1=41
+SELECT age FROM patient WHERE age <= 9223372036854775807 AND age >= -9223372036854775808|from 1 top 1 select 1.1 where 1.1<=9223372036854775807 1.1>=-9223372036854775808
+SELECT age patient|the text breaks the grammar at byte 11
+SELECT aaaaaaaaaaaaaaaaaaaaaaaaaaaaaaaaa FROM nowhere|the text is beyond the limits of a query
+SELECT x FROM nowhere|a table is unknown
+SELECT x FROM visit, visit|a column is unknown
+SELECT id FROM visit, doctor WHERE day = 'x'|a table stands twice, or a column stands for several
+SELECT age FROM patient WHERE age = 9223372036854775808 AND name = 5|a literal is of another kind than its column
+SELECT visit.id FROM visit, doctor WHERE day = 9223372036854775808|a literal does not fit its column
+SELECT visit.id FROM visit, doctor|the tables are not linked by their foreign keys";
+
+/// The sign of an operator.
+fn sign_of(operator: Operator) -> &'static str {
+    match operator {
+        Operator::Equal => "=",
+        Operator::Unequal => "<>",
+        Operator::Less => "<",
+        Operator::AtMost => "<=",
+        Operator::More => ">",
+        Operator::AtLeast => ">=",
+    }
+}
+
+/// Writes a column by its places.
+fn put_field(out: &mut String, field: &Field) -> Result<(), AllocError> {
+    write!(out, " {}.{}", field.table, field.column)
+}
+
+/// Writes the joins and the comparisons of a query.
+fn put_conditions(out: &mut String, query: &Query) -> Result<(), AllocError> {
+    for (i, join) in query.joins().iter().enumerate() {
+        write!(out, "{}", if i == 0 { " join" } else { "" })?;
+        put_field(out, &join.key)?;
+        write!(out, "={}.{}", join.identifier.table, join.identifier.column)?;
+    }
+    for (i, comparison) in query.comparisons().iter().enumerate() {
+        write!(out, "{}", if i == 0 { " where" } else { "" })?;
+        put_field(out, &comparison.field)?;
+        write!(out, "{}", sign_of(comparison.operator))?;
+        put_value(out, &comparison.value)?;
+    }
+    Ok(())
+}
+
+/// What comes of a text: the parts of its query, or its fault in words.
+fn outcome(alloc: Global, schema: &Schema, text: &str) -> Result<String, AllocError> {
+    let query = match read_query(schema, text.as_bytes()) {
+        Ok(query) => query,
+        Err(refusal) => return format!(in alloc; "{refusal}"),
+    };
+    let mut out = format!(in alloc; "from")?;
+    for table in query.from() {
+        write!(out, " {table}")?;
+    }
+    if let Some(top) = query.top(schema) {
+        write!(out, " top {top} select")?;
+    }
+    for field in query.select() {
+        put_field(&mut out, field)?;
+    }
+    put_conditions(&mut out, &query)?;
+    Ok(out)
+}
+
+#[test]
+fn each_text_means_its_query_or_has_its_fault(rt: HostRuntime) -> Result<(), Fail> {
+    let schema = read_schema(SCHEMA.as_bytes())?;
+    for case in CASES.split('\n') {
+        let (text, told) = case.split_once('|').unwrap_or((case, ""));
+        assert_eq!(rt;
+            outcome(rt.alloc(), &schema, text)?.as_str(),
+            told,
+            "{text}"
+        );
+    }
+    Ok(())
+}
+
+#[test]
+fn a_script_is_cut_where_no_literal_is_open(rt: HostRuntime) {
+    for (script, expected) in [
+        ("", ""),
+        (" \t\r\n ;;\n", ""),
+        ("SELECT 'a;b'; \n; SELECT c;", "SELECT 'a;b'| SELECT c"),
+        ("don't; stop", "don't; stop"),
+        ("\x0B;SELECT day FROM visit", "\x0B|SELECT day FROM visit"),
+        (
+            "don't; can't; SELECT id FROM doctor;",
+            "don't; can't| SELECT id FROM doctor",
+        ),
+        ("'x; y''z'; w", "'x; y''z'| w"),
+    ] {
+        let mut texts = Texts::new(script.as_bytes());
+        let mut count = 0usize;
+        for text in expected.split('|') {
+            if !text.is_empty() {
+                assert!(rt; texts.again().next() == Some(text.as_bytes()), "{script}");
+                assert!(rt; texts.next() == Some(text.as_bytes()), "{script}");
+                count = count.saturating_add(1);
+            }
+        }
+        assert!(rt;
+            texts.next().is_none() && text_count(script.as_bytes()) == count,
+            "{script}"
+        );
+    }
+}
