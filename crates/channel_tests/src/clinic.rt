@@ -11,40 +11,44 @@ pub(crate) const CATALOG: &[u8] =
 pub(crate) const CELLS: &[u8] =
     b"cardio\0\0neuro\0\0\0cardio\0\0\x80\0\0\0\0\0\0\x1E\x80\0\0\0\0\0\0\x29\x80\0\0\0\0\0\0\x05\x80\0\0\0\0\0\0\x05\x80\0\0\0\0\0\0\x09\x80\0\0\0\0\0\0\x02";
 
-/// Names of frames. HEAD is what comes before the catalog in a WELCOME frame. The first ask is for the doctors of the heart,
-/// DAY_ASK for the days of visits from 2 on.
-const NAMES: [(&str, &[u8]); 15] = [
-    ("HELLO", b"\x01\x01\0\x04\0\0\0\0\0\0\0\x01"),
-    ("HEAD", b"\x11\x01\x01\x6E\0\0\0\0\x01"),
-    ("CATALOG", CATALOG),
-    ("BYE", b"\x04\x01\0\0\0\0\0\0"),
-    (
-        "ASK",
-        b"\x02\x01\0\x0E\0\0\0\x01\0\x01\x01\x01\x01\x01cardio\0\0",
-    ),
-    (
-        "ROWS",
-        b"\x12\x01\0\x18\0\0\0\x01\0\0\0\x01cardio\0\0\0\0\0\x03cardio\0\0",
-    ),
-    ("MORE", b"\x03\x01\0\0\0\0\0\x01"),
-    ("DONE", b"\x13\x01\0\x04\0\0\0\x01\0\0\0\x02"),
-    ("SORRY", b"\x14\x01\0\x01\0\0\0\x01\x01"),
-    ("ALL_ASK", b"\x02\x01\0\x04\0\0\0\x01\0\x01\x01\0"),
-    (
-        "AGE_ASK",
-        b"\x02\x01\0\x0D\0\0\0\x02\x01\0\x01\x01\x01\x80\0\0\0\0\0\0\x1E",
-    ),
-    (
-        "DAY_ASK",
-        b"\x02\x01\0\x0E\0\0\0\x02\x02\x01\x01\x01\x01\x06\x80\0\0\0\0\0\0\x02",
-    ),
-    (
-        "DAY_ROWS",
-        b"\x12\x01\0\x30\0\0\0\x02\0\0\0\x01\x80\0\0\0\0\0\0\x05\0\0\0\x02\x80\0\0\0\0\0\0\x05\0\0\0\x03\x80\0\0\0\0\0\0\x09\0\0\0\x04\x80\0\0\0\0\0\0\x02",
-    ),
-    ("DAY_MORE", b"\x03\x01\0\0\0\0\0\x02"),
-    ("DAY_DONE", b"\x13\x01\0\x04\0\0\0\x02\0\0\0\x04"),
-];
+/// Names of frames. HEAD is what comes before the catalog in a WELCOME frame, REST the catalog without its first byte. The first
+/// ask is for the doctors of the heart, DAY_ASK for the days of visits from 2 on.
+fn names() -> [(&'static str, &'static [u8]); 16] {
+    let (_first, rest) = CATALOG.split_at(1);
+    [
+        ("HELLO", b"\x01\x01\0\x04\0\0\0\0\0\0\0\x01"),
+        ("HEAD", b"\x11\x01\x01\x6E\0\0\0\0\x01"),
+        ("CATALOG", CATALOG),
+        ("REST", rest),
+        ("BYE", b"\x04\x01\0\0\0\0\0\0"),
+        (
+            "ASK",
+            b"\x02\x01\0\x0E\0\0\0\x01\0\x01\x01\x01\x01\x01cardio\0\0",
+        ),
+        (
+            "ROWS",
+            b"\x12\x01\0\x18\0\0\0\x01\0\0\0\x01cardio\0\0\0\0\0\x03cardio\0\0",
+        ),
+        ("MORE", b"\x03\x01\0\0\0\0\0\x01"),
+        ("DONE", b"\x13\x01\0\x04\0\0\0\x01\0\0\0\x02"),
+        ("SORRY", b"\x14\x01\0\x01\0\0\0\x01\x01"),
+        ("ALL_ASK", b"\x02\x01\0\x04\0\0\0\x01\0\x01\x01\0"),
+        (
+            "AGE_ASK",
+            b"\x02\x01\0\x0D\0\0\0\x02\x01\0\x01\x01\x01\x80\0\0\0\0\0\0\x1E",
+        ),
+        (
+            "DAY_ASK",
+            b"\x02\x01\0\x0E\0\0\0\x02\x02\x01\x01\x01\x01\x06\x80\0\0\0\0\0\0\x02",
+        ),
+        (
+            "DAY_ROWS",
+            b"\x12\x01\0\x30\0\0\0\x02\0\0\0\x01\x80\0\0\0\0\0\0\x05\0\0\0\x02\x80\0\0\0\0\0\0\x05\0\0\0\x03\x80\0\0\0\0\0\0\x09\0\0\0\x04\x80\0\0\0\0\0\0\x02",
+        ),
+        ("DAY_MORE", b"\x03\x01\0\0\0\0\0\x02"),
+        ("DAY_DONE", b"\x13\x01\0\x04\0\0\0\x02\0\0\0\x04"),
+    ]
+}
 
 /// Bytes that are put together.
 pub(crate) type Bytes = ArrayVec<u8, 2048>;
@@ -62,7 +66,7 @@ pub(crate) fn add_number(bytes: &mut Bytes, mark: &[u8], number: u64) {
 
 /// The name of a frame.
 pub(crate) fn name_of(frame: &[u8]) -> &'static str {
-    for (name, bytes) in NAMES {
+    for (name, bytes) in names() {
         if bytes == frame {
             return name;
         }
@@ -72,7 +76,7 @@ pub(crate) fn name_of(frame: &[u8]) -> &'static str {
 
 /// Adds the bytes that a word names or gives in hexadecimal.
 fn add_word(bytes: &mut Bytes, word: &str) {
-    for (name, named) in NAMES {
+    for (name, named) in names() {
         if name == word {
             add(bytes, named);
             return;

@@ -1,8 +1,6 @@
 //! The host of the clinic over a depot and a link in memory.
 
 use crate::clinic::{Bytes, CATALOG, CELLS, add, add_number, bytes_of, part};
-use channel_codec::frame::FRAME_BYTES;
-use channel_codec::reading::{Got, frame_of};
 use edge_traits::mem_depot::{self, MemDepot};
 use edge_traits::mem_link::{self, MemLink};
 use edge_traits::peer::PeerScript;
@@ -23,54 +21,6 @@ pub(crate) fn depot_of(alloc: Global, fails: &[u64]) -> Result<MemDepot, AllocEr
     let mut depot = MemDepot::new(alloc, room, fails)?;
     let _put = depot.put("c", &image);
     Ok(depot)
-}
-
-/// What a host answers to a frame: all that it then says, or ? where it does not take the frame.
-fn answer(host: &mut Host, depot: &mut MemDepot, bytes: &[u8]) -> Bytes {
-    let mut said = Bytes::new();
-    let is_taken = match frame_of(bytes) {
-        Got::Frame(frame) => host.feed(&frame),
-        Got::Short(_) | Got::Bad(_) => false,
-    };
-    if !is_taken {
-        add(&mut said, b"?");
-    }
-    let mut page = [0; FRAME_BYTES];
-    for _ in 0..10 {
-        match host.reply(depot, &mut page) {
-            Some(size) => add(&mut said, &page[..size as usize]),
-            None => return said,
-        }
-    }
-    said
-}
-
-/// The frames of a key in turn, and the answer to each; 3F is ?.
-const ANSWERS: &str = "ASK: 3F
-HELLO: HEAD CATALOG
-HELLO: 3F
-MORE: 3F
-02010003000000010300 00: 3F
-ASK: ROWS
-DAY_MORE: 3F
-MORE: DONE
-ASK: 3F
-DAY_ASK: DAY_ROWS
-DAY_MORE: DAY_DONE
-BYE";
-
-#[test]
-fn a_host_answers_each_frame_in_its_place(rt: HostRuntime) -> Result<(), BeginFault> {
-    let mut depot = depot_of(rt.alloc(), &[])?;
-    let mut host = Host::begin(rt.alloc(), &mut depot, "c")?;
-    for row in ANSWERS.split('\n') {
-        let said = answer(&mut host, &mut depot, &bytes_of(part(row, 0)));
-        assert!(rt;
-            said.as_slice() == bytes_of(part(row, 1)).as_slice(),
-            "{row}"
-        );
-    }
-    Ok(())
 }
 
 /// Adds how a session ended, with the first byte of a frame out of its place, and the place.

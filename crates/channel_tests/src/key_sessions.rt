@@ -1,13 +1,15 @@
 //! Sessions of the key in the clinic over the streams of a host, honest and not.
 
-use crate::chances::Chance;
+ghost use Rattle.std.specs.Prelude.{◌<◌};
+
 use crate::clinic::{Bytes, CATALOG, add, add_number, bytes_of, name_of, part};
+use channel_codec::bytes::front;
 use channel_pump::state::{Cause, Event, Pump, ReplyState, Want};
 use spj_parse::text_count;
 use tree_schema::{Catalog, read_catalog};
 
 /// Who visited a doctor of the heart with the flu, and the days of some visits.
-pub(crate) const BOTH: &str =
+const BOTH: &str =
     "SELECT visit.id, specialty FROM visit, doctor WHERE doc = doctor.id AND specialty = 'cardio' AND purpose = 'flu';
 SELECT visit.id, day FROM visit WHERE day >= 2;";
 
@@ -19,6 +21,7 @@ const FIRST: &str =
 /// broken, with its first byte and its place), the states of the replies of the first two texts, and how it ends.
 const SESSIONS: &str = "FIRST: HEAD CATALOG ROWS DONE: 0>HELLO W 1>ASK R2 1>MORE D 0>BYE dd F
 FIRST: HEAD CATALOG 1201001800000001 00000001 63617264696f0000 00000002 63617264696f0000 DONE: 0>HELLO W 1>ASK R2 1>MORE D 0>BYE dd F
+FIRST: 1101000200000000 00 47 1101016d00000000 01 REST 1201000c00000001 00000001 63617264696f0000 1201000c00000001 00000003 63617264696f0000 DONE: 0>HELLO W W 1>ASK R1 1>MORE R1 1>MORE D 0>BYE dd F
 : HEAD CATALOG: 0>HELLO W 0>BYE dd F
 SELECT name FROM patient WHERE name = 'Ann';: HEAD CATALOG: 0>HELLO W 0>BYE dd F
 BOTH: HEAD CATALOG SORRY DAY_ROWS DAY_DONE: 0>HELLO W 1>ASK S1 2>DAY_ASK R4 2>DAY_MORE D 0>BYE hd F
@@ -43,6 +46,36 @@ FIRST: HEAD CATALOG 1301000400000001 00000001: 0>HELLO W 1>ASK !19@374 pd P19@37
 FIRST: HEAD CATALOG 1401000100000001 00: 0>HELLO W 1>ASK !20@374 pd P20@374
 FIRST: HEAD CATALOG ROWS 1301000400000001 00000001: 0>HELLO W 1>ASK R2 1>MORE !19@406 pd P19@406
 FIRST: HEAD CATALOG 1201000c00000001 00000001 63617264696f0000 1201000c00000001 00000001 63617264696f0000: 0>HELLO W 1>ASK R1 1>MORE !18@394 pd P18@394";
+
+/// A linear congruential generator.
+#[derive(Drop)]
+struct Chance {
+    state: u64,
+}
+
+impl Chance {
+    /// The next number below a limit.
+    fn below(&mut self, limit: usize) -> usize
+        requires { 0 < limit }
+        ensures { result < limit }
+    {
+        self.state = self
+            .state
+            .wrapping_mul(6_364_136_223_846_793_005)
+            .wrapping_add(1_442_695_040_888_963_407);
+        let [one, two, three, four, ..] = self.state.to_be_bytes();
+        u32::from_be_bytes([one, two, three, four]) as usize % limit
+    }
+
+    /// How many bytes a take that asks for so many is answered by: all of them where `cuts` is 0, and else at most so many.
+    fn piece(&mut self, cuts: usize, most: usize) -> usize {
+        if cuts == 0 {
+            most
+        } else {
+            self.below(cuts).saturating_add(1)
+        }
+    }
+}
 
 /// Adds what a piece of the stream led to.
 fn tell_event(log: &mut Bytes, event: Event) {
@@ -72,7 +105,7 @@ fn letter(state: ReplyState) -> &'static [u8] {
 }
 
 /// Adds how a session ends.
-pub(crate) fn tell_end(log: &mut Bytes, cause: Cause) {
+fn tell_end(log: &mut Bytes, cause: Cause) {
     match cause {
         Cause::Finished => add(log, b" F"),
         Cause::Link => add(log, b" L"),
@@ -130,45 +163,68 @@ fn log_of(mut pump: Pump, host: &[u8], chance: &mut Chance, cuts: usize) -> Byte
     Bytes::new()
 }
 
-/// What the clinic's session of a script comes to.
-pub(crate) fn session_of(
+/// What the session of a row comes to with a host that says this.
+fn session_of(
+    row: &str,
     catalog: &Catalog,
-    script: &str,
     host: &[u8],
     chance: &mut Chance,
     cuts: usize,
 ) -> Bytes {
-    let script = script.as_bytes();
-    if text_count(script) > 64 {
-        return Bytes::new();
-    }
-    log_of(Pump::begin(catalog, script), host, chance, cuts)
-}
-
-/// Whether the session of a row comes to what the row says, however the stream is cut.
-fn comes_to(row: &str) -> bool {
-    let Some(catalog) = read_catalog(CATALOG) else {
-        return false;
-    };
     let script = match part(row, 0) {
         "FIRST" => FIRST,
         "BOTH" => BOTH,
         other => other,
     };
-    let host = bytes_of(part(row, 1));
-    let mut chance = Chance { state: 1 };
-    for cuts in [0, 5, 1] {
-        let log = session_of(&catalog, script, &host, &mut chance, cuts);
-        if log.as_slice() != part(row, 2).as_bytes() {
-            return false;
-        }
+    if text_count(script.as_bytes()) > 64 {
+        return Bytes::new();
     }
-    true
+    log_of(Pump::begin(catalog, script.as_bytes()), host, chance, cuts)
 }
 
 #[test]
 fn a_session_comes_to_the_same_however_the_stream_is_cut(rt: HostRuntime) {
+    let Some(catalog) = read_catalog(CATALOG) else {
+        assert!(rt; false);
+        return;
+    };
+    let mut chance = Chance { state: 1 };
     for row in SESSIONS.split('\n') {
-        assert!(rt; comes_to(row), "{row}");
+        for cuts in [0, 5, 1] {
+            let log = session_of(row, &catalog, &bytes_of(part(row, 1)), &mut chance, cuts);
+            assert!(rt; log.as_slice() == part(row, 2).as_bytes(), "{row}");
+        }
+    }
+}
+
+/// Whether the session of a row comes to the same once in whole pieces and once cut, where some byte of what the host says is
+/// another, or the stream ends there.
+fn is_the_same(row: &str, catalog: &Catalog, chance: &mut Chance) -> bool {
+    let mut bytes = bytes_of(part(row, 1));
+    let host = bytes.as_mut_slice();
+    let place = [chance.below(500), chance.below(130).saturating_add(370)][chance.below(2)];
+    let mut size = host.len();
+    if place < size {
+        host[place] = chance.below(256) as u8;
+        size = [size, size, size, place][chance.below(4)];
+    }
+    let host = front(host, size);
+    let cuts = [2, 10, 20, 40, 100, 400][chance.below(6)];
+    let whole = session_of(row, catalog, host, chance, 0);
+    let cut = session_of(row, catalog, host, chance, cuts);
+    !whole.is_empty() && whole.as_slice() == cut.as_slice()
+}
+
+#[test]
+fn random_sessions_do_not_depend_on_the_cutting(rt: HostRuntime) {
+    let Some(catalog) = read_catalog(CATALOG) else {
+        assert!(rt; false);
+        return;
+    };
+    let mut chance = Chance { state: 3 };
+    for _ in 0..67 {
+        for row in SESSIONS.split('\n') {
+            assert!(rt; is_the_same(row, &catalog, &mut chance), "{row}");
+        }
     }
 }

@@ -6,8 +6,6 @@
 #![tactic(auto)]
 
 #[cfg(test)]
-mod chances;
-#[cfg(test)]
 mod clinic;
 #[cfg(test)]
 mod frames_and_asks;
@@ -17,5 +15,3 @@ mod host_sessions;
 mod key_sessions;
 #[cfg(test)]
 mod one_process;
-#[cfg(test)]
-mod random_sessions;
