@@ -9,8 +9,4 @@ pub mod ask;
 pub mod asking;
 pub mod bytes;
 pub mod frame;
-#[cfg(test)]
-mod random_frames;
 pub mod reading;
-#[cfg(test)]
-mod worked_frames;

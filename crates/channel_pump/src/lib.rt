@@ -11,10 +11,6 @@ mod judging;
 pub mod laws;
 mod missing;
 pub mod pump;
-#[cfg(test)]
-mod random_tests;
 mod rows;
 pub mod state;
-#[cfg(test)]
-mod tests;
 mod turning;

@@ -17,11 +17,7 @@ mod reply;
 mod saying;
 pub mod serving;
 pub mod session;
-#[cfg(test)]
-mod session_tests;
 mod stage;
-#[cfg(test)]
-mod tests;
 mod turning;
 
 pub use host::Host;

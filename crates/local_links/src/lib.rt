@@ -7,8 +7,6 @@ mod journal;
 pub mod journaled;
 pub mod laws;
 mod speech;
-#[cfg(test)]
-mod tests;
 
 pub use host_link::HostLink;
 pub use journaled::Journaled;

@@ -1,0 +1,96 @@
+//! The host of the clinic over a depot and a link in memory.
+
+use crate::clinic::{Bytes, CATALOG, CELLS, add, add_number, bytes_of, part};
+use edge_traits::mem_depot::{self, MemDepot};
+use edge_traits::mem_link::{self, MemLink};
+use edge_traits::peer::PeerScript;
+use edge_traits::told::Told;
+use host_exec::{BeginFault, Host, Served};
+use std::alloc::{AllocError, Global};
+
+/// A depot whose file `c` is the host's file, which fails at these calls.
+pub(crate) fn depot_of(alloc: Global, fails: &[u64]) -> Result<MemDepot, AllocError> {
+    let room = mem_depot::Room {
+        files: 1,
+        name_bytes: 1,
+        file_bytes: 500,
+    };
+    let mut image = Bytes::new();
+    add(&mut image, CATALOG);
+    add(&mut image, CELLS);
+    let mut depot = MemDepot::new(alloc, room, fails)?;
+    let _put = depot.put("c", &image);
+    Ok(depot)
+}
+
+/// Adds how a session ended, with the first byte of a frame out of its place, and the place.
+fn tell_end(bytes: &mut Bytes, served: Served) {
+    match served {
+        Served::Bye => add(bytes, b"bye"),
+        Served::Depot => add(bytes, b"depot"),
+        Served::Link => add(bytes, b"link"),
+        Served::BadRequest { kind, at } => {
+            add_number(bytes, b"!", kind as u64);
+            add_number(bytes, b"@", at);
+        }
+    }
+}
+
+/// All bytes that went over the link in a session and how it ended, where the key says this in these pieces.
+fn serve(
+    alloc: Global,
+    key: &[u8],
+    pieces: &[usize],
+    depot_fails: &[u64],
+) -> Result<Bytes, BeginFault> {
+    let mut depot = depot_of(alloc, depot_fails)?;
+    let mut host = Host::begin(alloc, &mut depot, "c")?;
+    let room = mem_link::Room {
+        moves: 100,
+        bytes: 2_000,
+    };
+    let peer = PeerScript {
+        bytes: key,
+        pieces,
+        ports: &[],
+    };
+    let mut link = MemLink::new(alloc, room, &peer, &[])?;
+    let served = host.serve(&mut link, &mut depot);
+    let mut went = Bytes::new();
+    if let Some(journal) = link.journal() {
+        add(&mut went, journal.bytes);
+        if let Some(Told::Close) = journal.moves.last() {
+            tell_end(&mut went, served);
+        }
+    }
+    Ok(went)
+}
+
+/// Whether the depot is well or its first reading behind the beginning fails; what the key says; all that goes over the link;
+/// and how the session ends.
+const SESSIONS: &str = "well: HELLO ASK MORE BYE: HELLO HEAD CATALOG ASK ROWS MORE DONE BYE: bye
+well: HELLO ASK: HELLO HEAD CATALOG ASK ROWS: link
+well: HELLO ASK BYE: HELLO HEAD CATALOG ASK ROWS BYE: !4@34
+well: HELLO HELLO: HELLO HEAD CATALOG HELLO: !1@12
+well: ASK: ASK: !2@0
+well: HELLO MORE: HELLO HEAD CATALOG MORE: !3@12
+well: HELLO 0201000300000001 03 00 00: HELLO HEAD CATALOG 0201000300000001 03 00 00: !2@12
+well: HELLO ASK DAY_ASK: HELLO HEAD CATALOG ASK ROWS DAY_ASK: !2@34
+well: HELLO ASK DAY_MORE: HELLO HEAD CATALOG ASK ROWS DAY_MORE: !3@34
+well: 474554202f204854: 474554202f204854: !71@0
+fails: HELLO ASK DAY_ASK DAY_MORE BYE: HELLO HEAD CATALOG ASK SORRY DAY_ASK DAY_ROWS DAY_MORE DAY_DONE BYE: depot
+fails: HELLO ASK MORE: HELLO HEAD CATALOG ASK SORRY MORE: !3@34";
+
+#[test]
+fn a_key_is_served_however_its_frames_are_cut(rt: HostRuntime) -> Result<(), BeginFault> {
+    for row in SESSIONS.split('\n') {
+        let depot_fails: &[u64] = if part(row, 0) == "fails" { &[8] } else { &[] };
+        let mut wanted = bytes_of(part(row, 2));
+        add(&mut wanted, part(row, 3).as_bytes());
+        for pieces in [&[], [0; 80].as_slice()] {
+            let went = serve(rt.alloc(), &bytes_of(part(row, 1)), pieces, depot_fails)?;
+            assert!(rt; went.as_slice() == wanted.as_slice(), "{row}");
+        }
+    }
+    Ok(())
+}
