@@ -2,6 +2,7 @@
 
 use crate::bench::Bench;
 use crate::moves::{put_count, put_moves};
+use crate::pages::put_pages;
 use crate::texts::{bytes_of, number_of, put, put_lines, put_raw};
 use crate::words::{Directive, directive_of, first_of};
 use std::alloc::{AllocError, Global};
@@ -169,6 +170,7 @@ impl Cases {
             Directive::Calls => self.put_calls()?,
             Directive::Show => self.show(rest)?,
             Directive::Size => self.put_size(rest)?,
+            Directive::Pages => put_pages(self.alloc, &mut self.page, &self.bench.flash)?,
             _ => match self.bench.link.journal() {
                 None => put(&mut self.page, "? moves\n")?,
                 Some(journal) => match directive {

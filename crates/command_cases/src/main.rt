@@ -23,6 +23,7 @@
 //! | `do-quiet WORDS` | the same, but leaves out what was printed |
 //! | `calls` | prints how many calls of each object were made, and how many reads of the flash were deep |
 //! | `show NAME`, `size NAME` | prints a file, or how many bytes it has |
+//! | `pages` | prints how many pages the flash has, and those that are not blank, up to their last byte that is not 0xFF |
 //! | `moves`, `moves-count` | prints the moves of the link, or how many they are |
 //!
 //! An empty line is passed over; any other is printed behind a `?`.
@@ -32,6 +33,7 @@ mod bench;
 mod cases;
 mod groups;
 mod moves;
+mod pages;
 mod texts;
 mod words;
 

@@ -103,10 +103,10 @@ fn hex_digit(value: u8, ten: u8) -> u8 {
     }
 }
 
-/// Adds a byte of a file as a reader sees it.
-fn put_shown(page: &mut Vec<u8>, byte: u8) -> Result<(), AllocError> {
+/// Adds a byte with escapes.
+fn put_escaped(page: &mut Vec<u8>, byte: u8) -> Result<(), AllocError> {
     match byte {
-        b'\n' => page.push(b'\n')?,
+        b'\n' => put(page, "\\n")?,
         b'\\' => put(page, "\\\\")?,
         0x20..=0x7E => page.push(byte)?,
         _ => {
@@ -118,18 +118,26 @@ fn put_shown(page: &mut Vec<u8>, byte: u8) -> Result<(), AllocError> {
     Ok(())
 }
 
-/// Adds the lines of a file, each behind a bar. A last line with no end is marked by a backslash.
-pub fn put_lines(page: &mut Vec<u8>, bytes: &[u8]) -> Result<(), AllocError> {
-    let mut begins = true;
+/// Adds bytes as one text with escapes.
+pub fn put_text(page: &mut Vec<u8>, bytes: &[u8]) -> Result<(), AllocError> {
     for byte in bytes {
-        if begins {
-            page.push(b'|')?;
-        }
-        begins = *byte == b'\n';
-        put_shown(page, *byte)?;
+        put_escaped(page, *byte)?;
     }
-    if !begins {
-        put(page, "\\\n")?;
+    Ok(())
+}
+
+/// Adds the lines of a file with escapes, each behind a bar. A last line with no end is marked by a backslash.
+pub fn put_lines(page: &mut Vec<u8>, bytes: &[u8]) -> Result<(), AllocError> {
+    for line in bytes.split_inclusive(|byte| *byte == b'\n') {
+        put(page, "|")?;
+        match line.strip_suffix(b"\n") {
+            Some(text) => put_text(page, text)?,
+            None => {
+                put_text(page, line)?;
+                put(page, "\\")?;
+            }
+        }
+        put(page, "\n")?;
     }
     Ok(())
 }

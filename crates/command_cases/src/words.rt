@@ -10,6 +10,7 @@ pub enum Directive {
     Repeat,
     Blocks,
     Page,
+    Pages,
     Fail,
     Say,
     Cut,
@@ -24,7 +25,7 @@ pub enum Directive {
     MovesCount,
 }
 
-const DIRECTIVES: [(&str, Directive); 19] = [
+const DIRECTIVES: [(&str, Directive); 20] = [
     ("#", Directive::Heading),
     ("case", Directive::Case),
     ("file", Directive::File),
@@ -32,6 +33,7 @@ const DIRECTIVES: [(&str, Directive); 19] = [
     ("repeat", Directive::Repeat),
     ("blocks", Directive::Blocks),
     ("page", Directive::Page),
+    ("pages", Directive::Pages),
     ("fail", Directive::Fail),
     ("say", Directive::Say),
     ("cut", Directive::Cut),
