@@ -13,7 +13,7 @@ use key_commands::key_main;
 use std::alloc::{AllocError, Global};
 
 const ROOM: Room = Room {
-    files: 12,
+    files: 16,
     name_bytes: 64,
     file_bytes: 400_000,
 };
