@@ -116,30 +116,28 @@ impl Bench {
         }
     }
 
-    /// Makes the flash with all its room, where it has no pages, with no call that is counted.
-    fn make_blank(&mut self) -> Result<(), AllocError> {
+    /// Makes the flash with all its room, where it has no pages; that call is not counted.
+    fn make_blank(&mut self) {
         if self.flash.page(0).is_some() {
-            return Ok(());
+            return;
         }
-        let mut flash = MemFlash::new(self.alloc, self.flash.room, &[])?;
-        if flash.room <= 60_000_000 {
-            let _made = flash.make(self.alloc, "flash", flash.room);
+        let room = self.flash.room;
+        if room <= 60_000_000 {
+            let _made = self.flash.make(self.alloc, "flash", room);
         }
-        flash.script = Script::new(self.alloc, &self.flash.script.fails)?;
-        self.flash = flash;
-        Ok(())
+        self.flash.script.calls = 0;
     }
 
     /// Puts a page; answers whether the flash has it.
-    pub fn page(&mut self, page: u64, front: &[u8]) -> Result<bool, AllocError> {
+    pub fn page(&mut self, page: u64, front: &[u8]) -> bool {
         let mut bytes = [0xFF; 2048];
         for (place, byte) in bytes.iter_mut().zip(front.iter()) {
             *place = *byte;
         }
-        self.make_blank()?;
+        self.make_blank();
         match u32::try_from(page) {
-            Ok(page) => Ok(self.flash.put_page(page, &bytes)),
-            Err(_) => Ok(false),
+            Ok(page) => self.flash.put_page(page, &bytes),
+            Err(_) => false,
         }
     }
 

@@ -129,7 +129,7 @@ impl Cases {
             Directive::Blocks => self.bench.blocks(number_of(word)),
             Directive::Page => {
                 let bytes = bytes_of(self.alloc, text)?;
-                self.bench.page(number_of(word), &bytes)
+                Ok(self.bench.page(number_of(word), &bytes))
             }
             _ => self.bench.fail(word, text),
         }
