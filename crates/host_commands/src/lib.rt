@@ -8,8 +8,6 @@ pub mod hosting;
 pub mod port;
 pub mod status;
 pub mod telling;
-#[cfg(test)]
-mod tests;
 pub mod words;
 
 pub use hosting::host_main;

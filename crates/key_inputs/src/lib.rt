@@ -14,8 +14,6 @@ pub mod opening;
 mod schema_names;
 pub mod script;
 pub mod shown;
-#[cfg(test)]
-mod tests;
 
 pub use broken_schema::{BrokenSchema, ColumnNamed, TableNamed};
 pub use broken_table::{BrokenTable, FieldNamed, RecordNamed};

@@ -9,8 +9,6 @@ pub mod failures;
 mod line;
 mod making;
 mod preparing;
-#[cfg(test)]
-mod tests;
 
 pub use command::load;
 pub use failures::LoadFailure;

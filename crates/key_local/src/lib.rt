@@ -11,8 +11,6 @@ mod making;
 mod opening;
 mod preparing;
 mod running;
-#[cfg(test)]
-mod tests;
 
 pub use command::local;
 pub use ends::{LocalEnd, LocalFailure};

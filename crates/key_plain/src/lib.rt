@@ -4,20 +4,10 @@
 //! the texts. There is no key and no channel. `docs/SESSION.md` states the command.
 #![tactic(auto)]
 
-#[cfg(test)]
-mod clinic;
 pub mod command;
 pub mod faults;
-#[cfg(test)]
-mod input_tests;
 mod opening;
 mod printing;
-#[cfg(test)]
-mod script_tests;
-#[cfg(test)]
-mod tests;
-#[cfg(test)]
-mod text_tests;
 
 pub use command::plain;
 pub use faults::PlainFault;

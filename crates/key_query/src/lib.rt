@@ -8,8 +8,6 @@ pub mod command;
 pub mod failures;
 mod opening;
 mod public_pages;
-#[cfg(test)]
-mod tests;
 
 pub use command::query;
 pub use failures::QueryFailure;

@@ -8,8 +8,6 @@ pub mod app;
 pub mod reading;
 pub mod refusing;
 pub mod shown;
-#[cfg(test)]
-mod tests;
 pub mod values;
 pub mod words;
 

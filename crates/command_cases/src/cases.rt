@@ -1,0 +1,221 @@
+//! The directives, one by one.
+
+use crate::bench::Bench;
+use crate::moves::{put_count, put_moves};
+use crate::pages::put_pages;
+use crate::texts::{bytes_of, number_of, put, put_lines, put_raw};
+use crate::words::{Directive, directive_of, first_of};
+use std::alloc::{AllocError, Global};
+
+/// The objects, the file whose lines come, and what is to be printed.
+#[derive(Drop)]
+pub struct Cases {
+    alloc: Global,
+    bench: Bench,
+    file: String,
+    page: Vec<u8>,
+}
+
+impl Cases {
+    /// Before the first line.
+    pub fn new(alloc: Global) -> Result<Cases, AllocError> {
+        Ok(Cases {
+            alloc,
+            bench: Bench::new(alloc)?,
+            file: String::new(alloc),
+            page: Vec::new(alloc),
+        })
+    }
+
+    /// What is to be printed.
+    pub fn printed(&self) -> &[u8] {
+        &self.page
+    }
+
+    /// Forgets what was printed.
+    pub fn forget(&mut self) {
+        self.page.clear();
+    }
+
+    /// Does what a line says.
+    pub fn read(&mut self, line: &str) -> Result<(), AllocError> {
+        if line.is_empty() {
+            return Ok(());
+        }
+        let known = match line.strip_prefix("|") {
+            Some(text) => self.add_line(text)?,
+            None => self.direct(line)?,
+        };
+        if known {
+            return Ok(());
+        }
+        put(&mut self.page, "? ")?;
+        self.put_line(line)
+    }
+
+    /// Adds a line to what is to be printed.
+    fn put_line(&mut self, line: &str) -> Result<(), AllocError> {
+        put(&mut self.page, line)?;
+        put(&mut self.page, "\n")
+    }
+
+    /// Does what a line with a first word says; answers whether it says anything.
+    fn direct(&mut self, line: &str) -> Result<bool, AllocError> {
+        let (word, rest) = first_of(line);
+        let Some(directive) = directive_of(word) else {
+            return Ok(false);
+        };
+        match directive {
+            Directive::Heading => {
+                self.put_line(line)?;
+                Ok(true)
+            }
+            Directive::Case => self.begin(rest),
+            Directive::Again => {
+                self.bench.again()?;
+                Ok(true)
+            }
+            Directive::Do => self.call(rest, true),
+            Directive::DoQuiet => self.call(rest, false),
+            Directive::File | Directive::Bytes | Directive::Repeat => {
+                self.put_file(directive, rest)
+            }
+            Directive::Blocks | Directive::Page | Directive::Fail => {
+                self.arrange(directive, rest)
+            }
+            Directive::Say | Directive::Cut | Directive::Port => self.speak(directive, rest),
+            _ => self.tell(directive, rest),
+        }
+    }
+
+    /// Begins anew.
+    fn begin(&mut self, name: &str) -> Result<bool, AllocError> {
+        self.bench = Bench::new(self.alloc)?;
+        put(&mut self.page, "== ")?;
+        self.put_line(name)?;
+        Ok(true)
+    }
+
+    /// Adds a line to the file that was named last.
+    fn add_line(&mut self, text: &str) -> Result<bool, AllocError> {
+        let line = format!(in self.alloc; "{text}\n")?;
+        self.bench.add(&self.file, 1, line.as_bytes())
+    }
+
+    /// Puts a file.
+    fn put_file(&mut self, directive: Directive, rest: &str) -> Result<bool, AllocError> {
+        let (name, text) = first_of(rest);
+        match directive {
+            Directive::File => {
+                self.file = String::from_str(self.alloc, name)?;
+                Ok(self.bench.depot.put(name, b""))
+            }
+            Directive::Bytes => {
+                let bytes = bytes_of(self.alloc, text)?;
+                Ok(self.bench.depot.put(name, &bytes))
+            }
+            _ => {
+                let (times, text) = first_of(text);
+                let bytes = bytes_of(self.alloc, text)?;
+                self.bench.add(name, number_of(times), &bytes)
+            }
+        }
+    }
+
+    /// Arranges the flash, or the calls that fail.
+    fn arrange(&mut self, directive: Directive, rest: &str) -> Result<bool, AllocError> {
+        let (word, text) = first_of(rest);
+        match directive {
+            Directive::Blocks => self.bench.blocks(number_of(word)),
+            Directive::Page => {
+                let bytes = bytes_of(self.alloc, text)?;
+                Ok(self.bench.page(number_of(word), &bytes))
+            }
+            _ => self.bench.fail(word, text),
+        }
+    }
+
+    /// Arranges the other end of the link.
+    fn speak(&mut self, directive: Directive, rest: &str) -> Result<bool, AllocError> {
+        match directive {
+            Directive::Say => self.bench.say(rest)?,
+            Directive::Cut => self.bench.cut(rest)?,
+            _ => return self.bench.port(number_of(rest)),
+        }
+        Ok(true)
+    }
+
+    /// Makes a call, and tells what came of it.
+    fn call(&mut self, line: &str, is_loud: bool) -> Result<bool, AllocError> {
+        let Some(came) = self.bench.call(line)? else {
+            return Ok(false);
+        };
+        put(&mut self.page, "$ ")?;
+        self.put_line(line)?;
+        if is_loud {
+            put_raw(&mut self.page, self.bench.out.bytes())?;
+        }
+        let code = came.code;
+        put(&mut self.page, &format!(in self.alloc; "status {code}\n")?)?;
+        if code != 0 {
+            put(&mut self.page, "told ")?;
+            self.put_line(&came.line)?;
+        }
+        Ok(true)
+    }
+
+    /// Tells of the objects.
+    fn tell(&mut self, directive: Directive, rest: &str) -> Result<bool, AllocError> {
+        match directive {
+            Directive::Calls => self.put_calls()?,
+            Directive::Show => self.show(rest)?,
+            Directive::Size => self.put_size(rest)?,
+            Directive::Pages => put_pages(self.alloc, &mut self.page, &self.bench.flash)?,
+            _ => match self.bench.link.journal() {
+                None => put(&mut self.page, "? moves\n")?,
+                Some(journal) => match directive {
+                    Directive::Moves => put_moves(self.alloc, &mut self.page, &journal)?,
+                    _ => put_count(self.alloc, &mut self.page, &journal)?,
+                },
+            },
+        }
+        Ok(true)
+    }
+
+    /// Tells how many calls of each object were made.
+    fn put_calls(&mut self) -> Result<(), AllocError> {
+        let depot = self.bench.depot.script.calls;
+        let flash = self.bench.flash.script.calls;
+        let link = self.bench.link.script.calls;
+        let out = self.bench.out.script.calls;
+        let deep = self.bench.deep_reads();
+        let line = format!(in self.alloc;
+            "calls depot {depot} flash {flash} link {link} out {out} deep {deep}\n"
+        )?;
+        put(&mut self.page, &line)
+    }
+
+    /// Shows a file.
+    fn show(&mut self, name: &str) -> Result<(), AllocError> {
+        put(&mut self.page, name)?;
+        match self.bench.depot.file(name) {
+            None => put(&mut self.page, ": none\n"),
+            Some(bytes) => {
+                put(&mut self.page, ":\n")?;
+                put_lines(&mut self.page, bytes)
+            }
+        }
+    }
+
+    /// Tells how many bytes a file has.
+    fn put_size(&mut self, name: &str) -> Result<(), AllocError> {
+        let line = match self.bench.depot.file(name) {
+            None => format!(in self.alloc; "{name}: none\n")?,
+            Some(bytes) => {
+                let count = bytes.len();
+                format!(in self.alloc; "{name} has {count} bytes\n")?
+            }
+        };
+        put(&mut self.page, &line)
+    }
+}

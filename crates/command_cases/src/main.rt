@@ -1,0 +1,57 @@
+//! Cases of both programs as data: it reads directives on standard input, makes the programs' calls over objects in memory,
+//! and prints what came of them.
+//!
+//! A directive is one line. A text has the escapes \n \t \r \\ \xHH, and words are cut at single spaces.
+//!
+//! | Line | What it does |
+//! |---|---|
+//! | `# TEXT` | a heading, printed as it is |
+//! | `set NAME` | begins a named group of lines, up to a line `end`, which are not done now |
+//! | `with NAME` | does the lines of a group |
+//! | `case NAME` | begins anew: no file, a blank flash with room for 14 blocks, a host that says nothing; prints `== NAME` |
+//! | `file NAME` | the file of the lines below that begin with a bar, without it |
+//! | `bytes NAME TEXT` | the file of these bytes |
+//! | `repeat NAME N TEXT` | puts a text so many times behind what a file has |
+//! | `blocks N` | a blank flash with room for so many blocks |
+//! | `page N TEXT` | a page of these bytes, and then bytes 0xFF; a flash that was not made is made with all its room |
+//! | `fail OBJECT N N ..` | counts the calls of the depot, flash, link or out anew, and lets these fail, from 1 |
+//! | `say TEXT` | the other end of the link says these bytes more |
+//! | `cut N N ..` | its bytes come in pieces of these sizes |
+//! | `port N` | the port that a listening gets |
+//! | `again` | begins anew, but leaves files and flash |
+//! | `do WORDS` | makes the call of `key` or `host`; prints the words, what was printed, the exit code, and what is told of it |
+//! | `do-quiet WORDS` | the same, but leaves out what was printed |
+//! | `calls` | prints how many calls of each object were made, and how many reads of the flash were deep |
+//! | `show NAME`, `size NAME` | prints a file, or how many bytes it has |
+//! | `pages` | prints how many pages the flash has, and those that are not blank, up to their last byte that is not 0xFF |
+//! | `moves`, `moves-count` | prints the moves of the link, or how many they are |
+//!
+//! An empty line is passed over; any other is printed behind a `?`.
+#![tactic(auto)]
+
+mod bench;
+mod cases;
+mod groups;
+mod moves;
+mod pages;
+mod texts;
+mod words;
+
+use cases::Cases;
+use groups::Groups;
+use std::io::{self, BufRead, BufReader, Write};
+
+/// Reads the directives to the end of the input.
+fn main(rt: HostRuntime) -> io::Result<()> {
+    let mut groups = Groups::new(rt.alloc());
+    let mut cases = Cases::new(rt.alloc())?;
+    for line in BufReader::new(rt.alloc(), rt.reader())?.lines(rt.alloc()) {
+        let line = line?;
+        if !groups.keep(&line)? {
+            groups.each(&line, &mut cases)?;
+        }
+        io::writer(&rt).write_all(cases.printed())?;
+        cases.forget();
+    }
+    Ok(())
+}

@@ -1,0 +1,152 @@
+//! Texts with escapes, numbers, and bytes as text.
+
+use std::alloc::{AllocError, Global};
+
+/// How far an escape was read.
+#[derive(Clone, Copy)]
+enum Place {
+    /// There is none.
+    Outside,
+    /// Its backslash.
+    Begun,
+    /// Its backslash and x.
+    Hex,
+    /// Its first digit too, which has this value.
+    Digit(u8),
+}
+
+/// The value of a hexadecimal digit, and 0 of any other byte.
+fn digit_of(byte: u8) -> u8 {
+    match byte {
+        b'0'..=b'9' => byte - b'0',
+        b'a'..=b'f' => byte - b'a' + 10,
+        b'A'..=b'F' => byte - b'A' + 10,
+        _ => 0,
+    }
+}
+
+/// The byte that an escape of one letter stands for.
+fn escaped(letter: u8) -> u8 {
+    match letter {
+        b'n' => b'\n',
+        b't' => b'\t',
+        b'r' => b'\r',
+        other => other,
+    }
+}
+
+/// Reads one byte more, and answers the byte that it completes.
+fn step(place: Place, byte: u8) -> (Place, Option<u8>) {
+    match place {
+        Place::Outside if byte == b'\\' => (Place::Begun, None),
+        Place::Outside => (Place::Outside, Some(byte)),
+        Place::Begun if byte == b'x' => (Place::Hex, None),
+        Place::Begun => (Place::Outside, Some(escaped(byte))),
+        Place::Hex => (Place::Digit(digit_of(byte)), None),
+        Place::Digit(high) => (Place::Outside, Some((high << 4) | digit_of(byte))),
+    }
+}
+
+/// The bytes that a text stands for.
+pub fn bytes_of(alloc: Global, text: &str) -> Result<Vec<u8>, AllocError> {
+    let mut bytes = Vec::new(alloc);
+    let mut place = Place::Outside;
+    for byte in text.as_bytes() {
+        let (next, made) = step(place, *byte);
+        place = next;
+        if let Some(made) = made {
+            bytes.push(made)?;
+        }
+    }
+    Ok(bytes)
+}
+
+/// The number of a word, and 0 where it is none.
+pub fn number_of(word: &str) -> u64 {
+    match word.parse::<u64>() {
+        Ok(number) => number,
+        Err(_) => 0,
+    }
+}
+
+/// The numbers of the words of a text.
+pub fn numbers_of(alloc: Global, text: &str) -> Result<Vec<u64>, AllocError> {
+    let mut numbers = Vec::new(alloc);
+    for word in text.split(' ') {
+        if !word.is_empty() {
+            numbers.push(number_of(word))?;
+        }
+    }
+    Ok(numbers)
+}
+
+/// Adds a text.
+pub fn put(page: &mut Vec<u8>, text: &str) -> Result<(), AllocError> {
+    page.extend_from_slice(text.as_bytes())
+}
+
+/// Adds bytes in hexadecimal.
+pub fn put_hex(page: &mut Vec<u8>, bytes: &[u8]) -> Result<(), AllocError> {
+    for byte in bytes {
+        page.push(hex_digit(*byte >> 4, b'a'))?;
+        page.push(hex_digit(*byte & 15, b'a'))?;
+    }
+    Ok(())
+}
+
+/// The digit of a value, with this letter for ten.
+fn hex_digit(value: u8, ten: u8) -> u8 {
+    if value < 10 {
+        b'0'.saturating_add(value)
+    } else {
+        ten.saturating_add(value - 10)
+    }
+}
+
+/// Adds a byte with escapes.
+fn put_escaped(page: &mut Vec<u8>, byte: u8) -> Result<(), AllocError> {
+    match byte {
+        b'\n' => put(page, "\\n")?,
+        b'\\' => put(page, "\\\\")?,
+        0x20..=0x7E => page.push(byte)?,
+        _ => {
+            put(page, "\\x")?;
+            page.push(hex_digit(byte >> 4, b'A'))?;
+            page.push(hex_digit(byte & 15, b'A'))?;
+        }
+    }
+    Ok(())
+}
+
+/// Adds bytes as one text with escapes.
+pub fn put_text(page: &mut Vec<u8>, bytes: &[u8]) -> Result<(), AllocError> {
+    for byte in bytes {
+        put_escaped(page, *byte)?;
+    }
+    Ok(())
+}
+
+/// Adds the lines of a file with escapes, each behind a bar. A last line with no end is marked by a backslash.
+pub fn put_lines(page: &mut Vec<u8>, bytes: &[u8]) -> Result<(), AllocError> {
+    for line in bytes.split_inclusive(|byte| *byte == b'\n') {
+        put(page, "|")?;
+        match line.strip_suffix(b"\n") {
+            Some(text) => put_text(page, text)?,
+            None => {
+                put_text(page, line)?;
+                put(page, "\\")?;
+            }
+        }
+        put(page, "\n")?;
+    }
+    Ok(())
+}
+
+/// Adds what was printed as it is. A last line with no end is marked by a backslash.
+pub fn put_raw(page: &mut Vec<u8>, bytes: &[u8]) -> Result<(), AllocError> {
+    page.extend_from_slice(bytes)?;
+    if !bytes.is_empty() && !bytes.ends_with(b"\n") {
+        put(page, "\\\n")?;
+    }
+    Ok(())
+}

@@ -1,0 +1,67 @@
+//! The first words of directives.
+
+/// What a line is to do.
+#[derive(Clone, Copy, Drop)]
+pub enum Directive {
+    Heading,
+    Case,
+    File,
+    Bytes,
+    Repeat,
+    Blocks,
+    Page,
+    Pages,
+    Fail,
+    Say,
+    Cut,
+    Port,
+    Again,
+    Do,
+    DoQuiet,
+    Calls,
+    Show,
+    Size,
+    Moves,
+    MovesCount,
+}
+
+const DIRECTIVES: [(&str, Directive); 20] = [
+    ("#", Directive::Heading),
+    ("case", Directive::Case),
+    ("file", Directive::File),
+    ("bytes", Directive::Bytes),
+    ("repeat", Directive::Repeat),
+    ("blocks", Directive::Blocks),
+    ("page", Directive::Page),
+    ("pages", Directive::Pages),
+    ("fail", Directive::Fail),
+    ("say", Directive::Say),
+    ("cut", Directive::Cut),
+    ("port", Directive::Port),
+    ("again", Directive::Again),
+    ("do", Directive::Do),
+    ("do-quiet", Directive::DoQuiet),
+    ("calls", Directive::Calls),
+    ("show", Directive::Show),
+    ("size", Directive::Size),
+    ("moves", Directive::Moves),
+    ("moves-count", Directive::MovesCount),
+];
+
+/// The directive of a first word.
+pub fn directive_of(word: &str) -> Option<Directive> {
+    for (name, directive) in DIRECTIVES {
+        if name == word {
+            return Some(directive);
+        }
+    }
+    None
+}
+
+/// The first word of a text, and what stands behind the space that ends it.
+pub fn first_of(text: &str) -> (&str, &str) {
+    match text.split_once(' ') {
+        Some((word, rest)) => (word, rest),
+        None => (text, ""),
+    }
+}
