@@ -1,8 +1,6 @@
 //! Replies of the clinic in a store.
 
-use crate::clinic::CATALOG;
-use arrayvec::ArrayVec;
-use channel_codec::ask::Ask;
+use crate::clinic::{CATALOG, ask_for};
 use ghost_base::{Text64, Value};
 use reply_store::ReplyStore;
 use std::alloc::AllocError;
@@ -28,17 +26,6 @@ const STAND: [(usize, u32, bool); 8] = [
     (2, 2, true),
     (2, 4, true),
 ];
-
-/// An ask for a table's first column after the identifier.
-pub(crate) fn ask_for(table: u8) -> Ask {
-    let mut columns = ArrayVec::new();
-    let _ = columns.try_push(1);
-    Ask {
-        table,
-        columns,
-        tests: ArrayVec::new(),
-    }
-}
 
 #[test]
 fn rows_are_found_by_their_identifiers(rt: HostRuntime) -> Result<(), AllocError> {

@@ -1,7 +1,6 @@
 //! The key's answer of a query over the clinic.
 
-use crate::clinic::{CATALOG, device};
-use crate::kept_replies::ask_for;
+use crate::clinic::{CATALOG, ask_for, device};
 use edge_traits::flash::{AttachFault, Flash};
 use edge_traits::mem_sink::MemSink;
 use flash_layout::need;
