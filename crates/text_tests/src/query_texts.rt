@@ -26,13 +26,37 @@ SELECT age FROM patient WHERE name = 'abcdefg'''|from 1 top 1 select 1.1 where 1
 SELECT age FROM patient WHERE age = 000000000000000000000000000000000041|from 1 top 1 select 1.1 where 1.1=41
 SELECT age FROM patient WHERE age <= 9223372036854775807 AND age >= -9223372036854775808|from 1 top 1 select 1.1 where 1.1<=9223372036854775807 1.1>=-9223372036854775808
 SELECT age patient|the text breaks the grammar at byte 11
+SELECT age FROM  |the text breaks the grammar at byte 17
+SELECT a FROM t WHERE a = b.c.d|the text breaks the grammar at byte 29
 SELECT aaaaaaaaaaaaaaaaaaaaaaaaaaaaaaaaa FROM nowhere|the text is beyond the limits of a query
+SELECT * FROM doctor, doctor, doctor, doctor, visit, visit, visit, visit, visit|the text is beyond the limits of a query
+SELECT * FROM doctor, doctor, doctor, doctor, visit, visit, visit, visit|a table stands twice, or a column stands for several
+SELECT * FROM nowhere, visit, visit, visit, visit, visit, visit, visit|the text is beyond the limits of a query
+SELECT * FROM nowhere, visit, visit, visit, visit, visit, visit|a table is unknown
 SELECT x FROM nowhere|a table is unknown
 SELECT x FROM visit, visit|a column is unknown
 SELECT id FROM visit, doctor WHERE day = 'x'|a table stands twice, or a column stands for several
 SELECT age FROM patient WHERE age = 9223372036854775808 AND name = 5|a literal is of another kind than its column
 SELECT visit.id FROM visit, doctor WHERE day = 9223372036854775808|a literal does not fit its column
 SELECT visit.id FROM visit, doctor|the tables are not linked by their foreign keys";
+
+/// Twelve tables: `a` references five of them, and the last of these the other six.
+const TWELVE: &str =
+    "CREATE TABLE a (id INT PRIMARY KEY, ab INT REFERENCES b, ac INT REFERENCES c, ad INT REFERENCES d, ae INT REFERENCES e, af INT REFERENCES f);
+CREATE TABLE b (id INT PRIMARY KEY); CREATE TABLE c (id INT PRIMARY KEY); CREATE TABLE d (id INT PRIMARY KEY); CREATE TABLE e (id INT PRIMARY KEY);
+CREATE TABLE f (id INT PRIMARY KEY, fg INT REFERENCES g, fh INT REFERENCES h, fi INT REFERENCES i, fj INT REFERENCES j, fk INT REFERENCES k, fl INT REFERENCES l);
+CREATE TABLE g (id INT PRIMARY KEY); CREATE TABLE h (id INT PRIMARY KEY); CREATE TABLE i (id INT PRIMARY KEY); CREATE TABLE j (id INT PRIMARY KEY);
+CREATE TABLE k (id INT PRIMARY KEY); CREATE TABLE l (id INT PRIMARY KEY);
+";
+
+/// Texts over the twelve tables.
+const CASES_OF_TWELVE: &str =
+    "SELECT f.id FROM g, f WHERE fg = g.id|from 6 5 top 5 select 5.0 join 5.1=6.0
+SELECT a.id FROM l, k, j, i, h, g, f, e, d, c, b, a WHERE ab = b.id AND ac = c.id AND ad = d.id AND ae = e.id AND af = f.id AND fg = g.id AND fh = h.id AND fi = i.id AND j.id = fj AND fk = k.id AND fl = l.id|from 11 10 9 8 7 6 5 4 3 2 1 0 top 0 select 0.0 join 5.6=11.0 5.5=10.0 5.4=9.0 5.3=8.0 5.2=7.0 5.1=6.0 0.5=5.0 0.4=4.0 0.3=3.0 0.2=2.0 0.1=1.0
+SELECT a.id FROM a, b, c, d, e, f, g, h, i, j, k, l|the tables are not linked by their foreign keys
+SELECT a.id FROM a, b, c, d, e, f, g, h, i, j, k, l, m|the text is beyond the limits of a query
+SELECT a.id FROM a, g|the tables are not linked by their foreign keys
+SELECT * FROM a, b, c, d, e, f, g, h, i, j, k, l WHERE fl = l.id AND fl = l.id AND ab = k.id|the tables are not linked by their foreign keys";
 
 /// The sign of an operator.
 fn sign_of(operator: Operator) -> &'static str {
@@ -89,14 +113,13 @@ fn outcome(alloc: Global, schema: &Schema, text: &str) -> Result<String, AllocEr
 
 #[test]
 fn each_text_means_its_query_or_has_its_fault(rt: HostRuntime) -> Result<(), Fail> {
-    let schema = read_schema(SCHEMA.as_bytes())?;
-    for case in CASES.split('\n') {
-        let (text, told) = case.split_once('|').unwrap_or((case, ""));
-        assert_eq!(rt;
-            outcome(rt.alloc(), &schema, text)?.as_str(),
-            told,
-            "{text}"
-        );
+    for (declared, cases) in [(SCHEMA, CASES), (TWELVE, CASES_OF_TWELVE)] {
+        let schema = read_schema(declared.as_bytes())?;
+        for case in cases.split('\n') {
+            let (text, told) = case.split_once('|').unwrap_or((case, ""));
+            let found = outcome(rt.alloc(), &schema, text)?;
+            assert_eq!(rt; found.as_str(), told, "{text}");
+        }
     }
     Ok(())
 }

@@ -9,6 +9,10 @@ use tree_schema::{Cursor, Mark, read_schema};
 const CASES: &str = "CREATE TABLE t (id INT PRIMARY KEY, c CHAR(064), d CHAR(1));|1 tables
 create table B(id int primary key, b int references C(id), c char(07)hidden);\tCREATE TABLE c (ID INT PRIMARY KEY);|2 tables
 CREATE TABLE t (id INT PRIMARY KEY|the text breaks the grammar at byte 34
+CREATE TABLE t (id INTEGER PRIMARY KEY HIDDEN HIDDEN);|the text breaks the grammar at byte 46
+CREATE TABLE select (id INTEGER);|the text breaks the grammar at byte 13
+CREATE TABLE t (a INT REFERENCES u(ide));|the text breaks the grammar at byte 35
+CREATE TABLE t (id INTEGER PRIMARY KEY, c CHAR|the text breaks the grammar at byte 46
 CREATE TABLE t (id INT, c CHAR(0));|the text is beyond the limits of a schema
 CREATE TABLE t (c INT); CREATE TABLE T (id INT PRIMARY KEY, C INT, c INT);|column 0 of table 1 repeats a name
 CREATE TABLE t (id INT PRIMARY KEY, c INT REFERENCES u); CREATE TABLE v (id INT);|table 1 does not begin with its one identifier
