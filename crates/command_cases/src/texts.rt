@@ -85,22 +85,24 @@ pub fn put(page: &mut Vec<u8>, text: &str) -> Result<(), AllocError> {
     page.extend_from_slice(text.as_bytes())
 }
 
-/// Adds bytes in hexadecimal.
-pub fn put_hex(page: &mut Vec<u8>, bytes: &[u8]) -> Result<(), AllocError> {
-    for byte in bytes {
-        page.push(hex_digit(*byte >> 4, b'a'))?;
-        page.push(hex_digit(*byte & 15, b'a'))?;
-    }
+/// The digits of what is sent and taken, and those of escapes.
+const LOWER: &[u8; 16] = b"0123456789abcdef";
+
+const UPPER: &[u8; 16] = b"0123456789ABCDEF";
+
+/// Adds a byte in hexadecimal.
+fn put_digits(page: &mut Vec<u8>, digits: &[u8; 16], byte: u8) -> Result<(), AllocError> {
+    page.push(digits[(byte >> 4) as usize])?;
+    page.push(digits[(byte & 15) as usize])?;
     Ok(())
 }
 
-/// The digit of a value, with this letter for ten.
-fn hex_digit(value: u8, ten: u8) -> u8 {
-    if value < 10 {
-        b'0'.saturating_add(value)
-    } else {
-        ten.saturating_add(value - 10)
+/// Adds bytes in hexadecimal.
+pub fn put_hex(page: &mut Vec<u8>, bytes: &[u8]) -> Result<(), AllocError> {
+    for byte in bytes {
+        put_digits(page, LOWER, *byte)?;
     }
+    Ok(())
 }
 
 /// Adds a byte with escapes.
@@ -111,8 +113,7 @@ fn put_escaped(page: &mut Vec<u8>, byte: u8) -> Result<(), AllocError> {
         0x20..=0x7E => page.push(byte)?,
         _ => {
             put(page, "\\x")?;
-            page.push(hex_digit(byte >> 4, b'A'))?;
-            page.push(hex_digit(byte & 15, b'A'))?;
+            put_digits(page, UPPER, byte)?;
         }
     }
     Ok(())
