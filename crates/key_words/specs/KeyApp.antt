@@ -1,8 +1,10 @@
 -- The program as `clap` knows it: a command is required, each of its options has one value, and there is no help and no
 -- version.
-use Rattle.std.specs.Prelude.{true, Some, codes}
-use Rattle.clap.specs.Words.{App, Rule, Text, new_app, new_rule, with_rule, with_subcommand}
+use Rattle.std.specs.Prelude.{◌≡◌, true, false, Some, Result, IfOk, codes}
+use Rattle.clap.specs.Words.{App, Rule, Text, app_of, new_app, new_rule, with_rule, with_subcommand}
 use Rattle.clap.specs.Simple.{on_top}
+use Rattle.clap.specs.declared.builder.command.Command.{Command}
+use Rattle.clap.specs.declared.builder.command.Command.TheViews.{out-Command}
 
 -- an option that is to be given, and one that may be left out
 abbrev pub needed : Text → Rule
@@ -43,3 +45,7 @@ app_alone = with_subcommand (with_subcommand (with_subcommand bare_app local_app
 
 abbrev pub key_app : App
 key_app = with_subcommand app_alone query_app.top
+
+-- where a command was made, it is this one, and none of its options is global
+abbrev pub IsMade : {E : Type 0} → App → Result Command E → Type 0
+IsMade app made = IfOk made (λ command. (app_of command ≡ app) × ((out-Command command).has_globals ≡ false))

@@ -1,7 +1,7 @@
-//! The program as `clap` knows it.
+//! The program as `clap` knows it. A step takes what was made before it, and gives an error on as it is.
 
 ghost use Rattle.std.specs.Prelude.{◌≡◌, false, IfOk};
-ghost use Rattle.clap.specs.Words.{app_of, new_app, with_rule};
+ghost use Rattle.clap.specs.Words.{App, app_of, new_app, with_rule, with_subcommand};
 ghost use Rattle.clap.specs.declared.builder.command.Command.TheViews.{out-Command};
 ghost use Rattle.key_words.specs.KeyApp as app;
 
@@ -11,80 +11,71 @@ use std::alloc::{AllocError, Global};
 /// Adds an option that is to be given.
 fn with_needed<'a>(
     alloc: Global,
-    command: Command<'a>,
+    command: Result<Command<'a>, AllocError>,
     name: &'a str,
 ) -> Result<Command<'a>, AllocError>
-    ensures app { IfOk result (λ c. app_of c ≡ with_rule (app_of command.entry) (app.needed name.entry.now)) }
-    ensures global { (out-Command command.entry).has_globals ≡ false → IfOk result (λ c. (out-Command c).has_globals ≡ false) }
+    ensures made { (before : App) → app.IsMade before command.entry → app.IsMade (with_rule before (app.needed name.entry.now)) result }
 {
-    command.arg(Arg::new(alloc, name).long(name).required(true))
+    command?.arg(Arg::new(alloc, name).long(name).required(true))
 }
 
 /// Adds an option that may be left out.
 fn with_optional<'a>(
     alloc: Global,
-    command: Command<'a>,
+    command: Result<Command<'a>, AllocError>,
     name: &'a str,
 ) -> Result<Command<'a>, AllocError>
-    ensures app { IfOk result (λ c. app_of c ≡ with_rule (app_of command.entry) (app.optional name.entry.now)) }
-    ensures global { (out-Command command.entry).has_globals ≡ false → IfOk result (λ c. (out-Command c).has_globals ≡ false) }
+    ensures made { (before : App) → app.IsMade before command.entry → app.IsMade (with_rule before (app.optional name.entry.now)) result }
 {
-    command.arg(Arg::new(alloc, name).long(name))
+    command?.arg(Arg::new(alloc, name).long(name))
 }
 
 /// A command that reads a schema and the files of its tables.
 fn reading_inputs<'a>(alloc: Global, name: &'a str) -> Result<Command<'a>, AllocError>
-    ensures app { IfOk result (λ c. app_of c ≡ app.with_inputs (new_app name.entry.now)) }
-    ensures global { IfOk result (λ c. (out-Command c).has_globals ≡ false) }
+    ensures made { app.IsMade (app.with_inputs (new_app name.entry.now)) result }
 {
-    let command = Command::new(alloc, name);
-    let command = with_needed(alloc, command, "schema")?;
+    let command = with_needed(alloc, Ok(Command::new(alloc, name)), "schema");
     with_needed(alloc, command, "data")
 }
 
 /// The command `plain`.
 fn plain_command<'a>(alloc: Global) -> Result<Command<'a>, AllocError>
-    ensures app { IfOk result (λ c. app_of c ≡ app.plain_app) }
-    ensures global { IfOk result (λ c. (out-Command c).has_globals ≡ false) }
+    ensures made { app.IsMade app.plain_app result }
 {
-    let command = reading_inputs(alloc, "plain")?;
+    let command = reading_inputs(alloc, "plain");
     with_needed(alloc, command, "script")
 }
 
 /// The command `local`.
 fn local_command<'a>(alloc: Global) -> Result<Command<'a>, AllocError>
-    ensures app { IfOk result (λ c. app_of c ≡ app.local_app) }
-    ensures global { IfOk result (λ c. (out-Command c).has_globals ≡ false) }
+    ensures made { app.IsMade app.local_app result }
 {
-    let command = reading_inputs(alloc, "local")?;
-    let command = with_needed(alloc, command, "flash")?;
-    let command = with_needed(alloc, command, "script")?;
-    let command = with_optional(alloc, command, "journal")?;
-    let command = with_optional(alloc, command, "plan")?;
+    let command = reading_inputs(alloc, "local");
+    let command = with_needed(alloc, command, "flash");
+    let command = with_needed(alloc, command, "script");
+    let command = with_optional(alloc, command, "journal");
+    let command = with_optional(alloc, command, "plan");
     with_optional(alloc, command, "pace")
 }
 
 /// The command `load`.
 fn load_command<'a>(alloc: Global) -> Result<Command<'a>, AllocError>
-    ensures app { IfOk result (λ c. app_of c ≡ app.load_app) }
-    ensures global { IfOk result (λ c. (out-Command c).has_globals ≡ false) }
+    ensures made { app.IsMade app.load_app result }
 {
-    let command = reading_inputs(alloc, "load")?;
-    let command = with_needed(alloc, command, "flash")?;
-    let command = with_needed(alloc, command, "visible")?;
+    let command = reading_inputs(alloc, "load");
+    let command = with_needed(alloc, command, "flash");
+    let command = with_needed(alloc, command, "visible");
     with_optional(alloc, command, "blocks")
 }
 
 /// The command `query`.
 fn query_command<'a>(alloc: Global) -> Result<Command<'a>, AllocError>
-    ensures app { IfOk result (λ c. app_of c ≡ app.query_app) }
-    ensures global { IfOk result (λ c. (out-Command c).has_globals ≡ false) }
+    ensures made { app.IsMade app.query_app result }
 {
-    let command = Command::new(alloc, "query");
-    let command = with_needed(alloc, command, "flash")?;
-    let command = with_needed(alloc, command, "to")?;
-    let command = with_needed(alloc, command, "script")?;
-    let command = with_optional(alloc, command, "plan")?;
+    let command = with_needed(alloc, Ok(Command::new(alloc, "query")), "flash");
+    let command = with_needed(alloc, command, "to");
+    let command = with_needed(alloc, command, "script");
+    let command = with_optional(alloc, command, "plan");
     with_optional(alloc, command, "pace")
 }
 
@@ -99,18 +90,15 @@ fn bare_program<'a>(alloc: Global) -> Command<'a>
         .subcommand_required(true)
 }
 
-/// The program with the commands of one process.
-fn program_alone<'a>(alloc: Global) -> Result<Command<'a>, AllocError>
-    ensures app { IfOk result (λ c. app_of c ≡ app.app_alone) }
-    ensures global { IfOk result (λ c. (out-Command c).has_globals ≡ false) }
+/// Adds a command.
+fn with_command<'a>(
+    program: Result<Command<'a>, AllocError>,
+    command: Result<Command<'a>, AllocError>,
+) -> Result<Command<'a>, AllocError>
+    ensures made { (above one : App) → app.IsMade above program.entry → app.IsMade one command.entry → app.IsMade (with_subcommand above one.top) result }
 {
-    let local = local_command(alloc)?;
-    let plain = plain_command(alloc)?;
-    let load = load_command(alloc)?;
-    bare_program(alloc)
-        .subcommand(local)?
-        .subcommand(plain)?
-        .subcommand(load)
+    let program = program?;
+    program.subcommand(command?)
 }
 
 /// The program.
@@ -118,7 +106,8 @@ pub fn program<'a>(alloc: Global) -> Result<Command<'a>, AllocError>
     ensures app { IfOk result (λ c. app_of c ≡ app.key_app) }
     ensures global { IfOk result (λ c. (out-Command c).has_globals ≡ false) }
 {
-    let query = query_command(alloc)?;
-    let program = program_alone(alloc)?;
-    program.subcommand(query)
+    let program = with_command(Ok(bare_program(alloc)), local_command(alloc));
+    let program = with_command(program, plain_command(alloc));
+    let program = with_command(program, load_command(alloc));
+    with_command(program, query_command(alloc))
 }

@@ -1,9 +1,10 @@
 //! The reading of the words.
 
-ghost use Rattle.std.specs.Prelude.{◌≡◌, Some, None, Err, IfOk, IfErr, OnErr, map, option_map, string_bytes, codes};
+ghost use Rattle.std.specs.Prelude.{◌≡◌, ◌≢◌, true, false, Some, None, Err, IfOk, IfErr, OnErr, map, option_map, string_bytes, codes};
 ghost use Rattle.clap.specs.Words.{first_of, found_of, rows_of};
 ghost use Rattle.clap.specs.Simple.{subcommand_rows_of};
-ghost use Rattle.key_words.specs.Refusals.{BreaksRule, BreaksRuleIn, HasCause, told_kind};
+ghost use Rattle.clap.specs.Values.{kind_of};
+ghost use Rattle.key_words.specs.Refusals.{BreaksRule, BreaksRuleIn, HasCause, is_told, told_kind};
 ghost use Rattle.key_words.specs.Words.{reading, said};
 ghost use Rattle.key_words.specs.Words as words;
 ghost use Rattle.key_words.specs.Views.{words_view};
@@ -14,8 +15,8 @@ use crate::values::{read_blocks, read_pace, read_plan};
 use crate::words::{
     KeyWords, LoadWords, LocalWords, PlainWords, QueryWords, UsageFault, WordsFault,
 };
-use clap::ArgMatches;
 use clap::error::ErrorKind;
+use clap::{ArgMatches, Error};
 use leakless_plan::Plan;
 use std::alloc::Global;
 
@@ -29,33 +30,40 @@ pub fn read_words<'a>(alloc: Global, words: &'a [String]) -> Result<KeyWords<'a>
         return Err(WordsFault::NoMemory);
     };
     match command.try_get_matches_from(words) {
-        Ok(matches) => match command_of(&matches) {
-            Ok(command) => Ok(command),
-            Err(fault) => Err(WordsFault::Usage(fault)),
-        },
-        Err(error) => {
-            if error.kind() == ErrorKind::OutOfMemory {
-                return Err(WordsFault::NoMemory);
-            }
-            match format!(in alloc; "{error}") {
-                Ok(message) => Err(WordsFault::Usage(refusal(error.kind(), message.as_str()))),
-                Err(_) => Err(WordsFault::NoMemory),
-            }
-        }
+        Ok(matches) => command_of(&matches),
+        Err(error) => Err(told_fault(alloc, &error)),
+    }
+}
+
+/// What an error of `clap` tells of the words.
+fn told_fault(alloc: Global, error: &Error) -> WordsFault
+    ensures memory { (fault : UsageFault) → result ≡ WordsFault.Usage fault → kind_of error.now ≢ ErrorKind.OutOfMemory }
+    ensures told { (fault : UsageFault) → result ≡ WordsFault.Usage fault → is_told (kind_of error.now) ≡ true → told_kind fault ≡ Some (kind_of error.now) }
+    ensures other { (fault : UsageFault) → result ≡ WordsFault.Usage fault → is_told (kind_of error.now) ≡ false → fault ≡ UsageFault.Words }
+{
+    if error.kind() == ErrorKind::OutOfMemory {
+        return WordsFault::NoMemory;
+    }
+    match format!(in alloc; "{error}") {
+        Ok(message) => WordsFault::Usage(refusal(error.kind(), message.as_str())),
+        Err(_) => WordsFault::NoMemory,
     }
 }
 
 /// The command that was read.
-fn command_of<'a>(matches: &ArgMatches<'a>) -> Result<KeyWords<'a>, UsageFault>
+fn command_of<'a>(matches: &ArgMatches<'a>) -> Result<KeyWords<'a>, WordsFault>
     ensures read { IfOk result (λ command. said (subcommand_rows_of matches.now) ≡ Some (words_view command)) }
-    ensures usage { (fault : UsageFault) → result ≡ Err fault → said (subcommand_rows_of matches.now) ≡ None }
-    ensures rule { (fault : UsageFault) → result ≡ Err fault → BreaksRuleIn (subcommand_rows_of matches.now) fault }
-    ensures value { (fault : UsageFault) → result ≡ Err fault → told_kind fault ≡ None }
+    ensures usage { (fault : UsageFault) → result ≡ Err (WordsFault.Usage fault) → said (subcommand_rows_of matches.now) ≡ None }
+    ensures rule { (fault : UsageFault) → result ≡ Err (WordsFault.Usage fault) → BreaksRuleIn (subcommand_rows_of matches.now) fault }
+    ensures value { (fault : UsageFault) → result ≡ Err (WordsFault.Usage fault) → told_kind fault ≡ None }
 {
     let Some((name, options)) = matches.subcommand() else {
-        return Err(UsageFault::Words);
+        return Err(WordsFault::Usage(UsageFault::Words));
     };
-    named_command(name, options)
+    match named_command(name, options) {
+        Ok(command) => Ok(command),
+        Err(fault) => Err(WordsFault::Usage(fault)),
+    }
 }
 
 /// The command with a name.
