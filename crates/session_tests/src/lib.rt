@@ -17,4 +17,6 @@ mod printed_lines;
 #[cfg(test)]
 mod texts_asked;
 #[cfg(test)]
+mod told_limits;
+#[cfg(test)]
 mod whole_sessions;
