@@ -3,6 +3,7 @@
 use crate::bench::Bench;
 use crate::moves::{put_count, put_moves};
 use crate::pages::put_pages;
+use crate::rows::{put_brief, rows_of};
 use crate::texts::{bytes_of, number_of, put, put_lines, put_raw};
 use crate::words::{Directive, directive_of, first_of};
 use std::alloc::{AllocError, Global};
@@ -75,11 +76,9 @@ impl Cases {
                 self.bench.again()?;
                 Ok(true)
             }
-            Directive::Do => self.call(rest, true),
-            Directive::DoQuiet => self.call(rest, false),
-            Directive::File | Directive::Bytes | Directive::Repeat => {
-                self.put_file(directive, rest)
-            }
+            Directive::Do | Directive::DoQuiet | Directive::DoBrief => self.call(directive, rest),
+            Directive::File | Directive::Bytes => self.put_file(directive, rest),
+            Directive::Repeat | Directive::Rows => self.add_rows(directive, rest),
             Directive::Blocks | Directive::Page | Directive::Fail => {
                 self.arrange(directive, rest)
             }
@@ -102,7 +101,7 @@ impl Cases {
         self.bench.add(&self.file, 1, line.as_bytes())
     }
 
-    /// Puts a file.
+    /// Puts a file: with no bytes yet, or with these.
     fn put_file(&mut self, directive: Directive, rest: &str) -> Result<bool, AllocError> {
         let (name, text) = first_of(rest);
         match directive {
@@ -110,14 +109,27 @@ impl Cases {
                 self.file = String::from_str(self.alloc, name)?;
                 Ok(self.bench.depot.put(name, b""))
             }
-            Directive::Bytes => {
+            _ => {
                 let bytes = bytes_of(self.alloc, text)?;
                 Ok(self.bench.depot.put(name, &bytes))
             }
-            _ => {
-                let (times, text) = first_of(text);
+        }
+    }
+
+    /// Adds to a file: a text so many times, or a row for each number from one to another.
+    fn add_rows(&mut self, directive: Directive, rest: &str) -> Result<bool, AllocError> {
+        let (name, rest) = first_of(rest);
+        let (number, text) = first_of(rest);
+        let number = number_of(number);
+        match directive {
+            Directive::Repeat => {
                 let bytes = bytes_of(self.alloc, text)?;
-                self.bench.add(name, number_of(times), &bytes)
+                self.bench.add(name, number, &bytes)
+            }
+            _ => {
+                let (last, text) = first_of(text);
+                let rows = rows_of(self.alloc, (number, number_of(last)), text)?;
+                self.bench.add(name, 1, &rows)
             }
         }
     }
@@ -146,14 +158,16 @@ impl Cases {
     }
 
     /// Makes a call, and tells what came of it.
-    fn call(&mut self, line: &str, is_loud: bool) -> Result<bool, AllocError> {
+    fn call(&mut self, directive: Directive, line: &str) -> Result<bool, AllocError> {
         let Some(came) = self.bench.call(line)? else {
             return Ok(false);
         };
         put(&mut self.page, "$ ")?;
         self.put_line(line)?;
-        if is_loud {
-            put_raw(&mut self.page, self.bench.out.bytes())?;
+        match directive {
+            Directive::Do => put_raw(&mut self.page, self.bench.out.bytes())?,
+            Directive::DoBrief => put_brief(self.alloc, &mut self.page, self.bench.out.bytes())?,
+            _ => {}
         }
         let code = came.code;
         put(&mut self.page, &format!(in self.alloc; "status {code}\n")?)?;

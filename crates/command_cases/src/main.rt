@@ -12,6 +12,7 @@
 //! | `file NAME` | the file of the lines below that begin with a bar, without it |
 //! | `bytes NAME TEXT` | the file of these bytes |
 //! | `repeat NAME N TEXT` | puts a text so many times behind what a file has |
+//! | `rows NAME FIRST LAST TEXT` | puts a line for each of these numbers behind what a file has; in it `{}` stands for the number, and `{A%M+B}` for the remainder of the number and A by M, and B more |
 //! | `blocks N` | a blank flash with room for so many blocks |
 //! | `page N TEXT` | a page of these bytes, and then bytes 0xFF; a flash that was not made is made with all its room |
 //! | `fail OBJECT N N ..` | counts the calls of the depot, flash, link or out anew, and lets these fail, from 1 |
@@ -21,6 +22,7 @@
 //! | `again` | begins anew, but leaves files and flash |
 //! | `do WORDS` | makes the call of `key` or `host`; prints the words, what was printed, the exit code, and what is told of it |
 //! | `do-quiet WORDS` | the same, but leaves out what was printed |
+//! | `do-brief WORDS` | the same, but leaves out the middle of each long run of rows |
 //! | `calls` | prints how many calls of each object were made, and how many reads of the flash were deep |
 //! | `show NAME`, `size NAME` | prints a file, or how many bytes it has |
 //! | `pages` | prints how many pages the flash has, and those that are not blank, up to their last byte that is not 0xFF |
@@ -34,6 +36,7 @@ mod cases;
 mod groups;
 mod moves;
 mod pages;
+mod rows;
 mod texts;
 mod words;
 

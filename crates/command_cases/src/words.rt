@@ -8,6 +8,7 @@ pub enum Directive {
     File,
     Bytes,
     Repeat,
+    Rows,
     Blocks,
     Page,
     Pages,
@@ -18,6 +19,7 @@ pub enum Directive {
     Again,
     Do,
     DoQuiet,
+    DoBrief,
     Calls,
     Show,
     Size,
@@ -25,12 +27,13 @@ pub enum Directive {
     MovesCount,
 }
 
-const DIRECTIVES: [(&str, Directive); 20] = [
+const DIRECTIVES: [(&str, Directive); 22] = [
     ("#", Directive::Heading),
     ("case", Directive::Case),
     ("file", Directive::File),
     ("bytes", Directive::Bytes),
     ("repeat", Directive::Repeat),
+    ("rows", Directive::Rows),
     ("blocks", Directive::Blocks),
     ("page", Directive::Page),
     ("pages", Directive::Pages),
@@ -41,6 +44,7 @@ const DIRECTIVES: [(&str, Directive); 20] = [
     ("again", Directive::Again),
     ("do", Directive::Do),
     ("do-quiet", Directive::DoQuiet),
+    ("do-brief", Directive::DoBrief),
     ("calls", Directive::Calls),
     ("show", Directive::Show),
     ("size", Directive::Size),
