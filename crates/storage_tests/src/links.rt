@@ -14,6 +14,9 @@ const PEER: PeerScript = PeerScript {
     ports: &[7_000],
 };
 
+/// The bytes of all moves: two addresses, what is sent, and what is taken.
+const MOVED: &[u8; 22] = b"herethereabc0123456789";
+
 #[test]
 fn a_link_in_memory_tells_its_moves_within_its_room(rt: HostRuntime) -> Result<(), AllocError> {
     for (moves, bytes, told) in [(8usize, 22usize, true), (7, 22, false), (8, 21, false)] {
@@ -24,13 +27,10 @@ fn a_link_in_memory_tells_its_moves_within_its_room(rt: HostRuntime) -> Result<(
         let count = fill(&mut link, &mut buf).unwrap_or(0);
         assert!(rt; heard && sent && (count == 10) == told);
         let kept = match link.journal() {
-            None => 0,
-            Some(journal) if journal.bytes == b"herethereabc0123456789".as_slice() => journal
-                .moves
-                .len(),
-            Some(_) => 99,
+            Some(journal) => journal.moves.len() == 8 && journal.bytes == MOVED.as_slice(),
+            None => false,
         };
-        assert!(rt; kept == if told { 8 } else { 0 });
+        assert!(rt; kept == told);
         assert!(rt; !told || &buf == b"0123456789??");
     }
     Ok(())

@@ -143,7 +143,9 @@ fn the_files_and_areas_of_the_clinic_lie_where_they_should(
         return Ok(());
     };
     assert!(rt; lie_so(rt.alloc(), &files_of(&cat), CLINIC_FILES)?);
-    for (at, (first, _count, width)) in areas_of(&cat).iter().enumerate() {
+    let areas = areas_of(&cat);
+    assert!(rt; areas.len() == 12);
+    for (at, (first, _count, width)) in areas.iter().enumerate() {
         let wide = if at < 6 { 12 } else { 4 };
         assert!(rt;
             *first == 128 + 64 * at as u32 && *width == wide,
