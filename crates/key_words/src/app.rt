@@ -16,7 +16,10 @@ fn with_needed<'a>(
 ) -> Result<Command<'a>, AllocError>
     ensures made { (before : App) → app.IsMade before command.entry → app.IsMade (with_rule before (app.needed name.entry.now)) result }
 {
-    command?.arg(Arg::new(alloc, name).long(name).required(true))
+    let Ok(command) = command else {
+        return Err(AllocError);
+    };
+    command.arg(Arg::new(alloc, name).long(name).required(true))
 }
 
 /// Adds an option that may be left out.
@@ -27,7 +30,10 @@ fn with_optional<'a>(
 ) -> Result<Command<'a>, AllocError>
     ensures made { (before : App) → app.IsMade before command.entry → app.IsMade (with_rule before (app.optional name.entry.now)) result }
 {
-    command?.arg(Arg::new(alloc, name).long(name))
+    let Ok(command) = command else {
+        return Err(AllocError);
+    };
+    command.arg(Arg::new(alloc, name).long(name))
 }
 
 /// A command that reads a schema and the files of its tables.
@@ -97,8 +103,10 @@ fn with_command<'a>(
 ) -> Result<Command<'a>, AllocError>
     ensures made { (above one : App) → app.IsMade above program.entry → app.IsMade one command.entry → app.IsMade (with_subcommand above one.top) result }
 {
-    let program = program?;
-    program.subcommand(command?)
+    let (Ok(program), Ok(command)) = (program, command) else {
+        return Err(AllocError);
+    };
+    program.subcommand(command)
 }
 
 /// The program.
