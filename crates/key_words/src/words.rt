@@ -6,7 +6,7 @@ ghost use Rattle.key_words.specs.Blocks.{IsFew};
 
 use crate::shown::ShownWord;
 use leakless_plan::Plan;
-use std::fmt::{Display, Error as FormatError, Formatter, Write};
+use thiserror::Error;
 
 /// The words of `plain`.
 #[derive(Clone, Copy)]
@@ -104,97 +104,61 @@ pub enum KeyWords<'a> {
 }
 
 /// What is wrong with the words.
-#[derive(Clone, Copy, Debug, Drop, PartialEq, Eq)]
+#[derive(Clone, Copy, Debug, Drop, Error, PartialEq, Eq)]
 pub enum UsageFault {
     /// They are not those of a command.
+    #[error("these are not the words of a command")]
     Words,
 
     /// There is no command.
+    #[error("no command is given")]
     NoCommand,
 
     /// This word stands where a command is to stand.
+    #[error("{0} is no command")]
     NotACommand(ShownWord),
 
     /// This word is no option of the command, nor the value of one.
+    #[error("{0} is no option here")]
     NotAnOption(ShownWord),
 
     /// The command needs this option.
+    #[error("{0} is missing")]
     Missing(ShownWord),
 
     /// This option stands more than once.
+    #[error("{0} is given twice")]
     Twice(ShownWord),
 
     /// This option has no value.
+    #[error("{0} has no value")]
     NoValue(ShownWord),
 
     /// A word is not UTF-8.
+    #[error("a word is not UTF-8")]
     NotUtf8,
 
     /// `--plan` has a value that it does not take.
+    #[error("--plan takes scan alone")]
     Plan,
 
     /// `--pace` has a value that it does not take.
+    #[error("--pace takes 0 alone")]
     Pace,
 
     /// `--blocks` has a value that it does not take.
+    #[error("--blocks takes a number from 1 to 60000000, of at most 9 digits")]
     Blocks,
 }
 
-impl UsageFault {
-    /// What is said of it, after the word that it is about.
-    fn text(&self) -> &'static str {
-        match self {
-            UsageFault::Words => "these are not the words of a command",
-            UsageFault::NoCommand => "no command is given",
-            UsageFault::NotACommand(_) => " is no command",
-            UsageFault::NotAnOption(_) => " is no option here",
-            UsageFault::Missing(_) => " is missing",
-            UsageFault::Twice(_) => " is given twice",
-            UsageFault::NoValue(_) => " has no value",
-            UsageFault::NotUtf8 => "a word is not UTF-8",
-            UsageFault::Plan => "--plan takes scan alone",
-            UsageFault::Pace => "--pace takes 0 alone",
-            UsageFault::Blocks => "--blocks takes a number from 1 to 60000000, of at most 9 digits",
-        }
-    }
-
-    /// The word that it is about.
-    fn word(&self) -> Option<ShownWord> {
-        match self {
-            UsageFault::NotACommand(word)
-            | UsageFault::NotAnOption(word)
-            | UsageFault::Missing(word)
-            | UsageFault::Twice(word)
-            | UsageFault::NoValue(word) => Some(*word),
-            _ => None,
-        }
-    }
-}
-
-impl Display for UsageFault {
-    fn fmt<W: Write>(&self, f: &mut Formatter<W>) -> Result<(), FormatError> {
-        if let Some(word) = self.word() {
-            word.fmt(f)?;
-        }
-        f.write_str(self.text())
-    }
-}
-
 /// Why no command was read.
-#[derive(Clone, Copy, Drop)]
+#[derive(Clone, Copy, Debug, Drop, Error, PartialEq, Eq)]
 pub enum WordsFault {
     /// There was no memory.
+    #[error("out of memory")]
     NoMemory,
 
     /// The words are refused.
+    #[error("{0}")]
     Usage(UsageFault),
-}
-
-impl Display for WordsFault {
-    fn fmt<W: Write>(&self, f: &mut Formatter<W>) -> Result<(), FormatError> {
-        match self {
-            WordsFault::NoMemory => f.write_str("out of memory"),
-            WordsFault::Usage(fault) => fault.fmt(f),
-        }
-    }
 }
