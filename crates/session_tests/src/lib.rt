@@ -11,12 +11,12 @@ mod key_answers;
 #[cfg(test)]
 mod large_tables;
 #[cfg(test)]
+mod lines_told;
+#[cfg(test)]
 mod plain_answers;
 #[cfg(test)]
 mod printed_lines;
 #[cfg(test)]
 mod texts_asked;
-#[cfg(test)]
-mod told_limits;
 #[cfg(test)]
 mod whole_sessions;
