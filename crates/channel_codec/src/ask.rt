@@ -17,7 +17,7 @@ use tree_schema::Schema;
 use tree_schema::schema::schemas_are_trees;
 
 /// A condition of an ask: a column of its table, an operator and a literal.
-#[derive(Clone, Copy, Debug, Default, PartialEq, Eq)]
+#[derive(Clone, Copy, Default)]
 pub struct Test {
     /// The column, by its place in the table.
     pub column: u8,
@@ -31,7 +31,7 @@ pub struct Test {
 
 /// An ask. It is sent where it is proper (`is_proper`): its columns are visible and ascend, and each condition compares
 /// a visible column with a value of the column's kind.
-#[derive(Debug, Default, Drop)]
+#[derive(Drop)]
 pub struct Ask {
     /// The table, by its place in the schema.
     pub table: u8,

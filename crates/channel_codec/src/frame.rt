@@ -18,7 +18,7 @@ pub const VERSION: u8 = 1;
 
 /// A frame of the channel. `Hello` to `Bye` are the key's, `Welcome` to `Sorry` the host's; payloads stand as they are
 /// sent.
-#[derive(Clone, Copy, Debug, PartialEq, Eq)]
+#[derive(Clone, Copy)]
 pub enum Frame<'a> {
     /// The key's greeting, with the generation of its catalog.
     Hello { generation: u32 },

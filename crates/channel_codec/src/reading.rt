@@ -8,7 +8,7 @@ ghost use Rattle.channel_codec.specs.Views.{frame_view, got_view};
 use crate::frame::{Frame, HEADER_BYTES, PAYLOAD_BYTES, VERSION};
 
 /// A frame, or why there is none.
-#[derive(Clone, Copy, Debug, PartialEq, Eq)]
+#[derive(Clone, Copy)]
 pub enum Got<'a> {
     /// The frame at the front of the bytes.
     Frame(Frame<'a>),

@@ -31,7 +31,7 @@ pub enum Phase {
 }
 
 /// Why a session ends.
-#[derive(Clone, Copy, Debug, PartialEq, Eq)]
+#[derive(Clone, Copy)]
 pub enum Cause {
     /// Every ask was ended, and BYE was sent.
     Finished,
@@ -57,7 +57,7 @@ pub enum Stage {
 }
 
 /// What the key does next.
-#[derive(Clone, Copy, Debug, PartialEq, Eq)]
+#[derive(Clone, Copy)]
 pub enum Want {
     /// It dials the host's address.
     Dial,
@@ -72,7 +72,7 @@ pub enum Want {
 }
 
 /// What a piece of the stream led to.
-#[derive(Clone, Copy, Debug, PartialEq, Eq)]
+#[derive(Clone, Copy)]
 pub enum Event {
     /// The frame at hand is not whole.
     Part,
@@ -89,7 +89,7 @@ pub enum Event {
 }
 
 /// In what state the replies to a text's asks are.
-#[derive(Clone, Copy, Debug, PartialEq, Eq)]
+#[derive(Clone, Copy)]
 pub enum ReplyState {
     /// Each was ended by DONE.
     Done,

@@ -5,7 +5,7 @@ use thiserror::Error;
 
 /// Where a rule is broken: a table, a record of its file and a column, each by its place. Records are counted from 1;
 /// the record is 0 where the whole file is meant, and the column where no one column is.
-#[derive(Clone, Copy, Debug, Drop, PartialEq, Eq)]
+#[derive(Clone, Copy, Debug, Drop)]
 pub struct Place {
     /// The table, from 0.
     pub table: u8,
@@ -28,7 +28,7 @@ impl Display for Place {
 }
 
 /// Why files make no tables: want of memory, or the first rule that is broken and where.
-#[derive(Clone, Copy, Debug, Drop, Error, PartialEq, Eq)]
+#[derive(Clone, Copy, Debug, Drop, Error)]
 pub enum LoadFault {
     /// There is not enough memory.
     #[error("out of memory")]

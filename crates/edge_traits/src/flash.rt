@@ -15,7 +15,7 @@ pub const BLOCK_PAGES: u32 = 64;
 pub const PAGE_BYTES: usize = 2048;
 
 /// Why a device was not made or attached.
-#[derive(Clone, Copy, Debug, PartialEq, Eq)]
+#[derive(Clone, Copy, Debug)]
 pub enum AttachFault {
     /// The device failed, and counted it as a fault.
     Failed,

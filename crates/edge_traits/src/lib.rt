@@ -26,5 +26,5 @@ pub mod told;
 pub mod writing;
 
 /// A call on the outside failed, and the object counted it as a fault.
-#[derive(Clone, Copy, Debug, PartialEq, Eq)]
+#[derive(Clone, Copy)]
 pub struct Failed;

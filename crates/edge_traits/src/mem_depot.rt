@@ -13,7 +13,7 @@ use crate::slots::Slots;
 use std::alloc::{AllocError, Global};
 
 /// The room of a depot in memory.
-#[derive(Clone, Copy, Debug)]
+#[derive(Clone, Copy)]
 pub struct Room {
     /// How many files there may be.
     pub files: usize,

@@ -16,7 +16,7 @@ use crate::told::{Told, ToldJournal, ToldMoves};
 use std::alloc::{AllocError, Global};
 
 /// The room of a link in memory.
-#[derive(Clone, Copy, Debug)]
+#[derive(Clone, Copy)]
 pub struct Room {
     /// How many moves there may be.
     pub moves: usize,

@@ -5,7 +5,7 @@ ghost use Rattle.std.specs.Prelude.{◌≤◌, vec_len};
 use std::alloc::{AllocError, Global};
 
 /// What the other end of a link in memory does.
-#[derive(Clone, Copy, Debug, PartialEq, Eq)]
+#[derive(Clone, Copy)]
 pub struct PeerScript<'a> {
     /// The bytes that it sends. After them the stream ends.
     pub bytes: &'a [u8],

@@ -10,7 +10,7 @@ use crate::depot::Depot;
 use std::alloc::{AllocError, Global};
 
 /// Why a file was not read.
-#[derive(Clone, Copy, Debug, PartialEq, Eq)]
+#[derive(Clone, Copy)]
 pub enum ReadFault {
     /// The depot failed, which its count of faults shows.
     Depot,

@@ -7,7 +7,7 @@ use crate::{Failed, room};
 use std::alloc::{AllocError, Global};
 
 /// A move with its answer. Its bytes are kept elsewhere, and only their number stands here.
-#[derive(Clone, Copy, Debug, PartialEq, Eq)]
+#[derive(Clone, Copy)]
 pub enum Told {
     /// A call of the other end, at an address.
     Dial {
@@ -47,7 +47,7 @@ pub enum Told {
 }
 
 /// All moves of a link, the oldest first.
-#[derive(Clone, Copy, Debug, PartialEq, Eq)]
+#[derive(Clone, Copy)]
 pub struct ToldJournal<'a> {
     /// The moves with their answers.
     pub moves: &'a [Told],

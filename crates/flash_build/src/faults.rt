@@ -3,7 +3,7 @@
 use thiserror::Error;
 
 /// Why the hidden part does not stand on the flash.
-#[derive(Clone, Copy, Debug, Drop, Error, PartialEq, Eq)]
+#[derive(Clone, Copy, Debug, Drop, Error)]
 pub enum BuildFault {
     /// There was no memory.
     #[error("out of memory")]

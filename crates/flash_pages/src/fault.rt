@@ -6,7 +6,7 @@ ghost use Rattle.flash_pages.specs.declared.fault.PageFault.TheVariants.{Flash a
 use edge_traits::Failed;
 
 /// Why a call on pages gave no answer.
-#[derive(Clone, Copy, Debug, PartialEq, Eq)]
+#[derive(Clone, Copy)]
 pub enum PageFault {
     /// The flash failed, which its count of faults shows.
     Flash,

@@ -10,7 +10,7 @@ use edge_traits::Failed;
 use edge_traits::flash::Flash;
 
 /// The number of the page that stands in a buffer, where one does.
-#[derive(Clone, Copy, Debug, PartialEq, Eq)]
+#[derive(Clone, Copy)]
 pub struct Held {
     pub page: Option<u32>,
 }

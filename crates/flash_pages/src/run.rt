@@ -6,7 +6,7 @@ ghost use Rattle.edge_traits.specs.Devices.{Device};
 ghost use Rattle.flash_pages.specs.Runs.{run_of};
 
 /// Records of one width, one after another from a page on: as many in each page as whole ones fit.
-#[derive(Clone, Copy, Debug, PartialEq, Eq)]
+#[derive(Clone, Copy)]
 pub struct Run {
     /// The number of the first page.
     pub first: u32,
@@ -17,7 +17,7 @@ pub struct Run {
 }
 
 /// A part of a run: so many of its records from one on, counted from 0.
-#[derive(Clone, Copy, Debug, PartialEq, Eq)]
+#[derive(Clone, Copy)]
 pub struct ListRef {
     /// The run.
     pub run: Run,

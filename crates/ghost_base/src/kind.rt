@@ -1,7 +1,7 @@
 //! The kinds of columns.
 
 /// What a column holds.
-#[derive(Clone, Copy, Debug, PartialEq, Eq)]
+#[derive(Clone, Copy)]
 pub enum Kind {
     /// 64-bit signed integers.
     Integer,

@@ -8,7 +8,7 @@ use crate::value::{Value, compare};
 use std::cmp::Ordering;
 
 /// An operator of a condition.
-#[derive(Clone, Copy, Debug, Default, PartialEq, Eq)]
+#[derive(Clone, Copy, Default)]
 pub enum Operator {
     /// `=`.
     #[default]

@@ -11,7 +11,7 @@ use std::cmp::Ordering;
 ///
 /// Integers are ordered as numbers and texts by their bytes, a prefix before the longer text. An integer comes before
 /// a text, though no column holds both.
-#[derive(Clone, Copy, Debug, PartialEq, Eq, PartialOrd, Ord)]
+#[derive(Clone, Copy, PartialEq, Eq, PartialOrd, Ord)]
 pub enum Value {
     /// A 64-bit signed integer.
     Int(i64),

@@ -10,7 +10,7 @@ use clap::error::ErrorKind;
 use std::alloc::Global;
 
 /// What the words of the program say.
-#[derive(Clone, Copy, Debug)]
+#[derive(Clone, Copy)]
 pub struct HostWords<'a> {
     /// The visible file.
     pub visible: &'a str,
@@ -20,7 +20,7 @@ pub struct HostWords<'a> {
 }
 
 /// Why no words were read.
-#[derive(Clone, Copy, Debug, PartialEq, Eq)]
+#[derive(Clone, Copy)]
 pub enum WordsFault {
     /// There was no memory.
     NoMemory,

@@ -17,7 +17,7 @@ use tree_schema::Schema;
 use tree_schema::schema::schemas_are_trees;
 
 /// Where a cell stands in a row of the file.
-#[derive(Clone, Copy, Debug, Default)]
+#[derive(Clone, Copy, Default)]
 pub struct Span {
     /// How many bytes of the row stand before it.
     pub at: usize,
@@ -27,7 +27,7 @@ pub struct Span {
 }
 
 /// A condition on the bytes of a row.
-#[derive(Clone, Copy, Debug)]
+#[derive(Clone, Copy)]
 pub struct Check {
     /// What holds between the column's cell and the literal's.
     pub operator: Operator,
@@ -54,7 +54,7 @@ impl Default for Check {
 }
 
 /// An ask over the bytes of rows.
-#[derive(Default, Drop)]
+#[derive(Drop)]
 pub struct Form {
     /// How many bytes a row has in the file.
     pub width: usize,

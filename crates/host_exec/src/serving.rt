@@ -25,7 +25,7 @@ use edge_traits::depot::Depot;
 use std::alloc::{AllocError, Global};
 
 /// Why a host was not begun.
-#[derive(Clone, Copy, Debug, PartialEq, Eq)]
+#[derive(Clone, Copy, Debug)]
 pub enum BeginFault {
     /// The depot failed, which its count of faults shows.
     Depot,

@@ -21,7 +21,7 @@ use edge_traits::taking::fill;
 use tree_schema::catalog_len;
 
 /// How a session ended.
-#[derive(Clone, Copy, Debug, PartialEq, Eq)]
+#[derive(Clone, Copy)]
 pub enum Served {
     /// The key said farewell.
     Bye,
@@ -34,7 +34,7 @@ pub enum Served {
 }
 
 /// What came of one frame of the key.
-#[derive(Clone, Copy, Debug, PartialEq, Eq)]
+#[derive(Clone, Copy)]
 pub enum Turn {
     /// It had so many bytes and was answered, perhaps by a refusal.
     Answered { size: usize, refused: bool },

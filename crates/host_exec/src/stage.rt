@@ -1,7 +1,7 @@
 //! Where a host stands in a session.
 
 /// Where a host stands in a session.
-#[derive(Clone, Copy, Debug)]
+#[derive(Clone, Copy)]
 pub enum Stage {
     /// It awaits the key's greeting.
     Greeting,
@@ -18,7 +18,7 @@ pub enum Stage {
 }
 
 /// A frame that was said: its bytes, where the host then stands, and whether it refuses to go on with a reply.
-#[derive(Clone, Copy, Debug)]
+#[derive(Clone, Copy)]
 pub struct Said {
     pub size: usize,
     pub stage: Stage,

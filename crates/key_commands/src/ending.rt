@@ -11,7 +11,7 @@ use key_session::{SessionStatus, Tally};
 use key_words::UsageFault;
 
 /// How a command ended, or why none was begun.
-#[derive(Clone, Copy, Debug, Drop, PartialEq, Eq)]
+#[derive(Clone, Copy, Drop)]
 pub enum Ended {
     /// The words are not those of a command.
     Usage(UsageFault),

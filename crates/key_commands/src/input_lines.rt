@@ -4,7 +4,7 @@ use key_inputs::InputFault;
 use std::alloc::{AllocError, Global};
 
 /// The files that a command reads: the schema's, the folder of the tables', and the script's, empty where there is none.
-#[derive(Clone, Copy, Debug)]
+#[derive(Clone, Copy)]
 pub(crate) struct InputNames<'a> {
     pub(crate) schema: &'a str,
     pub(crate) tables: &'a str,

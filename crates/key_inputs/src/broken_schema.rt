@@ -10,7 +10,7 @@ use thiserror::Error;
 use tree_schema::SchemaFault;
 
 /// A table of a schema's text, by its place and by the name that the text gives it.
-#[derive(Clone, Copy, Debug, Drop, PartialEq, Eq)]
+#[derive(Clone, Copy, Debug, Drop)]
 pub struct TableNamed {
     /// Its place, from 0.
     pub table: usize,
@@ -26,7 +26,7 @@ impl Display for TableNamed {
 }
 
 /// A column of a schema's text, by places and by the names that the text gives.
-#[derive(Clone, Copy, Debug, Drop, PartialEq, Eq)]
+#[derive(Clone, Copy, Debug, Drop)]
 pub struct ColumnNamed {
     /// The place of its table, from 0.
     pub table: usize,
@@ -48,7 +48,7 @@ impl Display for ColumnNamed {
 }
 
 /// The first rule that a schema's text breaks, and where.
-#[derive(Clone, Copy, Debug, Drop, Error, PartialEq, Eq)]
+#[derive(Clone, Copy, Debug, Drop, Error)]
 pub enum BrokenSchema {
     /// The text is not in the grammar, from the token at this offset on.
     #[error("the text breaks the grammar at byte {at}")]

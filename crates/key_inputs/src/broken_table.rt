@@ -10,7 +10,7 @@ use std::fmt::{Display, Error as FormatError, Formatter, Write};
 use thiserror::Error;
 
 /// A record of a table's file, or the whole file.
-#[derive(Clone, Copy, Debug, Drop, PartialEq, Eq)]
+#[derive(Clone, Copy, Debug, Drop)]
 pub struct RecordNamed {
     /// Where it stands, in column 0; record 0 is the whole file.
     pub at: Place,
@@ -26,7 +26,7 @@ impl Display for RecordNamed {
 }
 
 /// A field of a table's file.
-#[derive(Clone, Copy, Debug, Drop, PartialEq, Eq)]
+#[derive(Clone, Copy, Debug, Drop)]
 pub struct FieldNamed {
     /// Where it stands.
     pub at: Place,
@@ -49,7 +49,7 @@ impl Display for FieldNamed {
 }
 
 /// The first rule that the file of a table breaks, and where.
-#[derive(Clone, Copy, Debug, Drop, Error, PartialEq, Eq)]
+#[derive(Clone, Copy, Debug, Drop, Error)]
 pub enum BrokenTable {
     /// The file is too long.
     #[error("{}.csv: the file has more than 67108864 bytes", .0.table)]

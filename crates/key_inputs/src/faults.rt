@@ -5,7 +5,7 @@ use crate::broken_table::BrokenTable;
 use thiserror::Error;
 
 /// A broken rule of an input.
-#[derive(Clone, Copy, Debug, Drop, Error, PartialEq, Eq)]
+#[derive(Clone, Copy, Debug, Drop, Error)]
 pub enum InputFault {
     /// The schema's file is too long.
     #[error("the schema has more than 65536 bytes")]
@@ -29,7 +29,7 @@ pub enum InputFault {
 }
 
 /// Why an input was not read.
-#[derive(Clone, Copy, Debug, Drop, Error, PartialEq, Eq)]
+#[derive(Clone, Copy, Debug, Drop, Error)]
 pub enum OpenFault {
     /// There was no memory.
     #[error("out of memory")]

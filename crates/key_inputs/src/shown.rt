@@ -10,7 +10,7 @@ use std::fmt::{Display, Error as FormatError, Formatter, Write};
 pub const MOST_SHOWN: usize = 64;
 
 /// At most 64 bytes, which lie in the value itself.
-#[derive(Clone, Copy, Debug, Drop, PartialEq, Eq)]
+#[derive(Clone, Copy, Debug, Drop)]
 pub struct Front {
     /// The bytes, and zeros in the places after them.
     pub places: [u8; 64],
@@ -61,7 +61,7 @@ impl Display for Front {
 }
 
 /// A name or a value as a line shows it.
-#[derive(Clone, Copy, Debug, Drop, PartialEq, Eq)]
+#[derive(Clone, Copy, Debug, Drop)]
 pub enum Shown {
     /// All its bytes.
     Whole(Front),

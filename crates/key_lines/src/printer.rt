@@ -15,7 +15,7 @@ use ghost_base::Value;
 use spj_parse::Refusal;
 
 /// Why a text that was accepted has no whole answer.
-#[derive(Clone, Copy, Debug, PartialEq, Eq)]
+#[derive(Clone, Copy)]
 pub enum Fault {
     /// The link failed or ended.
     Link,

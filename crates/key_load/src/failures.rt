@@ -4,7 +4,7 @@ use key_inputs::InputFault;
 use thiserror::Error;
 
 /// Why the command ended before its line was printed.
-#[derive(Clone, Copy, Debug, Drop, Error, PartialEq, Eq)]
+#[derive(Clone, Copy, Debug, Drop, Error)]
 pub enum LoadFailure {
     /// There was no memory for what the files hold.
     #[error("out of memory")]

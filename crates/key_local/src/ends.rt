@@ -4,7 +4,7 @@ use key_inputs::InputFault;
 use thiserror::Error;
 
 /// How a session ended: the first of these that is so, in the order `Sink`, `Depot`, `Flash`, `Damaged`, `Ok`.
-#[derive(Clone, Copy, Debug, Drop, Error, PartialEq, Eq)]
+#[derive(Clone, Copy, Debug, Drop, Error)]
 pub enum LocalEnd {
     /// All lines were printed, and the journal was written where one was to be kept.
     #[error("done")]
@@ -35,7 +35,7 @@ pub enum LocalEnd {
 }
 
 /// Why there was no session: nothing was printed, and no move was made.
-#[derive(Clone, Copy, Debug, Drop, Error, PartialEq, Eq)]
+#[derive(Clone, Copy, Debug, Drop, Error)]
 pub enum LocalFailure {
     /// There was no memory for what the files hold.
     #[error("out of memory")]

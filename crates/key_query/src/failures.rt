@@ -4,7 +4,7 @@ use key_inputs::InputFault;
 use thiserror::Error;
 
 /// Why no session was begun.
-#[derive(Clone, Copy, Debug, Drop, Error, PartialEq, Eq)]
+#[derive(Clone, Copy, Debug, Drop, Error)]
 pub enum QueryFailure {
     /// There was no memory for the script, for what is known of the flash, or for the replies.
     #[error("out of memory")]

@@ -6,7 +6,7 @@ ghost use Rattle.key_session.specs.Counting.{IsCounted, damage_in, first_damage,
 use text_lines::Told;
 
 /// A slot of the flash that has no value which may stand there.
-#[derive(Clone, Copy, Debug, PartialEq, Eq)]
+#[derive(Clone, Copy)]
 pub struct Damage {
     /// The page.
     pub page: u32,

@@ -3,7 +3,7 @@
 use leakless_plan::Plan;
 
 /// Where the host is, and how the key works.
-#[derive(Clone, Copy, Debug)]
+#[derive(Clone, Copy)]
 pub struct Options<'a> {
     /// The address of the host: empty where it stands in the same process.
     pub at: &'a str,

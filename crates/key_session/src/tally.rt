@@ -12,7 +12,7 @@ use channel_pump::state::Cause;
 
 /// How a session ended: the first of these that is so, in the order `Sink`, `Link`, `Protocol`, `Host`, `Flash`, `Damaged`,
 /// `Ok`.
-#[derive(Clone, Copy, Debug, PartialEq, Eq)]
+#[derive(Clone, Copy)]
 pub enum SessionStatus {
     /// All went well.
     Ok,
@@ -39,7 +39,7 @@ pub enum SessionStatus {
 }
 
 /// What a session counts, and how it ended.
-#[derive(Clone, Copy, Debug, PartialEq, Eq)]
+#[derive(Clone, Copy)]
 pub struct Tally {
     /// The texts of the script.
     pub texts: u32,

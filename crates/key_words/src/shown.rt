@@ -7,7 +7,7 @@ use std::fmt::{Display, Error as FormatError, Formatter, Write};
 pub const MAX_SHOWN: usize = 48;
 
 /// The first bytes of a word, which lie in the value itself, with a question mark for each control character.
-#[derive(Clone, Copy, Debug, Drop, PartialEq, Eq)]
+#[derive(Clone, Copy, Debug, Drop)]
 pub struct ShownWord {
     /// The bytes of whole characters, and zeros in the places after them.
     places: [u8; MAX_SHOWN],

@@ -104,7 +104,7 @@ pub enum KeyWords<'a> {
 }
 
 /// What is wrong with the words.
-#[derive(Clone, Copy, Debug, Drop, Error, PartialEq, Eq)]
+#[derive(Clone, Copy, Debug, Drop, Error)]
 pub enum UsageFault {
     /// They are not those of a command.
     #[error("these are not the words of a command")]
@@ -152,7 +152,7 @@ pub enum UsageFault {
 }
 
 /// Why no command was read.
-#[derive(Clone, Copy, Debug, Drop, Error, PartialEq, Eq)]
+#[derive(Clone, Copy, Debug, Drop, Error)]
 pub enum WordsFault {
     /// There was no memory.
     #[error("out of memory")]

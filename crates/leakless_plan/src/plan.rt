@@ -4,7 +4,7 @@ ghost use Rattle.std.specs.Prelude.{◌≡◌};
 ghost use Rattle.leakless_plan.specs.Names as names;
 
 /// How a text is answered.
-#[derive(Clone, Copy, Debug, Drop, PartialEq, Eq)]
+#[derive(Clone, Copy, Drop)]
 pub enum Plan {
     /// Row by row of the top table, each value read where it lies.
     Scan,

@@ -14,7 +14,7 @@ use itoa::Buffer;
 type Line = ArrayVec<u8, 4160>;
 
 /// A move of the key on the channel.
-#[derive(Clone, Copy, Debug, PartialEq, Eq)]
+#[derive(Clone, Copy)]
 pub enum Move<'a> {
     /// The host at this address is dialled.
     Dial(&'a [u8]),
@@ -27,7 +27,7 @@ pub enum Move<'a> {
 }
 
 /// What a move was answered.
-#[derive(Clone, Copy, Debug, PartialEq, Eq)]
+#[derive(Clone, Copy)]
 pub enum Answer<'a> {
     /// It was done.
     Made,

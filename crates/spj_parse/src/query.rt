@@ -13,14 +13,14 @@ use std::marker::Model;
 use tree_schema::Schema;
 
 /// A column of a table, both by their places in the schema.
-#[derive(Clone, Copy, Debug, Default, PartialEq, Eq)]
+#[derive(Clone, Copy, Default)]
 pub struct Field {
     pub table: u8,
     pub column: u8,
 }
 
 /// A column compared with a literal.
-#[derive(Clone, Copy, Debug, Default, PartialEq, Eq)]
+#[derive(Clone, Copy, Default)]
 pub struct Comparison {
     pub field: Field,
     pub operator: Operator,
@@ -28,7 +28,7 @@ pub struct Comparison {
 }
 
 /// A join of a table with its parent: the parent's foreign key, and the table's identifier.
-#[derive(Clone, Copy, Debug, Default, PartialEq, Eq)]
+#[derive(Clone, Copy, Default)]
 pub struct Join {
     pub key: Field,
     pub identifier: Field,

@@ -3,7 +3,7 @@
 use thiserror::Error;
 
 /// Why a text means no query: the first rule that it breaks. Each rule is tested over the whole text before the next.
-#[derive(Clone, Copy, Debug, Drop, Error, PartialEq, Eq)]
+#[derive(Clone, Copy, Debug, Drop, Error)]
 pub enum Refusal {
     /// The text is not in the grammar, from the token at this offset on.
     #[error("the text breaks the grammar at byte {at}")]

@@ -19,7 +19,7 @@ use key_lines::printer::pieces_join;
 use reply_store::ReplyStore;
 
 /// How the rows of a text ended.
-#[derive(Clone, Copy, Debug)]
+#[derive(Clone, Copy)]
 pub enum End {
     /// All were given, so many.
     Whole(u32),

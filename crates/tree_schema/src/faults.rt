@@ -4,7 +4,7 @@ use thiserror::Error;
 
 /// Why a text declares no schema: the first rule that it breaks, and of this rule the first place. Tables and columns are
 /// given by their places. The fault of a table's name has column 0.
-#[derive(Clone, Copy, Debug, Drop, Error, PartialEq, Eq)]
+#[derive(Clone, Copy, Debug, Drop, Error)]
 pub enum SchemaFault {
     /// The text is not in the grammar, from the token at this offset on.
     #[error("the text breaks the grammar at byte {at}")]

@@ -14,7 +14,7 @@ use ghost_base::limits::{MAX_COLUMNS, MAX_NAME, MAX_TABLES};
 use std::marker::Model;
 
 /// A column of a table.
-#[derive(Debug, Default, Drop)]
+#[derive(Default, Drop)]
 pub struct Column {
     /// Its name, in lower case.
     pub name: ArrayVec<u8, MAX_NAME>,
@@ -30,7 +30,7 @@ pub struct Column {
 }
 
 /// A table of a schema.
-#[derive(Debug, Default, Drop)]
+#[derive(Default, Drop)]
 pub struct Table {
     /// Its name, in lower case.
     pub name: ArrayVec<u8, MAX_NAME>,

@@ -10,7 +10,7 @@ use std::marker::Model;
 
 /// The sort of a token. INT is another spelling of INTEGER, and `Reserved` are the reserved words that the grammars do not
 /// use yet.
-#[derive(Clone, Copy, Debug, PartialEq, Eq)]
+#[derive(Clone, Copy, PartialEq, Eq)]
 pub enum Mark {
     And,
     Between,
