@@ -144,7 +144,12 @@ fn first_without_id(tables: &[TableDraft]) -> Option<usize>
 fn has_table(tables: &[TableDraft], name: &[u8]) -> bool
     ensures has { result ≡ list_any (λ table. bytes_eq (tokens.in_lower_case name.now) (tokens.in_lower_case table.name.now)) tables.now }
 {
-    tables.iter().any(|table| is_word(name, table.name))
+    for table in tables {
+        if is_word(name, table.name) {
+            return true;
+        }
+    }
+    false
 }
 
 /// Whether an earlier table has the name of the table at a place.
