@@ -46,7 +46,12 @@ fn is_column_over(column: &ColumnDraft) -> bool
 fn is_one_over(columns: &[ColumnDraft]) -> bool
     ensures over { result ≡ list_any (λ column. faults.is_column_over (column_of column)) columns.now }
 {
-    columns.iter().any(|column| is_column_over(column))
+    for column in columns {
+        if is_column_over(column) {
+            return true;
+        }
+    }
+    false
 }
 
 /// Whether a table is beyond the limits.
@@ -139,7 +144,12 @@ fn first_without_id(tables: &[TableDraft]) -> Option<usize>
 fn has_table(tables: &[TableDraft], name: &[u8]) -> bool
     ensures has { result ≡ list_any (λ table. bytes_eq (tokens.in_lower_case name.now) (tokens.in_lower_case table.name.now)) tables.now }
 {
-    tables.iter().any(|table| is_word(name, table.name))
+    for table in tables {
+        if is_word(name, table.name) {
+            return true;
+        }
+    }
+    false
 }
 
 /// Whether an earlier table has the name of the table at a place.
@@ -166,9 +176,12 @@ pub(crate) fn column_name<'a>(column: ColumnDraft<'a>) -> &'a [u8]
 fn has_column(columns: &[ColumnDraft], name: &[u8]) -> bool
     ensures has { result ≡ list_any (λ column. bytes_eq (tokens.in_lower_case name.now) (faults.column_name (column_of column))) columns.now }
 {
-    columns
-        .iter()
-        .any(|column| is_word(name, column_name(*column)))
+    for column in columns {
+        if is_word(name, column_name(*column)) {
+            return true;
+        }
+    }
+    false
 }
 
 /// Whether an earlier column of a table has the name of the column at a place.

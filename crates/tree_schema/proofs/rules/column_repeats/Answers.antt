@@ -1,10 +1,15 @@
-use Rattle.std.proofs.Common.{◌≡◌, ◌-◌, ◌||◌, suc, bytes_eq, take, slice_get, ◌∙◌, sym, ap, arith}
+use Rattle.std.proofs.Common.{◌≡◌, ◌-◌, ◌||◌, suc, bytes_eq, map, take, slice_get, ◌∙◌, sym, ap, arith}
 use Rattle.std.specs.List.{list_any}
+use Rattle.ghost_model.specs.SchemaMeaning.{columns_written}
 use Rattle.ghost_model.specs.SchemaFaults as faults
 use Rattle.ghost_model.specs.Tokens as tokens
-use Rattle.tree_schema.specs.Drafts.{column_of}
+use Rattle.tree_schema.specs.Drafts.{column_of, table_of}
 use Rattle.tree_schema.proofs.RuleSteps.{item_at, no_item, no_column_repeats, column_repeats_by}
 use Rattle.tree_schema.proofs.rules.column_repeats.Goals as goal
+
+pub returns-then-place-eq0 : goal.returns-then-place-eq0
+returns-then-place-eq0 c =
+    record { repeats = sym (ap (faults.repeats (map faults.column_name (columns_written (table_of c.args.table.now)))) c.if-place-eq0.true) }
 
 pub returns-in-None : goal.returns-in-None
 returns-in-None c =
