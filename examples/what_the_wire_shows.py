@@ -1,0 +1,246 @@
+#!/usr/bin/env python3
+"""Tells in words, and as a picture, what was on the wire by a journal of `local`.
+
+    what_the_wire_shows.py JOURNAL [--lines FILE [--script FILE]] [--beside JOURNAL2] [--svg FILE]
+
+JOURNAL is the file that `local --journal` wrote (docs/CHANNEL.md). Printed are the catalog that both sides know; each ask
+in words, with the rows, the count or the code that came back; all moves in their order; and what is nowhere in it.
+
+    --lines FILE       the lines that `local` printed: how many rows came, and how many were printed
+    --script FILE      the script besides: the same for each text
+    --beside JOURNAL2  where the two journals differ, or that they do not
+    --svg FILE         writes all moves, and what is nowhere on the wire, as a picture
+
+Status 0; 1 where the two journals differ; 2 where a file is refused, with one line on standard error that says where and
+why.
+"""
+import argparse
+import html
+import re
+import sys
+
+sys.dont_write_bytecode = True
+from journal import Refused, amount, read_journal, shown
+
+BROKEN = ('link', 'protocol', 'host', 'flash', 'damaged')
+ROW = 26
+
+
+def size_of(wire, sender):
+    return sum(move.size for move in wire.moves if move.sender == sender)
+
+
+def hidden_columns(wire):
+    """The names of the hidden columns, each with its table's name, and what it is."""
+    for table in wire.catalog[1] if wire.catalog else []:
+        for column in table.columns[1:]:
+            if not column.visible:
+                yield '%s.%s' % (table.name, column.name), 'a foreign key to %s' % column.child if column.child else 'hidden'
+
+
+def tell_sums(wire):
+    asks = amount(len(wire.asks), 'ask')
+    print('%s on the channel: %s from the key to the host, %s from the host to the key; %s.' % (
+        amount(len(wire.moves), 'move'), amount(size_of(wire, 'key'), 'byte'), amount(size_of(wire, 'host'), 'byte'), asks))
+    if wire.awaits != 'nothing':
+        print('The journal ends before the channel was closed.')
+
+
+def tell_catalog(wire):
+    print('\nWhat both sides know: the catalog')
+    if not wire.catalog:
+        print('  It did not come whole, or it was not the one that the key has: no ask was sent.')
+        return
+    print('  Names, kinds and numbers of rows; generation %d.' % wire.catalog[0])
+    for table in wire.catalog[1]:
+        kinds = [(it, 'CHAR(%d)' % it.size if it.size else 'INTEGER') for it in table.columns[1:]]
+        columns = ['%s %s%s' % (it.name, kind, '' if it.visible else ' (hidden)') for it, kind in kinds]
+        print('  %s, %s: %s' % (table.name, amount(table.rows, 'row'), ', '.join(columns) or 'the identifier alone'))
+
+
+def tell_asks(wire):
+    print('\nWhat the key asked, and what came back')
+    if not wire.asks:
+        print('  Nothing was asked.')
+    for number, ask in enumerate(wire.asks, 1):
+        print('  Ask %d: %s' % (number, ask.words()))
+        rows = ['%d%s' % (row, ' (%s)' % ', '.join(cells) if cells else '') for row, cells in ask.rows]
+        came = ': %s %s' % (ask.table.name, shown(rows, 12)) if rows else ''
+        print('    %s in %s, %s in all%s' % (
+            amount(len(rows), 'row'), amount(ask.frames, 'frame'), amount(ask.size, 'byte'), came))
+        print('    %s.' % ask.end)
+    if len(wire.asks) > 1:
+        print('  The wire does not say where one text ends and the next begins.')
+
+
+def tell_moves(wire):
+    print('\nAll moves in their order')
+    for number, move in enumerate(wire.moves, 1):
+        arrow = 'key -> host' if move.sender == 'key' else 'key <- host'
+        print('%5d  %s  %11s  %s' % (number, arrow, amount(move.size, 'byte') if move.size else '', move.words))
+
+
+def tell_nowhere(wire):
+    print('\nNowhere on the wire')
+    names = list(hidden_columns(wire))
+    if not wire.catalog:
+        print('  What is hidden cannot be told, since no catalog came.')
+    elif not names:
+        print('  This schema has no hidden column.')
+    for name, what in names:
+        print('  the values of %s (%s)' % (name, what))
+    if names:
+        print('  nor a condition on one of these, nor which of the rows that came were of use')
+        print('  Their names are on it: they stand in the catalog. Each byte of the journal was read, and belongs to what is')
+        print('  told above: no ask names one of these columns, and no row that came has room for one.')
+
+
+def read_lines(name):
+    """Of each text its number of rows and, where it was not answered in full, the word."""
+    texts, rows = [], 0
+    with open(name, encoding='latin-1', newline='\n') as file:
+        for number, line in enumerate(file, 1):
+            found = re.fullmatch(r'= (\d+) (\d+)\n|! (\d+) ([a-z]+(?: \d+)?)\n', line)
+            if line.startswith('> '):
+                rows += 1
+            elif not found or int(found[1] or found[3]) != len(texts) + 1 or found[1] and int(found[2]) != rows:
+                raise Refused('%s, line %d: this is not the line that `local` prints here' % (name, number))
+            else:
+                texts.append((rows, found[4]))
+                rows = 0
+    return texts
+
+
+def asked_tables(text, tables):
+    """The tables, in the order of the schema, of which an accepted text names a visible column."""
+    words = re.findall(r"'[^']*'|\w+|\S", text.lower())
+    start, end = words.index('from'), words.index('where') if 'where' in words else len(words)
+    chosen = [it for it in tables if it.name in words[start + 1:end]]
+    asked = set()
+    rest = words[1:start] + [','] + words[end + 1:]
+    for place, word in enumerate(rest):
+        owner = rest[place - 2] if place > 1 and rest[place - 1] == '.' else None
+        for table in chosen:
+            names = [it.name for it in table.columns if it.visible]
+            if owner in (None, table.name) and (word in names or word == '*' and names):
+                if rest[place + 1:place + 2] != ['.']:
+                    asked.add(table.name)
+    return [it.name for it in chosen if it.name in asked]
+
+
+def asks_of_texts(wire, texts, name):
+    """Of each text its asks, by the script of that name."""
+    with open(name, encoding='latin-1', newline='') as file:
+        parts = re.findall(r"(?:[^;']|'[^']*(?:'|\Z))+", file.read())
+    parts = [part for part in parts if part.strip(' \t\n\r')]
+    if len(parts) != len(texts):
+        raise Refused('%s: the script has %s, and the lines are those of %d' % (name, amount(len(parts), 'text'), len(texts)))
+    left, found = list(wire.asks), []
+    for part, (_, word) in zip(parts, texts):
+        is_query = wire.catalog and (word is None or word in BROKEN)
+        wanted, own = asked_tables(part, wire.catalog[1]) if is_query else [], []
+        while left and len(own) < len(wanted) and not (own and own[-1].end.startswith('SORRY')):
+            if left[0].table.name != wanted[len(own)]:
+                raise Refused('%s: text %d asks %s, and the journal does not' % (name, len(found) + 1, wanted[len(own)]))
+            own.append(left.pop(0))
+        found.append(own)
+    if left:
+        raise Refused('%s: the journal has more asks than this script' % name)
+    return found
+
+
+def tell_lines(wire, lines, script):
+    texts = read_lines(lines)
+    came = sum(len(ask.rows) for ask in wire.asks)
+    print('\nWhat the key kept')
+    print('  %s came over the wire, %s printed.' % (amount(came, 'row'), amount(sum(rows for rows, _ in texts), 'row')))
+    asks = asks_of_texts(wire, texts, script) if script else [[] for _ in texts]
+    for number, ((rows, word), own) in enumerate(zip(texts, asks), 1):
+        parts = ['%s of %s' % (amount(len(ask.rows), 'row'), ask.table.name) for ask in own]
+        told = '%s came, ' % ' and '.join(parts) if parts else 'nothing was asked, ' if script and not word else ''
+        told += 'refused: %s' % word if word and not rows and word not in BROKEN else '%s printed' % amount(rows, 'row')
+        print('  text %d: %s%s' % (number, told, ', then it broke off: %s' % word if word in BROKEN else ''))
+    print('  Which of the rows that came stand behind the printed ones was decided in the key, after they had come.')
+
+
+def tell_beside(wire, other, name, name2):
+    """Tells where two journals differ, and returns whether they do."""
+    print('\nBeside %s' % name2)
+    if wire.lines == other.lines:
+        print('  The two journals are the same, byte for byte: %s.' % amount(len(wire.lines), 'move'))
+        return False
+    pairs = list(zip(wire.moves, other.moves))
+    unlike = [place for place, (one, two) in enumerate(zip(wire.lines, other.lines)) if one != two]
+    first = unlike[0] if unlike else len(pairs)
+    print('  They differ: %s and %s; of the first %d, %d differ.' % (
+        amount(len(wire.lines), 'move'), amount(len(other.lines), 'move'), len(pairs), len(unlike)))
+    for file, journal in ((name, wire), (name2, other)):
+        print('  Move %d of %s: %s' % (first + 1, file, journal.moves[first].words if first < len(journal.moves) else 'none'))
+    return True
+
+
+def put_text(x, y, words, more=''):
+    return '<text x="%d" y="%d"%s>%s</text>' % (x, y, more, html.escape(words))
+
+
+def put_move(place, move):
+    """The picture of a move: an arrow, and above it what it says."""
+    y, words = 96 + ROW * place, move.words if len(move.words) < 98 else move.words[:96] + '..'
+    start, end = (70, 730) if move.sender == 'key' else (730, 70)
+    size = ' (%s)' % amount(move.size, 'byte') if move.size else ''
+    tip = end - 8 if end > start else end + 8
+    return [put_text(400, y - 5, words + size, ' text-anchor="middle"'),
+            '<path d="M%d %dH%dM%d %dL%d %dL%d %d" stroke="%s" fill="none"/>' % (
+                start, y, end, tip, y - 4, end, y, tip, y + 4, '#1c4f9c' if move.sender == 'key' else '#8a4b08')]
+
+
+def picture(wire):
+    hidden = ['%s (%s)' % it for it in hidden_columns(wire)] or ['(the schema has no hidden column)' if wire.catalog else '?']
+    low = 96 + ROW * len(wire.moves)
+    height = max(low + 20, 190 + 20 * len(hidden))
+    parts = ['<svg xmlns="http://www.w3.org/2000/svg" width="1100" height="%d" viewBox="0 0 1100 %d"' % (height, height),
+             ' font-family="sans-serif" font-size="12">', '<rect width="1100" height="%d" fill="white"/>' % height,
+             put_text(400, 24, 'What was on the wire, from top to bottom in time', ' text-anchor="middle" font-size="15"'),
+             put_text(70, 50, 'key', ' text-anchor="middle" font-weight="bold"'),
+             put_text(730, 50, 'host', ' text-anchor="middle" font-weight="bold"'),
+             '<path d="M70 58V%dM730 58V%d" stroke="gray"/>' % (low, low)]
+    for place, move in enumerate(wire.moves):
+        parts += put_move(place, move)
+    parts += ['<rect x="780" y="58" width="306" height="%d" fill="#f4f4f4" stroke="black"/>' % (90 + 20 * len(hidden)),
+              put_text(795, 80, 'Nowhere on the wire', ' font-weight="bold"'), put_text(795, 100, 'the values of')]
+    parts += [put_text(805, 122 + 20 * place, name) for place, name in enumerate(hidden)]
+    parts += [put_text(795, 134 + 20 * len(hidden), 'nor which of the rows that came were of use')]
+    return '\n'.join(parts + ['</svg>', ''])
+
+
+def tell(words):
+    wire = read_journal(words.journal)
+    other = read_journal(words.beside) if words.beside else None
+    for part in (tell_sums, tell_catalog, tell_asks, tell_moves, tell_nowhere):
+        part(wire)
+    if words.lines:
+        tell_lines(wire, words.lines, words.script)
+    differ = tell_beside(wire, other, words.journal, words.beside) if other else False
+    if words.svg:
+        with open(words.svg, 'w') as file:
+            file.write(picture(wire))
+    return 1 if differ else 0
+
+
+def main():
+    words = argparse.ArgumentParser(description=__doc__, formatter_class=argparse.RawDescriptionHelpFormatter)
+    words.add_argument('journal')
+    for option in ('lines', 'script', 'beside', 'svg'):
+        words.add_argument('--' + option, metavar='FILE')
+    given = words.parse_args()
+    if given.script and not given.lines:
+        words.error('--script goes with --lines')
+    try:
+        return tell(given)
+    except (OSError, Refused) as fault:
+        print(fault, file=sys.stderr)
+        return 2
+
+
+if __name__ == '__main__':
+    sys.exit(main())
