@@ -71,6 +71,10 @@ def read_cell(file, column):
     return "'%s'" % text.decode('ascii').replace("'", "''")
 
 
+def row_words(row):
+    return '%d (%s)' % (row[0], ', '.join(row[1])) if row[1] else '%d' % row[0]
+
+
 class Ask:
     """An ask, and what came back."""
 
@@ -84,7 +88,8 @@ class Ask:
             column, operator = self.table.columns[file.read(1)[0]], OPERATORS[file.read(1)[0]]
             self.conditions.append((column, operator, read_cell(file, column)))
         used = self.columns + [column for column, _, _ in self.conditions]
-        if file.read() or places != sorted(set(places)) or not all(it.visible for it in used) or len(self.conditions) > 16:
+        is_good = places == sorted(set(places)) and all(it.visible for it in used)
+        if file.read() or not is_good or len(self.conditions) > 16:
             raise ValueError
         self.rows, self.frames, self.size, self.end = [], 0, 0, 'no answer came to its end'
 
@@ -105,7 +110,7 @@ class Ask:
             found.append(row)
         self.rows += found
         self.frames += 1
-        return shown(['%s %d%s' % (self.table.name, row, ' (%s)' % ', '.join(cells) if cells else '') for row, cells in found], 4)
+        return shown(['%s %s' % (self.table.name, row_words(row)) for row in found], 4)
 
 
 class Wire:
@@ -165,7 +170,7 @@ class Wire:
         try:
             self.asks.append(Ask(payload, self.catalog[1]))
         except (IndexError, KeyError, ValueError):
-            raise Refused('an ask that the catalog does not allow: it names only visible columns, and values of their kind')
+            raise Refused('an ask that the catalog does not allow, of visible columns and values of their kind')
         return 'ASK %d: %s' % (serial, self.asks[-1].words())
 
     def missing(self):
@@ -221,7 +226,7 @@ class Wire:
             self.catalog = None
             raise ValueError
         self.awaits = 'turn' if self.catalog else 'welcome'
-        return 'the catalog: the schema, and the number of rows of each table' if self.catalog else 'a part of the catalog'
+        return 'the catalog: schema, and number of rows of each table' if self.catalog else 'a part of the catalog'
 
     def replied(self, kind, payload):
         ask, number = self.asks[-1], int.from_bytes(payload, 'big')
@@ -231,7 +236,8 @@ class Wire:
             return words
         if number != len(ask.rows) if kind == 'DONE' else not number:
             raise ValueError
-        self.awaits, ask.end = 'turn', 'DONE counts %d' % number if kind == 'DONE' else 'SORRY with code %d ended it' % number
+        ask.end = 'DONE counts %d' % number if kind == 'DONE' else 'SORRY with code %d ended it' % number
+        self.awaits = 'turn'
         return ask.end
 
 

@@ -3,16 +3,16 @@
 
     what_the_wire_shows.py JOURNAL [--lines FILE [--script FILE]] [--beside JOURNAL2] [--svg FILE]
 
-JOURNAL is the file that `local --journal` wrote (docs/CHANNEL.md). Printed are the catalog that both sides know; each ask
-in words, with the rows, the count or the code that came back; all moves in their order; and what is nowhere in it.
+JOURNAL is the file that `local --journal` wrote (docs/CHANNEL.md). Printed are the catalog that both sides know; each
+ask in words, with the rows, the count or the code that came back; all moves in their order; and what is nowhere in it.
 
     --lines FILE       the lines that `local` printed: how many rows came, and how many were printed
     --script FILE      the script besides: the same for each text
     --beside JOURNAL2  where the two journals differ, or that they do not
     --svg FILE         writes all moves, and what is nowhere on the wire, as a picture
 
-Status 0; 1 where the two journals differ; 2 where a file is refused, with one line on standard error that says where and
-why.
+Status 0; 1 where the two journals differ; 2 where a file is refused, with one line on standard error that says where
+and why.
 """
 import argparse
 import html
@@ -20,7 +20,7 @@ import re
 import sys
 
 sys.dont_write_bytecode = True
-from journal import Refused, amount, read_journal, shown
+from journal import Refused, amount, read_journal, row_words, shown
 
 BROKEN = ('link', 'protocol', 'host', 'flash', 'damaged')
 ROW = 26
@@ -30,18 +30,21 @@ def size_of(wire, sender):
     return sum(move.size for move in wire.moves if move.sender == sender)
 
 
+def secret(column):
+    return 'foreign key to %s' % column.child if column.child else 'hidden'
+
+
 def hidden_columns(wire):
-    """The names of the hidden columns, each with its table's name, and what it is."""
-    for table in wire.catalog[1] if wire.catalog else []:
-        for column in table.columns[1:]:
-            if not column.visible:
-                yield '%s.%s' % (table.name, column.name), 'a foreign key to %s' % column.child if column.child else 'hidden'
+    """The hidden columns, each by its table's name, its own and what it is."""
+    tables = wire.catalog[1] if wire.catalog else []
+    columns = [(table.name, it) for table in tables for it in table.columns[1:] if not it.visible]
+    return ['%s.%s (%s)' % (table, it.name, secret(it)) for table, it in columns]
 
 
 def tell_sums(wire):
-    asks = amount(len(wire.asks), 'ask')
+    there, back = [amount(size_of(wire, sender), 'byte') for sender in ('key', 'host')]
     print('%s on the channel: %s from the key to the host, %s from the host to the key; %s.' % (
-        amount(len(wire.moves), 'move'), amount(size_of(wire, 'key'), 'byte'), amount(size_of(wire, 'host'), 'byte'), asks))
+        amount(len(wire.moves), 'move'), there, back, amount(len(wire.asks), 'ask')))
     if wire.awaits != 'nothing':
         print('The journal ends before the channel was closed.')
 
@@ -54,7 +57,7 @@ def tell_catalog(wire):
     print('  Names, kinds and numbers of rows; generation %d.' % wire.catalog[0])
     for table in wire.catalog[1]:
         kinds = [(it, 'CHAR(%d)' % it.size if it.size else 'INTEGER') for it in table.columns[1:]]
-        columns = ['%s %s%s' % (it.name, kind, '' if it.visible else ' (hidden)') for it, kind in kinds]
+        columns = ['%s %s%s' % (it.name, kind, '' if it.visible else ' (%s)' % secret(it)) for it, kind in kinds]
         print('  %s, %s: %s' % (table.name, amount(table.rows, 'row'), ', '.join(columns) or 'the identifier alone'))
 
 
@@ -64,7 +67,7 @@ def tell_asks(wire):
         print('  Nothing was asked.')
     for number, ask in enumerate(wire.asks, 1):
         print('  Ask %d: %s' % (number, ask.words()))
-        rows = ['%d%s' % (row, ' (%s)' % ', '.join(cells) if cells else '') for row, cells in ask.rows]
+        rows = [row_words(row) for row in ask.rows]
         came = ': %s %s' % (ask.table.name, shown(rows, 12)) if rows else ''
         print('    %s in %s, %s in all%s' % (
             amount(len(rows), 'row'), amount(ask.frames, 'frame'), amount(ask.size, 'byte'), came))
@@ -82,17 +85,17 @@ def tell_moves(wire):
 
 def tell_nowhere(wire):
     print('\nNowhere on the wire')
-    names = list(hidden_columns(wire))
+    names = hidden_columns(wire)
     if not wire.catalog:
         print('  What is hidden cannot be told, since no catalog came.')
     elif not names:
         print('  This schema has no hidden column.')
-    for name, what in names:
-        print('  the values of %s (%s)' % (name, what))
+    for name in names:
+        print('  the values of %s' % name)
     if names:
         print('  nor a condition on one of these, nor which of the rows that came were of use')
-        print('  Their names are on it: they stand in the catalog. Each byte of the journal was read, and belongs to what is')
-        print('  told above: no ask names one of these columns, and no row that came has room for one.')
+        print('  Their names are on it: they stand in the catalog. Each byte of the journal was read, and belongs to')
+        print('  what is told above: no ask names one of these columns, and no row that came has room for one.')
 
 
 def read_lines(name):
@@ -134,14 +137,15 @@ def asks_of_texts(wire, texts, name):
         parts = re.findall(r"(?:[^;']|'[^']*(?:'|\Z))+", file.read())
     parts = [part for part in parts if part.strip(' \t\n\r')]
     if len(parts) != len(texts):
-        raise Refused('%s: the script has %s, and the lines are those of %d' % (name, amount(len(parts), 'text'), len(texts)))
+        raise Refused('%s: it has %s, and the lines tell of %d' % (name, amount(len(parts), 'text'), len(texts)))
     left, found = list(wire.asks), []
     for part, (_, word) in zip(parts, texts):
         is_query = wire.catalog and (word is None or word in BROKEN)
         wanted, own = asked_tables(part, wire.catalog[1]) if is_query else [], []
         while left and len(own) < len(wanted) and not (own and own[-1].end.startswith('SORRY')):
             if left[0].table.name != wanted[len(own)]:
-                raise Refused('%s: text %d asks %s, and the journal does not' % (name, len(found) + 1, wanted[len(own)]))
+                what = 'text %d asks %s, and the journal does not' % (len(found) + 1, wanted[len(own)])
+                raise Refused('%s: %s' % (name, what))
             own.append(left.pop(0))
         found.append(own)
     if left:
@@ -175,7 +179,8 @@ def tell_beside(wire, other, name, name2):
     print('  They differ: %s and %s; of the first %d, %d differ.' % (
         amount(len(wire.lines), 'move'), amount(len(other.lines), 'move'), len(pairs), len(unlike)))
     for file, journal in ((name, wire), (name2, other)):
-        print('  Move %d of %s: %s' % (first + 1, file, journal.moves[first].words if first < len(journal.moves) else 'none'))
+        move = journal.moves[first].words if first < len(journal.moves) else 'none'
+        print('  Move %d of %s: %s' % (first + 1, file, move))
     return True
 
 
@@ -195,18 +200,20 @@ def put_move(place, move):
 
 
 def picture(wire):
-    hidden = ['%s (%s)' % it for it in hidden_columns(wire)] or ['(the schema has no hidden column)' if wire.catalog else '?']
-    low = 96 + ROW * len(wire.moves)
-    height = max(low + 20, 190 + 20 * len(hidden))
-    parts = ['<svg xmlns="http://www.w3.org/2000/svg" width="1100" height="%d" viewBox="0 0 1100 %d"' % (height, height),
-             ' font-family="sans-serif" font-size="12">', '<rect width="1100" height="%d" fill="white"/>' % height,
-             put_text(400, 24, 'What was on the wire, from top to bottom in time', ' text-anchor="middle" font-size="15"'),
+    hidden = hidden_columns(wire) or ['(no column is hidden)' if wire.catalog else '(no catalog came)']
+    low, box = 96 + ROW * len(wire.moves), max(300, 40 + 7 * max(len(name) for name in hidden))
+    wide, high = 800 + box, max(low + 20, 190 + 20 * len(hidden))
+    size = 'width="%d" height="%d"' % (wide, high)
+    parts = ['<svg xmlns="http://www.w3.org/2000/svg" %s font-family="sans-serif" font-size="12">' % size,
+             '<rect %s fill="white"/>' % size,
+             put_text(400, 24, 'On the wire, in time from top to bottom', ' text-anchor="middle" font-size="15"'),
              put_text(70, 50, 'key', ' text-anchor="middle" font-weight="bold"'),
              put_text(730, 50, 'host', ' text-anchor="middle" font-weight="bold"'),
              '<path d="M70 58V%dM730 58V%d" stroke="gray"/>' % (low, low)]
     for place, move in enumerate(wire.moves):
         parts += put_move(place, move)
-    parts += ['<rect x="780" y="58" width="306" height="%d" fill="#f4f4f4" stroke="black"/>' % (90 + 20 * len(hidden)),
+    frame = '<rect x="780" y="58" width="%d" height="%d" fill="#f4f4f4" stroke="black"/>'
+    parts += [frame % (box, 90 + 20 * len(hidden)),
               put_text(795, 80, 'Nowhere on the wire', ' font-weight="bold"'), put_text(795, 100, 'the values of')]
     parts += [put_text(805, 122 + 20 * place, name) for place, name in enumerate(hidden)]
     parts += [put_text(795, 134 + 20 * len(hidden), 'nor which of the rows that came were of use')]
@@ -237,9 +244,11 @@ def main():
         words.error('--script goes with --lines')
     try:
         return tell(given)
-    except (OSError, Refused) as fault:
+    except OSError as fault:
+        print('%s: %s' % (fault.filename, fault.strerror), file=sys.stderr)
+    except Refused as fault:
         print(fault, file=sys.stderr)
-        return 2
+    return 2
 
 
 if __name__ == '__main__':
