@@ -7,7 +7,7 @@ JOURNAL is the file that `local --journal` wrote (docs/CHANNEL.md). Printed are 
 ask in words, with the rows, the count or the code that came back; all moves in their order; and what is nowhere in it.
 
     --lines FILE       the lines that `local` printed: how many rows came, and how many were printed
-    --script FILE      the script besides: the same for each text
+    --script FILE      the script besides: the same for each text, and which rows were of use where their id is selected
     --beside JOURNAL2  where the two journals differ, or that they do not
     --svg FILE         writes all moves, and what is nowhere on the wire, as a picture
 
@@ -99,71 +99,92 @@ def tell_nowhere(wire):
 
 
 def read_lines(name):
-    """Of each text its number of rows and, where it was not answered in full, the word."""
-    texts, rows = [], 0
+    """Of each text its rows, as lists of fields, and, where it was not answered in full, the word."""
+    texts, rows = [], []
     with open(name, encoding='latin-1', newline='\n') as file:
         for number, line in enumerate(file, 1):
             found = re.fullmatch(r'= (\d+) (\d+)\n|! (\d+) ([a-z]+(?: \d+)?)\n', line)
             if line.startswith('> '):
-                rows += 1
-            elif not found or int(found[1] or found[3]) != len(texts) + 1 or found[1] and int(found[2]) != rows:
+                rows.append(line[2:-1].split('\t'))
+            elif not found or int(found[1] or found[3]) != len(texts) + 1 or found[1] and int(found[2]) != len(rows):
                 raise Refused('%s, line %d: this is not the line that `local` prints here' % (name, number))
             else:
                 texts.append((rows, found[4]))
-                rows = 0
+                rows = []
     return texts
 
 
-def asked_tables(text, tables):
-    """The tables, in the order of the schema, of which an accepted text names a visible column."""
+def read_script(name):
+    """The texts of a script: it is cut at each ; before which an even number of ' stands."""
+    with open(name, encoding='latin-1', newline='') as file:
+        parts = re.findall(r"(?:[^;']|'[^']*(?:'|\Z))+", file.read())
+    return [part for part in parts if part.strip(' \t\n\r')]
+
+
+def named(words, tables):
+    """The columns that these words of an accepted text name, in their order, each with its table."""
+    found = []
+    for place, word in enumerate(words):
+        owner = words[place - 2] if place > 1 and words[place - 1] == '.' else None
+        if words[place + 1:place + 2] != ['.']:
+            found += [(table, it) for table in tables for it in table.columns
+                      if owner in (None, table.name) and word in (it.name, '*')]
+    return found
+
+
+def columns_of(text, tables):
+    """The selected columns of an accepted text, and the names of the tables that it asks, in the schema's order."""
     words = re.findall(r"'[^']*'|\w+|\S", text.lower())
     start, end = words.index('from'), words.index('where') if 'where' in words else len(words)
-    chosen = [it for it in tables if it.name in words[start + 1:end]]
-    asked = set()
-    rest = words[1:start] + [','] + words[end + 1:]
-    for place, word in enumerate(rest):
-        owner = rest[place - 2] if place > 1 and rest[place - 1] == '.' else None
-        for table in chosen:
-            names = [it.name for it in table.columns if it.visible]
-            if owner in (None, table.name) and (word in names or word == '*' and names):
-                if rest[place + 1:place + 2] != ['.']:
-                    asked.add(table.name)
-    return [it.name for it in chosen if it.name in asked]
+    chosen = [table for word in words[start + 1:end] for table in tables if table.name == word]
+    selected = named(words[1:start], chosen)
+    asked = {table.name for table, column in selected + named(words[end + 1:], chosen) if column.visible}
+    return selected, [table.name for table in tables if table.name in asked]
 
 
 def asks_of_texts(wire, texts, name):
-    """Of each text its asks, by the script of that name."""
-    with open(name, encoding='latin-1', newline='') as file:
-        parts = re.findall(r"(?:[^;']|'[^']*(?:'|\Z))+", file.read())
-    parts = [part for part in parts if part.strip(' \t\n\r')]
+    """Of each text its selected columns and its asks, by the script of that name."""
+    parts, left, found = read_script(name), list(wire.asks), []
     if len(parts) != len(texts):
         raise Refused('%s: it has %s, and the lines tell of %d' % (name, amount(len(parts), 'text'), len(texts)))
-    left, found = list(wire.asks), []
     for part, (_, word) in zip(parts, texts):
         is_query = wire.catalog and (word is None or word in BROKEN)
-        wanted, own = asked_tables(part, wire.catalog[1]) if is_query else [], []
+        (selected, wanted), own = columns_of(part, wire.catalog[1]) if is_query else ([], []), []
         while left and len(own) < len(wanted) and not (own and own[-1].end.startswith('SORRY')):
             if left[0].table.name != wanted[len(own)]:
                 what = 'text %d asks %s, and the journal does not' % (len(found) + 1, wanted[len(own)])
                 raise Refused('%s: %s' % (name, what))
             own.append(left.pop(0))
-        found.append(own)
+        found.append((selected, own))
     if left:
         raise Refused('%s: the journal has more asks than this script' % name)
     return found
 
 
+def tell_kept(rows, selected, asks):
+    """Of each asked table whose identifier is selected: which rows stand behind a printed one, and which do not."""
+    for ask in asks:
+        places = [at for at, (table, it) in enumerate(selected) if (table.name, it.name) == (ask.table.name, 'id')]
+        if places and all(len(row) == len(selected) for row in rows):
+            kept = {row[places[0]] for row in rows}
+            came = [str(row) for row, _ in ask.rows]
+            some, rest = [it for it in came if it in kept], [it for it in came if it not in kept]
+            parts = ask.table.name, shown(some, 12) or 'none', shown(rest, 12) or 'none'
+            print('    of %s it kept %s; of no use were %s' % parts)
+
+
 def tell_lines(wire, lines, script):
     texts = read_lines(lines)
-    came = sum(len(ask.rows) for ask in wire.asks)
+    came, printed = sum(len(ask.rows) for ask in wire.asks), sum(len(rows) for rows, _ in texts)
     print('\nWhat the key kept')
-    print('  %s came over the wire, %s printed.' % (amount(came, 'row'), amount(sum(rows for rows, _ in texts), 'row')))
-    asks = asks_of_texts(wire, texts, script) if script else [[] for _ in texts]
-    for number, ((rows, word), own) in enumerate(zip(texts, asks), 1):
-        parts = ['%s of %s' % (amount(len(ask.rows), 'row'), ask.table.name) for ask in own]
+    print('  %s came over the wire, %s printed.' % (amount(came, 'row'), amount(printed, 'row')))
+    found = asks_of_texts(wire, texts, script) if script else [([], []) for _ in texts]
+    for number, ((rows, word), (selected, asks)) in enumerate(zip(texts, found), 1):
+        parts = ['%s of %s' % (amount(len(ask.rows), 'row'), ask.table.name) for ask in asks]
         told = '%s came, ' % ' and '.join(parts) if parts else 'nothing was asked, ' if script and not word else ''
-        told += 'refused: %s' % word if word and not rows and word not in BROKEN else '%s printed' % amount(rows, 'row')
+        told += '%s printed' % amount(len(rows), 'row') if word is None or word in BROKEN else 'refused: %s' % word
         print('  text %d: %s%s' % (number, told, ', then it broke off: %s' % word if word in BROKEN else ''))
+        tell_kept(rows, selected, asks if word is None else [])
     print('  Which of the rows that came stand behind the printed ones was decided in the key, after they had come.')
 
 
