@@ -18,6 +18,7 @@ import argparse
 import html
 import re
 import sys
+import textwrap
 
 sys.dont_write_bytecode = True
 from journal import Refused, amount, read_journal, row_words, shown
@@ -31,7 +32,7 @@ def size_of(wire, sender):
 
 
 def secret(column):
-    return 'foreign key to %s' % column.child if column.child else 'hidden'
+    return 'hidden, a foreign key to %s' % column.child if column.child else 'hidden'
 
 
 def hidden_columns(wire):
@@ -58,7 +59,8 @@ def tell_catalog(wire):
     for table in wire.catalog[1]:
         kinds = [(it, 'CHAR(%d)' % it.size if it.size else 'INTEGER') for it in table.columns[1:]]
         columns = ['%s %s%s' % (it.name, kind, '' if it.visible else ' (%s)' % secret(it)) for it, kind in kinds]
-        print('  %s, %s: %s' % (table.name, amount(table.rows, 'row'), ', '.join(columns) or 'the identifier alone'))
+        line = '%s, %s: %s' % (table.name, amount(table.rows, 'row'), ', '.join(columns) or 'the identifier alone')
+        print(textwrap.fill(line, 110, initial_indent='  ', subsequent_indent='    '))
 
 
 def tell_asks(wire):
