@@ -1,0 +1,278 @@
+#!/usr/bin/env python3
+"""Tells in words, and as a picture, what was on the wire by a journal of `local`.
+
+    what_the_wire_shows.py JOURNAL [--lines FILE [--script FILE]] [--beside JOURNAL2] [--svg FILE]
+
+JOURNAL is the file that `local --journal` wrote (docs/CHANNEL.md). Printed are the catalog that both sides know; each
+ask in words, with the rows, the count or the code that came back; all moves in their order; and what is nowhere in it.
+
+    --lines FILE       the lines that `local` printed: how many rows came, and how many were printed
+    --script FILE      the script besides: the same for each text, and which rows were of use where their id is selected
+    --beside JOURNAL2  where the two journals differ, or that they do not
+    --svg FILE         writes all moves, and what is nowhere on the wire, as a picture
+
+Status 0; 1 where the two journals differ; 2 where a file is refused, with one line on standard error that says where
+and why.
+"""
+import argparse
+import html
+import re
+import sys
+import textwrap
+
+sys.dont_write_bytecode = True
+from journal import Refused, amount, read_journal, row_words, shown
+
+BROKEN = ('link', 'protocol', 'host', 'flash', 'damaged')
+ROW = 26
+
+
+def size_of(wire, sender):
+    return sum(move.size for move in wire.moves if move.sender == sender)
+
+
+def secret(column):
+    return 'hidden, a foreign key to %s' % column.child if column.child else 'hidden'
+
+
+def hidden_columns(wire):
+    """The hidden columns, each by its table's name, its own and what it is."""
+    tables = wire.catalog[1] if wire.catalog else []
+    columns = [(table.name, it) for table in tables for it in table.columns[1:] if not it.visible]
+    return ['%s.%s (%s)' % (table, it.name, secret(it)) for table, it in columns]
+
+
+def tell_sums(wire):
+    there, back = [amount(size_of(wire, sender), 'byte') for sender in ('key', 'host')]
+    print('%s on the channel: %s from the key to the host, %s from the host to the key; %s.' % (
+        amount(len(wire.moves), 'move'), there, back, amount(len(wire.asks), 'ask')))
+    if wire.awaits != 'nothing':
+        print('The journal ends before the channel was closed.')
+
+
+def tell_catalog(wire):
+    print('\nWhat both sides know: the catalog')
+    if not wire.catalog:
+        print('  It did not come whole, or it was not the one that the key has: no ask was sent.')
+        return
+    print('  Names, kinds and numbers of rows; generation %d.' % wire.catalog[0])
+    for table in wire.catalog[1]:
+        kinds = [(it, 'CHAR(%d)' % it.size if it.size else 'INTEGER') for it in table.columns[1:]]
+        columns = ['%s %s%s' % (it.name, kind, '' if it.visible else ' (%s)' % secret(it)) for it, kind in kinds]
+        line = '%s, %s: %s' % (table.name, amount(table.rows, 'row'), ', '.join(columns) or 'the identifier alone')
+        print(textwrap.fill(line, 110, initial_indent='  ', subsequent_indent='    '))
+
+
+def tell_asks(wire):
+    print('\nWhat the key asked, and what came back')
+    if not wire.asks:
+        print('  Nothing was asked.')
+    for number, ask in enumerate(wire.asks, 1):
+        print('  Ask %d: %s' % (number, ask.words()))
+        rows = [row_words(row) for row in ask.rows]
+        came = ': %s %s' % (ask.table.name, shown(rows, 12)) if rows else ''
+        print('    %s in %s, %s in all%s' % (
+            amount(len(rows), 'row'), amount(ask.frames, 'frame'), amount(ask.size, 'byte'), came))
+        print('    %s.' % ask.end)
+    if len(wire.asks) > 1:
+        print('  The wire does not say where one text ends and the next begins.')
+
+
+def tell_moves(wire):
+    print('\nAll moves in their order')
+    for number, move in enumerate(wire.moves, 1):
+        arrow = 'key -> host' if move.sender == 'key' else 'key <- host'
+        print('%5d  %s  %11s  %s' % (number, arrow, amount(move.size, 'byte') if move.size else '', move.words))
+
+
+def tell_nowhere(wire):
+    print('\nNowhere on the wire')
+    names = hidden_columns(wire)
+    if not wire.catalog:
+        print('  What is hidden cannot be told, since no catalog came.')
+    elif not names:
+        print('  This schema has no hidden column.')
+    for name in names:
+        print('  the values of %s' % name)
+    if names:
+        print('  nor a condition on one of these, nor which of the rows that came were of use')
+        print('  Their names are on it: they stand in the catalog. Each byte of the journal was read, and belongs to')
+        print('  what is told above: no ask names one of these columns, and no row that came has room for one.')
+
+
+def read_lines(name):
+    """Of each text its rows, as lists of fields, and, where it was not answered in full, the word."""
+    texts, rows = [], []
+    with open(name, encoding='latin-1', newline='\n') as file:
+        for number, line in enumerate(file, 1):
+            found = re.fullmatch(r'= (\d+) (\d+)\n|! (\d+) ([a-z]+(?: \d+)?)\n', line)
+            if line.startswith('> '):
+                rows.append(line[2:-1].split('\t'))
+            elif not found or int(found[1] or found[3]) != len(texts) + 1 or found[1] and int(found[2]) != len(rows):
+                raise Refused('%s, line %d: this is not the line that `local` prints here' % (name, number))
+            else:
+                texts.append((rows, found[4]))
+                rows = []
+    return texts
+
+
+def read_script(name):
+    """The texts of a script: it is cut at each ; before which an even number of ' stands."""
+    with open(name, encoding='latin-1', newline='') as file:
+        parts = re.findall(r"(?:[^;']|'[^']*(?:'|\Z))+", file.read())
+    return [part for part in parts if part.strip(' \t\n\r')]
+
+
+def named(words, tables):
+    """The columns that these words of an accepted text name, in their order, each with its table."""
+    found = []
+    for place, word in enumerate(words):
+        owner = words[place - 2] if place > 1 and words[place - 1] == '.' else None
+        if words[place + 1:place + 2] != ['.']:
+            found += [(table, it) for table in tables for it in table.columns
+                      if owner in (None, table.name) and word in (it.name, '*')]
+    return found
+
+
+def columns_of(text, tables):
+    """The selected columns of an accepted text, and the names of the tables that it asks, in the schema's order."""
+    words = re.findall(r"'[^']*'|\w+|\S", text.lower())
+    start, end = words.index('from'), words.index('where') if 'where' in words else len(words)
+    chosen = [table for word in words[start + 1:end] for table in tables if table.name == word]
+    selected = named(words[1:start], chosen)
+    asked = {table.name for table, column in selected + named(words[end + 1:], chosen) if column.visible}
+    return selected, [table.name for table in tables if table.name in asked]
+
+
+def asks_of_texts(wire, texts, name):
+    """Of each text its selected columns and its asks, by the script of that name."""
+    parts, left, found = read_script(name), list(wire.asks), []
+    if len(parts) != len(texts):
+        raise Refused('%s: it has %s, and the lines tell of %d' % (name, amount(len(parts), 'text'), len(texts)))
+    for part, (_, word) in zip(parts, texts):
+        is_query = wire.catalog and (word is None or word in BROKEN)
+        (selected, wanted), own = columns_of(part, wire.catalog[1]) if is_query else ([], []), []
+        while left and len(own) < len(wanted) and not (own and own[-1].end.startswith('SORRY')):
+            if left[0].table.name != wanted[len(own)]:
+                what = 'text %d asks %s, and the journal does not' % (len(found) + 1, wanted[len(own)])
+                raise Refused('%s: %s' % (name, what))
+            own.append(left.pop(0))
+        found.append((selected, own))
+    if left:
+        raise Refused('%s: the journal has more asks than this script' % name)
+    return found
+
+
+def tell_kept(rows, selected, asks):
+    """Of each asked table whose identifier is selected: which rows stand behind a printed one, and which do not."""
+    for ask in asks:
+        places = [at for at, (table, it) in enumerate(selected) if (table.name, it.name) == (ask.table.name, 'id')]
+        if places and all(len(row) == len(selected) for row in rows):
+            kept = {row[places[0]] for row in rows}
+            came = [str(row) for row, _ in ask.rows]
+            some, rest = [it for it in came if it in kept], [it for it in came if it not in kept]
+            parts = ask.table.name, shown(some, 12) or 'none', shown(rest, 12) or 'none'
+            print('    of %s it kept %s; of no use were %s' % parts)
+
+
+def tell_lines(wire, lines, script):
+    texts = read_lines(lines)
+    came, printed = sum(len(ask.rows) for ask in wire.asks), sum(len(rows) for rows, _ in texts)
+    print('\nWhat the key kept')
+    print('  %s came over the wire, %s printed.' % (amount(came, 'row'), amount(printed, 'row')))
+    found = asks_of_texts(wire, texts, script) if script else [([], []) for _ in texts]
+    for number, ((rows, word), (selected, asks)) in enumerate(zip(texts, found), 1):
+        parts = ['%s of %s' % (amount(len(ask.rows), 'row'), ask.table.name) for ask in asks]
+        told = '%s came, ' % ' and '.join(parts) if parts else 'nothing was asked, ' if script and not word else ''
+        told += '%s printed' % amount(len(rows), 'row') if word is None or word in BROKEN else 'refused: %s' % word
+        print('  text %d: %s%s' % (number, told, ', then it broke off: %s' % word if word in BROKEN else ''))
+        tell_kept(rows, selected, asks if word is None else [])
+    print('  Which of the rows that came stand behind the printed ones was decided in the key, after they had come.')
+
+
+def tell_beside(wire, other, name, name2):
+    """Tells where two journals differ, and returns whether they do."""
+    print('\nBeside %s' % name2)
+    if wire.lines == other.lines:
+        print('  The two journals are the same, byte for byte: %s.' % amount(len(wire.lines), 'move'))
+        return False
+    pairs = list(zip(wire.moves, other.moves))
+    unlike = [place for place, (one, two) in enumerate(zip(wire.lines, other.lines)) if one != two]
+    first = unlike[0] if unlike else len(pairs)
+    print('  They differ: %s and %s; of the first %d, %d differ.' % (
+        amount(len(wire.lines), 'move'), amount(len(other.lines), 'move'), len(pairs), len(unlike)))
+    for file, journal in ((name, wire), (name2, other)):
+        move = journal.moves[first].words if first < len(journal.moves) else 'none'
+        print('  Move %d of %s: %s' % (first + 1, file, move))
+    return True
+
+
+def put_text(x, y, words, more=''):
+    return '<text x="%d" y="%d"%s>%s</text>' % (x, y, more, html.escape(words))
+
+
+def put_move(place, move):
+    """The picture of a move: an arrow, and above it what it says."""
+    y, words = 96 + ROW * place, move.words if len(move.words) < 98 else move.words[:96] + '..'
+    start, end = (70, 730) if move.sender == 'key' else (730, 70)
+    size = ' (%s)' % amount(move.size, 'byte') if move.size else ''
+    tip = end - 8 if end > start else end + 8
+    return [put_text(400, y - 5, words + size, ' text-anchor="middle"'),
+            '<path d="M%d %dH%dM%d %dL%d %dL%d %d" stroke="%s" fill="none"/>' % (
+                start, y, end, tip, y - 4, end, y, tip, y + 4, '#1c4f9c' if move.sender == 'key' else '#8a4b08')]
+
+
+def picture(wire):
+    hidden = hidden_columns(wire) or ['(no column is hidden)' if wire.catalog else '(no catalog came)']
+    low, box = 96 + ROW * len(wire.moves), max(300, 40 + 7 * max(len(name) for name in hidden))
+    wide, high = 800 + box, max(low + 20, 190 + 20 * len(hidden))
+    size = 'width="%d" height="%d"' % (wide, high)
+    parts = ['<svg xmlns="http://www.w3.org/2000/svg" %s font-family="sans-serif" font-size="12">' % size,
+             '<rect %s fill="white"/>' % size,
+             put_text(400, 24, 'On the wire, in time from top to bottom', ' text-anchor="middle" font-size="15"'),
+             put_text(70, 50, 'key', ' text-anchor="middle" font-weight="bold"'),
+             put_text(730, 50, 'host', ' text-anchor="middle" font-weight="bold"'),
+             '<path d="M70 58V%dM730 58V%d" stroke="gray"/>' % (low, low)]
+    for place, move in enumerate(wire.moves):
+        parts += put_move(place, move)
+    frame = '<rect x="780" y="58" width="%d" height="%d" fill="#f4f4f4" stroke="black"/>'
+    parts += [frame % (box, 90 + 20 * len(hidden)),
+              put_text(795, 80, 'Nowhere on the wire', ' font-weight="bold"'), put_text(795, 100, 'the values of')]
+    parts += [put_text(805, 122 + 20 * place, name) for place, name in enumerate(hidden)]
+    parts += [put_text(795, 134 + 20 * len(hidden), 'nor which of the rows that came were of use')]
+    return '\n'.join(parts + ['</svg>', ''])
+
+
+def tell(words):
+    wire = read_journal(words.journal)
+    other = read_journal(words.beside) if words.beside else None
+    for part in (tell_sums, tell_catalog, tell_asks, tell_moves, tell_nowhere):
+        part(wire)
+    if words.lines:
+        tell_lines(wire, words.lines, words.script)
+    differ = tell_beside(wire, other, words.journal, words.beside) if other else False
+    if words.svg:
+        with open(words.svg, 'w') as file:
+            file.write(picture(wire))
+    return 1 if differ else 0
+
+
+def main():
+    words = argparse.ArgumentParser(description=__doc__, formatter_class=argparse.RawDescriptionHelpFormatter)
+    words.add_argument('journal')
+    for option in ('lines', 'script', 'beside', 'svg'):
+        words.add_argument('--' + option, metavar='FILE')
+    given = words.parse_args()
+    if given.script and not given.lines:
+        words.error('--script goes with --lines')
+    try:
+        return tell(given)
+    except OSError as fault:
+        print('%s: %s' % (fault.filename, fault.strerror), file=sys.stderr)
+    except Refused as fault:
+        print(fault, file=sys.stderr)
+    return 2
+
+
+if __name__ == '__main__':
+    sys.exit(main())
