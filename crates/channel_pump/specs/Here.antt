@@ -20,7 +20,7 @@ use Rattle.channel_pump.specs.Rows.{IsTally}
 
 -- a catalog of nothing: what is awaited of a catalog does not depend on more than its bytes
 abbrev pub nothing : channel.Catalog
-nothing = record { schema = []; counts = []; generation = 0 }
+nothing = record { schema = []; counts = []; generation = 0; version = 1 }
 
 abbrev pub reply_header : List Form → (serial : ℕ) → List ℕ → Bool
 reply_header [] serial header = false

@@ -583,10 +583,11 @@ canonical_text_means text schema means =
     ((one_schema.read (canonical_text (schema_of means.tables)) (schema_of means.tables)).0 reads)
 
 pub catalog_of_text : ACatalogOfEachText
-catalog_of_text text cat means counted few some fits = record {
+catalog_of_text text cat means counted few some fits version = record {
   meant = canonical_text_means text cat.schema means;
   counted = counted;
   few_rows = few;
   some_generation = some;
   generation_fits = fits;
+  one_version = version;
 }

@@ -250,8 +250,8 @@ counts_length (count ∷ counts) =
 parts_length : (a b c : List ℕ) (x y z : ℕ) → length a ≤ x → length b ≤ y → length c ≤ z → length (a ++ (b ++ c)) ≤ x + (y + z)
 parts_length a b c x y z p q r = simp length-append (omega arith)
 
-head_length : (generation size : ℕ) → length (catalog_head generation size) ≡ 16
-head_length generation size = refl
+head_length : (version generation size : ℕ) → length (catalog_head version generation size) ≡ 16
+head_length version generation size = refl
 
 pub no_catalog_is_long : NoCatalogIsLong
 no_catalog_is_long cat proper =
@@ -259,7 +259,7 @@ no_catalog_is_long cat proper =
     let few : length cat.schema ≤ 12 = tree.few_tables in
     let same : length cat.counts ≡ length cat.schema = proper.counted in
     let counted : length (counts_bytes cat.counts) ≡ 4 * length cat.counts = counts_length cat.counts in
-    let head : length (catalog_head cat.generation (length (canonical_text cat.schema))) ≡ 16 = head_length cat.generation (length (canonical_text cat.schema)) in
-    let all = parts_length (catalog_head cat.generation (length (canonical_text cat.schema))) (canonical_text cat.schema) (counts_bytes cat.counts) 16 15240 48
+    let head : length (catalog_head cat.version cat.generation (length (canonical_text cat.schema))) ≡ 16 = head_length cat.version cat.generation (length (canonical_text cat.schema)) in
+    let all = parts_length (catalog_head cat.version cat.generation (length (canonical_text cat.schema))) (canonical_text cat.schema) (counts_bytes cat.counts) 16 15240 48
     (omega (arith, head)) (canonical_length cat.schema tree) (omega (arith, counted, same, few)) in
     omega (arith, all)

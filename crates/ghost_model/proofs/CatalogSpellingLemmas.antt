@@ -26,11 +26,11 @@ same_front (p ∷ a) (q ∷ b) x y n e =
     let r = same_front a b x y (omega arith) later in
     (ap (λ c. c ∷ a) first ∙ ap (λ (c : List ℕ). q ∷ c) r.0, r.1)
 
-generation_in : (generation size : ℕ) → generation < 2 ^ 32 → from_be_bytes w32 (take 4 (drop 8 (catalog_head generation size))) ≡ generation
-generation_in generation size h = from_be_bytes-to_be_bytes_4 generation h
+generation_in : (version generation size : ℕ) → generation < 2 ^ 32 → from_be_bytes w32 (take 4 (drop 8 (catalog_head version generation size))) ≡ generation
+generation_in version generation size h = from_be_bytes-to_be_bytes_4 generation h
 
-size_in : (generation size : ℕ) → size < 2 ^ 32 → from_be_bytes w32 (take 4 (drop 12 (catalog_head generation size))) ≡ size
-size_in generation size h = from_be_bytes-to_be_bytes_4 size h
+size_in : (version generation size : ℕ) → size < 2 ^ 32 → from_be_bytes w32 (take 4 (drop 12 (catalog_head version generation size))) ≡ size
+size_in version generation size h = from_be_bytes-to_be_bytes_4 size h
 
 -- numbers of four bytes are told apart by them
 same_number : (n m : ℕ) → n < 2 ^ 32 → m < 2 ^ 32 → to_be_bytes w32 n ≡ to_be_bytes w32 m → n ≡ m
@@ -59,18 +59,18 @@ one_front : (cat other : Catalog) (rest more : List ℕ) → IsCatalog cat → I
 one_front cat other rest more p q e =
     let text = canonical_text cat.schema in
     let text_too = canonical_text other.schema in
-    let head = catalog_head cat.generation (length text) in
-    let head_too = catalog_head other.generation (length text_too) in
+    let head = catalog_head cat.version cat.generation (length text) in
+    let head_too = catalog_head other.version other.generation (length text_too) in
     let short : length text ≤ 15240 = canonical_length cat.schema (schemas_are_trees text cat.schema p.meant) in
     let short_too : length text_too ≤ 15240 = canonical_length other.schema (schemas_are_trees text_too other.schema q.meant) in
     let heads = same_front head head_too (text ++ (counts_bytes cat.counts ++ rest)) (text_too ++ (counts_bytes other.counts ++ more)) refl
     (sym (regrouped head text (counts_bytes cat.counts) rest) ∙ (e ∙ regrouped head_too text_too (counts_bytes other.counts) more)) in
     let generation : cat.generation ≡ other.generation =
-    sym (generation_in cat.generation (length text) p.generation_fits)
-    ∙ (ap (λ (bytes : List ℕ). from_be_bytes w32 (take 4 (drop 8 bytes))) heads.0 ∙ generation_in other.generation (length text_too) q.generation_fits) in
+    sym (generation_in cat.version cat.generation (length text) p.generation_fits)
+    ∙ (ap (λ (bytes : List ℕ). from_be_bytes w32 (take 4 (drop 8 bytes))) heads.0 ∙ generation_in other.version other.generation (length text_too) q.generation_fits) in
     let size : length text ≡ length text_too =
-    sym (size_in cat.generation (length text) (omega (arith, short)))
-    ∙ (ap (λ (bytes : List ℕ). from_be_bytes w32 (take 4 (drop 12 bytes))) heads.0 ∙ size_in other.generation (length text_too) (omega (arith, short_too))) in
+    sym (size_in cat.version cat.generation (length text) (omega (arith, short)))
+    ∙ (ap (λ (bytes : List ℕ). from_be_bytes w32 (take 4 (drop 12 bytes))) heads.0 ∙ size_in other.version other.generation (length text_too) (omega (arith, short_too))) in
     let texts = same_front text text_too (counts_bytes cat.counts ++ rest) (counts_bytes other.counts ++ more) size heads.1 in
     let schema : cat.schema ≡ other.schema =
     one_schema.one_schema text cat.schema other.schema p.meant (subst (λ (t : List ℕ). MeansSchema t other.schema) (sym texts.0) q.meant) in
@@ -81,7 +81,8 @@ one_front cat other rest more p q e =
     let count : cat.counts ≡ other.counts = same_counts cat.counts other.counts p.few_rows q.few_rows number counts.0 in (
       ap (λ (s : Schema). record cat { schema = s }) schema
           ∙ (ap (λ (c : List ℕ). record cat { schema = other.schema; counts = c }) count
-          ∙ ap (λ g. record other { generation = g }) generation),
+          ∙ (ap (λ (n : ℕ). record cat { schema = other.schema; counts = other.counts; generation = n }) generation
+          ∙ ap (λ (v : ℕ). record other { version = v }) (p.one_version ∙ sym q.one_version))),
       counts.1,
     )
 

@@ -43,30 +43,32 @@ table_text schema table =
 abbrev pub canonical_text : Schema → List ℕ
 canonical_text schema = flat_map (table_text schema) schema
 
+-- the version of the format that there is
 abbrev pub catalog_version : ℕ
 catalog_version = 1
 
 -- the bytes before the canonical text: the mark, the version, the generation and the text's length
-abbrev pub catalog_head : (generation length : ℕ) → List ℕ
-catalog_head generation length =
-    codes "GHOSTDB" ++ catalog_version ∷ (to_be_bytes w32 generation ++ to_be_bytes w32 length)
+abbrev pub catalog_head : (version generation length : ℕ) → List ℕ
+catalog_head version generation length =
+    codes "GHOSTDB" ++ version ∷ (to_be_bytes w32 generation ++ to_be_bytes w32 length)
 
 abbrev pub counts_bytes : List ℕ → List ℕ
 counts_bytes counts = flat_map (to_be_bytes w32) counts
 
 abbrev pub catalog_bytes : Catalog → List ℕ
 catalog_bytes cat =
-    catalog_head cat.generation (length (canonical_text cat.schema))
+    catalog_head cat.version cat.generation (length (canonical_text cat.schema))
     ++ (canonical_text cat.schema ++ counts_bytes cat.counts)
 
 -- a catalog that both sides may share: its text means its schema, each table has a number of rows of at most a million,
--- and its generation is not 0 and has four bytes
+-- its generation is not 0 and has four bytes, and its version is the one that there is
 pub record IsCatalog (cat : Catalog) : Type 0 where
   pub meant : MeansSchema (canonical_text cat.schema) cat.schema
   pub counted : length cat.counts ≡ length cat.schema
   pub few_rows : list_all (λ count. nat_le count most_rows) cat.counts ≡ true
   pub some_generation : 0 < cat.generation
   pub generation_fits : cat.generation < 2 ^ 32
+  pub one_version : cat.version ≡ catalog_version
 
 -- bytes that spell a catalog
 pub record SpellsCatalog (bytes : List ℕ) (cat : Catalog) : Type 0 where

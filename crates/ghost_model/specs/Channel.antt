@@ -5,11 +5,12 @@ use Rattle.ghost_model.specs.Schema.{Schema}
 use Rattle.ghost_model.specs.Values.{Value}
 use Rattle.ghost_model.specs.Query.{Operator}
 
--- schema, number of rows of each table, and generation
+-- schema, number of rows of each table, generation, and version of the format
 pub record Catalog : Type 0 where
   pub schema : Schema
   pub counts : List ℕ
   pub generation : ℕ
+  pub version : ℕ
 
 -- a condition of an ask: a visible column of its table, an operator and a literal
 pub record Test : Type 0 where

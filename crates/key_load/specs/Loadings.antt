@@ -9,7 +9,7 @@ use Rattle.ghost_model.specs.Schema.{Schema}
 use Rattle.ghost_model.specs.Values.{Database}
 
 abbrev pub catalog_for : Schema → Database → Catalog
-catalog_for schema database = record { schema = schema; counts = row_counts database; generation = 1 }
+catalog_for schema database = record { schema = schema; counts = row_counts database; generation = 1; version = 1 }
 
 -- as many blocks as are asked for, else as many as are needed
 abbrev pub blocks_for : Catalog → (asked : Option ℕ) → ℕ

@@ -38,7 +38,7 @@ subject schema database texts words =
 
 -- the catalog of the first generation
 abbrev pub catalog_for : Schema → Database → Catalog
-catalog_for schema database = record { schema = schema; counts = row_counts database; generation = 1 }
+catalog_for schema database = record { schema = schema; counts = row_counts database; generation = 1; version = 1 }
 
 abbrev pub catalog_in : Subject → Catalog
 catalog_in one = catalog_for one.schema one.database

@@ -36,5 +36,5 @@ stored bytes told page cat database proper few knows = record {
       let same = rows_counted database table ∙ ap (λ (counts : List ℕ). slice_index counts table) knows.counts in
       let most = few.rows table in
       omega (arith, same, most);
-  bytes_are = bytes (canonical_text cat.schema) cat proper.meant;
+  bytes_are = bytes cat proper;
 }

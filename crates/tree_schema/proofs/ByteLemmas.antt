@@ -11,7 +11,7 @@ use Rattle.ghost_model.specs.Frames.{AreBytes}
 use Rattle.ghost_model.specs.Schema.{Integer, Chars, Kind, Column, Table, Schema, columns_or_none, column_at}
 use Rattle.ghost_model.specs.SchemaTrees.{IsTree}
 use Rattle.ghost_model.specs.Channel.{Catalog}
-use Rattle.ghost_model.specs.Catalog.{kind_text, name_or_none, table_name, reference_text, hidden_text, column_text, table_text, canonical_text, counts_bytes, catalog_bytes}
+use Rattle.ghost_model.specs.Catalog.{kind_text, name_or_none, table_name, reference_text, hidden_text, column_text, table_text, canonical_text, catalog_version, counts_bytes, catalog_bytes}
 
 no_bytes : AreBytes []
 no_bytes i = lit< tt
@@ -108,14 +108,17 @@ table_bytes schema tree at table e =
     (ap (λ (found : Option Table). slice_get (columns_or_none found) (suc i)) e ∙ later_column table.columns i column k)))
     (append_bytes (codes ");") (10 ∷ []) (fixed_bytes (codes ");") refl) (fixed_bytes (10 ∷ []) refl)))))
 
-pub catalog_is_bytes : (cat : Catalog) → IsTree cat.schema → AreBytes (catalog_bytes cat)
-catalog_is_bytes cat tree =
+one_byte : (version : ℕ) → version ≡ catalog_version → AreBytes (version ∷ [])
+one_byte version e = more_bytes version [] (omega (arith, e)) no_bytes
+
+pub catalog_is_bytes : (cat : Catalog) → IsTree cat.schema → cat.version ≡ catalog_version → AreBytes (catalog_bytes cat)
+catalog_is_bytes cat tree version =
     let text = canonical_text cat.schema in
     let counted = text ++ counts_bytes cat.counts in
     let sized = to_be_bytes w32 (length text) ++ counted in
     let numbered = to_be_bytes w32 cat.generation ++ sized in
-    append_bytes (codes "GHOSTDB") (1 ∷ numbered) (fixed_bytes (codes "GHOSTDB") refl)
-    (append_bytes (1 ∷ []) numbered (fixed_bytes (1 ∷ []) refl)
+    append_bytes (codes "GHOSTDB") (cat.version ∷ numbered) (fixed_bytes (codes "GHOSTDB") refl)
+    (append_bytes (cat.version ∷ []) numbered (one_byte cat.version version)
     (append_bytes (to_be_bytes w32 cat.generation) sized (number_bytes cat.generation)
     (append_bytes (to_be_bytes w32 (length text)) counted (number_bytes (length text))
     (append_bytes text (counts_bytes cat.counts) (pieces_bytes (table_text cat.schema) cat.schema (λ at table e. table_bytes cat.schema tree at table e))

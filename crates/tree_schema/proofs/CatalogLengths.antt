@@ -17,7 +17,7 @@ pub catalog_length : (cat : Catalog) → length cat.counts ≡ length cat.schema
     → length (catalog_bytes cat) ≡ 16 + length (canonical_text cat.schema) + 4 * length cat.schema
 catalog_length cat e =
     let text = canonical_text cat.schema in
-    let parts = parts_length (catalog_head cat.generation (length text)) text (counts_bytes cat.counts) in
+    let parts = parts_length (catalog_head cat.version cat.generation (length text)) text (counts_bytes cat.counts) in
     parts ∙ omega (arith, counts_length cat.counts, e)
 
 pub text_is_short : (cat : Catalog) → length cat.counts ≡ length cat.schema → length (catalog_bytes cat) ≤ 16640

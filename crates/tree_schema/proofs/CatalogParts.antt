@@ -1,7 +1,7 @@
 -- Bytes that begin with a catalog have its parts.
 use Rattle.std.proofs.Common.{◌≡◌, ℕ, ◌≤◌, List, ◌++◌, length, ap, ◌∙◌, append_assoc, arith}
 use Rattle.ghost_model.specs.Channel.{Catalog}
-use Rattle.ghost_model.specs.Catalog.{canonical_text, catalog_head, counts_bytes, catalog_bytes, BeginsWithCatalog}
+use Rattle.ghost_model.specs.Catalog.{canonical_text, catalog_version, catalog_head, counts_bytes, catalog_bytes, BeginsWithCatalog}
 use Rattle.tree_schema.specs.CatalogParts.{HasParts}
 use Rattle.tree_schema.proofs.CatalogLengths.{text_is_short}
 
@@ -13,7 +13,8 @@ pub has_parts : (bytes : List ℕ) (cat : Catalog) (front : BeginsWithCatalog by
 has_parts bytes cat front short =
     let text = canonical_text cat.schema in
     record {
-      whole = front.begins ∙ regrouped (catalog_head cat.generation (length text)) text (counts_bytes cat.counts) front.rest;
+      whole = front.begins ∙ (regrouped (catalog_head cat.version cat.generation (length text)) text (counts_bytes cat.counts) front.rest
+          ∙ ap (λ (version : ℕ). catalog_head version cat.generation (length text) ++ (text ++ (counts_bytes cat.counts ++ front.rest))) front.proper.one_version);
       generation_fits = front.proper.generation_fits;
       text_fits = omega (arith, text_is_short cat front.proper.counted short);
     }

@@ -4,7 +4,6 @@ use Rattle.std.specs.Int.{to_be_bytes, w32}
 use Rattle.ghost_model.specs.Channel.{Catalog}
 use Rattle.ghost_model.specs.Catalog as catalog
 use Rattle.ghost_model.specs.Frames.{AreBytes}
-use Rattle.ghost_model.specs.SchemaFaults.{MeansSchema}
 use Rattle.tree_schema.specs.Catalogs.{IsCatalog}
 use Rattle.tree_schema.specs.declared.catalog_reading.Parts.{Parts}
 
@@ -14,13 +13,13 @@ CatalogsAreShort =
     (cat : Catalog) → IsCatalog cat → cat.generation < 2 ^ 32
     → catalog.IsCatalog cat × (length (catalog.catalog_bytes cat) ≤ 16640)
 
--- what a catalog is spelled with are bytes, where some text means its schema
+-- what a catalog is spelled with are bytes
 abbrev pub CatalogsAreBytes : Type 0
-CatalogsAreBytes = (text : List ℕ) (cat : Catalog) → MeansSchema text cat.schema → AreBytes (catalog.catalog_bytes cat)
+CatalogsAreBytes = (cat : Catalog) → catalog.IsCatalog cat → AreBytes (catalog.catalog_bytes cat)
 
--- a head for a generation and a text, that text, and what follows it
+-- a head of the version that there is for a generation and a text, that text, and what follows it
 pub record HasParts (bytes : List ℕ) (generation : ℕ) (text later : List ℕ) : Type 0 where
-  pub whole : bytes ≡ catalog.catalog_head generation (length text) ++ (text ++ later)
+  pub whole : bytes ≡ catalog.catalog_head catalog.catalog_version generation (length text) ++ (text ++ later)
   pub generation_fits : generation < 2 ^ 32
   pub text_fits : length text < 2 ^ 32
 

@@ -1,13 +1,14 @@
 -- The catalogs that there are: a schema that some text means, the number of rows of each of its tables, at most a
--- million, and a generation, which is not 0.
+-- million, a generation, which is not 0, and the version that there is.
 use Rattle.std.specs.Prelude.{◌≡◌, ℕ, ◌<◌, nat_le, Bool, IsTrue, List, length}
 use Rattle.std.specs.List.{list_all}
 use Rattle.ghost_model.specs.Schema.{Schema}
 use Rattle.ghost_model.specs.Channel.{Catalog}
+use Rattle.ghost_model.specs.Catalog.{catalog_version}
 use Rattle.tree_schema.specs.Schemas.{IsDeclared}
 
 abbrev pub catalog_of : Schema → List ℕ → ℕ → Catalog
-catalog_of schema counts generation = record { schema = schema; counts = counts; generation = generation }
+catalog_of schema counts generation = record { schema = schema; counts = counts; generation = generation; version = catalog_version }
 
 abbrev pub are_counts : List ℕ → Bool
 are_counts counts = list_all (λ rows. nat_le rows 1_000_000) counts
@@ -17,3 +18,4 @@ pub record IsCatalog (cat : Catalog) : Type 0 where
   pub one_each : length cat.counts ≡ length cat.schema
   pub within : IsTrue (are_counts cat.counts)
   pub used : 0 < cat.generation
+  pub one_version : cat.version ≡ catalog_version

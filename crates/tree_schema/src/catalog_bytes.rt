@@ -30,7 +30,7 @@ pub fn catalogs_are_short()
     ghost_model::catalogs::no_catalog_is_long();
 }
 
-/// The bytes of a catalog whose schema some text means are bytes.
+/// The bytes of a catalog are bytes.
 pub fn catalogs_are_bytes()
     ensures bytes { CatalogsAreBytes }
 {
@@ -49,7 +49,7 @@ pub fn a_catalog_is_short(cat: &Catalog)
 
 /// What stands before the canonical text, whose length is told.
 fn put_head(window: &mut Window, out: &mut [u8], generation: u32, text_len: u32)
-    ensures text { pane window.new out.new ≡ with_text (pane window.old out.old) (catalog.catalog_head generation text_len) }
+    ensures text { pane window.new out.new ≡ with_text (pane window.old out.old) (catalog.catalog_head catalog.catalog_version generation text_len) }
 {
     window.put(out, b"GHOSTDB");
     window.put(out, &[VERSION]);

@@ -14,7 +14,8 @@ pub record CatalogsOfExamples : Type 0 where
   pub the_last_generation : IsCatalog (record note_catalog { generation = 4294967295 })
   pub a_generation_more : IsCatalog (record note_catalog { generation = 4294967296 }) → ⊥
   pub generation_zero : IsCatalog (record note_catalog { generation = 0 }) → ⊥
-  pub no_table : IsCatalog (record { schema = []; counts = []; generation = 1 }) → ⊥
+  pub another_version : IsCatalog (record note_catalog { version = 2 }) → ⊥
+  pub no_table : IsCatalog (record { schema = []; counts = []; generation = 1; version = 1 }) → ⊥
 
 -- bytes that spell no catalog
 abbrev pub SpellsNone : List ℕ → Type 0

@@ -64,7 +64,7 @@ clinic =
     ∷ []
 
 abbrev pub clinic_catalog : Catalog
-clinic_catalog = record { schema = clinic_schema; counts = 3 ∷ 2 ∷ 4 ∷ []; generation = 1 }
+clinic_catalog = record { schema = clinic_schema; counts = 3 ∷ 2 ∷ 4 ∷ []; generation = 1; version = 1 }
 
 abbrev pub note_table : Table
 note_table = record {
@@ -84,4 +84,4 @@ notes =
     ∷ []
 
 abbrev pub note_catalog : Catalog
-note_catalog = record { schema = note_schema; counts = 3 ∷ []; generation = 1 }
+note_catalog = record { schema = note_schema; counts = 3 ∷ []; generation = 1; version = 1 }

@@ -80,10 +80,10 @@ top_table = record {
 }
 
 abbrev pub remainders_catalog : Catalog
-remainders_catalog = record { schema = leaf_table ∷ top_table ∷ []; counts = 50 ∷ 12000 ∷ []; generation = 1 }
+remainders_catalog = record { schema = leaf_table ∷ top_table ∷ []; counts = 50 ∷ 12000 ∷ []; generation = 1; version = 1 }
 
 abbrev pub saturated_catalog : Catalog
-saturated_catalog = record { schema = leaf_table ∷ top_table ∷ []; counts = 41000 ∷ 100 ∷ []; generation = 1 }
+saturated_catalog = record { schema = leaf_table ∷ top_table ∷ []; counts = 41000 ∷ 100 ∷ []; generation = 1; version = 1 }
 
 pub record LayoutsOfLargerDatabases : Type 0 where
   pub catalog : length (catalog_bytes remainders_catalog) ≡ 217

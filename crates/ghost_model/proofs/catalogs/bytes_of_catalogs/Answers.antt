@@ -23,14 +23,18 @@ the_clinic = record {
   few_rows = refl;
   some_generation = omega arith;
   generation_fits = omega arith;
+  one_version = refl;
 }
 
 -- the first eight bytes of each catalog
-head_of : (cat : Catalog) → take 8 (catalog_bytes cat) ≡ 71 ∷ 72 ∷ 79 ∷ 83 ∷ 84 ∷ 68 ∷ 66 ∷ 1 ∷ []
-head_of cat = refl
+abbrev marked : ℕ → List ℕ
+marked version = 71 ∷ 72 ∷ 79 ∷ 83 ∷ 84 ∷ 68 ∷ 66 ∷ version ∷ []
 
-other_head : (bytes : List ℕ) (cat : Catalog) → SpellsCatalog bytes cat → take 8 bytes ≡ 71 ∷ 72 ∷ 79 ∷ 83 ∷ 84 ∷ 68 ∷ 66 ∷ 1 ∷ []
-other_head bytes cat spells = ap (take 8) spells.spelled ∙ head_of cat
+head_of : (cat : Catalog) → IsCatalog cat → take 8 (catalog_bytes cat) ≡ marked 1
+head_of cat proper = ap marked proper.one_version
+
+other_head : (bytes : List ℕ) (cat : Catalog) → SpellsCatalog bytes cat → take 8 bytes ≡ marked 1
+other_head bytes cat spells = ap (take 8) spells.spelled ∙ head_of cat spells.proper
 
 whole : catalog_bytes clinic_catalog ≡ take 364 (catalog_bytes clinic_catalog) ++ 4 ∷ []
 unfolding digits

@@ -35,14 +35,15 @@ no_table_means means =
 
 pub returns : goal.returns
 returns c = record {
-  clinic = record { meant = clinic_means; counted = refl; few_rows = refl; some_generation = omega arith; generation_fits = omega arith };
-  note = record { meant = note_means; counted = refl; few_rows = refl; some_generation = omega arith; generation_fits = omega arith };
-  no_row_at_all = record { meant = clinic_means; counted = refl; few_rows = refl; some_generation = omega arith; generation_fits = omega arith };
-  a_million_rows = record { meant = note_means; counted = refl; few_rows = refl; some_generation = omega arith; generation_fits = omega arith };
+  clinic = record { meant = clinic_means; counted = refl; few_rows = refl; some_generation = omega arith; generation_fits = omega arith; one_version = refl };
+  note = record { meant = note_means; counted = refl; few_rows = refl; some_generation = omega arith; generation_fits = omega arith; one_version = refl };
+  no_row_at_all = record { meant = clinic_means; counted = refl; few_rows = refl; some_generation = omega arith; generation_fits = omega arith; one_version = refl };
+  a_million_rows = record { meant = note_means; counted = refl; few_rows = refl; some_generation = omega arith; generation_fits = omega arith; one_version = refl };
   a_row_more = λ h. absurd (cc (h.few_rows));
   a_count_too_few = λ h. absurd (omega (arith, h.counted));
-  the_last_generation = record { meant = note_means; counted = refl; few_rows = refl; some_generation = omega arith; generation_fits = omega arith };
+  the_last_generation = record { meant = note_means; counted = refl; few_rows = refl; some_generation = omega arith; generation_fits = omega arith; one_version = refl };
   a_generation_more = λ h. absurd (omega (arith, h.generation_fits));
   generation_zero = λ h. absurd (omega (arith, h.some_generation));
+  another_version = λ h. absurd (omega (arith, h.one_version));
   no_table = λ h. no_table_means h.meant;
 }

@@ -2,13 +2,13 @@ use Rattle.std.proofs.Common.{◌≡◌, ◌++◌, List, length, take, drop, ap,
 use Rattle.std.specs.Int.{from_be_bytes, to_be_bytes, w32}
 use Rattle.std.proofs.lemmas.Nat.{from_be_bytes-to_be_bytes_4}
 use Rattle.std.proofs.Math.Seq.{take-append_seam, drop-append_seam}
-use Rattle.ghost_model.specs.Catalog.{catalog_head}
+use Rattle.ghost_model.specs.Catalog.{catalog_version, catalog_head}
 use Rattle.tree_schema.proofs.catalog_reading.parts_of.Goals as goal
 
 pub returns : goal.returns
 returns c = record {
   only = λ generation text later h.
-      let head : c.split_at.result.0.now ≡ catalog_head generation (length text) = c.split_at.ensures.front ∙ ap (take 16) h.whole in
+      let head : c.split_at.result.0.now ≡ catalog_head catalog_version generation (length text) = c.split_at.ensures.front ∙ ap (take 16) h.whole in
       let body : c.split_at.result.1.now ≡ text ++ later = c.split_at.ensures.back ∙ ap (drop 16) h.whole in
       let numbers : c.split_at-2.result.1.now ≡ to_be_bytes w32 generation ++ to_be_bytes w32 (length text) = c.split_at-2.ensures.back ∙ ap (drop 8) head in
       let number : c.split_at-3.result.0.now ≡ to_be_bytes w32 generation = c.split_at-3.ensures.front ∙ ap (take 4) numbers in
