@@ -1,7 +1,7 @@
 //! The hidden part on the flash.
 
 ghost use Rattle.std.specs.Prelude.{◌≡◌, ◌<◌, ◌≤◌, ◌+◌, true, Err, OnOk};
-ghost use Rattle.ghost_model.specs.Flash.{HoldsColumns};
+ghost use Rattle.ghost_model.specs.Flash.{HoldsFilesSoFar};
 ghost use Rattle.ghost_model.specs.Layout as layout;
 ghost use Rattle.ghost_model.specs.Work as work;
 ghost use Rattle.edge_traits.specs.Devices.{Counts, ChangesOnly};
@@ -31,14 +31,14 @@ pub fn build<F: Flash>(
 ) -> Result<(), BuildFault>
     requires part { IsHidden cat.now hidden.now }
     requires blank { IsBlank layout.public_pages (layout.files_end cat.now) (F.state flash.old) }
-    ensures holds { OnOk result (F.told ≡ true → HoldsColumns (F.state flash.new).page cat.now hidden.now) }
+    ensures holds { OnOk result (F.told ≡ true → HoldsFilesSoFar (F.state flash.new).page cat.now hidden.now) }
     ensures too_small { (F.state flash.old).page_count < layout.need cat.now → result ≡ Err (fault.TooSmall (layout.need cat.now) (F.state flash.old).page_count) }
     ensures untouched { (F.state flash.old).page_count < layout.need cat.now → F.state flash.new ≡ F.state flash.old }
     ensures large_enough { layout.need cat.now ≤ (F.state flash.old).page_count → BlamesFlash result }
     ensures columns { ChangesColumns cat.now (F.state flash.old) (F.state flash.new) }
     ensures others { ChangesOnly layout.public_pages (layout.files_end cat.now) (F.state flash.old) (F.state flash.new) }
-    ensures exact { OnOk result (Counts (work.file_pages cat.now) (F.state flash.old).calls (F.state flash.new).calls) }
-    ensures at_most { (F.state flash.new).calls ≤ (F.state flash.old).calls + work.file_pages cat.now }
+    ensures exact { OnOk result (Counts (work.file_pages cat.now hidden.now) (F.state flash.old).calls (F.state flash.new).calls) }
+    ensures at_most { (F.state flash.new).calls ≤ (F.state flash.old).calls + work.file_pages cat.now hidden.now }
     ensures deep_reads { (F.state flash.new).deep_reads ≡ (F.state flash.old).deep_reads }
     ensures cause { BuildCause (F.state flash.old).faults (F.state flash.new).faults result }
     ensures last { EndsAtFault (F.state flash.new).since_fault result }

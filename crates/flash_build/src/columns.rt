@@ -169,8 +169,8 @@ pub(crate) fn write_columns<F: Flash>(
     requires can { CanFill (F.state flash.old) layout.public_pages (layout.files_end cat.now - layout.public_pages) }
     ensures stores { OnOk result (F.told ≡ true → (table column : ℕ) → layout.is_hidden cat.now.schema table column ≡ true → Stores (F.state flash.new).page (layout.column_file cat.now table column) (hidden_cells cat.now.schema hidden.now table column)) }
     ensures columns { ChangesColumns cat.now (F.state flash.old) (F.state flash.new) }
-    ensures exact { OnOk result (Counts (work.file_pages cat.now) (F.state flash.old).calls (F.state flash.new).calls) }
-    ensures at_most { (F.state flash.new).calls ≤ (F.state flash.old).calls + work.file_pages cat.now }
+    ensures exact { OnOk result (Counts (work.file_pages cat.now hidden.now) (F.state flash.old).calls (F.state flash.new).calls) }
+    ensures at_most { (F.state flash.new).calls ≤ (F.state flash.old).calls + work.file_pages cat.now hidden.now }
     ensures deep_reads { (F.state flash.new).deep_reads ≡ (F.state flash.old).deep_reads }
     ensures cause { HasCause (F.state flash.old).faults (F.state flash.new).faults result }
     ensures last { OnErr result ((F.state flash.new).since_fault ≡ 0) }

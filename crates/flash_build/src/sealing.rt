@@ -2,7 +2,7 @@
 
 ghost use Rattle.std.specs.Prelude.{◌≡◌, ◌<◌, ◌≤◌, ◌+◌, ◌-◌, true, false, OnOk, OnErr};
 ghost use Rattle.ghost_model.specs.Causes.{HasCause};
-ghost use Rattle.ghost_model.specs.Flash.{HoldsCatalog, HoldsColumns, catalog_page};
+ghost use Rattle.ghost_model.specs.Flash.{HoldsCatalog, HoldsFilesSoFar, catalog_page};
 ghost use Rattle.ghost_model.specs.Layout as layout;
 ghost use Rattle.ghost_model.specs.Split.{Hidden};
 ghost use Rattle.ghost_model.specs.Work as work;
@@ -73,7 +73,7 @@ pub fn seal<F: Flash>(cat: &Catalog, flash: &mut F) -> Result<(), Failed>
     ensures holds { OnOk result (F.told ≡ true → HoldsCatalog (F.state flash.new).page cat.now) }
     ensures unsealed { F.told ≡ true → (F.state flash.new).blank 0 ≡ true → SpellsNoCatalog (F.state flash.new).page }
     ensures page_0_last { F.told ≡ true → (F.state flash.new).blank 0 ≡ false → HoldsFrom 1 (F.state flash.new).page cat.now }
-    ensures columns { (hidden : Hidden) → HoldsColumns (F.state flash.old).page cat.now hidden → HoldsColumns (F.state flash.new).page cat.now hidden }
+    ensures files { (hidden : Hidden) → HoldsFilesSoFar (F.state flash.old).page cat.now hidden → HoldsFilesSoFar (F.state flash.new).page cat.now hidden }
     ensures others { ChangesOnly 0 (work.catalog_pages cat.now) (F.state flash.old) (F.state flash.new) }
     ensures exact { OnOk result (Counts (work.catalog_pages cat.now) (F.state flash.old).calls (F.state flash.new).calls) }
     ensures at_most { (F.state flash.new).calls ≤ (F.state flash.old).calls + work.catalog_pages cat.now }

@@ -1,6 +1,7 @@
 //! How many calls of the flash a loading makes.
 
 ghost use Rattle.std.specs.Prelude.{◌≡◌, ◌≤◌};
+ghost use Rattle.ghost_model.specs.Split.{Hidden};
 ghost use Rattle.ghost_model.specs.Work as work;
 
 use crate::columns::columns_pages;
@@ -17,7 +18,7 @@ fn catalog_pages(cat: &Catalog) -> u32
 
 /// The pages of the files that a loading writes.
 fn file_pages(cat: &Catalog) -> u32
-    ensures value { result ≡ work.file_pages cat.now }
+    ensures value { (hidden : Hidden) → result ≡ work.file_pages cat.now hidden }
     ensures most { result ≤ 288000000 }
 {
     ghost_model::layout::sums_by_place();
@@ -31,7 +32,7 @@ fn file_pages(cat: &Catalog) -> u32
 /// The calls of the flash that a loading makes: one that makes the device, and one for each page that holds a byte of the
 /// catalog or of a file.
 pub fn pages_built(cat: &Catalog) -> u32
-    ensures calls { result ≡ work.pages_built cat.now }
+    ensures calls { (hidden : Hidden) → result ≡ work.pages_built cat.now hidden }
     ensures most { result ≤ 288016641 }
 {
     1 + (catalog_pages(cat) + file_pages(cat))

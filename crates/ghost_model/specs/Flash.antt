@@ -176,10 +176,22 @@ abbrev pub HoldsIdIndexes : (ℕ → List ℕ) → Catalog → Hidden → Type 0
 HoldsIdIndexes page cat hidden =
     (table : ℕ) → table < length cat.schema → is_empty (above_of cat.schema table) ≡ false → HoldsIdIndex page cat hidden table
 
--- the pages hold the catalog and the hidden part
-pub record Holds (page : ℕ → List ℕ) (cat : Catalog) (hidden : Hidden) : Type 0 where
-  pub catalog : HoldsCatalog page cat
+-- the static pages hold the hidden part
+pub record HoldsFiles (page : ℕ → List ℕ) (cat : Catalog) (hidden : Hidden) : Type 0 where
   pub columns : HoldsColumns page cat hidden
   pub subtrees : HoldsSubtrees page cat hidden
   pub indexes : HoldsIndexes page cat hidden
   pub id_indexes : HoldsIdIndexes page cat hidden
+
+-- the pages hold the catalog and the hidden part
+pub record Holds (page : ℕ → List ℕ) (cat : Catalog) (hidden : Hidden) : Type 0 where
+  pub catalog : HoldsCatalog page cat
+  pub files : HoldsFiles page cat hidden
+
+-- What a device that was loaded holds so far: of the static files only column files are written yet.
+pub record HoldsFilesSoFar (page : ℕ → List ℕ) (cat : Catalog) (hidden : Hidden) : Type 0 where
+  pub columns : HoldsColumns page cat hidden
+
+pub record HoldsSoFar (page : ℕ → List ℕ) (cat : Catalog) (hidden : Hidden) : Type 0 where
+  pub catalog : HoldsCatalog page cat
+  pub files : HoldsFilesSoFar page cat hidden

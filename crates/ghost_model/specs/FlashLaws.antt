@@ -13,7 +13,7 @@ use Rattle.ghost_model.specs.Replies.{hidden_places, hidden_value}
 use Rattle.ghost_model.specs.Runs.{number_cell, record_at}
 use Rattle.ghost_model.specs.RunLaws.{AgreeOn}
 use Rattle.ghost_model.specs.Layout.{below, is_hidden, width_at, count_of, public_pages, files_end, column_file, subtree_table, index_directory, id_directory}
-use Rattle.ghost_model.specs.Flash.{GoesWith, HoldsCatalog, HoldsColumns, hidden_cells, cell_or_none, leads_to, subtree_record, directory_record, id_record}
+use Rattle.ghost_model.specs.Flash.{GoesWith, HoldsCatalog, HoldsColumns, HoldsFilesSoFar, hidden_cells, cell_or_none, leads_to, subtree_record, directory_record, id_record}
 
 -- how many hidden columns a table has before a column
 abbrev pub hidden_before : Schema → (table column : ℕ) → ℕ
@@ -78,11 +78,11 @@ ColumnFilesGiveValues =
     → decode_cell (kind_at cat.schema table column) (record_at page (column_file cat table column) place)
     ≡ hidden_value cat.schema hidden table (suc place) column
 
--- column files are held as long as the static pages stay, the catalog as long as the public ones do
+-- files are held as long as the static pages stay, the catalog as long as the public ones do
 pub record HoldingsAreKept : Type 0 where
-  pub columns :
+  pub files :
       (page other : ℕ → List ℕ) (cat : Catalog) (hidden : Hidden) → IsTree cat.schema
-      → AgreeOn page other public_pages (files_end cat) → HoldsColumns page cat hidden → HoldsColumns other cat hidden
+      → AgreeOn page other public_pages (files_end cat) → HoldsFilesSoFar page cat hidden → HoldsFilesSoFar other cat hidden
   pub catalog :
       (page other : ℕ → List ℕ) (cat : Catalog) → AgreeOn page other 0 public_pages
       → HoldsCatalog page cat → HoldsCatalog other cat

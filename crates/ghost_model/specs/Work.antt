@@ -3,6 +3,7 @@
 use Rattle.std.specs.Prelude.{ℕ, ◌+◌, length, sum_by}
 use Rattle.ghost_model.specs.Channel.{Catalog}
 use Rattle.ghost_model.specs.Catalog.{catalog_bytes}
+use Rattle.ghost_model.specs.Split.{Hidden}
 use Rattle.ghost_model.specs.Runs.{pages_of}
 use Rattle.ghost_model.specs.Layout.{tables_of, columns_pages}
 
@@ -10,10 +11,10 @@ use Rattle.ghost_model.specs.Layout.{tables_of, columns_pages}
 abbrev pub catalog_pages : Catalog → ℕ
 catalog_pages cat = pages_of (length (catalog_bytes cat)) 1
 
--- those of the column files, which are the files that are written so far
-abbrev pub file_pages : Catalog → ℕ
-file_pages cat = sum_by (columns_pages cat) (tables_of cat.schema)
+-- those of the files of a hidden part that are written so far: the column files, whose length does not depend on it
+abbrev pub file_pages : Catalog → Hidden → ℕ
+file_pages cat hidden = sum_by (columns_pages cat) (tables_of cat.schema)
 
 -- the calls of a loading: one that makes the device, and one for each page
-abbrev pub pages_built : Catalog → ℕ
-pages_built cat = 1 + (catalog_pages cat + file_pages cat)
+abbrev pub pages_built : Catalog → Hidden → ℕ
+pages_built cat hidden = 1 + (catalog_pages cat + file_pages cat hidden)

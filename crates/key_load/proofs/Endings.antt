@@ -1,7 +1,7 @@
 -- How a loading ended, from what its parts did.
 use Rattle.std.proofs.Common.{◌≡◌, ◌⊎◌, inl, inr, ℕ, ◌≤◌, ◌<◌, ◌*◌, Bool, true, false, List, Some, Result, Ok, Err, OnOk, refl, ap, subst, ◌∙◌}
 use Rattle.ghost_model.specs.Database.{IsDatabase}
-use Rattle.ghost_model.specs.Flash.{HoldsCatalog, HoldsColumns}
+use Rattle.ghost_model.specs.Flash.{HoldsCatalog, HoldsFilesSoFar, HoldsSoFar}
 use Rattle.ghost_model.specs.Layout.{need}
 use Rattle.ghost_model.specs.Schema.{Schema}
 use Rattle.ghost_model.specs.Split.{Hidden, hidden_of}
@@ -20,9 +20,11 @@ use Rattle.key_load.specs.declared.failures.LoadFailure.{LoadFailure}
 use Rattle.key_load.specs.declared.failures.LoadFailure.TheVariants as failure
 use Rattle.key_load.specs.declared.preparing.Prepared.{Prepared}
 
-pub on_ok : {T E : Type 0} (result : Result T E) (P : Type 0) → P → OnOk result P
-on_ok (Ok value) P holds = holds
-on_ok (Err fault) P holds = tt
+-- where the catalog was written, the flash holds it and what it held before
+pub sealed : {T E : Type 0} (result : Result T E) (told : Bool) (page : ℕ → List ℕ) (cat : Catalog) (hidden : Hidden) → OnOk result (told ≡ true → HoldsCatalog page cat)
+    → (told ≡ true → HoldsFilesSoFar page cat hidden) → OnOk result (told ≡ true → HoldsSoFar page cat hidden)
+sealed (Ok value) told page cat hidden catalog files = λ t. record { catalog = catalog t; files = files t }
+sealed (Err fault) told page cat hidden catalog files = tt
 
 -- nothing was prepared
 pub unprepared : (T : Type 0) (told : Bool) (one : Loading) (before after : World) (fault : LoadFailure) → LeavesBoth before after
@@ -40,15 +42,15 @@ pub failed : {T : Type 0} (result : Result T LoadFailure) (told : Bool) (one : L
     → (fault ≡ failure.Depot → Builds told one after)
     → (fault ≡ failure.Flash → (after.files ≡ before.files) ⊎ WritesFile told one before after)
     → (0 < after.device.page_count → after.device.blank 0 ≡ false → HasHostFile one before after)
-    → (0 < after.device.page_count → after.device.blank 0 ≡ false → told ≡ true → HoldsColumns after.device.page (catalog_in one) (hidden_of one.schema one.database))
+    → (0 < after.device.page_count → after.device.blank 0 ≡ false → told ≡ true → HoldsFilesSoFar after.device.page (catalog_in one) (hidden_of one.schema one.database))
     → EndsLoading {T = T} told one (Err fault) before after
-failed result told one before after failure.NoMemory of enough builds files file columns = inr enough
-failed result told one before after failure.Depot of enough builds files file columns = builds refl
-failed result told one before after (failure.Input broken) of enough builds files file columns = of
-failed result told one before after (failure.TooSmall needed had) of enough builds files file columns = absurd of
-failed result told one before after failure.Flash of enough builds files file columns =
-    record { enough = enough; files = files refl; file = file; columns = columns }
-failed result told one before after failure.Sink of enough builds files file columns = absurd of
+failed result told one before after failure.NoMemory of enough builds files file holds = inr enough
+failed result told one before after failure.Depot of enough builds files file holds = builds refl
+failed result told one before after (failure.Input broken) of enough builds files file holds = of
+failed result told one before after (failure.TooSmall needed had) of enough builds files file holds = absurd of
+failed result told one before after failure.Flash of enough builds files file holds =
+    record { enough = enough; files = files refl; file = file; holds = holds }
+failed result told one before after failure.Sink of enough builds files file holds = absurd of
 
 module _ {T : Type 0} where
   -- a loading ended so of the tables that the files spell
@@ -116,11 +118,15 @@ module _ (schema : Schema) (database : Database) (words : Load) (prepared : Prep
       → after.files ≡ with_file before.files words.visible prepared.image.items → HasHostFile (loading schema database words) before after
   host_file are before after file = file ∙ ap (λ bytes. with_file before.files words.visible bytes) are.image
 
-  pub columns_stand : IsPrepared schema database words.blocks prepared → (page : ℕ → List ℕ)
-      → HoldsColumns page prepared.cat prepared.hidden → HoldsColumns page (catalog_for schema database) (hidden_of schema database)
-  columns_stand are page holds =
-      subst (λ (hidden : Hidden). HoldsColumns page (catalog_for schema database) hidden) are.hidden
-      (subst (λ (cat : Catalog). HoldsColumns page cat prepared.hidden) are.cat holds)
+  -- what holds of what was prepared holds of the database
+  of_database : IsPrepared schema database words.blocks prepared → (P : Catalog → Hidden → Type 0)
+      → P prepared.cat prepared.hidden → P (catalog_for schema database) (hidden_of schema database)
+  of_database are P holds =
+      subst (P (catalog_for schema database)) are.hidden (subst (λ (cat : Catalog). P cat prepared.hidden) are.cat holds)
+
+  pub files_stand : IsPrepared schema database words.blocks prepared → (page : ℕ → List ℕ)
+      → HoldsFilesSoFar page prepared.cat prepared.hidden → HoldsFilesSoFar page (catalog_for schema database) (hidden_of schema database)
+  files_stand are page holds = of_database are (HoldsFilesSoFar page) holds
 
   -- what was prepared was built
   pub built : (told : Bool) → IsPrepared schema database words.blocks prepared → need prepared.cat ≤ 64 * prepared.blocks
@@ -129,7 +135,7 @@ module _ (schema : Schema) (database : Database) (words : Load) (prepared : Prep
     enough = large_enough are enough;
     name = is.name;
     pages = is.pages ∙ ap (λ blocks. 64 * blocks) are.blocks;
-    columns = λ t. columns_stand are after.device.page (is.columns t);
+    holds = λ t. files_stand are after.device.page (is.holds t);
   }
 
   -- the host's file is as before, or written where it was
@@ -146,15 +152,13 @@ module _ (schema : Schema) (database : Database) (words : Load) (prepared : Prep
   pub stands : (told : Bool) → IsPrepared schema database words.blocks prepared → (before after : World)
       → need prepared.cat ≤ 64 * prepared.blocks
       → after.device.name ≡ Some words.flash
-      → (told ≡ true → HoldsCatalog after.device.page prepared.cat)
-      → (told ≡ true → HoldsColumns after.device.page prepared.cat prepared.hidden)
+      → (told ≡ true → HoldsSoFar after.device.page prepared.cat prepared.hidden)
       → after.device.page_count ≡ 64 * prepared.blocks
       → after.files ≡ with_file before.files words.visible prepared.image.items
       → Stands told (loading schema database words) before after
-  stands told are before after enough name catalog columns pages file = record {
+  stands told are before after enough name holds pages file = record {
     name = name;
-    catalog = λ t. subst (λ (cat : Catalog). HoldsCatalog after.device.page cat) are.cat (catalog t);
-    columns = λ t. columns_stand are after.device.page (columns t);
+    holds = λ t. of_database are (HoldsSoFar after.device.page) (holds t);
     pages = pages ∙ ap (λ blocks. 64 * blocks) are.blocks;
     enough = large_enough are enough;
     file = host_file are before after file;

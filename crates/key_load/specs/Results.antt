@@ -2,7 +2,7 @@
 use Rattle.std.specs.Prelude.{◌≡◌, ◌⊎◌, ℕ, ◌≤◌, ◌<◌, Bool, true, false, List, Option, Some, Result, Ok, Err, ⊤}
 use Rattle.ghost_model.specs.Channel.{Catalog}
 use Rattle.ghost_model.specs.Database.{IsDatabase, database_of}
-use Rattle.ghost_model.specs.Flash.{HoldsCatalog, HoldsColumns}
+use Rattle.ghost_model.specs.Flash.{HoldsFilesSoFar, HoldsSoFar}
 use Rattle.ghost_model.specs.Layout.{need}
 use Rattle.ghost_model.specs.Schema.{Schema}
 use Rattle.ghost_model.specs.Split.{public_of, hidden_of, image}
@@ -65,13 +65,12 @@ pub record Builds (told : Bool) (one : Loading) (after : World) : Type 0 where
   pub enough : need (catalog_in one) ≤ pages_in one
   pub name : after.device.name ≡ Some one.words.flash
   pub pages : after.device.page_count ≡ pages_in one
-  pub columns : told ≡ true → HoldsColumns after.device.page (catalog_in one) (hidden_of one.schema one.database)
+  pub holds : told ≡ true → HoldsFilesSoFar after.device.page (catalog_in one) (hidden_of one.schema one.database)
 
 -- both ends' files stand
 pub record Stands (told : Bool) (one : Loading) (before after : World) : Type 0 where
   pub name : after.device.name ≡ Some one.words.flash
-  pub catalog : told ≡ true → HoldsCatalog after.device.page (catalog_in one)
-  pub columns : told ≡ true → HoldsColumns after.device.page (catalog_in one) (hidden_of one.schema one.database)
+  pub holds : told ≡ true → HoldsSoFar after.device.page (catalog_in one) (hidden_of one.schema one.database)
   pub pages : after.device.page_count ≡ pages_in one
   pub enough : need (catalog_in one) ≤ pages_in one
   pub file : HasHostFile one before after
@@ -97,9 +96,9 @@ pub record LeavesUnsealed (told : Bool) (one : Loading) (before after : World) :
   pub enough : need (catalog_in one) ≤ pages_in one
   pub files : (after.files ≡ before.files) ⊎ WritesFile told one before after
   pub file : 0 < after.device.page_count → after.device.blank 0 ≡ false → HasHostFile one before after
-  pub columns :
+  pub holds :
       0 < after.device.page_count → after.device.blank 0 ≡ false → told ≡ true
-      → HoldsColumns after.device.page (catalog_in one) (hidden_of one.schema one.database)
+      → HoldsFilesSoFar after.device.page (catalog_in one) (hidden_of one.schema one.database)
 
 -- how a loading of tables that were read ended
 abbrev pub EndsLoading : {T : Type 0} → (told : Bool) → Loading → Result T LoadFailure → (before after : World) → Type 0

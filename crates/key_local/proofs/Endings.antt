@@ -5,7 +5,7 @@ use Rattle.std.proofs.lemmas.Bool.{cases_lt}
 use Rattle.ghost_model.specs.Causes.{Rose, last_count}
 use Rattle.ghost_model.specs.Channel.{Catalog}
 use Rattle.ghost_model.specs.Database.{IsDatabase}
-use Rattle.ghost_model.specs.Flash.{HoldsCatalog, HoldsColumns}
+use Rattle.ghost_model.specs.Flash.{HoldsSoFar}
 use Rattle.ghost_model.specs.Layout.{need}
 use Rattle.ghost_model.specs.Printed.{printed}
 use Rattle.ghost_model.specs.Schema.{Schema}
@@ -46,11 +46,11 @@ gives_since schema database texts failed before middle after faults sink written
   unblamed = λ none. gives.unblamed none ∙ faults;
 }
 
--- the columns that were written are those of the catalog's database
-pub columns_stand : (page : ℕ → List ℕ) (catalog : Catalog) (schema : Schema) (database : Database) (hidden : Hidden) → catalog ≡ catalog_for schema database → hidden ≡ hidden_of schema database
-    → HoldsColumns page catalog hidden → HoldsColumns page catalog (hidden_of catalog.schema database)
-columns_stand page catalog schema database hidden same is holds =
-    subst (λ (part : Hidden). HoldsColumns page catalog part) (is ∙ sym (ap (λ (c : Catalog). hidden_of c.schema database) same)) holds
+-- what was written of a database's hidden part is of the catalog's database
+pub part_stands : (page : ℕ → List ℕ) (catalog : Catalog) (schema : Schema) (database : Database) (hidden : Hidden) → catalog ≡ catalog_for schema database → hidden ≡ hidden_of schema database
+    → HoldsSoFar page catalog hidden → HoldsSoFar page catalog (hidden_of catalog.schema database)
+part_stands page catalog schema database hidden same is holds =
+    subst (HoldsSoFar page catalog) (is ∙ sym (ap (λ (c : Catalog). hidden_of c.schema database) same)) holds
 
 -- a call after those that were counted
 rose_after : (before more now later : ℕ) → Counts more before now → Rose now later → Rose (before + more) later
@@ -65,11 +65,11 @@ pub ran_of : (told : Bool) (schema : Schema) (database : Database) (texts : List
     → catalog ≡ catalog_for schema database → RanOver told catalog database texts words.journal end middle after
     → middle.device.faults ≡ before.device.faults → middle.append_faults ≡ before.append_faults → middle.sink_faults ≡ before.sink_faults → middle.written ≡ before.written
     → HasLines middle.files words.journal []
-    → middle.device.name ≡ Some words.flash → Counts (pages_built catalog) before.device.calls middle.device.calls
-    → (told ≡ true → HoldsCatalog middle.device.page catalog) → (told ≡ true → HoldsColumns middle.device.page catalog (hidden_of schema database))
+    → middle.device.name ≡ Some words.flash → Counts (pages_built catalog (hidden_of schema database)) before.device.calls middle.device.calls
+    → (told ≡ true → HoldsSoFar middle.device.page catalog (hidden_of schema database))
     → middle.device.page_count ≡ need catalog → KeepsPages middle.device after.device
     → Ran told (subject schema database texts words) end before after
-ran_of told schema database texts words end catalog before middle after same ran faults appends sink written empty named counts catalog_there columns_there pages kept =
+ran_of told schema database texts words end catalog before middle after same ran faults appends sink written empty named counts there pages kept =
     let mine : RanOver told (catalog_for schema database) database texts words.journal end middle after = subst (λ (c : Catalog). RanOver told c database texts words.journal end middle after) same ran in
     record {
       journal = mine.journal;
@@ -82,17 +82,15 @@ ran_of told schema database texts words end catalog before middle after same ran
       printed_all = λ t whole. mine.printed_all t whole ∙ ap (λ (held : Option (List ℕ)). grown held (printed schema texts database)) written;
       cut = λ t is. mine.cut t is;
       more_calls = λ is.
-          let built = subst (λ (c : Catalog). Counts (pages_built c) before.device.calls middle.device.calls) same counts in
-          rose_after before.device.calls (pages_built (catalog_for schema database)) middle.device.calls after.device.calls built (mine.called is);
+          let built = subst (λ (c : Catalog). Counts (pages_built c (hidden_of schema database)) before.device.calls middle.device.calls) same counts in
+          rose_after before.device.calls (pages_built (catalog_for schema database) (hidden_of schema database)) middle.device.calls after.device.calls built (mine.called is);
       damage_called = λ is.
-          let built = subst (λ (c : Catalog). Counts (pages_built c) before.device.calls middle.device.calls) same counts in
-          rose_after before.device.calls (pages_built (catalog_for schema database)) middle.device.calls after.device.calls built (mine.damage_called is);
+          let built = subst (λ (c : Catalog). Counts (pages_built c (hidden_of schema database)) before.device.calls middle.device.calls) same counts in
+          rose_after before.device.calls (pages_built (catalog_for schema database) (hidden_of schema database)) middle.device.calls after.device.calls built (mine.damage_called is);
       undamaged = mine.undamaged;
       damaged = mine.damaged;
-      catalog = λ t. subst (λ (page : ℕ → List ℕ). HoldsCatalog page (catalog_for schema database)) (sym kept.page)
-          (subst (λ (c : Catalog). HoldsCatalog middle.device.page c) same (catalog_there t));
-      columns = λ t. subst (λ (page : ℕ → List ℕ). HoldsColumns page (catalog_for schema database) (hidden_of schema database)) (sym kept.page)
-          (subst (λ (c : Catalog). HoldsColumns middle.device.page c (hidden_of schema database)) same (columns_there t));
+      holds = λ t. subst (λ (page : ℕ → List ℕ). HoldsSoFar page (catalog_for schema database) (hidden_of schema database)) (sym kept.page)
+          (subst (λ (c : Catalog). HoldsSoFar middle.device.page c (hidden_of schema database)) same (there t));
       name = kept.name ∙ named;
       pages = kept.page_count ∙ (pages ∙ ap need same);
     }
@@ -100,25 +98,26 @@ ran_of told schema database texts words end catalog before middle after same ran
 -- what was made for the session
 pub made_of : (told : Bool) (schema : Schema) (database : Database) (texts : List (List ℕ)) (words : Local) (catalog : Catalog) (hidden : Hidden) (after : World)
     → catalog ≡ catalog_for schema database → hidden ≡ hidden_of schema database → after.device.name ≡ Some words.flash
-    → (told ≡ true → HoldsCatalog after.device.page catalog) → (told ≡ true → HoldsColumns after.device.page catalog hidden)
+    → (told ≡ true → HoldsSoFar after.device.page catalog hidden)
     → after.device.page_count ≡ need catalog → IsMade told (subject schema database texts words) after
-made_of told schema database texts words catalog hidden after same is named catalog_there columns_there pages = record {
+made_of told schema database texts words catalog hidden after same is named there pages = record {
   name = named;
-  catalog = λ t. subst (λ (c : Catalog). HoldsCatalog after.device.page c) same (catalog_there t);
-  columns = λ t. subst (λ (part : Hidden). HoldsColumns after.device.page (catalog_for schema database) part) is
-      (subst (λ (c : Catalog). HoldsColumns after.device.page c hidden) same (columns_there t));
+  holds = λ t. subst (HoldsSoFar after.device.page (catalog_for schema database)) is
+      (subst (λ (c : Catalog). HoldsSoFar after.device.page c hidden) same (there t));
   pages = pages ∙ ap need same;
 }
 
 -- the making failed
-pub unmade : (told : Bool) (schema : Schema) (database : Database) (texts : List (List ℕ)) (words : Local) (catalog : Catalog) (before after : World) (fault : LocalFailure)
-    → catalog ≡ catalog_for schema database → IsOfMaking {T = Unit {0}} (Err fault) → after.device.calls ≤ before.device.calls + pages_built catalog
+pub unmade : (told : Bool) (schema : Schema) (database : Database) (texts : List (List ℕ)) (words : Local) (catalog : Catalog) (hidden : Hidden) (before after : World) (fault : LocalFailure)
+    → catalog ≡ catalog_for schema database → hidden ≡ hidden_of schema database → IsOfMaking {T = Unit {0}} (Err fault)
+    → after.device.calls ≤ before.device.calls + pages_built catalog hidden
     → EndsLocal told (subject schema database texts words) (Err fault) before after
-unmade told schema database texts words catalog before after failure.NoMemory same of few = tt
-unmade told schema database texts words catalog before after failure.Depot same of few = absurd of
-unmade told schema database texts words catalog before after (failure.Input broken) same of few = of
-unmade told schema database texts words catalog before after failure.Flash same of few =
-    record { few_calls = subst (λ (c : Catalog). after.device.calls ≤ before.device.calls + pages_built c) same few }
+unmade told schema database texts words catalog hidden before after failure.NoMemory same is of few = tt
+unmade told schema database texts words catalog hidden before after failure.Depot same is of few = absurd of
+unmade told schema database texts words catalog hidden before after (failure.Input broken) same is of few = of
+unmade told schema database texts words catalog hidden before after failure.Flash same is of few =
+    record { few_calls = subst (λ (part : Hidden). after.device.calls ≤ before.device.calls + pages_built (catalog_for schema database) part) is
+        (subst (λ (c : Catalog). after.device.calls ≤ before.device.calls + pages_built c hidden) same few) }
 
 abbrev inputs_of : Opened → (files : List (List ℕ)) → PlainInput
 inputs_of opened files = record { schema = opened.tables.schema; files = files; script = opened.script.items }

@@ -1,7 +1,7 @@
 -- What a call of `local` did, by its result.
 use Rattle.std.specs.Prelude.{◌≡◌, ◌⊎◌, ℕ, ◌+◌, ◌≤◌, Bool, true, false, not, List, Option, Some, Result, Ok, Err, ⊤}
 use Rattle.ghost_model.specs.Database.{IsDatabase, database_of}
-use Rattle.ghost_model.specs.Flash.{HoldsCatalog, HoldsColumns}
+use Rattle.ghost_model.specs.Flash.{HoldsSoFar}
 use Rattle.ghost_model.specs.Layout.{need}
 use Rattle.ghost_model.specs.Schema.{Schema}
 use Rattle.ghost_model.specs.Split.{hidden_of}
@@ -22,13 +22,12 @@ use Rattle.key_local.specs.declared.ends.LocalFailure.TheVariants as failure
 -- where the flash failed while it was made: its calls have risen by no more than those of a whole making, one for the
 -- device and one for each page that is written
 pub record IsUnmade (one : Subject) (before after : World) : Type 0 where
-  pub few_calls : after.device.calls ≤ before.device.calls + pages_built (catalog_in one)
+  pub few_calls : after.device.calls ≤ before.device.calls + pages_built (catalog_in one) (hidden_of one.schema one.database)
 
 -- the flash was made, and holds the hidden part
 pub record IsMade (told : Bool) (one : Subject) (after : World) : Type 0 where
   pub name : after.device.name ≡ Some one.words.flash
-  pub catalog : told ≡ true → HoldsCatalog after.device.page (catalog_in one)
-  pub columns : told ≡ true → HoldsColumns after.device.page (catalog_in one) (hidden_of one.schema one.database)
+  pub holds : told ≡ true → HoldsSoFar after.device.page (catalog_in one) (hidden_of one.schema one.database)
   pub pages : after.device.page_count ≡ need (catalog_in one)
 
 -- flash and files are as before

@@ -2,7 +2,7 @@
 
 ghost use Rattle.std.specs.Prelude.{◌≡◌, ◌≤◌, ℕ, true, false, length};
 ghost use Rattle.ghost_model.specs.Causes.{Rose};
-ghost use Rattle.ghost_model.specs.Flash.{HoldsColumns};
+ghost use Rattle.ghost_model.specs.Flash.{HoldsFilesSoFar};
 ghost use Rattle.ghost_model.specs.SessionLaws.{IsCatalogOf};
 ghost use Rattle.ghost_model.specs.Split.{hidden_of};
 ghost use Rattle.ghost_model.specs.Texts.{texts_of};
@@ -86,7 +86,7 @@ fn hold<D: Depot, F: Flash, O: Sink>(
     ensures same_depot { link.new.depot.ghost_name ≡ link.old.depot.ghost_name }
     ensures ran { (database : Database) → IsCatalogOf cat.now database
         → IsHosted ⟦<MemDepot as Depot>⟧.contents ⟦<MemDepot as Depot>⟧.sure (holding_of cat.now database) link.old.link.now
-        → (F.told ≡ true → HoldsColumns (F.state flash.old).page cat.now (hidden_of cat.now.schema database))
+        → (F.told ≡ true → HoldsFilesSoFar (F.state flash.old).page cat.now (hidden_of cat.now.schema database))
         → RanOver F.told cat.now database (texts_of script.now) (named link.old) result
         (world (F.state flash.old) (D.contents link.old.depot.now) (D.append_faults link.old.depot.now) (O.faults out.old) (O.written out.old))
         (world (F.state flash.new) (D.contents link.new.depot.now) (D.append_faults link.new.depot.now) (O.faults out.new) (O.written out.new)) }
@@ -134,7 +134,7 @@ pub(crate) fn run<D: Depot, F: Flash, O: Sink>(
     requires hosted { IsSomeHosted ⟦<MemDepot as Depot>⟧.contents ⟦<MemDepot as Depot>⟧.sure cat.now link.old }
     ensures ran { (database : Database) → IsCatalogOf cat.now database
         → IsHosted ⟦<MemDepot as Depot>⟧.contents ⟦<MemDepot as Depot>⟧.sure (holding_of cat.now database) link.old
-        → (F.told ≡ true → HoldsColumns (F.state flash.old).page cat.now (hidden_of cat.now.schema database))
+        → (F.told ≡ true → HoldsFilesSoFar (F.state flash.old).page cat.now (hidden_of cat.now.schema database))
         → RanOver F.told cat.now database (texts_of script.now) (local_view words.now).journal result
         (world (F.state flash.old) (D.contents depot.old) (D.append_faults depot.old) (O.faults out.old) (O.written out.old))
         (world (F.state flash.new) (D.contents depot.new) (D.append_faults depot.new) (O.faults out.new) (O.written out.new)) }

@@ -44,6 +44,6 @@ columns_kept page other cat hidden tree agree holds table column h =
 
 pub kept : HoldingsAreKept
 kept = record {
-  columns = columns_kept;
+  files = λ page other cat hidden tree agree holds. record { columns = columns_kept page other cat hidden tree agree holds.columns };
   catalog = λ page other cat agree holds place low. agree place (omega arith) low ∙ holds place low;
 }

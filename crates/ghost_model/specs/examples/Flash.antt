@@ -5,10 +5,13 @@ use Rattle.ghost_model.specs.Runs.{Stores}
 use Rattle.ghost_model.specs.Layout.{column_file}
 use Rattle.ghost_model.specs.Flash.{catalog_page, hidden_cells, AreValues, rows_with, level_records, directory_records, subtree_record, rows_leading_to, id_record, ids}
 use Rattle.ghost_model.specs.Work.{catalog_pages, file_pages, pages_built}
-use Rattle.ghost_model.specs.examples.Clinic.{clinic_schema, clinic_catalog, note_catalog, clinic}
+use Rattle.ghost_model.specs.examples.Clinic.{clinic_schema, clinic_catalog, note_schema, note_catalog, clinic, notes}
 
 abbrev pub hidden_clinic : Hidden
 hidden_clinic = hidden_of clinic_schema clinic
+
+abbrev pub hidden_notes : Hidden
+hidden_notes = hidden_of note_schema notes
 
 -- a number below 256 as it stands on a page
 abbrev pub small : ℕ → List ℕ
@@ -103,6 +106,6 @@ pub record PagesOfTheClinic : Type 0 where
       (hidden_cells clinic_schema hidden_clinic 0 2)
       → ⊥
   pub for_the_catalog : catalog_pages clinic_catalog ≡ 1
-  pub for_the_files : file_pages clinic_catalog ≡ 5
-  pub built : pages_built clinic_catalog ≡ 7
-  pub built_for_the_notes : pages_built note_catalog ≡ 3
+  pub for_the_files : file_pages clinic_catalog hidden_clinic ≡ 5
+  pub built : pages_built clinic_catalog hidden_clinic ≡ 7
+  pub built_for_the_notes : pages_built note_catalog hidden_notes ≡ 3

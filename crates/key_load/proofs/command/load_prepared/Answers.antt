@@ -1,7 +1,7 @@
 use Rattle.std.proofs.Common.{Err, ap}
 use Rattle.key_words.specs.Views.{load_view}
 use Rattle.key_load.specs.Results.{loading, world}
-use Rattle.key_load.proofs.Endings.{failed, large_enough, built, written, host_file, columns_stand, stands, printed, front_printed}
+use Rattle.key_load.proofs.Endings.{failed, large_enough, built, written, host_file, files_stand, stands, printed, front_printed}
 use Rattle.key_load.proofs.command.load_prepared.Goals as goal
 
 pub returns-in-Ok-print_line-clause-ends : goal.returns-in-Ok-print_line-clause-ends
@@ -11,7 +11,7 @@ returns-in-Ok-print_line-clause-ends g c = λ schema database are.
     let after = world (g.F.Flash.state c.make_both.new.flash) (g.D.Depot.contents c.make_both.new.depot) (g.O.Sink.written c.print_line.new.out) in
     let made = c.in-Ok.ensures in
     record {
-      stands = stands schema database words c.args.prepared.now g.F.Flash.told are before after c.requires.enough made.named made.catalog made.columns made.pages made.file;
+      stands = stands schema database words c.args.prepared.now g.F.Flash.told are before after c.requires.enough made.named made.holds made.pages made.file;
       printed = printed schema database words c.args.prepared.now are before after c.in-Ok-print_line.ensures.printed;
     }
 
@@ -22,7 +22,7 @@ returns-in-Err-print_line-clause-ends g c = λ schema database are.
     let after = world (g.F.Flash.state c.make_both.new.flash) (g.D.Depot.contents c.make_both.new.depot) (g.O.Sink.written c.print_line.new.out) in
     let made = c.in-Ok.ensures in
     record {
-      stands = stands schema database words c.args.prepared.now g.F.Flash.told are before after c.requires.enough made.named made.catalog made.columns made.pages made.file;
+      stands = stands schema database words c.args.prepared.now g.F.Flash.told are before after c.requires.enough made.named made.holds made.pages made.file;
       front = front_printed schema database words c.args.prepared.now are before after c.in-Err-print_line.ensures.failed;
     }
 
@@ -37,4 +37,4 @@ returns-in-Err-clause-ends g c = λ schema database are.
     (λ of_depot. built schema database words c.args.prepared.now g.F.Flash.told are c.requires.enough after (made.depot_last (ap Err of_depot)))
     (λ of_flash. written schema database words c.args.prepared.now g.F.Flash.told are c.requires.enough before after made.built_first (made.flash_file (ap Err of_flash)))
     (λ some begun. host_file schema database words c.args.prepared.now are before after (made.sealed_last some begun))
-    (λ some begun told. columns_stand schema database words c.args.prepared.now are after.device.page (made.files_first some begun told))
+    (λ some begun told. files_stand schema database words c.args.prepared.now are after.device.page (made.files_first some begun told))

@@ -1,10 +1,12 @@
 use Rattle.std.proofs.Common.{ℕ, List, refl, sym, ◌∙◌, subst}
-use Rattle.ghost_model.specs.Flash.{HoldsColumns}
+use Rattle.ghost_model.specs.Flash.{HoldsSoFar}
 use Rattle.ghost_model.specs.Split.{Hidden}
+use Rattle.ghost_model.specs.Work.{pages_built}
+use Rattle.edge_traits.specs.Devices.{Counts}
 use Rattle.ghost_model.specs.Texts.{texts_of}
 use Rattle.key_words.specs.Views.{local_view}
 use Rattle.key_local.specs.Sessions.{world}
-use Rattle.key_local.proofs.Endings.{columns_stand, made_of, ran_of}
+use Rattle.key_local.proofs.Endings.{part_stands, made_of, ran_of}
 use Rattle.key_local.proofs.Keeping.{besides_joined}
 use Rattle.key_local.proofs.command.local_prepared.Goals as goal
 
@@ -17,9 +19,10 @@ returns-clause-ends g c = λ schema database same hidden stored hosted.
     (world (g.F.Flash.state c.args.flash.now) (g.D.Depot.contents c.args.depot.now) (g.D.Depot.append_faults c.args.depot.now) (g.O.Sink.faults c.args.out.now) (g.O.Sink.written c.args.out.now))
     (world (g.F.Flash.state c.make_flash.new.flash) (g.D.Depot.contents c.begin_journal.new.depot) (g.D.Depot.append_faults c.begin_journal.new.depot) (g.O.Sink.faults c.args.out.now) (g.O.Sink.written c.args.out.now))
     _ same
-    (c.run.ensures.ran database stored hosted (λ t. columns_stand page cat schema database c.args.prepared.hidden same hidden (made.columns t)))
-    (made.no_flash (λ e. let bad : ⊥ = cc in bad)) c.begin_journal.ensures.appends refl refl c.in-Ok-begin_journal.ensures.begun made.named made.exact
-    made.catalog (λ t. subst (λ (part : Hidden). HoldsColumns page cat part) hidden (made.columns t)) made.pages c.run.ensures.pages
+    (c.run.ensures.ran database stored hosted (λ t. (part_stands page cat schema database c.args.prepared.hidden same hidden (made.holds t)).files))
+    (made.no_flash (λ e. let bad : ⊥ = cc in bad)) c.begin_journal.ensures.appends refl refl c.in-Ok-begin_journal.ensures.begun made.named
+    (subst (λ (part : Hidden). Counts (pages_built cat part) (g.F.Flash.state c.args.flash.now).calls (g.F.Flash.state c.make_flash.new.flash).calls) hidden made.exact)
+    (λ t. subst (HoldsSoFar page cat) hidden (made.holds t)) made.pages c.run.ensures.pages
 
 pub returns-clause-others : goal.returns-clause-others
 returns-clause-others g c = besides_joined _ _ _ _ c.begin_journal.ensures.others c.run.ensures.others
@@ -29,7 +32,7 @@ returns-in-Err-begin_journal-clause-ends g c = λ schema database same hidden st
     let made = c.in-Ok.ensures in
     made_of g.F.Flash.told schema database (texts_of c.args.script.now) (local_view c.args.words.now) c.args.prepared.cat c.args.prepared.hidden
     (world (g.F.Flash.state c.make_flash.new.flash) (g.D.Depot.contents c.begin_journal.new.depot) (g.D.Depot.append_faults c.begin_journal.new.depot) (g.O.Sink.faults c.args.out.now) (g.O.Sink.written c.args.out.now))
-    same hidden made.named made.catalog made.columns made.pages
+    same hidden made.named made.holds made.pages
 
 pub returns-clause-never_other : goal.returns-clause-never_other
 returns-clause-never_other g c = λ other e. c.make_flash.ensures.never_other other (sym c.run.ensures.pages.name ∙ e)
