@@ -4,7 +4,7 @@ use Rattle.ghost_model.specs.Channel.{Catalog}
 use Rattle.ghost_model.specs.Asks.{Asked, rows_in, row_width, kinds_of}
 use Rattle.ghost_model.specs.Frames.{payload_in, kind_in}
 use Rattle.ghost_model.specs.NextMove as next
-use Rattle.ghost_model.specs.NextMove.{Awaits, Missing, Nothing, Heard, Left, Ended, Ending, Answered, Refused, rows_fit, rows_of}
+use Rattle.ghost_model.specs.NextMove.{Awaits, Missing, Nothing, Heard, Standing, Ended, Ending, Answered, Refused, rows_fit, rows_of}
 use Rattle.ghost_model.specs.Schema.{Kind}
 use Rattle.channel_pump.specs.Forms.{Form}
 use Rattle.channel_pump.specs.Asked.{width_of, rows_with}
@@ -67,13 +67,13 @@ pub record Tells (catalog : Catalog) (page : List ℕ) (result : Event) (before 
   pub came : RowsOf catalog before.awaits page result
 
 -- why a session ends, if it does
-abbrev pub EndsBy : Left → Cause → Type 0
+abbrev pub EndsBy : Standing → Cause → Type 0
 EndsBy l Finished = (l.heard.awaits ≡ Nothing) × (l.stopped ≡ false) × (l.heard.broken ≡ false)
 EndsBy l Link = (l.stopped ≡ true) × (l.heard.broken ≡ false)
 EndsBy l (Protocol kind at) =
     (l.stopped ≡ false) × (l.heard.broken ≡ true) × (kind ≡ kind_in l.heard.part) × (at ≡ counted (bytes_before l.heard))
 
-abbrev pub EndsAs : Left → Option Cause → Type 0
+abbrev pub EndsAs : Standing → Option Cause → Type 0
 EndsAs l None = (l.stopped ≡ false) × (l.heard.broken ≡ false)
 EndsAs l (Some cause) = EndsBy l cause
 

@@ -258,17 +258,17 @@ is_stop (Piece _) = false
 is_stop End = true
 is_stop Failed = true
 
--- what is left of a journal, as far as the next move goes: whether there is an entry, a Close, an answer that stops the
+-- what a journal has led to, as far as the next move goes: whether there is an entry, a Close, an answer that stops the
 -- session, the number of frames sent, and what the taken bytes amount to
-pub record Left : Type 0 where
+pub record Standing : Type 0 where
   pub opened : Bool
   pub closed : Bool
   pub stopped : Bool
   pub sent : ℕ
   pub heard : Heard
 
-abbrev pub left : Catalog → (asks : List Asked) → Journal → Left
-left catalog asks journal = record {
+abbrev pub standing_after : Catalog → (asks : List Asked) → Journal → Standing
+standing_after catalog asks journal = record {
   opened = not (is_empty journal);
   closed = list_any (λ entry. is_close entry.move) journal;
   stopped = list_any (λ entry. is_stop entry.answer) journal;
@@ -276,32 +276,32 @@ left catalog asks journal = record {
   heard = heard catalog asks (taken journal);
 }
 
-abbrev pub lacks : Verdict → ℕ
-lacks (Short missing) = missing
-lacks Whole = 0
-lacks Invalid = 0
+abbrev pub bytes_missing : Verdict → ℕ
+bytes_missing (Short missing) = missing
+bytes_missing Whole = 0
+bytes_missing Invalid = 0
 
 -- where all that is due was sent: Close after BYE, and else Take of the bytes that the header or payload at hand lacks
-abbrev pub rest_of : Catalog → Heard → Awaits → Move
-rest_of catalog heard Nothing = Close
-rest_of catalog heard (Missing bytes) = Take (lacks (verdict catalog heard.awaits heard.part))
-rest_of catalog heard (Reply asked serial later count last) = Take (lacks (verdict catalog heard.awaits heard.part))
+abbrev pub take_or_close : Catalog → Heard → Awaits → Move
+take_or_close catalog heard Nothing = Close
+take_or_close catalog heard (Missing bytes) = Take (bytes_missing (verdict catalog heard.awaits heard.part))
+take_or_close catalog heard (Reply asked serial later count last) = Take (bytes_missing (verdict catalog heard.awaits heard.part))
 
 abbrev pub send_or : Move → Option Frame → Move
 send_or other None = other
 send_or other (Some frame) = Send (frame_bytes frame)
 
--- the next move, by what is left of a journal: the first that applies
-abbrev pub next_of : Catalog → (at : List ℕ) → Left → Option Move
-next_of catalog at left =
-    if not left.opened then Some (Dial at)
-    else if left.closed then None
-    else if left.stopped || left.heard.broken then Some Close
-    else Some (send_or (rest_of catalog left.heard left.heard.awaits) (slice_get left.heard.due left.sent))
+-- the next move, by what a journal has led to: the first that applies
+abbrev pub move_from : Catalog → (at : List ℕ) → Standing → Option Move
+move_from catalog at standing =
+    if not standing.opened then Some (Dial at)
+    else if standing.closed then None
+    else if standing.stopped || standing.heard.broken then Some Close
+    else Some (send_or (take_or_close catalog standing.heard standing.heard.awaits) (slice_get standing.heard.due standing.sent))
 
 -- the next move of a session with these asks
 abbrev pub next_with : Catalog → (at : List ℕ) → (asks : List Asked) → Journal → Option Move
-next_with catalog at asks journal = next_of catalog at (left catalog asks journal)
+next_with catalog at asks journal = move_from catalog at (standing_after catalog asks journal)
 
 -- the next move of a session with these texts; none after Close
 abbrev pub next_move : Catalog → (at : List ℕ) → (texts : List (List ℕ)) → Journal → Option Move

@@ -2,7 +2,7 @@ use Rattle.std.proofs.Common.{[], ap, sym, ◌∙◌}
 use Rattle.std.specs.List.{list_any}
 use Rattle.ghost_model.specs.Asks.{asked_of}
 use Rattle.ghost_model.specs.Catalog.{canonical_text}
-use Rattle.ghost_model.specs.NextMove.{left}
+use Rattle.ghost_model.specs.NextMove.{standing_after}
 use Rattle.ghost_model.specs.Texts.{texts_of}
 use Rattle.key_session.specs.Counting.{is_flash}
 use Rattle.key_session.specs.Running.{is_sink}
@@ -24,7 +24,7 @@ end_of-requires g c =
     let goes = c.sessions_are_local.ensures.is_local cat some.database [] texts ran.journal _ _ setting some.stored ran.proper ran.went.moved some.hosted.is_sure some.hosted.at_first in
     let unbroken = c.local_sessions_are_served.ensures cat some.database [] texts ran.journal goes.is_local in
     record {
-      of_local = is_local_status c.run_session-tally.result.status (is_sink c.run_session-tally.result.status) (left cat (asked_of cat.schema texts) ran.journal) (list_any is_flash ran.reasons.reasons) ran.reasons.counted.damage
+      of_local = is_local_status c.run_session-tally.result.status (is_sink c.run_session-tally.result.status) (standing_after cat (asked_of cat.schema texts) ran.journal) (list_any is_flash ran.reasons.reasons) ran.reasons.counted.damage
           ran.reasons.counted.status_is
           (going cat some.database texts ran.journal unbroken) (valid cat some.database texts ran.journal unbroken) (granted cat some.database texts ran.journal unbroken);
     }
