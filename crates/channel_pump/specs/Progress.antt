@@ -1,10 +1,10 @@
 -- What an event tells of the replies: the rows that came, the asks that were ended, and why the session ends.
 use Rattle.std.specs.Prelude.{◌≡◌, ℕ, ◌*◌, ◌≤◌, true, false, List, [], ◌∷◌, ◌++◌, length, Option, Some, None}
-use Rattle.ghost_model.specs.Channel.{Catalog}
+use Rattle.ghost_model.specs.Channel.{Catalog, row_count_in}
 use Rattle.ghost_model.specs.Asks.{Asked, rows_in, row_width, kinds_of}
 use Rattle.ghost_model.specs.Frames.{payload_in, kind_in}
 use Rattle.ghost_model.specs.NextMove as next
-use Rattle.ghost_model.specs.NextMove.{Awaits, Missing, Nothing, Heard, Standing, Ended, Ending, Answered, Refused, rows_fit, rows_of}
+use Rattle.ghost_model.specs.NextMove.{Awaits, Missing, Nothing, Heard, Standing, Ended, Ending, Answered, Refused, rows_fit}
 use Rattle.ghost_model.specs.Schema.{Kind}
 use Rattle.channel_pump.specs.Forms.{Form}
 use Rattle.channel_pump.specs.Asked.{width_of, rows_with}
@@ -43,7 +43,7 @@ ended_on (event.Invalid _ _) awaits rows = []
 
 -- rows of the reply that is awaited came: so many whole ones, which may stand after those before
 pub record RowsCame (catalog : Catalog) (asked : Asked) (last : ℕ) (payload : List ℕ) (n : ℕ) : Type 0 where
-  pub fit : rows_fit (rows_of catalog asked.ask.table) last (kinds_of catalog.schema asked.ask) (rows_in catalog.schema asked.ask payload) ≡ true
+  pub fit : rows_fit (row_count_in catalog asked.ask.table) last (kinds_of catalog.schema asked.ask) (rows_in catalog.schema asked.ask payload) ≡ true
   pub count : n ≡ length (rows_in catalog.schema asked.ask payload)
   pub size : length payload ≡ n * row_width catalog.schema asked.ask
 

@@ -9,9 +9,9 @@ use Rattle.ghost_model.specs.Schema.{Schema, Column, Kind, columns_of, column_at
 use Rattle.ghost_model.specs.Query.{Query}
 use Rattle.ghost_model.specs.QueryReading.{reading}
 use Rattle.ghost_model.specs.Cells.{cell_width}
-use Rattle.ghost_model.specs.Channel.{Catalog, Ask}
+use Rattle.ghost_model.specs.Channel.{Catalog, Ask, row_count_in}
 use Rattle.ghost_model.specs.Asks.{Asked, asked, asked_from, asked_of, asks_of, asks_of_reading, ask_for, is_from, is_needed, is_wanted, places, kind_or_none, kind_at, row_width}
-use Rattle.ghost_model.specs.NextMove.{rows_of, count_or_zero}
+use Rattle.ghost_model.specs.NextMove.{count_or_zero}
 use Rattle.ghost_model.specs.Layout.{below, count_of, width_or_none, width_at, spool_width}
 use Rattle.ghost_model.specs.SchemaTrees.{IsTree}
 use Rattle.ghost_model.proofs.ChannelLemmas.Tests.{both_hold}
@@ -134,7 +134,7 @@ rows_counted (count ∷ counts) (suc table) = rows_counted counts table
 
 -- the bytes that the rows of a reply may have
 abbrev pub reply_room : Catalog → Ask → ℕ
-reply_room catalog ask = rows_of catalog ask.table * row_width catalog.schema ask
+reply_room catalog ask = row_count_in catalog ask.table * row_width catalog.schema ask
 
 pub texts_have_room : (catalog : Catalog) (texts : List (List ℕ)) (text : ℕ)
     → sum_by (weight text (reply_room catalog)) (asked_of catalog.schema texts) ≤ room_for catalog

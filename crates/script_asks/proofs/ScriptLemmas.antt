@@ -7,7 +7,8 @@ use Rattle.std.proofs.lemmas.List.Folds.{list_all-append, list_all-map}
 use Rattle.ghost_model.specs.Schema.{Schema, places_from}
 use Rattle.ghost_model.specs.Query.{Query}
 use Rattle.ghost_model.specs.Channel.{Ask}
-use Rattle.ghost_model.specs.Asks.{AsksAreProper, Asked, asked, asked_from, ask_for, asks_of, asks_of_reading, is_from, is_needed, is_proper_ask, places}
+use Rattle.ghost_model.specs.Asks.{Asked, asked, asked_from, ask_for, asks_of, asks_of_reading, is_from, is_needed, is_proper_ask, places}
+use Rattle.ghost_model.specs.ChannelLaws.{AsksAreProper}
 use Rattle.ghost_model.proofs.MeaningLemmas.OneRow.{length-filter_le}
 use Rattle.ghost_model.specs.QueryReading.{reading}
 use Rattle.ghost_model.specs.NextMove.{of_later_texts}

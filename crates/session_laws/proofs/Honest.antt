@@ -11,11 +11,14 @@ use Rattle.ghost_model.specs.Meaning.{answer}
 use Rattle.ghost_model.specs.Channel.{Catalog, Ask, Frame, Hello, Asking, More, Bye, Welcome, Replied, Done, Sorry, Journal}
 use Rattle.ghost_model.specs.Catalog.{catalog_bytes}
 use Rattle.ghost_model.specs.Frames.{AreBytes, frame_bytes}
-use Rattle.ghost_model.specs.Asks.{Asked, asked_of, ask_in, is_proper_ask}
+use Rattle.ghost_model.specs.Asks.{Asked, asked_of, is_proper_ask}
+use Rattle.ghost_model.specs.AskReading.{ask_in}
 use Rattle.ghost_model.specs.Moves.{taken}
-use Rattle.ghost_model.specs.NextMove.{Heard, Ended, IsFinished, IsDue, on_with, heard, hear_all, at_first}
+use Rattle.ghost_model.specs.NextMove.{Heard, Ended, IsFinished, on_with, heard, hear_all, at_first}
+use Rattle.ghost_model.specs.ChannelLaws.{IsDue}
 use Rattle.ghost_model.specs.Split.{public_of, hidden_of}
-use Rattle.ghost_model.specs.Host.{Exchange, asked_in, ended_in, exchange_frames, reply_frames, AreExchanges, IsHeardWhole, IsGreeted, welcomes_of, asks_in_frame}
+use Rattle.ghost_model.specs.Host.{welcomes_of, asks_in_frame}
+use Rattle.ghost_model.specs.HostLaws.{Exchange, asked_in, ended_in, exchange_frames, reply_frames, AreExchanges, IsHeardWhole, IsGreeted}
 use Rattle.ghost_model.specs.Honest.{AreWelcomes, AreReplies, asks_sent}
 use Rattle.ghost_model.specs.Lines.{Reason, IsRefused, WasBroken, WasAnswered, MetFault, AreLinesFor, is_refused_by, was_refused, ended_of, all_done, rows_from_replies}
 use Rattle.ghost_model.specs.Printed.{answer_lines, lines_of_reading, lines_of_text, lines_from, printed_lines}
@@ -31,7 +34,7 @@ use Rattle.ghost_model.proofs.SessionLemmas.Honest.{exchanged}
 use Rattle.ghost_model.proofs.SessionLemmas.Limits.{IsSmall, schema_is_small, proper_columns}
 use Rattle.ghost_model.proofs.SessionLemmas.Replies.{honest_replies_answer}
 use Rattle.ghost_model.proofs.SessionLemmas.SentFrames.{AreFrames, AreProper, sent_are_frames, asks_are_good}
-use Rattle.ghost_model.proofs.SessionLemmas.ThisHost.{ask_of_bytes, asks_in_frames}
+use Rattle.ghost_model.proofs.SessionLemmas.ThisHost.{asks_in_bytes, asks_in_frames}
 use Rattle.session_laws.specs.TextCases.{is_refused_in, IsDone, ByHost, ByLink, ByFrame}
 use Rattle.session_laws.specs.HonestSessions.{IsHonestSession, IsSmooth, is_own_fault, AreSoundLines, AreAllLines}
 use Rattle.session_laws.proofs.Stored.{no_query}
@@ -157,7 +160,7 @@ module _ (catalog : Catalog) (database : Database) (at : List ℕ) (texts : List
   replied =
       let good : AreFrames due.frames = sent_are_frames catalog small (asked_of catalog.schema texts) proper is.setting.serials_fit journal is.setting.generation_fits due in
       let names : asks_sent catalog.schema journal ≡ flat_map (asks_in_frame catalog.schema) due.frames =
-      ap (filter_map (ask_of_bytes catalog.schema)) due.sent_are ∙ asks_in_frames catalog.schema due.frames good in
+      ap (flat_map (asks_in_bytes catalog.schema)) due.sent_are ∙ asks_in_frames catalog.schema due.frames good in
       subst (λ (xs : List Ask). AreReplies catalog.schema (public_of catalog.schema database) 1 xs is.honest.replies) names is.honest.replied
 
   none_refused : was_refused (heard catalog (asked_of catalog.schema texts) (taken journal)).ended ≡ false

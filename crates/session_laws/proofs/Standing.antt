@@ -10,7 +10,8 @@ use Rattle.ghost_model.specs.Frames.{frame_bytes, frame_in, size_in}
 use Rattle.ghost_model.specs.Moves.{taken, sent, sent_by, piece_of}
 use Rattle.ghost_model.specs.Asks.{Asked}
 use Rattle.ghost_model.specs.NextMove as next
-use Rattle.ghost_model.specs.NextMove.{Awaits, Verdict, Heard, Standing, standing_after, verdict, heard_as, heard_frame, hear_all, bytes_missing, move_from, take_or_close, send_or, is_close, is_stop, IsAwaited}
+use Rattle.ghost_model.specs.NextMove.{Awaits, Verdict, Heard, Standing, standing_after, verdict, heard_as, heard_frame, hear_all, bytes_missing, move_from, take_or_close, send_or, is_close, is_stop}
+use Rattle.ghost_model.specs.ChannelLaws.{IsAwaited}
 use Rattle.ghost_model.specs.Lines.{was_refused}
 use Rattle.ghost_model.specs.Host.{Holding, Stand, Response, answer_to}
 use Rattle.ghost_model.specs.Host as host

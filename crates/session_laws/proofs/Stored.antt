@@ -6,13 +6,13 @@ use Rattle.std.proofs.lemmas.Nat.{le-div}
 use Rattle.std.proofs.Math.Nat.{mul-le-mul_left, div-add-mod}
 use Rattle.ghost_model.specs.Values.{Database}
 use Rattle.ghost_model.specs.Query.{Query}
-use Rattle.ghost_model.specs.Channel.{Catalog, Ask}
+use Rattle.ghost_model.specs.Channel.{Catalog, row_count_in, Ask}
 use Rattle.ghost_model.specs.Database.{rows_of}
 use Rattle.ghost_model.specs.Frames.{most_payload}
 use Rattle.ghost_model.specs.Asks.{ReplyRow, asked_of, is_proper_ask, kinds_of, row_width}
 use Rattle.ghost_model.specs.NextMove as next
 use Rattle.ghost_model.specs.Split.{Public, public_of, visible_rows, reply_rows}
-use Rattle.ghost_model.specs.Host.{AreGroups}
+use Rattle.ghost_model.specs.HostLaws.{AreGroups}
 use Rattle.ghost_model.specs.Honest.{fits_frame}
 use Rattle.ghost_model.specs.SessionLaws.{IsSetting, IsCatalogOf}
 use Rattle.ghost_model.proofs.ChannelLemmas.Tests.{hold_both}
@@ -51,7 +51,7 @@ module _ (catalog : Catalog) (database : Database) (stored : IsCatalogOf catalog
       let some : 1 ≤ most_payload / row_width catalog.schema ask = le-div 1 most_payload (row_width catalog.schema ask) wide (omega (arith, fits)) in
       let packing : List (List ReplyRow) = groups_for (holding_of catalog database) ask in
       let whole : flat_map (λ (group : List ReplyRow). group) packing ≡ given = groups_are_joined (most_payload / row_width catalog.schema ask) (reply_rows catalog.schema (public_of catalog.schema database) ask) some in
-      let count : next.rows_of catalog ask.table ≡ length (rows_of database ask.table) = count_is catalog database ask.table stored.counts_are in
+      let count : row_count_in catalog ask.table ≡ length (rows_of database ask.table) = count_is catalog database ask.table stored.counts_are in
       are_groups catalog ask 0 packing
       (groups_pass (fits_frame width) (most_payload / row_width catalog.schema ask) (reply_rows catalog.schema (public_of catalog.schema database) ask) some (λ group s f. group_fits width group wide s f))
       (ap (λ (n : ℕ). next.rows_fit n 0 (kinds_of catalog.schema ask) (flat_map (λ (group : List ReplyRow). group) packing)) count

@@ -10,7 +10,7 @@ use Rattle.ghost_model.specs.Frames.{IsFrame, frame_bytes}
 use Rattle.ghost_model.specs.Asks.{Asked}
 use Rattle.ghost_model.specs.Moves.{taken, sent, sent_by, piece_of}
 use Rattle.ghost_model.specs.NextMove.{Standing, standing_after, next_with, GoesOn, hear_all}
-use Rattle.ghost_model.specs.Host.{Holding, Stand, Response, said_to, said_with, answer_to, frames_of}
+use Rattle.ghost_model.specs.Host.{Holding, Stand, Response, said_to, said_with, answer_to, frames_of, said_with_refusals}
 use Rattle.ghost_model.specs.Host as host
 use Rattle.ghost_model.specs.Local.{IsServedBy, is_full}
 use Rattle.ghost_model.specs.SessionLaws.{IsServedThroughout}
@@ -26,7 +26,7 @@ served_so :
     → list_all is_full journal ≡ true → sent journal ≡ map frame_bytes key → All IsFrame key
     → ((later : List Frame) → said_to held (key ++ later) host.Greeting ≡ said ++ said_to held later stand)
     → flat_map frame_bytes said ≡ taken journal ++ rest → IsServedBy held journal
-unfolding said_to
+unfolding said_with_refusals
 served_so held journal key said stand rest full sent_are frames leads said_are =
     let cut : frames_of (concat (sent journal)) ≡ key =
     ap (λ (xs : List (List ℕ)). frames_of (concat xs)) sent_are ∙ (ap frames_of (joined_frames key) ∙ frames_are_cut key frames) in
@@ -81,7 +81,7 @@ map_more [] frame = refl
 map_more (first ∷ key) frame = ap (λ (xs : List (List ℕ)). frame_bytes first ∷ xs) (map_more key frame)
 
 said_more : (held : Holding) (frame : Frame) (stand : Stand) (response : Response) (later : List Frame) → answer_to held stand frame ≡ Some response → said_to held (frame ∷ later) stand ≡ response.says ++ said_to held later response.stand
-unfolding said_to
+unfolding said_with_refusals
 said_more held frame stand response later is = ap (λ (o : Option Response). said_with (said_to held later) o) is
 
 leads_more :

@@ -7,8 +7,9 @@ use Rattle.ghost_model.specs.Channel.{Catalog, Frame, Move, Dial, Listen, Accept
 use Rattle.ghost_model.specs.Asks.{Asked}
 use Rattle.ghost_model.specs.Frames.{frame_bytes}
 use Rattle.ghost_model.specs.Moves.{sent, taken, sent_by, piece_of}
-use Rattle.ghost_model.specs.NextMove.{Awaits, Missing, Reply, Nothing, Verdict, Short, Whole, Invalid, verdict, Heard, heard, heard_as, hear, hear_all, at_first, due, standing_after, Standing, next_with, send_or, take_or_close, GoesOn, IsDue}
-use Rattle.ghost_model.specs.Host.{IsFront}
+use Rattle.ghost_model.specs.NextMove.{Awaits, Missing, Reply, Nothing, Verdict, Short, Whole, Invalid, verdict, Heard, heard, heard_as, hear, hear_all, at_first, due, standing_after, Standing, next_with, send_or, take_or_close, GoesOn}
+use Rattle.ghost_model.specs.ChannelLaws.{IsDue}
+use Rattle.ghost_model.specs.HostLaws.{IsFront}
 
 same_front : (frames : List Frame) → IsFront frames frames
 same_front frames = record { rest = []; joined = sym (append-nil frames) }

@@ -5,7 +5,8 @@ use Rattle.hex.specs.declared.error.FromHexError.{FromHexError}
 use Rattle.ghost_model.specs.Values.{Number, Text}
 use Rattle.ghost_model.specs.Query as query
 use Rattle.ghost_model.specs.Channel.{Frame, Hello, Asking, More, Bye, Welcome, Replied, Done, Sorry, Catalog, Ask, Test, Move, Dial, Send, Take, Close, Answer, Made, Piece, Entry, Journal}
-use Rattle.ghost_model.specs.Asks.{Asked, asked, asked_of, asks_of, ask_payload, ask_in, ReplyRow}
+use Rattle.ghost_model.specs.Asks.{Asked, asked, asked_of, asks_of, ask_payload, ReplyRow}
+use Rattle.ghost_model.specs.AskReading.{ask_in}
 use Rattle.ghost_model.specs.Moves.{lines}
 use Rattle.ghost_model.specs.NextMove.{IsProper, IsFinished, InvalidFrame, invalid_frame, heard, due}
 use Rattle.ghost_model.specs.Frames.{frame_bytes, kind_of, payload_of, Got, got_of, Found, Short, Bad}
