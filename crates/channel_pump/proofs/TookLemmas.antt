@@ -10,7 +10,7 @@ use Rattle.ghost_model.specs.Channel.{Catalog, Move, Journal}
 use Rattle.ghost_model.specs.Frames as frames
 use Rattle.ghost_model.specs.Asks.{Asked}
 use Rattle.ghost_model.specs.NextMove as next
-use Rattle.ghost_model.specs.NextMove.{Awaits, Heard, Standing, standing_after, heard, hear_all, heard_as}
+use Rattle.ghost_model.specs.NextMove.{Awaits, Heard, Standing, standing_after, heard, hear_all, heard_as, bytes_before}
 use Rattle.channel_pump.specs.Forms.{Form}
 use Rattle.channel_pump.specs.declared.rows.Tally.{Tally}
 use Rattle.channel_pump.specs.declared.state.Pump.{Pump}
@@ -22,7 +22,7 @@ use Rattle.channel_pump.specs.declared.state.Cause.TheVariants.{Protocol}
 use Rattle.channel_pump.specs.declared.state.Event.TheVariants as event
 use Rattle.channel_pump.specs.Asked.{form_kinds, width_of}
 use Rattle.channel_pump.specs.Here.{verdict_here, header_at, reply_header, Stands}
-use Rattle.channel_pump.specs.State.{IsLeft, IsAfter, IsFresh, IsStage, IsTaking, IsTurned, IsGoing, IsTakenBy, want_at, want_of, frame_due, due_at, is_over, is_opened, is_closed, has_stopped, has_broken, counted, bytes_before, taken_entry, Keeps}
+use Rattle.channel_pump.specs.State.{IsLeft, IsAfter, IsFresh, IsStage, IsTaking, IsTurned, IsGoing, IsTakenBy, want_at, want_of, frame_due, due_at, is_over, is_opened, is_closed, has_stopped, has_broken, counted, taken_entry, Keeps}
 use Rattle.channel_pump.specs.Marks.{AreMarked}
 use Rattle.channel_pump.specs.Turning.{event_after, event_at, event_of}
 use Rattle.channel_pump.proofs.JournalLemmas.{goes_to, left_more}

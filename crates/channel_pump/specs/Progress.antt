@@ -4,7 +4,7 @@ use Rattle.ghost_model.specs.Channel.{Catalog, row_count_in}
 use Rattle.ghost_model.specs.Asks.{Asked, rows_in, row_width, kinds_of}
 use Rattle.ghost_model.specs.Frames.{payload_in, kind_in}
 use Rattle.ghost_model.specs.NextMove as next
-use Rattle.ghost_model.specs.NextMove.{Awaits, Missing, Nothing, Heard, Standing, Ended, Ending, Answered, Refused, rows_fit}
+use Rattle.ghost_model.specs.NextMove.{Awaits, Missing, Nothing, Heard, Standing, Ended, Ending, Answered, Refused, rows_fit, bytes_before}
 use Rattle.ghost_model.specs.Schema.{Kind}
 use Rattle.channel_pump.specs.Forms.{Form}
 use Rattle.channel_pump.specs.Asked.{width_of, rows_with}
@@ -16,7 +16,7 @@ use Rattle.channel_pump.specs.declared.state.Event.{Event}
 use Rattle.channel_pump.specs.declared.state.Event.TheVariants as event
 use Rattle.channel_pump.specs.declared.state.Cause.{Cause}
 use Rattle.channel_pump.specs.declared.state.Cause.TheVariants.{Finished, Link, Protocol}
-use Rattle.channel_pump.specs.State.{counted, bytes_before}
+use Rattle.channel_pump.specs.State.{counted}
 
 -- the bytes of the rows of the ask at hand after an event; those that came stand in the page behind the header
 abbrev pub rows_on : Event → (page rows : List ℕ) → List ℕ

@@ -7,7 +7,7 @@ use Rattle.ghost_model.specs.Frames.{frame_bytes, kind_in}
 use Rattle.ghost_model.specs.Asks.{Asked}
 use Rattle.ghost_model.specs.Moves.{taken}
 use Rattle.ghost_model.specs.NextMove as next
-use Rattle.ghost_model.specs.NextMove.{Awaits, Missing, Nothing, Heard, Standing, Turn, standing_after, next_with, heard}
+use Rattle.ghost_model.specs.NextMove.{Awaits, Missing, Nothing, Heard, Standing, bytes_before, Turn, standing_after, next_with, heard}
 use Rattle.channel_pump.specs.Forms.{Form}
 use Rattle.channel_pump.specs.declared.state.Pump.{Pump}
 use Rattle.channel_pump.specs.declared.state.Phase.{Phase}
@@ -110,9 +110,6 @@ has_broken (Closed cause) = is_protocol cause
 -- a number of bytes, as far as 64 bits count
 abbrev pub counted : ℕ → ℕ
 counted bytes = min bytes (2 ^ 64 - 1)
-
-abbrev pub bytes_before : Heard → ℕ
-bytes_before heard = length (flat_map frame_bytes heard.frames)
 
 pub record IsDialling (p : Pump) (l : Standing) : Type 0 where
   pub phase : is_over p.phase ≡ false

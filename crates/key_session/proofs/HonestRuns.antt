@@ -25,8 +25,6 @@ use Rattle.key_session.specs.Telling.{Outside, AreTold, TextTold, IsTold, reason
 use Rattle.key_session.specs.declared.tally.Tally.{Tally}
 use Rattle.key_session.specs.declared.tally.SessionStatus.TheVariants as status
 use Rattle.flash_layout.specs.Limits.{HasLayout}
-use Rattle.script_asks.specs.Laws.{AsksAreFew}
-use Rattle.tree_schema.specs.CatalogParts.{CatalogsAreBytes}
 use Rattle.key_session.proofs.Settings.{setting, stored}
 
 abbrev lines_in : List TextTold → List (List (List ℕ))
@@ -132,16 +130,16 @@ module _ (catalog : Catalog) (at : List ℕ) (texts : List (List ℕ)) (database
         });
   }
 
-pub answers_all : HonestSessionsAreSmooth → HonestLinesArePrinted → CatalogsAreBytes → AsksAreFew → (told : Bool) (cat : Catalog) (at : List ℕ) (texts : List (List ℕ)) (journal : Journal) (since now : Outside) (tally : Tally)
-    → IsCatalog cat → HasLayout cat → length texts ≤ 64 → IsProper cat at texts journal → IsFinished journal
+pub answers_all : HonestSessionsAreSmooth → HonestLinesArePrinted → (told : Bool) (cat : Catalog) (at : List ℕ) (texts : List (List ℕ)) (journal : Journal) (since now : Outside) (tally : Tally)
+    → IsCatalog cat → length texts ≤ 64 → IsProper cat at texts journal → IsFinished journal
     → ((database : Database) → Knows told since.flash.page cat database
     → AreTold cat (hidden_of cat.schema database) texts journal (length texts) (λ reasons. IsTally now.sink.failed (standing_after cat (asked_of cat.schema texts) journal) reasons tally) since now)
     → AnswersWhereSound told cat texts journal since now tally
-answers_all smooth prints bytes asks_few told cat at texts journal since now tally proper layout few is_proper finished tells = λ database sound.
+answers_all smooth prints told cat at texts journal since now tally proper few is_proper finished tells = λ database sound.
     let session_is : IsHonestSession cat database at texts journal =
     record {
-      setting = setting asks_few cat texts proper layout.tree few;
-      stored = stored bytes told since.flash.page cat database proper layout.few sound.pages;
+      setting = setting cat texts proper few;
+      stored = stored told since.flash.page cat database proper sound.pages;
       proper = is_proper;
       honest = sound.host;
     } in

@@ -30,7 +30,7 @@ use Rattle.key_session.specs.Reasons.{IsReason, HasReason, is_refused_text}
 use Rattle.key_session.specs.Refusing.{first_code}
 use Rattle.key_session.specs.Telling.{Outside, AreTold, AreLeft, CameOut, IsTelling, TellsOn}
 use Rattle.key_session.specs.Going.{IsGoing, HasGone}
-use Rattle.key_session.specs.Running.{HasRun, IsTally, status_with, host_or, blames_flash, is_damaged, spares_flash}
+use Rattle.key_session.specs.Running.{HasRun, IsTally, status_with, protocol_or, host_or, blames_flash, is_damaged, spares_flash}
 use Rattle.key_session.specs.declared.teller.Teller.{Teller}
 use Rattle.key_session.specs.declared.counts.Counts.{Counts}
 use Rattle.key_session.specs.declared.counts.Damage.{Damage}
@@ -136,7 +136,7 @@ refusals_read catalog texts journal reasons long each =
 -- a status by all that it goes by
 abbrev status_by : (failed stopped broken : Bool) (kind at : ℕ) (code : Option ℕ) (by_flash : Bool) (damage : Option Damage) → SessionStatus
 status_by failed stopped broken kind at code by_flash damage =
-    if failed then way.Sink else if stopped then way.Link else if broken then way.Protocol kind at else host_or code by_flash damage
+    if failed then way.Sink else if stopped then way.Link else protocol_or (if broken then Some (record { kind = kind; at = at }) else None) (host_or code by_flash damage)
 
 blamed_so : (failed stopped broken : Bool) (kind at : ℕ) (code : Option ℕ) (by_flash : Bool) (damage : Option Damage) → blames_flash (status_by failed stopped broken kind at code by_flash damage) ≡ true → by_flash ≡ true
 blamed_so true stopped broken kind at code by_flash damage e = cc

@@ -4,12 +4,11 @@ use Rattle.std.specs.Prelude.{◌≡◌, ℕ, Bool, true, false, List, length, c
 use Rattle.std.specs.List.{list_any, list_all}
 use Rattle.ghost_model.specs.Values.{Database}
 use Rattle.ghost_model.specs.Channel.{Catalog, Journal}
-use Rattle.ghost_model.specs.Frames.{kind_in}
 use Rattle.ghost_model.specs.Asks.{asked_of}
-use Rattle.ghost_model.specs.NextMove.{Standing, standing_after, IsProper, IsFinished}
+use Rattle.ghost_model.specs.NextMove.{InvalidFrame, invalid_frame, Standing, standing_after, IsProper, IsFinished}
 use Rattle.ghost_model.specs.Split.{hidden_of}
 use Rattle.ghost_model.specs.Lines.{Reason}
-use Rattle.channel_pump.specs.State.{counted, bytes_before}
+use Rattle.channel_pump.specs.State.{counted}
 use Rattle.channel_session.specs.Entries.{is_short_entry, FaultsTell}
 use Rattle.key_exec.specs.Reading.{Knows}
 use Rattle.key_session.specs.Answering.{AnswersWhereSound}
@@ -70,14 +69,19 @@ abbrev pub host_or : Option ℕ → (by_flash : Bool) → Option Damage → Sess
 host_or (Some code) by_flash damage = status.Host code
 host_or None by_flash damage = if by_flash then status.Flash else damaged_or damage
 
+-- where the link did not fail or end: a frame was invalid, by its first byte and the bytes before it, as far as 64 bits
+-- count these; else the status is another
+abbrev pub protocol_or : Option InvalidFrame → SessionStatus → SessionStatus
+protocol_or (Some invalid) other = status.Protocol invalid.kind (counted invalid.at)
+protocol_or None other = other
+
 -- the first of these that is so: a write failed, the link failed or ended, a frame was invalid, the host refused an ask,
 -- the flash failed, damage was met
 abbrev pub status_with : (failed : Bool) → Standing → (by_flash : Bool) → Option Damage → SessionStatus
 status_with failed session by_flash damage =
     if failed then status.Sink
     else if session.stopped then status.Link
-    else if session.heard.broken then status.Protocol (kind_in session.heard.part) (counted (bytes_before session.heard))
-    else host_or (first_code session.heard.ended) by_flash damage
+    else protocol_or (invalid_frame session.heard) (host_or (first_code session.heard.ended) by_flash damage)
 
 -- and where no damage was met
 abbrev pub status_of : (failed : Bool) → Standing → (by_flash : Bool) → SessionStatus

@@ -13,6 +13,7 @@ use Rattle.ghost_model.specs.NextMove.{Awaits, Missing, Reply, Nothing, Short, W
 use Rattle.ghost_model.specs.ChannelLaws.{IsDue}
 use Rattle.ghost_model.specs.SessionLaws.{IsSetting}
 use Rattle.ghost_model.proofs.ChannelLemmas.Tests.{both_hold, hold_both}
+use Rattle.ghost_model.proofs.SessionLemmas.Settings.{serials_fit}
 use Rattle.ghost_model.proofs.ChannelLemmas.Sending.{sent_is_due}
 use Rattle.ghost_model.proofs.SessionLemmas.Limits.{IsSmall, schema_is_small}
 use Rattle.ghost_model.proofs.SessionLemmas.SentFrames.{AreFrames, sent_are_frames, asks_are_good}
@@ -123,8 +124,8 @@ short_on catalog at asks gone (made ∷ later) goes sends within =
 pub proper_short : (catalog : Catalog) (at : List ℕ) (texts : List (List ℕ)) (journal : Journal) → IsSetting catalog texts → IsProper catalog at texts journal → list_all is_within journal ≡ true
     → list_all is_short journal ≡ true
 proper_short catalog at texts journal setting proper within =
-    let small : IsSmall catalog.schema = schema_is_small setting.schema_text catalog.schema setting.accepted in
+    let small : IsSmall catalog.schema = schema_is_small (canonical_text catalog.schema) catalog.schema setting.proper.meant in
     let asks : List Asked = asked_of catalog.schema texts in
     let due : IsDue catalog asks journal = sent_is_due catalog at asks journal proper in
-    let frames = sent_are_frames catalog small asks (asks_are_good catalog.schema texts) setting.serials_fit journal setting.generation_fits due in
+    let frames = sent_are_frames catalog small asks (asks_are_good catalog.schema texts) (serials_fit catalog texts setting) journal setting.proper.generation_fits due in
     short_on catalog at asks [] journal proper (ap (list_all few) due.sent_are ∙ frames_are_few due.frames frames) within

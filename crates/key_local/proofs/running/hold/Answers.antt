@@ -20,7 +20,7 @@ end_of-requires g c =
     let is = c.a_catalog_is_short.ensures.catalog in
     let ran = c.run_session-tally.ensures.ran in
     let some = c.requires.hosted in
-    let setting = setting_of c.asks_are_few.ensures.few cat texts is (c.schemas_are_trees.ensures (canonical_text cat.schema) cat.schema is.meant) c.requires.few in
+    let setting = setting_of cat texts is c.requires.few in
     let goes = c.sessions_are_local.ensures.is_local cat some.database [] texts ran.journal _ _ setting some.stored ran.proper ran.went.moved some.hosted.is_sure some.hosted.at_first in
     let unbroken = c.local_sessions_are_served.ensures cat some.database [] texts ran.journal goes.is_local in
     record {
@@ -35,7 +35,7 @@ returns-clause-ran g c = λ database stored hosted columns.
     let texts = texts_of c.args.script.now in
     let is = c.a_catalog_is_short.ensures.catalog in
     let ran = c.run_session-tally.ensures.ran in
-    let setting = setting_of c.asks_are_few.ensures.few cat texts is (c.schemas_are_trees.ensures (canonical_text cat.schema) cat.schema is.meant) c.requires.few in
+    let setting = setting_of cat texts is c.requires.few in
     let goes = c.sessions_are_local.ensures.is_local cat database [] texts ran.journal _ _ setting stored ran.proper ran.went.moved hosted.is_sure hosted.at_first in
     let wrote = c.proper_journals_are_written.ensures.written cat [] texts ran.journal _ _ setting ran.proper ran.went in
     ran_over g.F.Flash.told cat database texts _ c.end_of.result c.run_session-tally.result _ _ ran.journal c.local_sessions_are_served.ensures c.told_texts_are_given.ensures.given
