@@ -2,7 +2,7 @@
 
 ghost use Rattle.ghost_model.specs.ChannelLaws.{FramesArePrefixFree, FramesHaveOneSpelling, AsksHaveOneSpelling, AsksAreVisible, AsksAreProper, AsksAreFew, RowsHaveOneSpelling, TwoWorlds, ReceivedIsSpelled, AwaitedIsHeard, SentIsDue};
 ghost use Rattle.ghost_model.specs.HostLaws.{FramesAreCut, HostIsHonest, NothingIsLost, GreetingsAreHeard, RepliesAreHeard, HonestStreamsAreHeard};
-ghost use Rattle.ghost_model.specs.examples.Channel.{SpellingsOfFrames, ReadingsOfFrames, JournalOfTheNotes, AsksOfQueries, AsksOfBytes, JournalOfTheClinic, JournalWithoutAsks, InvalidFrames, FramesThatAreDue, AnswersOfTheHost};
+ghost use Rattle.ghost_model.specs.examples.Channel.{SpellingsOfFrames, ReadingsOfFrames, JournalOfTheNotes, AsksOfQueries, AsksOfBytes, JournalOfTheClinic, JournalWithoutAsks, JournalsOfAsks, JournalsCutShort, JournalInSingleBytes, InvalidFrames, FramesThatAreDue, AnswersOfTheHost};
 
 /// No frame's spelling is a proper prefix of another's.
 pub fn frames_are_prefix_free()
@@ -125,6 +125,21 @@ pub fn journal_of_the_clinic()
 /// The session of a script that asks for nothing.
 pub fn journal_without_asks()
     ensures { JournalWithoutAsks }
+{}
+
+/// Sessions with an ask without a row, and with the asks of two texts.
+pub fn journals_of_asks()
+    ensures { JournalsOfAsks }
+{}
+
+/// Sessions in which a host refuses an ask, or sends an invalid frame.
+pub fn journals_cut_short()
+    ensures { JournalsCutShort }
+{}
+
+/// A session whose reply comes byte by byte.
+pub fn journal_in_single_bytes()
+    ensures { JournalInSingleBytes }
 {}
 
 /// Frames that are invalid in their place, each with its kind and the bytes taken before it.
