@@ -9,6 +9,7 @@ use Rattle.ghost_model.specs.Channel.{Catalog, Frame, Move, Dial, Listen, Accept
 use Rattle.ghost_model.specs.Frames.{IsFrame, frame_bytes, kind_of, payload_of, kind_in, serial_in, size_in, version_in}
 use Rattle.ghost_model.specs.Asks.{Asked, asked_of, row_width}
 use Rattle.ghost_model.specs.Moves.{sent, sent_by, piece_of}
+use Rattle.ghost_model.specs.Catalog.{canonical_text}
 use Rattle.ghost_model.specs.NextMove.{Awaits, Missing, Reply, Nothing, Short, Whole, Invalid, verdict, bytes_missing, header_fits, Heard, Standing, standing_after, move_from, send_or, take_or_close, GoesOn, IsProper}
 use Rattle.ghost_model.specs.ChannelLaws.{IsDue}
 use Rattle.ghost_model.specs.SessionLaws.{IsSetting}
