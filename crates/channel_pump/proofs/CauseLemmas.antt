@@ -3,7 +3,7 @@ use Rattle.std.proofs.Common.{◌≡◌, true, List, refl}
 use Rattle.ghost_model.specs.Channel.{Catalog}
 use Rattle.ghost_model.specs.Asks.{Asked}
 use Rattle.ghost_model.specs.NextMove as next
-use Rattle.ghost_model.specs.NextMove.{Awaits, Missing, Nothing, Left}
+use Rattle.ghost_model.specs.NextMove.{Awaits, Missing, Nothing, Standing}
 use Rattle.channel_pump.specs.declared.state.Pump.{Pump}
 use Rattle.channel_pump.specs.declared.state.Phase.{Phase}
 use Rattle.channel_pump.specs.declared.state.Phase.TheVariants.{Greeting, Reply, Over}
@@ -23,7 +23,7 @@ nothing_awaited catalog p Reply (next.Reply _ _ _ _ _) h e = cc
 nothing_awaited catalog p Over (Missing bytes) h e = absurd h
 nothing_awaited catalog p Over (next.Reply _ _ _ _ _) h e = absurd h
 
-module _ (catalog : Catalog) (asks : List Asked) (p : Pump) (l : Left) (h : IsLeft catalog asks p l) where
+module _ (catalog : Catalog) (asks : List Asked) (p : Pump) (l : Standing) (h : IsLeft catalog asks p l) where
   by_cause : (cause : Cause) → IsCause p l cause → l.stopped ≡ has_stopped (Closing cause) → l.heard.broken ≡ has_broken (Closing cause) → EndsBy l cause
   by_cause Finished c s b = (nothing_awaited catalog p p.phase l.heard.awaits h.awaits c.phase, s, b)
   by_cause Link c s b = (s, b)

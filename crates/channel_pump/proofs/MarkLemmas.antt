@@ -9,7 +9,7 @@ use Rattle.ghost_model.specs.Channel.{Catalog}
 use Rattle.ghost_model.specs.Frames as frames
 use Rattle.ghost_model.specs.Asks.{Asked}
 use Rattle.ghost_model.specs.NextMove as next
-use Rattle.ghost_model.specs.NextMove.{Awaits, Missing, Nothing, Ended, Refused, Left}
+use Rattle.ghost_model.specs.NextMove.{Awaits, Missing, Nothing, Ended, Refused, Standing}
 use Rattle.channel_pump.specs.Forms.{Form}
 use Rattle.channel_pump.specs.declared.state.Pump.{Pump}
 use Rattle.channel_pump.specs.declared.state.Phase.{Phase}
@@ -171,7 +171,7 @@ pick_awaited false false s b e f g h = cc
 pick_awaited false true true b e f g h = cc
 pick_awaited false true false true e f g h = cc
 
-module _ (catalog : Catalog) (asks : List Asked) (text : ℕ) (p : Pump) (l : Left) (h : IsLeft catalog asks p l) (fits : text ≤ 64) where
+module _ (catalog : Catalog) (asks : List Asked) (text : ℕ) (p : Pump) (l : Standing) (h : IsLeft catalog asks p l) (fits : text ≤ 64) where
   not_refused : get_or p.refused text false ≡ false → list_any (is_refusal text) l.heard.ended ≡ false
   not_refused e = sym (h.refused.each text fits) ∙ e
 

@@ -2,7 +2,7 @@
 use Rattle.std.proofs.Common.{◌≡◌, ℕ, ◌+◌, ◌-◌, Bool, not, ◌&&◌, ◌==◌, nat_lt, List, [], ◌∷◌, length, if◌then◌else◌, refl, ap, ◌∙◌}
 use Rattle.ghost_model.specs.Schema as schema
 use Rattle.ghost_model.specs.Channel as channel
-use Rattle.ghost_model.specs.Channel.{Catalog}
+use Rattle.ghost_model.specs.Channel.{Catalog, row_count_in}
 use Rattle.ghost_model.specs.Asks.{Asked, rows_in}
 use Rattle.ghost_model.specs.Frames as frames
 use Rattle.ghost_model.specs.NextMove as next
@@ -45,7 +45,7 @@ form_fits_is : (catalog : Catalog) (form : Form) (asked : Asked) (count last : �
     → form_fits form count last frame ≡ next.reply_fits catalog asked.ask count last frame
 form_fits_is catalog form asked count last (channel.Replied _ payload) h =
     ap (λ (n : ℕ). next.rows_fit n last (form_kinds form) (rows_with (form_kinds form) payload)) h.rows
-    ∙ ap (λ (kinds : List schema.Kind). next.rows_fit (next.rows_of catalog asked.ask.table) last kinds (rows_with kinds payload)) h.kinds
+    ∙ ap (λ (kinds : List schema.Kind). next.rows_fit (row_count_in catalog asked.ask.table) last kinds (rows_with kinds payload)) h.kinds
 form_fits_is catalog form asked count last (channel.Done _ total) h = refl
 form_fits_is catalog form asked count last (channel.Sorry _ code) h = refl
 form_fits_is catalog form asked count last (channel.Hello _) h = refl

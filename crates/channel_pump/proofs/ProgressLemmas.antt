@@ -7,7 +7,7 @@ use Rattle.ghost_model.specs.Channel.{Catalog, Journal}
 use Rattle.ghost_model.specs.Frames as frames
 use Rattle.ghost_model.specs.Asks.{Asked, rows_in, row_width}
 use Rattle.ghost_model.specs.NextMove as next
-use Rattle.ghost_model.specs.NextMove.{Awaits, Missing, Nothing, Heard, Left, left, heard_as}
+use Rattle.ghost_model.specs.NextMove.{Awaits, Missing, Nothing, Heard, Standing, standing_after, heard_as}
 use Rattle.channel_pump.specs.declared.rows.Tally.{Tally}
 use Rattle.channel_pump.specs.declared.state.Pump.{Pump}
 use Rattle.channel_pump.specs.declared.state.Event.{Event}
@@ -139,17 +139,17 @@ module _ (catalog : Catalog) (asks : List Asked) (journal : Journal) (p : Pump) 
   part = take (p.have + n) page
 
   tells_as : (result : Event) (v : next.Verdict) → At catalog asks journal p page n → verdict_here p part ≡ v
-      → Tells catalog page result (left catalog asks journal).heard (heard_as catalog asks (left catalog asks journal).heard part v)
-      → Tells catalog page result (left catalog asks journal).heard (left catalog asks (journal ++ taken_entry p page n ∷ [])).heard
+      → Tells catalog page result (standing_after catalog asks journal).heard (heard_as catalog asks (standing_after catalog asks journal).heard part v)
+      → Tells catalog page result (standing_after catalog asks journal).heard (standing_after catalog asks (journal ++ taken_entry p page n ∷ [])).heard
   tells_as result v h e t =
-      subst (λ (l : Left). Tells catalog page result (left catalog asks journal).heard l.heard) (sym (left_is catalog asks journal p page n h v e)) t
+      subst (λ (l : Standing). Tells catalog page result (standing_after catalog asks journal).heard l.heard) (sym (left_is catalog asks journal p page n h v e)) t
 
   pub part_tells : (missing : ℕ) → At catalog asks journal p page n → verdict_here p part ≡ next.Short missing
-      → Tells catalog page event.Part (left catalog asks journal).heard (left catalog asks (journal ++ taken_entry p page n ∷ [])).heard
+      → Tells catalog page event.Part (standing_after catalog asks journal).heard (standing_after catalog asks (journal ++ taken_entry p page n ∷ [])).heard
   part_tells missing h e = tells_as event.Part (next.Short missing) h e (record { rows = refl; ended = sym (append-nil _); came = tt })
 
   pub invalid_tells : (kind place : ℕ) → At catalog asks journal p page n → verdict_here p part ≡ next.Invalid
-      → Tells catalog page (event.Invalid kind place) (left catalog asks journal).heard (left catalog asks (journal ++ taken_entry p page n ∷ [])).heard
+      → Tells catalog page (event.Invalid kind place) (standing_after catalog asks journal).heard (standing_after catalog asks (journal ++ taken_entry p page n ∷ [])).heard
   invalid_tells kind place h e = tells_as (event.Invalid kind place) next.Invalid h e (record { rows = refl; ended = sym (append-nil _); came = tt })
 
   rows_are : (bytes : List ℕ) (count : ℕ) → FrameKind (frames.kind_in part) (frames.size_in part) → frames.payload_in part ≡ frames.payload_in page
@@ -171,17 +171,17 @@ module _ (catalog : Catalog) (asks : List Asked) (journal : Journal) (p : Pump) 
   came awaits count (replies (sorry k z)) h = subst (λ (f : channel.Frame). RowsOf catalog awaits page (event_of count f)) (sym (frame_of_kind part 20 k)) tt
 
   pub frame_tells : (tally : Tally) → At catalog asks journal p page n → Stands p part tally → verdict_here p part ≡ next.Whole → frames.payload_in part ≡ frames.payload_in page
-      → Tells catalog page (event_of tally.rows (frames.frame_in part)) (left catalog asks journal).heard (left catalog asks (journal ++ taken_entry p page n ∷ [])).heard
+      → Tells catalog page (event_of tally.rows (frames.frame_in part)) (standing_after catalog asks journal).heard (standing_after catalog asks (journal ++ taken_entry p page n ∷ [])).heard
   frame_tells tally h stands e same =
-      let l : Left = left catalog asks journal in
+      let l : Standing = standing_after catalog asks journal in
       let kind : FrameKind (frames.kind_in part) (frames.size_in part) = kind_of_header p p.phase part stands.header in
       tells_as (event_of tally.rows (frames.frame_in part)) next.Whole h e (record {
-        rows = rows_are (left catalog asks journal).heard.rows tally.rows kind same;
-        ended = ap (λ (x : List next.Ended). (left catalog asks journal).heard.ended ++ x) (ended_is (left catalog asks journal).heard.awaits (left catalog asks journal).heard.rows tally.rows (frames.frame_in part));
-        came = came (left catalog asks journal).heard.awaits tally.rows kind (λ k.
-            subst (λ (x : List ℕ). MayCome catalog (left catalog asks journal).heard.awaits x tally.rows) same
-            (came_of catalog (left catalog asks journal).heard.awaits part tally.rows k stands.whole
-            (sym (header_is catalog p p.phase (left catalog asks journal).heard.awaits part h.after.awaits) ∙ stands.header)
-            (sym (payload_is catalog p p.phase (left catalog asks journal).heard.awaits (frames.frame_in part) h.after.awaits) ∙ stands.payload)
-            (stands.rows.rows ∙ ap length (rows_at_are catalog p p.phase (left catalog asks journal).heard.awaits (frames.frame_in part) h.after.awaits))));
+        rows = rows_are (standing_after catalog asks journal).heard.rows tally.rows kind same;
+        ended = ap (λ (x : List next.Ended). (standing_after catalog asks journal).heard.ended ++ x) (ended_is (standing_after catalog asks journal).heard.awaits (standing_after catalog asks journal).heard.rows tally.rows (frames.frame_in part));
+        came = came (standing_after catalog asks journal).heard.awaits tally.rows kind (λ k.
+            subst (λ (x : List ℕ). MayCome catalog (standing_after catalog asks journal).heard.awaits x tally.rows) same
+            (came_of catalog (standing_after catalog asks journal).heard.awaits part tally.rows k stands.whole
+            (sym (header_is catalog p p.phase (standing_after catalog asks journal).heard.awaits part h.after.awaits) ∙ stands.header)
+            (sym (payload_is catalog p p.phase (standing_after catalog asks journal).heard.awaits (frames.frame_in part) h.after.awaits) ∙ stands.payload)
+            (stands.rows.rows ∙ ap length (rows_at_are catalog p p.phase (standing_after catalog asks journal).heard.awaits (frames.frame_in part) h.after.awaits))));
       })

@@ -3,9 +3,8 @@
 use Rattle.std.specs.Prelude.{◌≡◌, ℕ, ◌+◌, ◌≤◌, ◌/◌, List, [], ◌∷◌, length, map, sum}
 use Rattle.ghost_model.specs.Schema as schema
 use Rattle.ghost_model.specs.Cells.{cell_width}
-use Rattle.ghost_model.specs.Channel.{Catalog}
+use Rattle.ghost_model.specs.Channel.{Catalog, row_count_in}
 use Rattle.ghost_model.specs.Asks.{Asked, ReplyRow, ask_payload, kinds_of, rows_from}
-use Rattle.ghost_model.specs.NextMove.{rows_of}
 use Rattle.channel_pump.specs.Forms.{Form}
 
 abbrev pub form_kinds : Form → List schema.Kind
@@ -16,7 +15,7 @@ pub record IsAskForm (catalog : Catalog) (form : Form) (asked : Asked) : Type 0 
   pub text : form.text ≡ asked.text
   pub payload : form.payload ≡ ask_payload catalog.schema asked.ask
   pub kinds : form_kinds form ≡ kinds_of catalog.schema asked.ask
-  pub rows : form.rows ≡ rows_of catalog asked.ask.table
+  pub rows : form.rows ≡ row_count_in catalog asked.ask.table
   pub in_script : form.text ≤ 64
   pub ask : form.ask ≡ asked.ask
 

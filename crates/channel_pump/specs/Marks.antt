@@ -3,7 +3,7 @@ use Rattle.std.specs.Prelude.{◌≡◌, ℕ, ◌≤◌, Bool, true, false, not,
 use Rattle.std.specs.List.{list_any}
 use Rattle.ghost_model.specs.Asks.{Asked}
 use Rattle.ghost_model.specs.NextMove as next
-use Rattle.ghost_model.specs.NextMove.{Awaits, Missing, Nothing, Ending, Answered, Refused, Ended, Left}
+use Rattle.ghost_model.specs.NextMove.{Awaits, Missing, Nothing, Ending, Answered, Refused, Ended, Standing}
 use Rattle.channel_pump.specs.Forms.{Form}
 use Rattle.channel_pump.specs.declared.state.Event.{Event}
 use Rattle.channel_pump.specs.declared.state.Event.TheVariants as event
@@ -50,7 +50,7 @@ asked_at Nothing = None
 
 -- the state of a text's replies: an ask of it was refused; or each was ended by DONE; or the link, or an invalid frame,
 -- ended the session before; or some are awaited
-abbrev pub state_of : (asks : List Asked) → (text : ℕ) → Left → ReplyState
+abbrev pub state_of : (asks : List Asked) → (text : ℕ) → Standing → ReplyState
 state_of asks text l =
     if list_any (is_refusal text) l.heard.ended then state.Host
     else if not (list_any (λ asked. asked.text == text) (awaited asks l.heard.awaits)) then state.Done

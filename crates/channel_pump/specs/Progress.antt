@@ -1,10 +1,10 @@
 -- What an event tells of the replies: the rows that came, the asks that were ended, and why the session ends.
 use Rattle.std.specs.Prelude.{◌≡◌, ℕ, ◌*◌, ◌≤◌, true, false, List, [], ◌∷◌, ◌++◌, length, Option, Some, None}
-use Rattle.ghost_model.specs.Channel.{Catalog}
+use Rattle.ghost_model.specs.Channel.{Catalog, row_count_in}
 use Rattle.ghost_model.specs.Asks.{Asked, rows_in, row_width, kinds_of}
 use Rattle.ghost_model.specs.Frames.{payload_in, kind_in}
 use Rattle.ghost_model.specs.NextMove as next
-use Rattle.ghost_model.specs.NextMove.{Awaits, Missing, Nothing, Heard, Left, Ended, Ending, Answered, Refused, rows_fit, rows_of}
+use Rattle.ghost_model.specs.NextMove.{Awaits, Missing, Nothing, Heard, Standing, Ended, Ending, Answered, Refused, rows_fit, bytes_before}
 use Rattle.ghost_model.specs.Schema.{Kind}
 use Rattle.channel_pump.specs.Forms.{Form}
 use Rattle.channel_pump.specs.Asked.{width_of, rows_with}
@@ -16,7 +16,7 @@ use Rattle.channel_pump.specs.declared.state.Event.{Event}
 use Rattle.channel_pump.specs.declared.state.Event.TheVariants as event
 use Rattle.channel_pump.specs.declared.state.Cause.{Cause}
 use Rattle.channel_pump.specs.declared.state.Cause.TheVariants.{Finished, Link, Protocol}
-use Rattle.channel_pump.specs.State.{counted, bytes_before}
+use Rattle.channel_pump.specs.State.{counted}
 
 -- the bytes of the rows of the ask at hand after an event; those that came stand in the page behind the header
 abbrev pub rows_on : Event → (page rows : List ℕ) → List ℕ
@@ -43,7 +43,7 @@ ended_on (event.Invalid _ _) awaits rows = []
 
 -- rows of the reply that is awaited came: so many whole ones, which may stand after those before
 pub record RowsCame (catalog : Catalog) (asked : Asked) (last : ℕ) (payload : List ℕ) (n : ℕ) : Type 0 where
-  pub fit : rows_fit (rows_of catalog asked.ask.table) last (kinds_of catalog.schema asked.ask) (rows_in catalog.schema asked.ask payload) ≡ true
+  pub fit : rows_fit (row_count_in catalog asked.ask.table) last (kinds_of catalog.schema asked.ask) (rows_in catalog.schema asked.ask payload) ≡ true
   pub count : n ≡ length (rows_in catalog.schema asked.ask payload)
   pub size : length payload ≡ n * row_width catalog.schema asked.ask
 
@@ -67,13 +67,13 @@ pub record Tells (catalog : Catalog) (page : List ℕ) (result : Event) (before 
   pub came : RowsOf catalog before.awaits page result
 
 -- why a session ends, if it does
-abbrev pub EndsBy : Left → Cause → Type 0
+abbrev pub EndsBy : Standing → Cause → Type 0
 EndsBy l Finished = (l.heard.awaits ≡ Nothing) × (l.stopped ≡ false) × (l.heard.broken ≡ false)
 EndsBy l Link = (l.stopped ≡ true) × (l.heard.broken ≡ false)
 EndsBy l (Protocol kind at) =
     (l.stopped ≡ false) × (l.heard.broken ≡ true) × (kind ≡ kind_in l.heard.part) × (at ≡ counted (bytes_before l.heard))
 
-abbrev pub EndsAs : Left → Option Cause → Type 0
+abbrev pub EndsAs : Standing → Option Cause → Type 0
 EndsAs l None = (l.stopped ≡ false) × (l.heard.broken ≡ false)
 EndsAs l (Some cause) = EndsBy l cause
 

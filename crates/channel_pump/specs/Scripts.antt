@@ -2,9 +2,8 @@
 use Rattle.std.specs.Prelude.{◌≡◌, ◌≤◌, ℕ, true, List, [], ◌∷◌, length, map, IsTrue}
 use Rattle.std.specs.List.{list_all}
 use Rattle.ghost_model.specs.Schema.{Schema, Kind}
-use Rattle.ghost_model.specs.Channel.{Catalog}
+use Rattle.ghost_model.specs.Channel.{Catalog, row_count_in}
 use Rattle.ghost_model.specs.Asks.{Asked, ask_payload, kinds_of}
-use Rattle.ghost_model.specs.NextMove.{rows_of}
 use Rattle.script_asks.specs.Left.{are_proper}
 use Rattle.channel_pump.specs.Forms.{Form}
 use Rattle.channel_pump.specs.Narrow.{is_narrow}
@@ -14,7 +13,7 @@ form_asked catalog asked = record {
   text = asked.text;
   payload = ask_payload catalog.schema asked.ask;
   kinds = kinds_of catalog.schema asked.ask;
-  rows = rows_of catalog asked.ask.table;
+  rows = row_count_in catalog asked.ask.table;
   ask = asked.ask;
 }
 

@@ -1,4 +1,4 @@
--- When a pump stands where a journal leaves the key: its fields are what is left of the journal, for a catalog and the
+-- When a pump stands where a journal leaves the key: its fields are what the journal has led to, for a catalog and the
 -- asks of the session.
 use Rattle.std.specs.Prelude.{◌≡◌, ℕ, ◌+◌, ◌-◌, ◌^◌, ◌<◌, ◌≤◌, Bool, true, false, List, [], ◌∷◌, length, take, drop, flat_map, slice_get, min, Option, Some, None}
 use Rattle.ghost_model.specs.Channel as channel
@@ -7,7 +7,7 @@ use Rattle.ghost_model.specs.Frames.{frame_bytes, kind_in}
 use Rattle.ghost_model.specs.Asks.{Asked}
 use Rattle.ghost_model.specs.Moves.{taken}
 use Rattle.ghost_model.specs.NextMove as next
-use Rattle.ghost_model.specs.NextMove.{Awaits, Missing, Nothing, Heard, Left, Turn, left, next_with, heard}
+use Rattle.ghost_model.specs.NextMove.{Awaits, Missing, Nothing, Heard, Standing, bytes_before, Turn, standing_after, next_with, heard}
 use Rattle.channel_pump.specs.Forms.{Form}
 use Rattle.channel_pump.specs.declared.state.Pump.{Pump}
 use Rattle.channel_pump.specs.declared.state.Phase.{Phase}
@@ -111,29 +111,26 @@ has_broken (Closed cause) = is_protocol cause
 abbrev pub counted : ℕ → ℕ
 counted bytes = min bytes (2 ^ 64 - 1)
 
-abbrev pub bytes_before : Heard → ℕ
-bytes_before heard = length (flat_map frame_bytes heard.frames)
-
-pub record IsDialling (p : Pump) (l : Left) : Type 0 where
+pub record IsDialling (p : Pump) (l : Standing) : Type 0 where
   pub phase : is_over p.phase ≡ false
   pub sent : l.sent ≡ 0
   pub due : l.heard.due ≡ channel.Hello p.generation ∷ []
   pub part : l.heard.part ≡ []
 
-pub record IsSending (p : Pump) (outgoing : Outgoing) (l : Left) : Type 0 where
+pub record IsSending (p : Pump) (outgoing : Outgoing) (l : Standing) : Type 0 where
   pub phase : is_over p.phase ≡ is_bye outgoing
   pub frame : slice_get l.heard.due l.sent ≡ Some (frame_due p outgoing)
   pub last : length l.heard.due ≡ l.sent + 1
   pub part : l.heard.part ≡ []
 
-pub record IsTaking (catalog : Catalog) (p : Pump) (l : Left) : Type 0 where
+pub record IsTaking (catalog : Catalog) (p : Pump) (l : Standing) : Type 0 where
   pub phase : is_over p.phase ≡ false
   pub sent : length l.heard.due ≡ l.sent
   pub have : length l.heard.part ≡ p.have
   pub lacks : next.verdict catalog l.heard.awaits l.heard.part ≡ next.Short p.lacks
 
 -- an end that was called for: nothing more is awaited, and all frames that were due were sent
-pub record IsFinished (p : Pump) (l : Left) : Type 0 where
+pub record IsFinished (p : Pump) (l : Standing) : Type 0 where
   pub phase : is_over p.phase ≡ true
   pub sent : length l.heard.due ≡ l.sent
 
@@ -142,20 +139,20 @@ pub record IsInvalid (kind at : ℕ) (heard : Heard) : Type 0 where
   pub its_place : at ≡ counted (bytes_before heard)
 
 -- why a session ends
-abbrev pub IsCause : Pump → Left → Cause → Type 0
+abbrev pub IsCause : Pump → Standing → Cause → Type 0
 IsCause p l Finished = IsFinished p l
 IsCause p l Link = Unit {0}
 IsCause p l (Protocol kind at) = IsInvalid kind at l.heard
 
-abbrev pub IsStage : Catalog → Pump → Left → Stage → Type 0
+abbrev pub IsStage : Catalog → Pump → Standing → Stage → Type 0
 IsStage catalog p l Dialling = IsDialling p l
 IsStage catalog p l (Sending outgoing) = IsSending p outgoing l
 IsStage catalog p l Taking = IsTaking catalog p l
 IsStage catalog p l (Closing cause) = IsCause p l cause
 IsStage catalog p l (Closed cause) = IsCause p l cause
 
--- the pump's fields are what is left of a journal
-pub record IsLeft (catalog : Catalog) (asks : List Asked) (p : Pump) (l : Left) : Type 0 where
+-- the pump's fields are what a journal has led to
+pub record IsLeft (catalog : Catalog) (asks : List Asked) (p : Pump) (l : Standing) : Type 0 where
   pub opened : l.opened ≡ is_opened p.stage
   pub closed : l.closed ≡ is_closed p.stage
   pub stopped : l.stopped ≡ has_stopped p.stage
@@ -168,7 +165,7 @@ pub record IsLeft (catalog : Catalog) (asks : List Asked) (p : Pump) (l : Left) 
 
 -- the pump stands where the journal leaves a session with these asks
 abbrev pub IsAfter : Catalog → (asks : List Asked) → Journal → Pump → Type 0
-IsAfter catalog asks journal p = IsLeft catalog asks p (left catalog asks journal)
+IsAfter catalog asks journal p = IsLeft catalog asks p (standing_after catalog asks journal)
 
 -- a page begins with the part of the frame at hand
 abbrev pub Keeps : Catalog → (asks : List Asked) → Journal → (page : List ℕ) → Type 0

@@ -5,11 +5,11 @@ use Rattle.ghost_model.specs.Channel.{Catalog}
 use Rattle.ghost_model.specs.Asks.{ReplyRow, rows_in}
 use Rattle.ghost_model.specs.Frames.{kind_in, frame_in}
 use Rattle.ghost_model.specs.NextMove as next
-use Rattle.ghost_model.specs.NextMove.{Awaits, Missing, Nothing, Heard, Verdict}
+use Rattle.ghost_model.specs.NextMove.{Awaits, Missing, Nothing, Heard, Verdict, bytes_before}
 use Rattle.channel_pump.specs.Forms.{Form}
 use Rattle.channel_pump.specs.declared.state.Event.{Event}
 use Rattle.channel_pump.specs.declared.state.Event.TheVariants as event
-use Rattle.channel_pump.specs.State.{counted, bytes_before}
+use Rattle.channel_pump.specs.State.{counted}
 
 -- these asks without those at their front that are of this text
 abbrev pub forms_after : (text : ℕ) → List Form → List Form

@@ -4,7 +4,7 @@ ghost use Rattle.std.specs.Prelude.{◌≡◌, ◌≤◌, ◌==◌, ◌*◌, tru
 ghost use Rattle.std.specs.List.{list_all, list_any};
 ghost use Rattle.ghost_model.specs.Asks as asked;
 ghost use Rattle.ghost_model.specs.Schema.{is_empty};
-ghost use Rattle.ghost_model.specs.NextMove.{rows_of as table_rows};
+ghost use Rattle.ghost_model.specs.Channel.{row_count_in as table_rows};
 ghost use Rattle.ghost_model.specs.Texts.{texts_of};
 ghost use Rattle.ghost_base.specs.Views.{kind_of};
 ghost use Rattle.channel_codec.specs.AskViews.{ask_view};

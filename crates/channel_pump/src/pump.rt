@@ -8,7 +8,7 @@ ghost use Rattle.ghost_model.specs.Asks.{Asked, asked, asked_of};
 ghost use Rattle.ghost_model.specs.Texts.{texts_of};
 ghost use Rattle.ghost_model.specs.Moves.{taken};
 ghost use Rattle.ghost_model.specs.NextMove as next;
-ghost use Rattle.ghost_model.specs.NextMove.{next_with, heard, left};
+ghost use Rattle.ghost_model.specs.NextMove.{next_with, heard, standing_after};
 ghost use Rattle.ghost_model.specs.Frames.{payload_of};
 ghost use Rattle.channel_codec.specs.AskViews.{ask_view};
 ghost use Rattle.channel_codec.specs.Views.{frame_view};
@@ -74,7 +74,7 @@ impl<'a> Pump<'a> {
     pub fn cause(&self) -> Option<Cause>
         ensures cause { result ≡ cause_at self.now.stage }
         ensures ends { (catalog : Catalog) (asks : List Asked) (journal : Journal)
-            → IsAfter catalog asks journal self.now → EndsAs (left catalog asks journal) result }
+            → IsAfter catalog asks journal self.now → EndsAs (standing_after catalog asks journal) result }
     {
         match self.stage {
             Stage::Closing(cause) | Stage::Closed(cause) => Some(cause),
@@ -97,7 +97,7 @@ impl<'a> Pump<'a> {
     pub fn reply_state(&self, text: u32) -> ReplyState
         requires { text ≤ 64 }
         ensures { (catalog : Catalog) (asks : List Asked) (journal : Journal)
-            → IsAfter catalog asks journal self.now → result ≡ state_of asks text (left catalog asks journal) }
+            → IsAfter catalog asks journal self.now → result ≡ state_of asks text (standing_after catalog asks journal) }
     {
         if self.refused[text as usize] {
             return ReplyState::Host;

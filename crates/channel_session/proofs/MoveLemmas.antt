@@ -8,7 +8,7 @@ use Rattle.ghost_model.specs.Frames.{AreBytes}
 use Rattle.ghost_model.specs.Moves.{taken, piece_of}
 use Rattle.ghost_model.proofs.ChannelLemmas.{bytes_snoc}
 use Rattle.ghost_model.specs.Frames.{frame_in, size_in}
-use Rattle.ghost_model.specs.NextMove.{Heard, Left, Awaits, Missing, Reply, Nothing, Verdict, Short, Whole, Invalid, GoesOn, IsFinished, left, heard, hear_all, heard_as, turn, verdict, header_fits, payload_fits, next_with, is_close}
+use Rattle.ghost_model.specs.NextMove.{Heard, Standing, Awaits, Missing, Reply, Nothing, Verdict, Short, Whole, Invalid, GoesOn, IsFinished, standing_after, heard, hear_all, heard_as, turn, verdict, header_fits, payload_fits, next_with, is_close}
 use Rattle.channel_pump.specs.Turning.{event_of, event_at, event_after}
 use Rattle.channel_pump.proofs.CuttingLemmas.{cut}
 use Rattle.std.proofs.lemmas.List.{length-take-le, length-drop}
@@ -39,9 +39,9 @@ not_closed true rest move e = cc
 not_closed false rest move e = refl
 
 -- a session that has a next move was not closed
-still_open : (catalog : Catalog) (at : List ℕ) (asks : List Asked) (journal : Journal) (move : Move) → next_with catalog at asks journal ≡ Some move → (left catalog asks journal).closed ≡ false
+still_open : (catalog : Catalog) (at : List ℕ) (asks : List Asked) (journal : Journal) (move : Move) → next_with catalog at asks journal ≡ Some move → (standing_after catalog asks journal).closed ≡ false
 still_open catalog at asks [] move e = refl
-still_open catalog at asks (first ∷ journal) move e = not_closed (left catalog asks (first ∷ journal)).closed _ move e
+still_open catalog at asks (first ∷ journal) move e = not_closed (standing_after catalog asks (first ∷ journal)).closed _ move e
 
 is_close_only : (move : Move) → is_close move ≡ true → move ≡ Close
 is_close_only (Dial _) e = cc
@@ -69,11 +69,11 @@ no_bytes i = omega arith
 
 -- after one more move the session is closed only by a Close
 finished_more : (catalog : Catalog) (at : List ℕ) (asks : List Asked) (journal : Journal) (entry : Entry) → next_with catalog at asks journal ≡ Some entry.move
-    → (left catalog asks (journal ++ entry ∷ [])).closed ≡ true → IsFinished (journal ++ entry ∷ [])
+    → (standing_after catalog asks (journal ++ entry ∷ [])).closed ≡ true → IsFinished (journal ++ entry ∷ [])
 finished_more catalog at asks journal entry next shut =
     finished_last journal entry
-    (is_close_only entry.move (false_or (left catalog asks journal).closed (is_close entry.move) (still_open catalog at asks journal entry.move next)
-    (sym (ap (λ (l : Left). l.closed) (left_more catalog asks journal entry)) ∙ shut)))
+    (is_close_only entry.move (false_or (standing_after catalog asks journal).closed (is_close entry.move) (still_open catalog at asks journal entry.move next)
+    (sym (ap (λ (l : Standing). l.closed) (left_more catalog asks journal entry)) ∙ shut)))
 
 -- a session goes on by the move that is next
 pub live_more : (catalog : Catalog) (at : List ℕ) (asks : List Asked) (journal : Journal) (entry : Entry) (old new : Exchange)
@@ -126,7 +126,7 @@ pub record IsTake (catalog : Catalog) (asks : List Asked) (journal : Journal) (p
   pub part : length (heard_by catalog asks journal).part ≡ place
   pub short : verdict catalog (heard_by catalog asks journal).awaits (heard_by catalog asks journal).part ≡ Short most
 
-take_at : (catalog : Catalog) (asks : List Asked) (journal : Journal) (p : Pump) (place most : ℕ) (s : Stage) → IsStage catalog p (left catalog asks journal) s
+take_at : (catalog : Catalog) (asks : List Asked) (journal : Journal) (p : Pump) (place most : ℕ) (s : Stage) → IsStage catalog p (standing_after catalog asks journal) s
     → want_at p s ≡ want.Take place most → IsTake catalog asks journal p place most
 take_at catalog asks journal p place most stage.Dialling h e = cc
 take_at catalog asks journal p place most (stage.Sending _) h e = cc
@@ -188,7 +188,7 @@ piece_stays catalog asks before piece missing whole short some fits e =
     ∙ heard_stays catalog asks before (before.part ++ piece) (verdict catalog before.awaits (before.part ++ piece)) e
 
 heard_more : (catalog : Catalog) (asks : List Asked) (journal : Journal) (entry : Entry) → heard_by catalog asks (journal ++ entry ∷ []) ≡ hear_all catalog asks (heard_by catalog asks journal) (piece_of entry.answer)
-heard_more catalog asks journal entry = ap (λ (l : Left). l.heard) (left_more catalog asks journal entry)
+heard_more catalog asks journal entry = ap (λ (l : Standing). l.heard) (left_more catalog asks journal entry)
 
 whole_fits : (short narrow longer fits : Bool) (first second : ℕ)
     → (if short then Short first else if narrow then Invalid else if longer then Short second else if fits then Whole else Invalid) ≡ Whole → fits ≡ true

@@ -5,7 +5,7 @@ use Rattle.ghost_model.specs.Channel.{Catalog, Entry, Journal, Answer, Piece, En
 use Rattle.ghost_model.specs.Asks.{Asked}
 use Rattle.ghost_model.specs.Frames.{AreBytes}
 use Rattle.ghost_model.specs.Moves.{taken}
-use Rattle.ghost_model.specs.NextMove.{Heard, Awaits, Missing, Reply, Nothing, GoesOn, IsFinished, left, heard}
+use Rattle.ghost_model.specs.NextMove.{Heard, Awaits, Missing, Reply, Nothing, GoesOn, IsFinished, standing_after, heard}
 use Rattle.channel_pump.specs.State.{IsAfter, Keeps, want_of}
 use Rattle.channel_pump.specs.Progress.{Tells}
 use Rattle.channel_pump.specs.declared.state.Event.{Event}
@@ -18,7 +18,7 @@ pub record IsLive (catalog : Catalog) (at : List ℕ) (asks : List Asked) (journ
   pub after : IsAfter catalog asks journal exchange.pump
   pub keeps : Keeps catalog asks journal exchange.page
   pub bytes : AreBytes (taken journal)
-  pub finished : (left catalog asks journal).closed ≡ true → IsFinished journal
+  pub finished : (standing_after catalog asks journal).closed ≡ true → IsFinished journal
 
 -- what the bytes taken so far amount to
 abbrev pub heard_by : Catalog → (asks : List Asked) → Journal → Heard

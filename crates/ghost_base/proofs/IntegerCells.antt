@@ -4,7 +4,8 @@ use Rattle.std.specs.List.{list_all}
 use Rattle.std.specs.Int.{to_be_bytes, from_be_bytes}
 use Rattle.std.proofs.lemmas.Nat.{from_be_bytes-to_be_bytes_8, be_bytes_8}
 use Rattle.std.specs.Cmp.{first_so, second_so}
-use Rattle.ghost_model.specs.Cells.{above_lowest, from_lowest}
+use Rattle.ghost_model.specs.Cells.{above_lowest}
+use Rattle.ghost_model.specs.CellReading.{from_lowest}
 use Rattle.ghost_model.specs.Database.{fits_integer}
 
 pub above_fits : (z : ℤ) → IsTrue (fits_integer z) → above_lowest z < 2 ^ 64

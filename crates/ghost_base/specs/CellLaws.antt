@@ -9,7 +9,8 @@ use Rattle.std.specs.Cmp.{IsTotalOrder}
 use Rattle.std.specs.Cmp.Lexicographic.{slice_cmp}
 use Rattle.ghost_model.specs.Schema.{Kind}
 use Rattle.ghost_model.specs.Values.{Value}
-use Rattle.ghost_model.specs.Cells.{encode_cell, decode_cell}
+use Rattle.ghost_model.specs.Cells.{encode_cell}
+use Rattle.ghost_model.specs.CellReading.{decode_cell}
 use Rattle.ghost_model.specs.Database.{is_of_kind, order_of}
 
 -- a value, and bytes that spell it in a column of a kind

@@ -20,9 +20,11 @@ use Rattle.std.proofs.lemmas.Bool.Decides.{nat_tests, eqb_tells, leb_tells}
 use Rattle.std.proofs.lemmas.Bool.{eqb-true, ltb-false, ltb-true, le-ltb}
 use Rattle.std.proofs.Math.Seq.{take-length, take-append_seam, drop-append_seam}
 use Rattle.ghost_model.specs.NextMove as next
+use Rattle.ghost_model.specs.ChannelLaws as laws
 use Rattle.ghost_model.specs.Asks.{Asked, row_width}
 use Rattle.ghost_model.specs.Channel.{Catalog, Frame, Hello, Asking, More, Bye, Welcome, Replied, Done, Sorry}
-use Rattle.ghost_model.specs.Frames.{Got, Found, Short, Bad, got_of, BeginsWith, size_allowed, serial_allowed, payload_allowed, has_no_serial, header_allowed, IsFrame, AreBytes, frame_bytes, frame_of_parts, frame_in, size_in, serial_in, kind_in, version_in, payload_in, number_in, number_of, kind_of, serial_of, payload_of, frame_version}
+use Rattle.ghost_model.specs.Frames.{Got, Found, Short, Bad, got_of, size_allowed, serial_allowed, payload_allowed, has_no_serial, header_allowed, IsFrame, AreBytes, frame_bytes, frame_of_parts, frame_in, size_in, serial_in, kind_in, version_in, payload_in, number_in, number_of, kind_of, serial_of, payload_of, frame_version}
+use Rattle.ghost_model.specs.ChannelLaws.{BeginsWith}
 
 pub size_bound : (kind size : ℕ) → size_allowed kind size ≡ true → size ≤ 2040
 size_bound kind size h = grind (arith, nat_tests)
@@ -439,7 +441,7 @@ whole_is_spelled catalog awaits part byte lacking h e =
 
 -- what holds of received bytes and of what was heard of them, after each byte
 record Follows (before : List ℕ) (h : next.Heard) : Type 0 where
-  follows : next.IsSpelled before h
+  follows : laws.IsSpelled before h
   bytes : AreBytes h.part
   lacking : h.broken ≡ false → IsLacking h.part
 
@@ -530,7 +532,7 @@ module _ (catalog : Catalog) (asks : List Asked) where
       subst (λ (x : List ℕ). Follows x (next.hear_all catalog asks (next.hear catalog asks h byte) bytes)) (append_assoc before (byte ∷ []) bytes)
       (step_all (before ++ byte ∷ []) (next.hear catalog asks h byte) bytes (step_either before h byte h.broken f (b 0) refl) (λ i. b (suc i)))
 
-  pub received_is_spelled : (received : List ℕ) → AreBytes received → next.IsSpelled received (next.heard catalog asks received)
+  pub received_is_spelled : (received : List ℕ) → AreBytes received → laws.IsSpelled received (next.heard catalog asks received)
   received_is_spelled received b =
       let start : Follows [] (next.at_first catalog) = record {
         follows = record { rest = []; spelled = refl; nothing_more = λ _. refl };

@@ -6,6 +6,7 @@ pub mod SchemaRuleLemmas
 pub mod SchemaTreeLemmas
 pub mod CatalogLemmas
 pub mod CatalogLengthLemmas
+pub mod CatalogByteLemmas
 pub mod CatalogSpellingLemmas
 pub mod QueryLemmas
 pub mod QueryReadingLemmas

@@ -3,17 +3,15 @@
 -- own order, each once. Nothing of a hidden column or of an identifier is in it. An ask is sent as bytes: the table, the
 -- number of its columns and each of them, the number of its conditions, and for each of these the column, the operator
 -- from 1 to 6 and the literal's cell. A reply to it has rows of one width: an identifier in 4 bytes and the asked cells.
-use Rattle.std.specs.Prelude.{◌≡◌, ℕ, zero, suc, ◌+◌, ◌/◌, Bool, true, not, ◌&&◌, ◌==◌, nat_lt, nat_le, List, [], ◌∷◌, ◌++◌, length, take, drop, map, filter, flat_map, sum, slice_index, if◌then◌else◌, bytes_eq, Option, Some, None, Result, Ok, Err, ◌^◌, ◌%◌, ◌<◌, All}
+use Rattle.std.specs.Prelude.{ℕ, zero, suc, ◌+◌, ◌/◌, Bool, true, not, ◌&&◌, ◌==◌, nat_lt, nat_le, List, [], ◌∷◌, ◌++◌, length, take, drop, map, filter, flat_map, sum, if◌then◌else◌, Option, Some, None, Result, Ok, Err}
 use Rattle.std.specs.List.{list_any, list_all}
 use Rattle.std.specs.Int.{to_be_bytes, from_be_bytes, w32}
 use Rattle.ghost_model.specs.Schema.{Schema, Column, Kind, Chars, columns_of, column_at, places_where, is_empty, is_visible}
-use Rattle.ghost_model.specs.Values.{Value, Text}
 use Rattle.ghost_model.specs.Database.{is_of_kind}
-use Rattle.ghost_model.specs.Cells.{cell_width, encode_cell, decode_cell}
+use Rattle.ghost_model.specs.Cells.{cell_width, encode_cell}
 use Rattle.ghost_model.specs.Query.{Query, Field, Condition, Compare, Join, Operator, Equal, Unequal, Less, AtMost, More, AtLeast}
 use Rattle.ghost_model.specs.QueryReading.{reading}
 use Rattle.ghost_model.specs.Channel.{Test, Ask}
-use Rattle.ghost_model.specs.Frames.{AreBytes}
 
 -- the condition of an ask for this table that a condition of a query is, if its column is visible
 abbrev pub test_of : Schema → (table : ℕ) → Condition → List Test
@@ -60,16 +58,6 @@ operator_code AtMost = 4
 operator_code More = 5
 operator_code AtLeast = 6
 
--- the operator of a code from 1 to 6
-abbrev pub operator_of : ℕ → Operator
-operator_of code =
-    if code == 1 then Equal
-    else if code == 2 then Unequal
-    else if code == 3 then Less
-    else if code == 4 then AtMost
-    else if code == 5 then More
-    else AtLeast
-
 -- the kind of a column; where there is no such column its cells have no bytes
 abbrev pub kind_or_none : Option Column → Kind
 kind_or_none None = Chars 0
@@ -103,46 +91,6 @@ is_proper_ask schema ask =
     && ascend_from 0 ask.columns && nat_le (length ask.tests) most_tests
     && list_all (λ test. is_visible schema ask.table test.column) ask.tests
     && list_all (λ test. is_of_kind (kind_at schema ask.table test.column) test.value) ask.tests
-
-abbrev pub value_or_none : Option Value → Value
-value_or_none None = Text []
-value_or_none (Some value) = value
-
--- so many conditions at the front of some bytes
-unfoldable pub tests_in : Schema → (table count : ℕ) → List ℕ → List Test
-tests_in schema table zero bytes = []
-tests_in schema table (suc count) bytes =
-    let column = slice_index bytes 0 in
-    let kind = kind_at schema table column in
-    let cell = take (cell_width kind) (drop 2 bytes) in
-    record { column = column; operator = operator_of (slice_index bytes 1); value = value_or_none (decode_cell kind cell) }
-    ∷ tests_in schema table count (drop (2 + cell_width kind) bytes)
-
--- the only ask that bytes may spell
-abbrev pub ask_like : Schema → List ℕ → Ask
-ask_like schema payload =
-    let table = slice_index payload 0 in
-    let after = drop (2 + slice_index payload 1) payload in
-    record {
-      table = table;
-      columns = take (slice_index payload 1) (drop 2 payload);
-      tests = tests_in schema table (slice_index after 0) (drop 1 after);
-    }
-
--- the ask whose payload these bytes are, if a key may send it
-abbrev pub ask_in : Schema → List ℕ → Option Ask
-ask_in schema payload =
-    if is_proper_ask schema (ask_like schema payload) && bytes_eq (ask_payload schema (ask_like schema payload)) payload
-    then Some (ask_like schema payload) else None
-
--- an ask that a key may send is the one that its payload spells, and no other payload spells it
-pub record AsksHaveOneSpelling : Type 0 where
-  pub spelled_is_read :
-      (schema : Schema) (ask : Ask) → is_proper_ask schema ask ≡ true → ask_in schema (ask_payload schema ask) ≡ Some ask
-  pub read_is_proper :
-      (schema : Schema) (payload : List ℕ) (ask : Ask) → ask_in schema payload ≡ Some ask → is_proper_ask schema ask ≡ true
-  pub read_is_spelled :
-      (schema : Schema) (payload : List ℕ) (ask : Ask) → ask_in schema payload ≡ Some ask → ask_payload schema ask ≡ payload
 
 -- the kinds of an ask's columns
 abbrev pub kinds_of : Schema → Ask → List Kind
@@ -194,33 +142,3 @@ asked_from schema number (reading ∷ later) =
 -- the asks of the accepted texts in order, with the numbers of their texts
 abbrev pub asked_of : Schema → (texts : List (List ℕ)) → List Asked
 asked_of schema texts = asked_from schema 1 (map (reading schema) texts)
-
--- whether an ask names visible columns alone
-abbrev pub names_visible : Schema → Ask → Bool
-names_visible schema ask =
-    list_all (is_visible schema ask.table) ask.columns
-    && list_all (λ test. is_visible schema ask.table test.column) ask.tests
-
--- nothing of a hidden column or of an identifier is in an ask
-abbrev pub AsksAreVisible : Type 0
-AsksAreVisible = (schema : Schema) (query : Query) → list_all (names_visible schema) (asks_of schema query) ≡ true
-
--- the asks of an accepted text are such as a key may send
-abbrev pub AsksAreProper : Type 0
-AsksAreProper =
-    (schema : Schema) (text : List ℕ) (query : Query) → reading schema text ≡ Ok query
-    → list_all (is_proper_ask schema) (asks_of schema query) ≡ true
-
--- a row of a reply to an ask: its identifier fits four bytes, and its cells have their widths
-pub record IsReplyRow (schema : Schema) (ask : Ask) (row : ReplyRow) : Type 0 where
-  pub identifier : row.identifier < 2 ^ 32
-  pub width : 4 + length row.cells ≡ row_width schema ask
-
--- rows are the ones that their bytes spell, and bytes of whole rows are those of the rows that they spell
-pub record RowsHaveOneSpelling : Type 0 where
-  pub spelled_are_read :
-      (schema : Schema) (ask : Ask) (rows : List ReplyRow) → All (IsReplyRow schema ask) rows
-      → rows_in schema ask (flat_map row_bytes rows) ≡ rows
-  pub read_are_spelled :
-      (schema : Schema) (ask : Ask) (payload : List ℕ) → AreBytes payload → length payload % row_width schema ask ≡ 0
-      → flat_map row_bytes (rows_in schema ask payload) ≡ payload

@@ -1,6 +1,6 @@
 -- What goes over the channel, as data: what both sides know beforehand (the catalog), what the key asks, the frames
 -- that carry it, and the moves of one end with their answers.
-use Rattle.std.specs.Prelude.{ℕ, List}
+use Rattle.std.specs.Prelude.{ℕ, List, slice_index}
 use Rattle.ghost_model.specs.Schema.{Schema}
 use Rattle.ghost_model.specs.Values.{Value}
 use Rattle.ghost_model.specs.Query.{Operator}
@@ -11,6 +11,10 @@ pub record Catalog : Type 0 where
   pub counts : List ℕ
   pub generation : ℕ
   pub version : ℕ
+
+-- the number of rows of a table
+abbrev pub row_count_in : Catalog → (table : ℕ) → ℕ
+row_count_in catalog table = slice_index catalog.counts table
 
 -- a condition of an ask: a visible column of its table, an operator and a literal
 pub record Test : Type 0 where

@@ -6,7 +6,7 @@ use Rattle.ghost_model.specs.Values.{Row, Database}
 use Rattle.ghost_model.specs.Channel.{Catalog}
 use Rattle.ghost_model.specs.SchemaTrees.{IsTree}
 use Rattle.ghost_model.specs.Database.{IsDatabase, rows_of, row_counts, field, leads}
-use Rattle.ghost_model.specs.Cells.{decode_cell}
+use Rattle.ghost_model.specs.CellReading.{decode_cell}
 use Rattle.ghost_model.specs.Asks.{kind_at}
 use Rattle.ghost_model.specs.Split.{Hidden, hidden_of, value_at}
 use Rattle.ghost_model.specs.Replies.{hidden_places, hidden_value}

@@ -17,24 +17,21 @@ kind_of (Done _ _) = 19
 kind_of (Sorry _ _) = 20
 
 abbrev pub serial_of : Frame → ℕ
-serial_of (Hello _) = 0
 serial_of (Asking serial _) = serial
 serial_of (More serial) = serial
-serial_of Bye = 0
-serial_of (Welcome _ _) = 0
 serial_of (Replied serial _) = serial
 serial_of (Done serial _) = serial
 serial_of (Sorry serial _) = serial
+serial_of _ = 0
 
 abbrev pub payload_of : Frame → List ℕ
 payload_of (Hello generation) = to_be_bytes w32 generation
 payload_of (Asking _ payload) = payload
-payload_of (More _) = []
-payload_of Bye = []
 payload_of (Welcome last part) = last ∷ part
 payload_of (Replied _ payload) = payload
 payload_of (Done _ total) = to_be_bytes w32 total
 payload_of (Sorry _ code) = code ∷ []
+payload_of _ = []
 
 abbrev pub frame_version : ℕ
 frame_version = 1
@@ -137,13 +134,8 @@ AreBytes bytes = (i : ℕ) → slice_index bytes i < 256
 -- a number of a frame that stands in its payload in 4 bytes
 abbrev pub number_of : Frame → ℕ
 number_of (Hello generation) = generation
-number_of (Asking _ _) = 0
-number_of (More _) = 0
-number_of Bye = 0
-number_of (Welcome _ _) = 0
-number_of (Replied _ _) = 0
 number_of (Done _ total) = total
-number_of (Sorry _ _) = 0
+number_of _ = 0
 
 -- the parts of a frame fit their fields: its kind may have such a serial and payload, numbers fit four bytes, and the
 -- payload is bytes
@@ -154,21 +146,3 @@ pub record IsFrame (frame : Frame) : Type 0 where
   pub bytes : AreBytes (payload_of frame)
   pub serial_fits : serial_of frame < 2 ^ 32
   pub number_fits : number_of frame < 2 ^ 32
-
--- no frame's spelling is a proper prefix of another's
-abbrev pub FramesArePrefixFree : Type 0
-FramesArePrefixFree =
-    (one other : Frame) (rest : List ℕ) → IsFrame one → IsFrame other → frame_bytes one ++ rest ≡ frame_bytes other
-    → rest ≡ []
-
--- bytes that begin with the spelling of a frame, and what follows it
-pub record BeginsWith (bytes : List ℕ) (frame : Frame) : Type 0 where
-  pub fits : IsFrame frame
-  pub rest : List ℕ
-  pub begins : bytes ≡ frame_bytes frame ++ rest
-
--- a frame is found where bytes begin with its spelling, and only there: reading and spelling are inverse
-pub record FramesHaveOneSpelling : Type 0 where
-  pub spelled_is_found : (frame : Frame) (rest : List ℕ) → IsFrame frame → got_of (frame_bytes frame ++ rest) ≡ Found frame
-  pub found_is_spelled :
-      (bytes : List ℕ) (frame : Frame) → AreBytes bytes → got_of bytes ≡ Found frame → BeginsWith bytes frame

@@ -7,11 +7,12 @@ use Rattle.ghost_model.specs.Schema.{Schema}
 use Rattle.ghost_model.specs.Channel.{Catalog, Ask, Frame, Asking, Done, Journal}
 use Rattle.ghost_model.specs.Catalog.{catalog_bytes}
 use Rattle.ghost_model.specs.Frames.{Got, Found, Short, Bad, got_of, frame_bytes, most_payload}
-use Rattle.ghost_model.specs.Asks.{ReplyRow, ask_in, row_width}
+use Rattle.ghost_model.specs.Asks.{ReplyRow, row_width}
+use Rattle.ghost_model.specs.AskReading.{ask_in}
 use Rattle.ghost_model.specs.Moves.{taken, sent, answers}
 use Rattle.ghost_model.specs.NextMove.{is_stop}
 use Rattle.ghost_model.specs.Split.{Public, reply_rows}
-use Rattle.ghost_model.specs.Host.{welcomes_of, rows_frame, most_part}
+use Rattle.ghost_model.specs.Host.{welcomes_of, rows_frame, most_part, asks_in_frame}
 
 -- whether a list has at least one element and at most so many
 abbrev pub has_up_to : {X : Type 0} → (most : ℕ) → List X → Bool
@@ -42,18 +43,13 @@ AreReplies schema public serial (ask ∷ asks) frames =
     (reply : List Frame) × (later : List Frame) × IsReply schema serial ask (reply_rows schema public ask) reply
     × AreReplies schema public (serial + 1) asks later × (frames ≡ reply ++ later)
 
-abbrev pub ask_of_frame : Schema → Frame → Option Ask
-ask_of_frame schema (Asking _ payload) = ask_in schema payload
-ask_of_frame schema _ = None
-
-abbrev pub ask_of_got : Schema → Got → Option Ask
-ask_of_got schema (Found frame) = ask_of_frame schema frame
-ask_of_got schema (Short _) = None
-ask_of_got schema (Bad _) = None
+abbrev pub asks_in_got : Schema → Got → List Ask
+asks_in_got schema (Found frame) = asks_in_frame schema frame
+asks_in_got schema _ = []
 
 -- the asks that a journal sent, in order
 abbrev pub asks_sent : Schema → Journal → List Ask
-asks_sent schema journal = filter_map (λ bytes. ask_of_got schema (got_of bytes)) (sent journal)
+asks_sent schema journal = flat_map (λ bytes. asks_in_got schema (got_of bytes)) (sent journal)
 
 pub record IsHonest (catalog : Catalog) (public : Public) (journal : Journal) : Type 0 where
   pub nothing_breaks_off : list_any is_stop (answers journal) ≡ false

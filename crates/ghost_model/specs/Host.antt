@@ -4,16 +4,15 @@
 -- answered by one frame each: first ROWS, each with as many whole rows as fit, then DONE. At the first frame that is no
 -- frame of the key in its place the host stops. So it is as long as its file can be read; a host that cannot read it ends
 -- that ask by SORRY instead.
-use Rattle.std.specs.Prelude.{◌≡◌, ℕ, zero, suc, ◌+◌, ◌-◌, ◌/◌, ◌==◌, List, [], ◌∷◌, ◌++◌, length, take, drop, map, flat_map, if◌then◌else◌, Option, Some, None, option_to_list, All, nat_lt, nat_le, ◌&&◌, true, false, ◌*◌, ◌^◌, ◌≤◌, ◌<◌}
-use Rattle.std.specs.List.{list_all}
+use Rattle.std.specs.Prelude.{ℕ, zero, suc, ◌+◌, ◌-◌, ◌/◌, ◌==◌, Bool, List, [], ◌∷◌, ◌++◌, length, take, drop, get_or, map, flat_map, if◌then◌else◌, Option, Some, None, option_to_list, true, false}
 use Rattle.ghost_model.specs.Schema.{Schema, is_empty}
-use Rattle.ghost_model.specs.Channel.{Catalog, Ask, Frame, Hello, Asking, More, Bye, Welcome, Replied, Done}
+use Rattle.ghost_model.specs.Channel.{Catalog, Ask, Frame, Hello, Asking, More, Bye, Welcome, Replied, Done, Sorry}
 use Rattle.ghost_model.specs.Catalog.{catalog_bytes}
-use Rattle.ghost_model.specs.Frames.{IsFrame, AreBytes, Got, Found, Short, Bad, got_of, frame_bytes, kind_of, payload_of, most_payload}
-use Rattle.ghost_model.specs.Asks.{ReplyRow, row_bytes, row_width, kinds_of, ask_in, Asked, IsReplyRow}
+use Rattle.ghost_model.specs.Frames.{Got, Found, Bad, got_of, frame_bytes, kind_of, most_payload}
+use Rattle.ghost_model.specs.Asks.{ReplyRow, row_bytes, row_width}
+use Rattle.ghost_model.specs.AskReading.{ask_in}
 use Rattle.ghost_model.specs.Split.{Public, reply_rows}
 use Rattle.ghost_model.specs.NextMove.{InvalidFrame}
-use Rattle.ghost_model.specs.NextMove as next
 
 -- what a host holds, as far as the channel goes: its catalog, and for each ask the rows that meet it, ascending
 pub record Holding : Type 0 where
@@ -101,20 +100,42 @@ answer_to held (Listening next) frame = answers_request held next frame
 answer_to held (Replying serial rest) frame = answers_more serial rest frame
 answer_to held Over frame = None
 
+-- the ask with this serial is ended by a refusal
+abbrev pub refusal : (serial : ℕ) → Response
+refusal serial = record { says = Sorry serial 1 ∷ []; stand = Listening (serial + 1) }
+
+-- the answer to a frame of the key in place of this one, where the file cannot be read. A frame that calls for no frame of
+-- a reply has no such answer
+abbrev pub unread : Frame → Option Response → Option Response
+unread frame None = None
+unread (Asking serial _) (Some answered) = Some (refusal serial)
+unread (More serial) (Some answered) = Some (refusal serial)
+unread frame (Some answered) = None
+
+-- how a frame of the key is answered, where its answer is refused or not
+abbrev pub answer_as : (refused : Bool) → Holding → Stand → Frame → Option Response
+answer_as false held stand frame = answer_to held stand frame
+answer_as true held stand frame = unread frame (answer_to held stand frame)
+
 abbrev pub said_with : (Stand → List Frame) → Option Response → List Frame
 said_with later None = []
 said_with later (Some answered) = answered.says ++ later answered.stand
 
--- what a host that stands there says to these frames
-unfoldable pub said_to : Holding → List Frame → Stand → List Frame
-said_to held [] stand = []
-said_to held (frame ∷ later) stand = said_with (said_to held later) (answer_to held stand frame)
+-- what a host that stands there says to these frames, where for each of the first of them it is told whether its answer
+-- is refused; none of the others is
+unfoldable pub said_with_refusals : Holding → (refused : List Bool) → List Frame → Stand → List Frame
+said_with_refusals held refused [] stand = []
+said_with_refusals held refused (frame ∷ later) stand =
+    said_with (said_with_refusals held (drop 1 refused) later) (answer_as (get_or refused 0 false) held stand frame)
+
+-- what a host whose file can be read says
+abbrev pub said_to : Holding → List Frame → Stand → List Frame
+said_to held frames stand = said_with_refusals held [] frames stand
 
 -- a frame that was found, and what comes after it; nothing where none was
 abbrev pub frame_and : (Frame → List Frame) → Got → List Frame
 frame_and later (Found frame) = frame ∷ later frame
-frame_and later (Short _) = []
-frame_and later (Bad _) = []
+frame_and later _ = []
 
 -- the frames at the front of some bytes, at most so many
 unfoldable pub frames_within : (most : ℕ) → List ℕ → List Frame
@@ -134,9 +155,8 @@ abbrev pub host_sends : Holding → (key : List ℕ) → List ℕ
 host_sends held key = flat_map frame_bytes (host_says held key)
 
 abbrev pub bad_rest : (at : ℕ) → Got → Option InvalidFrame
-bad_rest at (Found _) = None
-bad_rest at (Short _) = None
 bad_rest at (Bad kind) = Some (record { kind = kind; at = at })
+bad_rest at _ = None
 
 abbrev pub refused_or : Frame → (at : ℕ) → (Stand → Option InvalidFrame) → Option Response → Option InvalidFrame
 refused_or frame at later None = Some (record { kind = kind_of frame; at = at })
@@ -144,16 +164,19 @@ refused_or frame at later (Some answered) = later answered.stand
 
 -- nothing is read after BYE
 abbrev pub unless_over : Stand → Option InvalidFrame → Option InvalidFrame
-unless_over Greeting bad = bad
-unless_over (Listening _) bad = bad
-unless_over (Replying _ _) bad = bad
 unless_over Over bad = None
+unless_over _ bad = bad
 
-unfoldable pub bad_from : Holding → (rest : List ℕ) → List Frame → (at : ℕ) → Stand → Option InvalidFrame
-bad_from held rest [] at stand = unless_over stand (bad_rest at (got_of rest))
-bad_from held rest (frame ∷ later) at stand =
+-- the first of the frames that has no answer, or of the bytes after them that begin none, the answers being refused so
+unfoldable pub bad_with_refusals : Holding → (rest : List ℕ) → (refused : List Bool) → List Frame → (at : ℕ) → Stand → Option InvalidFrame
+bad_with_refusals held rest refused [] at stand = unless_over stand (bad_rest at (got_of rest))
+bad_with_refusals held rest refused (frame ∷ later) at stand =
     unless_over stand
-    (refused_or frame at (bad_from held rest later (at + length (frame_bytes frame))) (answer_to held stand frame))
+    (refused_or frame at (bad_with_refusals held rest (drop 1 refused) later (at + length (frame_bytes frame)))
+    (answer_as (get_or refused 0 false) held stand frame))
+
+abbrev pub bad_from : Holding → (rest : List ℕ) → List Frame → (at : ℕ) → Stand → Option InvalidFrame
+bad_from held rest frames at stand = bad_with_refusals held rest [] frames at stand
 
 -- the first frame that is no frame of the key in its place, if there is one: its first byte, and the bytes before it
 abbrev pub bad_request : Holding → (key : List ℕ) → Option InvalidFrame
@@ -164,130 +187,3 @@ bad_request held key =
 abbrev pub asks_in_frame : Schema → Frame → List Ask
 asks_in_frame schema (Asking _ payload) = option_to_list (ask_in schema payload)
 asks_in_frame schema _ = []
-
--- the whole replies to some asks, the first of them having this serial
-abbrev pub replies_to : Holding → (serial : ℕ) → List Ask → List Frame
-replies_to held serial [] = []
-replies_to held serial (ask ∷ asks) = reply_to held serial ask ++ replies_to held (serial + 1) asks
-
--- the stream of an honest host for frames of a key: the catalog, and the whole reply to each ask in order
-abbrev pub honest_stream : Holding → (key : List Frame) → List Frame
-honest_stream held key =
-    welcomes held.catalog ++ replies_to held 1 (flat_map (asks_in_frame held.catalog.schema) key)
-
-pub record IsFront (front whole : List Frame) : Type 0 where
-  pub rest : List Frame
-  pub joined : whole ≡ front ++ rest
-
--- whatever a key sends, this host says a front of the honest stream
-abbrev pub HostIsHonest : Type 0
-HostIsHonest = (held : Holding) (key : List ℕ) → IsFront (host_says held key) (honest_stream held (frames_of key))
-
-abbrev pub welcome_part : Frame → List ℕ
-welcome_part (Welcome _ part) = part
-welcome_part _ = []
-
--- the WELCOME frames spell the catalog, and the ROWS frames of a reply the rows
-pub record NothingIsLost : Type 0 where
-  pub catalog : (catalog : Catalog) → flat_map welcome_part (welcomes catalog) ≡ catalog_bytes catalog
-  pub rows :
-      (width : ℕ) (serial : ℕ) (rows : List ReplyRow) → 0 < width → width ≤ most_payload
-      → flat_map payload_of (map (rows_frame serial) (grouped (most_payload / width) rows)) ≡ flat_map row_bytes rows
-
--- frames that are sent one after another are cut into these frames again
-abbrev pub FramesAreCut : Type 0
-FramesAreCut = (frames : List Frame) → All IsFrame frames → frames_of (flat_map frame_bytes frames) ≡ frames
-
--- a group of rows may be sent in one ROWS frame after a row with this identifier (0 before the first)
-pub record IsGroup (catalog : Catalog) (ask : Ask) (last : ℕ) (rows : List ReplyRow) : Type 0 where
-  pub some : 0 < length rows
-  pub fits : length rows * row_width catalog.schema ask ≤ most_payload
-  pub ascends : next.rows_fit (next.rows_of catalog ask.table) last (kinds_of catalog.schema ask) rows ≡ true
-  pub widths : All (IsReplyRow catalog.schema ask) rows
-  pub bytes : AreBytes (flat_map row_bytes rows)
-
--- groups of rows that may be sent one after another
-abbrev pub AreGroups : Catalog → Ask → (last : ℕ) → List (List ReplyRow) → Type 0
-AreGroups catalog ask last [] = Unit {0}
-AreGroups catalog ask last (rows ∷ groups) =
-    IsGroup catalog ask last rows × AreGroups catalog ask (next.last_identifier last rows) groups
-
--- the rows of some groups
-abbrev pub rows_of_groups : List (List ReplyRow) → List ReplyRow
-rows_of_groups groups = flat_map (λ group. group) groups
-
--- the reply of these groups of rows
-abbrev pub reply_frames : (serial : ℕ) → (groups : List (List ReplyRow)) → List Frame
-reply_frames serial groups = map (rows_frame serial) groups ++ Done serial (length (rows_of_groups groups)) ∷ []
-
--- a reply was heard whole: the ask is ended with all rows, and the next one is awaited
-pub record IsHeardWhole (catalog : Catalog) (asked : Asked) (serial : ℕ) (later : List Asked) (groups : List (List ReplyRow)) (before after : next.Heard) : Type 0 where
-  pub awaits : after.awaits ≡ (next.on_with catalog.schema (serial + 1) later).awaits
-  pub part : after.part ≡ []
-  pub valid : after.broken ≡ false
-  pub rows : after.rows ≡ []
-  pub ended : after.ended ≡ before.ended ++ record { asked = asked; ending = next.Answered (flat_map row_bytes (rows_of_groups groups)) } ∷ []
-
--- the whole reply to an ask, in any packing, is heard whole
-abbrev pub RepliesAreHeard : Type 0
-RepliesAreHeard =
-    (catalog : Catalog) (asks : List Asked) (asked : Asked) (serial : ℕ) (later : List Asked) (groups : List (List ReplyRow)) (before : next.Heard)
-    → before.awaits ≡ next.Reply asked serial later 0 0 → before.part ≡ [] → before.rows ≡ [] → before.broken ≡ false
-    → 0 < serial → serial < 2 ^ 32 → length (rows_of_groups groups) < 2 ^ 32 → AreGroups catalog asked.ask 0 groups
-    → IsHeardWhole catalog asked serial later groups before (next.hear_all catalog asks before (flat_map frame_bytes (reply_frames serial groups)))
-
--- the catalog was heard whole, and the first ask is the next thing, or BYE
-pub record IsGreeted (catalog : Catalog) (asks : List Asked) (after : next.Heard) : Type 0 where
-  pub awaits : after.awaits ≡ (next.on_with catalog.schema 1 asks).awaits
-  pub part : after.part ≡ []
-  pub valid : after.broken ≡ false
-  pub rows : after.rows ≡ []
-  pub ended : after.ended ≡ []
-
--- WELCOME frames that spell the catalog, cut anywhere, are heard whole
-abbrev pub GreetingsAreHeard : Type 0
-GreetingsAreHeard =
-    (catalog : Catalog) (asks : List Asked) (parts : List (List ℕ)) → AreBytes (catalog_bytes catalog)
-    → list_all (λ part. nat_lt 0 (length part) && nat_le (length part) most_part) parts ≡ true
-    → flat_map (λ part. part) parts ≡ catalog_bytes catalog
-    → IsGreeted catalog asks (next.heard catalog asks (flat_map frame_bytes (welcomes_of parts)))
-
--- an ask, and the groups in which the rows of its reply are sent
-pub record Exchange : Type 0 where
-  pub asked : Asked
-  pub groups : List (List ReplyRow)
-
-abbrev pub asked_in : Exchange → Asked
-asked_in exchange = exchange.asked
-
--- that the ask was ended by DONE, with all these rows
-abbrev pub ended_in : Exchange → next.Ended
-ended_in exchange =
-    record { asked = exchange.asked; ending = next.Answered (flat_map row_bytes (rows_of_groups exchange.groups)) }
-
--- the frames of the replies, the first of them with this serial
-abbrev pub exchange_frames : (serial : ℕ) → List Exchange → List Frame
-exchange_frames serial [] = []
-exchange_frames serial (exchange ∷ later) = reply_frames serial exchange.groups ++ exchange_frames (serial + 1) later
-
--- serials and numbers of rows fit their fields, and the rows of each reply may be sent so
-abbrev pub AreExchanges : Catalog → (serial : ℕ) → List Exchange → Type 0
-AreExchanges catalog serial [] = Unit {0}
-AreExchanges catalog serial (exchange ∷ later) =
-    (serial < 2 ^ 32) × (length (rows_of_groups exchange.groups) < 2 ^ 32)
-    × AreGroups catalog exchange.asked.ask 0 exchange.groups × AreExchanges catalog (serial + 1) later
-
--- a session was heard to its end: every ask was ended by DONE with all its rows, and nothing more is awaited
-pub record IsHeardToTheEnd (exchanges : List Exchange) (after : next.Heard) : Type 0 where
-  pub nothing_awaited : after.awaits ≡ next.Nothing
-  pub valid : after.broken ≡ false
-  pub ended : after.ended ≡ map ended_in exchanges
-
--- the stream of an honest host, in any packing, is heard to its end without an invalid frame
-abbrev pub HonestStreamsAreHeard : Type 0
-HonestStreamsAreHeard =
-    (catalog : Catalog) (parts : List (List ℕ)) (exchanges : List Exchange) → AreBytes (catalog_bytes catalog)
-    → list_all (λ part. nat_lt 0 (length part) && nat_le (length part) most_part) parts ≡ true
-    → flat_map (λ part. part) parts ≡ catalog_bytes catalog → AreExchanges catalog 1 exchanges
-    → IsHeardToTheEnd exchanges
-    (next.heard catalog (map asked_in exchanges) (flat_map frame_bytes (welcomes_of parts ++ exchange_frames 1 exchanges)))

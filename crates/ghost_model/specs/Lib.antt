@@ -17,6 +17,7 @@ pub mod QueryPlaces
 pub mod QueryMeaning
 pub mod QueryReading
 pub mod Cells
+pub mod CellReading
 pub mod Catalog
 pub mod CatalogLaws
 pub mod Database
@@ -26,9 +27,12 @@ pub mod Meaning
 pub mod Printed
 pub mod Frames
 pub mod Asks
+pub mod AskReading
 pub mod Moves
 pub mod NextMove
+pub mod ChannelLaws
 pub mod Host
+pub mod HostLaws
 pub mod Local
 pub mod Honest
 pub mod Replies

@@ -8,27 +8,19 @@ use Rattle.ghost_model.specs.Host.{Holding, host_sends}
 
 -- whether an answer is a piece of so many bytes
 abbrev pub is_piece_of : (size : ℕ) → Answer → Bool
-is_piece_of size Made = false
-is_piece_of size (Port _) = false
 is_piece_of size (Piece bytes) = length bytes == size
-is_piece_of size End = false
-is_piece_of size Failed = false
+is_piece_of size _ = false
 
 abbrev pub is_made : Answer → Bool
 is_made Made = true
-is_made (Port _) = false
-is_made (Piece _) = false
-is_made End = false
-is_made Failed = false
+is_made _ = false
 
 -- whether a move was answered in full; only a host listens and accepts
 abbrev pub is_answered_in_full : Move → Answer → Bool
-is_answered_in_full (Dial _) answer = is_made answer
 is_answered_in_full (Listen _) answer = false
 is_answered_in_full Accept answer = false
-is_answered_in_full (Send _) answer = is_made answer
 is_answered_in_full (Take most) answer = is_piece_of most answer
-is_answered_in_full Close answer = is_made answer
+is_answered_in_full _ answer = is_made answer
 
 abbrev pub is_full : Entry → Bool
 is_full entry = is_answered_in_full entry.move entry.answer

@@ -9,20 +9,13 @@ use Rattle.ghost_model.specs.Channel.{Move, Dial, Listen, Accept, Send, Take, Cl
 
 -- the bytes that an answer gave
 abbrev pub piece_of : Answer → List ℕ
-piece_of Made = []
-piece_of (Port _) = []
 piece_of (Piece bytes) = bytes
-piece_of End = []
-piece_of Failed = []
+piece_of _ = []
 
 -- the byte strings that a move sent, one or none
 abbrev pub sent_by : Move → List (List ℕ)
-sent_by (Dial _) = []
-sent_by (Listen _) = []
-sent_by Accept = []
 sent_by (Send bytes) = bytes ∷ []
-sent_by (Take _) = []
-sent_by Close = []
+sent_by _ = []
 
 abbrev pub move_of : Entry → Move
 move_of entry = entry.move
@@ -57,11 +50,10 @@ line_end = 10 ∷ []
 -- the line of a move and its answer
 abbrev pub line_of : Move → Answer → List ℕ
 line_of (Dial _) answer = codes "dial " ++ (answer_text answer ++ line_end)
-line_of (Listen _) answer = []
-line_of Accept answer = []
 line_of (Send bytes) answer = codes "send " ++ (encode_lower bytes ++ (codes " " ++ (answer_text answer ++ line_end)))
 line_of (Take most) answer = codes "take " ++ (decimal most ++ (codes " " ++ (answer_text answer ++ line_end)))
 line_of Close answer = codes "close" ++ line_end
+line_of _ answer = []
 
 abbrev pub line : Entry → List ℕ
 line entry = line_of entry.move entry.answer

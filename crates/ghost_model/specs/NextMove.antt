@@ -5,15 +5,16 @@
 -- breaks a rule of its place. Each valid frame may make a frame of the key due: HELLO at the start, the first ask once
 -- the catalog was welcomed whole, MORE for each ROWS, the next ask for each DONE, the first ask of a later text for each
 -- SORRY, and BYE where no ask is left. Asks have the serials 1, 2, 3, .. in the order in which they are sent.
-use Rattle.std.specs.Prelude.{◌≡◌, ℕ, ◌+◌, ◌-◌, ◌%◌, ◌<◌, Bool, true, false, not, ◌&&◌, ◌||◌, ◌==◌, nat_lt, nat_le, List, [], ◌∷◌, ◌++◌, length, take, drop, flat_map, slice_get, if◌then◌else◌, bytes_eq, Option, Some, None, is_some, map}
+use Rattle.std.specs.Prelude.{◌≡◌, ℕ, ◌+◌, ◌-◌, ◌%◌, Bool, true, false, not, ◌&&◌, ◌||◌, ◌==◌, nat_lt, nat_le, List, [], ◌∷◌, ◌++◌, length, take, drop, flat_map, slice_get, if◌then◌else◌, bytes_eq, Option, Some, None, is_some}
 use Rattle.std.specs.List.{list_any}
 use Rattle.ghost_model.specs.Schema.{Schema, Kind, is_empty}
-use Rattle.ghost_model.specs.Cells.{cell_width, decode_cell}
-use Rattle.ghost_model.specs.Channel.{Catalog, Ask, Frame, Hello, Asking, More, Bye, Welcome, Replied, Done, Sorry, Move, Dial, Send, Take, Close, Listen, Accept, Answer, Made, Port, Piece, End, Failed, Journal}
+use Rattle.ghost_model.specs.Cells.{cell_width}
+use Rattle.ghost_model.specs.CellReading.{decode_cell}
+use Rattle.ghost_model.specs.Channel.{Catalog, row_count_in, Ask, Frame, Hello, Asking, More, Bye, Welcome, Replied, Done, Sorry, Move, Dial, Send, Take, Close, Answer, End, Failed, Journal}
 use Rattle.ghost_model.specs.Catalog.{catalog_bytes}
-use Rattle.ghost_model.specs.Frames.{AreBytes, IsFrame, frame_bytes, frame_in, frame_version, version_in, kind_in, size_in, serial_in, most_payload}
+use Rattle.ghost_model.specs.Frames.{frame_bytes, frame_in, frame_version, version_in, kind_in, size_in, serial_in, most_payload}
 use Rattle.ghost_model.specs.Asks.{Asked, asked_of, ReplyRow, ask_payload, kinds_of, row_width, rows_in}
-use Rattle.ghost_model.specs.Moves.{taken, sent, moves, answers}
+use Rattle.ghost_model.specs.Moves.{taken, sent}
 
 -- what the key awaits: the bytes of the catalog that are still missing; the reply to an ask with this serial, of which so
 -- many rows came, the last with this identifier (0 before the first), and the asks after it; or nothing more
@@ -57,21 +58,13 @@ rows_fit rows last kinds (row ∷ later) =
     nat_lt last row.identifier && nat_le row.identifier rows && are_cells kinds row.cells
     && rows_fit rows row.identifier kinds later
 
-abbrev pub count_or_zero : Option ℕ → ℕ
-count_or_zero None = 0
-count_or_zero (Some count) = count
-
--- the number of rows of a table
-abbrev pub rows_of : Catalog → (table : ℕ) → ℕ
-rows_of catalog table = count_or_zero (slice_get catalog.counts table)
-
 abbrev pub reply_rows : Catalog → Ask → List ℕ → List ReplyRow
 reply_rows catalog ask payload = rows_in catalog.schema ask payload
 
 -- whether a frame of a reply may come after so many rows, the last with this identifier
 abbrev pub reply_fits : Catalog → Ask → (count last : ℕ) → Frame → Bool
 reply_fits catalog ask count last (Replied _ payload) =
-    rows_fit (rows_of catalog ask.table) last (kinds_of catalog.schema ask) (reply_rows catalog ask payload)
+    rows_fit (row_count_in catalog ask.table) last (kinds_of catalog.schema ask) (reply_rows catalog ask payload)
 reply_fits catalog ask count last (Done _ total) = total == count
 reply_fits catalog ask count last (Sorry _ code) = not (code == 0)
 reply_fits catalog ask count last _ = false
@@ -170,9 +163,8 @@ ended_by_frame asked rows _ = []
 
 -- the ask, if any, that a valid frame ends
 abbrev pub ended_by : Awaits → (rows : List ℕ) → Frame → List Ended
-ended_by (Missing _) rows frame = []
 ended_by (Reply asked serial later count last) rows frame = ended_by_frame asked rows frame
-ended_by Nothing rows frame = []
+ended_by _ rows frame = []
 
 -- what received bytes amount to: what is awaited, the part of the frame at hand, the valid frames before it, the frames
 -- of the key that they make due, the bytes of the rows of the ask at hand, the asks that were ended, in order, and
@@ -237,38 +229,34 @@ pub record InvalidFrame : Type 0 where
   pub kind : ℕ
   pub at : ℕ
 
+abbrev pub bytes_before : Heard → ℕ
+bytes_before heard = length (flat_map frame_bytes heard.frames)
+
 abbrev pub invalid_frame : Heard → Option InvalidFrame
 invalid_frame heard =
-    if heard.broken
-    then Some (record { kind = kind_in heard.part; at = length (flat_map frame_bytes heard.frames) }) else None
+    if heard.broken then Some (record { kind = kind_in heard.part; at = bytes_before heard }) else None
 
 abbrev pub is_close : Move → Bool
-is_close (Dial _) = false
-is_close (Listen _) = false
-is_close Accept = false
-is_close (Send _) = false
-is_close (Take _) = false
 is_close Close = true
+is_close _ = false
 
 -- whether an answer is the end of the stream or a failure
 abbrev pub is_stop : Answer → Bool
-is_stop Made = false
-is_stop (Port _) = false
-is_stop (Piece _) = false
 is_stop End = true
 is_stop Failed = true
+is_stop _ = false
 
--- what is left of a journal, as far as the next move goes: whether there is an entry, a Close, an answer that stops the
+-- what a journal has led to, as far as the next move goes: whether there is an entry, a Close, an answer that stops the
 -- session, the number of frames sent, and what the taken bytes amount to
-pub record Left : Type 0 where
+pub record Standing : Type 0 where
   pub opened : Bool
   pub closed : Bool
   pub stopped : Bool
   pub sent : ℕ
   pub heard : Heard
 
-abbrev pub left : Catalog → (asks : List Asked) → Journal → Left
-left catalog asks journal = record {
+abbrev pub standing_after : Catalog → (asks : List Asked) → Journal → Standing
+standing_after catalog asks journal = record {
   opened = not (is_empty journal);
   closed = list_any (λ entry. is_close entry.move) journal;
   stopped = list_any (λ entry. is_stop entry.answer) journal;
@@ -276,32 +264,30 @@ left catalog asks journal = record {
   heard = heard catalog asks (taken journal);
 }
 
-abbrev pub lacks : Verdict → ℕ
-lacks (Short missing) = missing
-lacks Whole = 0
-lacks Invalid = 0
+abbrev pub bytes_missing : Verdict → ℕ
+bytes_missing (Short missing) = missing
+bytes_missing _ = 0
 
 -- where all that is due was sent: Close after BYE, and else Take of the bytes that the header or payload at hand lacks
-abbrev pub rest_of : Catalog → Heard → Awaits → Move
-rest_of catalog heard Nothing = Close
-rest_of catalog heard (Missing bytes) = Take (lacks (verdict catalog heard.awaits heard.part))
-rest_of catalog heard (Reply asked serial later count last) = Take (lacks (verdict catalog heard.awaits heard.part))
+abbrev pub take_or_close : Catalog → Heard → Awaits → Move
+take_or_close catalog heard Nothing = Close
+take_or_close catalog heard _ = Take (bytes_missing (verdict catalog heard.awaits heard.part))
 
 abbrev pub send_or : Move → Option Frame → Move
 send_or other None = other
 send_or other (Some frame) = Send (frame_bytes frame)
 
--- the next move, by what is left of a journal: the first that applies
-abbrev pub next_of : Catalog → (at : List ℕ) → Left → Option Move
-next_of catalog at left =
-    if not left.opened then Some (Dial at)
-    else if left.closed then None
-    else if left.stopped || left.heard.broken then Some Close
-    else Some (send_or (rest_of catalog left.heard left.heard.awaits) (slice_get left.heard.due left.sent))
+-- the next move, by what a journal has led to: the first that applies
+abbrev pub move_from : Catalog → (at : List ℕ) → Standing → Option Move
+move_from catalog at standing =
+    if not standing.opened then Some (Dial at)
+    else if standing.closed then None
+    else if standing.stopped || standing.heard.broken then Some Close
+    else Some (send_or (take_or_close catalog standing.heard standing.heard.awaits) (slice_get standing.heard.due standing.sent))
 
 -- the next move of a session with these asks
 abbrev pub next_with : Catalog → (at : List ℕ) → (asks : List Asked) → Journal → Option Move
-next_with catalog at asks journal = next_of catalog at (left catalog asks journal)
+next_with catalog at asks journal = move_from catalog at (standing_after catalog asks journal)
 
 -- the next move of a session with these texts; none after Close
 abbrev pub next_move : Catalog → (at : List ℕ) → (texts : List (List ℕ)) → Journal → Option Move
@@ -313,57 +299,16 @@ GoesOn catalog at asks before [] = Unit {0}
 GoesOn catalog at asks before (entry ∷ later) =
     (next_with catalog at asks before ≡ Some entry.move) × GoesOn catalog at asks (before ++ entry ∷ []) later
 
--- a journal is proper where each move is the next move of the entries before it
+-- a journal is proper for these asks where each move is the next move of the entries before it
+abbrev pub IsProperWith : Catalog → (at : List ℕ) → (asks : List Asked) → Journal → Type 0
+IsProperWith catalog at asks journal = GoesOn catalog at asks [] journal
+
+-- a journal is proper for these texts
 abbrev pub IsProper : Catalog → (at : List ℕ) → (texts : List (List ℕ)) → Journal → Type 0
-IsProper catalog at texts journal = GoesOn catalog at (asked_of catalog.schema texts) [] journal
+IsProper catalog at texts journal = IsProperWith catalog at (asked_of catalog.schema texts) journal
 
 -- a journal is finished where it ends with Close
 abbrev pub IsFinished : Journal → Type 0
 IsFinished [] = ⊥
 IsFinished (entry ∷ []) = entry.move ≡ Close
 IsFinished (_ ∷ entry ∷ later) = IsFinished (entry ∷ later)
-
--- two proper journals for the same catalog, address and texts whose first i answers agree have the same first i + 1
--- moves, where both have so many: the key's moves tell nothing of what it keeps hidden
-abbrev pub TwoWorlds : Type 0
-TwoWorlds =
-    (catalog : Catalog) (at : List ℕ) (texts : List (List ℕ)) (first second : Journal) (i : ℕ)
-    → IsProper catalog at texts first → IsProper catalog at texts second → i < length first → i < length second
-    → answers (take i first) ≡ answers (take i second) → moves (take (i + 1) first) ≡ moves (take (i + 1) second)
-
--- received bytes are the spellings of the valid frames, joined, and the part of the frame at hand; where that frame is
--- invalid, bytes may follow it
-pub record IsSpelled (received : List ℕ) (heard : Heard) : Type 0 where
-  pub rest : List ℕ
-  pub spelled : received ≡ flat_map frame_bytes heard.frames ++ (heard.part ++ rest)
-  pub nothing_more : heard.broken ≡ false → rest ≡ []
-
-abbrev pub ReceivedIsSpelled : Type 0
-ReceivedIsSpelled =
-    (catalog : Catalog) (asks : List Asked) (received : List ℕ) → AreBytes received
-    → IsSpelled received (heard catalog asks received)
-
--- a frame may come where this is awaited
-pub record IsAwaited (catalog : Catalog) (awaits : Awaits) (frame : Frame) : Type 0 where
-  pub fits : IsFrame frame
-  pub header : header_fits catalog awaits (frame_bytes frame) ≡ true
-  pub payload : payload_fits catalog awaits frame ≡ true
-
--- the bytes of a frame that may come are heard as this frame
-abbrev pub AwaitedIsHeard : Type 0
-AwaitedIsHeard =
-    (catalog : Catalog) (asks : List Asked) (before : Heard) (frame : Frame) → before.part ≡ [] → before.broken ≡ false
-    → IsAwaited catalog before.awaits frame
-    → hear_all catalog asks before (frame_bytes frame) ≡ heard_frame catalog asks before frame
-
--- what was sent is the first of the frames that are due
-pub record IsDue (catalog : Catalog) (asks : List Asked) (journal : Journal) : Type 0 where
-  pub frames : List Frame
-  pub sent_are : sent journal ≡ map frame_bytes frames
-  pub rest : List Frame
-  pub due_are : due catalog asks (taken journal) ≡ frames ++ rest
-
-abbrev pub SentIsDue : Type 0
-SentIsDue =
-    (catalog : Catalog) (at : List ℕ) (texts : List (List ℕ)) (journal : Journal) → IsProper catalog at texts journal
-    → IsDue catalog (asked_of catalog.schema texts) journal

@@ -8,7 +8,8 @@ use Rattle.ghost_model.specs.Values.{Value, Number, Row}
 use Rattle.ghost_model.specs.Query.{Query, Field, Condition, Compare, Join, Operator}
 use Rattle.ghost_model.specs.Query as query
 use Rattle.ghost_model.specs.QueryMeaning.{top_of}
-use Rattle.ghost_model.specs.Cells.{cell_width, decode_cell}
+use Rattle.ghost_model.specs.Cells.{cell_width}
+use Rattle.ghost_model.specs.CellReading.{decode_cell}
 use Rattle.ghost_model.specs.Channel.{Catalog, Ask, Journal}
 use Rattle.ghost_model.specs.Asks.{Asked, ReplyRow, kinds_of, rows_in}
 use Rattle.ghost_model.specs.Moves.{taken}

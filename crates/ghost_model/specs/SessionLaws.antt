@@ -1,19 +1,17 @@
 -- Laws of whole sessions, each of the key and its host together. A host in the key's own process leaves one journal,
 -- what it sends is what an honest host sends, and what an honest host's replies answer is the meaning of a text.
-use Rattle.std.specs.Prelude.{◌≡◌, ℕ, suc, ◌<◌, ◌^◌, true, false, List, ◌++◌, length, map, take, slice_get, Some, Ok}
+use Rattle.std.specs.Prelude.{◌≡◌, ℕ, suc, ◌≤◌, true, false, List, ◌++◌, length, map, take, slice_get, Some, Ok}
 use Rattle.std.specs.List.{list_any, concat}
 use Rattle.ghost_model.specs.Schema.{Schema}
-use Rattle.ghost_model.specs.SchemaFaults.{MeansSchema}
 use Rattle.ghost_model.specs.SchemaTrees.{IsTree}
 use Rattle.ghost_model.specs.Values.{Database}
-use Rattle.ghost_model.specs.Database.{IsDatabase, row_counts, row_count}
+use Rattle.ghost_model.specs.Database.{IsDatabase, row_counts}
 use Rattle.ghost_model.specs.Query.{Query}
 use Rattle.ghost_model.specs.QueryMeaning.{Means}
 use Rattle.ghost_model.specs.QueryReading.{reading}
 use Rattle.ghost_model.specs.Meaning.{answer}
 use Rattle.ghost_model.specs.Channel.{Catalog, Ask, Journal}
-use Rattle.ghost_model.specs.Catalog.{catalog_bytes}
-use Rattle.ghost_model.specs.Frames.{AreBytes}
+use Rattle.ghost_model.specs.Catalog.{IsCatalog}
 use Rattle.ghost_model.specs.Asks.{asks_of, asked_of}
 use Rattle.ghost_model.specs.Moves.{answers, taken, sent}
 use Rattle.ghost_model.specs.NextMove.{IsProper, IsFinished, is_stop}
@@ -36,12 +34,10 @@ OneLocalJournal =
     → IsProper catalog at texts first → IsProper catalog at texts second → IsFinished first → IsFinished second
     → IsServedThroughout held first → IsServedThroughout held second → first ≡ second
 
--- the catalog is of an accepted schema, and its generation and the serials of all asks fit 4 bytes
+-- the catalog is one that both sides may share, and there are at most 64 texts
 pub record IsSetting (catalog : Catalog) (texts : List (List ℕ)) : Type 0 where
-  pub schema_text : List ℕ
-  pub accepted : MeansSchema schema_text catalog.schema
-  pub generation_fits : catalog.generation < 2 ^ 32
-  pub serials_fit : length (asked_of catalog.schema texts) < 2 ^ 32
+  pub proper : IsCatalog catalog
+  pub few : length texts ≤ 64
 
 -- where nothing broke off and the key took the beginning of what this host sends for the key's bytes, the journal is one
 -- with an honest host
@@ -67,12 +63,11 @@ WholeRepliesAnswer =
     → answer_from schema (hidden_of schema database) asked (whole_replies schema (public_of schema database) asked)
     ≡ answer schema database asked
 
--- the catalog is that of a database, whose numbers of rows fit 4 bytes, and it is spelled in bytes
+-- the catalog is one that both sides may share, and is that of a database
 pub record IsCatalogOf (catalog : Catalog) (database : Database) : Type 0 where
+  pub proper : IsCatalog catalog
   pub is_database : IsDatabase catalog.schema database
   pub counts_are : row_counts database ≡ catalog.counts
-  pub counts_fit : (table : ℕ) → row_count database table < 2 ^ 32
-  pub bytes_are : AreBytes (catalog_bytes catalog)
 
 -- where the host was honest and every ask of an accepted text was ended by DONE, what its replies answer is the meaning
 -- of the text; the text at place 0 has number 1

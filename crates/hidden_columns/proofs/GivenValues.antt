@@ -10,7 +10,7 @@ use Rattle.ghost_model.specs.Split.{hidden_of}
 use Rattle.ghost_model.specs.Replies.{hidden_value, replied_value}
 use Rattle.ghost_model.specs.Runs.{record_at}
 use Rattle.ghost_model.specs.Asks.{kind_at}
-use Rattle.ghost_model.specs.Cells.{decode_cell}
+use Rattle.ghost_model.specs.CellReading.{decode_cell}
 use Rattle.ghost_model.specs.Layout.{hidden_or_none, is_hidden, count_of, column_file}
 use Rattle.ghost_model.specs.Flash.{HoldsColumns}
 use Rattle.ghost_model.specs.FlashLaws.{HiddenPartsGoWithCatalogs, HiddenValuesOfDatabases, ColumnFilesGiveValues}

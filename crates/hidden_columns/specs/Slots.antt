@@ -4,7 +4,7 @@ use Rattle.std.specs.Prelude.{ℕ, Bool, true, List, Option, Some, None, option_
 use Rattle.ghost_model.specs.Schema.{Schema, Column, Kind, column_at}
 use Rattle.ghost_model.specs.Values.{Value}
 use Rattle.ghost_model.specs.Channel.{Catalog}
-use Rattle.ghost_model.specs.Cells.{decode_cell}
+use Rattle.ghost_model.specs.CellReading.{decode_cell}
 use Rattle.ghost_model.specs.Database.{is_row_among}
 use Rattle.ghost_model.specs.Layout.{count_of}
 

@@ -6,7 +6,8 @@ use Rattle.std.proofs.lemmas.Bool.Decides.{nat_tests}
 use Rattle.ghost_model.specs.Channel.{Frame, Hello, Asking, More, Bye, Welcome, Replied, Done, Sorry}
 use Rattle.ghost_model.specs.Channel as channel
 use Rattle.ghost_model.specs.Catalog.{catalog_bytes}
-use Rattle.ghost_model.specs.Asks.{ReplyRow, ask_in, is_proper_ask}
+use Rattle.ghost_model.specs.Asks.{ReplyRow, is_proper_ask}
+use Rattle.ghost_model.specs.AskReading.{ask_in}
 use Rattle.ghost_model.specs.Asks as asks
 use Rattle.ghost_model.specs.Host.{Holding, Stand, Response, answer_to, answers_request, answers_more, answers_ask, goes_on, after_reply, reply_to, rows_frame, grouped, welcomes}
 use Rattle.ghost_model.specs.Host as host

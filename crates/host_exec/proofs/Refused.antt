@@ -4,12 +4,12 @@ use Rattle.std.specs.Prelude.{if◌then◌else◌, ◌==◌}
 use Rattle.std.proofs.lemmas.Bool.{eqb-true}
 use Rattle.ghost_model.specs.Channel.{Frame, Hello, Asking, More, Bye, Replied, Done}
 use Rattle.ghost_model.specs.Channel as channel
-use Rattle.ghost_model.specs.Asks.{ReplyRow, ask_in}
+use Rattle.ghost_model.specs.Asks.{ReplyRow}
+use Rattle.ghost_model.specs.AskReading.{ask_in}
 use Rattle.ghost_model.specs.Catalog.{catalog_bytes}
-use Rattle.ghost_model.specs.Host.{Holding, Stand, Response, answer_to, answers_ask, goes_on, after_reply, reply_to, rows_frame, grouped, most_part, welcomes_of}
+use Rattle.ghost_model.specs.Host.{Holding, Stand, Response, answer_to, answers_ask, goes_on, after_reply, reply_to, rows_frame, grouped, most_part, welcomes_of, refusal, unread, answer_as}
 use Rattle.ghost_model.specs.Host as host
 use Rattle.host_exec.specs.Saying.{Source, Stands, left_from, most_rows, reply_left}
-use Rattle.host_exec.specs.Refusals.{refusal, unread, answer_as}
 use Rattle.host_exec.specs.declared.stage.Stage.TheVariants as stage
 
 same_stand : (one other : Response) → Some one ≡ Some other → one.stand ≡ other.stand

@@ -8,7 +8,8 @@ use Rattle.std.proofs.Math.Seq.{take-append_seam, drop-append_seam}
 use Rattle.ghost_model.specs.Schema.{Schema, Column, Kind, columns_of, column_at, is_shown}
 use Rattle.ghost_model.specs.Schema as schemas
 use Rattle.ghost_model.specs.Values.{Value, Row}
-use Rattle.ghost_model.specs.Cells.{cell_width, encode_cell, decode_cell}
+use Rattle.ghost_model.specs.Cells.{cell_width, encode_cell}
+use Rattle.ghost_model.specs.CellReading.{decode_cell}
 use Rattle.ghost_model.specs.Database.{is_of_kind}
 use Rattle.ghost_model.specs.Split.{cells, are_of_kinds, is_open, kind_of}
 use Rattle.ghost_model.proofs.ChannelLemmas.Asks.{cell_length, cell_is_read}

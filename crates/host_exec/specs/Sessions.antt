@@ -6,12 +6,12 @@ use Rattle.ghost_model.specs.Channel as channel
 use Rattle.ghost_model.specs.Channel.{Frame, Close, Made, Journal}
 use Rattle.edge_traits.specs.Links.{entry}
 use Rattle.ghost_model.specs.Frames.{IsFrame, Short, Found, got_of, frame_bytes}
-use Rattle.ghost_model.specs.Host.{Holding, Stand, Response, said_to, frames_of, bad_from, bad_request, host_sends, answer_to}
+use Rattle.ghost_model.specs.Host.{Holding, Stand, Response, said_to, frames_of, bad_from, bad_request, host_sends, answer_to, answer_as}
 use Rattle.ghost_model.specs.Host as host
 use Rattle.ghost_model.specs.Moves.{taken, sent, answers}
 use Rattle.ghost_model.specs.NextMove.{InvalidFrame, is_stop}
 use Rattle.host_exec.specs.Hosts.{Holds, StandsAs}
-use Rattle.host_exec.specs.Refusals.{AreGiven, answer_as, times, sends_refusing, host_sends_refusing, bad_request_refusing}
+use Rattle.host_exec.specs.Refusals.{AreGiven, times, sends_refusing, host_sends_refusing, bad_request_refusing}
 use Rattle.host_exec.specs.declared.host.Host.{Host}
 use Rattle.host_exec.specs.declared.session.Served.{Served}
 use Rattle.host_exec.specs.declared.session.Served.TheVariants.{Bye, Depot, Link, BadRequest}

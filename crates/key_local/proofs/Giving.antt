@@ -5,7 +5,7 @@ use Rattle.ghost_model.specs.Asks.{asked_of}
 use Rattle.ghost_model.specs.Causes.{Rose}
 use Rattle.ghost_model.specs.Channel.{Catalog, Journal}
 use Rattle.ghost_model.specs.Moves.{taken}
-use Rattle.ghost_model.specs.NextMove.{Left, left, heard, IsFinished}
+use Rattle.ghost_model.specs.NextMove.{Standing, standing_after, heard, IsFinished}
 use Rattle.ghost_model.specs.Printed.{printed}
 use Rattle.ghost_model.specs.Schema.{Schema}
 use Rattle.ghost_model.specs.Split.{hidden_of}
@@ -38,8 +38,8 @@ false_is_not : false ≡ true → ⊥
 false_is_not e = cc
 
 module _ (catalog : Catalog) (database : Database) (texts : List (List ℕ)) (journal : Journal) (unbroken : IsUnbroken catalog database texts journal) where
-  abbrev session : Left
-  session = left catalog (asked_of catalog.schema texts) journal
+  abbrev session : Standing
+  session = standing_after catalog (asked_of catalog.schema texts) journal
 
   pub going : session.stopped ≡ false
   going = none_stops journal unbroken.goes_on
@@ -68,7 +68,7 @@ pub ran_over : (told : Bool) (catalog : Catalog) (database : Database) (texts : 
     → ((Rose before.append_faults after.append_faults → ⊥) → KeepsLines before.files after.files name journal)
     → (end ≡ ends.Ok → KeepsLines before.files after.files name journal)
     → (told ≡ true → AreTold catalog (hidden_of catalog.schema database) texts journal (length texts)
-    (λ reasons. IsTally (wrote_none tally.status) (left catalog (asked_of catalog.schema texts) journal) reasons tally) (outside_in false before) (outside_in (wrote_none tally.status) after))
+    (λ reasons. IsTally (wrote_none tally.status) (standing_after catalog (asked_of catalog.schema texts) journal) reasons tally) (outside_in false before) (outside_in (wrote_none tally.status) after))
     → ((damage : Damage) → tally.status ≡ status.Damaged damage → IsDamaged told before.device.page catalog damage.page damage.slot damage.found) → KeepsPages before.device after.device
     → is_sink end ≡ wrote_none tally.status → (end ≡ ends.Ok → tally.status ≡ status.Ok) → (end ≡ ends.Flash → blames_flash tally.status ≡ true)
     → (blames_flash tally.status ≡ true → Rose before.device.calls after.device.calls) → (is_damage tally.status ≡ true → Rose before.device.calls after.device.calls)
@@ -79,8 +79,8 @@ ran_over told catalog database texts name end tally before after journal served 
     let stays = going catalog database texts journal unbroken in
     let right = valid catalog database texts journal unbroken in
     let none = granted catalog database texts journal unbroken in
-    let by_tally : told ≡ true → GivesByTally (wrote_none tally.status) (left catalog (asked_of catalog.schema texts) journal) tally catalog.schema database texts (outside_in false before) (outside_in (wrote_none tally.status) after) =
-    (λ t. given catalog database texts journal (wrote_none tally.status) (left catalog (asked_of catalog.schema texts) journal) tally (outside_in false before) (outside_in (wrote_none tally.status) after) is_local finished (are_told t)) in
+    let by_tally : told ≡ true → GivesByTally (wrote_none tally.status) (standing_after catalog (asked_of catalog.schema texts) journal) tally catalog.schema database texts (outside_in false before) (outside_in (wrote_none tally.status) after) =
+    (λ t. given catalog database texts journal (wrote_none tally.status) (standing_after catalog (asked_of catalog.schema texts) journal) tally (outside_in false before) (outside_in (wrote_none tally.status) after) is_local finished (are_told t)) in
     record {
       journal = journal;
       is_local = is_local;
@@ -91,18 +91,18 @@ ran_over told catalog database texts name end tally before after journal served 
       printed_all = λ t is.
           let all = by_tally t in
           let fine : tally.status ≡ status.Ok = whole is in
-          let uncut : list_any is_cut all.gives.given ≡ false = whole_status (wrote_none tally.status) (left catalog (asked_of catalog.schema texts) journal) (list_any is_cut all.gives.given) stays right none (sym all.status_is ∙ fine) in
+          let uncut : list_any is_cut all.gives.given ≡ false = whole_status (wrote_none tally.status) (standing_after catalog (asked_of catalog.schema texts) journal) (list_any is_cut all.gives.given) stays right none (sym all.status_is ∙ fine) in
           let took = all.gives.handed_on.whole (ap wrote_none fine) in
           took.written ∙ ap (λ (piece : List ℕ). grown before.written piece) (all.gives.lines.whole uncut);
       cut = λ t is.
           let all = by_tally t in
-          flash_status (wrote_none tally.status) (left catalog (asked_of catalog.schema texts) journal) (list_any is_cut all.gives.given) stays right none
+          flash_status (wrote_none tally.status) (standing_after catalog (asked_of catalog.schema texts) journal) (list_any is_cut all.gives.given) stays right none
           (sym (ap blames_flash all.status_is) ∙ flash is);
       called = λ is. called (flash is);
       damage_called = λ is. read (damage_found end tally.status damaged is);
       undamaged = λ t. not_so (is_damaged end) (λ found.
           let all = by_tally t in
-          let none_found : is_damage tally.status ≡ false = ap is_damage all.status_is ∙ no_damage (wrote_none tally.status) (left catalog (asked_of catalog.schema texts) journal) (list_any is_cut all.gives.given) stays right none in
+          let none_found : is_damage tally.status ≡ false = ap is_damage all.status_is ∙ no_damage (wrote_none tally.status) (standing_after catalog (asked_of catalog.schema texts) journal) (list_any is_cut all.gives.given) stays right none in
           false_is_not (sym none_found ∙ damage_found end tally.status damaged found));
       damaged = λ page slot found is.
           subst (λ (pages : ℕ → List ℕ). IsDamaged told pages catalog page slot found) (sym pages.page) (blamed (damage_at page slot found) (damaged page slot found is));

@@ -27,7 +27,7 @@ use reply_store::ReplyStore;
 use session_replies::Replies;
 use std::alloc::{AllocError, Global};
 use tree_schema::Catalog;
-use tree_schema::catalog_bytes::{a_catalog_is_short, catalogs_are_bytes};
+use tree_schema::catalog_bytes::a_catalog_is_short;
 
 /// The name of the host's file in its depot.
 const VISIBLE: &str = "visible";
@@ -61,7 +61,6 @@ fn parts_of(alloc: Global, input: Input) -> Result<Parts, AllocError>
     let Input { schema, tables } = input;
     let cat = catalog_of(schema, &tables);
     a_catalog_is_short(&cat);
-    catalogs_are_bytes();
     public_parts_go_with_catalogs();
     let (public, hidden) = split(alloc, cat.schema(), tables)?;
     let image = visible_image(alloc, &cat, &public)?;

@@ -31,7 +31,6 @@ use local_lines::laws::told_texts_are_given;
 use local_links::host_link::HostLink;
 use local_links::journaled::Journaled;
 use local_links::laws::{proper_journals_are_written, sessions_are_local};
-use script_asks::laws::asks_are_few;
 use session_laws::local::local_sessions_are_served;
 use session_replies::Replies;
 use tree_schema::Catalog;
@@ -107,7 +106,6 @@ fn hold<D: Depot, F: Flash, O: Sink>(
     proper_journals_are_written::<HostLink<MemDepot>, D>();
     local_sessions_are_served();
     told_texts_are_given();
-    asks_are_few();
     let options = Options {
         at: "",
         plan: words.plan,

@@ -8,7 +8,7 @@ use Rattle.ghost_model.specs.QueryReading.{reading}
 use Rattle.ghost_model.specs.Channel.{Catalog, Entry, Journal}
 use Rattle.ghost_model.specs.Asks.{Asked, asked_of}
 use Rattle.ghost_model.specs.Moves.{answers}
-use Rattle.ghost_model.specs.NextMove.{Awaits, Missing, Reply, Nothing, Ending, Answered, Refused, Ended, Heard, Left, left, is_stop}
+use Rattle.ghost_model.specs.NextMove.{Awaits, Missing, Reply, Nothing, Ending, Answered, Refused, Ended, Heard, Standing, standing_after, is_stop}
 use Rattle.ghost_model.specs.Split.{Hidden}
 use Rattle.ghost_model.specs.Replies as given
 use Rattle.ghost_model.specs.Replies.{replies, answer_from}
@@ -54,7 +54,7 @@ state_by refused settled stopped broken =
     if refused then state_is.Host else if settled then state_is.Done else if stopped then state_is.Link
     else if broken then state_is.Protocol else state_is.Awaited
 
-same_state : (asks : List Asked) (text : ℕ) (l : Left)
+same_state : (asks : List Asked) (text : ℕ) (l : Standing)
     → state_of asks text l ≡ state_by (is_refused text l.heard.ended) (is_settled asks text l.heard.awaits) l.stopped l.heard.broken
 same_state asks text l =
     ap (λ (b : Bool). state_by b (not (list_any (λ (one : Asked). one.text == text) (awaited asks l.heard.awaits))) l.stopped l.heard.broken) (same_refusals text l.heard.ended)
@@ -105,7 +105,7 @@ module _ (catalog : Catalog) (texts : List (List ℕ)) (journal : Journal) (plac
   settled = is_settled_in catalog texts journal (suc place)
 
   abbrev pub here : ReplyState
-  here = state_of (asked_of catalog.schema texts) (suc place) (left catalog (asked_of catalog.schema texts) journal)
+  here = state_of (asked_of catalog.schema texts) (suc place) (standing_after catalog (asked_of catalog.schema texts) journal)
 
   pub record AllDone : Type 0 where
     pub done : all_done catalog.schema query ends ≡ true
@@ -124,7 +124,7 @@ module _ (catalog : Catalog) (texts : List (List ℕ)) (journal : Journal) (plac
   Came state_is.Awaited = ⊥
 
   abbrev stops : Bool
-  stops = (left catalog (asked_of catalog.schema texts) journal).stopped
+  stops = (standing_after catalog (asked_of catalog.schema texts) journal).stopped
 
   abbrev invalid : Bool
   invalid = (heard_in catalog texts journal).broken
@@ -145,7 +145,7 @@ module _ (catalog : Catalog) (texts : List (List ℕ)) (journal : Journal) (plac
 
   pub came : IsDecided catalog texts journal (suc place) query → Outcome catalog texts journal (suc place) query → (state : ReplyState) → state ≡ here → Came state
   came decided outcome state e =
-      subst Came (sym (e ∙ same_state (asked_of catalog.schema texts) (suc place) (left catalog (asked_of catalog.schema texts) journal))) (came_by decided outcome)
+      subst Came (sym (e ∙ same_state (asked_of catalog.schema texts) (suc place) (standing_after catalog (asked_of catalog.schema texts) journal))) (came_by decided outcome)
 
   -- the line of what ended the asks
   broken_lines : (lines : List (List ℕ)) (word : List ℕ) → reading catalog.schema written ≡ Ok query → IsBrokenBy word → lines ≡ word_line (suc place) word ∷ [] → BrokenLines catalog texts journal (suc place) written lines
@@ -203,7 +203,7 @@ module _ (catalog : Catalog) (texts : List (List ℕ)) (journal : Journal) (plac
 pub told_so : (catalog : Catalog) (kept : Hidden) (texts : List (List ℕ)) (journal : Journal) (place : ℕ) (written : List ℕ) → slice_get texts place ≡ Some written
     → ((query : Query) → reading catalog.schema written ≡ Ok query → IsDecided catalog texts journal (suc place) query)
     → ((query : Query) → reading catalog.schema written ≡ Ok query → Outcome catalog texts journal (suc place) query)
-    → (replied : List given.Reply) (state : ReplyState) → state ≡ state_of (asked_of catalog.schema texts) (suc place) (left catalog (asked_of catalog.schema texts) journal)
+    → (replied : List given.Reply) (state : ReplyState) → state ≡ state_of (asked_of catalog.schema texts) (suc place) (standing_after catalog (asked_of catalog.schema texts) journal)
     → (state ≡ state_is.Done → replied ≡ replies catalog (asked_of catalog.schema texts) journal (suc place))
     → (lines : List (List ℕ)) (result : Told) → Why catalog.schema kept replied (suc place) written state lines result
     → IsTold catalog kept texts journal place (record { reason = reason_of result; lines = lines })
@@ -249,7 +249,7 @@ module _ (catalog : Catalog) (texts : List (List ℕ)) (journal : Journal) (plac
   protocol_undone : (state : ReplyState) → state ≡ state_is.Protocol → state ≡ state_is.Done → ⊥
   protocol_undone state e f = cc
 
-  pub reason_so : (state : ReplyState) → state ≡ state_of (asked_of catalog.schema texts) (suc place) (left catalog (asked_of catalog.schema texts) journal)
+  pub reason_so : (state : ReplyState) → state ≡ state_of (asked_of catalog.schema texts) (suc place) (standing_after catalog (asked_of catalog.schema texts) journal)
       → ((query : Query) → reading catalog.schema written ≡ Ok query → IsDecided catalog texts journal (suc place) query)
       → ((query : Query) → reading catalog.schema written ≡ Ok query → Outcome catalog texts journal (suc place) query)
       → (result : Told) → IsToldBy catalog.schema written state result → IsReason (reason_of result) catalog texts journal (suc place) written
@@ -294,8 +294,8 @@ done_by false false false true e = cc
 done_by false false false false e = cc
 
 -- where the replies are done, no ask was refused and none is awaited or still to come
-pub done_so : (catalog : Catalog) (texts : List (List ℕ)) (journal : Journal) (text : ℕ) → state_of (asked_of catalog.schema texts) text (left catalog (asked_of catalog.schema texts) journal) ≡ state_is.Done
+pub done_so : (catalog : Catalog) (texts : List (List ℕ)) (journal : Journal) (text : ℕ) → state_of (asked_of catalog.schema texts) text (standing_after catalog (asked_of catalog.schema texts) journal) ≡ state_is.Done
     → (is_refused_in catalog texts journal text ≡ false) × (is_settled_in catalog texts journal text ≡ true)
 done_so catalog texts journal text e =
-    done_by (is_refused_in catalog texts journal text) (is_settled_in catalog texts journal text) (left catalog (asked_of catalog.schema texts) journal).stopped (heard_in catalog texts journal).broken
-    (sym (same_state (asked_of catalog.schema texts) text (left catalog (asked_of catalog.schema texts) journal)) ∙ e)
+    done_by (is_refused_in catalog texts journal text) (is_settled_in catalog texts journal text) (standing_after catalog (asked_of catalog.schema texts) journal).stopped (heard_in catalog texts journal).broken
+    (sym (same_state (asked_of catalog.schema texts) text (standing_after catalog (asked_of catalog.schema texts) journal)) ∙ e)

@@ -6,7 +6,7 @@ use Rattle.ghost_model.specs.Values.{Database}
 use Rattle.ghost_model.specs.Channel.{Catalog, Journal}
 use Rattle.ghost_model.specs.Asks.{asked_of}
 use Rattle.ghost_model.specs.Moves.{taken}
-use Rattle.ghost_model.specs.NextMove.{left}
+use Rattle.ghost_model.specs.NextMove.{standing_after}
 use Rattle.ghost_model.specs.Split.{hidden_of}
 use Rattle.ghost_model.specs.Replies.{replies}
 use Rattle.edge_traits.specs.Devices.{Device, KeepsPages}
@@ -74,7 +74,7 @@ pub tell_one : PiecesJoin → TextsAreDecided → StoredAreGiven → RepliesAsce
     → old.texts ≡ written ∷ new.texts → new.count ≡ old.count + 1
     → CameOut catalog texts journal (old.count + 1)
     → IsKept catalog (heard_in catalog texts journal) (old.count + 1 + 1) top after
-    → state ≡ state_of (asked_of catalog.schema texts) (old.count + 1) (left catalog (asked_of catalog.schema texts) journal)
+    → state ≡ state_of (asked_of catalog.schema texts) (old.count + 1) (standing_after catalog (asked_of catalog.schema texts) journal)
     → stored ≡ kept before (old.count + 1)
     → ((database : Database) → Knows pages_told between.flash.page catalog database → (state ≡ state_is.Done → are_ascending (replies_in stored) ≡ true)
     → TellsText catalog.schema (hidden_of catalog.schema database) (replies_in stored) (old.count + 1) written state between.sink now.sink result)
@@ -127,8 +127,8 @@ tell_one join decided same ascend pages_told catalog texts journal top since bet
         ap (λ (xs : List Stored). are_ascending (replies_in xs)) (is_done e ∙ sym (all_is_done catalog texts journal (old.count + 1) (settled e)))
         ∙ ascend catalog texts (taken journal) (old.count + 1)
 
-    here_is : state ≡ state_of (asked_of catalog.schema texts) (suc old.count) (left catalog (asked_of catalog.schema texts) journal)
-    here_is = subst (λ (n : ℕ). state ≡ state_of (asked_of catalog.schema texts) n (left catalog (asked_of catalog.schema texts) journal)) (sym number) is_state
+    here_is : state ≡ state_of (asked_of catalog.schema texts) (suc old.count) (standing_after catalog (asked_of catalog.schema texts) journal)
+    here_is = subst (λ (n : ℕ). state ≡ state_of (asked_of catalog.schema texts) n (standing_after catalog (asked_of catalog.schema texts) journal)) (sym number) is_state
 
     has_reason : HasReason catalog texts journal old.count (reason_of result)
     has_reason = record {

@@ -27,13 +27,12 @@ use edge_traits::sink::Sink;
 use flash_layout::limits::a_catalog_has_a_layout;
 use key_lines::printer::pieces_join;
 use reply_laws::stores::replies_fit;
-use script_asks::laws::asks_are_few;
 use session_laws::honest_sessions::{honest_lines_are_printed, honest_sessions_are_smooth};
 use session_laws::text_cases::texts_have_outcomes;
 use session_laws::text_ends::{ended_texts_stay, reasons_stay};
 use session_replies::Replies;
 use tree_schema::Catalog;
-use tree_schema::catalog_bytes::{a_catalog_is_short, catalogs_are_bytes};
+use tree_schema::catalog_bytes::a_catalog_is_short;
 
 /// Makes the moves of a session to the host at the address `at`, up to its close, and tells the texts that it can tell in
 /// between. Answers the code of the first ask that the host refused.
@@ -111,8 +110,6 @@ pub fn run_session<F: Flash, L: Link, O: Sink>(
     texts_have_outcomes();
     a_catalog_is_short(cat);
     a_catalog_has_a_layout(cat);
-    catalogs_are_bytes();
-    asks_are_few();
     honest_sessions_are_smooth();
     honest_lines_are_printed();
     let mut exchange = Exchange::begin(Pump::begin(cat, script));

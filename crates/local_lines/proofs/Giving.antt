@@ -11,7 +11,7 @@ use Rattle.ghost_model.specs.QueryReading.{reading}
 use Rattle.ghost_model.specs.Meaning.{answer}
 use Rattle.ghost_model.specs.Printed.{answer_lines, lines_of_reading, lines_of_text, lines_from, printed}
 use Rattle.ghost_model.specs.Channel.{Catalog, Journal}
-use Rattle.ghost_model.specs.NextMove.{Left}
+use Rattle.ghost_model.specs.NextMove.{Standing}
 use Rattle.ghost_model.specs.Split.{hidden_of}
 use Rattle.ghost_model.specs.Lines.{Reason, IsRefused, WasBroken, WasAnswered, MetFault, OnFlash, OnDamage, AreLinesFor, ended_of, all_done, rows_from_replies}
 use Rattle.key_session.specs.Counting.{is_flash, is_damage}
@@ -168,7 +168,7 @@ module _ (catalog : Catalog) (database : Database) (texts : List (List ℕ)) (jo
       }
 
   pub gives :
-      (failed : Bool) (session : Left) (tally : Tally) (since now : Outside)
+      (failed : Bool) (session : Standing) (tally : Tally) (since now : Outside)
       → AreTold catalog (hidden_of catalog.schema database) texts journal (length texts) (λ reasons. IsTally failed session reasons tally) since now
       → GivesByTally failed session tally catalog.schema database texts since now
   gives failed session tally since now are =

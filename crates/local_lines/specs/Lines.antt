@@ -11,7 +11,7 @@ use Rattle.ghost_model.specs.QueryReading.{reading}
 use Rattle.ghost_model.specs.Meaning.{answer}
 use Rattle.ghost_model.specs.Printed.{row_line, word_line, lines_of_text, printed}
 use Rattle.ghost_model.specs.Channel.{Catalog, Journal}
-use Rattle.ghost_model.specs.NextMove.{Left, IsFinished}
+use Rattle.ghost_model.specs.NextMove.{Standing, IsFinished}
 use Rattle.ghost_model.specs.Split.{hidden_of}
 use Rattle.session_laws.specs.Local.{IsLocal}
 use Rattle.key_lines.specs.Handing.{Hands}
@@ -65,7 +65,7 @@ pub record Gives (schema : Schema) (database : Database) (texts : List (List ℕ
   pub unblamed : list_any is_cut given ≡ false → now.flash.faults ≡ since.flash.faults
 
 -- the session's tally has the status of such lines: that of the flash, where it failed a text and no other cause comes first
-pub record GivesByTally (failed : Bool) (session : Left) (tally : Tally) (schema : Schema) (database : Database) (texts : List (List ℕ)) (since now : Outside) : Type 0 where
+pub record GivesByTally (failed : Bool) (session : Standing) (tally : Tally) (schema : Schema) (database : Database) (texts : List (List ℕ)) (since now : Outside) : Type 0 where
   pub gives : Gives schema database texts since now
   pub status_is : tally.status ≡ status_of failed session (list_any is_cut gives.given)
 
@@ -73,7 +73,7 @@ pub record GivesByTally (failed : Bool) (session : Left) (tally : Tally) (schema
 abbrev pub ToldTextsAreGiven : Type 0
 ToldTextsAreGiven =
     (catalog : Catalog) (database : Database) (texts : List (List ℕ)) (journal : Journal)
-    (failed : Bool) (session : Left) (tally : Tally) (since now : Outside)
+    (failed : Bool) (session : Standing) (tally : Tally) (since now : Outside)
     → IsLocal catalog database [] texts journal → IsFinished journal
     → AreTold catalog (hidden_of catalog.schema database) texts journal (length texts) (λ reasons. IsTally failed session reasons tally) since now
     → GivesByTally failed session tally catalog.schema database texts since now

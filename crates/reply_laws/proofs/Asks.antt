@@ -9,9 +9,8 @@ use Rattle.ghost_model.specs.Schema.{Schema, Column, Kind, columns_of, column_at
 use Rattle.ghost_model.specs.Query.{Query}
 use Rattle.ghost_model.specs.QueryReading.{reading}
 use Rattle.ghost_model.specs.Cells.{cell_width}
-use Rattle.ghost_model.specs.Channel.{Catalog, Ask}
+use Rattle.ghost_model.specs.Channel.{Catalog, Ask, row_count_in}
 use Rattle.ghost_model.specs.Asks.{Asked, asked, asked_from, asked_of, asks_of, asks_of_reading, ask_for, is_from, is_needed, is_wanted, places, kind_or_none, kind_at, row_width}
-use Rattle.ghost_model.specs.NextMove.{rows_of, count_or_zero}
 use Rattle.ghost_model.specs.Layout.{below, count_of, width_or_none, width_at, spool_width}
 use Rattle.ghost_model.specs.SchemaTrees.{IsTree}
 use Rattle.ghost_model.proofs.ChannelLemmas.Tests.{both_hold}
@@ -127,23 +126,16 @@ narrow schema query table =
     as_wide None = omega arith
     as_wide (Some column) = omega arith
 
-rows_counted : (counts : List ℕ) (table : ℕ) → count_or_zero (slice_get counts table) ≡ slice_index counts table
-rows_counted [] table = refl
-rows_counted (count ∷ counts) zero = refl
-rows_counted (count ∷ counts) (suc table) = rows_counted counts table
-
 -- the bytes that the rows of a reply may have
 abbrev pub reply_room : Catalog → Ask → ℕ
-reply_room catalog ask = rows_of catalog ask.table * row_width catalog.schema ask
+reply_room catalog ask = row_count_in catalog ask.table * row_width catalog.schema ask
 
 pub texts_have_room : (catalog : Catalog) (texts : List (List ℕ)) (text : ℕ)
     → sum_by (weight text (reply_room catalog)) (asked_of catalog.schema texts) ≤ room_for catalog
 texts_have_room catalog texts text =
     text_weighs catalog.schema text (reply_room catalog) (room_for catalog)
     (λ query. asks_weigh catalog.schema query (reply_room catalog) (λ (table : ℕ). count_of catalog table * spool_width catalog.schema table)
-    (λ table. subst (λ (n : ℕ). n * row_width catalog.schema (ask_for catalog.schema query table) ≤ count_of catalog table * spool_width catalog.schema table)
-    (sym (rows_counted catalog.counts table))
-    (mul-le-mul_left (count_of catalog table) (narrow catalog.schema query table))))
+    (λ table. mul-le-mul_left (count_of catalog table) (narrow catalog.schema query table)))
     1 (map (reading catalog.schema) texts)
 
 pub texts_have_places : (catalog : Catalog) (texts : List (List ℕ)) (text : ℕ) → IsTree catalog.schema

@@ -3,9 +3,9 @@ use Rattle.std.proofs.Common.{◌≡◌, ℕ, zero, suc, ◌+◌, ◌*◌, ◌/�
 use Rattle.std.proofs.Math.Nat.{mul-div_cancel, mod-add-div', mul-le-mul_right, suc-mul}
 use Rattle.std.proofs.lemmas.List.{length-drop, take-append-le, drop-append-le}
 use Rattle.ghost_model.specs.Schema.{Kind}
-use Rattle.ghost_model.specs.Channel.{Catalog, Ask}
+use Rattle.ghost_model.specs.Channel.{Catalog, Ask, row_count_in}
 use Rattle.ghost_model.specs.Asks.{kinds_of, row_width, ReplyRow, row_in, rows_from, rows_in, ascend_from}
-use Rattle.ghost_model.specs.NextMove.{are_cells, rows_fit, rows_of, last_identifier}
+use Rattle.ghost_model.specs.NextMove.{are_cells, rows_fit, last_identifier}
 use Rattle.ghost_model.proofs.ChannelLemmas.Tests.{both_hold, hold_both}
 
 abbrev pub identifiers : List ReplyRow → List ℕ
@@ -41,7 +41,7 @@ module _ (catalog : Catalog) (ask : Ask) where
     pub ascend : ascend_from 0 (identifiers (rows_from width count bytes)) ≡ true
     pub final : last_identifier 0 (rows_from width count bytes) ≡ last
     pub few : count ≤ last
-    pub most : last ≤ rows_of catalog ask.table
+    pub most : last ≤ row_count_in catalog ask.table
 
   pub none_came : Came [] 0
   unfolding rows_from
@@ -49,7 +49,7 @@ module _ (catalog : Catalog) (ask : Ask) where
 
   pub record IsOrderly (bytes : List ℕ) : Type 0 where
     pub ascend : ascend_from 0 (identifiers (rows_in catalog.schema ask bytes)) ≡ true
-    pub most : length bytes ≤ rows_of catalog ask.table * width
+    pub most : length bytes ≤ row_count_in catalog ask.table * width
 
   some_width : 0 < width
   some_width = omega arith
@@ -60,7 +60,7 @@ module _ (catalog : Catalog) (ask : Ask) where
       let few = came.few in
       let most = came.most in
       let size = came.size in
-      let less : came.count * width ≤ rows_of catalog ask.table * width = mul-le-mul_right width (omega (arith, few, most)) in
+      let less : came.count * width ≤ row_count_in catalog ask.table * width = mul-le-mul_right width (omega (arith, few, most)) in
       record {
         ascend = ap (λ n. ascend_from 0 (identifiers (rows_from width n bytes))) many ∙ came.ascend;
         most = omega (arith, size, less);
@@ -87,13 +87,13 @@ module _ (catalog : Catalog) (ask : Ask) where
   record Climb (last : ℕ) (rows : List ReplyRow) : Type 0 where
     ascend : ascend_from last (identifiers rows) ≡ true
     few : last + length rows ≤ last_identifier last rows
-    most : last ≤ rows_of catalog ask.table → last_identifier last rows ≤ rows_of catalog ask.table
+    most : last ≤ row_count_in catalog ask.table → last_identifier last rows ≤ row_count_in catalog ask.table
 
-  climbs : (last : ℕ) (rows : List ReplyRow) → rows_fit (rows_of catalog ask.table) last kinds rows ≡ true → Climb last rows
+  climbs : (last : ℕ) (rows : List ReplyRow) → rows_fit (row_count_in catalog ask.table) last kinds rows ≡ true → Climb last rows
   unfolding rows_fit
   climbs last [] fit = record { ascend = refl; few = omega arith; most = λ h. h }
   climbs last (row ∷ later) fit =
-      let all = rows_of catalog ask.table in
+      let all = row_count_in catalog ask.table in
       let both = both_hold (nat_lt last row.identifier && nat_le row.identifier all && are_cells kinds row.cells) (rows_fit all row.identifier kinds later) fit in
       let front = both_hold (nat_lt last row.identifier && nat_le row.identifier all) (are_cells kinds row.cells) both.one in
       let bounds = both_hold (nat_lt last row.identifier) (nat_le row.identifier all) front.one in
@@ -109,7 +109,7 @@ module _ (catalog : Catalog) (ask : Ask) where
 
   -- the rows of a frame that fits, after rows that came
   pub more_came : (bytes payload : List ℕ) (last : ℕ) → Came bytes last → length payload % width ≡ 0
-      → rows_fit (rows_of catalog ask.table) last kinds (rows_in catalog.schema ask payload) ≡ true
+      → rows_fit (row_count_in catalog ask.table) last kinds (rows_in catalog.schema ask payload) ≡ true
       → Came (bytes ++ payload) (last_identifier last (rows_in catalog.schema ask payload))
   more_came bytes payload last came whole fit =
       let more = length payload / width in

@@ -7,8 +7,8 @@ use Rattle.std.proofs.lemmas.List.Folds.{list_all-append, list_all-map}
 use Rattle.ghost_model.specs.Schema.{Schema, places_from}
 use Rattle.ghost_model.specs.Query.{Query}
 use Rattle.ghost_model.specs.Channel.{Ask}
-use Rattle.ghost_model.specs.Asks.{AsksAreProper, Asked, asked, asked_from, ask_for, asks_of, asks_of_reading, is_from, is_needed, is_proper_ask, places}
-use Rattle.ghost_model.proofs.MeaningLemmas.OneRow.{length-filter_le}
+use Rattle.ghost_model.specs.Asks.{Asked, asked, asked_from, ask_for, asks_of, asks_of_reading, is_from, is_needed, is_proper_ask, places}
+use Rattle.ghost_model.specs.ChannelLaws.{AsksAreProper}
 use Rattle.ghost_model.specs.QueryReading.{reading}
 use Rattle.ghost_model.specs.NextMove.{of_later_texts}
 use Rattle.std.proofs.lemmas.Bool.Decides.{nat_tests}
@@ -164,31 +164,3 @@ numbered_from schema n (text ∷ texts) some few =
     ∙ ap₂ (λ (b c : Bool). b && c)
     (all_numbered n (asks_of_reading schema (reading schema text)) (is_number n some (omega (arith, few))))
     (numbered_from schema (n + 1) texts (omega (arith, some)) (omega (arith, few)))
-
--- they are at most as many as tables for each text
-places_length : {X : Type 0} (at : ℕ) (xs : List X) → length (places_from (λ (_ : X). true) at xs) ≡ length xs
-unfolding places_from
-places_length at [] = refl
-places_length at (x ∷ xs) = ap suc (places_length (at + 1) xs)
-
-few_of_query : (schema : Schema) (query : Query) → length (asks_of schema query) ≤ length schema
-few_of_query schema query =
-    let a = length-filter_le is_needed (map (ask_for schema query) (filter (is_from query) (places schema))) in
-    let b = length-map (filter (is_from query) (places schema)) (ask_for schema query) in
-    let c = length-filter_le (is_from query) (places schema) in
-    let d = places_length 0 schema in
-    omega (arith, a, b, c, d)
-
-few_of_reading : {Refusal : Type 0} (schema : Schema) (r : Result Query Refusal) → length (asks_of_reading schema r) ≤ length schema
-few_of_reading schema (Ok query) = few_of_query schema query
-few_of_reading schema (Err refusal) = omega arith
-
-pub few_from : {Refusal : Type 0} (schema : Schema) (n : ℕ) (readings : List (Result Query Refusal)) → length schema ≤ 12
-    → length (asked_from schema n readings) ≤ 12 * length readings
-few_from schema n [] h = omega arith
-few_from schema n (reading ∷ later) h =
-    let a = length-append (map (asked n) (asks_of_reading schema reading)) (asked_from schema (n + 1) later) in
-    let b = length-map (asks_of_reading schema reading) (asked n) in
-    let c = few_of_reading schema reading in
-    let d = few_from schema (n + 1) later h in
-    omega (arith, a, b, c, d, h)

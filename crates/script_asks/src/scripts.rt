@@ -14,7 +14,7 @@ ghost use Rattle.script_asks.specs.Left.{are_numbered, are_proper, asked_left, h
 use crate::queries::next_ask;
 use channel_codec::ask::Ask;
 use ghost_base::limits::{MAX_TABLES, MAX_TEXTS};
-use ghost_model::channel::asks_are_proper;
+use ghost_model::channel::{asks_are_few, asks_are_proper};
 use spj_parse::laws::joins_count_once;
 use spj_parse::{Query, Texts, read_query};
 use std::marker::Model;
@@ -127,6 +127,7 @@ impl<'a> ScriptAsks<'a> {
         ensures numbered { are_numbered result ≡ true }
         ensures count { length result ≤ MAX_TABLES * MAX_TEXTS }
     {
+        asks_are_few();
         asks_are_proper();
         let _tables = schema.tables();
         let mut texts = Texts::new(script);

@@ -9,9 +9,12 @@ use Rattle.std.proofs.lemmas.Nat.{le-div}
 use Rattle.ghost_model.specs.Catalog.{catalog_bytes}
 use Rattle.ghost_model.specs.Channel.{Ask, Frame, Hello, Asking, More, Bye, Welcome, Done}
 use Rattle.ghost_model.specs.Frames.{IsFrame, AreBytes, most_payload}
-use Rattle.ghost_model.specs.Asks.{Asked, ReplyRow, ask_in, ask_payload, is_proper_ask, row_bytes, row_width, rows_in}
-use Rattle.ghost_model.specs.NextMove.{Awaits, Missing, Reply, Nothing, Turn, Heard, Ended, Answered, ended, last_identifier, heard_frame, on_with, still, IsAwaited}
-use Rattle.ghost_model.specs.Host.{Holding, Stand, Greeting, Listening, Replying, Over, Response, answer_to, answers_ask, goes_on, after_reply, rows_frame, rows_of_groups, grouped, welcomes_of, most_part, AreGroups}
+use Rattle.ghost_model.specs.Asks.{Asked, ReplyRow, ask_payload, is_proper_ask, row_bytes, row_width, rows_in}
+use Rattle.ghost_model.specs.AskReading.{ask_in}
+use Rattle.ghost_model.specs.NextMove.{Awaits, Missing, Reply, Nothing, Turn, Heard, Ended, Answered, ended, last_identifier, heard_frame, on_with, still}
+use Rattle.ghost_model.specs.ChannelLaws.{IsAwaited}
+use Rattle.ghost_model.specs.Host.{Holding, Stand, Greeting, Listening, Replying, Over, Response, answer_to, answers_ask, goes_on, after_reply, rows_frame, grouped, welcomes_of, most_part}
+use Rattle.ghost_model.specs.HostLaws.{rows_of_groups, AreGroups}
 use Rattle.ghost_model.specs.Lines.{is_refused_by, was_refused}
 use Rattle.ghost_model.proofs.ChannelLemmas.{bytes_drop}
 use Rattle.ghost_model.proofs.ChannelLemmas.Asks.{spelled_ask_is_read}

@@ -4,7 +4,7 @@ use Rattle.std.proofs.Math.Seq.{take-length}
 use Rattle.ghost_model.specs.Values.{Database}
 use Rattle.ghost_model.specs.Channel.{Catalog, Journal}
 use Rattle.ghost_model.specs.Asks.{Asked, asked_of}
-use Rattle.ghost_model.specs.NextMove.{IsFinished, left}
+use Rattle.ghost_model.specs.NextMove.{IsFinished, standing_after}
 use Rattle.ghost_model.specs.Local.{IsServedBy}
 use Rattle.ghost_model.proofs.SessionLemmas.ThisHost.{this_host_is_honest}
 use Rattle.ghost_model.specs.Split.{public_of}
@@ -31,10 +31,10 @@ module _ (catalog : Catalog) (database : Database) (at : List ℕ) (texts : List
   unbroken =
       let w = all_walked in
       record {
-        goes_on = any_answer journal ∙ not_stopped (holding_of catalog database) at asks can (left catalog asks journal) is.desk.stand is.desk.owed w.there;
+        goes_on = any_answer journal ∙ not_stopped (holding_of catalog database) at asks can (standing_after catalog asks journal) is.desk.stand is.desk.owed w.there;
         throughout = w.throughout;
-        valid = not_broken (holding_of catalog database) at asks can (left catalog asks journal) is.desk.stand is.desk.owed w.there;
-        none_refused = none_refused (holding_of catalog database) at asks can (left catalog asks journal) is.desk.stand is.desk.owed w.there;
+        valid = not_broken (holding_of catalog database) at asks can (standing_after catalog asks journal) is.desk.stand is.desk.owed w.there;
+        none_refused = none_refused (holding_of catalog database) at asks can (standing_after catalog asks journal) is.desk.stand is.desk.owed w.there;
       }
 
   pub honest : IsHonestSession catalog database at texts journal

@@ -9,13 +9,16 @@ use Rattle.ghost_model.specs.QueryMeaning.{Refusal}
 use Rattle.ghost_model.specs.QueryReading.{reading}
 use Rattle.ghost_model.specs.Meaning.{answer}
 use Rattle.ghost_model.specs.Channel.{Catalog, Ask, Frame, Hello, Asking, More, Bye, Welcome, Replied, Done, Sorry, Journal}
-use Rattle.ghost_model.specs.Catalog.{catalog_bytes}
+use Rattle.ghost_model.specs.Catalog.{canonical_text, catalog_bytes}
 use Rattle.ghost_model.specs.Frames.{AreBytes, frame_bytes}
-use Rattle.ghost_model.specs.Asks.{Asked, asked_of, ask_in, is_proper_ask}
+use Rattle.ghost_model.specs.Asks.{Asked, asked_of, is_proper_ask}
+use Rattle.ghost_model.specs.AskReading.{ask_in}
 use Rattle.ghost_model.specs.Moves.{taken}
-use Rattle.ghost_model.specs.NextMove.{Heard, Ended, IsFinished, IsDue, on_with, heard, hear_all, at_first}
+use Rattle.ghost_model.specs.NextMove.{Heard, Ended, IsFinished, on_with, heard, hear_all, at_first}
+use Rattle.ghost_model.specs.ChannelLaws.{IsDue}
 use Rattle.ghost_model.specs.Split.{public_of, hidden_of}
-use Rattle.ghost_model.specs.Host.{Exchange, asked_in, ended_in, exchange_frames, reply_frames, AreExchanges, IsHeardWhole, IsGreeted, welcomes_of, asks_in_frame}
+use Rattle.ghost_model.specs.Host.{welcomes_of, asks_in_frame}
+use Rattle.ghost_model.specs.HostLaws.{Exchange, asked_in, ended_in, exchange_frames, reply_frames, AreExchanges, IsHeardWhole, IsGreeted}
 use Rattle.ghost_model.specs.Honest.{AreWelcomes, AreReplies, asks_sent}
 use Rattle.ghost_model.specs.Lines.{Reason, IsRefused, WasBroken, WasAnswered, MetFault, AreLinesFor, is_refused_by, was_refused, ended_of, all_done, rows_from_replies}
 use Rattle.ghost_model.specs.Printed.{answer_lines, lines_of_reading, lines_of_text, lines_from, printed_lines}
@@ -24,6 +27,7 @@ use Rattle.ghost_model.proofs.ChannelLemmas.Greeting.{greetings_are_heard}
 use Rattle.ghost_model.proofs.ChannelLemmas.Replies.{replies_are_heard}
 use Rattle.ghost_model.proofs.ChannelLemmas.Sending.{heard_more, sent_is_due}
 use Rattle.ghost_model.proofs.ChannelLemmas.Tests.{false_is_not, BothHold, both_hold, hold_both}
+use Rattle.ghost_model.proofs.SessionLemmas.Settings.{serials_fit, counts_fit, bytes_are}
 use Rattle.ghost_model.proofs.SessionLemmas.Ended.{ended_now}
 use Rattle.ghost_model.proofs.SessionLemmas.Front.{payload_in, payload_of, still_to_come, accounted}
 use Rattle.ghost_model.proofs.SessionLemmas.Groups.{joined_parts}
@@ -31,7 +35,7 @@ use Rattle.ghost_model.proofs.SessionLemmas.Honest.{exchanged}
 use Rattle.ghost_model.proofs.SessionLemmas.Limits.{IsSmall, schema_is_small, proper_columns}
 use Rattle.ghost_model.proofs.SessionLemmas.Replies.{honest_replies_answer}
 use Rattle.ghost_model.proofs.SessionLemmas.SentFrames.{AreFrames, AreProper, sent_are_frames, asks_are_good}
-use Rattle.ghost_model.proofs.SessionLemmas.ThisHost.{ask_of_bytes, asks_in_frames}
+use Rattle.ghost_model.proofs.SessionLemmas.ThisHost.{asks_in_bytes, asks_in_frames}
 use Rattle.session_laws.specs.TextCases.{is_refused_in, IsDone, ByHost, ByLink, ByFrame}
 use Rattle.session_laws.specs.HonestSessions.{IsHonestSession, IsSmooth, is_own_fault, AreSoundLines, AreAllLines}
 use Rattle.session_laws.proofs.Stored.{no_query}
@@ -145,7 +149,7 @@ module _ (catalog : Catalog) (database : Database) (at : List ℕ) (texts : List
   asks = asked_of catalog.schema texts
 
   small : IsSmall catalog.schema
-  small = schema_is_small is.setting.schema_text catalog.schema is.setting.accepted
+  small = schema_is_small (canonical_text catalog.schema) catalog.schema is.setting.proper.meant
 
   due : IsDue catalog (asked_of catalog.schema texts) journal
   due = sent_is_due catalog at (asked_of catalog.schema texts) journal is.proper
@@ -155,14 +159,14 @@ module _ (catalog : Catalog) (database : Database) (at : List ℕ) (texts : List
 
   replied : AreReplies catalog.schema (public_of catalog.schema database) 1 (flat_map (asks_in_frame catalog.schema) due.frames) is.honest.replies
   replied =
-      let good : AreFrames due.frames = sent_are_frames catalog small (asked_of catalog.schema texts) proper is.setting.serials_fit journal is.setting.generation_fits due in
+      let good : AreFrames due.frames = sent_are_frames catalog small (asked_of catalog.schema texts) proper (serials_fit catalog texts is.setting) journal is.setting.proper.generation_fits due in
       let names : asks_sent catalog.schema journal ≡ flat_map (asks_in_frame catalog.schema) due.frames =
-      ap (filter_map (ask_of_bytes catalog.schema)) due.sent_are ∙ asks_in_frames catalog.schema due.frames good in
+      ap (flat_map (asks_in_bytes catalog.schema)) due.sent_are ∙ asks_in_frames catalog.schema due.frames good in
       subst (λ (xs : List Ask). AreReplies catalog.schema (public_of catalog.schema database) 1 xs is.honest.replies) names is.honest.replied
 
   none_refused : was_refused (heard catalog (asked_of catalog.schema texts) (taken journal)).ended ≡ false
   none_refused =
-      let ended = ended_now catalog database is.stored.is_database no_query is.stored.counts_are is.stored.counts_fit (λ ask e. proper_columns catalog.schema small ask e) (asked_of catalog.schema texts) proper is.setting.serials_fit is.stored.bytes_are
+      let ended = ended_now catalog database is.stored.is_database no_query is.stored.counts_are (counts_fit catalog database is.stored) (λ ask e. proper_columns catalog.schema small ask e) (asked_of catalog.schema texts) proper (serials_fit catalog texts is.setting) (bytes_are catalog is.stored.proper)
       is.honest.greeting is.honest.greets (taken journal) is.honest.rest is.honest.replies is.honest.taken_before
       due.frames (record { rest = due.rest; joined = due.due_are }) replied in
       refused_front (heard catalog (asked_of catalog.schema texts) (taken journal)).ended ended.ended.rest (ap was_refused (sym ended.ended.joined) ∙ no_refusal ended.exchanges)
@@ -183,13 +187,13 @@ module _ (catalog : Catalog) (database : Database) (at : List ℕ) (texts : List
       let names : flat_map (asks_in_frame catalog.schema) due.frames ≡ map ask_of m.one =
       asks_of_payloads catalog asks due.frames ∙ (ap (λ (ps : List (List ℕ)). flat_map (λ (payload : List ℕ). option_to_list (ask_in catalog.schema payload)) ps) m.front_is ∙ read_again catalog asks m.one good) in
       let sizes : length asks ≡ length m.one + length m.later = ap length m.whole ∙ length-append m.one m.later in
-      let fits : 1 + length m.one ≤ 2 ^ 32 = (let few = is.setting.serials_fit in omega (arith, sizes, few)) in
-      let ex = exchanged catalog database is.stored.is_database no_query is.stored.counts_are is.stored.counts_fit (λ ask e. proper_columns catalog.schema small ask e) 1 m.one is.honest.replies good fits
+      let fits : 1 + length m.one ≤ 2 ^ 32 = (let few = serials_fit catalog texts is.setting in omega (arith, sizes, few)) in
+      let ex = exchanged catalog database is.stored.is_database no_query is.stored.counts_are (counts_fit catalog database is.stored) (λ ask e. proper_columns catalog.schema small ask e) 1 m.one is.honest.replies good fits
       (subst (λ (xs : List Ask). AreReplies catalog.schema (public_of catalog.schema database) 1 xs is.honest.replies) names replied) in
       let whole : taken journal ++ is.honest.rest ≡ flat_map frame_bytes (is.honest.greeting ++ exchange_frames 1 ex.exchanges) =
       is.honest.taken_before ∙ ap (λ (fs : List Frame). flat_map frame_bytes (is.honest.greeting ++ fs)) ex.frames_are in
       let valid : (heard catalog asks (flat_map frame_bytes (is.honest.greeting ++ exchange_frames 1 ex.exchanges))).broken ≡ false =
-      stream_valid catalog asks is.honest.greeting ex.exchanges m.later is.stored.bytes_are is.honest.greets ex.are (ap (λ (xs : List Asked). xs ++ m.later) ex.asked_are ∙ sym m.whole) in
+      stream_valid catalog asks is.honest.greeting ex.exchanges m.later (bytes_are catalog is.stored.proper) is.honest.greets ex.are (ap (λ (xs : List Asked). xs ++ m.later) ex.asked_are ∙ sym m.whole) in
       record {
         valid = front_valid catalog asks (taken journal) is.honest.rest (heard catalog asks (taken journal)).broken refl (ap (λ (bytes : List ℕ). (heard catalog asks bytes).broken) whole ∙ valid);
         none_refused = none_refused;

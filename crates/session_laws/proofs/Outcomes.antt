@@ -7,7 +7,7 @@ use Rattle.ghost_model.specs.QueryReading.{reading}
 use Rattle.ghost_model.specs.Channel.{Catalog, Journal}
 use Rattle.ghost_model.specs.Asks.{asked_of}
 use Rattle.ghost_model.specs.Moves.{taken, answers}
-use Rattle.ghost_model.specs.NextMove.{Awaits, Nothing, Ended, Heard, heard, left, is_stop, GoesOn, IsFinished}
+use Rattle.ghost_model.specs.NextMove.{Awaits, Nothing, Ended, Heard, heard, standing_after, is_stop, GoesOn, IsFinished}
 use Rattle.ghost_model.specs.Lines.{was_refused, ended_of, all_done, broken_word}
 use Rattle.session_laws.specs.TextEnds.{is_settled, is_settled_in}
 use Rattle.session_laws.specs.TextCases.{IsDecided, Outcome, IsDone, ByHost, ByLink, ByFrame}
@@ -41,7 +41,7 @@ module _ (catalog : Catalog) (texts : List (List ℕ)) (journal : Journal) (plac
   abbrev Out : Type 0
   Out = Outcome catalog texts journal (suc place) query
 
-  unfinished : (stops invalid : Bool) → all_done catalog.schema query mine ≡ false → was_refused mine ≡ false → list_any is_stop (answers journal) ≡ stops → now.broken ≡ invalid → Closes (left catalog (asked_of catalog.schema texts) journal).stopped now.broken now.awaits → Out
+  unfinished : (stops invalid : Bool) → all_done catalog.schema query mine ≡ false → was_refused mine ≡ false → list_any is_stop (answers journal) ≡ stops → now.broken ≡ invalid → Closes (standing_after catalog (asked_of catalog.schema texts) journal).stopped now.broken now.awaits → Out
   unfinished true invalid d r s b why = ByLink d (sym is_decided.refused ∙ r) s (word_is mine false true r s)
   unfinished false true d r s b why = ByFrame d (sym is_decided.refused ∙ r) s b (word_is mine false false r s)
   unfinished false false d r s b (by_stop e) = absurd (not_done _ (sym (any_answer journal) ∙ s) e)
@@ -49,7 +49,7 @@ module _ (catalog : Catalog) (texts : List (List ℕ)) (journal : Journal) (plac
   unfinished false false d r s b (by_end e) =
       absurd (not_done (all_done catalog.schema query mine) d (is_decided.done ∙ both_so _ _ (sym is_decided.refused ∙ r) (none_awaited e)))
 
-  outcome_by : (done refused : Bool) → all_done catalog.schema query mine ≡ done → was_refused mine ≡ refused → Closes (left catalog (asked_of catalog.schema texts) journal).stopped now.broken now.awaits → Out
+  outcome_by : (done refused : Bool) → all_done catalog.schema query mine ≡ done → was_refused mine ≡ refused → Closes (standing_after catalog (asked_of catalog.schema texts) journal).stopped now.broken now.awaits → Out
   outcome_by true refused d r why = IsDone d
   outcome_by false true d r why = ByHost d (sym is_decided.refused ∙ r) (word_is mine true _ r refl)
   outcome_by false false d r why = unfinished (list_any is_stop (answers journal)) now.broken d r refl refl why

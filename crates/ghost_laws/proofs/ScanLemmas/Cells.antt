@@ -7,7 +7,8 @@ use Rattle.std.proofs.lemmas.Bool.{le-leb}
 use Rattle.ghost_model.specs.Schema.{Kind, Integer, Chars}
 use Rattle.ghost_model.specs.Values.{Value, Number, Text}
 use Rattle.ghost_model.specs.Tokens.{is_printable}
-use Rattle.ghost_model.specs.Cells.{cell_width, decode_cell, from_lowest, text_in, is_not_zero, is_text_cell}
+use Rattle.ghost_model.specs.Cells.{cell_width}
+use Rattle.ghost_model.specs.CellReading.{decode_cell, from_lowest, text_in, is_not_zero, is_text_cell}
 use Rattle.ghost_model.specs.Database.{fits_integer, is_of_kind}
 use Rattle.ghost_model.specs.Frames.{AreBytes}
 use Rattle.ghost_model.specs.NextMove.{are_cells}

@@ -9,11 +9,11 @@ use Rattle.ghost_model.specs.Schema.{Schema}
 use Rattle.ghost_model.specs.Query.{Query}
 use Rattle.ghost_model.specs.QueryMeaning.{Refusal}
 use Rattle.ghost_model.specs.QueryReading.{reading}
-use Rattle.ghost_model.specs.Channel.{Catalog, Ask, Frame, Hello, Asking, More, Bye, Welcome, Replied, Done, Sorry}
+use Rattle.ghost_model.specs.Channel.{Catalog, Ask, Frame, Hello, Asking, More, Bye, Welcome, Replied, Done, Sorry, row_count_in}
 use Rattle.ghost_model.specs.Frames.{AreBytes, frame_in, size_in, kind_in, version_in, serial_in, frame_version}
 use Rattle.ghost_model.specs.Asks.{Asked, asked, asks_of, asks_of_reading, asked_of, rows_in, row_width, kinds_of}
 use Rattle.ghost_model.specs.Moves.{taken}
-use Rattle.ghost_model.specs.NextMove.{Awaits, Missing, Reply, Nothing, Ending, Answered, Refused, Ended, ended, Heard, Verdict, Short, Whole, Invalid, reply_size_fits, header_fits, payload_fits, verdict, turn, on_with, still, of_later_texts, rows_after, ended_by, rows_of, heard_as, hear, hear_all, at_first, heard}
+use Rattle.ghost_model.specs.NextMove.{Awaits, Missing, Reply, Nothing, Ending, Answered, Refused, Ended, ended, Heard, Verdict, Short, Whole, Invalid, reply_size_fits, header_fits, payload_fits, verdict, turn, on_with, still, of_later_texts, rows_after, ended_by, heard_as, hear, hear_all, at_first, heard}
 use Rattle.ghost_model.specs.Split.{are_of_kinds}
 use Rattle.ghost_model.specs.Replies as replies
 use Rattle.ghost_model.specs.Replies.{replied_row, reply_of, reply_for}
@@ -163,7 +163,7 @@ module _ (catalog : Catalog) (asks : List Asked) (number : ℕ) where
       let whole : length payload % row_width schema one.ask ≡ 0 = ap (λ n. n % row_width schema one.ask) long ∙ divides in
       let bytes : AreBytes payload = subst (λ xs. AreBytes xs) found.1 (bytes_taken (size_in part) (drop 8 part) (bytes_dropped 8 part h)) in
       none_ended (Reply one serial later count last) (Reply one serial later _ _) rows (rows ++ payload) ends refl
-      (rows_more schema one.ask rows payload o.rows_so bytes whole (rows_of catalog one.ask.table) last fits) o
+      (rows_more schema one.ask rows payload o.rows_so bytes whole (row_count_in catalog one.ask.table) last fits) o
   by_frame part h enough (Reply one serial later count last) rows ends (Done number_of total) is header fits o = record {
     rows_so = rows_none (on_with schema (serial + 1) later).awaits;
     ended_so = each_joined EndedSo ends (ended one (Answered rows) ∷ []) o.ended_so (all_rows schema one.ask rows o.rows_so, tt);

@@ -9,8 +9,10 @@ use Rattle.ghost_model.specs.Channel.{Catalog, Frame, Welcome}
 use Rattle.ghost_model.specs.Catalog.{catalog_bytes}
 use Rattle.ghost_model.specs.Asks.{Asked}
 use Rattle.ghost_model.specs.Frames.{IsFrame, AreBytes, frame_bytes, size_in}
-use Rattle.ghost_model.specs.NextMove.{Missing, Turn, still, on_with, Heard, hear_all, heard, at_first, IsAwaited}
-use Rattle.ghost_model.specs.Host.{welcomes_of, most_part, IsGreeted}
+use Rattle.ghost_model.specs.NextMove.{Missing, Turn, still, on_with, Heard, hear_all, heard, at_first}
+use Rattle.ghost_model.specs.ChannelLaws.{IsAwaited}
+use Rattle.ghost_model.specs.Host.{welcomes_of, most_part}
+use Rattle.ghost_model.specs.HostLaws.{IsGreeted}
 use Rattle.ghost_model.proofs.ChannelLemmas.{bytes_drop}
 use Rattle.ghost_model.proofs.ChannelLemmas.Hearing.{awaited_is_heard}
 use Rattle.ghost_model.proofs.ChannelLemmas.Replies.{size_read}

@@ -6,7 +6,8 @@ use Rattle.std.proofs.lemmas.Bool.{lt-ltb, le-ltb}
 use Rattle.ghost_model.specs.Channel.{Catalog, Frame}
 use Rattle.ghost_model.specs.Asks.{Asked}
 use Rattle.ghost_model.specs.Frames.{frame_bytes, frame_in, size_in, payload_of}
-use Rattle.ghost_model.specs.NextMove.{Awaits, Missing, Reply, Nothing, Verdict, Short, Whole, Invalid, verdict, header_fits, payload_fits, Heard, Ended, heard_frame, heard_as, hear_all, IsAwaited}
+use Rattle.ghost_model.specs.NextMove.{Awaits, Missing, Reply, Nothing, Verdict, Short, Whole, Invalid, verdict, header_fits, payload_fits, Heard, Ended, heard_frame, heard_as, hear_all}
+use Rattle.ghost_model.specs.ChannelLaws.{IsAwaited}
 use Rattle.ghost_model.proofs.ChannelLemmas.{size_is_read, frame_is_read}
 
 -- the tests of a verdict, over plain values

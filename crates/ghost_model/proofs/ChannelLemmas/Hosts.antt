@@ -11,8 +11,10 @@ use Rattle.std.proofs.lemmas.List.{nil_from_length, length-drop, take-append-dro
 use Rattle.std.proofs.Math.Seq.{drop-append_seam}
 use Rattle.ghost_model.proofs.ChannelLemmas.{spelled_is_found}
 use Rattle.ghost_model.specs.Channel.{Catalog, Ask, Frame, Hello, Asking, More, Bye}
-use Rattle.ghost_model.specs.Asks.{ReplyRow, row_bytes, ask_in}
-use Rattle.ghost_model.specs.Host.{Holding, Stand, Greeting, Listening, Replying, Over, Response, welcomes, reply_to, replies_to, answers_ask, goes_on, after_reply, said_to, said_with, asks_in_frame, frames_within, frame_and, IsFront, groups_from, grouped, welcomes_of, welcome_part, rows_frame, honest_stream, host_says, frames_of}
+use Rattle.ghost_model.specs.Asks.{ReplyRow, row_bytes}
+use Rattle.ghost_model.specs.AskReading.{ask_in}
+use Rattle.ghost_model.specs.Host.{Holding, Stand, Greeting, Listening, Replying, Over, Response, welcomes, reply_to, answers_ask, goes_on, after_reply, said_to, said_with, asks_in_frame, frames_within, frame_and, groups_from, grouped, welcomes_of, rows_frame, host_says, frames_of, said_with_refusals}
+use Rattle.ghost_model.specs.HostLaws.{replies_to, IsFront, welcome_part, honest_stream}
 
 module _ (held : Holding) where
   -- what an honest host would say from here on
@@ -53,12 +55,12 @@ module _ (held : Holding) where
   if_front false o later whole h = nothing whole
 
   silent_after : (frames : List Frame) → said_to held frames Over ≡ []
-  unfolding said_to
+  unfolding said_with_refusals
   silent_after [] = refl
   silent_after (_ ∷ later) = refl
 
   is_front : (frames : List Frame) (stand : Stand) → IsFront (said_to held frames stand) (owed frames stand)
-  unfolding said_to
+  unfolding said_with_refusals
   is_front [] stand = nothing (owed [] stand)
   is_front (Hello generation ∷ later) Greeting = more_said (welcomes held.catalog) _ _ (is_front later (Listening 1))
   is_front (_ ∷ later) Greeting = nothing _

@@ -22,6 +22,7 @@ use Rattle.ghost_model.specs.QueryGrammar.{ConditionText, Compares, LiesBetween,
 use Rattle.ghost_model.specs.Grammar.{separated}
 use Rattle.ghost_model.specs.QueryMeaning as meaning
 use Rattle.ghost_model.specs.Asks as asks
+use Rattle.ghost_model.specs.ChannelLaws as laws
 use Rattle.ghost_model.specs.QueryReading.{reading}
 use Rattle.ghost_model.proofs.TokenLemmas.{before_end}
 use Rattle.ghost_model.proofs.QueryReadingLemmas.{means_of}
@@ -107,11 +108,11 @@ module _ (schema : Schema) where
       all_flat (λ test. is_visible schema table test.column) (asks.test_of schema table) conditions
       (all_each (λ condition. list_all (λ test. is_visible schema table test.column) (asks.test_of schema table condition)) conditions (visible_test table))
 
-  pub asks_are_visible : (query : Query) → list_all (asks.names_visible schema) (asks.asks_of schema query) ≡ true
+  pub asks_are_visible : (query : Query) → list_all (laws.names_visible schema) (asks.asks_of schema query) ≡ true
   asks_are_visible query =
-      all_kept (asks.names_visible schema) asks.is_needed (map (asks.ask_for schema query) (filter (asks.is_from query) (asks.places schema)))
-      (list_all-map (asks.names_visible schema) (asks.ask_for schema query) (filter (asks.is_from query) (asks.places schema))
-      ∙ all_each (λ table. asks.names_visible schema (asks.ask_for schema query table)) (filter (asks.is_from query) (asks.places schema))
+      all_kept (laws.names_visible schema) asks.is_needed (map (asks.ask_for schema query) (filter (asks.is_from query) (asks.places schema)))
+      (list_all-map (laws.names_visible schema) (asks.ask_for schema query) (filter (asks.is_from query) (asks.places schema))
+      ∙ all_each (λ table. laws.names_visible schema (asks.ask_for schema query table)) (filter (asks.is_from query) (asks.places schema))
       (λ table. hold_both _ _ (visible_columns query.select table) (visible_tests table query.conditions)))
 
 -- places are below the length, and ascend

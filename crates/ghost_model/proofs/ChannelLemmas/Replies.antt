@@ -7,11 +7,13 @@ use Rattle.std.proofs.Math.Nat.{suc-mul, mul-mod_left, mod-lt}
 use Rattle.std.proofs.lemmas.Bool.Decides.{nat_tests}
 use Rattle.std.proofs.lemmas.Bool.{eq-eqb, lt-ltb, le-leb}
 use Rattle.std.proofs.lemmas.Nat.{from_be_bytes-to_be_bytes_4}
-use Rattle.ghost_model.specs.Channel.{Catalog, Frame, Done, More}
-use Rattle.ghost_model.specs.Asks.{Asked, ReplyRow, row_bytes, row_width, kinds_of, IsReplyRow}
+use Rattle.ghost_model.specs.Channel.{Catalog, Frame, Done, More, row_count_in}
+use Rattle.ghost_model.specs.Asks.{Asked, ReplyRow, row_bytes, row_width, kinds_of}
+use Rattle.ghost_model.specs.ChannelLaws.{IsReplyRow, IsAwaited}
 use Rattle.ghost_model.specs.Frames.{IsFrame, AreBytes, frame_bytes, size_in, payload_of, most_payload}
-use Rattle.ghost_model.specs.NextMove.{Awaits, Reply, Heard, Ended, Answered, hear_all, on_with, last_identifier, rows_fit, rows_of, IsAwaited}
-use Rattle.ghost_model.specs.Host.{rows_of_groups, rows_frame, reply_frames, IsGroup, AreGroups, IsHeardWhole}
+use Rattle.ghost_model.specs.NextMove.{Awaits, Reply, Heard, Ended, Answered, hear_all, on_with, last_identifier, rows_fit}
+use Rattle.ghost_model.specs.Host.{rows_frame}
+use Rattle.ghost_model.specs.HostLaws.{rows_of_groups, reply_frames, IsGroup, AreGroups, IsHeardWhole}
 use Rattle.ghost_model.proofs.ChannelLemmas.{size_is_read}
 use Rattle.ghost_model.proofs.ChannelLemmas.Hearing.{awaited_is_heard}
 use Rattle.ghost_model.proofs.ChannelLemmas.Sending.{heard_more}
@@ -99,7 +101,7 @@ module _ (catalog : Catalog) (asks : List Asked) (asked : Asked) (serial : ℕ) 
             (rows_size_fits (size_in (frame_bytes (rows_frame serial group))) (omega (arith, size, more))
             (ap (λ (n : ℕ). n % width) size ∙ mul-mod_left (length group) width) (omega (arith, size, g.fits)));
         payload =
-            ap (λ (rows : List ReplyRow). rows_fit (rows_of catalog asked.ask.table) last (kinds_of catalog.schema asked.ask) rows) (spelled_rows_are_read catalog.schema asked.ask group g.widths)
+            ap (λ (rows : List ReplyRow). rows_fit (row_count_in catalog asked.ask.table) last (kinds_of catalog.schema asked.ask) rows) (spelled_rows_are_read catalog.schema asked.ask group g.widths)
             ∙ g.ascends;
       }
 

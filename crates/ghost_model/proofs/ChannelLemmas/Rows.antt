@@ -8,7 +8,8 @@ use Rattle.std.proofs.lemmas.Nat.{from_be_bytes-to_be_bytes_4, be_bytes_4, div-m
 use Rattle.ghost_model.specs.Schema.{Schema}
 use Rattle.ghost_model.specs.Channel.{Ask}
 use Rattle.ghost_model.specs.Frames.{AreBytes}
-use Rattle.ghost_model.specs.Asks.{ReplyRow, row_bytes, row_in, rows_from, rows_in, row_width, IsReplyRow}
+use Rattle.ghost_model.specs.Asks.{ReplyRow, row_bytes, row_in, rows_from, rows_in, row_width}
+use Rattle.ghost_model.specs.ChannelLaws.{IsReplyRow}
 use Rattle.ghost_model.proofs.ChannelLemmas.{bytes_take, bytes_drop}
 use Rattle.ghost_model.proofs.ChannelLemmas.Tests.{take_front, drop_front}
 

@@ -8,7 +8,8 @@ use Rattle.ghost_model.specs.Catalog.{catalog_bytes}
 use Rattle.ghost_model.specs.Asks.{Asked}
 use Rattle.ghost_model.specs.Frames.{AreBytes, frame_bytes}
 use Rattle.ghost_model.specs.NextMove.{Nothing, Heard, Ended, hear_all, heard, at_first, on_with}
-use Rattle.ghost_model.specs.Host.{most_part, welcomes_of, reply_frames, Exchange, asked_in, ended_in, exchange_frames, AreExchanges, IsHeardWhole, IsGreeted, IsHeardToTheEnd}
+use Rattle.ghost_model.specs.Host.{most_part, welcomes_of}
+use Rattle.ghost_model.specs.HostLaws.{reply_frames, Exchange, asked_in, ended_in, exchange_frames, AreExchanges, IsHeardWhole, IsGreeted, IsHeardToTheEnd}
 use Rattle.ghost_model.proofs.ChannelLemmas.Sending.{heard_more}
 use Rattle.ghost_model.proofs.ChannelLemmas.Replies.{replies_are_heard}
 use Rattle.ghost_model.proofs.ChannelLemmas.Greeting.{greetings_are_heard}

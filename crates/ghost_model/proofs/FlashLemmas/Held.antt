@@ -3,7 +3,7 @@ use Rattle.std.proofs.Common.{◌≡◌, ap, ◌∙◌, ℕ, suc, ◌<◌, true,
 use Rattle.std.proofs.lemmas.Option.{slice_get-get_or}
 use Rattle.ghost_model.specs.Channel.{Catalog}
 use Rattle.ghost_model.specs.SchemaTrees.{IsTree}
-use Rattle.ghost_model.specs.Cells.{decode_cell}
+use Rattle.ghost_model.specs.CellReading.{decode_cell}
 use Rattle.ghost_model.specs.Asks.{kind_at}
 use Rattle.ghost_model.specs.Split.{Hidden}
 use Rattle.ghost_model.specs.Replies.{hidden_value}

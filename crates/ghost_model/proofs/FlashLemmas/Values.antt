@@ -11,7 +11,8 @@ use Rattle.ghost_model.specs.Values.{Value, Row, Rows, Database}
 use Rattle.ghost_model.specs.Channel.{Catalog}
 use Rattle.ghost_model.specs.SchemaTrees.{IsTree, identifier}
 use Rattle.ghost_model.specs.Database.{IsDatabase, is_of_kind, rows_or_none, rows_of}
-use Rattle.ghost_model.specs.Cells.{cell_width, decode_cell}
+use Rattle.ghost_model.specs.Cells.{cell_width}
+use Rattle.ghost_model.specs.CellReading.{decode_cell}
 use Rattle.ghost_model.specs.Asks.{kind_or_none, kind_at}
 use Rattle.ghost_model.specs.Split.{Hidden, value_at, kind_of, are_of_kinds, hidden_values, hidden_flags, hidden_of}
 use Rattle.ghost_model.specs.Replies.{hidden_places}

@@ -10,7 +10,7 @@ use Rattle.ghost_model.specs.Asks.{Asked, asked, asked_from, asks_of_reading, Re
 use Rattle.ghost_model.specs.QueryReading.{reading}
 use Rattle.ghost_model.specs.NextMove.{Ended}
 use Rattle.ghost_model.specs.Split.{Public, Replied, visible_rows, reply_rows}
-use Rattle.ghost_model.specs.Host.{Exchange, asked_in, ended_in, rows_of_groups}
+use Rattle.ghost_model.specs.HostLaws.{Exchange, asked_in, ended_in, rows_of_groups}
 use Rattle.ghost_model.specs.Replies.{Reply, replied_row, reply_for}
 use Rattle.ghost_model.specs.SessionLaws.{whole_reply}
 use Rattle.ghost_model.proofs.ChannelLemmas.Rows.{spelled_rows_are_read}

@@ -13,10 +13,12 @@ use Rattle.ghost_model.specs.Channel.{Catalog, Ask, Frame, Hello, Asking, More, 
 use Rattle.ghost_model.specs.Catalog.{catalog_bytes}
 use Rattle.ghost_model.specs.Database.{rows_of, row_counts, IsDatabase}
 use Rattle.ghost_model.specs.Frames.{AreBytes, frame_bytes}
-use Rattle.ghost_model.specs.Asks.{Asked, ask_in, is_proper_ask}
+use Rattle.ghost_model.specs.Asks.{Asked, is_proper_ask}
+use Rattle.ghost_model.specs.AskReading.{ask_in}
 use Rattle.ghost_model.specs.NextMove.{Awaits, Heard, Ended, on_with, heard}
 use Rattle.ghost_model.specs.Split.{Public, public_of}
-use Rattle.ghost_model.specs.Host.{Exchange, asked_in, ended_in, exchange_frames, asks_in_frame}
+use Rattle.ghost_model.specs.Host.{asks_in_frame}
+use Rattle.ghost_model.specs.HostLaws.{Exchange, asked_in, ended_in, exchange_frames}
 use Rattle.ghost_model.specs.Honest.{AreWelcomes, AreReplies}
 use Rattle.ghost_model.specs.Lines.{is_refused_by, was_refused}
 use Rattle.ghost_model.proofs.ChannelLemmas.Tests.{false_is_not, BothHold, both_hold}

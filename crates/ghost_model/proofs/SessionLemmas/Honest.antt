@@ -6,7 +6,7 @@ use Rattle.std.proofs.lemmas.Grind.{flat_map-append}
 use Rattle.ghost_model.specs.Schema.{is_visible}
 use Rattle.ghost_model.specs.Values.{Database}
 use Rattle.ghost_model.specs.Query.{Query}
-use Rattle.ghost_model.specs.Channel.{Catalog, Ask, Frame, Done}
+use Rattle.ghost_model.specs.Channel.{Catalog, row_count_in, Ask, Frame, Done}
 use Rattle.ghost_model.specs.Catalog.{catalog_bytes}
 use Rattle.ghost_model.specs.Database.{rows_of, row_counts, IsDatabase}
 use Rattle.ghost_model.specs.Frames.{AreBytes, frame_bytes}
@@ -14,7 +14,8 @@ use Rattle.ghost_model.specs.Asks.{Asked, ReplyRow, is_proper_ask, kinds_of}
 use Rattle.ghost_model.specs.NextMove as next
 use Rattle.ghost_model.specs.NextMove.{Heard, Ended, on_with, heard, hear_all, at_first, rows_fit}
 use Rattle.ghost_model.specs.Split.{Public, public_of, reply_rows, visible_rows}
-use Rattle.ghost_model.specs.Host.{welcomes_of, rows_frame, reply_frames, rows_of_groups, Exchange, asked_in, ended_in, exchange_frames, AreExchanges, IsHeardWhole, IsGreeted}
+use Rattle.ghost_model.specs.Host.{welcomes_of, rows_frame}
+use Rattle.ghost_model.specs.HostLaws.{reply_frames, rows_of_groups, Exchange, asked_in, ended_in, exchange_frames, AreExchanges, IsHeardWhole, IsGreeted}
 use Rattle.ghost_model.specs.Honest.{AreWelcomes, IsReply, AreReplies}
 use Rattle.ghost_model.proofs.ChannelLemmas.Tests.{BothHold, both_hold}
 use Rattle.ghost_model.proofs.ChannelLemmas.Sending.{heard_more}
@@ -101,9 +102,9 @@ module _ (catalog : Catalog) (database : Database) (is : IsDatabase catalog.sche
       let reply : IsReply catalog.schema serial one.ask (reply_rows catalog.schema public one.ask) replies.0 = replies.2 in
       let later : AreExchanged (serial + 1) asks replies.1 = exchanged (serial + 1) asks replies.1 both.other (omega (arith, fits)) replies.3 in
       let rows : AreRepliable catalog.schema database is asked one.ask (visible_in one.ask both.one) (few one.ask.table) = repliable catalog.schema database is asked one.ask (visible_in one.ask both.one) (few one.ask.table) in
-      let count : next.rows_of catalog one.ask.table ≡ length (rows_of database one.ask.table) = count_is catalog database one.ask.table counts in
+      let count : row_count_in catalog one.ask.table ≡ length (rows_of database one.ask.table) = count_is catalog database one.ask.table counts in
       let this : Exchange = record { asked = one; groups = reply.packing } in
-      let ascend : rows_fit (next.rows_of catalog one.ask.table) 0 (kinds_of catalog.schema one.ask) (rows_of_groups reply.packing) ≡ true =
+      let ascend : rows_fit (row_count_in catalog one.ask.table) 0 (kinds_of catalog.schema one.ask) (rows_of_groups reply.packing) ≡ true =
       ap (λ (n : ℕ). rows_fit n 0 (kinds_of catalog.schema one.ask) (rows_of_groups reply.packing)) count
       ∙ (ap (λ (rs : List ReplyRow). rows_fit (length (rows_of database one.ask.table)) 0 (kinds_of catalog.schema one.ask) rs) reply.whole ∙ rows.ascend) in
       let sendable : Each (IsSendable catalog.schema one.ask) (rows_of_groups reply.packing) =

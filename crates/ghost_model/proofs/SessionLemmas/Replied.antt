@@ -1,6 +1,6 @@
 -- That the rows that meet an ask may be sent in any packing, and are read back.
 use Rattle.std.proofs.Common.{◌≡◌, ℕ, zero, suc, ◌+◌, ◌*◌, ◌<◌, ◌≤◌, ◌^◌, true, false, ◌&&◌, List, [], ◌∷◌, ◌++◌, length, map, drop, sym, ◌∙◌, ap, subst, refl, arith, lit<, length-append, Option, Some, None, slice_get}
-use Rattle.std.specs.Prelude.{nat_lt, nat_le, flat_map, filter_map, if◌then◌else◌, sum, All, option_to_list, option_and_then, is_some}
+use Rattle.std.specs.Prelude.{nat_lt, nat_le, flat_map, filter_map, if◌then◌else◌, sum, slice_index, All, option_to_list, option_and_then, is_some}
 use Rattle.std.specs.List.{list_all, cons_option}
 use Rattle.std.specs.Int.{to_be_bytes, w32}
 use Rattle.std.proofs.lemmas.Option.{slice_get-map}
@@ -12,15 +12,17 @@ use Rattle.std.proofs.Math.Nat.{mul_comm}
 use Rattle.ghost_model.specs.Schema.{Schema, Kind, Column, columns_of, column_at, is_shown, is_visible}
 use Rattle.ghost_model.specs.Values.{Value, Row, Rows, Database}
 use Rattle.ghost_model.specs.Query.{Query}
-use Rattle.ghost_model.specs.Channel.{Catalog, Ask}
+use Rattle.ghost_model.specs.Channel.{Catalog, row_count_in, Ask}
 use Rattle.ghost_model.specs.Database.{is_of_kind, rows_or_none, rows_of, row_counts, IsDatabase}
-use Rattle.ghost_model.specs.Cells.{cell_width, encode_cell, decode_cell}
+use Rattle.ghost_model.specs.Cells.{cell_width, encode_cell}
+use Rattle.ghost_model.specs.CellReading.{decode_cell}
 use Rattle.ghost_model.specs.Frames.{AreBytes, most_payload}
-use Rattle.ghost_model.specs.Asks.{ReplyRow, row_bytes, kind_or_none, kind_at, kinds_of, row_width, IsReplyRow}
+use Rattle.ghost_model.specs.Asks.{ReplyRow, row_bytes, kind_or_none, kind_at, kinds_of, row_width}
+use Rattle.ghost_model.specs.ChannelLaws.{IsReplyRow}
 use Rattle.ghost_model.specs.NextMove.{are_cells, rows_fit, last_identifier}
 use Rattle.ghost_model.specs.Split.{cells, are_of_kinds, value_at, visible_places, visible_values, Replied, replied, meets_tests, replies_from, visible_rows, reply_row, reply_rows, public_of}
 use Rattle.ghost_model.specs.Honest.{fits_frame}
-use Rattle.ghost_model.specs.Host.{AreGroups}
+use Rattle.ghost_model.specs.HostLaws.{AreGroups}
 use Rattle.ghost_model.specs.NextMove as next
 use Rattle.ghost_model.specs.Replies.{values_in}
 use Rattle.ghost_model.proofs.ChannelLemmas.Tests.{false_is_not, BothHold, both_hold, hold_both, take_front, drop_front}
@@ -124,7 +126,7 @@ all_bytes schema ask (row ∷ rows) e = append_bytes (row_bytes row) (flat_map r
 
 pub are_groups :
     (catalog : Catalog) (ask : Ask) (last : ℕ) (packing : List (List ReplyRow)) → list_all (fits_frame (row_width catalog.schema ask)) packing ≡ true
-    → rows_fit (next.rows_of catalog ask.table) last (kinds_of catalog.schema ask) (flat_map (λ group. group) packing) ≡ true
+    → rows_fit (row_count_in catalog ask.table) last (kinds_of catalog.schema ask) (flat_map (λ group. group) packing) ≡ true
     → Each (IsSendable catalog.schema ask) (flat_map (λ group. group) packing) → AreGroups catalog ask last packing
 are_groups catalog ask last [] fits ascend each = tt
 are_groups catalog ask last (group ∷ packing) fits ascend each =
@@ -132,20 +134,19 @@ are_groups catalog ask last (group ∷ packing) fits ascend each =
     let frame : BothHold (nat_lt 0 (length group)) (nat_le (row_width catalog.schema ask * length group) most_payload) = both_hold _ _ both.one in
     let size : row_width catalog.schema ask * length group ≤ 2040 = leb-true (row_width catalog.schema ask * length group) 2040 frame.other in
     let turned : row_width catalog.schema ask * length group ≡ length group * row_width catalog.schema ask = mul_comm (row_width catalog.schema ask) (length group) in
-    let split = split_fits (next.rows_of catalog ask.table) last (kinds_of catalog.schema ask) group (flat_map (λ g. g) packing) ascend in
+    let split = split_fits (row_count_in catalog ask.table) last (kinds_of catalog.schema ask) group (flat_map (λ g. g) packing) ascend in
     let parts = split_each catalog.schema ask group (flat_map (λ g. g) packing) each in (
       record { some = ltb-true 0 (length group) frame.one; fits = subst (λ (n : ℕ). n ≤ 2040) turned size; ascends = split.front; widths = all_rows catalog.schema ask group parts.front; bytes = all_bytes catalog.schema ask group parts.front },
       are_groups catalog ask (last_identifier last group) packing both.other split.back parts.back,
     )
 
-count_in : (found : Option Rows) → next.count_or_zero (option_map (λ (rows : Rows). length rows) found) ≡ length (rows_or_none found)
-count_in None = refl
-count_in (Some rows) = refl
+count_in : (database : Database) (table : ℕ) → slice_index (row_counts database) table ≡ length (rows_of database table)
+count_in [] table = refl
+count_in (rows ∷ database) zero = refl
+count_in (rows ∷ database) (suc table) = count_in database table
 
-pub count_is : (catalog : Catalog) (database : Database) (table : ℕ) → row_counts database ≡ catalog.counts → next.rows_of catalog table ≡ length (rows_of database table)
-count_is catalog database table e =
-    ap (λ (counts : List ℕ). next.count_or_zero (slice_get counts table)) (sym e)
-    ∙ (ap next.count_or_zero (slice_get-map (λ (rows : Rows). length rows) database table) ∙ count_in (slice_get database table))
+pub count_is : (catalog : Catalog) (database : Database) (table : ℕ) → row_counts database ≡ catalog.counts → row_count_in catalog table ≡ length (rows_of database table)
+count_is catalog database table e = ap (λ (counts : List ℕ). slice_index counts table) (sym e) ∙ count_in database table
 
 module _ (schema : Schema) (database : Database) (is : IsDatabase schema database) (asked : Query) (ask : Ask)
     (visible : list_all (is_visible schema ask.table) ask.columns ≡ true) (few : length (rows_of database ask.table) < 2 ^ 32) where

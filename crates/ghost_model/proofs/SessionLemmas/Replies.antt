@@ -10,11 +10,14 @@ use Rattle.ghost_model.specs.Query.{Query}
 use Rattle.ghost_model.specs.QueryMeaning.{Refusal}
 use Rattle.ghost_model.specs.QueryReading.{reading}
 use Rattle.ghost_model.specs.Channel.{Catalog, Ask, Journal}
+use Rattle.ghost_model.specs.Catalog.{canonical_text}
 use Rattle.ghost_model.specs.Asks.{Asked, asked, asks_of, asks_of_reading, asked_of}
 use Rattle.ghost_model.specs.Moves.{taken}
-use Rattle.ghost_model.specs.NextMove.{IsProper, IsDue, Ended, heard}
+use Rattle.ghost_model.specs.NextMove.{IsProper, Ended, heard}
+use Rattle.ghost_model.specs.ChannelLaws.{IsDue}
 use Rattle.ghost_model.specs.Split.{Public, public_of, hidden_of}
-use Rattle.ghost_model.specs.Host.{Exchange, asked_in, ended_in, asks_in_frame}
+use Rattle.ghost_model.specs.Host.{asks_in_frame}
+use Rattle.ghost_model.specs.HostLaws.{Exchange, asked_in, ended_in}
 use Rattle.ghost_model.specs.Honest.{AreReplies, asks_sent, IsHonest}
 use Rattle.ghost_model.specs.Meaning.{answer}
 use Rattle.ghost_model.specs.Replies.{replies, reply_for, answer_from}
@@ -22,12 +25,12 @@ use Rattle.ghost_model.specs.Lines.{ended_of, was_refused, all_done}
 use Rattle.ghost_model.specs.SessionLaws.{IsSetting, IsCatalogOf, whole_reply, whole_replies}
 use Rattle.ghost_model.proofs.ChannelLemmas.Tests.{false_is_not}
 use Rattle.ghost_model.proofs.ChannelLemmas.Sending.{sent_is_due}
-use Rattle.ghost_model.proofs.SchemaTreeLemmas.{schemas_are_trees}
+use Rattle.ghost_model.proofs.SessionLemmas.Settings.{tree_of, serials_fit, counts_fit, bytes_are}
 use Rattle.ghost_model.proofs.QueryReadingLemmas.{means_of}
 use Rattle.ghost_model.proofs.SessionLemmas.Accepted.{Each}
 use Rattle.ghost_model.proofs.SessionLemmas.Limits.{IsSmall, schema_is_small, proper_columns}
 use Rattle.ghost_model.proofs.SessionLemmas.SentFrames.{AreFrames, AreProper, sent_are_frames, asks_are_good}
-use Rattle.ghost_model.proofs.SessionLemmas.ThisHost.{ask_of_bytes, asks_in_frames}
+use Rattle.ghost_model.proofs.SessionLemmas.ThisHost.{asks_in_bytes, asks_in_frames}
 use Rattle.ghost_model.proofs.SessionLemmas.Front.{Begins}
 use Rattle.ghost_model.proofs.SessionLemmas.Replied.{AreRepliable, repliable}
 use Rattle.ghost_model.proofs.SessionLemmas.Honest.{IsWhole}
@@ -82,25 +85,25 @@ honest_replies_answer catalog database at texts journal place written query sett
     let schema : Schema = catalog.schema in
     let public : Public = public_of catalog.schema database in
     let asks : List Asked = asked_of catalog.schema texts in
-    let small : IsSmall catalog.schema = schema_is_small setting.schema_text catalog.schema setting.accepted in
-    let tree : IsTree catalog.schema = schemas_are_trees setting.schema_text catalog.schema setting.accepted in
+    let small : IsSmall catalog.schema = schema_is_small (canonical_text catalog.schema) catalog.schema setting.proper.meant in
+    let tree : IsTree catalog.schema = tree_of catalog setting.proper in
     let proper : AreProper catalog.schema (asked_of catalog.schema texts) = asks_are_good catalog.schema texts in
     let due : IsDue catalog (asked_of catalog.schema texts) journal = sent_is_due catalog at (asked_of catalog.schema texts) journal goes in
-    let good : AreFrames due.frames = sent_are_frames catalog small (asked_of catalog.schema texts) proper setting.serials_fit journal setting.generation_fits due in
+    let good : AreFrames due.frames = sent_are_frames catalog small (asked_of catalog.schema texts) proper (serials_fit catalog texts setting) journal setting.proper.generation_fits due in
     let names : asks_sent catalog.schema journal ≡ flat_map (asks_in_frame catalog.schema) due.frames =
-    ap (filter_map (ask_of_bytes catalog.schema)) due.sent_are ∙ asks_in_frames catalog.schema due.frames good in
-    let ended : AreEnded catalog database stored.is_database query stored.counts_are stored.counts_fit (λ ask e. proper_columns catalog.schema small ask e) (asked_of catalog.schema texts) proper setting.serials_fit stored.bytes_are honest.greeting honest.greets (taken journal) honest.rest honest.replies honest.taken_before =
-    ended_now catalog database stored.is_database query stored.counts_are stored.counts_fit (λ ask e. proper_columns catalog.schema small ask e) (asked_of catalog.schema texts) proper setting.serials_fit stored.bytes_are honest.greeting honest.greets (taken journal) honest.rest honest.replies honest.taken_before
+    ap (flat_map (asks_in_bytes catalog.schema)) due.sent_are ∙ asks_in_frames catalog.schema due.frames good in
+    let ended : AreEnded catalog database stored.is_database query stored.counts_are (counts_fit catalog database stored) (λ ask e. proper_columns catalog.schema small ask e) (asked_of catalog.schema texts) proper (serials_fit catalog texts setting) (bytes_are catalog stored.proper) honest.greeting honest.greets (taken journal) honest.rest honest.replies honest.taken_before =
+    ended_now catalog database stored.is_database query stored.counts_are (counts_fit catalog database stored) (λ ask e. proper_columns catalog.schema small ask e) (asked_of catalog.schema texts) proper (serials_fit catalog texts setting) (bytes_are catalog stored.proper) honest.greeting honest.greets (taken journal) honest.rest honest.replies honest.taken_before
     due.frames (record { rest = due.rest; joined = due.due_are })
     (subst (λ (xs : List Ask). AreReplies catalog.schema (public_of catalog.schema database) 1 xs honest.replies) names honest.replied) in
     let m : IsEndedFront (heard catalog (asked_of catalog.schema texts) (taken journal)).ended ended.exchanges = ended_front _ ended.exchanges ended.ended in
     let given : Each (IsGiven catalog.schema (public_of catalog.schema database) (suc place)) m.one =
-    each_weaker (IsWhole catalog database stored.is_database query stored.counts_are stored.counts_fit (λ ask e. proper_columns catalog.schema small ask e)) (IsGiven catalog.schema (public_of catalog.schema database) (suc place)) m.one
+    each_weaker (IsWhole catalog database stored.is_database query stored.counts_are (counts_fit catalog database stored) (λ ask e. proper_columns catalog.schema small ask e)) (IsGiven catalog.schema (public_of catalog.schema database) (suc place)) m.one
     (λ exchange w.
-    let rows : AreRepliable catalog.schema database stored.is_database query exchange.asked.ask (proper_columns catalog.schema small exchange.asked.ask w.0) (stored.counts_fit exchange.asked.ask.table) =
-    repliable catalog.schema database stored.is_database query exchange.asked.ask (proper_columns catalog.schema small exchange.asked.ask w.0) (stored.counts_fit exchange.asked.ask.table) in
+    let rows : AreRepliable catalog.schema database stored.is_database query exchange.asked.ask (proper_columns catalog.schema small exchange.asked.ask w.0) ((counts_fit catalog database stored) exchange.asked.ask.table) =
+    repliable catalog.schema database stored.is_database query exchange.asked.ask (proper_columns catalog.schema small exchange.asked.ask w.0) ((counts_fit catalog database stored) exchange.asked.ask.table) in
     (rows.kinds, w.1))
-    (each_front _ m.one m.later (subst (λ (es : List Exchange). Each (IsWhole catalog database stored.is_database query stored.counts_are stored.counts_fit (λ ask e. proper_columns catalog.schema small ask e)) es) m.whole ended.whole)) in
+    (each_front _ m.one m.later (subst (λ (es : List Exchange). Each (IsWhole catalog database stored.is_database query stored.counts_are (counts_fit catalog database stored) (λ ask e. proper_columns catalog.schema small ask e)) es) m.whole ended.whole)) in
     let others : List Asked = map asked_in m.later ++ ended.later in
     let all : asked_of catalog.schema texts ≡ map asked_in m.one ++ (map asked_in m.later ++ ended.later) =
     ended.asked_are ∙ (ap (λ (es : List Exchange). map asked_in es ++ ended.later) m.whole

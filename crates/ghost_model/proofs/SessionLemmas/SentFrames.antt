@@ -12,7 +12,8 @@ use Rattle.ghost_model.specs.Channel.{Catalog, Frame, Hello, Asking, More, Bye, 
 use Rattle.ghost_model.specs.Asks.{Asked, asked, asked_from, asked_of, asks_of, asks_of_reading, is_proper_ask}
 use Rattle.ghost_model.specs.Frames.{IsFrame, frame_in}
 use Rattle.ghost_model.specs.Moves.{taken}
-use Rattle.ghost_model.specs.NextMove.{Awaits, Missing, Reply, Nothing, Verdict, Short, Whole, Invalid, verdict, Turn, on_with, of_later_texts, still, turn_of_greeting, turn_of_reply, turn, Heard, heard_as, hear, hear_all, at_first, due, IsDue}
+use Rattle.ghost_model.specs.NextMove.{Awaits, Missing, Reply, Nothing, Verdict, Short, Whole, Invalid, verdict, Turn, on_with, of_later_texts, still, turn_of_greeting, turn_of_reply, turn, Heard, heard_as, hear, hear_all, at_first, due}
+use Rattle.ghost_model.specs.ChannelLaws.{IsDue}
 use Rattle.ghost_model.proofs.ChannelLemmas.Tests.{BothHold, both_hold, hold_both}
 use Rattle.ghost_model.proofs.ChannelLemmas.Proper.{asks_are_proper}
 use Rattle.ghost_model.proofs.SessionLemmas.Limits.{IsSmall, ask_is_frame, high_bytes}

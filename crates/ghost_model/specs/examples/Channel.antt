@@ -5,9 +5,10 @@ use Rattle.hex.specs.declared.error.FromHexError.{FromHexError}
 use Rattle.ghost_model.specs.Values.{Number, Text}
 use Rattle.ghost_model.specs.Query as query
 use Rattle.ghost_model.specs.Channel.{Frame, Hello, Asking, More, Bye, Welcome, Replied, Done, Sorry, Catalog, Ask, Test, Move, Dial, Send, Take, Close, Answer, Made, Piece, Entry, Journal}
-use Rattle.ghost_model.specs.Asks.{Asked, asked, asked_of, asks_of, ask_payload, ask_in, ReplyRow}
-use Rattle.ghost_model.specs.Moves.{lines}
-use Rattle.ghost_model.specs.NextMove.{IsProper, IsFinished, InvalidFrame, invalid_frame, heard, due}
+use Rattle.ghost_model.specs.Asks.{Asked, asked, asked_of, asks_of, ask_payload, ReplyRow}
+use Rattle.ghost_model.specs.AskReading.{ask_in}
+use Rattle.ghost_model.specs.Moves.{lines, sent}
+use Rattle.ghost_model.specs.NextMove.{IsProper, IsProperWith, IsFinished, InvalidFrame, invalid_frame, heard, due}
 use Rattle.ghost_model.specs.Frames.{frame_bytes, kind_of, payload_of, Got, got_of, Found, Short, Bad}
 use Rattle.ghost_model.specs.Catalog.{catalog_bytes}
 use Rattle.ghost_model.specs.Host.{Holding, host_of, host_says, bad_request}
@@ -141,6 +142,11 @@ abbrev pub cardio_text : List ℕ
 cardio_text =
     codes "SELECT visit.id, specialty FROM visit, doctor WHERE doc = doctor.id AND specialty = 'cardio' AND purpose = 'flu'"
 
+-- the same but for the value of a hidden column
+abbrev pub other_text : List ℕ
+other_text =
+    codes "SELECT visit.id, specialty FROM visit, doctor WHERE doc = doctor.id AND specialty = 'cardio' AND purpose = 'none'"
+
 abbrev pub cardio_query : query.Query
 cardio_query = record {
   from = 2 ∷ 0 ∷ [];
@@ -251,6 +257,7 @@ cardio_journal =
 
 pub record JournalOfTheClinic : Type 0 where
   pub proper : IsProper clinic_catalog [] (cardio_text ∷ []) cardio_journal
+  pub also_for_another_hidden_value : IsProper clinic_catalog [] (other_text ∷ []) cardio_journal
   pub finished : IsFinished cardio_journal
 
 -- the session of a script without an ask
@@ -262,6 +269,119 @@ pub record JournalWithoutAsks : Type 0 where
   pub proper : IsProper clinic_catalog [] [] silent_journal
   pub also_for_hidden_columns_alone : IsProper clinic_catalog [] (name_text ∷ []) silent_journal
   pub finished : IsFinished silent_journal
+
+-- how a session with the clinic begins: up to its first ask, or BYE
+abbrev pub greeted : Catalog → Journal
+greeted catalog = dialled [] ∷ sends (Hello 1) ∷ takes 8 (codes "1101016e00000000") ∷ welcomed catalog ∷ []
+
+abbrev pub day_asks : List Asked
+day_asks = asks_of_text (asks_of clinic_schema day_query)
+
+-- the days of the visits of a clinic without a visit
+abbrev pub visitless_catalog : Catalog
+visitless_catalog = record clinic_catalog { counts = 3 ∷ 2 ∷ 0 ∷ [] }
+
+abbrev pub rowless_journal : Journal
+rowless_journal =
+    greeted visitless_catalog
+    ++ sends (Asking 1 (hex (codes "02010100")))
+    ∷ takes 8 (codes "1301000400000001")
+    ∷ takes 4 (codes "00000000")
+    ∷ sends Bye
+    ∷ closed
+    ∷ []
+
+-- two texts that ask: for the cardiologists, and for the visits from day 2 on
+abbrev pub two_asks : List Asked
+two_asks = cardio_asks ++ map (asked 2) (asks_of clinic_schema late_query)
+
+abbrev pub late_ask : Frame
+late_ask = Asking 2 (hex (codes "0201010101068000000000000002"))
+
+-- the second text is asked and answered by one row, and the session ends
+abbrev pub late_entries : Journal
+late_entries =
+    sends late_ask
+    ∷ takes 8 (codes "1201000c00000002")
+    ∷ takes 12 (codes "000000038000000000000009")
+    ∷ sends (More 2)
+    ∷ takes 8 (codes "1301000400000002")
+    ∷ takes 4 (codes "00000001")
+    ∷ sends Bye
+    ∷ closed
+    ∷ []
+
+abbrev pub journal_of_two : Journal
+journal_of_two =
+    greeted clinic_catalog
+    ++ sends cardio_ask
+    ∷ takes 8 (codes "1201001800000001")
+    ∷ takes 24 (codes "0000000163617264696f00000000000363617264696f0000")
+    ∷ sends (More 1)
+    ∷ takes 8 (codes "1301000400000001")
+    ∷ takes 4 (codes "00000002")
+    ∷ late_entries
+
+-- where a reply has no row no MORE is sent; the ask of a second text follows the end of the first one's
+pub record JournalsOfAsks : Type 0 where
+  pub no_row : IsProperWith visitless_catalog [] day_asks rowless_journal
+  pub two_texts : IsProperWith clinic_catalog [] two_asks journal_of_two
+
+-- the first text is refused
+abbrev pub refused_journal : Journal
+refused_journal =
+    greeted clinic_catalog
+    ++ sends cardio_ask
+    ∷ takes 8 (codes "1401000100000001")
+    ∷ takes 1 (codes "01")
+    ∷ late_entries
+
+-- a second ROWS frame has the identifier of the first one
+abbrev pub repeating_journal : Journal
+repeating_journal =
+    greeted clinic_catalog
+    ++ sends cardio_ask
+    ∷ takes 8 (codes "1201000c00000001")
+    ∷ takes 12 (codes "0000000163617264696f0000")
+    ∷ sends (More 1)
+    ∷ takes 8 (codes "1201000c00000001")
+    ∷ takes 12 (codes "0000000163617264696f0000")
+    ∷ closed
+    ∷ []
+
+-- the WELCOME frame has another byte in the place of the catalog's first one
+abbrev pub unwelcome_journal : Journal
+unwelcome_journal =
+    dialled []
+    ∷ sends (Hello 1)
+    ∷ takes 8 (codes "1101016e00000000")
+    ∷ entry (Take 366) (Piece (1 ∷ 0 ∷ drop 1 (catalog_bytes clinic_catalog)))
+    ∷ closed
+    ∷ []
+
+-- a refusal ends the asks of its own text alone; an invalid frame ends the session, at once
+pub record JournalsCutShort : Type 0 where
+  pub refused : IsProperWith clinic_catalog [] two_asks refused_journal
+  pub one_more : IsProperWith clinic_catalog [] cardio_asks repeating_journal
+  pub nothing_is_asked : IsProperWith clinic_catalog [] cardio_asks unwelcome_journal
+
+-- takes of what is still missing, each answered by one byte
+abbrev pub byte_by_byte : List ℕ → Journal
+byte_by_byte [] = []
+byte_by_byte (byte ∷ bytes) = entry (Take (1 + length bytes)) (Piece (byte ∷ [])) ∷ byte_by_byte bytes
+
+-- the session of the first text, the reply of which comes byte by byte
+abbrev pub cut_journal : Journal
+cut_journal =
+    greeted clinic_catalog
+    ++ sends cardio_ask
+    ∷ (byte_by_byte (hex (codes "1201001800000001")) ++ (byte_by_byte (hex (codes "0000000163617264696f00000000000363617264696f0000"))
+    ++ sends (More 1) ∷ (byte_by_byte (hex (codes "1301000400000001")) ++ (byte_by_byte (hex (codes "00000002")) ++ sends Bye ∷ closed ∷ []))))
+
+-- however the stream is cut, the same is sent
+pub record JournalInSingleBytes : Type 0 where
+  pub proper : IsProperWith clinic_catalog [] cardio_asks cut_journal
+  pub sends_the_same : sent cut_journal ≡ sent cardio_journal
 
 -- the clinic's one WELCOME frame, and received bytes that follow it, in hexadecimal
 abbrev pub clinic_welcome : List ℕ

@@ -1,7 +1,8 @@
 use Rattle.std.proofs.Common.{refl}
 use Rattle.std.specs.Fmt.{digits}
 use Rattle.hex.specs.Hex.{encode_with, decode_pairs}
-use Rattle.ghost_model.specs.Asks.{rows_from, tests_in}
+use Rattle.ghost_model.specs.Asks.{rows_from}
+use Rattle.ghost_model.specs.AskReading.{tests_in}
 use Rattle.ghost_model.specs.Schema.{places_from}
 use Rattle.ghost_model.specs.Tokens.{tokens_from, quoted_from}
 use Rattle.ghost_model.specs.QueryPlaces.{read_from}
@@ -10,4 +11,4 @@ use Rattle.ghost_model.proofs.channel.journal_of_the_clinic.Goals as goal
 
 pub returns : goal.returns
 unfolding digits encode_with decode_pairs rows_from tests_in places_from hear_all rows_fit tokens_from quoted_from read_from
-returns c = record { proper = (refl, (refl, (refl, (refl, (refl, (refl, (refl, (refl, (refl, (refl, (refl, (refl, tt)))))))))))); finished = refl }
+returns c = record { proper = (refl, (refl, (refl, (refl, (refl, (refl, (refl, (refl, (refl, (refl, (refl, (refl, tt)))))))))))); also_for_another_hidden_value = (refl, (refl, (refl, (refl, (refl, (refl, (refl, (refl, (refl, (refl, (refl, (refl, tt)))))))))))); finished = refl }

@@ -29,8 +29,8 @@ last g c =
     refl refl refl
     (λ session ends refusal. c.status.ensures.status session ends refusal)
     (λ journal proper finished told.
-    answers_all c.honest_sessions_are_smooth.ensures c.honest_lines_are_printed.ensures c.catalogs_are_bytes.ensures.bytes c.asks_are_few.ensures.few g.F.Flash.told c.args.cat.now c.args.options.now.at.now (texts_of c.args.script.now) journal _ _ _
-    c.a_catalog_is_short.ensures.catalog c.a_catalog_has_a_layout.ensures.layout c.requires.few proper finished told)
+    answers_all c.honest_sessions_are_smooth.ensures c.honest_lines_are_printed.ensures g.F.Flash.told c.args.cat.now c.args.options.now.at.now (texts_of c.args.script.now) journal _ _ _
+    c.a_catalog_is_short.ensures.catalog c.requires.few proper finished told)
 
 pub returns-clause-ran : goal.returns-clause-ran
 returns-clause-ran g c =
