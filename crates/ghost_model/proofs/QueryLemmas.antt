@@ -9,7 +9,8 @@ use Rattle.ghost_model.specs.Tokens.{Token, tokens, symbol_of, symbols, offset_o
 use Rattle.ghost_model.specs.Grammar.{Spells, IsSyntaxFault, separated, begun}
 use Rattle.ghost_model.specs.Spelled.{is_spelled, is_name, is_number}
 use Rattle.ghost_model.specs.QueryGrammar.{ColumnText, Bare, Qualified, Sign, Positive, Negative, LiteralText, Unsigned, Signed, Written, ConditionText, Compares, LiesBetween, Joins, Selection, All, Columns, QueryText, spell_column, spell_sign, spell_operator, spell_literal, spell_condition, spell_table, spell_selection, spell_where, spelling}
-use Rattle.ghost_model.specs.QueryPlaces.{ColumnPart, WantsColumn, HasTablePoint, HasColumn, ConditionPart, WantsLeft, HasLeftPoint, HasLeft, HasOperator, HasSign, HasRightPoint, WantsLow, HasLowSign, HasLow, WantsHigh, HasHighSign, HasCondition, Place, Start, HasStar, InSelect, WantsTable, HasTable, InWhere, Whole, first_item, other_items, selection_of, query_text, in_column, in_condition, before, step_in_column, step_in_condition, step_in_select, step_in_where, step, whole_text, read_from, syntax_of, IsStuck}
+use Rattle.ghost_model.specs.QueryPlaces.{ColumnPart, WantsColumn, HasTablePoint, HasColumn, ConditionPart, WantsLeft, HasLeftPoint, HasLeft, HasOperator, HasSign, HasRightPoint, WantsLow, HasLowSign, HasLow, WantsHigh, HasHighSign, HasCondition, Place, Start, HasStar, InSelect, WantsTable, HasTable, InWhere, Whole, first_item, other_items, selection_of, query_text, in_column, in_condition, before, step_in_column, step_in_condition, step_in_select, step_in_where, step, whole_text, read_from, syntax_of}
+use Rattle.ghost_model.specs.QueryLaws.{IsStuck}
 use Rattle.ghost_model.proofs.TokenLemmas.{before_end}
 use Rattle.ghost_model.proofs.GrammarLemmas.{front, final, front_final, begun_before, more_begun, separated_made, spelled_parts, no_end_inside, spelled_front, viable_front, run, run-append, dead_after, fault_after, no_fault, one_fault}
 

@@ -12,7 +12,8 @@ use Rattle.ghost_model.specs.Spelled.{is_spelled, is_name, is_number}
 use Rattle.ghost_model.specs.Tokens.{symbol_of, symbols, tokens, offset_of, Symbol, Token, Word, Name, Digits, Open, Closing, Comma, Semicolon, End, Char, Create, Hidden, Integer, Key, Primary, References, Table}
 use Rattle.ghost_model.specs.Grammar.{Spells, IsViable, IsSyntaxFault, separated, begun}
 use Rattle.ghost_model.specs.SchemaGrammar.{Reference, To, ColumnText, CharColumn, IntegerColumn, TableText, SchemaText, spell_column, spell_heading, spell_table, spelling}
-use Rattle.ghost_model.specs.SchemaPlaces.{InColumn, Named, AfterChar, AfterOpen, AfterLength, AfterPrimary, AfterReferences, OpensId, AfterId, Whole, Place, Between, AfterCreate, AfterTable, AfterName, WantsColumn, Within, AfterColumns, Ended, before_in, before, table_from, after_integer, after_column, after_parenthesis, step_in, step_within, step, tree_at, syntax_from, syntax_of, SchemaPlacesAreExact}
+use Rattle.ghost_model.specs.SchemaPlaces.{InColumn, Named, AfterChar, AfterOpen, AfterLength, AfterPrimary, AfterReferences, OpensId, AfterId, Whole, Place, Between, AfterCreate, AfterTable, AfterName, WantsColumn, Within, AfterColumns, Ended, before_in, before, table_from, after_integer, after_column, after_parenthesis, step_in, step_within, step, tree_at, syntax_from, syntax_of}
+use Rattle.ghost_model.specs.SchemaLaws.{SchemaPlacesAreExact}
 
 unSome : {X : Type 0} {a b : X} → Some a ≡ Some b → a ≡ b
 unSome e = cc

@@ -41,6 +41,10 @@ places_from test at (x ∷ xs) = if test x then at ∷ places_from test (at + 1)
 abbrev pub places_where : {X : Type 0} → (X → Bool) → List X → List ℕ
 places_where test xs = places_from test 0 xs
 
+-- the place of each element of a list
+abbrev pub places_of : {X : Type 0} → List X → List ℕ
+places_of xs = places_where (λ _. true) xs
+
 abbrev pub is_empty : {X : Type 0} → List X → Bool
 is_empty [] = true
 is_empty (_ ∷ _) = false

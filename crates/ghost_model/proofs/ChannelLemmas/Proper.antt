@@ -24,7 +24,7 @@ use Rattle.ghost_model.specs.QueryMeaning as meaning
 use Rattle.ghost_model.specs.Asks as asks
 use Rattle.ghost_model.specs.QueryReading.{reading}
 use Rattle.ghost_model.proofs.TokenLemmas.{before_end}
-use Rattle.ghost_model.proofs.QueryReadingLemmas.{means_of}
+use Rattle.ghost_model.proofs.QueryReadingLemmas.{means_of, KeptRules, kept_rules}
 use Rattle.ghost_model.proofs.ChannelLemmas.Tests.{false_is_not, both_hold, hold_both, BothHold}
 
 -- tests of lists
@@ -325,19 +325,19 @@ unfolding places_from
 columns_ascend q [] e = refl
 columns_ascend q (x ∷ xs) e = skipped (filter q (places_from always 1 xs)) (q 0) e (ascending q 0 1 xs (lit< tt))
 
-module _ (schema : Schema) (text : List ℕ) (tree : QueryText) (spells : symbols text ≡ spelling tree) (keeps : (rule : meaning.Refusal) → meaning.breaks schema text tree rule ≡ false) where
+module _ (schema : Schema) (text : List ℕ) (tree : QueryText) (spells : symbols text ≡ spelling tree) (keeps : KeptRules schema text tree) where
   abbrev tables : List ℕ
   tables = meaning.from_tables schema tree
 
   limited : sum_by meaning.literal_conditions tree.conditions ≤ 16
   limited =
-      let four : ((nat_lt 4096 (length text) || list_any (λ name. nat_lt 32 (length name)) (meaning.names_in tree) || nat_lt 12 (length (meaning.from_names tree)) || nat_lt 16 (sum_by meaning.literal_conditions tree.conditions)) ≡ false) × (nat_lt 32 (meaning.selected_count schema tree tree.selection) ≡ false) = neither _ _ (keeps meaning.Limit) in
+      let four : ((nat_lt 4096 (length text) || list_any (λ name. nat_lt 32 (length name)) (meaning.names_in tree) || nat_lt 12 (length (meaning.from_names tree)) || nat_lt 16 (sum_by meaning.literal_conditions tree.conditions)) ≡ false) × (nat_lt 32 (meaning.selected_count schema tree tree.selection) ≡ false) = neither _ _ keeps.limits in
       let three : ((nat_lt 4096 (length text) || list_any (λ name. nat_lt 32 (length name)) (meaning.names_in tree) || nat_lt 12 (length (meaning.from_names tree))) ≡ false) × (nat_lt 16 (sum_by meaning.literal_conditions tree.conditions) ≡ false) = neither _ _ four.0 in
       ltb-false 16 (sum_by meaning.literal_conditions tree.conditions) three.1
 
   single : list_all (λ condition. list_all (has_one schema tables 0) (meaning.condition_columns condition)) tree.conditions ≡ true
   single =
-      let both : (meaning.has_repeat tables ≡ false) × (list_any (λ column. nat_lt 1 (length (meaning.meanings schema tables column))) (meaning.columns_in tree) ≡ false) = neither _ _ (keeps meaning.Ambiguous) in
+      let both : (meaning.has_repeat tables ≡ false) × (list_any (λ column. nat_lt 1 (length (meaning.meanings schema tables column))) (meaning.columns_in tree) ≡ false) = neither _ _ keeps.one_meaning in
       let all : list_all (has_one schema tables 0) (meaning.columns_in tree) ≡ true = none_all (λ column. nat_lt 1 (length (meaning.meanings schema tables column))) (meaning.columns_in tree) both.1 in
       let parts : BothHold (list_all (has_one schema tables 0) (meaning.selection_columns tree.selection)) (list_all (has_one schema tables 0) (flat_map meaning.condition_columns tree.conditions)) =
       both_hold _ _ (sym (list_all-append (has_one schema tables 0) (meaning.selection_columns tree.selection) (flat_map meaning.condition_columns tree.conditions)) ∙ all) in
@@ -361,7 +361,7 @@ module _ (schema : Schema) (text : List ℕ) (tree : QueryText) (spells : symbol
       (columns_ascend (asks.is_wanted schema query.select table) (columns_of schema table) refl))
       (le-leb (length (asks.tests_of schema table query.conditions)) 16 count))
       (visible_tests schema table query.conditions))
-      (sound_tests schema table query.conditions (keeps meaning.KindMismatch) (keeps meaning.BadLiteral) plain)
+      (sound_tests schema table query.conditions keeps.kinds keeps.literals plain)
 
   proper_asks : list_all (asks.is_proper_ask schema) (asks.asks_of schema (meaning.resolved schema tree)) ≡ true
   proper_asks =
@@ -377,4 +377,4 @@ pub asks_are_proper : (schema : Schema) (text : List ℕ) (query : Query) → re
 asks_are_proper schema text query read =
     let means : meaning.Means schema text query = means_of schema text query read in
     subst (λ (q : Query). list_all (asks.is_proper_ask schema) (asks.asks_of schema q) ≡ true) (sym means.means)
-    (proper_asks schema text means.tree means.spells means.keeps)
+    (proper_asks schema text means.tree means.spells (kept_rules schema text means.tree means.keeps))

@@ -1,7 +1,8 @@
 -- Schemas of texts, and the faults of texts that mean none: the offset of the token at which a text leaves the grammar,
 -- the place of each rule that is broken, and which of two broken rules is named.
 use Rattle.std.specs.Prelude.{◌≡◌, ℕ, List, [], ◌∷◌, ◌++◌, flat_map, replicate, codes, Ok, Err}
-use Rattle.ghost_model.specs.SchemaFaults.{schema_reading, Syntax, Limit, DuplicateName, NoId, UnknownTable, TwoParents, Cycle, NotOneRoot}
+use Rattle.ghost_model.specs.SchemaReading.{schema_reading}
+use Rattle.ghost_model.specs.SchemaFaults.{Syntax, Limit, DuplicateName, NoId, UnknownTable, TwoParents, Cycle, NotOneRoot}
 use Rattle.ghost_model.specs.examples.Clinic.{clinic_schema, id_column, text_column, key_column}
 
 abbrev pub clinic_text : List ℕ
