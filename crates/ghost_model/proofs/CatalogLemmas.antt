@@ -3,7 +3,7 @@
 use Rattle.std.proofs.Common.{◌≡◌, ℕ, suc, ◌+◌, ◌-◌, ◌*◌, ◌<◌, ◌≤◌, ◌^◌, nat_lt, Bool, true, false, not, ◌&&◌, ◌||◌, ◌==◌, cond, if◌then◌else◌, List, [], ◌∷◌, ◌++◌, length, map, flat_map, find, position, Option, Some, None, is_none, option_map, Ok, slice_get, bytes_eq, codes, refl, sym, ap, ◌∙◌, subst, append_assoc, arith, rules}
 use Rattle.std.specs.Prelude.{fold, decimal}
 use Rattle.std.specs.List.{list_any, list_all, position_from}
-use Rattle.std.specs.Option.{option_or}
+use Rattle.std.specs.Option.{option_or, option_map_or}
 use Rattle.std.proofs.lemmas.Bool.{and_parts, or_from, not-true}
 use Rattle.std.proofs.lemmas.Bool.Decides.{nat_tests}
 use Rattle.std.proofs.lemmas.Iterator.Adapters.{position_from-zero}
@@ -15,7 +15,7 @@ use Rattle.std.proofs.lemmas.Slice.Eq.{bytes_eq-Decides}
 use Rattle.ghost_model.specs.Schema as schema
 use Rattle.ghost_model.specs.Schema.{Schema, Column, Chars, places_from, places_of}
 use Rattle.ghost_model.specs.Query.{Field}
-use Rattle.ghost_model.specs.Tokens.{number_of, is_between, Keyword, Symbol, Word, Reserved, Name, Digits, Open, Closing, Comma, Semicolon, End, Char, Create, Hidden, Integer, Key, Primary, References, Table, Read, read, symbol_of, symbols, tokens_from, token_at, word_at, digits_at, symbol_of_word, keyword_of, keyword_or, other_reserved, in_lower_case, begins_name, is_space, is_digit, is_name_byte}
+use Rattle.ghost_model.specs.Tokens.{number_of, is_between, Keyword, Symbol, Word, Reserved, Name, Digits, Open, Closing, Comma, Semicolon, End, Char, Create, Hidden, Integer, Key, Primary, References, Table, Read, read, symbol_of, symbols, tokens_from, token_at, word_at, digits_at, symbol_of_word, keyword_of, other_reserved, in_lower_case, begins_name, is_space, is_digit, is_name_byte}
 use Rattle.ghost_model.specs.Spelled.{is_spelled, is_reserved, is_name}
 use Rattle.ghost_model.specs.SchemaGrammar.{To, ColumnText, CharColumn, IntegerColumn, TableText, SchemaText, spell_hidden, spell_id, spell_column, spell_heading, spell_table}
 use Rattle.ghost_model.specs.SchemaPlaces.{syntax_of}
@@ -72,7 +72,7 @@ digit_begins_no_name : (b : ℕ) → is_digit b ≡ true → begins_name b ≡ f
 digit_begins_no_name b h = grind (arith, nat_tests)
 
 free_word : (word : List ℕ) (keyword : Option Keyword) (among : Bool) → (not (is_none keyword) || among) ≡ false
-    → keyword_or (if among then Reserved else Name word) keyword ≡ Name word
+    → option_map_or Word keyword (if among then Reserved else Name word) ≡ Name word
 free_word word None false e = refl
 free_word word None true e = cc
 free_word word (Some keyword) among e = cc

@@ -161,7 +161,7 @@ in_front test (y ∷ ys) (suc p) (suc q) x e h t = or_right (test y) _ (in_front
 
 repeated : (names : List (List ℕ)) (p q : ℕ) (name : List ℕ) → slice_get names p ≡ Some name → slice_get names q ≡ Some name → p < q → repeats names q ≡ true
 repeated names p q name e f h =
-    ap (λ o. list_any (faults.is_name o) (take q names)) f ∙ in_front (bytes_eq name) names p q name e h ((bytes_eq-Decides name name).1 refl)
+    ap (λ o. list_any (faults.is_this_name o) (take q names)) f ∙ in_front (bytes_eq name) names p q name e h ((bytes_eq-Decides name name).1 refl)
 
 -- places whose names are never repeated have two names
 distinct : (names : List (List ℕ)) → ((q : ℕ) (name : List ℕ) → slice_get names q ≡ Some name → repeats names q ≡ false)

@@ -48,13 +48,13 @@ abbrev pub column_name : ColumnText → List ℕ
 column_name (CharColumn name digits hidden) = name
 column_name (IntegerColumn name primary reference hidden) = name
 
-abbrev pub is_name : Option (List ℕ) → List ℕ → Bool
-is_name None other = false
-is_name (Some name) other = bytes_eq name other
+abbrev pub is_this_name : Option (List ℕ) → List ℕ → Bool
+is_this_name None other = false
+is_this_name (Some name) other = bytes_eq name other
 
 -- the name at a place stands at an earlier place too
 abbrev pub repeats : List (List ℕ) → ℕ → Bool
-repeats names place = list_any (is_name (slice_get names place)) (take place names)
+repeats names place = list_any (is_this_name (slice_get names place)) (take place names)
 
 abbrev pub columns_at : Option TableText → List ColumnText
 columns_at None = []

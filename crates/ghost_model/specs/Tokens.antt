@@ -5,7 +5,8 @@
 -- a last `'`. A byte that begins no token, and a `'` whose literal has another byte in it or no end, are a bad token,
 -- which no text of a grammar has. The list ends with the end of the text, so that each fault has its place.
 use Rattle.std.specs.Prelude.{ℕ, zero, suc, ◌+◌, ◌-◌, Bool, true, false, ◌&&◌, ◌||◌, ◌==◌, nat_le, List, [], ◌∷◌, ◌++◌, length, map, take_while, if◌then◌else◌, codes, bytes_eq, Option, Some, None, slice_get, option_map, ◌*◌, fold}
-use Rattle.std.specs.List.{list_any}
+use Rattle.std.specs.List.{list_any, list_all}
+use Rattle.std.specs.Option.{option_map_or}
 use Rattle.std.specs.Char.{to_ascii_lowercase}
 
 -- the reserved words that the grammars use; INT is another spelling of INTEGER
@@ -63,6 +64,11 @@ is_space byte = byte == 32 || byte == 9 || byte == 10 || byte == 13
 abbrev pub is_digit : ℕ → Bool
 is_digit byte = is_between 48 57 byte
 
+-- one or more digits
+abbrev pub is_numeral : List ℕ → Bool
+is_numeral [] = false
+is_numeral (digit ∷ digits) = list_all is_digit (digit ∷ digits)
+
 -- the number that decimal digits write, of any length
 abbrev pub number_of : List ℕ → ℕ
 number_of digits = fold (λ number digit. number * 10 + (digit - 48)) 0 digits
@@ -110,13 +116,9 @@ keyword_of word =
 abbrev pub name_or_reserved : List ℕ → Symbol
 name_or_reserved word = if list_any (bytes_eq word) other_reserved then Reserved else Name word
 
-abbrev pub keyword_or : Symbol → Option Keyword → Symbol
-keyword_or other None = other
-keyword_or other (Some keyword) = Word keyword
-
 -- what a word in lower case is: a keyword, another reserved word, or a name
 abbrev pub symbol_of_word : List ℕ → Symbol
-symbol_of_word word = keyword_or (name_or_reserved word) (keyword_of word)
+symbol_of_word word = option_map_or Word (keyword_of word) (name_or_reserved word)
 
 -- a symbol and how many bytes it takes
 pub record Read : Type 0 where

@@ -15,7 +15,7 @@ use Rattle.ghost_model.specs.Schema.{places_from, places_of}
 use Rattle.ghost_model.specs.Rules.{broken_if}
 use Rattle.ghost_model.specs.SchemaGrammar.{TableText, SchemaText}
 use Rattle.ghost_model.specs.SchemaMeaning.{columns_written}
-use Rattle.ghost_model.specs.SchemaFaults.{is_name, repeats, column_name, columns_at, table_repeats, is_duplicate, fields, fields_from, is_over, lacks_id, is_unknown, SchemaFault, Limit, DuplicateName, NoId, duplicate_at as duplicate_fault, unknown_at as unknown_fault}
+use Rattle.ghost_model.specs.SchemaFaults.{is_this_name, repeats, column_name, columns_at, table_repeats, is_duplicate, fields, fields_from, is_over, lacks_id, is_unknown, SchemaFault, Limit, DuplicateName, NoId, duplicate_at as duplicate_fault, unknown_at as unknown_fault}
 use Rattle.tree_schema.specs.declared.syntax.ColumnDraft.{ColumnDraft}
 use Rattle.tree_schema.specs.Drafts as drafts
 use Rattle.tree_schema.specs.Faults.{field_at, fault_of_texts}
@@ -115,11 +115,11 @@ pub repeats_at : {X : Type 0} (name : X → List ℕ) (xs : List X) (place : ℕ
 repeats_at name xs place x e =
     any_mapped name (bytes_eq (name x)) (take place xs)
     ∙ ap (list_any (bytes_eq (name x))) (sym (take-map name place xs))
-    ∙ ap (λ o. list_any (is_name o) (take place (map name xs))) (sym (slice_get-map name xs place ∙ ap (option_map name) e))
+    ∙ ap (λ o. list_any (is_this_name o) (take place (map name xs))) (sym (slice_get-map name xs place ∙ ap (option_map name) e))
 
 pub repeats_past : {X : Type 0} (name : X → List ℕ) (xs : List X) (place : ℕ) → slice_get xs place ≡ None → repeats (map name xs) place ≡ false
 repeats_past name xs place e =
-    ap (λ o. list_any (is_name o) (take place (map name xs))) (slice_get-map name xs place ∙ ap (option_map name) e)
+    ap (λ o. list_any (is_this_name o) (take place (map name xs))) (slice_get-map name xs place ∙ ap (option_map name) e)
     ∙ nothing_passes (take place (map name xs))
 
 -- fields

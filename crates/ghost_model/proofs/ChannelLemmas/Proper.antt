@@ -138,15 +138,12 @@ abbrev is_plain : Value → Bool
 is_plain (Number _) = true
 is_plain (Text bytes) = list_all is_printable bytes
 
-fits_below : (n : ℕ) → not (nat_le n (2 ^ 63 - 1)) ≡ false → nat_lt n (2 ^ 63) ≡ true
-fits_below n e = grind (arith, nat_tests)
-
-number_fits : (number : ℤ) → meaning.is_too_large (Some Integer) (Number number) ≡ false → fits_integer number ≡ true
-number_fits (pos n) e = fits_below n e
-number_fits (negsuc n) e = fits_below n (ap (λ (b : Bool). not b) (sym (and-true (nat_le n (2 ^ 63 - 1)))) ∙ e)
+not_not : (b : Bool) → not b ≡ false → b ≡ true
+not_not true e = refl
+not_not false e = absurd (false_is_not (sym e))
 
 by_kind : (kind : Kind) (value : Value) → meaning.is_other_kind (Some kind) value ≡ false → meaning.is_too_large (Some kind) value ≡ false → is_plain value ≡ true → is_of_kind kind value ≡ true
-by_kind Integer (Number z) a b c = number_fits z b
+by_kind Integer (Number z) a b c = not_not (fits_integer z) b
 by_kind Integer (Text text) a b c = absurd (false_is_not (sym a))
 by_kind (Chars most) (Number z) a b c = absurd (false_is_not (sym a))
 by_kind (Chars most) (Text text) a b c = hold_both _ _ (le-leb (length text) most (ltb-false most (length text) b)) c
