@@ -3,6 +3,7 @@
 use Rattle.std.proofs.Common.{◌≡◌, ℕ, suc, ◌+◌, ◌-◌, ◌*◌, ◌<◌, ◌≤◌, ◌^◌, nat_lt, Bool, true, false, not, ◌&&◌, ◌||◌, ◌==◌, cond, if◌then◌else◌, List, [], ◌∷◌, ◌++◌, length, map, flat_map, find, position, Option, Some, None, is_none, option_map, Ok, slice_get, bytes_eq, codes, refl, sym, ap, ◌∙◌, subst, append_assoc, arith, rules}
 use Rattle.std.specs.Prelude.{fold, decimal}
 use Rattle.std.specs.List.{list_any, list_all, position_from}
+use Rattle.std.specs.Option.{option_or, option_map_or}
 use Rattle.std.proofs.lemmas.Bool.{and_parts, or_from, not-true}
 use Rattle.std.proofs.lemmas.Bool.Decides.{nat_tests}
 use Rattle.std.proofs.lemmas.Iterator.Adapters.{position_from-zero}
@@ -12,20 +13,22 @@ use Rattle.std.proofs.lemmas.List.{length-map}
 use Rattle.std.proofs.lemmas.Option.{slice_get-map}
 use Rattle.std.proofs.lemmas.Slice.Eq.{bytes_eq-Decides}
 use Rattle.ghost_model.specs.Schema as schema
-use Rattle.ghost_model.specs.Schema.{Schema, Column, Chars, places_from}
+use Rattle.ghost_model.specs.Schema.{Schema, Column, Chars, places_from, places_of}
 use Rattle.ghost_model.specs.Query.{Field}
-use Rattle.ghost_model.specs.Tokens.{number_of, is_between, Keyword, Symbol, Word, Reserved, Name, Digits, Open, Closing, Comma, Semicolon, End, Char, Create, Hidden, Integer, Key, Primary, References, Table, Read, read, symbol_of, symbols, tokens_from, token_at, word_at, digits_at, symbol_of_word, keyword_of, keyword_or, other_reserved, in_lower_case, begins_name, is_space, is_digit, is_name_byte}
+use Rattle.ghost_model.specs.Tokens.{number_of, is_between, Keyword, Symbol, Word, Reserved, Name, Digits, Open, Closing, Comma, Semicolon, End, Char, Create, Hidden, Integer, Key, Primary, References, Table, Read, read, symbol_of, symbols, tokens_from, token_at, word_at, digits_at, symbol_of_word, keyword_of, other_reserved, in_lower_case, begins_name, is_space, is_digit, is_name_byte}
 use Rattle.ghost_model.specs.Spelled.{is_spelled, is_reserved, is_name}
 use Rattle.ghost_model.specs.SchemaGrammar.{To, ColumnText, CharColumn, IntegerColumn, TableText, SchemaText, spell_hidden, spell_id, spell_column, spell_heading, spell_table}
 use Rattle.ghost_model.specs.SchemaPlaces.{syntax_of}
 use Rattle.ghost_model.specs.SchemaMeaning.{table_named, columns_written, column_of, table_of, schema_of}
-use Rattle.ghost_model.specs.SchemaFaults.{SchemaFault, Limit, DuplicateName, NoId, TwoParents, Cycle, UnknownTable, is_long, is_over, is_table_over, is_column_over, column_name, columns_at, repeats, table_repeats, column_repeats, is_duplicate, fields_from, fields, is_identifier, is_primary, table_lacks_id, lacks_id, refers_nowhere, is_unknown, keys_naming, is_shared, returns, places_of, roots_of, duplicate_in, unknown_in, wrong_roots, or_else, schema_fault, schema_or, judged, schema_reading, Breaks, MeansSchema}
+use Rattle.ghost_model.specs.SchemaFaults.{SchemaFault, Limit, DuplicateName, NoId, TwoParents, Cycle, UnknownTable, is_long, is_over, is_table_over, is_column_over, column_name, columns_at, repeats, table_repeats, column_repeats, is_duplicate, fields_from, fields, is_identifier, is_primary, table_lacks_id, lacks_id, refers_nowhere, is_unknown, keys_naming, is_shared, returns, roots_of, duplicate_at, unknown_at, wrong_roots, rules as schema_rules, MeansSchema}
+use Rattle.ghost_model.specs.SchemaReading.{schema_or, judged, schema_reading}
+use Rattle.ghost_model.specs.Rules.{broken_if, first_broken, MeetsAll}
 use Rattle.ghost_model.specs.Catalog.{name_or_none, reference_text, hidden_text, column_text, table_text, canonical_text}
 use Rattle.ghost_model.specs.CatalogLaws.{CanonicalTextMeansItsSchema, ACatalogOfEachText}
 use Rattle.ghost_model.proofs.TokenLemmas.{kinds_anywhere, kinds_after, take_while_all, one_token}
 use Rattle.ghost_model.proofs.SchemaLemmas.{schema_places}
-use Rattle.ghost_model.proofs.SchemaRuleLemmas.{all_rules, one_schema}
-use Rattle.ghost_model.proofs.SchemaTreeLemmas.{never_true, neither, no_first, none_at, column_spelled, column_named, length_within, column_kept, table_spelled, table_named_well, identified, known, tables_spelled}
+use Rattle.ghost_model.proofs.SchemaRuleLemmas.{kept_rules, one_schema}
+use Rattle.ghost_model.proofs.SchemaTreeLemmas.{neither, none_at, column_spelled, column_named, length_within, column_kept, table_spelled, table_named_well, identified, known, tables_spelled}
 
 -- the decimal digits of a length
 
@@ -69,7 +72,7 @@ digit_begins_no_name : (b : ℕ) → is_digit b ≡ true → begins_name b ≡ f
 digit_begins_no_name b h = grind (arith, nat_tests)
 
 free_word : (word : List ℕ) (keyword : Option Keyword) (among : Bool) → (not (is_none keyword) || among) ≡ false
-    → keyword_or (if among then Reserved else Name word) keyword ≡ Name word
+    → option_map_or Word keyword (if among then Reserved else Name word) ≡ Name word
 free_word word None false e = refl
 free_word word None true e = cc
 free_word word (Some keyword) among e = cc
@@ -407,8 +410,8 @@ same_fields at (table ∷ later) =
     (places_mapped canonical_column 0 (columns_written table))
     ∙ ap (λ (rest : List Field). map (λ column. record { table = at; column = column }) (places_of (columns_written table)) ++ rest) (same_fields (at + 1) later)
 
-both_same : {X : Type 0} (a b c d : Option X) → a ≡ b → c ≡ d → or_else a c ≡ or_else b d
-both_same a b c d e f = ap (λ x. or_else x c) e ∙ ap (λ x. or_else b x) f
+both_same : {X : Type 0} (a b c d : Option X) → a ≡ b → c ≡ d → option_or a c ≡ option_or b d
+both_same a b c d e f = ap (λ x. option_or x c) e ∙ ap (λ x. option_or b x) f
 
 module _ (tables : SchemaText) where
   abbrev canonical : SchemaText
@@ -484,12 +487,12 @@ module _ (tables : SchemaText) where
     same_places : places_of canonical ≡ places_of tables
     same_places = places_mapped canonical_table 0 tables
 
-    same_limit : (if is_over canonical then Some Limit else None) ≡ (if is_over tables then Some Limit else None)
-    same_limit = ap (λ b. if b then Some Limit else None) (still_within ∙ sym within)
+    same_limit : broken_if (is_over canonical) Limit ≡ broken_if (is_over tables) Limit
+    same_limit = ap (λ b. broken_if b Limit) (still_within ∙ sym within)
 
-    same_duplicates : duplicate_in canonical ≡ duplicate_in tables
+    same_duplicates : option_map duplicate_at (find (is_duplicate canonical) (fields canonical)) ≡ option_map duplicate_at (find (is_duplicate tables) (fields tables))
     same_duplicates =
-        ap (option_map (λ (field : Field). DuplicateName field.table field.column))
+        ap (option_map duplicate_at)
         (ap (find (is_duplicate canonical)) (same_fields 0 tables) ∙ find_same (is_duplicate canonical) (is_duplicate tables) same_duplicate (fields tables))
 
     same_lacks : option_map NoId (find (lacks_id canonical) (places_of canonical)) ≡ option_map NoId (find (lacks_id tables) (places_of tables))
@@ -498,9 +501,9 @@ module _ (tables : SchemaText) where
         (ap (find (lacks_id canonical)) same_places
         ∙ find_same (lacks_id canonical) (lacks_id tables) (λ place. ap table_lacks_id (slice_get-map canonical_table tables place) ∙ same_lack (slice_get tables place)) (places_of tables))
 
-    same_unknowns : unknown_in canonical ≡ unknown_in tables
+    same_unknowns : option_map unknown_at (find (is_unknown canonical) (fields canonical)) ≡ option_map unknown_at (find (is_unknown tables) (fields tables))
     same_unknowns =
-        ap (option_map (λ (field : Field). UnknownTable field.table field.column))
+        ap (option_map unknown_at)
         (ap (find (is_unknown canonical)) (same_fields 0 tables) ∙ find_same (is_unknown canonical) (is_unknown tables) same_unknown (fields tables))
 
     same_shared : option_map TwoParents (find (is_shared canonical) (places_of canonical)) ≡ option_map TwoParents (find (is_shared tables) (places_of tables))
@@ -517,11 +520,11 @@ module _ (tables : SchemaText) where
     same_roots : wrong_roots (roots_of (schema_of canonical)) ≡ wrong_roots (roots_of (schema_of tables))
     same_roots = ap (λ (all : Schema). wrong_roots (roots_of all)) same_schema
 
-    same_fault : schema_fault canonical ≡ schema_fault tables
+    same_fault : first_broken (schema_rules canonical) ≡ first_broken (schema_rules tables)
     same_fault =
         both_same _ _ _ _ same_limit
         (both_same _ _ _ _ same_duplicates
-        (both_same _ _ _ _ same_lacks (both_same _ _ _ _ same_unknowns (both_same _ _ _ _ same_shared (both_same _ _ _ _ same_cycles same_roots)))))
+        (both_same _ _ _ _ same_lacks (both_same _ _ _ _ same_unknowns (both_same _ _ _ _ same_shared (both_same _ _ _ _ same_cycles (both_same _ _ _ _ same_roots refl))))))
 
 -- what the rules leave of each column
 
@@ -554,7 +557,7 @@ proper_column tables (IntegerColumn name false (Some (To table says_id)) hidden)
       reference_named tables table (table_named tables table) refl known,
     )
 
-module _ (tables : SchemaText) (obeys : (fault : SchemaFault) → Breaks tables fault → ⊥) (spelled : list_all is_spelled (flat_map spell_table tables) ≡ true) where
+module _ (tables : SchemaText) (obeys : MeetsAll (schema_rules tables)) (spelled : list_all is_spelled (flat_map spell_table tables) ≡ true) where
   proper_table : (k : ℕ) (table : TableText) → slice_get tables k ≡ Some table → IsProperTable tables table
   proper_table k table e = record {
     named = table_named_well tables obeys spelled k table e;
@@ -568,12 +571,11 @@ module _ (tables : SchemaText) (obeys : (fault : SchemaFault) → Breaks tables 
 
   canonical_reads : schema_reading (canonical_text (schema_of tables)) ≡ Ok (schema_of tables)
   canonical_reads =
-      let within : is_over tables ≡ false = never_true (is_over tables) (obeys Limit) in
+      let within : is_over tables ≡ false = (kept_rules tables obeys).limits in
       let tree : syntax_of (canonical_text (schema_of tables)) ≡ Ok (map canonical_table tables) =
       (schema_places.tree (canonical_text (schema_of tables)) (map canonical_table tables)).1 (tables_read tables tables proper_table) in
-      let none : schema_fault tables ≡ None = no_first (schema_fault tables) (λ fault e. obeys fault ((all_rules tables).breaks fault e)) in
       ap judged tree
-      ∙ (ap (schema_or (schema_of (map canonical_table tables))) (same_fault tables within ∙ none)
+      ∙ (ap (schema_or (schema_of (map canonical_table tables))) (same_fault tables within ∙ obeys)
       ∙ ap (λ (all : Schema). Ok all) (same_schema tables within))
 
 pub canonical_text_means : CanonicalTextMeansItsSchema

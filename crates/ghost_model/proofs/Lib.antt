@@ -2,6 +2,7 @@ pub mod TokenLemmas
 pub mod TextLemmas
 pub mod GrammarLemmas
 pub mod SchemaLemmas
+pub mod RuleLemmas
 pub mod SchemaRuleLemmas
 pub mod SchemaTreeLemmas
 pub mod CatalogLemmas

@@ -5,7 +5,7 @@ use Rattle.std.proofs.lemmas.Bool.{ltb-true, ltb-false, leb-true, and_parts, or_
 use Rattle.std.proofs.lemmas.List.{length-map}
 use Rattle.std.proofs.lemmas.Option.{slice_get-map}
 use Rattle.std.proofs.lemmas.Slice.Eq.{bytes_eq-Decides}
-use Rattle.ghost_model.specs.Schema.{Integer, Chars, Column, Table, Schema, columns_or_none, columns_of, column_at, parent}
+use Rattle.ghost_model.specs.Schema.{Integer, Chars, Column, Table, Schema, columns_or_none, columns_of, column_at, places_of, parent}
 use Rattle.ghost_model.specs.Query.{Field}
 use Rattle.ghost_model.specs.Tokens.{Symbol, Comma, Closing, Semicolon, End, number_of, is_between}
 use Rattle.ghost_model.specs.Grammar.{separated}
@@ -13,10 +13,11 @@ use Rattle.ghost_model.specs.Spelled.{is_spelled, is_name}
 use Rattle.ghost_model.specs.SchemaGrammar.{To, ColumnText, CharColumn, IntegerColumn, TableText, SchemaText, spell_column, spell_table}
 use Rattle.ghost_model.specs.SchemaMeaning.{columns_written, column_of, table_of, schema_of}
 use Rattle.ghost_model.specs.SchemaFaults as faults
-use Rattle.ghost_model.specs.SchemaFaults.{SchemaFault, Limit, DuplicateName, NoId, UnknownTable, TwoParents, Cycle, NotOneRoot, is_over, is_table_over, is_column_over, column_name, columns_at, repeats, table_repeats, is_duplicate, fields_from, fields, is_identifier, table_lacks_id, lacks_id, is_primary, refers_nowhere, is_unknown, is_shared, ancestor, Returns, places_of, returns, roots_of, IsFirst, Breaks, MeansSchema}
-use Rattle.ghost_model.specs.SchemaTrees.{identifier, IsTree, SchemasAreTrees}
+use Rattle.ghost_model.specs.SchemaFaults.{is_over, is_table_over, is_column_over, column_name, columns_at, repeats, table_repeats, is_duplicate, fields_from, fields, is_identifier, table_lacks_id, lacks_id, is_primary, refers_nowhere, is_unknown, is_shared, ancestor, returns, roots_of, rules, MeansSchema}
+use Rattle.ghost_model.specs.Rules.{MeetsAll}
+use Rattle.ghost_model.specs.SchemaTrees.{identifier, Returns, IsTree, SchemasAreTrees}
 use Rattle.ghost_model.proofs.GrammarLemmas.{spelled_parts, spelled_front}
-use Rattle.ghost_model.proofs.SchemaRuleLemmas.{find_first, place_passes, returns_yes, returns_no, one_less, parent_below, same_or_not}
+use Rattle.ghost_model.proofs.SchemaRuleLemmas.{KeptRules, kept_rules, place_passes, returns_no, one_less, parent_below}
 
 pub never_true : (b : Bool) → (b ≡ true → ⊥) → b ≡ false
 never_true true h = absurd (h refl)
@@ -45,11 +46,9 @@ pub no_first : {X : Type 0} (found : Option X) → ((x : X) → found ≡ Some x
 no_first None h = refl
 no_first (Some x) h = absurd (h x refl)
 
-nowhere : {X : Type 0} (P : ℕ → Type 0) (test : ℕ → Bool) (yes : (x : ℕ) → test x ≡ true → P x) (no : (x : ℕ) → P x → test x ≡ true) (xs : List X)
-    → ((x : ℕ) → IsFirst P (places_of xs) x → ⊥) → (k : ℕ) → k < length xs → test k ≡ false
-nowhere P test holds tests xs h k within =
-    let none : list_any test (places_of xs) ≡ false =
-    none_found test (places_of xs) (no_first (find test (places_of xs)) (λ x e. h x (find_first P test holds tests (places_of xs) x e))) in
+nowhere : {X : Type 0} (test : ℕ → Bool) (xs : List X) → find test (places_of xs) ≡ None → (k : ℕ) → k < length xs → test k ≡ false
+nowhere test xs h k within =
+    let none : list_any test (places_of xs) ≡ false = none_found test (places_of xs) h in
     never_true (test k) (λ e.
     let some : list_any test (places_of xs) ≡ true = place_passes test xs 0 k within (ap test (zero-add k) ∙ e) in
     let clash : false ≡ true = sym none ∙ some in absurd (cc))
@@ -144,11 +143,10 @@ field_passes test (table ∷ later) at (suc k) j holder e h t =
     any_right test (map (field_at at) (places_of (columns_written table))) (fields_from (at + 1) later)
     (field_passes test later (at + 1) k j holder e h (ap (λ n. test (field_at n j)) same ∙ t))
 
-pub nowhere_in : (test : Field → Bool) (tables : SchemaText) → ((x : Field) → IsFirst (λ field. test field ≡ true) (fields tables) x → ⊥)
+pub nowhere_in : (test : Field → Bool) (tables : SchemaText) → find test (fields tables) ≡ None
     → (k j : ℕ) (holder : TableText) → slice_get tables k ≡ Some holder → j < length (columns_written holder) → test (field_at k j) ≡ false
 nowhere_in test tables h k j holder e within =
-    let none : list_any test (fields tables) ≡ false =
-    none_found test (fields tables) (no_first (find test (fields tables)) (λ x f. h x (find_first (λ field. test field ≡ true) test (λ y t. t) (λ y t. t) (fields tables) x f))) in
+    let none : list_any test (fields tables) ≡ false = none_found test (fields tables) h in
     never_true (test (field_at k j)) (λ t.
     let some : list_any test (fields tables) ≡ true = field_passes test tables 0 k j holder e within (ap (λ n. test (field_at n j)) (zero-add k) ∙ t) in
     let clash : false ≡ true = sym none ∙ some in absurd (cc))
@@ -163,7 +161,7 @@ in_front test (y ∷ ys) (suc p) (suc q) x e h t = or_right (test y) _ (in_front
 
 repeated : (names : List (List ℕ)) (p q : ℕ) (name : List ℕ) → slice_get names p ≡ Some name → slice_get names q ≡ Some name → p < q → repeats names q ≡ true
 repeated names p q name e f h =
-    ap (λ o. list_any (faults.is_name o) (take q names)) f ∙ in_front (bytes_eq name) names p q name e h ((bytes_eq-Decides name name).1 refl)
+    ap (λ o. list_any (faults.is_this_name o) (take q names)) f ∙ in_front (bytes_eq name) names p q name e h ((bytes_eq-Decides name name).1 refl)
 
 -- places whose names are never repeated have two names
 distinct : (names : List (List ℕ)) → ((q : ℕ) (name : List ℕ) → slice_get names q ≡ Some name → repeats names q ≡ false)
@@ -235,7 +233,10 @@ key_is_integer tables (CharColumn name digits hidden) child e = absurd (cc)
 key_is_integer tables (IntegerColumn name primary None hidden) child e = absurd (cc)
 key_is_integer tables (IntegerColumn name primary (Some (To table says_id)) hidden) child e = refl
 
-module _ (tables : SchemaText) (obeys : (fault : SchemaFault) → Breaks tables fault → ⊥) (spelled : list_all is_spelled (flat_map spell_table tables) ≡ true) where
+module _ (tables : SchemaText) (obeys : MeetsAll (rules tables)) (spelled : list_all is_spelled (flat_map spell_table tables) ≡ true) where
+  kept : KeptRules tables
+  kept = kept_rules tables obeys
+
   size : length (schema_of tables) ≡ length tables
   size = length-map tables (table_of tables)
 
@@ -250,7 +251,7 @@ module _ (tables : SchemaText) (obeys : (fault : SchemaFault) → Breaks tables 
   declared table held e = mapped (table_of tables) (slice_get tables table) held (sym (slice_get-map (table_of tables) tables table) ∙ e)
 
   limits : (is_over tables) ≡ false
-  limits = never_true (is_over tables) (obeys Limit)
+  limits = kept.limits
 
   few_columns_in : (table : ℕ) (o : Option TableText) → slice_get tables table ≡ o → length (columns_or_none (option_map (table_of tables) o)) ≤ 24
   few_columns_in table None e = omega arith
@@ -265,8 +266,7 @@ module _ (tables : SchemaText) (obeys : (fault : SchemaFault) → Breaks tables 
   pub identified : (table : ℕ) (text : TableText) → slice_get tables table ≡ Some text
       → (is_identifier text.first ≡ true) × (list_any is_primary text.others ≡ false)
   identified table text e =
-      let lacks : lacks_id tables table ≡ false =
-      nowhere (λ place. lacks_id tables place ≡ true) (lacks_id tables) (λ x e. e) (λ x e. e) tables (λ x. obeys (NoId x)) table (place_within tables table text e) in
+      let lacks : lacks_id tables table ≡ false = nowhere (lacks_id tables) tables kept.identifiers table (place_within tables table text e) in
       let both = neither _ _ (ap table_lacks_id (sym e) ∙ lacks) in
       (not_false _ both.0, both.1)
 
@@ -275,7 +275,7 @@ module _ (tables : SchemaText) (obeys : (fault : SchemaFault) → Breaks tables 
       → slice_get (columns_written holder) column ≡ Some text → refers_nowhere tables (Some text) ≡ false
   known table column holder text e h =
       ap (refers_nowhere tables) (sym (ap (λ o. slice_get (columns_at o) column) e ∙ h))
-      ∙ nowhere_in (is_unknown tables) tables (λ x. obeys (UnknownTable x.table x.column)) table column holder e (place_within (columns_written holder) column text h)
+      ∙ nowhere_in (is_unknown tables) tables kept.references table column holder e (place_within (columns_written holder) column text h)
 
   begins : (table : ℕ) → table < length tables → column_at (schema_of tables) table 0 ≡ Some identifier
   begins table h =
@@ -293,9 +293,7 @@ module _ (tables : SchemaText) (obeys : (fault : SchemaFault) → Breaks tables 
   no_return : (table : ℕ) → Returns (schema_of tables) table → ⊥
   no_return table r =
       let within : table < length tables = return_within table r.steps r.moves r.back in
-      let no : returns (schema_of tables) table ≡ false =
-      nowhere (Returns (schema_of tables)) (returns (schema_of tables)) (returns_yes (schema_of tables)) (returns_no (schema_of tables)) tables
-      (λ x. obeys (Cycle x)) table within in
+      let no : returns (schema_of tables) table ≡ false = nowhere (returns (schema_of tables)) tables kept.cycles table within in
       let clash : false ≡ true = sym no ∙ returns_no (schema_of tables) table r in
       absurd (cc)
 
@@ -326,7 +324,7 @@ module _ (tables : SchemaText) (obeys : (fault : SchemaFault) → Breaks tables 
   -- no name is repeated
   fresh : (table column : ℕ) (holder : TableText) → slice_get tables table ≡ Some holder → column < length (columns_written holder)
       → is_duplicate tables (field_at table column) ≡ false
-  fresh = nowhere_in (is_duplicate tables) tables (λ x. obeys (DuplicateName x.table x.column))
+  fresh = nowhere_in (is_duplicate tables) tables kept.names
 
   fresh_table : (table : ℕ) (name : List ℕ) → slice_get (map (λ (text : TableText). text.name) tables) table ≡ Some name → table_repeats tables table ≡ false
   fresh_table table name e =
@@ -377,12 +375,9 @@ module _ (tables : SchemaText) (obeys : (fault : SchemaFault) → Breaks tables 
     keys_are_hidden = λ table column child held e h. (key table column child held e h).0;
     keys_name_tables = λ table column child held e h. subst (λ n. child < n) (sym size) (key table column child held e h).1;
     one_parent = λ table h.
-        ltb-false 1 _ (nowhere (λ place. is_shared tables place ≡ true) (is_shared tables) (λ x e. e) (λ x e. e) tables (λ x. obeys (TwoParents x)) table (subst (λ n. table < n) size h));
+        ltb-false 1 _ (nowhere (is_shared tables) tables kept.parents table (subst (λ n. table < n) size h));
     no_cycle = no_return;
-    one_root = elim (same_or_not (roots_of (schema_of tables)) 1) [
-      | inl e ↦ e
-      | inr d ↦ absurd (obeys (NotOneRoot (roots_of (schema_of tables))) (refl, d))
-    ];
+    one_root = kept.root;
     text_lengths = λ table column most held e k.
         let w = written table column held e in
         lengths_kept tables w.text most (column_kept table column w.holder w.text w.in_tables w.in_columns) (ap (λ (c : Column). c.kind) w.means ∙ k);

@@ -12,16 +12,12 @@ use Rattle.csv.specs.Reading.{records, default_config, strip_bom}
 use Rattle.ghost_model.specs.Schema.{Schema, Column, Kind, Integer, Chars, columns_of, column_at, parent, keys_to, first_of}
 use Rattle.ghost_model.specs.SchemaFaults.{ancestor}
 use Rattle.ghost_model.specs.SchemaTrees.{IsTree}
-use Rattle.ghost_model.specs.Tokens.{is_printable, is_digit}
-pub use Rattle.ghost_model.specs.Tokens.{number_of}
+use Rattle.ghost_model.specs.Tokens.{is_printable}
+pub use Rattle.ghost_model.specs.Tokens.{number_of, is_numeral}
+pub use Rattle.ghost_model.specs.Values.{fits_integer}
 use Rattle.ghost_model.specs.Values.{Value, Number, Text, Row, Rows, Database}
 use Rattle.ghost_model.specs.Query.{Operator}
 use Rattle.ghost_model.specs.Query as query
-
--- whether a number is a signed one of 64 bits
-abbrev pub fits_integer : ℤ → Bool
-fits_integer (pos n) = nat_lt n (2 ^ 63)
-fits_integer (negsuc n) = nat_lt n (2 ^ 63)
 
 -- whether bytes are a text of at most so many characters
 abbrev pub is_text : ℕ → List ℕ → Bool
@@ -166,11 +162,6 @@ holds operator a b = meets operator (order_of a b)
 -- the records of a file: those of comma-separated values, after a byte order mark. A blank line is none
 abbrev pub records_of : List ℕ → List (List (List ℕ))
 records_of file = records default_config (strip_bom file)
-
--- one or more digits
-abbrev pub is_numeral : List ℕ → Bool
-is_numeral [] = false
-is_numeral (digit ∷ digits) = list_all is_digit (digit ∷ digits)
 
 -- the number with these digits and this sign, where it is not above the greatest
 abbrev pub signed_within : ℕ → (ℕ → ℤ) → List ℕ → Option ℤ

@@ -2,12 +2,13 @@
 -- meaning. The rules are tested one after another, each over the whole text. A column may stand without its table
 -- where exactly one FROM table has it. `*` is every column of the FROM tables in the order of the text, identifiers and
 -- foreign keys among them. BETWEEN is two conditions.
-use Rattle.std.specs.Prelude.{◌≡◌, ℕ, ◌-◌, ◌^◌, ◌<◌, ℤ, pos, neg_ℤ, int_le, Bool, true, false, not, ◌&&◌, ◌||◌, ◌==◌, nat_lt, List, [], ◌∷◌, ◌++◌, length, map, filter, filter_map, flat_map, sum_by, Option, Some, None, is_none, option_map, option_and_then, option_to_list, bytes_eq}
+use Rattle.std.specs.Prelude.{◌≡◌, ℕ, ℤ, pos, neg_ℤ, Bool, true, false, not, ◌&&◌, ◌||◌, ◌==◌, nat_lt, List, [], ◌∷◌, ◌++◌, length, map, filter, filter_map, flat_map, sum_by, Option, Some, None, is_none, option_map, option_and_then, option_to_list, bytes_eq}
 use Rattle.std.specs.List.{list_any, list_all}
-use Rattle.ghost_model.specs.Schema.{Schema, Kind, Integer, Chars, columns_of, column_at, places_where, first_of, is_empty, is_table, parent}
+use Rattle.ghost_model.specs.Schema.{Schema, Kind, Integer, Chars, columns_of, column_at, column_kind, places_where, places_of, first_of, is_empty, is_table, parent}
 use Rattle.ghost_model.specs.Tokens.{number_of}
-use Rattle.ghost_model.specs.Values.{Value, Number, Text}
+use Rattle.ghost_model.specs.Values.{Value, Number, Text, fits_integer}
 use Rattle.ghost_model.specs.Query.{Field, AtMost, AtLeast, Condition, Compare, Join, Query}
+use Rattle.ghost_model.specs.Rules.{broken_if, MeetsAll, BreaksFirst}
 use Rattle.ghost_model.specs.Grammar.{Spells, IsSyntaxFault}
 use Rattle.ghost_model.specs.QueryGrammar.{ColumnText, Bare, Qualified, Sign, Positive, Negative, LiteralText, Unsigned, Signed, Written, ConditionText, Compares, LiesBetween, Joins, Selection, All, Columns, QueryText, spelling}
 
@@ -38,7 +39,7 @@ abbrev pub fields_named : Schema → List ℕ → ℕ → List Field
 fields_named schema name table = option_to_list (option_map (field table) (column_named schema table name))
 
 abbrev pub fields_of : Schema → ℕ → List Field
-fields_of schema table = map (field table) (places_where (λ column. true) (columns_of schema table))
+fields_of schema table = map (field table) (places_of (columns_of schema table))
 
 abbrev pub is_among : List ℕ → ℕ → Bool
 is_among tables table = list_any (λ other. other == table) tables
@@ -157,31 +158,21 @@ is_ambiguous schema tree =
     has_repeat (from_tables schema tree)
     || list_any (λ column. nat_lt 1 (length (meanings schema (from_tables schema tree) column))) (columns_in tree)
 
-abbrev pub kind_at : Schema → Field → Option Kind
-kind_at schema place = option_map (λ column. column.kind) (column_at schema place.table place.column)
-
 -- whether a value is of another kind than a column's
 abbrev pub is_other_kind : Option Kind → Value → Bool
 is_other_kind (Some Integer) (Text text) = true
 is_other_kind (Some (Chars most)) (Number number) = true
 is_other_kind kind value = false
 
--- the integers of 64 bits
-abbrev pub lowest_integer : ℤ
-lowest_integer = neg_ℤ (pos (2 ^ 63))
-
-abbrev pub highest_integer : ℤ
-highest_integer = pos (2 ^ 63 - 1)
-
 -- whether an integer is outside 64 bits, or a text longer than its column's texts
 abbrev pub is_too_large : Option Kind → Value → Bool
-is_too_large kind (Number number) = not (int_le lowest_integer number && int_le number highest_integer)
+is_too_large kind (Number number) = not (fits_integer number)
 is_too_large (Some (Chars most)) (Text text) = nat_lt most (length text)
 is_too_large kind (Text text) = false
 
 -- a test of the kind of a condition's column and its literal
 abbrev pub literal_fails : Schema → (Option Kind → Value → Bool) → Condition → Bool
-literal_fails schema test (Compare column operator value) = test (kind_at schema column) value
+literal_fails schema test (Compare column operator value) = test (column_kind schema column.table column.column) value
 literal_fails schema test (Join left right) = false
 
 abbrev pub has_kind_mismatch : Schema → QueryText → Bool
@@ -234,42 +225,31 @@ is_unlinked schema query =
     || is_none (top_of schema query)
     || list_any (lacks_join schema query) query.from
 
--- whether a text, by its tree, breaks the rule of a refusal; a text that has a tree has no syntax fault
-abbrev pub breaks : Schema → List ℕ → QueryText → Refusal → Bool
-breaks schema text tree (Syntax at) = false
-breaks schema text tree Limit = is_over_limit schema text tree
-breaks schema text tree UnknownTable = has_unknown_table schema tree
-breaks schema text tree UnknownColumn = has_unknown_column schema tree
-breaks schema text tree Ambiguous = is_ambiguous schema tree
-breaks schema text tree KindMismatch = has_kind_mismatch schema tree
-breaks schema text tree BadLiteral = has_bad_literal schema tree
-breaks schema text tree NotLinked = is_unlinked schema (resolved schema tree)
+-- the rules that the tree of a text may break, in their order
+abbrev pub rules : Schema → List ℕ → QueryText → List (Option Refusal)
+rules schema text tree =
+    broken_if (is_over_limit schema text tree) Limit
+    ∷ broken_if (has_unknown_table schema tree) UnknownTable
+    ∷ broken_if (has_unknown_column schema tree) UnknownColumn
+    ∷ broken_if (is_ambiguous schema tree) Ambiguous
+    ∷ broken_if (has_kind_mismatch schema tree) KindMismatch
+    ∷ broken_if (has_bad_literal schema tree) BadLiteral
+    ∷ broken_if (is_unlinked schema (resolved schema tree)) NotLinked
+    ∷ []
 
--- the order in which the rules are tested
-abbrev pub rank : Refusal → ℕ
-rank (Syntax at) = 1
-rank Limit = 2
-rank UnknownTable = 3
-rank UnknownColumn = 4
-rank Ambiguous = 5
-rank KindMismatch = 6
-rank BadLiteral = 7
-rank NotLinked = 8
-
--- the text means this query
+-- the text spells a tree that meets the rules, and this is that tree with its names resolved
 pub record Means (schema : Schema) (text : List ℕ) (query : Query) : Type 0 where
   pub tree : QueryText
   pub spells : Spells spelling text tree
-  pub keeps : (rule : Refusal) → breaks schema text tree rule ≡ false
+  pub keeps : MeetsAll (rules schema text tree)
   pub means : query ≡ resolved schema tree
 
--- the text is in the grammar, breaks this rule and none before it
-pub record BreaksFirst (schema : Schema) (text : List ℕ) (rule : Refusal) : Type 0 where
+-- the text spells a tree that breaks a rule, and this is the first one that it breaks
+pub record BreaksRule (schema : Schema) (text : List ℕ) (refusal : Refusal) : Type 0 where
   pub tree : QueryText
   pub spells : Spells spelling text tree
-  pub broken : breaks schema text tree rule ≡ true
-  pub keeps : (earlier : Refusal) → rank earlier < rank rule → breaks schema text tree earlier ≡ false
+  pub breaks : BreaksFirst (rules schema text tree) refusal
 
 abbrev pub IsRefused : Schema → List ℕ → Refusal → Type 0
 IsRefused schema text (Syntax at) = IsSyntaxFault spelling text at
-IsRefused schema text rule = BreaksFirst schema text rule
+IsRefused schema text refusal = BreaksRule schema text refusal

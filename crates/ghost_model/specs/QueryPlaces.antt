@@ -1,11 +1,13 @@
 -- The places between the symbols of a query text, each with what was read so far: the symbols before it, and where
 -- each symbol leads from it. A symbol that leads nowhere is the first one that no text has there. So following the
--- places over the tokens of a text tells its tree, or where its fault stands.
-use Rattle.std.specs.Prelude.{◌≡◌, ℕ, List, [], ◌∷◌, ◌++◌, Option, Some, None, map, option_map, Result, Ok, Err, ◌↔◌}
+-- places over the tokens of a text tells its tree, or where its fault stands. Nothing in this module need be believed:
+-- the law QueryPlacesAreExact (function `query_places_are_exact`) makes `syntax_of` the tree which the text spells and
+-- the fault that the grammar gives it.
+use Rattle.std.specs.Prelude.{ℕ, List, [], ◌∷◌, ◌++◌, Option, Some, None, option_map, Result, Ok, Err}
 use Rattle.ghost_model.specs.Query as query
 use Rattle.ghost_model.specs.Query.{Operator}
-use Rattle.ghost_model.specs.Tokens.{Symbol, Token, tokens, symbol_of, Word, Name, Digits, Quoted, Comma, Point, Star, Plus, Minus, Equal, Unequal, Less, AtMost, More, AtLeast, End, Select, From, Where, And, Between}
-use Rattle.ghost_model.specs.Grammar.{Spells, IsSyntaxFault, separated, begun}
+use Rattle.ghost_model.specs.Tokens.{Symbol, Token, tokens, Word, Name, Digits, Quoted, Comma, Point, Star, Plus, Minus, Equal, Unequal, Less, AtMost, More, AtLeast, End, Select, From, Where, And, Between}
+use Rattle.ghost_model.specs.Grammar.{separated, begun}
 use Rattle.ghost_model.specs.QueryGrammar.{ColumnText, Bare, Qualified, Sign, Positive, Negative, LiteralText, Unsigned, Signed, Written, ConditionText, Compares, LiesBetween, Joins, Selection, All, Columns, QueryText, spell_column, spell_sign, spell_operator, spell_literal, spell_condition, spell_table, spell_selection, spelling}
 
 -- in a selected column: before it, after its table and the point, and after it
@@ -178,21 +180,3 @@ read_from place (token ∷ later) =
 -- the tree of a text, or the offset of its syntax fault
 abbrev pub syntax_of : List ℕ → Result QueryText ℕ
 syntax_of text = read_from Start (tokens text)
-
--- a text was read up to a place and its next token, at this offset, leads nowhere from there
-pub record IsStuck (text : List ℕ) (at : ℕ) : Type 0 where
-  pub place : Place
-  pub read : List Token
-  pub next : Token
-  pub later : List Token
-  pub whole : tokens text ≡ read ++ next ∷ later
-  pub before_it : map symbol_of read ≡ before place
-  pub nowhere : step place next.symbol ≡ None
-  pub offset : next.at ≡ at
-
--- following the places tells exactly the trees that the grammar gives to texts, and exactly their faults; and wherever
--- a text is stuck, whatever way it was read so far, there is its fault
-pub record QueryPlacesAreExact : Type 0 where
-  pub tree : (text : List ℕ) (tree : QueryText) → syntax_of text ≡ Ok tree ↔ Spells spelling text tree
-  pub fault : (text : List ℕ) (at : ℕ) → syntax_of text ≡ Err at ↔ IsSyntaxFault spelling text at
-  pub stuck : (text : List ℕ) (at : ℕ) → IsStuck text at ↔ IsSyntaxFault spelling text at

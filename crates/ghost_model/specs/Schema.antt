@@ -1,7 +1,7 @@
 -- A schema: a list of tables, each a list of columns. Tables and columns are numbered by place from 0, in the order
 -- of their declaration; column 0 of each table is its identifier, `id`. A name is a list of bytes in lower case.
 -- A foreign key names its child table; the parent of a table is the table that holds the foreign key to it.
-use Rattle.std.specs.Prelude.{ℕ, ◌+◌, Bool, true, false, not, ◌&&◌, ◌==◌, List, [], ◌∷◌, Option, Some, None, slice_get, if◌then◌else◌, nat_lt}
+use Rattle.std.specs.Prelude.{ℕ, ◌+◌, Bool, true, false, not, ◌&&◌, ◌==◌, List, [], ◌∷◌, Option, Some, None, option_map, slice_get, if◌then◌else◌, nat_lt}
 
 -- what a column holds: 64-bit signed integers, or texts of at most so many bytes
 pub data Kind : Type 0 where
@@ -33,6 +33,10 @@ columns_of schema table = columns_or_none (slice_get schema table)
 abbrev pub column_at : Schema → ℕ → ℕ → Option Column
 column_at schema table column = slice_get (columns_of schema table) column
 
+-- the kind of a column, where there is one
+abbrev pub column_kind : Schema → (table column : ℕ) → Option Kind
+column_kind schema table column = option_map (λ column. column.kind) (column_at schema table column)
+
 -- the places of the elements that pass a test, ascending, the first element having place `at`
 unfoldable pub places_from : {X : Type 0} → (X → Bool) → ℕ → List X → List ℕ
 places_from test at [] = []
@@ -40,6 +44,10 @@ places_from test at (x ∷ xs) = if test x then at ∷ places_from test (at + 1)
 
 abbrev pub places_where : {X : Type 0} → (X → Bool) → List X → List ℕ
 places_where test xs = places_from test 0 xs
+
+-- the place of each element of a list
+abbrev pub places_of : {X : Type 0} → List X → List ℕ
+places_of xs = places_where (λ _. true) xs
 
 abbrev pub is_empty : {X : Type 0} → List X → Bool
 is_empty [] = true

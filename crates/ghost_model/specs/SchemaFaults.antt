@@ -1,14 +1,14 @@
 -- Why a text means no schema. There are eight rules, tested in their order: the fault of a text is of the first rule
 -- that it breaks, and of one rule it is the first place in text order. The first rule is the grammar; the others speak
 -- of the tree that the text spells. A text that breaks none means the schema of its tree.
-use Rattle.std.specs.Prelude.{◌≡◌, ◌≢◌, ◌⊎◌, ◌↔◌, ℕ, zero, suc, ◌+◌, ◌<◌, nat_lt, Bool, true, false, not, ◌&&◌, ◌||◌, ◌==◌, List, [], ◌∷◌, ◌++◌, length, map, take, find, sum_by, count_by, slice_get, codes, bytes_eq, Option, Some, None, is_none, option_map, option_and_then, Result, Ok, Err, if◌then◌else◌}
+use Rattle.std.specs.Prelude.{◌≡◌, ℕ, zero, suc, ◌+◌, nat_lt, Bool, true, false, not, ◌&&◌, ◌||◌, ◌==◌, List, [], ◌∷◌, ◌++◌, length, map, take, find, sum_by, count_by, slice_get, codes, bytes_eq, Option, Some, None, is_none, option_map, option_and_then}
 use Rattle.std.specs.List.{list_any}
 use Rattle.ghost_model.specs.Tokens.{is_between, number_of}
 use Rattle.ghost_model.specs.Query.{Field}
-use Rattle.ghost_model.specs.Schema.{Schema, Table, places_where, is_table, keys_to, parent}
+use Rattle.ghost_model.specs.Schema.{Schema, Table, places_of, is_table, keys_to, parent}
+use Rattle.ghost_model.specs.Rules.{broken_if, MeetsAll, BreaksFirst}
 use Rattle.ghost_model.specs.Grammar.{Spells, IsSyntaxFault}
 use Rattle.ghost_model.specs.SchemaGrammar.{To, ColumnText, CharColumn, IntegerColumn, TableText, SchemaText, spelling}
-use Rattle.ghost_model.specs.SchemaPlaces.{syntax_of}
 use Rattle.ghost_model.specs.SchemaMeaning.{table_named, columns_written, schema_of}
 
 -- the bytes of a schema's text, at most; a longer one is not read
@@ -48,13 +48,13 @@ abbrev pub column_name : ColumnText → List ℕ
 column_name (CharColumn name digits hidden) = name
 column_name (IntegerColumn name primary reference hidden) = name
 
-abbrev pub is_name : Option (List ℕ) → List ℕ → Bool
-is_name None other = false
-is_name (Some name) other = bytes_eq name other
+abbrev pub is_this_name : Option (List ℕ) → List ℕ → Bool
+is_this_name None other = false
+is_this_name (Some name) other = bytes_eq name other
 
 -- the name at a place stands at an earlier place too
 abbrev pub repeats : List (List ℕ) → ℕ → Bool
-repeats names place = list_any (is_name (slice_get names place)) (take place names)
+repeats names place = list_any (is_this_name (slice_get names place)) (take place names)
 
 abbrev pub columns_at : Option TableText → List ColumnText
 columns_at None = []
@@ -103,21 +103,11 @@ keys_naming schema child = sum_by (λ (table : Table). length (keys_to child tab
 abbrev pub is_shared : SchemaText → ℕ → Bool
 is_shared tables child = nat_lt 1 (keys_naming (schema_of tables) child)
 
--- Cycle: following parents from a table returns to it
+-- Cycle: following parents from a table returns to it, in at most as many steps as there are tables
 unfoldable pub ancestor : Schema → (steps table : ℕ) → Option ℕ
 ancestor schema zero table = Some table
 ancestor schema (suc steps) table = option_and_then (parent schema) (ancestor schema steps table)
 
-pub record Returns (schema : Schema) (table : ℕ) : Type 0 where
-  pub steps : ℕ
-  pub moves : 0 < steps
-  pub back : ancestor schema steps table ≡ Some table
-
--- the place of each element of a list
-abbrev pub places_of : {X : Type 0} → List X → List ℕ
-places_of xs = places_where (λ _. true) xs
-
--- what returns does so in at most as many steps as there are tables
 abbrev pub returns : Schema → ℕ → Bool
 returns schema table =
     list_any (λ steps. is_table table (ancestor schema (suc steps) table)) (places_of schema)
@@ -136,106 +126,40 @@ fields_from at (table ∷ later) =
 abbrev pub fields : SchemaText → List Field
 fields tables = fields_from 0 tables
 
--- of none of these it holds
-abbrev pub NoneOf : {X : Type 0} → (X → Type 0) → List X → Type 0
-NoneOf P [] = Unit {0}
-NoneOf P (x ∷ xs) = (P x → ⊥) × NoneOf P xs
+-- the rules that a tree may break, in their order, each with its fault at the first place that breaks it
+abbrev pub duplicate_at : Field → SchemaFault
+duplicate_at field = DuplicateName field.table field.column
 
--- the first of a list of which it holds
-pub record IsFirst {X : Type 0} (P : X → Type 0) (all : List X) (x : X) : Type 0 where
-  pub front : List X
-  pub back : List X
-  pub whole : front ++ x ∷ back ≡ all
-  pub holds : P x
-  pub none_before : NoneOf P front
+abbrev pub unknown_at : Field → SchemaFault
+unknown_at field = UnknownTable field.table field.column
 
--- the tree breaks the rule, and this is the first place where it does, or for the roots their number
-abbrev pub Breaks : SchemaText → SchemaFault → Type 0
-Breaks tables (Syntax at) = ⊥
-Breaks tables Limit = is_over tables ≡ true
-Breaks tables (DuplicateName table column) =
-    IsFirst (λ field. is_duplicate tables field ≡ true) (fields tables) (record { table = table; column = column })
-Breaks tables (NoId table) = IsFirst (λ place. lacks_id tables place ≡ true) (places_of tables) table
-Breaks tables (UnknownTable table column) =
-    IsFirst (λ field. is_unknown tables field ≡ true) (fields tables) (record { table = table; column = column })
-Breaks tables (TwoParents child) = IsFirst (λ place. is_shared tables place ≡ true) (places_of tables) child
-Breaks tables (Cycle table) = IsFirst (Returns (schema_of tables)) (places_of tables) table
-Breaks tables (NotOneRoot roots) = (roots ≡ roots_of (schema_of tables)) × (roots ≢ 1)
+abbrev pub wrong_roots : ℕ → Option SchemaFault
+wrong_roots roots = broken_if (not (roots == 1)) (NotOneRoot roots)
 
--- the order of the rules
-abbrev pub rank : SchemaFault → ℕ
-rank (Syntax at) = 0
-rank Limit = 1
-rank (DuplicateName table column) = 2
-rank (NoId table) = 3
-rank (UnknownTable table column) = 4
-rank (TwoParents child) = 5
-rank (Cycle table) = 6
-rank (NotOneRoot roots) = 7
+abbrev pub rules : SchemaText → List (Option SchemaFault)
+rules tables =
+    broken_if (is_over tables) Limit
+    ∷ option_map duplicate_at (find (is_duplicate tables) (fields tables))
+    ∷ option_map NoId (find (lacks_id tables) (places_of tables))
+    ∷ option_map unknown_at (find (is_unknown tables) (fields tables))
+    ∷ option_map TwoParents (find (is_shared tables) (places_of tables))
+    ∷ option_map Cycle (find (returns (schema_of tables)) (places_of tables))
+    ∷ wrong_roots (roots_of (schema_of tables))
+    ∷ []
 
--- the text spells a tree that breaks no rule, and this is the schema of that tree
+-- the text spells a tree that meets the rules, and this is the schema of that tree
 pub record MeansSchema (text : List ℕ) (schema : Schema) : Type 0 where
   pub tables : SchemaText
   pub spells : Spells spelling text tables
-  pub obeys : (fault : SchemaFault) → Breaks tables fault → ⊥
+  pub obeys : MeetsAll (rules tables)
   pub means : schema_of tables ≡ schema
 
--- the tree that the text spells breaks the rule of this fault and none before it
-pub record BreaksFirst (text : List ℕ) (fault : SchemaFault) : Type 0 where
+-- the text spells a tree that breaks a rule, and this is the fault of the first one that it breaks
+pub record HasFault (text : List ℕ) (fault : SchemaFault) : Type 0 where
   pub tables : SchemaText
   pub spells : Spells spelling text tables
-  pub breaks : Breaks tables fault
-  pub none_earlier : (earlier : SchemaFault) → rank earlier < rank fault → Breaks tables earlier → ⊥
+  pub breaks : BreaksFirst (rules tables) fault
 
 abbrev pub IsSchemaFault : List ℕ → SchemaFault → Type 0
 IsSchemaFault text (Syntax at) = IsSyntaxFault spelling text at
-IsSchemaFault text fault = BreaksFirst text fault
-
--- The same, to be computed: the first fault of a tree by the rules in their order, and what a text is read as.
-abbrev pub duplicate_in : SchemaText → Option SchemaFault
-duplicate_in tables =
-    option_map (λ (field : Field). DuplicateName field.table field.column) (find (is_duplicate tables) (fields tables))
-
-abbrev pub unknown_in : SchemaText → Option SchemaFault
-unknown_in tables =
-    option_map (λ (field : Field). UnknownTable field.table field.column) (find (is_unknown tables) (fields tables))
-
-abbrev pub wrong_roots : ℕ → Option SchemaFault
-wrong_roots roots = if roots == 1 then None else Some (NotOneRoot roots)
-
-abbrev pub or_else : {X : Type 0} → Option X → Option X → Option X
-or_else None other = other
-or_else (Some x) other = Some x
-
-abbrev pub schema_fault : SchemaText → Option SchemaFault
-schema_fault tables =
-    or_else (if is_over tables then Some Limit else None)
-    (or_else (duplicate_in tables)
-    (or_else (option_map NoId (find (lacks_id tables) (places_of tables)))
-    (or_else (unknown_in tables)
-    (or_else (option_map TwoParents (find (is_shared tables) (places_of tables)))
-    (or_else (option_map Cycle (find (returns (schema_of tables)) (places_of tables)))
-    (wrong_roots (roots_of (schema_of tables))))))))
-
-abbrev pub schema_or : Schema → Option SchemaFault → Result Schema SchemaFault
-schema_or schema None = Ok schema
-schema_or schema (Some fault) = Err fault
-
-abbrev pub judged : Result SchemaText ℕ → Result Schema SchemaFault
-judged (Err at) = Err (Syntax at)
-judged (Ok tables) = schema_or (schema_of tables) (schema_fault tables)
-
-abbrev pub schema_reading : List ℕ → Result Schema SchemaFault
-schema_reading text = judged (syntax_of text)
-
--- each text means one schema or has one fault, and not both; and this is what it is read as
-pub record OneSchemaReading : Type 0 where
-  pub read : (text : List ℕ) (schema : Schema) → (schema_reading text ≡ Ok schema) ↔ MeansSchema text schema
-  pub refused : (text : List ℕ) (fault : SchemaFault) → (schema_reading text ≡ Err fault) ↔ IsSchemaFault text fault
-  pub one_schema : (text : List ℕ) (schema other : Schema) → MeansSchema text schema → MeansSchema text other → schema ≡ other
-  pub one_fault :
-      (text : List ℕ) (fault other : SchemaFault) → IsSchemaFault text fault → IsSchemaFault text other → fault ≡ other
-  pub not_both : (text : List ℕ) (schema : Schema) (fault : SchemaFault) → MeansSchema text schema → IsSchemaFault text fault → ⊥
-  pub some :
-      (text : List ℕ)
-      → ((schema : Schema) × MeansSchema text schema) ⊎ ((fault : SchemaFault) × IsSchemaFault text fault)
+IsSchemaFault text fault = HasFault text fault

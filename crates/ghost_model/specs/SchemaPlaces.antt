@@ -1,10 +1,11 @@
 -- The places between the tokens of a text that declares tables. At each place stands what was read so far; `before`
 -- are the symbols that were read, and `step` says where a symbol leads, or that no text has it there. So the grammar
 -- can be read from left to right: `syntax_of` answers the tree of a text, or the offset of the first token that leads
--- nowhere. That this is the tree which the text spells, and the fault that the grammar gives it, is a law.
-use Rattle.std.specs.Prelude.{◌≡◌, ◌↔◌, ℕ, Bool, true, false, List, [], ◌∷◌, ◌++◌, flat_map, codes, bytes_eq, Option, Some, None, option_map, Result, Ok, Err, if◌then◌else◌}
+-- nowhere. Nothing in this module need be believed: the law SchemaPlacesAreExact (function `schema_places_are_exact`)
+-- makes `syntax_of` the tree which the text spells and the fault that the grammar gives it.
+use Rattle.std.specs.Prelude.{ℕ, Bool, true, false, List, [], ◌∷◌, ◌++◌, flat_map, codes, bytes_eq, Option, Some, None, option_map, Result, Ok, Err, if◌then◌else◌}
 use Rattle.ghost_model.specs.Tokens.{Symbol, Token, Word, Name, Digits, Open, Closing, Comma, Semicolon, End, Char, Create, Hidden, Integer, Key, Primary, References, Table, tokens}
-use Rattle.ghost_model.specs.Grammar.{Spells, IsSyntaxFault, begun}
+use Rattle.ghost_model.specs.Grammar.{begun}
 use Rattle.ghost_model.specs.SchemaGrammar.{Reference, To, ColumnText, CharColumn, IntegerColumn, TableText, SchemaText, spell_primary, spell_column, spell_heading, spell_table, spelling}
 
 -- within a column. A column that may stand as it is is `Whole`, also where more may follow
@@ -129,8 +130,3 @@ syntax_from (Some place) at (token ∷ later) = syntax_from (step place token.sy
 -- the tree of a text, or the offset of its fault
 abbrev pub syntax_of : List ℕ → Result SchemaText ℕ
 syntax_of text = syntax_from (Some (Between [])) 0 (tokens text)
-
--- the places say of each text what the grammar says
-pub record SchemaPlacesAreExact : Type 0 where
-  pub tree : (text : List ℕ) (tables : SchemaText) → (syntax_of text ≡ Ok tables) ↔ Spells spelling text tables
-  pub fault : (text : List ℕ) (at : ℕ) → (syntax_of text ≡ Err at) ↔ IsSyntaxFault spelling text at

@@ -6,11 +6,17 @@
 use Rattle.std.specs.Prelude.{◌≡◌, ℕ, ◌<◌, ◌≤◌, true, false, List, length, codes, Some, None, slice_get}
 use Rattle.ghost_model.specs.Schema.{Integer, Chars, Column, Table, Schema, columns_of, column_at}
 use Rattle.ghost_model.specs.Spelled.{is_name}
-use Rattle.ghost_model.specs.SchemaFaults.{Returns, keys_naming, roots_of, MeansSchema}
+use Rattle.ghost_model.specs.SchemaFaults.{ancestor, keys_naming, roots_of, MeansSchema}
 
 -- `id`, which both sides know
 abbrev pub identifier : Column
 identifier = record { name = codes "id"; kind = Integer; hidden = false; child = None }
+
+-- following parents from a table returns to it
+pub record Returns (schema : Schema) (table : ℕ) : Type 0 where
+  pub steps : ℕ
+  pub moves : 0 < steps
+  pub back : ancestor schema steps table ≡ Some table
 
 pub record IsTree (schema : Schema) : Type 0 where
   pub few_tables : length schema ≤ 12

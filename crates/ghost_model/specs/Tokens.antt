@@ -4,8 +4,9 @@
 -- the reserved ones are no names. A text literal is one token: `'`, characters 0x20 to 0x7E with `''` for one `'`, and
 -- a last `'`. A byte that begins no token, and a `'` whose literal has another byte in it or no end, are a bad token,
 -- which no text of a grammar has. The list ends with the end of the text, so that each fault has its place.
-use Rattle.std.specs.Prelude.{ℕ, zero, suc, ◌+◌, ◌-◌, Bool, true, false, ◌&&◌, ◌||◌, ◌==◌, nat_le, List, [], ◌∷◌, ◌++◌, length, map, take_while, if◌then◌else◌, codes, bytes_eq, Option, Some, None, slice_get, option_map, ◌*◌, fold}
-use Rattle.std.specs.List.{list_any}
+use Rattle.std.specs.Prelude.{ℕ, zero, suc, ◌+◌, ◌-◌, Bool, true, false, ◌&&◌, ◌||◌, ◌==◌, nat_le, List, [], ◌∷◌, ◌++◌, length, map, take_while, if◌then◌else◌, codes, bytes_eq, Option, Some, None, find, slice_get, option_map, ◌*◌, fold}
+use Rattle.std.specs.List.{list_any, list_all}
+use Rattle.std.specs.Option.{option_map_or}
 use Rattle.std.specs.Char.{to_ascii_lowercase}
 
 -- the reserved words that the grammars use; INT is another spelling of INTEGER
@@ -63,6 +64,11 @@ is_space byte = byte == 32 || byte == 9 || byte == 10 || byte == 13
 abbrev pub is_digit : ℕ → Bool
 is_digit byte = is_between 48 57 byte
 
+-- one or more digits
+abbrev pub is_numeral : List ℕ → Bool
+is_numeral [] = false
+is_numeral (digit ∷ digits) = list_all is_digit (digit ∷ digits)
+
 -- the number that decimal digits write, of any length
 abbrev pub number_of : List ℕ → ℕ
 number_of digits = fold (λ number digit. number * 10 + (digit - 48)) 0 digits
@@ -81,42 +87,44 @@ is_printable byte = is_between 32 126 byte
 abbrev pub in_lower_case : List ℕ → List ℕ
 in_lower_case bytes = map to_ascii_lowercase bytes
 
+-- the word of each keyword, in lower case
+abbrev pub keyword_text : Keyword → List ℕ
+keyword_text And = codes "and"
+keyword_text Between = codes "between"
+keyword_text Char = codes "char"
+keyword_text Create = codes "create"
+keyword_text From = codes "from"
+keyword_text Hidden = codes "hidden"
+keyword_text Integer = codes "integer"
+keyword_text Key = codes "key"
+keyword_text Primary = codes "primary"
+keyword_text References = codes "references"
+keyword_text Select = codes "select"
+keyword_text Table = codes "table"
+keyword_text Where = codes "where"
+
+abbrev pub keywords : List Keyword
+keywords =
+    And ∷ Between ∷ Char ∷ Create ∷ From ∷ Hidden ∷ Integer ∷ Key ∷ Primary ∷ References ∷ Select ∷ Table ∷ Where ∷ []
+
+-- the keyword that a word in lower case is; INT is INTEGER too
+abbrev pub keyword_of : List ℕ → Option Keyword
+keyword_of word =
+    if bytes_eq word (codes "int") then Some Integer else find (λ keyword. bytes_eq word (keyword_text keyword)) keywords
+
 -- the reserved words that the grammars do not use yet
 abbrev pub other_reserved : List (List ℕ)
 other_reserved =
     codes "by" ∷ codes "count" ∷ codes "group" ∷ codes "in" ∷ codes "is" ∷ codes "max" ∷ codes "min" ∷ codes "not"
     ∷ codes "null" ∷ codes "or" ∷ codes "sum" ∷ []
 
--- the keyword that a word in lower case is
-abbrev pub keyword_of : List ℕ → Option Keyword
-keyword_of word =
-    if bytes_eq word (codes "and") then Some And
-    else if bytes_eq word (codes "between") then Some Between
-    else if bytes_eq word (codes "char") then Some Char
-    else if bytes_eq word (codes "create") then Some Create
-    else if bytes_eq word (codes "from") then Some From
-    else if bytes_eq word (codes "hidden") then Some Hidden
-    else if bytes_eq word (codes "int") then Some Integer
-    else if bytes_eq word (codes "integer") then Some Integer
-    else if bytes_eq word (codes "key") then Some Key
-    else if bytes_eq word (codes "primary") then Some Primary
-    else if bytes_eq word (codes "references") then Some References
-    else if bytes_eq word (codes "select") then Some Select
-    else if bytes_eq word (codes "table") then Some Table
-    else if bytes_eq word (codes "where") then Some Where
-    else None
-
 -- a word that is no keyword: a name, or one of the other reserved words
 abbrev pub name_or_reserved : List ℕ → Symbol
 name_or_reserved word = if list_any (bytes_eq word) other_reserved then Reserved else Name word
 
-abbrev pub keyword_or : Symbol → Option Keyword → Symbol
-keyword_or other None = other
-keyword_or other (Some keyword) = Word keyword
-
 -- what a word in lower case is: a keyword, another reserved word, or a name
 abbrev pub symbol_of_word : List ℕ → Symbol
-symbol_of_word word = keyword_or (name_or_reserved word) (keyword_of word)
+symbol_of_word word = option_map_or Word (keyword_of word) (name_or_reserved word)
 
 -- a symbol and how many bytes it takes
 pub record Read : Type 0 where

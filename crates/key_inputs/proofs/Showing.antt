@@ -2,7 +2,7 @@
 use Rattle.std.proofs.Common.{◌≡◌, ℕ, List, [], ◌∷◌, Option, Some, None, refl, sym, ap, ◌∙◌, subst, map as each}
 use Rattle.std.specs.FinMap as map
 use Rattle.ghost_model.specs.Schema.{Schema, columns_of}
-use Rattle.ghost_model.specs.SchemaFaults.{schema_reading}
+use Rattle.ghost_model.specs.SchemaReading.{schema_reading}
 use Rattle.ghost_model.specs.LoadFaults as load
 use Rattle.ghost_model.specs.Values.{Database}
 use Rattle.ghost_model.specs.Database.{database_of}

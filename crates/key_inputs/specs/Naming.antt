@@ -2,7 +2,7 @@
 use Rattle.std.specs.Prelude.{◌≡◌, ◌≢◌, ℕ, ◌-◌, nat_le, List, [], length, take, slice_get, Option, Some, None, option_map, option_and_then, Ok, if◌then◌else◌, ⊤}
 use Rattle.std.specs.FinMap as map
 use Rattle.ghost_model.specs.Schema.{Schema, Column, column_at}
-use Rattle.ghost_model.specs.SchemaFaults.{schema_reading}
+use Rattle.ghost_model.specs.SchemaReading.{schema_reading}
 use Rattle.ghost_model.specs.Database.{field, records_of, database_of}
 use Rattle.ghost_model.specs.Cells.{padded}
 use Rattle.ghost_model.specs.Printed.{field_text}

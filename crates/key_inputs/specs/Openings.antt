@@ -4,7 +4,8 @@
 use Rattle.std.specs.Prelude.{ℕ, ◌+◌, nat_le, List, [], ◌∷◌, ◌++◌, length, codes, Option, Some, None, Result, Ok, Err, if◌then◌else◌}
 use Rattle.std.specs.FinMap as map
 use Rattle.ghost_model.specs.Schema.{Schema, Table}
-use Rattle.ghost_model.specs.SchemaFaults.{SchemaFault, schema_reading}
+use Rattle.ghost_model.specs.SchemaFaults.{SchemaFault}
+use Rattle.ghost_model.specs.SchemaReading.{schema_reading}
 use Rattle.ghost_model.specs.LoadFaults.{LoadFault, file_faults, reference_faults}
 use Rattle.ghost_model.specs.Database.{database_of}
 use Rattle.edge_traits.specs.Files.{Files}

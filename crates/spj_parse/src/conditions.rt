@@ -33,7 +33,7 @@ pub(crate) enum ConditionTest {
 
 /// The kind of a column.
 fn kind_at(schema: &Schema, field: Field) -> Option<Kind>
-    ensures kind { option_map kind_of result ≡ meaning.kind_at schema.now (field_of field) }
+    ensures kind { option_map kind_of result ≡ model.column_kind schema.now field.table field.column }
 {
     match schema.column(field.table as usize, field.column as usize) {
         None => None,

@@ -5,7 +5,8 @@ use Rattle.std.proofs.lemmas.Bool.{ne_eqb, eqb-true, cases_lt}
 use Rattle.std.proofs.lemmas.Map.Steps.{length-le_from_distinct_below}
 use Rattle.std.proofs.lemmas.Option.{slice_get_past}
 use Rattle.ghost_model.specs.Schema.{Schema, Table, places_from, first_of, is_empty, keys_to, parent}
-use Rattle.ghost_model.specs.SchemaFaults.{ancestor, Returns}
+use Rattle.ghost_model.specs.SchemaFaults.{ancestor}
+use Rattle.ghost_model.specs.SchemaTrees.{Returns}
 
 some_before : (o : Option ℕ) (f : ℕ → Option ℕ) (x : ℕ) → option_and_then f o ≡ Some x → (y : ℕ) × (o ≡ Some y) × (f y ≡ Some x)
 some_before None f x e = absurd (cc)

@@ -5,6 +5,7 @@ ghost use Rattle.std.specs.List.{list_any};
 ghost use Rattle.ghost_model.specs.Tokens as tokens;
 ghost use Rattle.ghost_model.specs.SchemaMeaning as meaning;
 ghost use Rattle.ghost_model.specs.SchemaMeaning.{columns_written};
+ghost use Rattle.ghost_model.specs.Schema.{places_of};
 ghost use Rattle.ghost_model.specs.SchemaFaults as faults;
 ghost use Rattle.tree_schema.specs.Drafts.{column_of, table_of};
 ghost use Rattle.tree_schema.specs.Faults.{field_at, field_of, refused, fault_of_texts};
@@ -130,7 +131,7 @@ fn lacks_id_at(tables: &[TableDraft], place: usize) -> bool
 
 /// The first table that does not begin with its one identifier.
 fn first_without_id(tables: &[TableDraft]) -> Option<usize>
-    ensures first { result ≡ find (faults.lacks_id (map table_of tables.now)) (faults.places_of (map table_of tables.now)) }
+    ensures first { result ≡ find (faults.lacks_id (map table_of tables.now)) (places_of (map table_of tables.now)) }
 {
     for place in 0..tables.len() {
         if lacks_id_at(tables, place) {
@@ -294,7 +295,7 @@ fn columns_len(tables: &[TableDraft], table: usize) -> usize
 
 /// The first column of a table that repeats a name.
 fn first_duplicate_in(tables: &[TableDraft], table: usize) -> Option<usize>
-    ensures first { result ≡ find (λ column. faults.is_duplicate (map table_of tables.now) (field_at table column)) (faults.places_of (faults.columns_at (slice_get (map table_of tables.now) table))) }
+    ensures first { result ≡ find (λ column. faults.is_duplicate (map table_of tables.now) (field_at table column)) (places_of (faults.columns_at (slice_get (map table_of tables.now) table))) }
 {
     for column in 0..columns_len(tables, table) {
         if is_duplicate(tables, table, column) {
@@ -318,7 +319,7 @@ fn first_duplicate(tables: &[TableDraft]) -> Option<(usize, usize)>
 
 /// The first column of a table whose REFERENCES names no table.
 fn first_unknown_in(tables: &[TableDraft], table: usize) -> Option<usize>
-    ensures first { result ≡ find (λ column. faults.is_unknown (map table_of tables.now) (field_at table column)) (faults.places_of (faults.columns_at (slice_get (map table_of tables.now) table))) }
+    ensures first { result ≡ find (λ column. faults.is_unknown (map table_of tables.now) (field_at table column)) (places_of (faults.columns_at (slice_get (map table_of tables.now) table))) }
 {
     for column in 0..columns_len(tables, table) {
         if is_unknown(tables, table, column) {

@@ -154,7 +154,9 @@ fn mark_of_word(word: &[u8]) -> Mark
     ensures symbol { symbol_of result word.now ≡ tokens.symbol_of_word (tokens.in_lower_case word.now) }
     ensures some { result ≢ End }
 {
-    if is_word(word, b"and") {
+    if is_word(word, b"int") {
+        Mark::Integer
+    } else if is_word(word, b"and") {
         Mark::And
     } else if is_word(word, b"between") {
         Mark::Between
@@ -166,8 +168,6 @@ fn mark_of_word(word: &[u8]) -> Mark
         Mark::From
     } else if is_word(word, b"hidden") {
         Mark::Hidden
-    } else if is_word(word, b"int") {
-        Mark::Integer
     } else if is_word(word, b"integer") {
         Mark::Integer
     } else if is_word(word, b"key") {

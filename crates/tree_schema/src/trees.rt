@@ -2,6 +2,7 @@
 
 ghost use Rattle.std.specs.Prelude.{◌≡◌, ◌≤◌, length, find, count_by, option_and_then};
 ghost use Rattle.ghost_model.specs.Schema as schema;
+ghost use Rattle.ghost_model.specs.Schema.{places_of};
 ghost use Rattle.ghost_model.specs.SchemaFaults as faults;
 ghost use Rattle.tree_schema.specs.Views.{schema_of, table_of};
 ghost use Rattle.tree_schema.specs.Faults.{refused, is_shared, fault_of_tree};
@@ -47,7 +48,7 @@ fn keys_naming(tables: &[Table], child: usize) -> usize
 /// The first table that two foreign keys name.
 fn first_shared(tables: &[Table]) -> Option<usize>
     requires few { length tables.now ≤ MAX_TABLES }
-    ensures first { result ≡ find (is_shared (schema_of tables.now)) (faults.places_of (schema_of tables.now)) }
+    ensures first { result ≡ find (is_shared (schema_of tables.now)) (places_of (schema_of tables.now)) }
 {
     for child in 0..tables.len() {
         if keys_naming(tables, child) > 1 {
@@ -83,7 +84,7 @@ fn returns(tables: &[Table], table: usize) -> bool
 
 /// The first table from which following parents returns.
 fn first_in_cycle(tables: &[Table]) -> Option<usize>
-    ensures first { result ≡ find (faults.returns (schema_of tables.now)) (faults.places_of (schema_of tables.now)) }
+    ensures first { result ≡ find (faults.returns (schema_of tables.now)) (places_of (schema_of tables.now)) }
 {
     for table in 0..tables.len() {
         if returns(tables, table) {

@@ -5,7 +5,8 @@ use Rattle.std.specs.List.{list_all, list_any}
 use Rattle.ghost_model.specs.Schema.{Schema, is_table}
 use Rattle.ghost_model.specs.Query.{Query, Field, Condition, Compare, Join, AtMost, AtLeast}
 use Rattle.ghost_model.specs.QueryGrammar.{ColumnText, Bare, Qualified, ConditionText, Compares, LiesBetween, Joins}
-use Rattle.ghost_model.specs.QueryMeaning.{field, value_of, column_named, table_named, fields_named, meanings, conditions_of, resolved, top_of, is_key_to, is_proper, lacks_join, NotLinked, Means}
+use Rattle.ghost_model.specs.QueryMeaning.{field, value_of, column_named, table_named, fields_named, meanings, conditions_of, resolved, top_of, is_key_to, is_proper, lacks_join, Means}
+use Rattle.ghost_model.proofs.QueryReadingLemmas.{kept_rules}
 use Rattle.ghost_model.proofs.MeaningLemmas.OneRow.{Among, from_filter, from_map, either_true, neither_true, both_true}
 use Rattle.ghost_laws.proofs.ScanLemmas.Choices.{from_flat}
 
@@ -83,7 +84,7 @@ not_false false h = let bad : ⊥ = cc in absurd bad
 pub has_conditions : (schema : Schema) (text : List ℕ) (asked : Query) → Means schema text asked → HasConditions schema asked
 has_conditions schema text asked means =
     let it : Query = resolved schema means.tree in
-    let joined = neither_true (not (list_all (is_proper schema) it.conditions) || is_none (top_of schema it)) (list_any (lacks_join schema it) it.from) (means.keeps NotLinked) in
+    let joined = neither_true (not (list_all (is_proper schema) it.conditions) || is_none (top_of schema it)) (list_any (lacks_join schema it) it.from) (kept_rules schema text means.tree means.keeps).linked in
     let proper = neither_true (not (list_all (is_proper schema) it.conditions)) (is_none (top_of schema it)) joined.0 in
     let all = not_false (list_all (is_proper schema) it.conditions) proper.0 in
     subst (λ (q : Query). HasConditions schema q) (sym means.means) (record {

@@ -5,7 +5,8 @@ use Rattle.std.specs.List.{list_all, list_any}
 use Rattle.ghost_model.specs.Schema.{Schema}
 use Rattle.ghost_model.specs.Values.{Row}
 use Rattle.ghost_model.specs.Query.{Query, Field, Condition, Compare, Join}
-use Rattle.ghost_model.specs.QueryMeaning.{has_repeat, is_key_to, meanings, columns_in, resolved, Ambiguous, Means}
+use Rattle.ghost_model.specs.QueryMeaning.{has_repeat, is_key_to, meanings, columns_in, resolved, Means}
+use Rattle.ghost_model.proofs.QueryReadingLemmas.{kept_rules}
 use Rattle.ghost_model.specs.Replies.{identifiers_from}
 use Rattle.ghost_model.proofs.ChannelLemmas.Tests.{hold_both}
 use Rattle.ghost_model.proofs.MeaningLemmas.OneRow.{Among, among_is, is_among_to, neither_true, query_is_linked}
@@ -47,7 +48,7 @@ conditions_have schema text asked means =
 no_repeat_from : (schema : Schema) (text : List ℕ) (asked : Query) → Means schema text asked → has_repeat asked.from ≡ false
 no_repeat_from schema text asked means =
     let it : Query = resolved schema means.tree in
-    let once = neither_true (has_repeat it.from) (list_any (λ column. nat_lt 1 (length (meanings schema it.from column))) (columns_in means.tree)) (means.keeps Ambiguous) in
+    let once = neither_true (has_repeat it.from) (list_any (λ column. nat_lt 1 (length (meanings schema it.from column))) (columns_in means.tree)) (kept_rules schema text means.tree means.keeps).one_meaning in
     subst (λ (q : Query). has_repeat q.from ≡ false) (sym means.means) once.0
 
 pub accepted_queries_are_followed : AcceptedQueriesAreFollowed

@@ -10,7 +10,8 @@ use Rattle.ghost_model.specs.SchemaTrees.{IsTree}
 use Rattle.ghost_model.specs.Values.{Value, Number, Text, Row}
 use Rattle.ghost_model.specs.Query.{Query, Field}
 use Rattle.ghost_model.specs.QueryGrammar.{ColumnText, Selection, All, Columns, QueryText}
-use Rattle.ghost_model.specs.QueryMeaning.{meanings, from_tables, selected, selected_count, columns_in, selection_columns, Limit, Ambiguous, Means}
+use Rattle.ghost_model.specs.QueryMeaning.{meanings, from_tables, selected, selected_count, columns_in, selection_columns, Means}
+use Rattle.ghost_model.proofs.QueryReadingLemmas.{kept_rules}
 use Rattle.ghost_model.specs.Tokens.{is_printable}
 use Rattle.ghost_model.specs.Database.{is_of_kind}
 use Rattle.ghost_model.specs.Asks.{kind_or_none, kind_at}
@@ -44,8 +45,9 @@ few_selected schema tree (Columns column more) others few once =
 
 pub select_few : (schema : Schema) (text : List ℕ) (asked : Query) → Means schema text asked → length asked.select ≤ 32
 select_few schema text asked means =
-    let few = neither_true _ (nat_lt 32 (selected_count schema means.tree means.tree.selection)) (means.keeps Limit) in
-    let once = neither_true _ (list_any (λ column. nat_lt 1 (length (meanings schema (from_tables schema means.tree) column))) (columns_in means.tree)) (means.keeps Ambiguous) in
+    let kept = kept_rules schema text means.tree means.keeps in
+    let few = neither_true _ (nat_lt 32 (selected_count schema means.tree means.tree.selection)) kept.limits in
+    let once = neither_true _ (list_any (λ column. nat_lt 1 (length (meanings schema (from_tables schema means.tree) column))) (columns_in means.tree)) kept.one_meaning in
     subst (λ (q : Query). length q.select ≤ 32) (sym means.means)
     (few_selected schema means.tree means.tree.selection _ few.1 once.1)
 

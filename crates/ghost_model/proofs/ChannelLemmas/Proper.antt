@@ -25,7 +25,7 @@ use Rattle.ghost_model.specs.Asks as asks
 use Rattle.ghost_model.specs.ChannelLaws as laws
 use Rattle.ghost_model.specs.QueryReading.{reading}
 use Rattle.ghost_model.proofs.TokenLemmas.{before_end}
-use Rattle.ghost_model.proofs.QueryReadingLemmas.{means_of}
+use Rattle.ghost_model.proofs.QueryReadingLemmas.{means_of, KeptRules, kept_rules}
 use Rattle.ghost_model.proofs.ChannelLemmas.Tests.{false_is_not, both_hold, hold_both, BothHold}
 
 -- tests of lists
@@ -139,15 +139,12 @@ abbrev is_plain : Value → Bool
 is_plain (Number _) = true
 is_plain (Text bytes) = list_all is_printable bytes
 
-fits_below : (n : ℕ) → not (nat_le n (2 ^ 63 - 1)) ≡ false → nat_lt n (2 ^ 63) ≡ true
-fits_below n e = grind (arith, nat_tests)
-
-number_fits : (number : ℤ) → meaning.is_too_large (Some Integer) (Number number) ≡ false → fits_integer number ≡ true
-number_fits (pos n) e = fits_below n e
-number_fits (negsuc n) e = fits_below n (ap (λ (b : Bool). not b) (sym (and-true (nat_le n (2 ^ 63 - 1)))) ∙ e)
+not_not : (b : Bool) → not b ≡ false → b ≡ true
+not_not true e = refl
+not_not false e = absurd (false_is_not (sym e))
 
 by_kind : (kind : Kind) (value : Value) → meaning.is_other_kind (Some kind) value ≡ false → meaning.is_too_large (Some kind) value ≡ false → is_plain value ≡ true → is_of_kind kind value ≡ true
-by_kind Integer (Number z) a b c = number_fits z b
+by_kind Integer (Number z) a b c = not_not (fits_integer z) b
 by_kind Integer (Text text) a b c = absurd (false_is_not (sym a))
 by_kind (Chars most) (Number z) a b c = absurd (false_is_not (sym a))
 by_kind (Chars most) (Text text) a b c = hold_both _ _ (le-leb (length text) most (ltb-false most (length text) b)) c
@@ -326,19 +323,19 @@ unfolding places_from
 columns_ascend q [] e = refl
 columns_ascend q (x ∷ xs) e = skipped (filter q (places_from always 1 xs)) (q 0) e (ascending q 0 1 xs (lit< tt))
 
-module _ (schema : Schema) (text : List ℕ) (tree : QueryText) (spells : symbols text ≡ spelling tree) (keeps : (rule : meaning.Refusal) → meaning.breaks schema text tree rule ≡ false) where
+module _ (schema : Schema) (text : List ℕ) (tree : QueryText) (spells : symbols text ≡ spelling tree) (keeps : KeptRules schema text tree) where
   abbrev tables : List ℕ
   tables = meaning.from_tables schema tree
 
   limited : sum_by meaning.literal_conditions tree.conditions ≤ 16
   limited =
-      let four : ((nat_lt 4096 (length text) || list_any (λ name. nat_lt 32 (length name)) (meaning.names_in tree) || nat_lt 12 (length (meaning.from_names tree)) || nat_lt 16 (sum_by meaning.literal_conditions tree.conditions)) ≡ false) × (nat_lt 32 (meaning.selected_count schema tree tree.selection) ≡ false) = neither _ _ (keeps meaning.Limit) in
+      let four : ((nat_lt 4096 (length text) || list_any (λ name. nat_lt 32 (length name)) (meaning.names_in tree) || nat_lt 12 (length (meaning.from_names tree)) || nat_lt 16 (sum_by meaning.literal_conditions tree.conditions)) ≡ false) × (nat_lt 32 (meaning.selected_count schema tree tree.selection) ≡ false) = neither _ _ keeps.limits in
       let three : ((nat_lt 4096 (length text) || list_any (λ name. nat_lt 32 (length name)) (meaning.names_in tree) || nat_lt 12 (length (meaning.from_names tree))) ≡ false) × (nat_lt 16 (sum_by meaning.literal_conditions tree.conditions) ≡ false) = neither _ _ four.0 in
       ltb-false 16 (sum_by meaning.literal_conditions tree.conditions) three.1
 
   single : list_all (λ condition. list_all (has_one schema tables 0) (meaning.condition_columns condition)) tree.conditions ≡ true
   single =
-      let both : (meaning.has_repeat tables ≡ false) × (list_any (λ column. nat_lt 1 (length (meaning.meanings schema tables column))) (meaning.columns_in tree) ≡ false) = neither _ _ (keeps meaning.Ambiguous) in
+      let both : (meaning.has_repeat tables ≡ false) × (list_any (λ column. nat_lt 1 (length (meaning.meanings schema tables column))) (meaning.columns_in tree) ≡ false) = neither _ _ keeps.one_meaning in
       let all : list_all (has_one schema tables 0) (meaning.columns_in tree) ≡ true = none_all (λ column. nat_lt 1 (length (meaning.meanings schema tables column))) (meaning.columns_in tree) both.1 in
       let parts : BothHold (list_all (has_one schema tables 0) (meaning.selection_columns tree.selection)) (list_all (has_one schema tables 0) (flat_map meaning.condition_columns tree.conditions)) =
       both_hold _ _ (sym (list_all-append (has_one schema tables 0) (meaning.selection_columns tree.selection) (flat_map meaning.condition_columns tree.conditions)) ∙ all) in
@@ -362,7 +359,7 @@ module _ (schema : Schema) (text : List ℕ) (tree : QueryText) (spells : symbol
       (columns_ascend (asks.is_wanted schema query.select table) (columns_of schema table) refl))
       (le-leb (length (asks.tests_of schema table query.conditions)) 16 count))
       (visible_tests schema table query.conditions))
-      (sound_tests schema table query.conditions (keeps meaning.KindMismatch) (keeps meaning.BadLiteral) plain)
+      (sound_tests schema table query.conditions keeps.kinds keeps.literals plain)
 
   proper_asks : list_all (asks.is_proper_ask schema) (asks.asks_of schema (meaning.resolved schema tree)) ≡ true
   proper_asks =
@@ -378,4 +375,4 @@ pub asks_are_proper : (schema : Schema) (text : List ℕ) (query : Query) → re
 asks_are_proper schema text query read =
     let means : meaning.Means schema text query = means_of schema text query read in
     subst (λ (q : Query). list_all (asks.is_proper_ask schema) (asks.asks_of schema q) ≡ true) (sym means.means)
-    (proper_asks schema text means.tree means.spells means.keeps)
+    (proper_asks schema text means.tree means.spells (kept_rules schema text means.tree means.keeps))

@@ -8,7 +8,8 @@ use Rattle.ghost_model.specs.Schema.{Schema, Column, columns_of, column_at, plac
 use Rattle.ghost_model.specs.SchemaTrees.{IsTree}
 use Rattle.ghost_model.specs.Query.{Query, Field, Condition, Compare, Join, AtMost, AtLeast}
 use Rattle.ghost_model.specs.QueryGrammar.{ColumnText, Bare, Qualified, ConditionText, Compares, LiesBetween, Joins, Selection, All, Columns, QueryText}
-use Rattle.ghost_model.specs.QueryMeaning.{field, value_of, column_named, table_named, fields_named, fields_of, is_among, meanings, conditions_of, selected, resolved, has_repeat, top_of, is_key_to, is_proper, lacks_join, columns_in, Ambiguous, NotLinked, Means}
+use Rattle.ghost_model.specs.QueryMeaning.{field, value_of, column_named, table_named, fields_named, fields_of, is_among, meanings, conditions_of, selected, resolved, has_repeat, top_of, is_key_to, is_proper, lacks_join, columns_in, Means}
+use Rattle.ghost_model.proofs.QueryReadingLemmas.{kept_rules}
 use Rattle.ghost_model.proofs.ChannelLemmas.Tests.{false_is_not, BothHold, both_hold}
 use Rattle.ghost_model.proofs.MeaningLemmas.OneRow.{Among, Distinct, from_filter, child_is, either_true, neither_true}
 
@@ -160,7 +161,8 @@ sound_tree schema tree text once proper = record {
 pub query_is_sound : (schema : Schema) (text : List ℕ) (asked : Query) → IsTree schema → Means schema text asked → IsSound schema asked
 query_is_sound schema text asked tree means =
     let it : Query = resolved schema means.tree in
-    let once = neither_true (has_repeat it.from) (list_any (λ column. nat_lt 1 (length (meanings schema it.from column))) (columns_in means.tree)) (means.keeps Ambiguous) in
-    let joined = neither_true (not (list_all (is_proper schema) it.conditions) || is_none (top_of schema it)) (list_any (lacks_join schema it) it.from) (means.keeps NotLinked) in
+    let kept = kept_rules schema text means.tree means.keeps in
+    let once = neither_true (has_repeat it.from) (list_any (λ column. nat_lt 1 (length (meanings schema it.from column))) (columns_in means.tree)) kept.one_meaning in
+    let joined = neither_true (not (list_all (is_proper schema) it.conditions) || is_none (top_of schema it)) (list_any (lacks_join schema it) it.from) kept.linked in
     let proper = neither_true (not (list_all (is_proper schema) it.conditions)) (is_none (top_of schema it)) joined.0 in
     subst (λ (q : Query). IsSound schema q) (sym means.means) (sound_tree schema tree means.tree once.0 (not_false _ proper.0))

@@ -10,7 +10,7 @@ use Rattle.std.proofs.lemmas.List.Sums.{sum_by-cons}
 use Rattle.ghost_model.specs.Schema.{Schema, Kind, Integer, Chars, Column, columns_or_none, columns_of, column_at, is_shown, is_visible}
 use Rattle.ghost_model.specs.SchemaGrammar.{To, ColumnText, CharColumn, IntegerColumn, TableText, SchemaText}
 use Rattle.ghost_model.specs.SchemaMeaning.{columns_written, column_of, table_of, schema_of}
-use Rattle.ghost_model.specs.SchemaFaults.{Limit, is_over, is_table_over, is_column_over, MeansSchema}
+use Rattle.ghost_model.specs.SchemaFaults.{is_over, is_table_over, is_column_over, MeansSchema}
 use Rattle.ghost_model.specs.SchemaTrees.{IsTree}
 use Rattle.ghost_model.specs.Tokens.{is_printable, is_between, number_of}
 use Rattle.ghost_model.specs.Values.{Value, Number, Text}
@@ -22,6 +22,7 @@ use Rattle.ghost_model.specs.Frames.{AreBytes, IsFrame}
 use Rattle.ghost_model.specs.Asks.{kind_or_none, kind_at, operator_code, test_bytes, ask_payload, ascend_from, is_proper_ask, row_width}
 use Rattle.ghost_model.proofs.ChannelLemmas.Tests.{false_is_not, BothHold, both_hold, hold_both}
 use Rattle.ghost_model.proofs.ChannelLemmas.Asks.{cell_length}
+use Rattle.ghost_model.proofs.SchemaRuleLemmas.{kept_rules}
 use Rattle.ghost_model.proofs.SchemaTreeLemmas.{schemas_are_trees}
 
 -- the limits that count here
@@ -79,7 +80,7 @@ schema_is_small text schema means =
       few_tables = tree.few_tables;
       few_columns = tree.few_columns;
       narrow = subst (λ (s : List _). (table column : ℕ) → cell_width (kind_at s table column) ≤ 64) means.means
-          (narrow_schema means.tables (never_true (is_over means.tables) (means.obeys Limit)));
+          (narrow_schema means.tables (kept_rules means.tables means.obeys).limits);
     }
 
 -- bytes

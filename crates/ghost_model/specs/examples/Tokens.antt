@@ -45,7 +45,7 @@ pub record OffsetsOfTokens : Type 0 where
 
 -- a text for a list of symbols
 pub record TextsOfSymbols : Type 0 where
-  pub words_and_signs : text_of (Word Select ∷ Name (codes "age") ∷ Less ∷ Equal ∷ Digits (codes "5") ∷ []) ≡ codes "SELECT age < = 5 "
+  pub words_and_signs : text_of (Word Select ∷ Name (codes "age") ∷ Less ∷ Equal ∷ Digits (codes "5") ∷ []) ≡ codes "select age < = 5 "
   pub a_literal : text_of (Quoted (codes "it's") ∷ Reserved ∷ Bad ∷ []) ≡ codes "'it''s' NULL ? "
 
 -- so many spaces, and so many texts of one letter

@@ -4,7 +4,8 @@ use Rattle.ghost_model.specs.Schema.{places_from}
 use Rattle.ghost_model.specs.Channel.{Catalog}
 use Rattle.ghost_model.specs.Tokens.{tokens_from, quoted_from}
 use Rattle.ghost_model.specs.SchemaPlaces.{syntax_from}
-use Rattle.ghost_model.specs.SchemaFaults.{ancestor, fields_from, schema_reading}
+use Rattle.ghost_model.specs.SchemaFaults.{ancestor, fields_from}
+use Rattle.ghost_model.specs.SchemaReading.{schema_reading}
 use Rattle.ghost_model.specs.Catalog.{canonical_text, catalog_bytes, IsCatalog, SpellsCatalog, BeginsWithCatalog}
 use Rattle.ghost_model.specs.examples.Clinic.{clinic_schema, clinic_catalog}
 use Rattle.ghost_model.specs.examples.Catalogs.{SpellsNone}

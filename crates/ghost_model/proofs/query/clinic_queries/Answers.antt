@@ -15,6 +15,7 @@ returns c = record {
   lowest_integer = refl;
   hidden_over_a_join = refl;
   of_the_notes = refl;
+  identifiers_of_the_notes = refl;
   top_is_the_root = refl;
   top_is_below_the_root = refl;
   no_top_of_two = refl;
