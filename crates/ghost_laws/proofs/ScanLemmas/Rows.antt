@@ -1,7 +1,7 @@
 -- The answer of an accepted query is found along the foreign keys: for each row of the top table, the combinations that
 -- pass are the one that the row leads to, or none.
 use Rattle.std.proofs.Common.{◌≡◌, refl, sym, ap, ◌∙◌, ℕ, suc, ◌+◌, Bool, true, false, nat_eq, List, [], ◌∷◌, ◌++◌, length, map, filter, flat_map, Option, Some, None, slice_get, unwrap_or, option_and_then, arith, eqb-true, if◌then◌else◌}
-use Rattle.std.specs.List.{list_all}
+use Rattle.std.specs.List.{list_all, range_with_len}
 use Rattle.std.proofs.lemmas.List.{map-append}
 use Rattle.ghost_model.specs.Schema.{Schema}
 use Rattle.ghost_model.specs.SchemaTrees.{IsTree}
@@ -9,8 +9,7 @@ use Rattle.ghost_model.specs.Values.{Row, Rows, Database}
 use Rattle.ghost_model.specs.Query.{Query, Field, Condition, Compare, Join}
 use Rattle.ghost_model.specs.Database.{IsDatabase, rows_of, row_of, field}
 use Rattle.ghost_model.specs.Split.{Hidden, hidden_of}
-use Rattle.ghost_model.specs.Replies.{Pick, pick, picks, identifiers_from}
-use Rattle.ghost_model.specs.Meaning.{Chosen, choice, Combination, combinations, row_in, value_in, compares, is_true_in, passes, projection, others_of, answer_of_row, answer_or_none}
+use Rattle.ghost_model.specs.Meaning.{Chosen, choice, Combination, combinations, row_in, value_in, compares, is_true_in, passes, projection, others_of, answer_of_row, answer_or_none, Pick, pick}
 use Rattle.ghost_model.proofs.MeaningLemmas.OneRow.{Among, IsLinked, query_is_linked, both_true}
 use Rattle.ghost_model.proofs.SessionLemmas.Accepted.{each_is, query_is_sound, IsSound}
 use Rattle.ghost_laws.specs.Scans.{led_value, holds_along, row_along, AnswersFollowKeys}
@@ -18,6 +17,7 @@ use Rattle.ghost_laws.proofs.ScanLemmas.Keys.{IsValues, seen, join_holds}
 use Rattle.ghost_laws.proofs.ScanLemmas.Choices.{chosen_in}
 use Rattle.ghost_laws.proofs.ScanLemmas.Accepted.{HasConditions, has_conditions}
 use Rattle.ghost_laws.proofs.ScanLemmas.OneChoice.{all_same, values_same, mapped_if, many, combined, combined_has, join_met, one_or_none}
+use Rattle.ghost_model.proofs.MeaningLemmas.Picks.{picks}
 
 -- what holds wherever another test does
 pub all_more : {X : Type 0} (p q : X → Bool) (xs : List X) → ((x : X) → p x ≡ true → q x ≡ true) → list_all p xs ≡ true → list_all q xs ≡ true
@@ -42,8 +42,7 @@ mapped_twice f g k l (x ∷ xs) h =
 -- the rows of a table by their identifiers
 rows_by_number : (f : Row → List Row) (g : ℕ → List Row) (from : ℕ) (rows : Rows)
     → ((place : ℕ) (row : Row) → slice_get rows place ≡ Some row → f row ≡ g (from + place))
-    → flat_map f rows ≡ flat_map g (identifiers_from from (length rows))
-unfolding identifiers_from
+    → flat_map f rows ≡ flat_map g (range_with_len from (length rows))
 rows_by_number f g from [] same = refl
 rows_by_number f g from (row ∷ rows) same =
     let zeroth : from + 0 ≡ from = omega arith in
@@ -87,8 +86,7 @@ module _ (schema : Schema) (database : Database) (tree : IsTree schema) (is : Is
   products_are : (table from : ℕ) (rest : List (List Pick)) (rows : Rows)
       → ((place : ℕ) (row : Row) → slice_get rows place ≡ Some row → row_of database table (from + place) ≡ Some row)
       → flat_map (λ row. map (λ others. choice table row ∷ others) (map (map chosen) rest)) rows
-      ≡ map (map chosen) (flat_map (λ identifier. map (λ others. pick table identifier ∷ others) rest) (identifiers_from from (length rows)))
-  unfolding identifiers_from
+      ≡ map (map chosen) (flat_map (λ identifier. map (λ others. pick table identifier ∷ others) rest) (range_with_len from (length rows)))
   products_are table from rest [] stand = refl
   products_are table from rest (row ∷ rows) stand =
       let zeroth : from + 0 ≡ from = omega arith in
@@ -96,7 +94,7 @@ module _ (schema : Schema) (database : Database) (tree : IsTree schema) (is : Is
       let later = products_are table (from + 1) rest rows
       (λ place other h. let moved : from + 1 + place ≡ from + suc place = omega arith in ap (row_of database table) moved ∙ stand (suc place) other h) in
       let one : List (List Pick) = map (λ others. pick table from ∷ others) rest in
-      let more : List (List Pick) = flat_map (λ identifier. map (λ others. pick table identifier ∷ others) rest) (identifiers_from (from + 1) (length rows)) in
+      let more : List (List Pick) = flat_map (λ identifier. map (λ others. pick table identifier ∷ others) rest) (range_with_len (from + 1) (length rows)) in
       ap (λ (xs : List Combination). xs ++ flat_map (λ r. map (λ others. choice table r ∷ others) (map (map chosen) rest)) rows)
       (mapped_twice (map chosen) (λ others. choice table row ∷ others) (λ others. pick table from ∷ others) (map chosen) rest
       (λ others. ap (λ (o : Option Row). choice table (unwrap_or o []) ∷ map chosen others) (sym it)))
@@ -109,7 +107,7 @@ module _ (schema : Schema) (database : Database) (tree : IsTree schema) (is : Is
       ap (λ (rest : List Combination). flat_map (λ row. map (λ others. choice table row ∷ others) rest) (rows_of database table)) (combinations_are asked top linked tables)
       ∙ products_are table 1 (picks kept tables) (rows_of database table)
       (λ place row h. let e : 1 + place ≡ suc place = omega arith in ap (row_of database table) e ∙ h)
-      ∙ ap (λ n. map (map chosen) (flat_map (λ identifier. map (λ others. pick table identifier ∷ others) (picks kept tables)) (identifiers_from 1 n)))
+      ∙ ap (λ n. map (map chosen) (flat_map (λ identifier. map (λ others. pick table identifier ∷ others) (picks kept tables)) (range_with_len 1 n)))
       (sym (many schema database tree is asked top linked table))
 
   module _ (asked : Query) (top : ℕ) (linked : IsLinked schema asked top) (conditions : HasConditions schema asked) (sound : IsSound schema asked) (identifier : ℕ) (row : Row) (there : row_of database top identifier ≡ Some row) where

@@ -1,7 +1,7 @@
 -- Each selected value stands in the row that a row of the top table leads to, and is of its column's kind.
 use Rattle.std.proofs.Common.{◌≡◌, ℕ, zero, suc, ◌+◌, ◌<◌, ◌≤◌, inl, inr, Bool, true, false, List, [], ◌∷◌, map, flat_map, sym, ◌∙◌, ap, subst, refl, arith, Option, Some, slice_get, option_and_then, if◌then◌else◌}
 use Rattle.std.specs.Prelude.{filter_map}
-use Rattle.std.specs.List.{list_all, cons_option}
+use Rattle.std.specs.List.{list_all, cons_option, range_with_len}
 use Rattle.std.proofs.lemmas.List.Folds.{list_all-append}
 use Rattle.ghost_model.specs.Schema.{Schema, Column, Kind, columns_of, column_at}
 use Rattle.ghost_model.specs.SchemaTrees.{IsTree}
@@ -10,7 +10,6 @@ use Rattle.ghost_model.specs.Query.{Query, Field}
 use Rattle.ghost_model.specs.Database.{IsDatabase, rows_of, row_of, row_count, field, is_of_kind}
 use Rattle.ghost_model.specs.Asks.{kind_or_none, kind_at}
 use Rattle.ghost_model.specs.Split.{are_of_kinds}
-use Rattle.ghost_model.specs.Replies.{identifiers_from}
 use Rattle.ghost_model.proofs.ChannelLemmas.Tests.{hold_both}
 use Rattle.ghost_model.proofs.MeaningLemmas.OneRow.{Among, IsLinked, query_is_linked}
 use Rattle.ghost_model.proofs.MeaningLemmas.Leading.{landing, get_within, place_within}
@@ -39,11 +38,10 @@ alone_or_none p false x h = refl
 
 pub all_by_number : {X : Type 0} (p : X → Bool) (f : ℕ → List X) (from count : ℕ)
     → ((identifier : ℕ) → from ≤ identifier → identifier < from + count → list_all p (f identifier) ≡ true)
-    → list_all p (flat_map f (identifiers_from from count)) ≡ true
-unfolding identifiers_from
+    → list_all p (flat_map f (range_with_len from count)) ≡ true
 all_by_number p f from zero all = refl
 all_by_number p f from (suc count) all =
-    list_all-append p (f from) (flat_map f (identifiers_from (from + 1) count))
+    list_all-append p (f from) (flat_map f (range_with_len (from + 1) count))
     ∙ hold_both _ _ (all from (omega arith) (omega arith))
     (all_by_number p f (from + 1) count (λ identifier low high. all identifier (omega (arith, low)) (omega (arith, high))))
 
