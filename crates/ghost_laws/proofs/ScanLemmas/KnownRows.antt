@@ -25,7 +25,7 @@ use Rattle.ghost_laws.proofs.ScanLemmas.Keys.{IsValues, seen, join_holds}
 use Rattle.ghost_laws.proofs.ScanLemmas.Choices.{chosen_in, picked}
 use Rattle.ghost_laws.proofs.ScanLemmas.Accepted.{pass_each, HasConditions, has_conditions}
 use Rattle.ghost_laws.proofs.ScanLemmas.OneChoice.{all_same, values_same, mapped_if, many, reach, reached, combined, combined_has, join_met, one_or_none}
-use Rattle.ghost_laws.proofs.ScanLemmas.Rows.{all_more}
+use Rattle.ghost_laws.proofs.ScanLemmas.Rows.{all_more, same_for_identifiers}
 use Rattle.ghost_model.proofs.MeaningLemmas.Picks.{picks, identifiers_of, known_in, is_true_or_asked, stands_in_reply, is_kept, answer_of_pick}
 
 -- a test of the top table and of the others is one of all
@@ -47,16 +47,6 @@ top_and_others test top tables a =
         | false ↦ λ h. refl
       ]) refl
     ]) refl
-
-same_for_identifiers : (f g : ℕ → List Row) (from count : ℕ) → ((place : ℕ) → place < count → f (from + place) ≡ g (from + place))
-    → flat_map f (range_with_len from count) ≡ flat_map g (range_with_len from count)
-same_for_identifiers f g from zero same = refl
-same_for_identifiers f g from (suc count) same =
-    let zeroth : from ≡ from + 0 = omega arith in
-    ap (λ one. one ++ flat_map f (range_with_len (from + 1) count)) (ap f zeroth ∙ same 0 (omega arith) ∙ sym (ap g zeroth))
-    ∙ ap (λ later. g from ++ later)
-    (same_for_identifiers f g (from + 1) count
-    (λ place h. let moved : from + 1 + place ≡ from + suc place = omega arith in ap f moved ∙ same (suc place) (omega (arith, h)) ∙ sym (ap g moved)))
 
 only_among : (xs : List ℕ) (x : ℕ) → only xs ≡ Some x → Among x xs
 only_among [] x h = let bad : ⊥ = cc in absurd bad
@@ -185,7 +175,7 @@ known_answers_follow_keys schema tree database is text asked means given top at_
     let linked = query_is_linked schema text asked top means at_top in
     let conditions = has_conditions schema text asked means in
     let sound = query_is_sound schema text asked tree means in
-    ap (λ o. answer_by_top (known_source schema (hidden_of schema database) given) asked o) at_top
+    ap (λ o. answer_by_top (replies.known schema (hidden_of schema database) given) asked o) at_top
     ∙ ap (λ n. flat_map (answer_of_pick schema (hidden_of schema database) asked given top) (range_with_len 1 n)) (many schema database tree is asked top linked top)
     ∙ same_for_identifiers (answer_of_pick schema (hidden_of schema database) asked given top) (known_row schema database asked given top) 1 (row_count database top)
     (λ place h.

@@ -1,5 +1,5 @@
 -- Combinations of the rows of a database themselves, and that an answer is formed of these.
-use Rattle.std.proofs.Common.{◌≡◌, refl, sym, ap, ◌∙◌, ℕ, zero, suc, ◌+◌, Bool, true, false, ◌&&◌, nat_eq, List, [], ◌∷◌, ◌++◌, length, map, filter, flat_map, Option, Some, None, slice_get, unwrap_or, option_and_then, arith, eqb-true, if◌then◌else◌}
+use Rattle.std.proofs.Common.{◌≡◌, refl, sym, ap, ◌∙◌, ℕ, suc, ◌+◌, Bool, true, false, ◌&&◌, nat_eq, List, [], ◌∷◌, ◌++◌, length, map, filter, flat_map, Option, Some, None, slice_get, unwrap_or, option_and_then, arith, if◌then◌else◌}
 use Rattle.std.specs.List.{list_all, range_with_len}
 use Rattle.std.proofs.lemmas.List.{map-append}
 use Rattle.ghost_model.specs.Values.{Value, Row, Rows, Database}
@@ -81,7 +81,7 @@ all_admitted : {X : Type 0} (xs : List X) → list_all (λ (x : X). true) xs ≡
 all_admitted [] = refl
 all_admitted (x ∷ xs) = all_admitted xs
 
-row_field : (o : Option Row) (column : ℕ) → slice_get (unwrap_or o []) column ≡ option_and_then (λ row. slice_get row column) o
+pub row_field : (o : Option Row) (column : ℕ) → slice_get (unwrap_or o []) column ≡ option_and_then (λ row. slice_get row column) o
 row_field None column = refl
 row_field (Some row) column = refl
 

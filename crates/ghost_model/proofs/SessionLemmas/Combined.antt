@@ -1,7 +1,7 @@
 -- That from the hidden part and whole replies follows the answer: combination by combination.
 use Rattle.std.proofs.Common.{◌≡◌, ℕ, zero, suc, ◌+◌, ◌<◌, ◌≤◌, inl, inr, Bool, true, false, not, ◌&&◌, ◌||◌, List, [], ◌∷◌, ◌++◌, length, map, filter, flat_map, sym, ◌∙◌, ap, subst, refl, arith, Option, Some, None, slice_get, unwrap_or}
-use Rattle.std.specs.Prelude.{◌==◌, filter_map, if◌then◌else◌, option_and_then}
-use Rattle.std.specs.List.{list_all, list_any, cons_option, range_with_len}
+use Rattle.std.specs.Prelude.{◌==◌, if◌then◌else◌, option_and_then}
+use Rattle.std.specs.List.{list_all, list_any, range_with_len}
 use Rattle.std.proofs.lemmas.List.{length-map}
 use Rattle.std.proofs.lemmas.List.Folds.{list_all-append}
 use Rattle.std.proofs.lemmas.Bool.Decides.{nat_tests}
@@ -14,7 +14,7 @@ use Rattle.ghost_model.specs.Query as query
 use Rattle.ghost_model.specs.QueryMeaning.{top_of, only, is_some_among, Means}
 use Rattle.ghost_model.specs.Channel.{Test}
 use Rattle.ghost_model.specs.Asks.{test_of, tests_of, is_field}
-use Rattle.ghost_model.specs.Database.{rows_or_none, rows_of, row_of, row_count, row_numbered, IsDatabase}
+use Rattle.ghost_model.specs.Database.{rows_or_none, rows_of, row_of, row_count, IsDatabase}
 use Rattle.ghost_model.specs.Split.{Hidden, hidden_values, hidden_of, public_of, meets_test}
 use Rattle.ghost_model.specs.Meaning as meaning
 use Rattle.ghost_model.specs.Meaning.{Pick, pick, combinations, compares, no_value, others_of, all_of, answer_by_top, answer}

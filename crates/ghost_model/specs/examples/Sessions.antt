@@ -3,7 +3,7 @@ use Rattle.std.specs.Prelude.{◌≡◌, ℕ, true, false, List, [], ◌∷◌, 
 use Rattle.ghost_model.specs.Values.{Row, Text}
 use Rattle.ghost_model.specs.Channel.{Hello, More, Bye, Done, Frame, Ask, Journal, Entry, Take, End}
 use Rattle.ghost_model.specs.NextMove.{IsProper, Ended}
-use Rattle.ghost_model.specs.Asks.{ReplyRow}
+use Rattle.ghost_model.specs.Asks.{ReplyRow, asked_of}
 use Rattle.ghost_model.specs.Split.{public_of, hidden_of, Hidden, Public, reply_rows}
 use Rattle.ghost_model.specs.Host.{rows_frame, host_of}
 use Rattle.ghost_model.specs.Local.{IsServedBy}
@@ -27,11 +27,11 @@ cardio_texts = cardio_text ∷ []
 
 -- what a session answers the text about cardiologists from the replies that came
 abbrev pub rows_by : Journal → List Row
-rows_by journal = rows_from_replies clinic_catalog clinic_hidden cardio_texts journal 1 cardio_query
+rows_by journal = rows_from_replies clinic_catalog clinic_hidden (asked_of clinic_catalog.schema cardio_texts) journal 1 cardio_query
 
 -- which asks of it were ended, and how
 abbrev pub ends_by : Journal → List Ended
-ends_by journal = ended_of clinic_catalog cardio_texts journal 1
+ends_by journal = ended_of clinic_catalog (asked_of clinic_catalog.schema cardio_texts) journal 1
 
 abbrev pub cardio_row : ℕ → Row
 cardio_row visit = number visit ∷ Text (codes "cardio") ∷ []
