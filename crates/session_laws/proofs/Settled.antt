@@ -172,7 +172,7 @@ module _ (catalog : Catalog) (kept : Hidden) (texts : List (List ℕ)) (journal 
 
   pub lines_for : (written : List ℕ) (lines : List (List ℕ)) (reason : Reason) → slice_get texts place ≡ Some written → AreLinesFor reason (text_in catalog kept texts journal (suc place) written) lines
       → AreLinesFor reason (text_in catalog kept texts (journal ++ more) (suc place) written) lines
-  lines_for written lines IsRefused here are = are
+  lines_for written lines IsRefused here are = record { refusal = are.refusal; refused = are.refused; line = are.line }
   lines_for written lines WasBroken here are =
       let d = decided catalog texts journal place written are.query here are.accepted in
       let refused : was_refused (ended_of catalog (asked_of catalog.schema texts) journal (suc place)) ≡ true =

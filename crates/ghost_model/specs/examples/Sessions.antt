@@ -163,13 +163,13 @@ none_texts = cardio_on (codes "none") ∷ []
 
 abbrev pub first_for_none : Hidden
 first_for_none = hidden_of clinic_schema (
-  (doctor_row 1 (codes "cardio") (codes "FR") ∷ doctor_row 2 (codes "neuro") (codes "ES")
-      ∷ doctor_row 3 (codes "cardio") (codes "ES") ∷ [])
-      ∷ (patient_row 1 30 (codes "Ann") ∷ patient_row 2 41 (codes "Bob") ∷ [])
-      ∷ (visit_row 1 5 (codes "none") 1 1 ∷ visit_row 2 5 (codes "check") 3 2 ∷ visit_row 3 9 (codes "flu") 3 1
-      ∷ visit_row 4 2 (codes "flu") 2 2 ∷ [])
-      ∷ []
-)
+    (doctor_row 1 (codes "cardio") (codes "FR") ∷ doctor_row 2 (codes "neuro") (codes "ES")
+    ∷ doctor_row 3 (codes "cardio") (codes "ES") ∷ [])
+    ∷ (patient_row 1 30 (codes "Ann") ∷ patient_row 2 41 (codes "Bob") ∷ [])
+    ∷ (visit_row 1 5 (codes "none") 1 1 ∷ visit_row 2 5 (codes "check") 3 2 ∷ visit_row 3 9 (codes "flu") 3 1
+    ∷ visit_row 4 2 (codes "flu") 2 2 ∷ [])
+    ∷ []
+    )
 
 -- the journal is the same byte for byte where no row is left, where one is, and where the text asks for the other purpose
 pub record SameJournal : Type 0 where

@@ -16,9 +16,10 @@ use Rattle.ghost_model.specs.examples.Channel.{field, cardio_query}
 use Rattle.ghost_model.proofs.sessions.same_journal.Goals as goal
 
 abbrev none_query : Query
-none_query = record cardio_query { conditions =
+none_query = record cardio_query {
+  conditions =
       Join (field 2 3) (field 0 0) ∷ Compare (field 0 1) Equal (Text (codes "cardio"))
-      ∷ Compare (field 2 2) Equal (Text (codes "none")) ∷ []
+      ∷ Compare (field 2 2) Equal (Text (codes "none")) ∷ [];
 }
 
 pub returns : goal.returns
