@@ -2,5 +2,7 @@
 pub mod Rejoining
 pub mod PublicPart
 pub mod Loading
+pub mod Picks
+pub mod ByRows
 pub mod OneRow
 pub mod Leading

@@ -10,7 +10,7 @@ use Rattle.ghost_model.specs.Query.{Query}
 use Rattle.ghost_model.specs.QueryMeaning.{Refusal}
 use Rattle.ghost_model.specs.QueryReading.{reading}
 use Rattle.ghost_model.specs.Channel.{Catalog, Journal}
-use Rattle.ghost_model.specs.Asks.{asks_of, asked_of}
+use Rattle.ghost_model.specs.Asks.{Asked, asks_of, asked_of}
 use Rattle.ghost_model.specs.Moves.{taken, answers}
 use Rattle.ghost_model.specs.NextMove.{Ending, Answered, Refused, Ended, heard, is_stop}
 use Rattle.ghost_model.specs.Split.{Hidden}
@@ -18,9 +18,9 @@ use Rattle.ghost_model.specs.Replies.{replies, answer_from}
 use Rattle.ghost_model.specs.Printed.{row_line, answer_lines, word_line, refusal_line}
 
 -- the asks of a text that were ended, whatever ended them
-abbrev pub ended_of : Catalog → (texts : List (List ℕ)) → Journal → (text : ℕ) → List Ended
-ended_of catalog texts journal text =
-    filter (λ end. end.asked.text == text) (heard catalog (asked_of catalog.schema texts) (taken journal)).ended
+abbrev pub ended_of : Catalog → (asks : List Asked) → Journal → (text : ℕ) → List Ended
+ended_of catalog asks journal text =
+    filter (λ end. end.asked.text == text) (heard catalog asks (taken journal)).ended
 
 abbrev pub is_refused_by : Ending → Bool
 is_refused_by (Answered _) = false
@@ -52,9 +52,9 @@ fault_word OnFlash = codes "flash"
 fault_word OnDamage = codes "damaged"
 
 -- the rows that answer an accepted text from its replies
-abbrev pub rows_from_replies : Catalog → Hidden → (texts : List (List ℕ)) → Journal → (text : ℕ) → Query → List Row
-rows_from_replies catalog kept texts journal text query =
-    answer_from catalog.schema kept query (replies catalog (asked_of catalog.schema texts) journal text)
+abbrev pub rows_from_replies : Catalog → Hidden → (asks : List Asked) → Journal → (text : ℕ) → Query → List Row
+rows_from_replies catalog kept asks journal text query =
+    answer_from catalog.schema kept query (replies catalog asks journal text)
 
 -- why a text has these lines
 pub data Reason : Type 0 where
@@ -63,38 +63,65 @@ pub data Reason : Type 0 where
   WasAnswered : Reason
   MetFault : Fault → Reason
 
-pub record RefusedLines (schema : Schema) (text : ℕ) (written : List ℕ) (lines : List (List ℕ)) : Type 0 where
+-- a text with its number, and the session in which it stood: its asks, and the journal by which it went
+pub record SessionText : Type 0 where
+  pub catalog : Catalog
+  pub kept : Hidden
+  pub asks : List Asked
+  pub journal : Journal
+  pub number : ℕ
+  pub written : List ℕ
+
+abbrev pub ends_for : SessionText → List Ended
+ends_for text = ended_of text.catalog text.asks text.journal text.number
+
+abbrev pub rows_for : SessionText → Query → List Row
+rows_for text query = rows_from_replies text.catalog text.kept text.asks text.journal text.number query
+
+pub record RefusedLines (text : SessionText) (lines : List (List ℕ)) : Type 0 where
   pub refusal : Refusal
-  pub refused : reading schema written ≡ Err refusal
-  pub line : lines ≡ refusal_line text refusal ∷ []
+  pub refused : reading text.catalog.schema text.written ≡ Err refusal
+  pub line : lines ≡ refusal_line text.number refusal ∷ []
 
-pub record BrokenLines (catalog : Catalog) (texts : List (List ℕ)) (journal : Journal) (text : ℕ) (written : List ℕ) (lines : List (List ℕ)) : Type 0 where
+pub record BrokenLines (text : SessionText) (lines : List (List ℕ)) : Type 0 where
   pub query : Query
-  pub accepted : reading catalog.schema written ≡ Ok query
-  pub broken : all_done catalog.schema query (ended_of catalog texts journal text) ≡ false
-  pub line : lines ≡ word_line text (broken_word (ended_of catalog texts journal text) journal) ∷ []
+  pub accepted : reading text.catalog.schema text.written ≡ Ok query
+  pub broken : all_done text.catalog.schema query (ends_for text) ≡ false
+  pub line : lines ≡ word_line text.number (broken_word (ends_for text) text.journal) ∷ []
 
-pub record AnsweredLines (catalog : Catalog) (kept : Hidden) (texts : List (List ℕ)) (journal : Journal) (text : ℕ) (written : List ℕ) (lines : List (List ℕ)) : Type 0 where
+pub record AnsweredLines (text : SessionText) (lines : List (List ℕ)) : Type 0 where
   pub query : Query
-  pub accepted : reading catalog.schema written ≡ Ok query
-  pub done : all_done catalog.schema query (ended_of catalog texts journal text) ≡ true
-  pub answer : lines ≡ answer_lines text (rows_from_replies catalog kept texts journal text query)
+  pub accepted : reading text.catalog.schema text.written ≡ Ok query
+  pub done : all_done text.catalog.schema query (ends_for text) ≡ true
+  pub answer : lines ≡ answer_lines text.number (rows_for text query)
 
-pub record FaultLines (fault : Fault) (catalog : Catalog) (kept : Hidden) (texts : List (List ℕ)) (journal : Journal) (text : ℕ) (written : List ℕ) (lines : List (List ℕ)) : Type 0 where
+-- the rows that were given are some from the front
+pub record FaultLines (fault : Fault) (text : SessionText) (lines : List (List ℕ)) : Type 0 where
   pub query : Query
-  pub accepted : reading catalog.schema written ≡ Ok query
-  pub done : all_done catalog.schema query (ended_of catalog texts journal text) ≡ true
+  pub accepted : reading text.catalog.schema text.written ≡ Ok query
+  pub done : all_done text.catalog.schema query (ends_for text) ≡ true
   pub given : List Row
   pub left : List Row
-  pub front : rows_from_replies catalog kept texts journal text query ≡ given ++ left
-  pub answer : lines ≡ map row_line given ++ word_line text (fault_word fault) ∷ []
+  pub front : rows_for text query ≡ given ++ left
+  pub answer : lines ≡ map row_line given ++ word_line text.number (fault_word fault) ∷ []
 
--- the lines of text number `text`, which is `written`, for this reason
-abbrev pub AreLinesFor : Reason → Catalog → Hidden → (texts : List (List ℕ)) → Journal → (text : ℕ) → (written : List ℕ) → (lines : List (List ℕ)) → Type 0
-AreLinesFor IsRefused catalog kept texts journal text written lines = RefusedLines catalog.schema text written lines
-AreLinesFor WasBroken catalog kept texts journal text written lines = BrokenLines catalog texts journal text written lines
-AreLinesFor WasAnswered catalog kept texts journal text written lines = AnsweredLines catalog kept texts journal text written lines
-AreLinesFor (MetFault fault) catalog kept texts journal text written lines = FaultLines fault catalog kept texts journal text written lines
+-- the lines of a text for this reason
+abbrev pub AreLinesFor : Reason → SessionText → (lines : List (List ℕ)) → Type 0
+AreLinesFor IsRefused text lines = RefusedLines text lines
+AreLinesFor WasBroken text lines = BrokenLines text lines
+AreLinesFor WasAnswered text lines = AnsweredLines text lines
+AreLinesFor (MetFault fault) text lines = FaultLines fault text lines
+
+-- text number `number`, which is `written`, in a session of these texts
+abbrev pub text_in : Catalog → Hidden → (texts : List (List ℕ)) → Journal → (number : ℕ) → (written : List ℕ) → SessionText
+text_in catalog kept texts journal number written = record {
+  catalog = catalog;
+  kept = kept;
+  asks = asked_of catalog.schema texts;
+  journal = journal;
+  number = number;
+  written = written;
+}
 
 -- the lines of text number `text` in a session that went by a journal
 pub record AreLines (catalog : Catalog) (kept : Hidden) (texts : List (List ℕ)) (journal : Journal) (text : ℕ) (lines : List (List ℕ)) : Type 0 where
@@ -103,4 +130,4 @@ pub record AreLines (catalog : Catalog) (kept : Hidden) (texts : List (List ℕ)
   pub written : List ℕ
   pub stands : slice_get texts place ≡ Some written
   pub reason : Reason
-  pub lines_are : AreLinesFor reason catalog kept texts journal text written lines
+  pub lines_are : AreLinesFor reason (text_in catalog kept texts journal text written) lines

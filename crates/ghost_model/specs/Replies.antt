@@ -1,13 +1,10 @@
 -- What a text answers by the replies that came, whoever sent them. The key knows the identifiers and the hidden columns
--- of all rows, and of each asked table the rows of its reply. So in the plain meaning a condition on a visible column
--- gives way to "the row of each asked table stands in its reply", and a visible value is the replied one.
-use Rattle.std.specs.Prelude.{ℕ, zero, suc, ◌+◌, pos, Bool, true, ◌&&◌, ◌==◌, List, [], ◌∷◌, ◌++◌, length, map, filter, filter_map, flat_map, take, drop, Option, Some, None, is_some, slice_get, option_and_then, option_to_list, if◌then◌else◌}
-use Rattle.std.specs.List.{list_all}
+-- of all rows, and of each asked table the rows of its reply. So it is the plain meaning from another source: a condition on
+-- a visible column gives way to "the row of each asked table stands in its reply", and a visible value is the replied one.
+use Rattle.std.specs.Prelude.{ℕ, zero, suc, pos, Bool, true, ◌==◌, List, [], ◌∷◌, ◌++◌, length, map, filter_map, take, drop, Option, Some, None, is_some, slice_get, option_and_then, option_to_list, if◌then◌else◌}
 use Rattle.ghost_model.specs.Schema.{Schema, Kind, columns_of, places_from, is_visible}
 use Rattle.ghost_model.specs.Values.{Value, Number, Row}
-use Rattle.ghost_model.specs.Query.{Query, Field, Condition, Compare, Join, Operator}
-use Rattle.ghost_model.specs.Query as query
-use Rattle.ghost_model.specs.QueryMeaning.{top_of}
+use Rattle.ghost_model.specs.Query.{Query}
 use Rattle.ghost_model.specs.Cells.{cell_width}
 use Rattle.ghost_model.specs.CellReading.{decode_cell}
 use Rattle.ghost_model.specs.Channel.{Catalog, Ask, Journal}
@@ -16,7 +13,7 @@ use Rattle.ghost_model.specs.Moves.{taken}
 use Rattle.ghost_model.specs.NextMove.{Ending, Answered, Refused, Ended, heard}
 use Rattle.ghost_model.specs.Database.{rows_or_none, row_numbered}
 use Rattle.ghost_model.specs.Split.{Hidden, Replied, value_at}
-use Rattle.ghost_model.specs.Meaning.{compares, others_of}
+use Rattle.ghost_model.specs.Meaning.{Source, answer_by}
 
 -- the values that cells of these kinds spell
 abbrev pub values_in : List Kind → List ℕ → Row
@@ -53,10 +50,6 @@ abbrev pub row_replied : (identifier : ℕ) → List Replied → Option Replied
 row_replied identifier [] = None
 row_replied identifier (row ∷ later) = if row.identifier == identifier then Some row else row_replied identifier later
 
--- the row of a table in its reply
-abbrev pub replied_to : List Reply → (table identifier : ℕ) → Option Replied
-replied_to given table identifier = option_and_then (λ reply. row_replied identifier reply.rows) (reply_about table given)
-
 abbrev pub replied_value : List Reply → (table identifier column : ℕ) → Option Value
 replied_value given table identifier column =
     option_and_then (λ reply. option_and_then (λ row. value_at reply.ask.columns row.values column) (row_replied identifier reply.rows))
@@ -79,69 +72,21 @@ known_value schema kept given table identifier (suc before) =
     if is_visible schema table (suc before) then replied_value given table identifier (suc before)
     else hidden_value schema kept table identifier (suc before)
 
--- a row of a table, by its identifier
-pub record Pick : Type 0 where
-  pub table : ℕ
-  pub identifier : ℕ
-
-abbrev pub pick : (table identifier : ℕ) → Pick
-pick table identifier = record { table = table; identifier = identifier }
-
--- so many identifiers, from this one on
-unfoldable pub identifiers_from : (identifier count : ℕ) → List ℕ
-identifiers_from identifier zero = []
-identifiers_from identifier (suc count) = identifier ∷ identifiers_from (identifier + 1) count
-
--- the identifiers of a table
-abbrev pub identifiers_of : Hidden → (table : ℕ) → List ℕ
-identifiers_of kept table = identifiers_from 1 (length (rows_or_none (slice_get kept.hidden table)))
-
--- all combinations of rows of these tables, those with the earlier row of the first table first
-unfoldable pub picks : Hidden → (tables : List ℕ) → List (List Pick)
-picks kept [] = [] ∷ []
-picks kept (table ∷ tables) =
-    flat_map (λ identifier. map (λ others. pick table identifier ∷ others) (picks kept tables)) (identifiers_of kept table)
-
--- the value of a column in a combination, as far as the key knows it
-abbrev pub known_in : Schema → Hidden → List Reply → List Pick → Field → Option Value
-known_in schema kept given [] wanted = None
-known_in schema kept given (one ∷ others) wanted =
-    if one.table == wanted.table then known_value schema kept given one.table one.identifier wanted.column
-    else known_in schema kept given others wanted
-
--- whether a condition is true, one on a visible column left aside
-abbrev pub is_true_or_asked : Schema → Hidden → List Reply → List Pick → Condition → Bool
-is_true_or_asked schema kept given combination (Compare column operator literal) =
-    if is_visible schema column.table column.column then true
-    else compares operator (known_in schema kept given combination column) (Some literal)
-is_true_or_asked schema kept given combination (Join one other) =
-    compares query.Equal (known_in schema kept given combination one) (known_in schema kept given combination other)
-
 -- whether a row stands in a reply, where there is one
 abbrev pub stands_in : (identifier : ℕ) → Option Reply → Bool
 stands_in identifier None = true
 stands_in identifier (Some reply) = is_some (row_replied identifier reply.rows)
 
--- whether the row of a combination stands in the reply of its table, where that table was asked for
-abbrev pub stands_in_reply : List Reply → Pick → Bool
-stands_in_reply given one = stands_in one.identifier (reply_about one.table given)
-
-abbrev pub is_kept : Schema → Hidden → List Reply → List Condition → List Pick → Bool
-is_kept schema kept given conditions combination =
-    list_all (stands_in_reply given) combination && list_all (is_true_or_asked schema kept given combination) conditions
-
--- what the answer has for one row of the top table
-abbrev pub answer_of_pick : Schema → Hidden → Query → List Reply → (top identifier : ℕ) → List Row
-answer_of_pick schema kept asked given top identifier =
-    map (λ combination. filter_map (known_in schema kept given combination) asked.select)
-    (filter (is_kept schema kept given asked.conditions)
-    (map (λ others. pick top identifier ∷ others) (picks kept (others_of top asked.from))))
-
-abbrev pub answer_from_top : Schema → Hidden → Query → List Reply → Option ℕ → List Row
-answer_from_top schema kept asked given None = []
-answer_from_top schema kept asked given (Some top) =
-    flat_map (answer_of_pick schema kept asked given top) (identifiers_of kept top)
+-- what the key knows: of all rows those are admitted that stand in the reply of their table, where that table was asked for,
+-- and by these replies the conditions on visible columns were judged
+abbrev pub known : Schema → Hidden → List Reply → Source
+known schema kept given = record {
+  count = λ table. length (rows_or_none (slice_get kept.hidden table));
+  value = known_value schema kept given;
+  admits = λ one. stands_in one.identifier (reply_about one.table given);
+  is_judged = λ column. is_visible schema column.table column.column;
+}
 
 -- the answer of a query from the hidden part and the replies to its asks
 abbrev pub answer_from : Schema → Hidden → Query → List Reply → List Row
-answer_from schema kept asked given = answer_from_top schema kept asked given (top_of schema asked)
+answer_from schema kept asked given = answer_by (known schema kept given) schema asked

@@ -78,6 +78,6 @@ HonestRepliesAnswer =
     → IsSetting catalog texts → IsCatalogOf catalog database → IsProper catalog at texts journal
     → IsHonest catalog (public_of catalog.schema database) journal
     → slice_get texts place ≡ Some written → reading catalog.schema written ≡ Ok asked
-    → all_done catalog.schema asked (ended_of catalog texts journal (suc place)) ≡ true
+    → all_done catalog.schema asked (ended_of catalog (asked_of catalog.schema texts) journal (suc place)) ≡ true
     → answer_from catalog.schema (hidden_of catalog.schema database) asked (replies catalog (asked_of catalog.schema texts) journal (suc place))
     ≡ answer catalog.schema database asked

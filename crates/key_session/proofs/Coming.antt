@@ -12,7 +12,7 @@ use Rattle.ghost_model.specs.NextMove.{Awaits, Missing, Reply, Nothing, Ending, 
 use Rattle.ghost_model.specs.Split.{Hidden}
 use Rattle.ghost_model.specs.Replies as given
 use Rattle.ghost_model.specs.Replies.{replies, answer_from}
-use Rattle.ghost_model.specs.Lines.{AreLinesFor, BrokenLines, ended_of, all_done, broken_word, is_refused_by}
+use Rattle.ghost_model.specs.Lines.{AreLinesFor, BrokenLines, ended_of, all_done, broken_word, is_refused_by, text_in}
 use Rattle.ghost_model.specs.Printed.{word_line}
 use Rattle.channel_pump.specs.Marks as marks
 use Rattle.channel_pump.specs.Marks.{is_refusal, awaited, state_of}
@@ -96,7 +96,7 @@ not_so false s e f = e
 
 module _ (catalog : Catalog) (texts : List (List ℕ)) (journal : Journal) (place : ℕ) (written : List ℕ) (query : Query) where
   abbrev pub ends : List Ended
-  ends = ended_of catalog texts journal (suc place)
+  ends = ended_of catalog (asked_of catalog.schema texts) journal (suc place)
 
   abbrev pub refused : Bool
   refused = is_refused_in catalog texts journal (suc place)
@@ -148,8 +148,8 @@ module _ (catalog : Catalog) (texts : List (List ℕ)) (journal : Journal) (plac
       subst Came (sym (e ∙ same_state (asked_of catalog.schema texts) (suc place) (standing_after catalog (asked_of catalog.schema texts) journal))) (came_by decided outcome)
 
   -- the line of what ended the asks
-  broken_lines : (lines : List (List ℕ)) (word : List ℕ) → reading catalog.schema written ≡ Ok query → IsBrokenBy word → lines ≡ word_line (suc place) word ∷ [] → BrokenLines catalog texts journal (suc place) written lines
-  broken_lines lines word accepted b are = record {
+  broken_lines : (kept : Hidden) (lines : List (List ℕ)) (word : List ℕ) → reading catalog.schema written ≡ Ok query → IsBrokenBy word → lines ≡ word_line (suc place) word ∷ [] → BrokenLines (text_in catalog kept texts journal (suc place) written) lines
+  broken_lines kept lines word accepted b are = record {
     query = query;
     accepted = accepted;
     broken = b.0;
@@ -157,14 +157,14 @@ module _ (catalog : Catalog) (texts : List (List ℕ)) (journal : Journal) (plac
   }
 
   pub broken_so : (kept : Hidden) (lines : List (List ℕ)) → reading catalog.schema written ≡ Ok query → (state : ReplyState) → Came state → (state ≡ state_is.Done → ⊥)
-      → (result : Told) → AreBrokenLines (suc place) state lines result → AreLinesFor (reason_of result) catalog kept texts journal (suc place) written lines
+      → (result : Told) → AreBrokenLines (suc place) state lines result → AreLinesFor (reason_of result) (text_in catalog kept texts journal (suc place) written) lines
   broken_so kept lines accepted state c unended told.Refused are = absurd are
   broken_so kept lines accepted state c unended told.Answered are = absurd are
   broken_so kept lines accepted state c unended told.Flash are = absurd are
   broken_so kept lines accepted state c unended (told.Damaged page slot found) are = absurd are
-  broken_so kept lines accepted state c unended told.Host are = broken_lines lines _ accepted (subst Came are.0 c) are.1
-  broken_so kept lines accepted state c unended told.Protocol are = broken_lines lines _ accepted (subst Came are.0 c) are.1
-  broken_so kept lines accepted state_is.Link c unended told.Link are = broken_lines lines _ accepted c are.1
+  broken_so kept lines accepted state c unended told.Host are = broken_lines kept lines _ accepted (subst Came are.0 c) are.1
+  broken_so kept lines accepted state c unended told.Protocol are = broken_lines kept lines _ accepted (subst Came are.0 c) are.1
+  broken_so kept lines accepted state_is.Link c unended told.Link are = broken_lines kept lines _ accepted c are.1
   broken_so kept lines accepted state_is.Done c unended told.Link are = absurd (unended refl)
   broken_so kept lines accepted state_is.Host c unended told.Link are = absurd (are.0.1 refl)
   broken_so kept lines accepted state_is.Protocol c unended told.Link are = absurd (are.0.0 refl)
@@ -172,7 +172,7 @@ module _ (catalog : Catalog) (texts : List (List ℕ)) (journal : Journal) (plac
 
   pub answered_so : (kept : Hidden) (lines : List (List ℕ)) → reading catalog.schema written ≡ Ok query → AllDone
       → (result : Told) → AreAnswerLines (suc place) (answer_from catalog.schema kept query (replies catalog (asked_of catalog.schema texts) journal (suc place))) lines result
-      → AreLinesFor (reason_of result) catalog kept texts journal (suc place) written lines
+      → AreLinesFor (reason_of result) (text_in catalog kept texts journal (suc place) written) lines
   answered_so kept lines accepted d told.Refused are = absurd are
   answered_so kept lines accepted d told.Answered are = record { query = query; accepted = accepted; done = d.done; answer = are }
   answered_so kept lines accepted d told.Host are = absurd are
@@ -210,7 +210,7 @@ pub told_so : (catalog : Catalog) (kept : Hidden) (texts : List (List ℕ)) (jou
 told_so catalog kept texts journal place written stands decided outcome replied state is_state same lines result (why_refused w) = record {
   written = written;
   stands = stands;
-  lines_are = subst (λ (r : Told). AreLinesFor (reason_of r) catalog kept texts journal (suc place) written lines) (sym w.is_told)
+  lines_are = subst (λ (r : Told). AreLinesFor (reason_of r) (text_in catalog kept texts journal (suc place) written) lines) (sym w.is_told)
       (record { refusal = w.refusal; refused = w.refused; line = w.are });
   undamaged = ap (λ (r : Told). is_damage (reason_of r)) w.is_told;
 }

@@ -66,14 +66,14 @@ unsettled_before stay catalog texts journal more text e = by (is_settled_in cata
 
 -- the reason of a text stays as long as what its asks came to
 came_still : (all : Bool) (catalog : Catalog) (texts : List (List ℕ)) (journal later : Journal) (number : ℕ) (written : List ℕ)
-    → ended_of catalog texts later number ≡ ended_of catalog texts journal number → CameTo all catalog texts journal number written → CameTo all catalog texts later number written
+    → ended_of catalog (asked_of catalog.schema texts) later number ≡ ended_of catalog (asked_of catalog.schema texts) journal number → CameTo all catalog texts journal number written → CameTo all catalog texts later number written
 came_still all catalog texts journal later number written same came = record {
   query = came.query;
   accepted = came.accepted;
   done = ap (all_done catalog.schema came.query) same ∙ came.done;
 }
 
-reason_still : (catalog : Catalog) (texts : List (List ℕ)) (journal later : Journal) (number : ℕ) (written : List ℕ) → ended_of catalog texts later number ≡ ended_of catalog texts journal number
+reason_still : (catalog : Catalog) (texts : List (List ℕ)) (journal later : Journal) (number : ℕ) (written : List ℕ) → ended_of catalog (asked_of catalog.schema texts) later number ≡ ended_of catalog (asked_of catalog.schema texts) journal number
     → (reason : Reason) → IsReason reason catalog texts journal number written → IsReason reason catalog texts later number written
 reason_still catalog texts journal later number written same IsRefused is = is
 reason_still catalog texts journal later number written same WasBroken is = came_still false catalog texts journal later number written same is

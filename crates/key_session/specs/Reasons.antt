@@ -11,6 +11,7 @@ use Rattle.ghost_model.specs.Channel.{Catalog, Journal}
 use Rattle.ghost_model.specs.Lines.{Reason, IsRefused, WasBroken, WasAnswered, MetFault, ended_of, all_done}
 use Rattle.text_lines.specs.Texts.{IsRefusedText}
 use Rattle.key_session.specs.Counting.{is_flash}
+use Rattle.ghost_model.specs.Asks.{asked_of}
 
 abbrev pub is_refused_text : Schema → (written : List ℕ) → Bool
 is_refused_text schema written = is_err (reading schema written)
@@ -19,7 +20,7 @@ is_refused_text schema written = is_err (reading schema written)
 pub record CameTo (all : Bool) (catalog : Catalog) (texts : List (List ℕ)) (journal : Journal) (number : ℕ) (written : List ℕ) : Type 0 where
   pub query : Query
   pub accepted : reading catalog.schema written ≡ Ok query
-  pub done : all_done catalog.schema query (ended_of catalog texts journal number) ≡ all
+  pub done : all_done catalog.schema query (ended_of catalog (asked_of catalog.schema texts) journal number) ≡ all
 
 abbrev pub IsReason : Reason → Catalog → (texts : List (List ℕ)) → Journal → (number : ℕ) → (written : List ℕ) → Type 0
 IsReason IsRefused catalog texts journal number written = IsRefusedText catalog.schema written

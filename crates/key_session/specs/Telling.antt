@@ -10,7 +10,7 @@ use Rattle.ghost_model.specs.QueryReading.{reading}
 use Rattle.ghost_model.specs.Channel.{Catalog, Journal}
 use Rattle.ghost_model.specs.Asks.{asked_of}
 use Rattle.ghost_model.specs.Split.{Hidden, hidden_of}
-use Rattle.ghost_model.specs.Lines.{Reason, AreLinesFor}
+use Rattle.ghost_model.specs.Lines.{Reason, AreLinesFor, text_in}
 use Rattle.edge_traits.specs.Devices.{Device, KeepsPages}
 use Rattle.channel_pump.specs.State.{IsAfter}
 use Rattle.channel_pump.specs.declared.state.Pump.{Pump}
@@ -54,7 +54,7 @@ bytes_told told = flat_map bytes_of told
 pub record IsTold (catalog : Catalog) (kept : Hidden) (texts : List (List ℕ)) (journal : Journal) (place : ℕ) (one : TextTold) : Type 0 where
   pub written : List ℕ
   pub stands : slice_get texts place ≡ Some written
-  pub lines_are : AreLinesFor one.reason catalog kept texts journal (suc place) written one.lines
+  pub lines_are : AreLinesFor one.reason (text_in catalog kept texts journal (suc place) written) one.lines
   pub undamaged : is_damage one.reason ≡ false
 
 -- so many texts from the front were told, each by its lines, and counted by their reasons

@@ -13,13 +13,14 @@ use Rattle.ghost_model.specs.Printed.{answer_lines, lines_of_reading, lines_of_t
 use Rattle.ghost_model.specs.Channel.{Catalog, Journal}
 use Rattle.ghost_model.specs.NextMove.{Standing}
 use Rattle.ghost_model.specs.Split.{hidden_of}
-use Rattle.ghost_model.specs.Lines.{Reason, IsRefused, WasBroken, WasAnswered, MetFault, OnFlash, OnDamage, AreLinesFor, ended_of, all_done, rows_from_replies}
+use Rattle.ghost_model.specs.Lines.{Reason, IsRefused, WasBroken, WasAnswered, MetFault, OnFlash, OnDamage, AreLinesFor, ended_of, all_done, rows_from_replies, text_in}
 use Rattle.key_session.specs.Counting.{is_flash, is_damage}
 use Rattle.key_lines.specs.Handing.{Hands}
 use Rattle.key_session.specs.Telling.{Outside, TextTold, IsTold, AreTold, reasons_of, bytes_of, bytes_told}
 use Rattle.key_session.specs.Running.{IsTally, status_of}
 use Rattle.key_session.specs.declared.tally.Tally.{Tally}
 use Rattle.local_lines.specs.Lines.{TextLines, AreLinesBy, AreTextLines, GivesByTally, is_cut, bytes_given}
+use Rattle.ghost_model.specs.Asks.{asked_of}
 
 -- the lines that were told of a text, cut where the flash is their reason
 abbrev lines_told : TextTold → TextLines
@@ -115,12 +116,12 @@ module _ (schema : Schema) (database : Database) where
 -- every accepted text's asks are done, and its rows from the replies are its answer
 module _ (catalog : Catalog) (database : Database) (texts : List (List ℕ)) (journal : Journal)
     (done : (place : ℕ) (written : List ℕ) (asked : Query) → slice_get texts place ≡ Some written → reading catalog.schema written ≡ Ok asked
-    → all_done catalog.schema asked (ended_of catalog texts journal (suc place)) ≡ true)
+    → all_done catalog.schema asked (ended_of catalog (asked_of catalog.schema texts) journal (suc place)) ≡ true)
     (answers : (place : ℕ) (written : List ℕ) (asked : Query) → slice_get texts place ≡ Some written → reading catalog.schema written ≡ Ok asked
-    → rows_from_replies catalog (hidden_of catalog.schema database) texts journal (suc place) asked ≡ answer catalog.schema database asked) where
+    → rows_from_replies catalog (hidden_of catalog.schema database) (asked_of catalog.schema texts) journal (suc place) asked ≡ answer catalog.schema database asked) where
   lines_by :
       (place : ℕ) (written : List ℕ) (lines : List (List ℕ)) (reason : Reason) → slice_get texts place ≡ Some written → is_damage reason ≡ false
-      → AreLinesFor reason catalog (hidden_of catalog.schema database) texts journal (suc place) written lines
+      → AreLinesFor reason (text_in catalog (hidden_of catalog.schema database) texts journal (suc place) written) lines
       → AreLinesBy (is_flash reason) catalog.schema database (suc place) written lines
   lines_by place written lines IsRefused here sound are =
       are.line ∙ ap (λ (r : Result Query Refusal). lines_of_reading catalog.schema database (suc place) r) (sym are.refused)

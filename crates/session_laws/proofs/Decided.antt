@@ -55,7 +55,7 @@ module _ (catalog : Catalog) (texts : List (List ℕ)) (journal : Journal) (plac
   now = heard catalog (asked_of catalog.schema texts) (taken journal)
 
   abbrev pub mine : List Ended
-  mine = ended_of catalog texts journal (suc place)
+  mine = ended_of catalog (asked_of catalog.schema texts) journal (suc place)
 
   abbrev pub rest : List Asked
   rest = not_ended (asked_of catalog.schema texts) now.awaits

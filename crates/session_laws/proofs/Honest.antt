@@ -20,7 +20,7 @@ use Rattle.ghost_model.specs.Split.{public_of, hidden_of}
 use Rattle.ghost_model.specs.Host.{welcomes_of, asks_in_frame}
 use Rattle.ghost_model.specs.HostLaws.{Exchange, asked_in, ended_in, exchange_frames, reply_frames, AreExchanges, IsHeardWhole, IsGreeted}
 use Rattle.ghost_model.specs.Honest.{AreWelcomes, AreReplies, asks_sent}
-use Rattle.ghost_model.specs.Lines.{Reason, IsRefused, WasBroken, WasAnswered, MetFault, AreLinesFor, is_refused_by, was_refused, ended_of, all_done, rows_from_replies}
+use Rattle.ghost_model.specs.Lines.{Reason, IsRefused, WasBroken, WasAnswered, MetFault, AreLinesFor, is_refused_by, was_refused, ended_of, all_done, rows_from_replies, text_in}
 use Rattle.ghost_model.specs.Printed.{answer_lines, lines_of_reading, lines_of_text, lines_from, printed_lines}
 use Rattle.ghost_model.proofs.ChannelLemmas.Asks.{spelled_ask_is_read}
 use Rattle.ghost_model.proofs.ChannelLemmas.Greeting.{greetings_are_heard}
@@ -202,7 +202,7 @@ module _ (catalog : Catalog) (database : Database) (at : List ℕ) (texts : List
   true_is_not : (b : Bool) → b ≡ false → b ≡ true → ⊥
   true_is_not b e f = cc
 
-  pub asks_are_done : (place : ℕ) (written : List ℕ) (query : Query) → IsFinished journal → slice_get texts place ≡ Some written → reading catalog.schema written ≡ Ok query → all_done catalog.schema query (ended_of catalog texts journal (suc place)) ≡ true
+  pub asks_are_done : (place : ℕ) (written : List ℕ) (query : Query) → IsFinished journal → slice_get texts place ≡ Some written → reading catalog.schema written ≡ Ok query → all_done catalog.schema query (ended_of catalog (asked_of catalog.schema texts) journal (suc place)) ≡ true
   asks_are_done place written query finished here read =
       let none : is_refused_in catalog texts journal (suc place) ≡ false =
       sym (decided catalog texts journal place written query here read).refused ∙ none_of_part (λ (one : Ended). one.asked.text == suc place) (heard catalog (asked_of catalog.schema texts) (taken journal)).ended none_refused in
@@ -214,7 +214,7 @@ module _ (catalog : Catalog) (database : Database) (at : List ℕ) (texts : List
       ]
 
   pub replies_answer : (place : ℕ) (written : List ℕ) (query : Query) → IsFinished journal → slice_get texts place ≡ Some written → reading catalog.schema written ≡ Ok query
-      → rows_from_replies catalog (hidden_of catalog.schema database) texts journal (suc place) query ≡ answer catalog.schema database query
+      → rows_from_replies catalog (hidden_of catalog.schema database) (asked_of catalog.schema texts) journal (suc place) query ≡ answer catalog.schema database query
   replies_answer place written query finished here read =
       honest_replies_answer catalog database at texts journal place written query is.setting is.stored is.proper is.honest here read
       (asks_are_done place written query finished here read)
@@ -222,7 +222,7 @@ module _ (catalog : Catalog) (database : Database) (at : List ℕ) (texts : List
   -- the lines of one text
   lines_for :
       (place : ℕ) (written : List ℕ) (lines : List (List ℕ)) (reason : Reason) → IsFinished journal → slice_get texts place ≡ Some written → is_own_fault reason ≡ false
-      → AreLinesFor reason catalog (hidden_of catalog.schema database) texts journal (suc place) written lines → lines ≡ lines_of_text catalog.schema database (suc place) written
+      → AreLinesFor reason (text_in catalog (hidden_of catalog.schema database) texts journal (suc place) written) lines → lines ≡ lines_of_text catalog.schema database (suc place) written
   lines_for place written lines IsRefused finished here sound are =
       are.line ∙ ap (λ (r : Result Query Refusal). lines_of_reading catalog.schema database (suc place) r) (sym are.refused)
   lines_for place written lines WasBroken finished here sound are =
@@ -240,7 +240,7 @@ module _ (catalog : Catalog) (database : Database) (at : List ℕ) (texts : List
       let number : its.place ≡ place = (let e = its.numbered in omega (arith, e)) in
       let same : its.written ≡ written = same_some its.written written (slice_get texts place) (ap (slice_get texts) (sym number) ∙ its.stands) here in
       lines_for place written lines its.reason finished here are.sound
-      (subst (λ (w : List ℕ). AreLinesFor its.reason catalog (hidden_of catalog.schema database) texts journal (suc place) w lines) same its.lines_are)
+      (subst (λ (w : List ℕ). AreLinesFor its.reason (text_in catalog (hidden_of catalog.schema database) texts journal (suc place) w) lines) same its.lines_are)
     where
       same_some : (a b : List ℕ) (o : Option (List ℕ)) → o ≡ Some a → o ≡ Some b → a ≡ b
       same_some a b o e f = cc

@@ -19,7 +19,7 @@ module _ (catalog : Catalog) (texts : List (List ℕ)) (journal : Journal) (plac
   now = heard catalog (asked_of catalog.schema texts) (taken journal)
 
   abbrev mine : List Ended
-  mine = ended_of catalog texts journal (suc place)
+  mine = ended_of catalog (asked_of catalog.schema texts) journal (suc place)
 
   abbrev is_decided : IsDecided catalog texts journal (suc place) query
   is_decided = decided catalog texts journal place written query here read

@@ -13,7 +13,7 @@ use Rattle.ghost_model.specs.NextMove.{Awaits, Missing, Reply, Nothing, Ending, 
 use Rattle.ghost_model.specs.Split.{Hidden}
 use Rattle.ghost_model.specs.Replies as answered
 use Rattle.ghost_model.specs.Replies.{reply_for, answer_from}
-use Rattle.ghost_model.specs.Lines.{Reason, IsRefused, WasBroken, WasAnswered, MetFault, AreLinesFor, AreLines, ended_of, was_refused, all_done, broken_word, rows_from_replies}
+use Rattle.ghost_model.specs.Lines.{Reason, IsRefused, WasBroken, WasAnswered, MetFault, AreLinesFor, AreLines, ended_of, was_refused, all_done, broken_word, rows_from_replies, text_in}
 use Rattle.ghost_model.proofs.ChannelLemmas.Tests.{false_is_not}
 use Rattle.ghost_model.proofs.ChannelLemmas.Sending.{heard_more}
 use Rattle.ghost_model.proofs.SessionLemmas.Answered.{filter_joined}
@@ -156,10 +156,10 @@ module _ (catalog : Catalog) (kept : Hidden) (texts : List (List ℕ)) (journal 
   stays : StaysSettledIn catalog texts (suc place) journal (journal ++ more)
   stays = ended_stays catalog texts journal more (suc place) s
 
-  done_stays : (query : Query) (b : Bool) → all_done catalog.schema query (ended_of catalog texts journal (suc place)) ≡ b → all_done catalog.schema query (ended_of catalog texts (journal ++ more) (suc place)) ≡ b
+  done_stays : (query : Query) (b : Bool) → all_done catalog.schema query (ended_of catalog (asked_of catalog.schema texts) journal (suc place)) ≡ b → all_done catalog.schema query (ended_of catalog (asked_of catalog.schema texts) (journal ++ more) (suc place)) ≡ b
   done_stays query b e = ap (all_done catalog.schema query) stays.ends ∙ e
 
-  rows_stay : (query : Query) → rows_from_replies catalog kept texts (journal ++ more) (suc place) query ≡ rows_from_replies catalog kept texts journal (suc place) query
+  rows_stay : (query : Query) → rows_from_replies catalog kept (asked_of catalog.schema texts) (journal ++ more) (suc place) query ≡ rows_from_replies catalog kept (asked_of catalog.schema texts) journal (suc place) query
   rows_stay query = ap (answer_from catalog.schema kept query) stays.replied
 
   -- a settled text that is not done was refused
@@ -170,20 +170,20 @@ module _ (catalog : Catalog) (kept : Hidden) (texts : List (List ℕ)) (journal 
   host_word : (ends : List Ended) (one : Journal) → was_refused ends ≡ true → broken_word ends one ≡ codes "host"
   host_word ends one e = ap (λ (b : Bool). if b then codes "host" else if list_any is_stop (answers one) then codes "link" else codes "protocol") e
 
-  pub lines_for : (written : List ℕ) (lines : List (List ℕ)) (reason : Reason) → slice_get texts place ≡ Some written → AreLinesFor reason catalog kept texts journal (suc place) written lines
-      → AreLinesFor reason catalog kept texts (journal ++ more) (suc place) written lines
-  lines_for written lines IsRefused here are = are
+  pub lines_for : (written : List ℕ) (lines : List (List ℕ)) (reason : Reason) → slice_get texts place ≡ Some written → AreLinesFor reason (text_in catalog kept texts journal (suc place) written) lines
+      → AreLinesFor reason (text_in catalog kept texts (journal ++ more) (suc place) written) lines
+  lines_for written lines IsRefused here are = record { refusal = are.refusal; refused = are.refused; line = are.line }
   lines_for written lines WasBroken here are =
       let d = decided catalog texts journal place written are.query here are.accepted in
-      let refused : was_refused (ended_of catalog texts journal (suc place)) ≡ true =
+      let refused : was_refused (ended_of catalog (asked_of catalog.schema texts) journal (suc place)) ≡ true =
       d.refused ∙ refused_if (is_refused_in catalog texts journal (suc place)) (is_settled_in catalog texts journal (suc place)) s (sym d.done ∙ are.broken) in
       record {
         query = are.query;
         accepted = are.accepted;
         broken = done_stays are.query false are.broken;
         line = are.line ∙ ap (λ (word : List ℕ). word_line (suc place) word ∷ [])
-            (host_word (ended_of catalog texts journal (suc place)) journal refused
-            ∙ sym (host_word (ended_of catalog texts (journal ++ more) (suc place)) (journal ++ more) (ap was_refused stays.ends ∙ refused)));
+            (host_word (ended_of catalog (asked_of catalog.schema texts) journal (suc place)) journal refused
+            ∙ sym (host_word (ended_of catalog (asked_of catalog.schema texts) (journal ++ more) (suc place)) (journal ++ more) (ap was_refused stays.ends ∙ refused)));
       }
   lines_for written lines WasAnswered here are = record {
     query = are.query;
@@ -202,12 +202,12 @@ module _ (catalog : Catalog) (kept : Hidden) (texts : List (List ℕ)) (journal 
   }
 
 lines_at : (catalog : Catalog) (kept : Hidden) (texts : List (List ℕ)) (journal more : Journal) (text place : ℕ) → text ≡ suc place → is_settled_in catalog texts journal text ≡ true
-    → (written : List ℕ) (lines : List (List ℕ)) (reason : Reason) → slice_get texts place ≡ Some written → AreLinesFor reason catalog kept texts journal text written lines
-    → AreLinesFor reason catalog kept texts (journal ++ more) text written lines
+    → (written : List ℕ) (lines : List (List ℕ)) (reason : Reason) → slice_get texts place ≡ Some written → AreLinesFor reason (text_in catalog kept texts journal text written) lines
+    → AreLinesFor reason (text_in catalog kept texts (journal ++ more) text written) lines
 lines_at catalog kept texts journal more text place number s written lines reason here are =
-    subst (λ (n : ℕ). AreLinesFor reason catalog kept texts (journal ++ more) n written lines) (sym number)
+    subst (λ (n : ℕ). AreLinesFor reason (text_in catalog kept texts (journal ++ more) n written) lines) (sym number)
     (lines_for catalog kept texts journal more place (subst (λ (n : ℕ). is_settled_in catalog texts journal n ≡ true) number s) written lines reason here
-    (subst (λ (n : ℕ). AreLinesFor reason catalog kept texts journal n written lines) number are))
+    (subst (λ (n : ℕ). AreLinesFor reason (text_in catalog kept texts journal n written) lines) number are))
 
 pub lines_stay : (catalog : Catalog) (kept : Hidden) (texts : List (List ℕ)) (journal more : Journal) (text : ℕ) (lines : List (List ℕ)) → is_settled_in catalog texts journal text ≡ true
     → AreLines catalog kept texts journal text lines → AreLines catalog kept texts (journal ++ more) text lines

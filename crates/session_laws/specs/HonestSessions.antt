@@ -12,6 +12,7 @@ use Rattle.ghost_model.specs.Lines.{Reason, IsRefused, WasBroken, WasAnswered, M
 use Rattle.ghost_model.specs.Printed.{printed_lines}
 use Rattle.ghost_model.specs.SessionLaws.{IsSetting, IsCatalogOf}
 use Rattle.session_laws.specs.TextEnds.{heard_in}
+use Rattle.ghost_model.specs.Asks.{asked_of}
 
 pub record IsHonestSession (catalog : Catalog) (database : Database) (at : List ℕ) (texts : List (List ℕ)) (journal : Journal) : Type 0 where
   pub setting : IsSetting catalog texts
@@ -36,7 +37,7 @@ HonestAsksAreDone =
     (place : ℕ) (written : List ℕ) (asked : Query)
     → IsHonestSession catalog database at texts journal → IsFinished journal
     → slice_get texts place ≡ Some written → reading catalog.schema written ≡ Ok asked
-    → all_done catalog.schema asked (ended_of catalog texts journal (suc place)) ≡ true
+    → all_done catalog.schema asked (ended_of catalog (asked_of catalog.schema texts) journal (suc place)) ≡ true
 
 -- whether the key's own flash is the reason for some lines
 abbrev pub is_own_fault : Reason → Bool

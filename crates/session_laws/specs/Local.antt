@@ -93,7 +93,7 @@ LocalAsksAreDone =
     (place : ℕ) (written : List ℕ) (asked : Query)
     → IsLocal catalog database at texts journal → IsFinished journal
     → slice_get texts place ≡ Some written → reading catalog.schema written ≡ Ok asked
-    → all_done catalog.schema asked (ended_of catalog texts journal (suc place)) ≡ true
+    → all_done catalog.schema asked (ended_of catalog (asked_of catalog.schema texts) journal (suc place)) ≡ true
 
 abbrev pub LocalSessionsAnswer : Type 0
 LocalSessionsAnswer =
@@ -101,7 +101,7 @@ LocalSessionsAnswer =
     (place : ℕ) (written : List ℕ) (asked : Query)
     → IsLocal catalog database at texts journal → IsFinished journal
     → slice_get texts place ≡ Some written → reading catalog.schema written ≡ Ok asked
-    → rows_from_replies catalog (hidden_of catalog.schema database) texts journal (suc place) asked
+    → rows_from_replies catalog (hidden_of catalog.schema database) (asked_of catalog.schema texts) journal (suc place) asked
     ≡ answer catalog.schema database asked
 
 abbrev pub LocalLinesArePrinted : Type 0

@@ -8,7 +8,7 @@ use Rattle.ghost_model.specs.Asks.{Asked, asked_of, row_width, rows_in}
 use Rattle.ghost_model.specs.Moves.{taken}
 use Rattle.ghost_model.specs.NextMove.{Awaits, Missing, Reply, Nothing, Ended, Heard, heard, hear_all, IsProper, IsFinished}
 use Rattle.ghost_model.specs.Split.{Hidden}
-use Rattle.ghost_model.specs.Lines.{Reason, ended_of, AreLines, AreLinesFor}
+use Rattle.ghost_model.specs.Lines.{Reason, ended_of, AreLines, AreLinesFor, text_in}
 use Rattle.ghost_model.specs.Replies as answered
 use Rattle.ghost_model.specs.Replies.{reply_for, replies}
 
@@ -65,7 +65,7 @@ SettledTextsStay =
 -- and so for more entries of a journal
 pub record StaysSettledIn (catalog : Catalog) (texts : List (List ℕ)) (text : ℕ) (before after : Journal) : Type 0 where
   pub settled : is_settled_in catalog texts after text ≡ true
-  pub ends : ended_of catalog texts after text ≡ ended_of catalog texts before text
+  pub ends : ended_of catalog (asked_of catalog.schema texts) after text ≡ ended_of catalog (asked_of catalog.schema texts) before text
   pub replied : replies catalog (asked_of catalog.schema texts) after text ≡ replies catalog (asked_of catalog.schema texts) before text
 
 abbrev pub EndedTextsStay : Type 0
@@ -86,8 +86,8 @@ ReasonsStay =
     (catalog : Catalog) (kept : Hidden) (texts : List (List ℕ)) (journal more : Journal) (place : ℕ) (written : List ℕ)
     (lines : List (List ℕ)) (reason : Reason)
     → is_settled_in catalog texts journal (suc place) ≡ true → slice_get texts place ≡ Some written
-    → AreLinesFor reason catalog kept texts journal (suc place) written lines
-    → AreLinesFor reason catalog kept texts (journal ++ more) (suc place) written lines
+    → AreLinesFor reason (text_in catalog kept texts journal (suc place) written) lines
+    → AreLinesFor reason (text_in catalog kept texts (journal ++ more) (suc place) written) lines
 
 -- nothing comes after a finished journal, so what all texts' asks came to by then stays
 abbrev pub FinishedJournalsStay : Type 0

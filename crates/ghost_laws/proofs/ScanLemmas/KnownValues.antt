@@ -1,7 +1,7 @@
 -- Each selected value is known where the rows stand in the replies to all asks: an asked one is of its column's kind, since
 -- the reply has one value for each asked column, of its kind.
 use Rattle.std.proofs.Common.{◌≡◌, ℕ, zero, suc, ◌+◌, ◌<◌, ◌≤◌, inl, inr, pos, Bool, true, false, not, ◌&&◌, ◌||◌, ◌==◌, nat_eq, nat_lt, List, [], ◌∷◌, length, map, filter, sym, ◌∙◌, ap, subst, refl, arith, eqb-true, eq-eqb, Some, slice_get, option_and_then, if◌then◌else◌}
-use Rattle.std.specs.Prelude.{filter_map, is_some}
+use Rattle.std.specs.Prelude.{is_some, unwrap_or}
 use Rattle.std.specs.List.{list_all, list_any}
 use Rattle.std.proofs.lemmas.Bool.{lt-ltb}
 use Rattle.ghost_model.specs.Schema.{Schema, Column, Kind, columns_of, column_at, places_from, is_empty, is_shown, is_visible}
@@ -26,7 +26,8 @@ use Rattle.ghost_laws.proofs.ScanLemmas.Choices.{to_map}
 use Rattle.ghost_laws.proofs.ScanLemmas.Accepted.{pass_each}
 use Rattle.ghost_laws.proofs.ScanLemmas.KnownRows.{hidden_is}
 use Rattle.ghost_laws.proofs.ScanLemmas.Columns.{HasColumn, select_has}
-use Rattle.ghost_laws.proofs.ScanLemmas.Values.{Stands, all_stand, alone_or_none, all_by_number, field_stands, row_numbered}
+use Rattle.ghost_laws.proofs.ScanLemmas.Values.{Stands, all_told, none_missing, alone_or_none, all_by_number, field_stands, row_numbered}
+use Rattle.ghost_model.specs.Meaning.{no_value}
 
 -- a value among values of these kinds
 value_of_kinds : (kind : ℕ → Kind) (columns : List ℕ) (values : Row) → are_of_kinds (map kind columns) values ≡ true → (column : ℕ)
@@ -187,21 +188,25 @@ pub known_answers_have_selected : KnownAnswersHaveSelected
 known_answers_have_selected schema tree database is text asked means given are top at_top =
     let linked = query_is_linked schema text asked top means at_top in
     let sound = query_is_sound schema text asked tree means in
+    let kind : Field → Kind = λ f. kind_at schema f.table f.column in
+    let stand : (identifier : ℕ) → 1 ≤ identifier → identifier ≤ row_count database top
+    → list_all (stands_along schema database given top identifier) asked.from ≡ true
+    → (f : Field) → Among f asked.select → Stands (kind f) (known_along schema database given top identifier f) =
+    λ identifier low high stands f a.
+    let row = row_numbered schema database tree is top identifier low high in
+    along_stands schema database tree is asked given are top linked identifier row.0 row.1 stands f
+    (each_is (λ (g : Field). Among g.table asked.from) f asked.select sound.chosen a) a (select_has schema text asked means f a) in
     let each : (identifier : ℕ) → 1 ≤ identifier → identifier ≤ row_count database top
     → list_all (has_selected schema asked) (known_row schema database asked given top identifier) ≡ true =
     λ identifier low high.
-    let row = row_numbered schema database tree is top identifier low high in
     let kept = list_all (stands_along schema database given top identifier) asked.from in
     let holds = list_all (holds_or_asked_along schema (known_along schema database given top identifier)) asked.conditions in
     alone_or_none (has_selected schema asked) (kept && holds)
-    (filter_map (known_along schema database given top identifier) asked.select)
-    (λ passes.
-    all_stand (λ f. kind_at schema f.table f.column) (known_along schema database given top identifier) asked.select
-    (λ f a.
-    along_stands schema database tree is asked given are top linked identifier row.0 row.1 (both_true kept holds passes).0 f
-    (each_is (λ (g : Field). Among g.table asked.from) f asked.select sound.chosen a) a (select_has schema text asked means f a))) in
+    (map (λ f. unwrap_or (known_along schema database given top identifier f) no_value) asked.select)
+    (λ passes. all_told kind (known_along schema database given top identifier) asked.select (stand identifier low high (both_true kept holds passes).0)) in
     record {
       row = each;
+      none_missing = λ identifier low high stands. none_missing kind (known_along schema database given top identifier) asked.select (stand identifier low high stands);
       answer = all_by_number (has_selected schema asked) (known_row schema database asked given top) 1 (row_count database top)
           (λ identifier low high. each identifier low (omega (arith, high)));
     }

@@ -78,7 +78,7 @@ pub honest_replies_answer :
     → IsSetting catalog texts → IsCatalogOf catalog database → IsProper catalog at texts journal
     → IsHonest catalog (public_of catalog.schema database) journal
     → slice_get texts place ≡ Some written → reading catalog.schema written ≡ Ok query
-    → all_done catalog.schema query (ended_of catalog texts journal (suc place)) ≡ true
+    → all_done catalog.schema query (ended_of catalog (asked_of catalog.schema texts) journal (suc place)) ≡ true
     → answer_from catalog.schema (hidden_of catalog.schema database) query (replies catalog (asked_of catalog.schema texts) journal (suc place))
     ≡ answer catalog.schema database query
 honest_replies_answer catalog database at texts journal place written query setting stored goes honest here read done =
@@ -118,7 +118,7 @@ honest_replies_answer catalog database at texts journal place written query sett
     let count : length (wanted catalog.schema (public_of catalog.schema database) (suc place) m.one) ≡ length (asks_of catalog.schema query) =
     sym (count_of catalog.schema (public_of catalog.schema database) (suc place) m.one)
     ∙ (ap (λ (es : List Ended). length (filter (λ (end : Ended). end.asked.text == suc place) es)) (sym m.front_is)
-    ∙ done_count (was_refused (ended_of catalog texts journal (suc place))) _ _ done) in
+    ∙ done_count (was_refused (ended_of catalog (asked_of catalog.schema texts) journal (suc place))) _ _ done) in
     let whole : replies catalog (asked_of catalog.schema texts) journal (suc place) ≡ whole_replies catalog.schema (public_of catalog.schema database) query =
     ap (filter_map (reply_for catalog.schema (suc place))) m.front_is
     ∙ (all_replies catalog.schema (public_of catalog.schema database) (suc place) m.one given

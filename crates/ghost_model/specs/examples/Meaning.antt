@@ -116,6 +116,11 @@ pub record AnswersOfTheClinic : Type 0 where
       ≡ lines (codes "> 1" ∷ codes "> 3" ∷ codes "= 1 2" ∷ [])
   pub notes_on_a_topic : printed note_schema (codes "SELECT body FROM note WHERE topic = 'a'" ∷ []) notes
       ≡ lines (codes "> x" ∷ codes "> z" ∷ codes "= 1 2" ∷ [])
+  pub the_same_text_twice : on_clinic (cardio_on (codes "flu") ∷ cardio_on (codes "flu") ∷ [])
+      ≡ lines (cardio_lines ++ codes "= 1 2" ∷ (cardio_lines ++ codes "= 2 2" ∷ []))
+  pub two_texts_on_notes :
+      printed note_schema (codes "SELECT body FROM note WHERE topic = 'a'" ∷ codes "SELECT id FROM note" ∷ []) notes
+      ≡ lines (codes "> x" ∷ codes "> z" ∷ codes "= 1 2" ∷ codes "> 1" ∷ codes "> 2" ∷ codes "> 3" ∷ codes "= 2 3" ∷ [])
 
 -- one text for each refusal
 abbrev pub refused : List (List ℕ)

@@ -22,4 +22,6 @@ returns c = record {
   every_column = refl;
   a_join_either_side_first = refl;
   notes_on_a_topic = refl;
+  the_same_text_twice = refl;
+  two_texts_on_notes = refl;
 }

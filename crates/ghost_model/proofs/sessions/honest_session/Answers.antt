@@ -9,7 +9,6 @@ use Rattle.ghost_model.specs.QueryPlaces.{read_from}
 use Rattle.ghost_model.specs.NextMove.{hear_all, rows_fit}
 use Rattle.ghost_model.specs.Meaning.{combinations}
 use Rattle.ghost_model.specs.Split.{replies_from}
-use Rattle.ghost_model.specs.Replies.{picks, identifiers_from}
 use Rattle.ghost_model.specs.Honest.{AreReplies}
 use Rattle.ghost_model.specs.Host.{welcomes, groups_from, said_to, frames_within, said_with_refusals}
 use Rattle.ghost_model.specs.Catalog.{catalog_bytes}
@@ -18,7 +17,7 @@ use Rattle.ghost_model.specs.examples.Sessions.{cardio_reply, cardio_replied}
 use Rattle.ghost_model.proofs.sessions.honest_session.Goals as goal
 
 pub returns : goal.returns
-unfolding digits encode_with decode_pairs rows_from tests_in places_from hear_all rows_fit tokens_from quoted_from read_from combinations replies_from picks identifiers_from AreReplies groups_from said_with_refusals frames_within
+unfolding digits encode_with decode_pairs rows_from tests_in places_from hear_all rows_fit tokens_from quoted_from read_from combinations replies_from AreReplies groups_from said_with_refusals frames_within
 returns c = record {
   served = record { full = refl; rest = []; said = refl };
   honest = record {

@@ -9,10 +9,9 @@ use Rattle.ghost_model.specs.QueryPlaces.{read_from}
 use Rattle.ghost_model.specs.NextMove.{hear_all, rows_fit}
 use Rattle.ghost_model.specs.Meaning.{combinations}
 use Rattle.ghost_model.specs.Split.{replies_from}
-use Rattle.ghost_model.specs.Replies.{picks, identifiers_from}
 use Rattle.ghost_model.specs.Honest.{AreReplies}
 use Rattle.ghost_model.proofs.sessions.refusing_session.Goals as goal
 
 pub returns : goal.returns
-unfolding digits encode_with decode_pairs rows_from tests_in places_from hear_all rows_fit tokens_from quoted_from read_from combinations replies_from picks identifiers_from AreReplies
+unfolding digits encode_with decode_pairs rows_from tests_in places_from hear_all rows_fit tokens_from quoted_from read_from combinations replies_from AreReplies
 returns c = record { proper = (refl, (refl, (refl, (refl, (refl, (refl, (refl, (refl, (refl, tt))))))))); broken = refl; word = refl }
