@@ -175,13 +175,17 @@ pub record IsOutOfOrder (page : ℕ → List ℕ) (cat : Catalog) (file : File) 
   pub bound : IsBound page cat file place
   pub broken : may_follow cat file (before_slot page cat file place) (in_slot page cat file place) ≡ false
 
--- a slot of the pages that is damaged, by its page and its place in it, and what was found there
-pub record IsDamagedSlot (cat : Catalog) (page : ℕ → List ℕ) (number slot found : ℕ) : Type 0 where
-  pub file : File
-  pub place : ℕ
+-- a slot of a file that is damaged, by its page and its place in it, and what was found there
+pub record IsDamagedIn (cat : Catalog) (page : ℕ → List ℕ) (file : File) (place number slot found : ℕ) : Type 0 where
   pub has : has_file cat.schema file ≡ true
   pub within : place < (run_of cat file).count
   pub page_is : number ≡ page_of (run_of cat file) place
   pub slot_is : slot ≡ slot_of (run_of cat file) place
   pub damaged : (may_stand cat file (in_slot page cat file place) ≡ false) ⊎ IsOutOfOrder page cat file place
   pub found_is : found ≡ found_in (in_slot page cat file place)
+
+-- a slot of some file
+pub record IsDamagedSlot (cat : Catalog) (page : ℕ → List ℕ) (number slot found : ℕ) : Type 0 where
+  pub file : File
+  pub place : ℕ
+  pub at : IsDamagedIn cat page file place number slot found

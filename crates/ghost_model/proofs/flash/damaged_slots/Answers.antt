@@ -11,21 +11,25 @@ returns c = record {
   no_such_doctor = record {
     file = Cells 2 3;
     place = 2;
-    has = refl;
-    within = omega arith;
-    page_is = refl;
-    slot_is = refl;
-    damaged = inl refl;
-    found_is = refl;
+    at = record {
+      has = refl;
+      within = omega arith;
+      page_is = refl;
+      slot_is = refl;
+      damaged = inl refl;
+      found_is = refl;
+    };
   };
   the_later_of_two = record {
     file = Directory 0 2;
     place = 1;
-    has = refl;
-    within = omega arith;
-    page_is = refl;
-    slot_is = refl;
-    damaged = inr (record { bound = tt; broken = refl });
-    found_is = refl;
+    at = record {
+      has = refl;
+      within = omega arith;
+      page_is = refl;
+      slot_is = refl;
+      damaged = inr (record { bound = tt; broken = refl });
+      found_is = refl;
+    };
   };
 }
