@@ -4,14 +4,14 @@
 -- rows that have it and the rows of each table above that lead to such a row; an id index has the same for each
 -- identifier. At one level the lists of all entries stand one after another, and an entry of the directory says where
 -- its own begins and how long it is. The part that each file kind has is a word of its own; `Holds` is all of them.
-use Rattle.std.specs.Prelude.{◌≡◌, ℕ, ◌-◌, ◌*◌, ◌<◌, pos, true, false, List, [], ◌∷◌, ◌++◌, length, take, drop, map, filter, flat_map, replicate, get_or, slice_index, Contains, bytes_eq, Option, Some, None, slice_get, unwrap_or, IsTrue}
+use Rattle.std.specs.Prelude.{◌≡◌, ℕ, ◌-◌, ◌*◌, ◌<◌, pos, true, false, List, [], ◌∷◌, ◌++◌, length, take, drop, map, filter, flat_map, replicate, get_or, Contains, bytes_eq, Option, Some, slice_get, unwrap_or, IsTrue}
 use Rattle.std.specs.List.Sorted.{IsStrictlySortedBy}
-use Rattle.std.specs.List.{range_with_len}
+use Rattle.std.specs.List.{concat, range_with_len}
 use Rattle.std.specs.Option.{option_map_or}
 use Rattle.std.specs.Cmp.Lexicographic.{slice_cmp}
 use Rattle.std.specs.Ordering.{nat_cmp}
 use Rattle.ghost_model.specs.Schema.{Schema, Table, Kind, is_empty, is_table}
-use Rattle.ghost_model.specs.Values.{Value, Number, Row, Rows, Database}
+use Rattle.ghost_model.specs.Values.{Number, Row, Rows, Database}
 use Rattle.ghost_model.specs.Channel.{Catalog}
 use Rattle.ghost_model.specs.Database.{IsDatabase, rows_or_none, row_counts, leads}
 use Rattle.ghost_model.specs.Cells.{encode_cell}
@@ -19,7 +19,7 @@ use Rattle.ghost_model.specs.Catalog.{catalog_bytes}
 use Rattle.ghost_model.specs.Asks.{kind_at}
 use Rattle.ghost_model.specs.Split.{Hidden, hidden_of, rejoined, value_at, kind_of, are_of_kinds}
 use Rattle.ghost_model.specs.Replies.{hidden_places}
-use Rattle.ghost_model.specs.Runs.{page_bytes, number_cell, Stores}
+use Rattle.ghost_model.specs.Runs.{Run, page_bytes, number_cell, Stores}
 use Rattle.ghost_model.specs.Layout.{below, is_hidden, count_of, levels_of, above_of, descendants_of, public_pages, column_file, subtree_table, index_header, index_directory, index_level, id_directory, id_level}
 
 -- The public pages: a page of the catalog's bytes, and 0xFF where there are none.
@@ -52,14 +52,10 @@ pub record GoesWith (cat : Catalog) (hidden : Hidden) : Type 0 where
   pub kinds : (table place : ℕ) (declared : Table) (row : Row) → slice_get cat.schema table ≡ Some declared
       → slice_get (hidden_rows hidden table) place ≡ Some row → IsTrue (are_of_kinds (hidden_kinds declared) row)
 
-abbrev pub cell_or_none : Kind → Option Value → List ℕ
-cell_or_none kind None = []
-cell_or_none kind (Some value) = encode_cell kind value
-
 -- the cell of a hidden column for a row of the hidden part
 abbrev pub hidden_cell : Schema → (table column : ℕ) → Row → List ℕ
 hidden_cell schema table column row =
-    cell_or_none (kind_at schema table column) (value_at (hidden_places schema table) row column)
+    option_map_or (encode_cell (kind_at schema table column)) (value_at (hidden_places schema table) row column) []
 
 -- the cells of a hidden column, row by row
 abbrev pub hidden_cells : Schema → Hidden → (table column : ℕ) → List (List ℕ)
@@ -98,29 +94,41 @@ HoldsSubtrees page cat hidden =
     (table : ℕ) → table < length cat.schema → is_empty (descendants_of cat.schema table) ≡ false
     → Stores page (subtree_table cat table) (map (subtree_record cat.schema hidden table) (ids (count_of cat table)))
 
--- Lists in level files: `lists` gives the list of each entry. The bytes that say where the list of an entry begins,
--- after those of the entries before it, and how long it is; and a whole level file.
-abbrev pub list_place : {X : Type 0} → (lists : X → List ℕ) → (before : List X) → X → List ℕ
-list_place lists before entry = number_cell (length (flat_map lists before)) ++ number_cell (length (lists entry))
+-- Indexes. An index has entries, and at each of its levels a list of identifiers for each entry. The records of a level
+-- file: the lists one after another
+abbrev pub list_records : (lists : List (List ℕ)) → List (List ℕ)
+list_records lists = map number_cell (concat lists)
 
-abbrev pub level_records : {X : Type 0} → (lists : X → List ℕ) → (entries : List X) → List (List ℕ)
-level_records lists entries = map number_cell (flat_map lists entries)
+-- where the list of an entry stands: how many records stand before it, and how many it has
+abbrev pub list_place : (lists : List (List ℕ)) → (entry : ℕ) → List ℕ
+list_place lists entry =
+    number_cell (length (concat (take entry lists))) ++ number_cell (length (get_or lists entry []))
 
--- Climbing indexes. The cell of a hidden column in a row of its table
-abbrev pub cell_of_row : Schema → Hidden → (table column identifier : ℕ) → List ℕ
-cell_of_row schema hidden table column identifier =
-    get_or (hidden_cells schema hidden table column) (identifier - 1) []
+-- the record of an entry in the directory: its own bytes, and at each level the place of its list
+abbrev pub directory_record : (heads : List (List ℕ)) → (levels : List (List (List ℕ))) → (entry : ℕ) → List ℕ
+directory_record heads levels entry = get_or heads entry [] ++ flat_map (λ lists. list_place lists entry) levels
 
--- the cell of a hidden column in the row of its table that a row leads to
+abbrev pub directory_records : (heads : List (List ℕ)) → (levels : List (List (List ℕ))) → List (List ℕ)
+directory_records heads levels = map (directory_record heads levels) (below (length heads))
+
+-- a directory and level files have these entries with these lists
+pub record HoldsLists (page : ℕ → List ℕ) (directory : Run) (level_file : ℕ → Run) (heads : List (List ℕ)) (levels : List (List (List ℕ))) : Type 0 where
+  pub places : Stores page directory (directory_records heads levels)
+  pub lists :
+      (level : ℕ) → level < length levels → Stores page (level_file level) (list_records (get_or levels level []))
+
+-- Climbing indexes. The cell of a hidden column in the row of its table that a row leads to
 abbrev pub cell_led_to : Schema → Hidden → (table column from identifier : ℕ) → List ℕ
 cell_led_to schema hidden table column from identifier =
-    option_map_or (cell_of_row schema hidden table column) (leads_to schema hidden from identifier table) []
+    option_map_or (λ row. get_or (hidden_cells schema hidden table column) (row - 1) [])
+    (leads_to schema hidden from identifier table) []
 
--- the list of a value at the level of a table: that table's rows which lead to a row that has the value, ascending
-abbrev pub rows_with : Catalog → Hidden → (table column from : ℕ) → (value : List ℕ) → List ℕ
-rows_with cat hidden table column from value =
-    filter (λ identifier. bytes_eq (cell_led_to cat.schema hidden table column from identifier) value)
-    (ids (count_of cat from))
+-- the lists of values at the level of a table: that table's rows which lead to a row that has the value, ascending
+abbrev pub value_lists : Catalog → Hidden → (table column : ℕ) → (values : List (List ℕ)) → (from : ℕ) → List (List ℕ)
+value_lists cat hidden table column values from =
+    map (λ value.
+    filter (λ identifier. bytes_eq (cell_led_to cat.schema hidden table column from identifier) value) (ids (count_of cat from)))
+    values
 
 -- the values of a column: each of its cells once, ascending
 pub record AreValues (cells values : List (List ℕ)) : Type 0 where
@@ -128,53 +136,40 @@ pub record AreValues (cells values : List (List ℕ)) : Type 0 where
   pub only : (value : List ℕ) → Contains values value → Contains cells value
   pub all : (cell : List ℕ) → Contains cells cell → Contains values cell
 
-abbrev pub directory_record : Catalog → Hidden → (table column : ℕ) → (values : List (List ℕ)) → (entry : ℕ) → List ℕ
-directory_record cat hidden table column values entry =
-    get_or values entry []
-    ++ flat_map (λ from. list_place (rows_with cat hidden table column from) (take entry values) (get_or values entry []))
-    (levels_of cat.schema table)
-
-abbrev pub directory_records : Catalog → Hidden → (table column : ℕ) → (values : List (List ℕ)) → List (List ℕ)
-directory_records cat hidden table column values =
-    map (directory_record cat hidden table column values) (below (length values))
+-- the lists at all levels
+abbrev pub index_lists : Catalog → Hidden → (table column : ℕ) → (values : List (List ℕ)) → List (List (List ℕ))
+index_lists cat hidden table column values =
+    map (value_lists cat hidden table column values) (levels_of cat.schema table)
 
 pub record HoldsIndex (page : ℕ → List ℕ) (cat : Catalog) (hidden : Hidden) (table column : ℕ) : Type 0 where
   pub values : List (List ℕ)
   pub are_values : AreValues (hidden_cells cat.schema hidden table column) values
   pub header : Stores page (index_header cat table column) (number_cell (length values) ∷ [])
-  -- it has one record for each value, at most as many as there is room for
-  pub directory :
-      Stores page (record (index_directory cat table column) { count = length values })
-      (directory_records cat hidden table column values)
-  pub levels :
-      (level : ℕ) → level < length (levels_of cat.schema table)
-      → Stores page (index_level cat table column level)
-      (level_records (rows_with cat hidden table column (slice_index (levels_of cat.schema table) level)) values)
+  -- an entry for each value, at most as many as the directory has room for
+  pub entries :
+      HoldsLists page (record (index_directory cat table column) { count = length values }) (index_level cat table column)
+      values (index_lists cat hidden table column values)
 
 abbrev pub HoldsIndexes : (ℕ → List ℕ) → Catalog → Hidden → Type 0
 HoldsIndexes page cat hidden =
     (table column : ℕ) → is_hidden cat.schema table column ≡ true → HoldsIndex page cat hidden table column
 
--- Id indexes. The list of an identifier at the level of a table: that table's rows which lead to it, ascending
-abbrev pub rows_leading_to : Catalog → Hidden → (table from identifier : ℕ) → List ℕ
-rows_leading_to cat hidden table from identifier =
-    filter (λ other. is_table identifier (leads_to cat.schema hidden from other table)) (ids (count_of cat from))
+-- Id indexes: indexes over the identifiers themselves, an entry for each, which needs no bytes of its own, and without the
+-- level of the table itself. The lists of identifiers at the level of a table: that table's rows which lead to one, ascending
+abbrev pub id_lists : Catalog → Hidden → (table from : ℕ) → List (List ℕ)
+id_lists cat hidden table from =
+    map (λ identifier.
+    filter (λ other. is_table identifier (leads_to cat.schema hidden from other table)) (ids (count_of cat from)))
+    (ids (count_of cat table))
 
-abbrev pub id_record : Catalog → Hidden → (table identifier : ℕ) → List ℕ
-id_record cat hidden table identifier =
-    flat_map (λ from. list_place (rows_leading_to cat hidden table from) (ids (identifier - 1)) identifier)
-    (above_of cat.schema table)
-
-pub record HoldsIdIndex (page : ℕ → List ℕ) (cat : Catalog) (hidden : Hidden) (table : ℕ) : Type 0 where
-  pub directory : Stores page (id_directory cat table) (map (id_record cat hidden table) (ids (count_of cat table)))
-  pub levels :
-      (level : ℕ) → level < length (above_of cat.schema table)
-      → Stores page (id_level cat table level)
-      (level_records (rows_leading_to cat hidden table (slice_index (above_of cat.schema table) level)) (ids (count_of cat table)))
+abbrev pub id_index_lists : Catalog → Hidden → (table : ℕ) → List (List (List ℕ))
+id_index_lists cat hidden table = map (id_lists cat hidden table) (above_of cat.schema table)
 
 abbrev pub HoldsIdIndexes : (ℕ → List ℕ) → Catalog → Hidden → Type 0
 HoldsIdIndexes page cat hidden =
-    (table : ℕ) → table < length cat.schema → is_empty (above_of cat.schema table) ≡ false → HoldsIdIndex page cat hidden table
+    (table : ℕ) → table < length cat.schema → is_empty (above_of cat.schema table) ≡ false
+    → HoldsLists page (id_directory cat table) (id_level cat table) (replicate (count_of cat table) [])
+    (id_index_lists cat hidden table)
 
 -- the static pages hold the hidden part
 pub record HoldsFiles (page : ℕ → List ℕ) (cat : Catalog) (hidden : Hidden) : Type 0 where

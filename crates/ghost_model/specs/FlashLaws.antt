@@ -1,19 +1,21 @@
 -- Laws of the hidden part as the flash holds it: the hidden part of a database goes with its catalog, its cells are as
 -- wide as their columns and read as its values, and rows lead to the same rows by it as by the whole database.
-use Rattle.std.specs.Prelude.{◌≡◌, ℕ, suc, ◌<◌, true, List, [], length, get_or, map, count_by, Some, slice_get}
+use Rattle.std.specs.Prelude.{◌≡◌, ℕ, suc, ◌<◌, true, List, [], length, get_or, map, count_by, replicate, Some, slice_get}
+use Rattle.std.specs.Option.{option_map_or}
 use Rattle.ghost_model.specs.Schema.{Schema}
 use Rattle.ghost_model.specs.Values.{Row, Database}
 use Rattle.ghost_model.specs.Channel.{Catalog}
 use Rattle.ghost_model.specs.SchemaTrees.{IsTree}
 use Rattle.ghost_model.specs.Database.{IsDatabase, rows_of, row_counts, field, leads}
 use Rattle.ghost_model.specs.CellReading.{decode_cell}
+use Rattle.ghost_model.specs.Cells.{encode_cell}
 use Rattle.ghost_model.specs.Asks.{kind_at}
 use Rattle.ghost_model.specs.Split.{Hidden, hidden_of, value_at}
 use Rattle.ghost_model.specs.Replies.{hidden_places, hidden_value}
 use Rattle.ghost_model.specs.Runs.{number_cell, record_at}
 use Rattle.ghost_model.specs.RunLaws.{AgreeOn}
 use Rattle.ghost_model.specs.Layout.{below, is_hidden, width_at, count_of, public_pages, files_end, column_file, subtree_table, index_directory, id_directory}
-use Rattle.ghost_model.specs.Flash.{GoesWith, HoldsCatalog, HoldsColumns, HoldsFilesSoFar, hidden_cells, cell_or_none, leads_to, subtree_record, directory_record, id_record}
+use Rattle.ghost_model.specs.Flash.{GoesWith, HoldsCatalog, HoldsColumns, HoldsFilesSoFar, hidden_cells, leads_to, subtree_record, directory_record, index_lists, id_index_lists}
 
 -- how many hidden columns a table has before a column
 abbrev pub hidden_before : Schema → (table column : ℕ) → ℕ
@@ -54,7 +56,7 @@ HiddenCellsOfDatabases =
     (schema : Schema) (database : Database) → IsTree schema → IsDatabase schema database
     → (table column : ℕ) → is_hidden schema table column ≡ true
     → hidden_cells schema (hidden_of schema database) table column
-    ≡ map (λ row. cell_or_none (kind_at schema table column) (slice_get row column)) (rows_of database table)
+    ≡ map (λ row. option_map_or (encode_cell (kind_at schema table column)) (slice_get row column) []) (rows_of database table)
 
 -- what rows lead to is told by the hidden part of the database
 abbrev pub RowsLeadByHiddenValues : Type 0
@@ -95,8 +97,10 @@ pub record RecordsAreAsWide : Type 0 where
   pub directory :
       (cat : Catalog) (hidden : Hidden) (table column : ℕ) (values : List (List ℕ)) (entry : ℕ)
       → length (get_or values entry []) ≡ width_at cat.schema table column
-      → length (directory_record cat hidden table column values entry) ≡ (index_directory cat table column).width
+      → length (directory_record values (index_lists cat hidden table column values) entry)
+      ≡ (index_directory cat table column).width
   pub id_directory :
-      (cat : Catalog) (hidden : Hidden) (table identifier : ℕ)
-      → length (id_record cat hidden table identifier) ≡ (id_directory cat table).width
+      (cat : Catalog) (hidden : Hidden) (table entry : ℕ)
+      → length (directory_record (replicate (count_of cat table) []) (id_index_lists cat hidden table) entry)
+      ≡ (id_directory cat table).width
   pub number : (number : ℕ) → length (number_cell number) ≡ 4

@@ -46,6 +46,7 @@ pub mod Lines
 pub mod SessionLaws
 pub mod Runs
 pub mod Layout
+pub mod Slots
 pub mod Flash
 pub mod Work
 pub mod RunLaws

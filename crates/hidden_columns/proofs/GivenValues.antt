@@ -17,7 +17,7 @@ use Rattle.ghost_model.specs.FlashLaws.{HiddenPartsGoWithCatalogs, HiddenValuesO
 use Rattle.ghost_model.proofs.MeaningLemmas.Leading.{get_within}
 use Rattle.ghost_model.proofs.LayoutLemmas.Order.{table_there}
 use Rattle.ghost_model.proofs.FlashLemmas.Values.{count_there, not_hidden}
-use Rattle.hidden_columns.specs.Slots.{child_or_none, child_rows, is_in_range, only_in_range, spelled}
+use Rattle.ghost_model.specs.Slots.{child_or_none, child_rows, is_in_range, only_in_range, spelled}
 use Rattle.hidden_columns.specs.Laws.{value_on, HasValue, HeldColumnsAreRight, FilesAreOfColumns, FilesStayReadable}
 
 -- a value in range is what its bytes spell, and what bytes spell they spell without a range

@@ -13,7 +13,7 @@ use Rattle.flash_pages.specs.declared.fault.PageFault.{PageFault}
 use Rattle.flash_pages.specs.declared.fault.PageFault.TheVariants.{Flash, Damaged}
 use Rattle.flash_pages.specs.Runs.{run_of, HasRun}
 use Rattle.hidden_columns.specs.declared.file.ColumnFile.{ColumnFile}
-use Rattle.hidden_columns.specs.Slots.{child_rows, is_in_range, spelled}
+use Rattle.ghost_model.specs.Slots.{child_rows, is_in_range, spelled}
 
 -- it is the file of that column
 pub record IsFileOf (cat : Catalog) (table column : ℕ) (file : ColumnFile) : Type 0 where

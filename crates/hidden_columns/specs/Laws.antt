@@ -12,7 +12,7 @@ use Rattle.ghost_model.specs.Layout.{is_hidden, count_of, column_file}
 use Rattle.ghost_model.specs.Flash.{GoesWith, HoldsColumns}
 use Rattle.edge_traits.specs.Devices.{Device}
 use Rattle.hidden_columns.specs.declared.file.ColumnFile.{ColumnFile}
-use Rattle.hidden_columns.specs.Slots.{child_rows, spelled}
+use Rattle.ghost_model.specs.Slots.{child_rows, spelled}
 use Rattle.hidden_columns.specs.Files.{IsFileOf, IsReadable, slot_value}
 
 -- the value that pages have for a row in the file of a hidden column

@@ -5,7 +5,7 @@ ghost use Rattle.ghost_model.specs.Values.{Number};
 ghost use Rattle.ghost_model.specs.Layout as layout;
 ghost use Rattle.ghost_model.specs.Database.{is_row_among};
 ghost use Rattle.ghost_base.specs.Views.{value_of};
-ghost use Rattle.hidden_columns.specs.Slots.{is_in_range};
+ghost use Rattle.ghost_model.specs.Slots.{is_in_range};
 
 use ghost_base::Value;
 use tree_schema::Catalog;

@@ -2,7 +2,7 @@
 use Rattle.std.proofs.Common.{◌≡◌, refl, ap, sym, ◌∙◌, subst, ℕ, zero, suc, ◌+◌, Bool, true, false, not, cond, List, [], ◌∷◌, length, map, drop, filter, sum_by, count_by, slice_index, Option, Some, None, slice_get, option_and_then, unwrap_or, arith}
 use Rattle.std.specs.Prelude.{if◌then◌else◌}
 use Rattle.std.specs.List.{range_with_len}
-use Rattle.std.specs.Option.{option_map}
+use Rattle.std.specs.Option.{option_map, option_map_or}
 use Rattle.std.proofs.lemmas.List.{length-map}
 use Rattle.std.proofs.lemmas.List.Sums.{sum_by-cons}
 use Rattle.std.proofs.lemmas.Option.{slice_get-map}
@@ -11,19 +11,22 @@ use Rattle.ghost_model.specs.Values.{Value, Row, Rows, Database}
 use Rattle.ghost_model.specs.Channel.{Catalog}
 use Rattle.ghost_model.specs.SchemaTrees.{IsTree, identifier}
 use Rattle.ghost_model.specs.Database.{IsDatabase, is_of_kind, rows_or_none, rows_of}
-use Rattle.ghost_model.specs.Cells.{cell_width}
+use Rattle.ghost_model.specs.Cells.{cell_width, encode_cell}
 use Rattle.ghost_model.specs.CellReading.{decode_cell}
 use Rattle.ghost_model.specs.Asks.{kind_or_none, kind_at}
 use Rattle.ghost_model.specs.Split.{Hidden, value_at, kind_of, are_of_kinds, hidden_values, hidden_flags, hidden_of}
 use Rattle.ghost_model.specs.Replies.{hidden_places}
 use Rattle.ghost_model.specs.Layout.{below, hidden_or_none, is_hidden, width_or_none, count_of}
-use Rattle.ghost_model.specs.Flash.{hidden_rows, GoesWith, cell_or_none, hidden_cell, hidden_cells}
+use Rattle.ghost_model.specs.Flash.{hidden_rows, GoesWith, hidden_cell, hidden_cells}
 use Rattle.ghost_model.specs.FlashLaws.{hidden_before, CellsFit}
 use Rattle.ghost_model.proofs.ChannelLemmas.Asks.{cell_is_read, cell_length}
 use Rattle.ghost_model.proofs.MeaningLemmas.Leading.{get_within}
 use Rattle.ghost_model.proofs.SessionLemmas.Values.{at_itself, not_later, hidden_of_row, parts_at}
 use Rattle.ghost_model.proofs.LayoutLemmas.Order.{table_there}
 use Rattle.ghost_model.proofs.ChannelLemmas.Tests.{BothHold, both_hold}
+
+abbrev cell_if_any : Kind → Option Value → List ℕ
+cell_if_any kind value = option_map_or (encode_cell kind) value []
 
 is_kept : Column → Bool
 is_kept column = column.hidden
@@ -132,13 +135,13 @@ map_both f part g (row ∷ rows) same =
 pub cells_of_databases : (schema : Schema) (database : Database) → IsTree schema → IsDatabase schema database
     → (table column : ℕ) → is_hidden schema table column ≡ true
     → hidden_cells schema (hidden_of schema database) table column
-    ≡ map (λ row. cell_or_none (kind_at schema table column) (slice_get row column)) (rows_of database table)
+    ≡ map (λ row. cell_if_any (kind_at schema table column) (slice_get row column)) (rows_of database table)
 cells_of_databases schema database tree is table column h =
     ap (map (hidden_cell schema table column)) (parts_at hidden_values schema database is.tables table)
     ∙ map_both (hidden_cell schema table column) (λ row. hidden_values (hidden_flags (columns_of schema table)) (drop 1 row))
-    (λ row. cell_or_none (kind_at schema table column) (slice_get row column)) (rows_of database table)
+    (λ row. cell_if_any (kind_at schema table column) (slice_get row column)) (rows_of database table)
     (λ place row there.
-    ap (cell_or_none (kind_at schema table column))
+    ap (cell_if_any (kind_at schema table column))
     (value_of_row (columns_of schema table) (tree.begins_with_id table (table_there schema table column h)) column h row (is.widths table (suc place) row there)))
 
 -- the values of a row of a hidden part that goes with a catalog
@@ -223,13 +226,13 @@ module _ (cat : Catalog) (hidden : Hidden) (tree : IsTree cat.schema) (is : Goes
     width = λ table column place cell h there.
         let found = mapped (hidden_cell cat.schema table column) (slice_get (hidden_rows hidden table) place) cell (sym (slice_get-map (hidden_cell cat.schema table column) (hidden_rows hidden table) place) ∙ there) in
         let has = row_value table column place found.0 h found.1 in
-        ap length (sym found.2) ∙ (ap (λ o. length (cell_or_none (kind_at cat.schema table column) o)) has.there
+        ap length (sym found.2) ∙ (ap (λ o. length (cell_if_any (kind_at cat.schema table column) o)) has.there
         ∙ (cell_length (kind_at cat.schema table column) has.value has.is ∙ width_of_kind (column_at cat.schema table column)));
     value = λ table column place cell h there.
         let found = mapped (hidden_cell cat.schema table column) (slice_get (hidden_rows hidden table) place) cell (sym (slice_get-map (hidden_cell cat.schema table column) (hidden_rows hidden table) place) ∙ there) in
         let has = row_value table column place found.0 h found.1 in
         ap (decode_cell (kind_at cat.schema table column)) (sym found.2)
-        ∙ (ap (λ o. decode_cell (kind_at cat.schema table column) (cell_or_none (kind_at cat.schema table column) o)) has.there
+        ∙ (ap (λ o. decode_cell (kind_at cat.schema table column) (cell_if_any (kind_at cat.schema table column) o)) has.there
         ∙ (cell_is_read (kind_at cat.schema table column) has.value has.is
         ∙ (sym has.there
         ∙ sym (ap (option_and_then (λ (row : Row). value_at (hidden_places cat.schema table) row column)) found.1))));

@@ -3,7 +3,7 @@ use Rattle.std.specs.Prelude.{◌≡◌, ℕ, List, [], ◌∷◌, ◌++◌, cod
 use Rattle.ghost_model.specs.Split.{Hidden, hidden_of}
 use Rattle.ghost_model.specs.Runs.{Stores}
 use Rattle.ghost_model.specs.Layout.{column_file}
-use Rattle.ghost_model.specs.Flash.{catalog_page, hidden_cells, AreValues, rows_with, level_records, directory_records, subtree_record, rows_leading_to, id_record, ids}
+use Rattle.ghost_model.specs.Flash.{catalog_page, hidden_cells, AreValues, value_lists, index_lists, list_records, directory_records, subtree_record, id_lists, id_index_lists, ids}
 use Rattle.ghost_model.specs.Work.{catalog_pages, file_pages, pages_built}
 use Rattle.ghost_model.specs.examples.Clinic.{clinic_schema, clinic_catalog, note_schema, note_catalog, clinic, notes}
 
@@ -59,32 +59,32 @@ pub record IndexesOfTheClinic : Type 0 where
       map (subtree_record clinic_schema hidden_clinic 2) (ids 4)
       ≡ (small 1 ++ small 1) ∷ (small 3 ++ small 2) ∷ (small 3 ++ small 1) ∷ (small 2 ++ small 2) ∷ []
   pub countries_of_doctors :
-      level_records (rows_with clinic_catalog hidden_clinic 0 2 0) countries ≡ small 2 ∷ small 3 ∷ small 1 ∷ []
+      list_records (value_lists clinic_catalog hidden_clinic 0 2 countries 0) ≡ small 2 ∷ small 3 ∷ small 1 ∷ []
   pub countries_of_visits :
-      level_records (rows_with clinic_catalog hidden_clinic 0 2 2) countries
+      list_records (value_lists clinic_catalog hidden_clinic 0 2 countries 2)
       ≡ small 2 ∷ small 3 ∷ small 4 ∷ small 1 ∷ []
   pub directory_of_countries :
-      directory_records clinic_catalog hidden_clinic 0 2 countries
+      directory_records countries (index_lists clinic_catalog hidden_clinic 0 2 countries)
       ≡ (codes "ES" ++ (small 0 ++ (small 2 ++ (small 0 ++ small 3))))
       ∷ (codes "FR" ++ (small 2 ++ (small 1 ++ (small 3 ++ small 1)))) ∷ []
   pub directory_of_names :
-      directory_records clinic_catalog hidden_clinic 1 2 names
+      directory_records names (index_lists clinic_catalog hidden_clinic 1 2 names)
       ≡ (ann ++ (small 0 ++ (small 1 ++ (small 0 ++ small 2))))
       ∷ (bob ++ (small 1 ++ (small 1 ++ (small 2 ++ small 2)))) ∷ []
   pub directory_of_purposes :
-      directory_records clinic_catalog hidden_clinic 2 2 purposes
+      directory_records purposes (index_lists clinic_catalog hidden_clinic 2 2 purposes)
       ≡ (check ++ (small 0 ++ small 1)) ∷ (flu ++ (small 1 ++ small 3)) ∷ []
   pub purposes_of_visits :
-      level_records (rows_with clinic_catalog hidden_clinic 2 2 2) purposes
+      list_records (value_lists clinic_catalog hidden_clinic 2 2 purposes 2)
       ≡ small 2 ∷ small 1 ∷ small 3 ∷ small 4 ∷ []
   pub doctors_of_visits :
-      level_records (rows_with clinic_catalog hidden_clinic 2 3 2) doctors
+      list_records (value_lists clinic_catalog hidden_clinic 2 3 doctors 2)
       ≡ small 1 ∷ small 4 ∷ small 2 ∷ small 3 ∷ []
   pub directory_of_doctors :
-      map (id_record clinic_catalog hidden_clinic 0) (ids 3)
+      directory_records (replicate 3 []) (id_index_lists clinic_catalog hidden_clinic 0)
       ≡ (small 0 ++ small 1) ∷ (small 1 ++ small 1) ∷ (small 2 ++ small 2) ∷ []
   pub visits_of_doctors :
-      level_records (rows_leading_to clinic_catalog hidden_clinic 0 2) (ids 3)
+      list_records (id_lists clinic_catalog hidden_clinic 0 2)
       ≡ small 1 ∷ small 4 ∷ small 2 ∷ small 3 ∷ []
 
 -- the page of doctor.country

@@ -1,0 +1,35 @@
+use Rattle.std.proofs.Common.{refl, inl, inr, arith}
+use Rattle.ghost_model.specs.Schema.{places_from}
+use Rattle.ghost_model.specs.SchemaFaults.{ancestor}
+use Rattle.ghost_model.specs.Runs.{number_in, record_at, found_in}
+use Rattle.ghost_model.specs.Slots.{Cells, Directory}
+use Rattle.ghost_model.proofs.flash.damaged_slots.Goals as goal
+
+pub returns : goal.returns
+unfolding places_from ancestor number_in record_at found_in
+returns c = record {
+  no_such_doctor = record {
+    file = Cells 2 3;
+    place = 2;
+    at = record {
+      has = refl;
+      within = omega arith;
+      page_is = refl;
+      slot_is = refl;
+      damaged = inl refl;
+      found_is = refl;
+    };
+  };
+  the_later_of_two = record {
+    file = Directory 0 2;
+    place = 1;
+    at = record {
+      has = refl;
+      within = omega arith;
+      page_is = refl;
+      slot_is = refl;
+      damaged = inr (record { bound = tt; broken = refl });
+      found_is = refl;
+    };
+  };
+}

@@ -1,0 +1,24 @@
+use Rattle.std.proofs.Common.{refl}
+use Rattle.ghost_model.specs.Schema.{places_from}
+use Rattle.ghost_model.specs.SchemaFaults.{ancestor}
+use Rattle.ghost_model.specs.Runs.{number_in}
+use Rattle.ghost_model.proofs.flash.order_of_slots.Goals as goal
+
+pub returns : goal.returns
+unfolding places_from ancestor number_in
+returns c = record {
+  any_country = refl;
+  spain_first = refl;
+  a_gap_at_the_beginning = refl;
+  then_france = refl;
+  france_twice = refl;
+  a_gap_between_doctors = refl;
+  visits_twice = refl;
+  first_of_a_list = refl;
+  a_later_visit = refl;
+  the_same_visit = refl;
+  the_next_doctor = refl;
+  a_doctor_too_early = refl;
+  a_later_visit_of_a_doctor = refl;
+  an_earlier_visit_of_a_doctor = refl;
+}
