@@ -43,14 +43,11 @@ Prints (Accepted port session) before after = after ≡ grown before (port_line 
 
 -- why a host did not listen, where the depot's count of faults went from one value to another
 abbrev pub EndsEarly : HostStatus → (before now : ℕ) → Type 0
-EndsEarly status.Ok before now = ⊥
 EndsEarly status.Usage before now = now ≡ before
 EndsEarly status.NoMemory before now = now ≡ before
-EndsEarly status.Sink before now = ⊥
 EndsEarly status.Depot before now = Rose before now
-EndsEarly status.Link before now = ⊥
 EndsEarly status.BadVisibleFile before now = now ≡ before
-EndsEarly (status.BadRequest kind at) before now = ⊥
+EndsEarly _ before now = ⊥
 
 -- a key was served by these moves, and the status is that of the session
 pub record EndsSession (session : Journal) (ended : HostStatus) (before now : ℕ) (Stood : Holding → Type 0) : Type 0 where

@@ -32,22 +32,14 @@ after_session (served.BadRequest kind at) = status.BadRequest kind at
 
 -- whether a status comes only before the host listens
 abbrev pub is_early : HostStatus → Bool
-is_early status.Ok = false
 is_early status.Usage = true
 is_early status.NoMemory = true
-is_early status.Sink = false
-is_early status.Depot = false
-is_early status.Link = false
 is_early status.BadVisibleFile = true
-is_early (status.BadRequest kind at) = false
+is_early _ = false
 
 -- whether a status tells that the depot failed, or stands before one that would
 abbrev pub may_follow_fault : HostStatus → Bool
-may_follow_fault status.Ok = false
-may_follow_fault status.Usage = false
-may_follow_fault status.NoMemory = false
-may_follow_fault status.Sink = false
 may_follow_fault status.Depot = true
 may_follow_fault status.Link = true
-may_follow_fault status.BadVisibleFile = false
 may_follow_fault (status.BadRequest kind at) = true
+may_follow_fault _ = false

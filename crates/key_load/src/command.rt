@@ -11,7 +11,7 @@ ghost use Rattle.ghost_model.specs.Flash.{IsHidden};
 ghost use Rattle.key_words.specs.Blocks.{most_blocks};
 ghost use Rattle.key_words.specs.Views.{load_view};
 ghost use Rattle.key_inputs.specs.Openings.{InputFault, Spelled, Broken, TablesInput, tables_opening};
-ghost use Rattle.key_load.specs.Results.{Ends, EndsSome, EndsLoading, IsUnsealed, HasBlankPage0, is_faultless, makes_nothing, leaves_file, leaves_page_0, writes_nothing, world, loading};
+ghost use Rattle.key_load.specs.Results.{EndsLoadCall, EndsSomeLoad, EndsLoading, IsUnsealed, HasBlankPage0, is_faultless, makes_nothing, leaves_file, leaves_page_0, writes_nothing, load_side, loading};
 ghost use Rattle.key_load.specs.Preparing.{IsPrepared};
 ghost use Rattle.key_load.specs.declared.failures.LoadFailure.TheVariants as failure;
 
@@ -41,10 +41,10 @@ pub fn load<D: Depot, F: Flash, O: Sink>(
     out: &mut O,
 ) -> Result<(), LoadFailure>
     ensures ends { (files : Files) → D.contents depot.old ≡ Some files
-        → Ends F.told (tables_opening files words.now.schema.now words.now.tables.now) (load_view words.now) result
-        (world (F.state flash.old) (D.contents depot.old) (O.written out.old)) (world (F.state flash.new) (D.contents depot.new) (O.written out.new)) }
-    ensures loads { EndsSome F.told (load_view words.now) result
-        (world (F.state flash.old) (D.contents depot.old) (O.written out.old)) (world (F.state flash.new) (D.contents depot.new) (O.written out.new)) }
+        → EndsLoadCall F.told (tables_opening files words.now.schema.now words.now.tables.now) (load_view words.now) result
+        (load_side (F.state flash.old) (D.contents depot.old) (O.written out.old)) (load_side (F.state flash.new) (D.contents depot.new) (O.written out.new)) }
+    ensures loads { EndsSomeLoad F.told (load_view words.now) result
+        (load_side (F.state flash.old) (D.contents depot.old) (O.written out.old)) (load_side (F.state flash.new) (D.contents depot.new) (O.written out.new)) }
     ensures complete { (files : Files) → (input : TablesInput) → D.contents depot.old ≡ Some files
         → (Rose (D.faults depot.old) (D.faults depot.new) → ⊥) → (Rose (F.state flash.old).faults (F.state flash.new).faults → ⊥) → (Rose (O.faults out.old) (O.faults out.new) → ⊥)
         → tables_opening files words.now.schema.now words.now.tables.now ≡ Spelled input → is_faultless result ≡ true }
@@ -85,7 +85,7 @@ fn load_input<D: Depot, F: Flash, O: Sink>(
 ) -> Result<(), LoadFailure>
     requires database { IsDatabase input.schema input.tables }
     ensures ends { EndsLoading F.told (loading input.schema input.tables (load_view words.now)) result
-        (world (F.state flash.old) (D.contents depot.old) (O.written out.old)) (world (F.state flash.new) (D.contents depot.new) (O.written out.new)) }
+        (load_side (F.state flash.old) (D.contents depot.old) (O.written out.old)) (load_side (F.state flash.new) (D.contents depot.new) (O.written out.new)) }
     ensures nothing_written { writes_nothing result ≡ true → O.written out.new ≡ O.written out.old }
     ensures nothing_made { makes_nothing result ≡ true → F.state flash.new ≡ F.state flash.old }
     ensures file_left { leaves_file result ≡ true → D.contents depot.new ≡ D.contents depot.old }
@@ -122,7 +122,7 @@ fn load_prepared<D: Depot, F: Flash, O: Sink>(
     requires most { prepared.now.blocks ≤ most_blocks }
     ensures ends { (schema : Schema) → (database : Database) → IsPrepared schema database words.now.blocks prepared.now
         → EndsLoading F.told (loading schema database (load_view words.now)) result
-        (world (F.state flash.old) (D.contents depot.old) (O.written out.old)) (world (F.state flash.new) (D.contents depot.new) (O.written out.new)) }
+        (load_side (F.state flash.old) (D.contents depot.old) (O.written out.old)) (load_side (F.state flash.new) (D.contents depot.new) (O.written out.new)) }
     ensures nothing_written { writes_nothing result ≡ true → O.written out.new ≡ O.written out.old }
     ensures made { makes_nothing result ≡ false }
     ensures file_left { leaves_file result ≡ true → D.contents depot.new ≡ D.contents depot.old }

@@ -5,7 +5,8 @@ use Rattle.ghost_model.specs.Channel.{Entry, Journal}
 use Rattle.ghost_model.specs.Moves.{answers}
 use Rattle.ghost_model.specs.NextMove.{Standing, Ended, Ending, Answered, Refused, is_stop}
 use Rattle.ghost_model.specs.Lines.{was_refused, is_refused_by}
-use Rattle.key_session.specs.Refusing.{first_code, code_of, or_else}
+use Rattle.std.specs.Option.{option_or}
+use Rattle.key_session.specs.Refusing.{first_code, code_of}
 use Rattle.key_session.specs.Running.{status_of, status_with, is_sink, blames_flash, is_damaged as is_damage}
 use Rattle.key_session.specs.declared.counts.Damage.{Damage}
 use Rattle.key_session.specs.declared.tally.SessionStatus.{SessionStatus}
@@ -30,7 +31,7 @@ pub no_code : (ends : List Ended) → was_refused ends ≡ false → first_code 
 no_code [] h = refl
 no_code (end ∷ ends) h = go end.ending (no_code ends) h
   where
-    go : (ending : Ending) → (was_refused ends ≡ false → first_code ends ≡ None) → (is_refused_by ending || was_refused ends) ≡ false → or_else (code_of ending) (first_code ends) ≡ None
+    go : (ending : Ending) → (was_refused ends ≡ false → first_code ends ≡ None) → (is_refused_by ending || was_refused ends) ≡ false → option_or (code_of ending) (first_code ends) ≡ None
     go (Answered rows) rest e = rest e
     go (Refused code) rest e = cc
 

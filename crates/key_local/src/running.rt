@@ -17,7 +17,7 @@ ghost use Rattle.key_session.specs.Running as session;
 ghost use Rattle.key_local.specs.Preparing.{IsHosted};
 ghost use Rattle.key_local.specs.Running.{RanOver, IsSomeHosted, is_of_local, damage_at, clears_journal, clears_flash};
 ghost use Rattle.key_local.specs.declared.ends.LocalEnd.TheVariants as ends;
-ghost use Rattle.key_local.specs.Sessions.{SameBesides, is_sink, world};
+ghost use Rattle.key_local.specs.Sessions.{SameBesides, is_sink, local_side};
 
 use crate::ends::LocalEnd;
 use edge_traits::depot::Depot;
@@ -87,8 +87,8 @@ fn hold<D: Depot, F: Flash, O: Sink>(
         → IsHosted ⟦<MemDepot as Depot>⟧.contents ⟦<MemDepot as Depot>⟧.sure (holding_of cat.now database) link.old.link.now
         → (F.told ≡ true → HoldsFilesSoFar (F.state flash.old).page cat.now (hidden_of cat.now.schema database))
         → RanOver F.told cat.now database (texts_of script.now) (named link.old) result
-        (world (F.state flash.old) (D.contents link.old.depot.now) (D.append_faults link.old.depot.now) (O.faults out.old) (O.written out.old))
-        (world (F.state flash.new) (D.contents link.new.depot.now) (D.append_faults link.new.depot.now) (O.faults out.new) (O.written out.new)) }
+        (local_side (F.state flash.old) (D.contents link.old.depot.now) (D.append_faults link.old.depot.now) (O.faults out.old) (O.written out.old))
+        (local_side (F.state flash.new) (D.contents link.new.depot.now) (D.append_faults link.new.depot.now) (O.faults out.new) (O.written out.new)) }
     ensures pages { KeepsPages (F.state flash.old) (F.state flash.new) }
     ensures others { SameBesides (named link.old) (D.contents link.old.depot.now) (D.contents link.new.depot.now) }
     ensures sink { is_sink result ≡ true → Rose (O.faults out.old) (O.faults out.new) }
@@ -134,8 +134,8 @@ pub(crate) fn run<D: Depot, F: Flash, O: Sink>(
         → IsHosted ⟦<MemDepot as Depot>⟧.contents ⟦<MemDepot as Depot>⟧.sure (holding_of cat.now database) link.old
         → (F.told ≡ true → HoldsFilesSoFar (F.state flash.old).page cat.now (hidden_of cat.now.schema database))
         → RanOver F.told cat.now database (texts_of script.now) (local_view words.now).journal result
-        (world (F.state flash.old) (D.contents depot.old) (D.append_faults depot.old) (O.faults out.old) (O.written out.old))
-        (world (F.state flash.new) (D.contents depot.new) (D.append_faults depot.new) (O.faults out.new) (O.written out.new)) }
+        (local_side (F.state flash.old) (D.contents depot.old) (D.append_faults depot.old) (O.faults out.old) (O.written out.old))
+        (local_side (F.state flash.new) (D.contents depot.new) (D.append_faults depot.new) (O.faults out.new) (O.written out.new)) }
     ensures pages { KeepsPages (F.state flash.old) (F.state flash.new) }
     ensures others { SameBesides (local_view words.now).journal (D.contents depot.old) (D.contents depot.new) }
     ensures sink { is_sink result ≡ true → Rose (O.faults out.old) (O.faults out.new) }

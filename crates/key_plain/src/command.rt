@@ -6,7 +6,7 @@ ghost use Rattle.edge_traits.specs.Files.{Files, AreSure};
 ghost use Rattle.key_words.specs.Views.{plain_view};
 ghost use Rattle.key_inputs.specs.Openings.{Spelled, Missing};
 ghost use Rattle.key_plain.specs.Openings.{PlainInput, plain_opening};
-ghost use Rattle.key_plain.specs.Views.{Ends, PrintsSome, writes_nothing};
+ghost use Rattle.key_plain.specs.Views.{EndsPlainCall, PrintsSomeRead, writes_nothing};
 
 use crate::faults::PlainFault;
 use crate::opening::open;
@@ -28,11 +28,11 @@ pub fn plain<D: Depot, O: Sink>(
     out: &mut O,
 ) -> Result<(), PlainFault>
     ensures ends { (files : Files) → D.contents depot.old ≡ Some files
-        → Ends (plain_opening files (plain_view words.now)) result (O.written out.old) (O.written out.new) }
+        → EndsPlainCall (plain_opening files (plain_view words.now)) result (O.written out.old) (O.written out.new) }
     ensures complete { (files : Files) → (input : PlainInput) → D.contents depot.old ≡ Some files
         → (Rose (D.faults depot.old) (D.faults depot.new) → ⊥) → (Rose (O.faults out.old) (O.faults out.new) → ⊥)
         → plain_opening files (plain_view words.now) ≡ Spelled input → (result ≡ Ok tt) ⊎ (result ≡ Err PlainFault.NoMemory) }
-    ensures prints { PrintsSome result (O.written out.old) (O.written out.new) }
+    ensures prints { PrintsSomeRead result (O.written out.old) (O.written out.new) }
     ensures nothing_written { writes_nothing result ≡ true → O.written out.new ≡ O.written out.old }
     ensures sink { result ≡ Err PlainFault.Sink → Rose (O.faults out.old) (O.faults out.new) }
     ensures no_sink { (result ≡ Err PlainFault.Sink → ⊥) → O.faults out.new ≡ O.faults out.old }

@@ -18,7 +18,7 @@ use Rattle.session_laws.specs.TextCases.{is_refused_in, IsDecided, TextsAreDecid
 use Rattle.reply_laws.specs.Order.{TextsComeInOrder, IsInOrder}
 use Rattle.session_replies.specs.Kept.{IsKept}
 use Rattle.session_replies.specs.declared.replies.Replies.{Replies}
-use Rattle.key_session.specs.Telling.{Outside, CameOut, IsTelling, TellsOn}
+use Rattle.key_session.specs.Telling.{SessionSide, CameOut, IsTelling, TellsOn}
 use Rattle.key_session.specs.Going.{IsGoing, IsAttended}
 use Rattle.key_session.specs.declared.teller.Teller.{Teller}
 
@@ -93,7 +93,7 @@ module _ (over : OverTextsAreSettled) (order : TextsComeInOrder) (decided : Text
   unsettled : is_settled_in catalog texts journal asked.text ≡ false
   unsettled = own_unsettled (asked_of catalog.schema texts) (heard_in catalog texts journal).awaits asked awaited
 
-  pub attended : (pages_told : Bool) (pump : Pump) (since before between : Outside) (old teller : Teller) (replies middle new : Replies)
+  pub attended : (pages_told : Bool) (pump : Pump) (since before between : SessionSide) (old teller : Teller) (replies middle new : Replies)
       → IsAfter catalog (asked_of catalog.schema texts) journal pump
       → IsGoing pages_told catalog texts journal since before old replies
       → TellsOn pages_told catalog pump (λ ts j. (number : ℕ) → number < asked.text → CameOut catalog ts j number) before old replies between teller middle
@@ -141,7 +141,7 @@ module _ (over : OverTextsAreSettled) (order : TextsComeInOrder) (decided : Text
           let lows = low in omega (arith, all, place, lows))
 
 -- nothing is awaited
-pub unattended : (pages_told : Bool) (catalog : Catalog) (texts : List (List ℕ)) (journal : Journal) (since now : Outside) (teller : Teller) (replies : Replies)
+pub unattended : (pages_told : Bool) (catalog : Catalog) (texts : List (List ℕ)) (journal : Journal) (since now : SessionSide) (teller : Teller) (replies : Replies)
     → asked_in (heard_in catalog texts journal).awaits ≡ None → IsGoing pages_told catalog texts journal since now teller replies → IsAttended pages_told catalog texts journal since now teller replies
 unattended pages_told catalog texts journal since now teller replies none going = record {
   going = going;

@@ -21,7 +21,7 @@ use Rattle.key_session.specs.Answering.{AnswersWhereSound}
 use Rattle.key_session.specs.Counting.{is_flash, is_damage}
 use Rattle.key_session.specs.Refusing.{first_code}
 use Rattle.key_session.specs.Running.{IsTally, status_of}
-use Rattle.key_session.specs.Telling.{Outside, AreTold, TextTold, IsTold, reasons_of, bytes_told, bytes_of}
+use Rattle.key_session.specs.Telling.{SessionSide, AreTold, TextTold, IsTold, reasons_of, bytes_told, bytes_of}
 use Rattle.key_session.specs.declared.tally.Tally.{Tally}
 use Rattle.key_session.specs.declared.tally.SessionStatus.TheVariants as status
 use Rattle.flash_layout.specs.Limits.{HasLayout}
@@ -130,7 +130,7 @@ module _ (catalog : Catalog) (at : List ℕ) (texts : List (List ℕ)) (database
         });
   }
 
-pub answers_all : HonestSessionsAreSmooth → HonestLinesArePrinted → (told : Bool) (cat : Catalog) (at : List ℕ) (texts : List (List ℕ)) (journal : Journal) (since now : Outside) (tally : Tally)
+pub answers_all : HonestSessionsAreSmooth → HonestLinesArePrinted → (told : Bool) (cat : Catalog) (at : List ℕ) (texts : List (List ℕ)) (journal : Journal) (since now : SessionSide) (tally : Tally)
     → IsCatalog cat → length texts ≤ 64 → IsProper cat at texts journal → IsFinished journal
     → ((database : Database) → Knows told since.flash.page cat database
     → AreTold cat (hidden_of cat.schema database) texts journal (length texts) (λ reasons. IsTally now.sink.failed (standing_after cat (asked_of cat.schema texts) journal) reasons tally) since now)

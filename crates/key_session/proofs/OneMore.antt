@@ -29,7 +29,7 @@ use Rattle.text_lines.specs.declared.text.Told.TheVariants as told
 use Rattle.key_session.specs.Counting.{damage_in, first_damage, reason_of, IsCounted, AreUndamaged}
 use Rattle.key_session.specs.Damages.{AreKept}
 use Rattle.key_session.specs.Reasons.{HaveReasons, HasReason}
-use Rattle.key_session.specs.Telling.{Outside, IsTold, AreTold, AreLeft, CameOut, IsTelling}
+use Rattle.key_session.specs.Telling.{SessionSide, IsTold, AreTold, AreLeft, CameOut, IsTelling}
 use Rattle.key_session.specs.declared.teller.Teller.{Teller}
 use Rattle.key_session.proofs.Coming.{told_so, done_so, all_is_done, reason_so}
 use Rattle.key_session.proofs.Adding.{one_told, one_reason, one_damage, called_more, damage_called_more, still_no_fall, next_of, next_number, left_more, some_more}
@@ -68,7 +68,7 @@ kept_is_done catalog texts journal low top text replies k from valid settled = k
     by true = all_is_done catalog texts journal text settled
     by false = refl
 
-pub tell_one : PiecesJoin → TextsAreDecided → StoredAreGiven → RepliesAscend → (pages_told : Bool) (catalog : Catalog) (texts : List (List ℕ)) (journal : Journal) (top : ℕ) (since between now : Outside)
+pub tell_one : PiecesJoin → TextsAreDecided → StoredAreGiven → RepliesAscend → (pages_told : Bool) (catalog : Catalog) (texts : List (List ℕ)) (journal : Journal) (top : ℕ) (since between now : SessionSide)
     (old new : Teller) (before after : Replies) (written : List ℕ) (state : ReplyState) (stored : List Stored) (result : Told)
     → IsTelling pages_told catalog texts journal top since between old before
     → old.texts ≡ written ∷ new.texts → new.count ≡ old.count + 1

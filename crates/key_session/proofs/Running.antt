@@ -28,7 +28,7 @@ use Rattle.key_session.specs.Answering.{AnswersWhereSound}
 use Rattle.key_session.specs.Counting.{AreCounted, is_refusal, is_flash}
 use Rattle.key_session.specs.Reasons.{IsReason, HasReason, is_refused_text}
 use Rattle.key_session.specs.Refusing.{first_code}
-use Rattle.key_session.specs.Telling.{Outside, AreTold, AreLeft, CameOut, IsTelling, TellsOn}
+use Rattle.key_session.specs.Telling.{SessionSide, AreTold, AreLeft, CameOut, IsTelling, TellsOn}
 use Rattle.key_session.specs.Going.{IsGoing, HasGone}
 use Rattle.key_session.specs.Running.{HasRun, IsTally, status_with, protocol_or, host_or, blames_flash, is_damaged, spares_flash}
 use Rattle.key_session.specs.declared.teller.Teller.{Teller}
@@ -44,7 +44,7 @@ abbrev no_counts : Counts
 no_counts = record { refused = 0; faulted = 0; by_flash = false; damage = None }
 
 -- before the first move
-pub at_first : PiecesJoin → (pages_told : Bool) (catalog : Catalog) (texts : List (List ℕ)) (since : Outside) (teller : Teller) (replies : Replies)
+pub at_first : PiecesJoin → (pages_told : Bool) (catalog : Catalog) (texts : List (List ℕ)) (since : SessionSide) (teller : Teller) (replies : Replies)
     → teller.texts ≡ texts → teller.count ≡ 0 → teller.counts ≡ record { refused = 0; faulted = 0; by_flash = false; damage = None }
     → IsKept catalog (none_heard catalog) 1 0 replies → IsGoing pages_told catalog texts [] since since teller replies
 at_first join pages_told catalog texts since teller replies all none counts kept = record {
@@ -187,7 +187,7 @@ some_met p (reason ∷ reasons) e =
 rose_once : (most before count now : ℕ) → 1 ≤ count → min (before + count) most ≤ now → min (before + 1) most ≤ now
 rose_once most before count now some e = omega (arith, some, e)
 
-pub record IsLast (went : Journal → Type 0) (link_before link_now : ℕ) (pages_told : Bool) (catalog : Catalog) (at : List ℕ) (texts : List (List ℕ)) (since now : Outside) (tally : Tally) : Type 0 where
+pub record IsLast (went : Journal → Type 0) (link_before link_now : ℕ) (pages_told : Bool) (catalog : Catalog) (at : List ℕ) (texts : List (List ℕ)) (since now : SessionSide) (tally : Tally) : Type 0 where
   pub ran : HasRun went link_before link_now pages_told catalog at texts since now tally
   pub many : tally.texts ≡ length texts
   pub prints : PrintsSome since.sink now.sink
@@ -198,7 +198,7 @@ pub record IsLast (went : Journal → Type 0) (link_before link_now : ℕ) (page
   pub faults : min since.flash.faults last_count ≤ now.flash.faults
 
 -- what the status says of the flash
-module _ {went : Journal → Type 0} {link_before link_now : ℕ} {pages_told : Bool} {catalog : Catalog} {at : List ℕ} {texts : List (List ℕ)} {since now : Outside} {tally : Tally}
+module _ {went : Journal → Type 0} {link_before link_now : ℕ} {pages_told : Bool} {catalog : Catalog} {at : List ℕ} {texts : List (List ℕ)} {since now : SessionSide} {tally : Tally}
     (ran : HasRun went link_before link_now pages_told catalog at texts since now tally) where
   abbrev session : Standing
   session = standing_after catalog (asked_of catalog.schema texts) ran.journal
@@ -215,7 +215,7 @@ module _ {went : Journal → Type 0} {link_before link_now : ℕ} {pages_told : 
       ran.reasons.unblamed (spared_so now.sink.failed session.stopped session.heard.broken _ _ _ (list_any is_flash ran.reasons.reasons) ran.reasons.counted.damage
       (ap spares_flash (sym ran.reasons.counted.status_is) ∙ e))
 
-pub has_run : TextsHaveOutcomes → (went : Journal → Type 0) (link_before link_now : ℕ) (pages_told : Bool) (catalog : Catalog) (at : List ℕ) (texts : List (List ℕ)) (since middle now : Outside) (exchange : Exchange) (old teller : Teller) (replies new : Replies)
+pub has_run : TextsHaveOutcomes → (went : Journal → Type 0) (link_before link_now : ℕ) (pages_told : Bool) (catalog : Catalog) (at : List ℕ) (texts : List (List ℕ)) (since middle now : SessionSide) (exchange : Exchange) (old teller : Teller) (replies new : Replies)
     (refusal : Option ℕ) (cause : Option Cause) (tally : Tally)
     → HasGone (WentBy went link_before link_now) pages_told catalog at texts since middle exchange old replies refusal
     → ((journal : Journal) → IsLive catalog at (asked_of catalog.schema texts) journal exchange → IsFinished journal)

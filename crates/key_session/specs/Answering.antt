@@ -9,23 +9,23 @@ use Rattle.ghost_model.specs.Printed.{printed}
 use Rattle.ghost_model.specs.Split.{public_of}
 use Rattle.edge_traits.specs.Written.{grown}
 use Rattle.key_exec.specs.Reading.{Knows}
-use Rattle.key_session.specs.Telling.{Outside}
+use Rattle.key_session.specs.Telling.{SessionSide}
 use Rattle.key_session.specs.declared.tally.Tally.{Tally}
 use Rattle.key_session.specs.declared.tally.SessionStatus.TheVariants as status
 
-pub record IsSound (told : Bool) (cat : Catalog) (database : Database) (journal : Journal) (since now : Outside) : Type 0 where
+pub record IsSound (told : Bool) (cat : Catalog) (database : Database) (journal : Journal) (since now : SessionSide) : Type 0 where
   pub host : IsHonest cat (public_of cat.schema database) journal
   pub pages : Knows told since.flash.page cat database
   pub flash : Rose since.flash.faults now.flash.faults → ⊥
   pub sink : now.sink.failed ≡ false
 
 -- the sink took all that the texts print over the database
-pub record AnswersAll (cat : Catalog) (texts : List (List ℕ)) (database : Database) (since now : Outside) (tally : Tally) : Type 0 where
+pub record AnswersAll (cat : Catalog) (texts : List (List ℕ)) (database : Database) (since now : SessionSide) (tally : Tally) : Type 0 where
   pub printed_all : now.sink.written ≡ grown since.sink.written (printed cat.schema texts database)
   pub status_is : tally.status ≡ status.Ok
 
 -- whichever database it is
-abbrev pub AnswersWhereSound : (told : Bool) → Catalog → (texts : List (List ℕ)) → Journal → (since now : Outside) → Tally → Type 0
+abbrev pub AnswersWhereSound : (told : Bool) → Catalog → (texts : List (List ℕ)) → Journal → (since now : SessionSide) → Tally → Type 0
 AnswersWhereSound told cat texts journal since now tally =
     (database : Database) → IsSound told cat database journal since now
     → AnswersAll cat texts database since now tally

@@ -16,48 +16,29 @@ use Rattle.key_session.specs.Counting.{is_refusal, is_fault, is_flash, is_damage
 use Rattle.key_session.specs.Damages.{IsSlot, MeetsFirst}
 use Rattle.key_session.specs.Reasons.{HaveReasons, is_refused_text}
 use Rattle.key_session.specs.Refusing.{first_code}
-use Rattle.key_session.specs.Telling.{Outside, AreTold}
+use Rattle.key_session.specs.Telling.{SessionSide, AreTold}
 use Rattle.key_session.specs.declared.counts.Damage.{Damage}
 use Rattle.key_session.specs.declared.tally.Tally.{Tally}
 use Rattle.key_session.specs.declared.tally.SessionStatus.{SessionStatus}
 use Rattle.key_session.specs.declared.tally.SessionStatus.TheVariants as status
 
 abbrev pub is_sink : SessionStatus → Bool
-is_sink status.Ok = false
 is_sink status.Sink = true
-is_sink status.Link = false
-is_sink (status.Protocol _ _) = false
-is_sink (status.Host _) = false
-is_sink status.Flash = false
-is_sink (status.Damaged _) = false
+is_sink _ = false
 
 abbrev pub blames_flash : SessionStatus → Bool
-blames_flash status.Ok = false
-blames_flash status.Sink = false
-blames_flash status.Link = false
-blames_flash (status.Protocol _ _) = false
-blames_flash (status.Host _) = false
 blames_flash status.Flash = true
-blames_flash (status.Damaged _) = false
+blames_flash _ = false
 
 abbrev pub is_damaged : SessionStatus → Bool
-is_damaged status.Ok = false
-is_damaged status.Sink = false
-is_damaged status.Link = false
-is_damaged (status.Protocol _ _) = false
-is_damaged (status.Host _) = false
-is_damaged status.Flash = false
 is_damaged (status.Damaged _) = true
+is_damaged _ = false
 
 -- whether a session went well, but for damage that it may have met
 abbrev pub spares_flash : SessionStatus → Bool
 spares_flash status.Ok = true
-spares_flash status.Sink = false
-spares_flash status.Link = false
-spares_flash (status.Protocol _ _) = false
-spares_flash (status.Host _) = false
-spares_flash status.Flash = false
 spares_flash (status.Damaged _) = true
+spares_flash _ = false
 
 -- where the flash did not fail: damage was met, or all is well
 abbrev pub damaged_or : Option Damage → SessionStatus
@@ -104,7 +85,7 @@ pub record IsTally (failed : Bool) (session : Standing) (reasons : List Reason) 
   pub status_is : tally.status ≡ status_of failed session (list_any is_flash reasons)
 
 -- the link counted so many failed calls before the session and after it
-pub record HasRun (goes : Journal → Type 0) (link_before link_now : ℕ) (pages_told : Bool) (catalog : Catalog) (at : List ℕ) (texts : List (List ℕ)) (since now : Outside) (tally : Tally) : Type 0 where
+pub record HasRun (goes : Journal → Type 0) (link_before link_now : ℕ) (pages_told : Bool) (catalog : Catalog) (at : List ℕ) (texts : List (List ℕ)) (since now : SessionSide) (tally : Tally) : Type 0 where
   pub journal : Journal
   pub went : goes journal
   pub counts : FaultsTell link_before link_now journal

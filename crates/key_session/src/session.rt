@@ -12,7 +12,7 @@ ghost use Rattle.key_exec.specs.Plans.{Suffices};
 ghost use Rattle.text_lines.specs.Rows.{PrintsSome};
 ghost use Rattle.key_session.specs.Going.{GoesFrom};
 ghost use Rattle.key_session.specs.Running.{HasRun, is_sink, blames_flash, is_damaged, spares_flash};
-ghost use Rattle.key_session.specs.Telling.{outside};
+ghost use Rattle.key_session.specs.Telling.{session_side};
 
 use crate::options::Options;
 use crate::refusing::first_refusal;
@@ -50,8 +50,8 @@ fn converse<F: Flash, L: Link, O: Sink>(
     ensures suffices { Suffices cat.now (F.state flash.new) }
     ensures closed { want_of exchange.new.pump ≡ Want.Closed }
     ensures gone { GoesFrom (WentBy (λ journal. L.went link.old journal link.new) (L.faults link.old) (L.faults link.new)) F.told cat.now at.now
-        (outside teller.old.printer.failed (O.faults out.old) (O.written out.old) (F.state flash.old)) exchange.old teller.old replies.old
-        (outside teller.new.printer.failed (O.faults out.new) (O.written out.new) (F.state flash.new)) exchange.new teller.new replies.new result }
+        (session_side teller.old.printer.failed (O.faults out.old) (O.written out.old) (F.state flash.old)) exchange.old teller.old replies.old
+        (session_side teller.new.printer.failed (O.faults out.new) (O.written out.new) (F.state flash.new)) exchange.new teller.new replies.new result }
     ensures faults { L.faults link.old ≤ L.faults link.new }
 {
     a_catalog_is_short(cat);
@@ -91,7 +91,7 @@ pub fn run_session<F: Flash, L: Link, O: Sink>(
     requires suffices { Suffices cat.now (F.state flash.old) }
     requires replies { IsKept cat.now (none_heard cat.now) 1 0 replies.old }
     ensures ran { HasRun (λ journal. L.went link.old journal link.new) (L.faults link.old) (L.faults link.new) F.told cat.now options.now.at.now (texts_of script.now)
-        (outside false (O.faults out.old) (O.written out.old) (F.state flash.old)) (outside (is_sink result.status) (O.faults out.new) (O.written out.new) (F.state flash.new)) result }
+        (session_side false (O.faults out.old) (O.written out.old) (F.state flash.old)) (session_side (is_sink result.status) (O.faults out.new) (O.written out.new) (F.state flash.new)) result }
     ensures texts { result.texts ≡ length (texts_of script.now) }
     ensures prints { PrintsSome (handed false (O.faults out.old) (O.written out.old)) (handed (is_sink result.status) (O.faults out.new) (O.written out.new)) }
     ensures sink_rose { is_sink result.status ≡ true → Rose (O.faults out.old) (O.faults out.new) }

@@ -16,7 +16,7 @@ use Rattle.ghost_model.specs.Split.{hidden_of}
 use Rattle.ghost_model.specs.Lines.{Reason, IsRefused, WasBroken, WasAnswered, MetFault, OnFlash, OnDamage, AreLinesFor, ended_of, all_done, rows_from_replies, text_in}
 use Rattle.key_session.specs.Counting.{is_flash, is_damage}
 use Rattle.key_lines.specs.Handing.{Hands}
-use Rattle.key_session.specs.Telling.{Outside, TextTold, IsTold, AreTold, reasons_of, bytes_of, bytes_told}
+use Rattle.key_session.specs.Telling.{SessionSide, TextTold, IsTold, AreTold, reasons_of, bytes_of, bytes_told}
 use Rattle.key_session.specs.Running.{IsTally, status_of}
 use Rattle.key_session.specs.declared.tally.Tally.{Tally}
 use Rattle.local_lines.specs.Lines.{TextLines, AreLinesBy, AreTextLines, GivesByTally, is_cut, bytes_given}
@@ -169,7 +169,7 @@ module _ (catalog : Catalog) (database : Database) (texts : List (List ℕ)) (jo
       }
 
   pub gives :
-      (failed : Bool) (session : Standing) (tally : Tally) (since now : Outside)
+      (failed : Bool) (session : Standing) (tally : Tally) (since now : SessionSide)
       → AreTold catalog (hidden_of catalog.schema database) texts journal (length texts) (λ reasons. IsTally failed session reasons tally) since now
       → GivesByTally failed session tally catalog.schema database texts since now
   gives failed session tally since now are =
