@@ -9,3 +9,4 @@ pub mod References
 pub mod ReadingOrder
 pub mod Parts
 pub mod Wants
+pub mod ImageLengths
