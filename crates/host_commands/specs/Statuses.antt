@@ -4,6 +4,8 @@ use Rattle.host_exec.specs.declared.serving.BeginFault.{BeginFault}
 use Rattle.host_exec.specs.declared.serving.BeginFault.TheVariants as begin
 use Rattle.host_exec.specs.declared.session.Served.{Served}
 use Rattle.host_exec.specs.declared.session.Served.TheVariants as served
+use Rattle.host_commands.specs.declared.words.WordsFault.{WordsFault}
+use Rattle.host_commands.specs.declared.words.WordsFault.TheVariants as words
 use Rattle.host_commands.specs.declared.status.HostStatus.{HostStatus}
 use Rattle.host_commands.specs.declared.status.HostStatus.TheVariants as status
 
@@ -16,6 +18,11 @@ exit_code status.Depot = 5
 exit_code status.Link = 7
 exit_code status.BadVisibleFile = 14
 exit_code (status.BadRequest kind at) = 15
+
+-- the status of a host whose words were not read
+abbrev pub not_read : WordsFault → HostStatus
+not_read words.NoMemory = status.NoMemory
+not_read words.Usage = status.Usage
 
 -- the status of a host that was not begun
 abbrev pub not_begun : BeginFault → HostStatus

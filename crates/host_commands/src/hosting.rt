@@ -15,8 +15,8 @@ ghost use Rattle.host_commands.specs.Statuses.{is_early, may_follow_fault};
 ghost use Rattle.host_commands.specs.Words.{Names, reading};
 
 use crate::port::print_port;
-use crate::status::{HostStatus, after_session, not_begun};
-use crate::words::{WordsFault, read_words};
+use crate::status::{HostStatus, after_session, not_begun, not_read};
+use crate::words::read_words;
 use edge_traits::depot::Depot;
 use edge_traits::link::Link;
 use edge_traits::sink::Sink;
@@ -100,8 +100,7 @@ pub fn host_main<D: Depot, L: Link, O: Sink>(
     catalogs_have_one_spelling();
     images_are_held();
     match read_words(alloc, words) {
-        Err(WordsFault::NoMemory) => HostStatus::NoMemory,
-        Err(WordsFault::Usage) => HostStatus::Usage,
+        Err(fault) => not_read(fault),
         Ok(said) => match Host::begin(alloc, depot, said.visible) {
             Err(fault) => not_begun(&fault),
             Ok(mut host) => host_one(&mut host, said.at, depot, link, out),

@@ -54,6 +54,7 @@ impl Host {
         ensures starts { IfOk result (λ host. AreStarts host.catalog host.starts.items) }
         ensures image { IfOk result (λ host. (file : List ℕ) → file_of (D.contents depot.old) name.now ≡ Some file → IsImage host.catalog file) }
         ensures bad { result ≡ Err BeginFault.BadVisibleFile → (file : List ℕ) → file_of (D.contents depot.old) name.now ≡ Some file → IsNoImage file }
+        ensures memory { result ≡ Err BeginFault.NoMemory → (file : List ℕ) → file_of (D.contents depot.old) name.now ≡ Some file → IsNoImage file → ⊥ }
         ensures never_falls { D.faults depot.old ≤ D.faults depot.new }
         ensures failed { result ≡ Err BeginFault.Depot → Rose (D.faults depot.old) (D.faults depot.new) }
         ensures other { (result ≡ Err BeginFault.Depot → ⊥) → D.faults depot.new ≡ D.faults depot.old }

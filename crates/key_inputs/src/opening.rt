@@ -188,6 +188,7 @@ fn file_of(alloc: Global, schema: &Schema, table: usize, folder: &str) -> Result
 fn check_keys(schema: &Schema, tables: &Tables) -> Result<(), OpenFault>
     ensures judged { MatchResult result (λ _. load.reference_faults schema.now tables.now ≡ []) (λ fault. TellsRule (rule_in fault) (load.reference_faults schema.now tables.now)) }
     ensures not_depot { result ≡ Err OpenFault.Depot → ⊥ }
+    ensures tells { IfErr result (λ fault. is_some (rule_in fault) ≡ true) }
     ensures names { IfErr result (OfTable (IsNamedBy schema.now)) }
     ensures keys { IfErr result (OfTable (OfKey (ShowsKey tables.now))) }
 {

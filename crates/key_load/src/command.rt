@@ -15,14 +15,14 @@ ghost use Rattle.key_load.specs.Results.{EndsLoadCall, EndsSomeLoad, EndsLoading
 ghost use Rattle.key_load.specs.Preparing.{IsPrepared};
 ghost use Rattle.key_load.specs.declared.failures.LoadFailure.TheVariants as failure;
 
-use crate::failures::LoadFailure;
+use crate::failures::{LoadFailure, failure_of};
 use crate::line::print_line;
 use crate::making::make_both;
 use crate::preparing::{Prepared, prepare};
 use edge_traits::depot::Depot;
 use edge_traits::flash::{BLOCK_PAGES, Flash};
 use edge_traits::sink::Sink;
-use key_inputs::{Input, OpenFault, open_tables};
+use key_inputs::{Input, open_tables};
 use key_words::LoadWords;
 use std::alloc::Global;
 
@@ -68,9 +68,7 @@ pub fn load<D: Depot, F: Flash, O: Sink>(
 {
     match open_tables(alloc, words.schema, words.tables, depot) {
         Ok(input) => load_input(alloc, input, words, depot, flash, out),
-        Err(OpenFault::NoMemory) => Err(LoadFailure::NoMemory),
-        Err(OpenFault::Depot) => Err(LoadFailure::Depot),
-        Err(OpenFault::Input(fault)) => Err(LoadFailure::Input(fault)),
+        Err(fault) => Err(failure_of(fault)),
     }
 }
 

@@ -79,7 +79,7 @@ fn depot_with(alloc: Global, name: &str, image: Vec<u8>) -> Result<MemDepot, All
     };
     let mut depot = MemDepot::new(alloc, room, &[])?;
     if !depot.put(name, &image) {
-        return Err(AllocError);
+        unreachable!()
     }
     Ok(depot)
 }

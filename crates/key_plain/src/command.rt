@@ -8,12 +8,11 @@ ghost use Rattle.key_inputs.specs.Openings.{Spelled, Missing};
 ghost use Rattle.key_plain.specs.Openings.{PlainInput, plain_opening};
 ghost use Rattle.key_plain.specs.Views.{EndsPlainCall, PrintsSomeRead, writes_nothing};
 
-use crate::faults::PlainFault;
+use crate::faults::{PlainFault, fault_of};
 use crate::opening::open;
 use crate::printing::print_script;
 use edge_traits::depot::Depot;
 use edge_traits::sink::Sink;
-use key_inputs::OpenFault;
 use key_words::PlainWords;
 use std::alloc::Global;
 
@@ -51,8 +50,6 @@ pub fn plain<D: Depot, O: Sink>(
             }
             Ok(())
         }
-        Err(OpenFault::NoMemory) => Err(PlainFault::NoMemory),
-        Err(OpenFault::Depot) => Err(PlainFault::Depot),
-        Err(OpenFault::Input(fault)) => Err(PlainFault::Input(fault)),
+        Err(fault) => Err(fault_of(fault)),
     }
 }

@@ -51,6 +51,7 @@ fn catalog_of<F: Flash>(flash: &mut F) -> Result<Catalog, QueryFailure>
     ensures no_flash { (result ≡ Err failure.Flash → ⊥) → (F.state flash.new).faults ≡ (F.state flash.old).faults }
     ensures never_falls { (F.state flash.old).faults ≤ (F.state flash.new).faults }
     ensures calls_stay { min (F.state flash.old).calls last_count ≤ (F.state flash.new).calls }
+    ensures memory { result ≡ Err failure.NoMemory → ⊥ }
 {
     match read_public_pages(flash) {
         Ok(Some(cat)) => {

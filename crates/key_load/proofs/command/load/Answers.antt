@@ -31,15 +31,3 @@ returns-in-Ok-clause-loads g c =
     EndsLoading g.F.Flash.told (loading input.schema input.tables words) c.load_input.result
     (load_side (g.F.Flash.state c.args.flash.now) held (g.O.Sink.written c.args.out.now)) after)
     c.in-Ok.ensures.same c.load_input.ensures.ends)
-
-pub returns-in-Err-NoMemory-clause-ends : goal.returns-in-Err-NoMemory-clause-ends
-returns-in-Err-NoMemory-clause-ends g c = λ files held. inl (record { device = refl; files = c.in-Err-NoMemory.ensures.same })
-
-pub returns-in-Err-NoMemory-clause-loads : goal.returns-in-Err-NoMemory-clause-loads
-returns-in-Err-NoMemory-clause-loads g c = inl (record { device = refl; files = c.in-Err-NoMemory.ensures.same })
-
-pub returns-in-Err-Depot-clause-ends : goal.returns-in-Err-Depot-clause-ends
-returns-in-Err-Depot-clause-ends g c = λ files held. inl (record { device = refl; files = c.in-Err-Depot.ensures.same })
-
-pub returns-in-Err-Depot-clause-loads : goal.returns-in-Err-Depot-clause-loads
-returns-in-Err-Depot-clause-loads g c = inl (record { device = refl; files = c.in-Err-Depot.ensures.same })
