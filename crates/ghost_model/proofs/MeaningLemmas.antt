@@ -1,4 +1,5 @@
 -- The lemmas on databases: a database and its parts, the files that spell one, and the rows of an answer.
+pub mod PartsByFlags
 pub mod Rejoining
 pub mod PublicPart
 pub mod Loading

@@ -7,7 +7,7 @@ use Rattle.ghost_model.specs.Query as query
 use Rattle.ghost_model.specs.Query.{Operator}
 use Rattle.ghost_model.specs.Tokens.{Token, tokens, symbol_of, symbols, offset_of, Symbol, Word, Name, Digits, Quoted, Comma, Point, Star, Plus, Minus, Equal, Unequal, Less, AtMost, More, AtLeast, End, Select, From, Where, And, Between}
 use Rattle.ghost_model.specs.Grammar.{Spells, IsSyntaxFault, separated, begun}
-use Rattle.ghost_model.specs.Spelled.{is_spelled, is_name, is_number}
+use Rattle.ghost_model.specs.Spelled.{is_spelled, is_name}
 use Rattle.ghost_model.specs.QueryGrammar.{ColumnText, Bare, Qualified, Sign, Positive, Negative, LiteralText, Unsigned, Signed, Written, ConditionText, Compares, LiesBetween, Joins, Selection, All, Columns, QueryText, spell_column, spell_sign, spell_operator, spell_literal, spell_condition, spell_table, spell_selection, spell_where, spelling}
 use Rattle.ghost_model.specs.QueryPlaces.{ColumnPart, WantsColumn, HasTablePoint, HasColumn, ConditionPart, WantsLeft, HasLeftPoint, HasLeft, HasOperator, HasSign, HasRightPoint, WantsLow, HasLowSign, HasLow, WantsHigh, HasHighSign, HasCondition, Place, Start, HasStar, InSelect, WantsTable, HasTable, InWhere, Whole, first_item, other_items, selection_of, query_text, in_column, in_condition, before, step_in_column, step_in_condition, step_in_select, step_in_where, step, whole_text, read_from, syntax_of, IsStuck}
 use Rattle.ghost_model.proofs.TokenLemmas.{before_end}
@@ -445,7 +445,7 @@ ended (HasHighSign column low sign) = LiesBetween column low (Signed sign nought
 ended (HasCondition condition) = condition
 
 ending_spelled : (part : ConditionPart) → list_all is_spelled (ending part) ≡ true
-unfolding ending a nought is_name is_number
+unfolding ending a nought is_name
 ending_spelled WantsLeft = refl
 ending_spelled (HasLeftPoint table) = refl
 ending_spelled (HasLeft column) = refl

@@ -8,7 +8,7 @@ use Rattle.std.proofs.lemmas.List.{map-append, length-map}
 use Rattle.std.proofs.lemmas.Bool.{and_from}
 use Rattle.ghost_model.proofs.TokenLemmas.{before_end}
 use Rattle.ghost_model.proofs.GrammarLemmas.{more_begun, spelled_both, spelled_front, no_end_inside, viable_of, run, run-append, dead_after, fault_after, no_fault, one_fault}
-use Rattle.ghost_model.specs.Spelled.{is_spelled, is_name, is_number}
+use Rattle.ghost_model.specs.Spelled.{is_spelled, is_name}
 use Rattle.ghost_model.specs.Tokens.{symbol_of, symbols, tokens, offset_of, Symbol, Token, Word, Name, Digits, Open, Closing, Comma, Semicolon, End, Char, Create, Hidden, Integer, Key, Primary, References, Table}
 use Rattle.ghost_model.specs.Grammar.{Spells, IsViable, IsSyntaxFault, separated, begun}
 use Rattle.ghost_model.specs.SchemaGrammar.{Reference, To, ColumnText, CharColumn, IntegerColumn, TableText, SchemaText, spell_column, spell_heading, spell_table, spelling}
@@ -265,7 +265,6 @@ module _ (tables : SchemaText) (name : List ℕ) (columns : List ColumnText) whe
       on_within (AfterLength column digits) Closing (Whole (CharColumn column digits false)) refl refl (from_whole (CharColumn column digits false))
 
   from_open : (column : List ℕ) → Completes (Within tables name columns (AfterOpen column))
-  unfolding is_number
   from_open column = on_within (AfterOpen column) (Digits (49 ∷ [])) (AfterLength column (49 ∷ [])) refl refl (from_length column (49 ∷ []))
 
   from_id : (column : List ℕ) (primary : Bool) (table : List ℕ) → Completes (Within tables name columns (AfterId column primary table))

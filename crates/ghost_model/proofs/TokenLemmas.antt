@@ -10,7 +10,7 @@ use Rattle.std.proofs.lemmas.Slice.Eq.{bytes_eq-Decides}
 use Rattle.std.specs.Char.{to_ascii_lowercase}
 use Rattle.std.proofs.lemmas.Bool.Decides.{nat_tests}
 use Rattle.ghost_model.specs.Tokens.{Keyword, And, Between, Char, Create, From, Hidden, Integer, Key, Primary, References, Select, Table, Where, Symbol, Word, Reserved, Name, Digits, Quoted, Open, Closing, Comma, Point, Semicolon, Star, Plus, Minus, Equal, Unequal, Less, AtMost, More, AtLeast, Bad, End, keyword_of, keyword_or, other_reserved, symbol_of, symbols, tokens_from, quoted_from, token_at, word_at, digits_at, in_lower_case, symbol_of_word, is_space, is_digit, begins_name, is_name_byte, is_printable, sign_of, less_and, more_and, read, Read}
-use Rattle.ghost_model.specs.Spelled.{keyword_text, is_reserved, begins_as_name, is_name, is_number, is_spelled, symbol_text, inside_literal, text_of, IsBeforeEnd}
+use Rattle.ghost_model.specs.Spelled.{keyword_text, is_reserved, begins_as_name, is_name, is_spelled, symbol_text, inside_literal, text_of, IsBeforeEnd}
 
 -- the symbols of a text whose first `left` bytes belong to a token before; the offset of the text does not matter
 abbrev kinds : (left at : ℕ) → List ℕ → List Symbol
@@ -173,7 +173,7 @@ keyword_reads Where rest = token_before_space 87 (codes "HERE") rest (Word Where
 
 -- each spelled symbol is read as itself
 symbol_reads : (symbol : Symbol) (rest : List ℕ) → is_spelled symbol ≡ true → symbols (symbol_text symbol ++ 32 ∷ rest) ≡ symbol ∷ symbols rest
-unfolding is_name is_number
+unfolding is_name
 symbol_reads (Word keyword) rest e = keyword_reads keyword rest
 symbol_reads Reserved rest e = token_before_space 78 (codes "ULL") rest Reserved refl refl
 symbol_reads (Name []) rest e = cc
@@ -270,7 +270,6 @@ taken_first : (p : ℕ → Bool) (b : ℕ) (bs : List ℕ) → p b ≡ true → 
 taken_first p b bs e = take_while-cons p b bs ∙ ap (λ v. cond v (b ∷ take_while p bs) []) e
 
 token_spelled : (b : ℕ) (bs : List ℕ) → is_spelled (token_at b bs).symbol ≡ true
-unfolding is_number
 token_spelled b bs =
     read_either (begins_name b) _ _
     (λ e. let named : is_name_byte b ≡ true = ap (λ v. v || is_digit b) e in

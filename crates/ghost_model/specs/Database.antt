@@ -3,17 +3,17 @@
 -- identifier of a row of the table that it names. Files spell a database by their CSV records: those after the first
 -- are the rows, field by field.
 use Rattle.std.specs.Prelude.{◌≡◌, ℕ, zero, suc, ◌-◌, ◌^◌, ℤ, pos, negsuc, neg_ℤ, int_le, Bool, true, false, ◌&&◌, ◌==◌, nat_lt, nat_le, List, [], ◌∷◌, length, map, drop, Option, Some, None, slice_get, option_and_then, unwrap_or, IsTrue, if◌then◌else◌}
-use Rattle.std.specs.List.{list_all}
+use Rattle.std.specs.List.{list_all, zip}
 use Rattle.std.specs.Cmp.Lexicographic.{slice_cmp}
-use Rattle.std.specs.Ordering.{nat_cmp, int_cmp}
+use Rattle.std.specs.Ordering.{nat_cmp, int_cmp, is_eq, is_ne, is_lt, is_le, is_gt, is_ge}
 use Rattle.std.specs.declared.cmp.Ordering.{Ordering}
 use Rattle.std.specs.declared.cmp.Ordering.TheVariants as order
 use Rattle.csv.specs.Reading.{records, default_config, strip_bom}
 use Rattle.ghost_model.specs.Schema.{Schema, Column, Kind, Integer, Chars, columns_of, column_at, parent, keys_to, first_of}
 use Rattle.ghost_model.specs.SchemaFaults.{ancestor}
 use Rattle.ghost_model.specs.SchemaTrees.{IsTree}
-use Rattle.ghost_model.specs.Tokens.{is_printable, is_digit}
-pub use Rattle.ghost_model.specs.Tokens.{number_of}
+use Rattle.ghost_model.specs.Tokens.{is_printable}
+pub use Rattle.ghost_model.specs.Tokens.{number_of, is_numeral}
 use Rattle.ghost_model.specs.Values.{Value, Number, Text, Row, Rows, Database}
 use Rattle.ghost_model.specs.Query.{Operator}
 use Rattle.ghost_model.specs.Query as query
@@ -29,13 +29,11 @@ is_text most bytes = nat_le (length bytes) most && list_all is_printable bytes
 
 abbrev pub is_of_kind : Kind → Value → Bool
 is_of_kind Integer (Number number) = fits_integer number
-is_of_kind Integer (Text _) = false
 is_of_kind (Chars most) (Text bytes) = is_text most bytes
-is_of_kind (Chars _) (Number _) = false
+is_of_kind _ _ = false
 
 abbrev pub rows_or_none : Option Rows → Rows
-rows_or_none None = []
-rows_or_none (Some rows) = rows
+rows_or_none found = unwrap_or found []
 
 -- the rows of a table, none where there is no such table
 abbrev pub rows_of : Database → ℕ → Rows
@@ -85,10 +83,8 @@ pub record IsDatabase (schema : Schema) (database : Database) : Type 0 where
 
 -- the identifier that a value of a foreign key is
 abbrev pub identifier_in : Option Value → Option ℕ
-identifier_in None = None
-identifier_in (Some (Text _)) = None
 identifier_in (Some (Number (pos identifier))) = Some identifier
-identifier_in (Some (Number (negsuc _))) = None
+identifier_in _ = None
 
 -- the column of a table that is the foreign key to another
 abbrev pub key_column : Schema → (table child : ℕ) → Option ℕ
@@ -147,18 +143,12 @@ order_of (Text _) (Number _) = order.Greater
 
 -- whether two values that stand in this order meet an operator
 abbrev pub meets : Operator → Ordering → Bool
-meets query.Equal order.Equal = true
-meets query.Equal _ = false
-meets query.Unequal order.Equal = false
-meets query.Unequal _ = true
-meets query.Less order.Less = true
-meets query.Less _ = false
-meets query.AtMost order.Greater = false
-meets query.AtMost _ = true
-meets query.More order.Greater = true
-meets query.More _ = false
-meets query.AtLeast order.Less = false
-meets query.AtLeast _ = true
+meets query.Equal order = is_eq order
+meets query.Unequal order = is_ne order
+meets query.Less order = is_lt order
+meets query.AtMost order = is_le order
+meets query.More order = is_gt order
+meets query.AtLeast order = is_ge order
 
 abbrev pub holds : Operator → Value → Value → Bool
 holds operator a b = meets operator (order_of a b)
@@ -166,11 +156,6 @@ holds operator a b = meets operator (order_of a b)
 -- the records of a file: those of comma-separated values, after a byte order mark. A blank line is none
 abbrev pub records_of : List ℕ → List (List (List ℕ))
 records_of file = records default_config (strip_bom file)
-
--- one or more digits
-abbrev pub is_numeral : List ℕ → Bool
-is_numeral [] = false
-is_numeral (digit ∷ digits) = list_all is_digit (digit ∷ digits)
 
 -- the number with these digits and this sign, where it is not above the greatest
 abbrev pub signed_within : ℕ → (ℕ → ℤ) → List ℕ → Option ℤ
@@ -191,9 +176,7 @@ value_of Integer text = Number (unwrap_or (integer_of text) (pos 0))
 value_of (Chars _) text = Text text
 
 abbrev pub row_spelled : List Column → List (List ℕ) → Row
-row_spelled [] fields = []
-row_spelled (_ ∷ _) [] = []
-row_spelled (column ∷ columns) (text ∷ fields) = value_of column.kind text ∷ row_spelled columns fields
+row_spelled columns fields = map (λ held. value_of held.0.kind held.1) (zip columns fields)
 
 -- the rows of a file are its records after the header
 abbrev pub rows_spelled : List Column → List ℕ → Rows
@@ -201,6 +184,4 @@ rows_spelled columns file = map (row_spelled columns) (drop 1 (records_of file))
 
 -- the database that files spell, one for each table in order
 abbrev pub database_of : Schema → (files : List (List ℕ)) → Database
-database_of [] files = []
-database_of (_ ∷ _) [] = []
-database_of (table ∷ tables) (file ∷ files) = rows_spelled table.columns file ∷ database_of tables files
+database_of schema files = map (λ held. rows_spelled held.0.columns held.1) (zip schema files)

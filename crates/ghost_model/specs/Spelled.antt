@@ -4,7 +4,7 @@
 -- the tokens of every text are such symbols and then its end.
 use Rattle.std.specs.Prelude.{◌≡◌, ℕ, Bool, true, false, not, ◌&&◌, ◌||◌, ◌==◌, List, [], ◌∷◌, ◌++◌, flat_map, if◌then◌else◌, codes, bytes_eq, is_none}
 use Rattle.std.specs.List.{list_any, list_all}
-use Rattle.ghost_model.specs.Tokens.{Keyword, And, Between, Char, Create, From, Hidden, Integer, Key, Primary, References, Select, Table, Where, Symbol, Word, Reserved, Name, Digits, Quoted, Open, Closing, Comma, Point, Semicolon, Star, Plus, Minus, Equal, Unequal, Less, AtMost, More, AtLeast, Bad, End, begins_name, is_name_byte, is_digit, is_printable, in_lower_case, keyword_of, other_reserved, symbols}
+use Rattle.ghost_model.specs.Tokens.{Keyword, And, Between, Char, Create, From, Hidden, Integer, Key, Primary, References, Select, Table, Where, Symbol, Word, Reserved, Name, Digits, Quoted, Open, Closing, Comma, Point, Semicolon, Star, Plus, Minus, Equal, Unequal, Less, AtMost, More, AtLeast, Bad, End, begins_name, is_name_byte, is_numeral, is_printable, in_lower_case, keyword_of, other_reserved, symbols}
 
 abbrev pub begins_as_name : List ℕ → Bool
 begins_as_name [] = false
@@ -18,15 +18,10 @@ unfoldable pub is_name : List ℕ → Bool
 is_name word =
     begins_as_name word && list_all is_name_byte word && bytes_eq (in_lower_case word) word && not (is_reserved word)
 
--- digits, one at least
-unfoldable pub is_number : List ℕ → Bool
-is_number [] = false
-is_number (b ∷ bs) = list_all is_digit (b ∷ bs)
-
 -- the symbols that bytes can spell
 abbrev pub is_spelled : Symbol → Bool
 is_spelled (Name word) = is_name word
-is_spelled (Digits digits) = is_number digits
+is_spelled (Digits digits) = is_numeral digits
 is_spelled (Quoted value) = list_all is_printable value
 is_spelled End = false
 is_spelled _ = true

@@ -5,7 +5,7 @@
 -- a last `'`. A byte that begins no token, and a `'` whose literal has another byte in it or no end, are a bad token,
 -- which no text of a grammar has. The list ends with the end of the text, so that each fault has its place.
 use Rattle.std.specs.Prelude.{ℕ, zero, suc, ◌+◌, ◌-◌, Bool, true, false, ◌&&◌, ◌||◌, ◌==◌, nat_le, List, [], ◌∷◌, ◌++◌, length, map, take_while, if◌then◌else◌, codes, bytes_eq, Option, Some, None, slice_get, option_map, ◌*◌, fold}
-use Rattle.std.specs.List.{list_any}
+use Rattle.std.specs.List.{list_any, list_all}
 use Rattle.std.specs.Char.{to_ascii_lowercase}
 
 -- the reserved words that the grammars use; INT is another spelling of INTEGER
@@ -62,6 +62,11 @@ is_space byte = byte == 32 || byte == 9 || byte == 10 || byte == 13
 
 abbrev pub is_digit : ℕ → Bool
 is_digit byte = is_between 48 57 byte
+
+-- one or more digits
+abbrev pub is_numeral : List ℕ → Bool
+is_numeral [] = false
+is_numeral (digit ∷ digits) = list_all is_digit (digit ∷ digits)
 
 -- the number that decimal digits write, of any length
 abbrev pub number_of : List ℕ → ℕ

@@ -3,6 +3,7 @@
 ghost use Rattle.ghost_model.specs.Database.{RowsLeadToRows};
 ghost use Rattle.ghost_model.specs.LoadFaults.{FilesSpellADatabase, FilesKeepTheRowLimit, LongFilesAreToldFirst};
 ghost use Rattle.ghost_model.specs.Split.{SplitIsRejoined, PublicPartsGoWithCatalogs};
+ghost use Rattle.ghost_model.specs.SplitByFlags.{PartsByFlags};
 ghost use Rattle.ghost_model.specs.Meaning.{OneRowEach};
 ghost use Rattle.ghost_model.specs.examples.Databases.{ClinicIsSpelled, IntegersOfFields, RecordsOfFiles, HeadersOfFiles, OneRuleBroken, TwoRulesBroken};
 ghost use Rattle.ghost_model.specs.examples.Meaning.{PartsOfTheClinic, AnswersOfTheClinic, RefusedTexts, LinesOfRows};
@@ -35,6 +36,11 @@ pub fn one_rule_broken()
 /// Files that break two rules, and which one is told.
 pub fn two_rules_broken()
     ensures { TwoRulesBroken }
+{}
+
+/// The two parts of a database are those that walks along the columns take.
+pub fn parts_by_flags()
+    ensures { PartsByFlags }
 {}
 
 /// A database is its two parts rejoined.

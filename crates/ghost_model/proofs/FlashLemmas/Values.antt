@@ -13,14 +13,16 @@ use Rattle.ghost_model.specs.SchemaTrees.{IsTree, identifier}
 use Rattle.ghost_model.specs.Database.{IsDatabase, is_of_kind, rows_or_none, rows_of}
 use Rattle.ghost_model.specs.Cells.{cell_width, decode_cell}
 use Rattle.ghost_model.specs.Asks.{kind_or_none, kind_at}
-use Rattle.ghost_model.specs.Split.{Hidden, value_at, kind_of, are_of_kinds, hidden_values, hidden_flags, hidden_of}
+use Rattle.ghost_model.specs.Split.{Hidden, value_at, kind_of, are_of_kinds, hidden_of}
+use Rattle.ghost_model.specs.SplitByFlags.{hidden_flags, hidden_values}
+use Rattle.ghost_model.proofs.MeaningLemmas.PartsByFlags.{hidden_rows_at}
 use Rattle.ghost_model.specs.Replies.{hidden_places}
 use Rattle.ghost_model.specs.Layout.{below, hidden_or_none, is_hidden, width_or_none, count_of}
 use Rattle.ghost_model.specs.Flash.{hidden_rows, GoesWith, cell_or_none, hidden_cell, hidden_cells}
 use Rattle.ghost_model.specs.FlashLaws.{hidden_before, CellsFit}
 use Rattle.ghost_model.proofs.ChannelLemmas.Asks.{cell_is_read, cell_length}
 use Rattle.ghost_model.proofs.MeaningLemmas.Leading.{get_within}
-use Rattle.ghost_model.proofs.SessionLemmas.Values.{at_itself, not_later, hidden_of_row, parts_at}
+use Rattle.ghost_model.proofs.SessionLemmas.Values.{at_itself, not_later, hidden_of_row}
 use Rattle.ghost_model.proofs.LayoutLemmas.Order.{table_there}
 use Rattle.ghost_model.proofs.ChannelLemmas.Tests.{BothHold, both_hold}
 
@@ -133,7 +135,7 @@ pub cells_of_databases : (schema : Schema) (database : Database) → IsTree sche
     → hidden_cells schema (hidden_of schema database) table column
     ≡ map (λ row. cell_or_none (kind_at schema table column) (slice_get row column)) (rows_of database table)
 cells_of_databases schema database tree is table column h =
-    ap (map (hidden_cell schema table column)) (parts_at hidden_values schema database is.tables table)
+    ap (map (hidden_cell schema table column)) (hidden_rows_at schema database is.tables table)
     ∙ map_both (hidden_cell schema table column) (λ row. hidden_values (hidden_flags (columns_of schema table)) (drop 1 row))
     (λ row. cell_or_none (kind_at schema table column) (slice_get row column)) (rows_of database table)
     (λ place row there.

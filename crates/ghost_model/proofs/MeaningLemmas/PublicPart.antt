@@ -4,10 +4,12 @@ use Rattle.std.proofs.lemmas.List.{length-map, length-drop}
 use Rattle.std.proofs.lemmas.Option.{slice_get-map}
 use Rattle.std.specs.Option.{option_map}
 use Rattle.ghost_model.specs.Schema.{Schema, Column, Table, columns_of, columns_or_none}
-use Rattle.ghost_model.specs.Values.{Value, Row, Database}
+use Rattle.ghost_model.specs.Values.{Value, Row, Rows, Database}
 use Rattle.ghost_model.specs.Channel.{Catalog}
 use Rattle.ghost_model.specs.Database.{IsDatabase, is_of_kind, rows_or_none, rows_of, row_counts}
-use Rattle.ghost_model.specs.Split.{hidden_flags, visible_values, rows_by, tables_by, public_of, is_open, kind_of, visible_kinds, are_of_kinds, IsPublic}
+use Rattle.ghost_model.specs.Split.{public_of, is_open, kind_of, visible_kinds, are_of_kinds, IsPublic}
+use Rattle.ghost_model.specs.SplitByFlags.{hidden_flags, visible_values, rows_by, tables_by}
+use Rattle.ghost_model.proofs.MeaningLemmas.PartsByFlags.{visible_parts}
 
 -- each value is of its column's kind
 abbrev pub AreOfKinds : List Column → Row → Type 0
@@ -62,10 +64,10 @@ mapped_row f (Some whole) row h = (whole, refl, ap (λ o. unwrap_or o (f whole))
 pub goes_with : (cat : Catalog) (database : Database) → IsDatabase cat.schema database
     → row_counts database ≡ cat.counts → IsPublic cat (public_of cat.schema database)
 goes_with cat database is counts = record {
-  counted = counts_of_tables visible_values cat.schema database is.tables ∙ counts;
+  counted = ap (λ (tables : List Rows). map length tables) (visible_parts cat.schema database) ∙ counts_of_tables visible_values cat.schema database is.tables ∙ counts;
   kinds = λ table place declared row hd hr.
       let part = λ (whole : Row). visible_values (hidden_flags declared.columns) (drop 1 whole) in
-      let rows = rows_in_tables visible_values cat.schema database table declared hd in
+      let rows = ap (λ (tables : List Rows). rows_or_none (slice_get tables table)) (visible_parts cat.schema database) ∙ rows_in_tables visible_values cat.schema database table declared hd in
       let at : slice_get (rows_by visible_values declared.columns (rows_of database table)) place ≡ Some row =
       subst (λ w. slice_get w place ≡ Some row) rows hr in
       let found = mapped_row part (slice_get (rows_of database table) place) row (sym (slice_get-map part (rows_of database table) place) ∙ at) in

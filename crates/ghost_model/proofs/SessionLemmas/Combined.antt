@@ -15,14 +15,15 @@ use Rattle.ghost_model.specs.QueryMeaning.{top_of, only, is_some_among, Means}
 use Rattle.ghost_model.specs.Channel.{Test}
 use Rattle.ghost_model.specs.Asks.{test_of, tests_of, is_field}
 use Rattle.ghost_model.specs.Database.{rows_of, row_of, row_numbered, IsDatabase}
-use Rattle.ghost_model.specs.Split.{Hidden, hidden_values, hidden_of, public_of, meets_test}
+use Rattle.ghost_model.specs.Split.{Hidden, hidden_of, public_of, meets_test}
+use Rattle.ghost_model.proofs.MeaningLemmas.PartsByFlags.{hidden_rows_at}
 use Rattle.ghost_model.specs.Meaning.{Chosen, choice, Combination, combinations, row_in, value_in, compares, is_true_in, passes, projection, others_of, answer_of_row, answer_from_top, answer_or_none, answer}
 use Rattle.ghost_model.specs.Replies as replies
 use Rattle.ghost_model.specs.Replies.{Reply, Pick, pick, picks, identifiers_from, identifiers_of, known_value, known_in, is_true_or_asked, stands_in_reply, is_kept, answer_of_pick, answer_from}
 use Rattle.ghost_model.specs.SessionLaws.{whole_replies}
 use Rattle.ghost_model.proofs.ChannelLemmas.Tests.{false_is_not, BothHold, both_hold, hold_both}
 use Rattle.ghost_model.proofs.MeaningLemmas.OneRow.{Among, Distinct, among-filter, from_filter, not_equal}
-use Rattle.ghost_model.proofs.SessionLemmas.Values.{parts_at}
+
 use Rattle.ghost_model.proofs.SessionLemmas.Whole.{stands_by, stands_in_is, known_is}
 use Rattle.ghost_model.proofs.SessionLemmas.Accepted.{Each, each_is, ComparesFrom, JoinsUnseen, IsSound, query_is_sound}
 
@@ -365,7 +366,7 @@ module _ (schema : Schema) (database : Database) (is : IsDatabase schema databas
 
   how_many : (table : ℕ) → identifiers_of kept table ≡ identifiers_from 1 (length (rows_of database table))
   how_many table =
-      ap (λ (rows : Rows). identifiers_from 1 (length rows)) (parts_at hidden_values schema database is.tables table)
+      ap (λ (rows : Rows). identifiers_from 1 (length rows)) (hidden_rows_at schema database is.tables table)
       ∙ ap (λ (n : ℕ). identifiers_from 1 n) (length-map (rows_of database table) _)
 
   rows_are : (table : ℕ) → map (row_numbered_so table) (identifiers_of kept table) ≡ rows_of database table
