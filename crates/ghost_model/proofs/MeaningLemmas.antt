@@ -5,3 +5,4 @@ pub mod PublicPart
 pub mod Loading
 pub mod OneRow
 pub mod Leading
+pub mod ImageLengths

@@ -2,14 +2,14 @@
 -- keys among them; the identifier stands in neither, since both sides know it. Each part has all rows of each table in
 -- order, so it tells their number. From the public part follow the visible image, which is the host's file, and the
 -- rows that an ask is to be replied with.
-use Rattle.std.specs.Prelude.{◌≡◌, ℕ, ◌+◌, pos, Bool, true, false, not, ◌==◌, List, [], ◌∷◌, ◌++◌, length, map, drop, filter, flat_map, Option, Some, None, slice_get, unwrap_or, IsTrue, if◌then◌else◌}
+use Rattle.std.specs.Prelude.{◌≡◌, ℕ, ◌+◌, ◌*◌, pos, Bool, true, false, not, ◌==◌, List, [], ◌∷◌, ◌++◌, length, map, drop, filter, flat_map, sum, sum_by, Option, Some, None, slice_get, unwrap_or, IsTrue, if◌then◌else◌}
 use Rattle.std.specs.List.{list_all, zip, enumerate_from}
 use Rattle.std.specs.Option.{option_map_or, option_or, some_prefix}
 use Rattle.std.specs.Cmp.Lexicographic.{pointwise}
 use Rattle.ghost_model.specs.Schema.{Schema, Table, Column, Kind, columns_of, places_from}
 use Rattle.ghost_model.specs.Values.{Value, Number, Text, Row, Rows, Database}
 use Rattle.ghost_model.specs.Database.{rows_or_none, row_counts, is_of_kind, holds, IsDatabase}
-use Rattle.ghost_model.specs.Cells.{encode_cell}
+use Rattle.ghost_model.specs.Cells.{cell_width, encode_cell}
 use Rattle.ghost_model.specs.Catalog.{catalog_bytes, IsCatalog}
 use Rattle.ghost_model.specs.Channel.{Catalog, Ask, Test}
 use Rattle.ghost_model.specs.Asks.{ReplyRow, kinds_of}
@@ -112,8 +112,8 @@ replies_from identifier places ask (row ∷ rows) =
 abbrev pub visible_rows : Schema → Public → Ask → List Replied
 visible_rows schema public ask = replies_from 1 (visible_places schema ask.table) ask (rows_in public ask.table)
 
-abbrev pub kind_of : Column → Kind
-kind_of column = column.kind
+abbrev pub column_kind : Column → Kind
+column_kind column = column.kind
 
 -- the cells of values in columns of these kinds
 abbrev pub cells : List Kind → Row → List ℕ
@@ -121,7 +121,7 @@ cells kinds row = flat_map (λ held. encode_cell held.0 held.1) (zip kinds row)
 
 -- the kinds of the visible columns
 abbrev pub visible_kinds : Table → List Kind
-visible_kinds table = map kind_of (filter is_open (drop 1 table.columns))
+visible_kinds table = map column_kind (filter is_open (drop 1 table.columns))
 
 -- those of all rows of all tables
 abbrev pub cells_of_tables : Schema → List Rows → List ℕ
@@ -162,6 +162,14 @@ abbrev pub PublicPartsGoWithCatalogs : Type 0
 PublicPartsGoWithCatalogs =
     (cat : Catalog) (database : Database) → IsDatabase cat.schema database → row_counts database ≡ cat.counts
     → IsPublic cat (public_of cat.schema database)
+
+-- an image has the bytes of its catalog, and for each row of a table the cells of its visible columns
+abbrev pub ImagesAreAsLong : Type 0
+ImagesAreAsLong =
+    (cat : Catalog) (public : Public) → IsPublic cat public
+    → length (image cat public)
+    ≡ length (catalog_bytes cat)
+    + sum_by (λ held. held.1 * sum (map cell_width (visible_kinds held.0))) (zip cat.schema cat.counts)
 
 -- a database is its two parts rejoined
 abbrev pub SplitIsRejoined : Type 0

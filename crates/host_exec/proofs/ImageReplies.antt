@@ -11,7 +11,7 @@ use Rattle.ghost_model.specs.Cells.{cell_width, encode_cell}
 use Rattle.ghost_model.specs.Database.{is_of_kind, meets}
 use Rattle.ghost_model.specs.Channel.{Ask, Test}
 use Rattle.ghost_model.specs.Asks.{ReplyRow, kind_at, kind_or_none, is_proper_ask}
-use Rattle.ghost_model.specs.Split.{is_open, kind_of, value_at, asked_value, cells, are_of_kinds, meets_test, meets_tests, visible_places, replies_from, replied, reply_row}
+use Rattle.ghost_model.specs.Split.{is_open, column_kind, value_at, asked_value, cells, are_of_kinds, meets_test, meets_tests, visible_places, replies_from, replied, reply_row}
 use Rattle.ghost_base.specs.CellLaws.{byte_order}
 use Rattle.ghost_base.proofs.CellOrders.{cell_order}
 use Rattle.host_exec.specs.RowBytes.{Form, Span, ByteTest, cut, passes, width_before, data_columns, row_width, span_of, test_of, form_of, window, row_at, replies_at}
@@ -48,7 +48,7 @@ module _ (schema : Schema) (table : ℕ) where
       let s = shown_of schema table column v in
       let there : slice_get (data_columns schema table) (column - 1) ≡ Some s.declared = sym (behind_first (columns_of schema table) column s.some) ∙ s.there in
       let c = cell_at 1 (data_columns schema table) row s.declared (column - 1) there s.shown k in
-      let kind : kind_of s.declared ≡ kind_at schema table column = sym (ap kind_or_none s.there) in
+      let kind : column_kind s.declared ≡ kind_at schema table column = sym (ap kind_or_none s.there) in
       let place : 1 + (column - 1) ≡ column = omega (arith, s.some) in
       record {
         value = c.value;

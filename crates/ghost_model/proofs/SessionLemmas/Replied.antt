@@ -32,7 +32,7 @@ use Rattle.ghost_model.proofs.SessionLemmas.Limits.{high_bytes, append_bytes, ce
 use Rattle.ghost_model.proofs.SessionLemmas.Whole.{shown_part, visible_value, shown_within, there_is}
 
 -- cells of values of their kinds
-cells_length : (kinds : List Kind) (values : Row) → are_of_kinds kinds values ≡ true → length (cells kinds values) ≡ sum (map cell_width kinds)
+pub cells_length : (kinds : List Kind) (values : Row) → are_of_kinds kinds values ≡ true → length (cells kinds values) ≡ sum (map cell_width kinds)
 cells_length [] [] e = refl
 cells_length [] (value ∷ values) e = absurd (false_is_not e)
 cells_length (kind ∷ kinds) [] e = absurd (false_is_not e)
