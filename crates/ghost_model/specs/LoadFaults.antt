@@ -1,8 +1,8 @@
 -- The rules that the files of a database are to keep, and where each one is broken. The faults stand in the order in
 -- which the files are read: file by file, in a file record by record, in a record first whether the table may have so
 -- many rows, then the number of its fields, then field by field with the identifier first; the foreign keys come after
--- all files, by table, record and column. Only the first fault is ever answered, so after a broken rule the list may say
--- anything.
+-- all files, by table, record and column. `load_fault` is the first of them. No other is ever answered, so what the list
+-- says after it is of no account: rows that break a rule are still looked at by the rules that come later.
 use Rattle.std.specs.Prelude.{◌≡◌, ℕ, ◌+◌, ◌<◌, ◌≤◌, ℤ, pos, Bool, true, false, ◌==◌, nat_le, List, [], ◌∷◌, ◌++◌, length, map, flat_map, Option, Some, None, bytes_eq, Result, Ok, Err, is_some}
 use Rattle.std.specs.List.{zip, enumerate_from}
 use Rattle.std.specs.Option.{option_map_or}

@@ -17,7 +17,6 @@ use Rattle.ghost_model.specs.SplitByFlags.{hidden_values}
 use Rattle.ghost_model.specs.Replies.{Pick, pick, picks, identifiers_of}
 use Rattle.ghost_model.proofs.MeaningLemmas.OneRow.{Among, among-filter, from_filter, distinct-filter, IsLinked}
 use Rattle.ghost_model.proofs.MeaningLemmas.Leading.{landing, to_itself_within, get_within, place_within}
-
 use Rattle.ghost_laws.proofs.ScanLemmas.Keys.{below_top, IsValues, seen, join_holds, joins_hold, follows}
 use Rattle.ghost_laws.proofs.ScanLemmas.Choices.{identifier_within, among_identifiers, chosen_in, chosen_first, chosen_later, chosen_among, picked, picked_has, picked_or_none}
 use Rattle.ghost_laws.proofs.ScanLemmas.Accepted.{HasConditions}

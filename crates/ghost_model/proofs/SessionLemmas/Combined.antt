@@ -23,7 +23,6 @@ use Rattle.ghost_model.specs.Replies.{Reply, Pick, pick, picks, identifiers_from
 use Rattle.ghost_model.specs.SessionLaws.{whole_replies}
 use Rattle.ghost_model.proofs.ChannelLemmas.Tests.{false_is_not, BothHold, both_hold, hold_both}
 use Rattle.ghost_model.proofs.MeaningLemmas.OneRow.{Among, Distinct, among-filter, from_filter, not_equal}
-
 use Rattle.ghost_model.proofs.SessionLemmas.Whole.{stands_by, stands_in_is, known_is}
 use Rattle.ghost_model.proofs.SessionLemmas.Accepted.{Each, each_is, ComparesFrom, JoinsUnseen, IsSound, query_is_sound}
 

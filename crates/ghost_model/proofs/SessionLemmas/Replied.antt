@@ -1,7 +1,7 @@
 -- That the rows that meet an ask may be sent in any packing, and are read back.
 use Rattle.std.proofs.Common.{◌≡◌, ℕ, zero, suc, ◌+◌, ◌*◌, ◌<◌, ◌≤◌, ◌^◌, true, false, ◌&&◌, List, [], ◌∷◌, ◌++◌, length, map, drop, sym, ◌∙◌, ap, subst, refl, arith, lit<, length-append, Option, Some, None, slice_get, unwrap_or}
-use Rattle.std.specs.Prelude.{nat_lt, nat_le, flat_map, filter_map, if◌then◌else◌, sum, All, option_to_list, option_and_then, is_some}
-use Rattle.std.specs.List.{list_all, cons_option}
+use Rattle.std.specs.Prelude.{nat_lt, nat_le, flat_map, if◌then◌else◌, sum, All, option_to_list, option_and_then, is_some}
+use Rattle.std.specs.List.{list_all}
 use Rattle.std.specs.Int.{to_be_bytes, w32}
 use Rattle.std.proofs.lemmas.Option.{slice_get-map}
 use Rattle.std.specs.Option.{option_map}
@@ -28,7 +28,6 @@ use Rattle.ghost_model.proofs.ChannelLemmas.Tests.{false_is_not, BothHold, both_
 use Rattle.ghost_model.proofs.ChannelLemmas.Asks.{cell_is_read, cell_length}
 use Rattle.ghost_model.proofs.SessionLemmas.Accepted.{Each}
 use Rattle.ghost_model.proofs.SessionLemmas.Limits.{high_bytes, append_bytes, cell_bytes}
-
 use Rattle.ghost_model.proofs.SessionLemmas.Whole.{shown_part, visible_value, shown_within, there_is}
 
 -- cells of values of their kinds
