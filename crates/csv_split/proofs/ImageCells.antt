@@ -27,14 +27,14 @@ zeros count most few = take-replicate count most 0 few
 
 -- the kinds of the visible ones of columns
 abbrev pub open_kinds : List schema.Column → List schema.Kind
-open_kinds columns = map parts.kind_of (filter parts.is_open columns)
+open_kinds columns = map parts.column_kind (filter parts.is_open columns)
 
 kinds_first : (column : schema.Column) (later : List schema.Column) → open_kinds (column ∷ later) ≡ open_kinds (column ∷ []) ++ open_kinds later
 kinds_first column later = by column.hidden
   where
     by : (hidden : Bool)
-        → map parts.kind_of (if not hidden then column ∷ filter parts.is_open later else filter parts.is_open later)
-        ≡ map parts.kind_of (if not hidden then column ∷ [] else []) ++ open_kinds later
+        → map parts.column_kind (if not hidden then column ∷ filter parts.is_open later else filter parts.is_open later)
+        ≡ map parts.column_kind (if not hidden then column ∷ [] else []) ++ open_kinds later
     by true = refl
     by false = refl
 

@@ -7,7 +7,7 @@ use Rattle.std.proofs.lemmas.Option.{slice_get-get_or}
 use Rattle.std.proofs.lemmas.Simd.{map-map}
 use Rattle.ghost_model.specs.Schema as schema
 use Rattle.ghost_model.specs.SchemaTrees.{identifier}
-use Rattle.ghost_model.specs.Split.{hidden_flags, hidden_values, rows_by, tables_by, visible_values}
+use Rattle.ghost_model.specs.SplitByFlags.{hidden_flags, hidden_values, rows_by, tables_by, visible_values}
 use Rattle.ghost_model.specs.Values.{Value, Number, Row, Rows, Database}
 use Rattle.tree_schema.specs.declared.schema.Column.{Column}
 use Rattle.csv_split.specs.declared.cells.Cells.{Cells}

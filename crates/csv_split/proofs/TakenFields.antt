@@ -7,7 +7,7 @@ use Rattle.std.proofs.lemmas.Option.{slice_get-get_or}
 use Rattle.ghost_model.specs.LoadFaults.{field_faults, place, value_faults}
 use Rattle.ghost_model.specs.Schema as schema
 use Rattle.ghost_model.specs.SchemaTrees.{identifier}
-use Rattle.ghost_model.specs.Split.{kind_of}
+use Rattle.ghost_model.specs.Split.{column_kind}
 use Rattle.ghost_model.specs.Values.{Value, Row}
 use Rattle.ghost_model.specs.Database.{row_spelled, value_of}
 use Rattle.csv_split.specs.declared.cells.Cells.{Cells}
@@ -29,7 +29,7 @@ pub begin : (table rec : ℕ) (columns : List schema.Column) (fields : List (Lis
 begin table rec columns fields old kinds = record { faults = refl; values = refl; kinds = kinds; left = refl }
 
 pub same_length : (columns : List schema.Column) (cells : List Cells) → AreOfKinds columns cells → length cells ≡ length columns
-same_length columns cells kinds = sym (length-map cells kind_in) ∙ ap length kinds ∙ length-map columns kind_of
+same_length columns cells kinds = sym (length-map cells kind_in) ∙ ap length kinds ∙ length-map columns column_kind
 
 -- the kind of the column at a place
 pub kind_there : (columns : List schema.Column) (cells : List Cells) (i : ℕ) (held : schema.Column) (cell : Cells) → AreOfKinds columns cells → i < length columns
@@ -38,7 +38,7 @@ kind_there columns cells i held cell kinds within =
     let many = same_length columns cells kinds in
     sym (Rattle.std.proofs.lemmas.List.get_or-map kind_in cells i cell schema.Integer (omega arith))
     ∙ ap (λ kinds. get_or kinds i schema.Integer) kinds
-    ∙ Rattle.std.proofs.lemmas.List.get_or-map kind_of columns i held schema.Integer within
+    ∙ Rattle.std.proofs.lemmas.List.get_or-map column_kind columns i held schema.Integer within
 
 -- the faults that are left begin with those of the field of column `i`
 pub faults_next : (table rec : ℕ) (columns : List schema.Column) (fields : List (List ℕ)) (i : ℕ) (cells : List Cells) (cell : Cells)

@@ -3,7 +3,8 @@
 use Rattle.std.specs.Prelude.{◌≡◌, ◌≤◌, ◌<◌, ℕ, Bool, List, [], ◌∷◌, length, Option, Some, None, slice_get}
 use Rattle.ghost_model.specs.LoadFaults.{most_rows}
 use Rattle.ghost_model.specs.Schema as schema
-use Rattle.ghost_model.specs.Split.{Public, Hidden, merged, rejoined_rows}
+use Rattle.ghost_model.specs.Split.{Public, Hidden}
+use Rattle.ghost_model.specs.SplitByFlags.{merged, rejoined_rows}
 use Rattle.ghost_model.specs.Values.{Value, Rows, Database}
 use Rattle.csv_split.specs.declared.part.Part.TheInside.{Inside}
 use Rattle.csv_split.specs.Tables.{column_values, rows_made, values_at}

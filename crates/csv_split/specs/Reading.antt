@@ -3,7 +3,7 @@ use Rattle.std.specs.Prelude.{◌≡◌, ◌≤◌, ℕ, List, [], ◌∷◌, �
 use Rattle.ghost_model.specs.Cells.{cell_width}
 use Rattle.ghost_model.specs.Schema as schema
 use Rattle.ghost_model.specs.SchemaTrees.{identifier}
-use Rattle.ghost_model.specs.Split.{kind_of}
+use Rattle.ghost_model.specs.Split.{column_kind}
 use Rattle.ghost_model.specs.Tokens.{in_lower_case}
 use Rattle.ghost_model.specs.Values.{Value, Row}
 use Rattle.tree_schema.specs.declared.schema.Column.{Column}
@@ -27,7 +27,7 @@ pub record AreColumns (columns : List schema.Column) : Type 0 where
 
 -- the kinds of cells are those of the columns
 abbrev pub AreOfKinds : List schema.Column → List Cells → Type 0
-AreOfKinds columns cells = map kind_in cells ≡ map kind_of columns
+AreOfKinds columns cells = map kind_in cells ≡ map column_kind columns
 
 -- one value more in each column
 abbrev pub with_row : (columns : List (List Value)) → Row → List (List Value)

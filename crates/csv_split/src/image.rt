@@ -114,7 +114,7 @@ fn put_table(
     part: &Part,
     out: &mut Vec<u8>,
 ) -> Result<(), AllocError>
-    ensures { OnOk result (out.new.items ≡ out.old.items ++ flat_map (parts.cells (map parts.kind_of (filter parts.is_open (columns_of declared.now)))) part.now) }
+    ensures { OnOk result (out.new.items ≡ out.old.items ++ flat_map (parts.cells (map parts.column_kind (filter parts.is_open (columns_of declared.now)))) part.now) }
 {
     let kinds = visible_kinds(alloc, declared)?;
     put_rows(&kinds, part.columns(), part.rows(), out)
@@ -122,7 +122,7 @@ fn put_table(
 
 /// The kinds of the visible columns.
 fn visible_kinds(alloc: Global, declared: &[Column]) -> Result<Vec<Kind>, AllocError>
-    ensures { IfOk result (λ kinds. map kind_of kinds.items ≡ map parts.kind_of (filter parts.is_open (columns_of declared.now))) }
+    ensures { IfOk result (λ kinds. map kind_of kinds.items ≡ map parts.column_kind (filter parts.is_open (columns_of declared.now))) }
 {
     let mut kinds = Vec::new(alloc);
     for column in declared {
@@ -133,7 +133,7 @@ fn visible_kinds(alloc: Global, declared: &[Column]) -> Result<Vec<Kind>, AllocE
 
 /// Puts the kind of a column at the end, where the column is visible.
 fn put_kind(column: &Column, kinds: &mut Vec<Kind>) -> Result<(), AllocError>
-    ensures { OnOk result (map kind_of kinds.new.items ≡ map kind_of kinds.old.items ++ map parts.kind_of (filter parts.is_open (column_of column.now ∷ []))) }
+    ensures { OnOk result (map kind_of kinds.new.items ≡ map kind_of kinds.old.items ++ map parts.column_kind (filter parts.is_open (column_of column.now ∷ []))) }
 {
     if column.hidden {
         return Ok(());

@@ -1,6 +1,6 @@
 //! The tables of a schema, from their files.
 
-ghost use Rattle.std.specs.Prelude.{◌≡◌, ◌<◌, ◌++◌, ◌∷◌, List, [], length, map, Err, IfErr, IfOk, OnOk, MatchResult};
+ghost use Rattle.std.specs.Prelude.{◌≡◌, ◌<◌, ◌++◌, ◌∷◌, List, [], length, map, Err, IfErr, IfOk, OnOk, MatchResult, Some, None};
 ghost use Rattle.ghost_model.specs.Database as database;
 ghost use Rattle.ghost_model.specs.LoadFaults as faults;
 ghost use Rattle.ghost_model.specs.Schema as schemas;
@@ -37,7 +37,8 @@ pub fn read_table(
 /// told, those of foreign keys after all others. `NoMemory` may come at any time.
 pub fn read_tables(alloc: Global, schema: &Schema, files: &[Vec<u8>]) -> Result<Tables, LoadFault>
     requires { length files.now ≡ length schema.now }
-    ensures judged { faults.Judges told result (faults.load_faults schema.now (map (λ file. file.items) files.now)) }
+    ensures clean { IfOk result (λ _. faults.load_fault schema.now (map (λ file. file.items) files.now) ≡ None) }
+    ensures first { IfErr result (λ error. (fault : faults.LoadFault) → told error ≡ Some fault → faults.load_fault schema.now (map (λ file. file.items) files.now) ≡ Some fault) }
     ensures tables { IfOk result (λ tables. tables ≡ database.database_of schema.now (map (λ file. file.items) files.now)) }
     ensures database { IfOk result (λ tables. database.IsDatabase schema.now tables) }
 {

@@ -2,10 +2,10 @@
 -- the identifier, the first value of a row. Each value is of its column's kind, and each foreign key is the
 -- identifier of a row of the table that it names. Files spell a database by their CSV records: those after the first
 -- are the rows, field by field.
-use Rattle.std.specs.Prelude.{◌≡◌, ℕ, zero, suc, ◌-◌, ◌^◌, ℤ, pos, negsuc, neg_ℤ, int_le, Bool, true, false, ◌&&◌, ◌==◌, nat_lt, nat_le, List, [], ◌∷◌, length, map, drop, Option, Some, None, slice_get, option_and_then, unwrap_or, IsTrue, if◌then◌else◌}
-use Rattle.std.specs.List.{list_all}
+use Rattle.std.specs.Prelude.{◌≡◌, ℕ, zero, suc, ◌-◌, ◌^◌, ℤ, pos, negsuc, neg_ℤ, int_le, Bool, false, ◌&&◌, ◌==◌, nat_lt, nat_le, List, [], ◌∷◌, length, map, drop, Option, Some, None, slice_get, option_and_then, unwrap_or, IsTrue, if◌then◌else◌}
+use Rattle.std.specs.List.{list_all, zip}
 use Rattle.std.specs.Cmp.Lexicographic.{slice_cmp}
-use Rattle.std.specs.Ordering.{nat_cmp, int_cmp}
+use Rattle.std.specs.Ordering.{nat_cmp, int_cmp, is_eq, is_ne, is_lt, is_le, is_gt, is_ge}
 use Rattle.std.specs.declared.cmp.Ordering.{Ordering}
 use Rattle.std.specs.declared.cmp.Ordering.TheVariants as order
 use Rattle.csv.specs.Reading.{records, default_config, strip_bom}
@@ -25,13 +25,11 @@ is_text most bytes = nat_le (length bytes) most && list_all is_printable bytes
 
 abbrev pub is_of_kind : Kind → Value → Bool
 is_of_kind Integer (Number number) = fits_integer number
-is_of_kind Integer (Text _) = false
 is_of_kind (Chars most) (Text bytes) = is_text most bytes
-is_of_kind (Chars _) (Number _) = false
+is_of_kind _ _ = false
 
 abbrev pub rows_or_none : Option Rows → Rows
-rows_or_none None = []
-rows_or_none (Some rows) = rows
+rows_or_none found = unwrap_or found []
 
 -- the rows of a table, none where there is no such table
 abbrev pub rows_of : Database → ℕ → Rows
@@ -81,10 +79,8 @@ pub record IsDatabase (schema : Schema) (database : Database) : Type 0 where
 
 -- the identifier that a value of a foreign key is
 abbrev pub identifier_in : Option Value → Option ℕ
-identifier_in None = None
-identifier_in (Some (Text _)) = None
 identifier_in (Some (Number (pos identifier))) = Some identifier
-identifier_in (Some (Number (negsuc _))) = None
+identifier_in _ = None
 
 -- the column of a table that is the foreign key to another
 abbrev pub key_column : Schema → (table child : ℕ) → Option ℕ
@@ -143,18 +139,12 @@ order_of (Text _) (Number _) = order.Greater
 
 -- whether two values that stand in this order meet an operator
 abbrev pub meets : Operator → Ordering → Bool
-meets query.Equal order.Equal = true
-meets query.Equal _ = false
-meets query.Unequal order.Equal = false
-meets query.Unequal _ = true
-meets query.Less order.Less = true
-meets query.Less _ = false
-meets query.AtMost order.Greater = false
-meets query.AtMost _ = true
-meets query.More order.Greater = true
-meets query.More _ = false
-meets query.AtLeast order.Less = false
-meets query.AtLeast _ = true
+meets query.Equal order = is_eq order
+meets query.Unequal order = is_ne order
+meets query.Less order = is_lt order
+meets query.AtMost order = is_le order
+meets query.More order = is_gt order
+meets query.AtLeast order = is_ge order
 
 abbrev pub holds : Operator → Value → Value → Bool
 holds operator a b = meets operator (order_of a b)
@@ -182,9 +172,7 @@ value_of Integer text = Number (unwrap_or (integer_of text) (pos 0))
 value_of (Chars _) text = Text text
 
 abbrev pub row_spelled : List Column → List (List ℕ) → Row
-row_spelled [] fields = []
-row_spelled (_ ∷ _) [] = []
-row_spelled (column ∷ columns) (text ∷ fields) = value_of column.kind text ∷ row_spelled columns fields
+row_spelled columns fields = map (λ held. value_of held.0.kind held.1) (zip columns fields)
 
 -- the rows of a file are its records after the header
 abbrev pub rows_spelled : List Column → List ℕ → Rows
@@ -192,6 +180,4 @@ rows_spelled columns file = map (row_spelled columns) (drop 1 (records_of file))
 
 -- the database that files spell, one for each table in order
 abbrev pub database_of : Schema → (files : List (List ℕ)) → Database
-database_of [] files = []
-database_of (_ ∷ _) [] = []
-database_of (table ∷ tables) (file ∷ files) = rows_spelled table.columns file ∷ database_of tables files
+database_of schema files = map (λ held. rows_spelled held.0.columns held.1) (zip schema files)

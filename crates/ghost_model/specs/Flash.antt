@@ -17,7 +17,7 @@ use Rattle.ghost_model.specs.Database.{IsDatabase, rows_or_none, row_counts, lea
 use Rattle.ghost_model.specs.Cells.{encode_cell}
 use Rattle.ghost_model.specs.Catalog.{catalog_bytes}
 use Rattle.ghost_model.specs.Asks.{kind_at}
-use Rattle.ghost_model.specs.Split.{Hidden, hidden_of, rejoined, value_at, kind_of, are_of_kinds}
+use Rattle.ghost_model.specs.Split.{Hidden, hidden_of, rejoined, value_at, column_kind, are_of_kinds}
 use Rattle.ghost_model.specs.Replies.{hidden_places}
 use Rattle.ghost_model.specs.Runs.{Run, page_bytes, number_cell, Stores}
 use Rattle.ghost_model.specs.Layout.{below, is_hidden, count_of, levels_of, above_of, descendants_of, public_pages, column_file, subtree_table, index_header, index_directory, index_level, id_directory, id_level}
@@ -37,7 +37,7 @@ abbrev pub hidden_rows : Hidden → (table : ℕ) → Rows
 hidden_rows hidden table = rows_or_none (slice_get hidden.hidden table)
 
 abbrev pub hidden_kinds : Table → List Kind
-hidden_kinds table = map kind_of (filter (λ column. column.hidden) (drop 1 table.columns))
+hidden_kinds table = map column_kind (filter (λ column. column.hidden) (drop 1 table.columns))
 
 -- the hidden part of a database that a catalog tells of
 pub record IsHidden (cat : Catalog) (hidden : Hidden) : Type 0 where

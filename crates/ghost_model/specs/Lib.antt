@@ -29,6 +29,7 @@ pub mod CatalogLaws
 pub mod Database
 pub mod LoadFaults
 pub mod Split
+pub mod SplitByFlags
 pub mod Meaning
 pub mod Printed
 pub mod Frames

@@ -1,9 +1,11 @@
 -- The rules that the files of a database are to keep, and where each one is broken. The faults stand in the order in
 -- which the files are read: file by file, in a file record by record, in a record first whether the table may have so
 -- many rows, then the number of its fields, then field by field with the identifier first; the foreign keys come after
--- all files, by table, record and column. Only the first fault is ever answered, so after a broken rule the list may say
--- anything.
-use Rattle.std.specs.Prelude.{◌≡◌, ℕ, ◌+◌, ◌<◌, ◌≤◌, ℤ, pos, Bool, true, false, ◌==◌, nat_le, List, [], ◌∷◌, ◌++◌, length, map, Option, Some, None, bytes_eq, Result, Ok, Err, is_some}
+-- all files, by table, record and column. `load_fault` is the first of them. No other is ever answered, so what the list
+-- says after it is of no account: rows that break a rule are still looked at by the rules that come later.
+use Rattle.std.specs.Prelude.{◌≡◌, ℕ, ◌+◌, ◌<◌, ◌≤◌, ℤ, pos, Bool, true, false, ◌==◌, nat_le, List, [], ◌∷◌, ◌++◌, length, map, flat_map, Option, Some, None, bytes_eq, Result, Ok, Err, is_some}
+use Rattle.std.specs.List.{zip, enumerate_from}
+use Rattle.std.specs.Option.{option_map_or}
 use Rattle.std.specs.Cmp.Lexicographic.{pointwise}
 use Rattle.std.specs.Ordering.{int_eq}
 use Rattle.ghost_model.specs.Schema.{Schema, Column, Kind, Integer, Chars, first_of}
@@ -51,14 +53,11 @@ value_faults at (Chars most) text = unless (is_text most text) (BadChars at)
 
 -- the faults of fields, of which the first is that of column `column`
 unfoldable pub field_faults : (table rec column : ℕ) → List Column → List (List ℕ) → List LoadFault
-field_faults table rec column [] fields = []
-field_faults table rec column (_ ∷ _) [] = []
-field_faults table rec column (declared ∷ columns) (text ∷ fields) =
-    value_faults (place table rec column) declared.kind text ++ field_faults table rec (column + 1) columns fields
+field_faults table rec column columns fields =
+    flat_map (λ held. value_faults (place table rec held.0) held.1.0.kind held.1.1) (enumerate_from column (zip columns fields))
 
 abbrev pub is_number : ℕ → Option ℤ → Bool
-is_number number None = false
-is_number number (Some other) = int_eq other (pos number)
+is_number number found = option_map_or (λ other. int_eq other (pos number)) found false
 
 -- the first field is the row's number
 abbrev pub id_faults : (table row : ℕ) → List ℕ → List LoadFault
@@ -77,10 +76,10 @@ row_faults table row columns fields =
     ++ (unless (length fields == length columns) (FieldCount (place table (row + 1) 0))
     ++ fields_faults table row columns fields)
 
+-- the first of these records is row number `row`
 unfoldable pub rows_faults : (table row : ℕ) → List Column → List (List (List ℕ)) → List LoadFault
-rows_faults table row columns [] = []
-rows_faults table row columns (fields ∷ later) =
-    row_faults table row columns fields ++ rows_faults table (row + 1) columns later
+rows_faults table row columns records =
+    flat_map (λ held. row_faults table held.0 columns held.1) (enumerate_from row records)
 
 abbrev pub name_of : Column → List ℕ
 name_of column = column.name
@@ -101,11 +100,10 @@ file_faults table columns file =
     unless (nat_le (length file) most_bytes) (FileLimit (place table 0 0))
     ++ record_faults table columns (records_of file)
 
+-- the first of these files is that of table number `table`
 unfoldable pub files_faults : (table : ℕ) → Schema → (files : List (List ℕ)) → List LoadFault
-files_faults table [] files = []
-files_faults table (_ ∷ _) [] = []
-files_faults table (declared ∷ tables) (file ∷ files) =
-    file_faults table declared.columns file ++ files_faults (table + 1) tables files
+files_faults table schema files =
+    flat_map (λ held. file_faults held.0 held.1.0.columns held.1.1) (enumerate_from table (zip schema files))
 
 -- a foreign key is the identifier of a row of its child table
 abbrev pub key_faults : Database → Place → (child : Option ℕ) → Value → List LoadFault
@@ -113,23 +111,17 @@ key_faults database at None value = []
 key_faults database at (Some child) value = unless (is_row_among (row_count database child) value) (BadReference at)
 
 unfoldable pub keys_faults : Database → (table rec column : ℕ) → List Column → Row → List LoadFault
-keys_faults database table rec column [] values = []
-keys_faults database table rec column (_ ∷ _) [] = []
-keys_faults database table rec column (declared ∷ columns) (value ∷ values) =
-    key_faults database (place table rec column) declared.child value
-    ++ keys_faults database table rec (column + 1) columns values
+keys_faults database table rec column columns values =
+    flat_map (λ held. key_faults database (place table rec held.0) held.1.0.child held.1.1) (enumerate_from column (zip columns values))
 
 unfoldable pub table_references : Database → (table rec : ℕ) → List Column → Rows → List LoadFault
-table_references database table rec columns [] = []
-table_references database table rec columns (row ∷ rows) =
-    keys_faults database table rec 0 columns row ++ table_references database table (rec + 1) columns rows
+table_references database table rec columns rows =
+    flat_map (λ held. keys_faults database table held.0 0 columns held.1) (enumerate_from rec rows)
 
 -- the faults of foreign keys in the tables from `table` on, whose rows are those of the last list; row 1 is record 2
 unfoldable pub references_from : Database → (table : ℕ) → Schema → List Rows → List LoadFault
-references_from database table [] later = []
-references_from database table (_ ∷ _) [] = []
-references_from database table (declared ∷ tables) (rows ∷ later) =
-    table_references database table 2 declared.columns rows ++ references_from database (table + 1) tables later
+references_from database table schema later =
+    flat_map (λ held. table_references database held.0 2 held.1.0.columns held.1.1) (enumerate_from table (zip schema later))
 
 abbrev pub reference_faults : Schema → Database → List LoadFault
 reference_faults schema database = references_from database 0 schema database

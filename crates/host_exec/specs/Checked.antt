@@ -4,7 +4,7 @@ use Rattle.ghost_model.specs.Schema.{Kind, Column}
 use Rattle.ghost_model.specs.Values.{Row}
 use Rattle.ghost_model.specs.Cells.{cell_width}
 use Rattle.ghost_model.specs.Channel.{Catalog}
-use Rattle.ghost_model.specs.Split.{Public, SpellsImage, cells, are_of_kinds, is_open, kind_of}
+use Rattle.ghost_model.specs.Split.{Public, SpellsImage, cells, are_of_kinds, is_open, column_kind}
 use Rattle.host_exec.specs.RowBytes.{window, data_columns, row_width, table_start}
 
 -- a row of values whose cells are these bytes
@@ -14,7 +14,7 @@ pub record SpellsRow (kinds : List Kind) (bytes : List ℕ) : Type 0 where
   pub spelled : cells kinds row ≡ bytes
 
 abbrev pub shown_kinds : List Column → List Kind
-shown_kinds columns = map kind_of (filter is_open columns)
+shown_kinds columns = map column_kind (filter is_open columns)
 
 abbrev pub is_narrow : Kind → Bool
 is_narrow kind = nat_le (cell_width kind) 64

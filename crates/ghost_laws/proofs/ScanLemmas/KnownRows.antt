@@ -12,13 +12,15 @@ use Rattle.ghost_model.specs.Values.{Value, Row, Rows, Database}
 use Rattle.ghost_model.specs.Query.{Query, Field, Condition, Compare, Join}
 use Rattle.ghost_model.specs.QueryMeaning.{top_of, only, is_some_among}
 use Rattle.ghost_model.specs.Database.{IsDatabase, rows_of, row_of, row_count, field}
-use Rattle.ghost_model.specs.Split.{Hidden, hidden_values, hidden_flags, hidden_of, value_at}
+use Rattle.ghost_model.specs.Split.{Hidden, hidden_of, value_at}
 use Rattle.ghost_model.specs.Meaning.{compares, others_of, Pick, pick, no_value, answer_by_top}
+use Rattle.ghost_model.specs.SplitByFlags.{hidden_flags, hidden_values}
+use Rattle.ghost_model.proofs.MeaningLemmas.PartsByFlags.{hidden_rows_at}
 use Rattle.ghost_model.specs.Replies as replies
 use Rattle.ghost_model.specs.Replies.{Reply, reply_about, hidden_places, hidden_value, known_value, stands_in, answer_from}
 use Rattle.ghost_model.proofs.MeaningLemmas.OneRow.{Among, from_filter, IsLinked, query_is_linked, both_true, in_table}
 use Rattle.ghost_model.proofs.MeaningLemmas.Leading.{get_within, place_within, to_itself_within}
-use Rattle.ghost_model.proofs.SessionLemmas.Values.{parts_at, hidden_of_row}
+use Rattle.ghost_model.proofs.SessionLemmas.Values.{hidden_of_row}
 use Rattle.ghost_model.proofs.SessionLemmas.Accepted.{each_is, query_is_sound, IsSound}
 use Rattle.ghost_laws.specs.Scans.{known_along, is_kept_row, stands_along, holds_or_asked_along, known_row, KnownAnswersFollowKeys}
 use Rattle.ghost_laws.proofs.ScanLemmas.Keys.{IsValues, seen, join_holds}
@@ -81,7 +83,7 @@ module _ (schema : Schema) (database : Database) (tree : IsTree schema) (is : Is
   hidden_is table (suc place) before h =
       let value : Row → Option Value = λ values. value_at (hidden_places schema table) values (suc before) in
       let part : Row → Row = λ whole. hidden_values (hidden_flags (columns_of schema table)) (drop 1 whole) in
-      ap (λ (rows : Rows). option_and_then value (slice_get rows place)) (parts_at hidden_values schema database is.tables table)
+      ap (λ (rows : Rows). option_and_then value (slice_get rows place)) (hidden_rows_at schema database is.tables table)
       ∙ (ap (λ (o : Option Row). option_and_then value o) (slice_get-map part (rows_of database table) place)
       ∙ by_row value part (λ row. slice_get row (suc before)) (slice_get (rows_of database table) place)
       (λ row there. hidden_of_row (columns_of schema table) row before (is.widths table (suc place) row there) h))

@@ -11,10 +11,11 @@ use Rattle.ghost_model.specs.Query.{Query, Field, Condition, Compare, Join}
 use Rattle.ghost_model.specs.Query as query
 use Rattle.ghost_model.specs.Database.{IsDatabase, rows_or_none, rows_of, row_of, row_count, leads}
 use Rattle.ghost_model.specs.Meaning.{compares, others_of, Pick, pick}
-use Rattle.ghost_model.specs.Split.{Hidden, hidden_values, hidden_of}
+use Rattle.ghost_model.specs.Split.{Hidden, hidden_of}
+use Rattle.ghost_model.proofs.MeaningLemmas.PartsByFlags.{hidden_rows_at}
+use Rattle.ghost_model.specs.SplitByFlags.{hidden_values}
 use Rattle.ghost_model.proofs.MeaningLemmas.OneRow.{Among, among-filter, from_filter, distinct-filter, IsLinked}
 use Rattle.ghost_model.proofs.MeaningLemmas.Leading.{landing, to_itself_within, get_within, place_within}
-use Rattle.ghost_model.proofs.SessionLemmas.Values.{parts_at}
 use Rattle.ghost_laws.proofs.ScanLemmas.Keys.{below_top, IsValues, seen, join_holds, joins_hold, follows}
 use Rattle.ghost_laws.proofs.ScanLemmas.Choices.{identifier_within, among_identifiers, chosen_in, chosen_first, chosen_later, chosen_among, picked, picked_has, picked_or_none}
 use Rattle.ghost_laws.proofs.ScanLemmas.Accepted.{HasConditions}
@@ -42,7 +43,7 @@ module _ (schema : Schema) (database : Database) (tree : IsTree schema) (is : Is
 
   pub many : (table : ℕ) → length (rows_or_none (slice_get kept.hidden table)) ≡ row_count database table
   many table =
-      ap (λ (rows : Rows). length rows) (parts_at hidden_values schema database is.tables table)
+      ap (λ (rows : Rows). length rows) (hidden_rows_at schema database is.tables table)
       ∙ length-map (rows_of database table) _
 
   -- an identifier of a row

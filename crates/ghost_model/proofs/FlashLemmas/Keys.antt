@@ -8,13 +8,14 @@ use Rattle.ghost_model.specs.Schema.{Schema, Table, Column, columns_of, columns_
 use Rattle.ghost_model.specs.Values.{Value, Row, Rows, Database}
 use Rattle.ghost_model.specs.SchemaTrees.{IsTree}
 use Rattle.ghost_model.specs.Database.{IsDatabase, rows_or_none, rows_of, field, identifier_in, key_column, points_to, leads_within, leads}
-use Rattle.ghost_model.specs.Split.{Hidden, value_at, merged, hidden_flags, hidden_values, rejoined_rows, rejoined_tables, hidden_of}
+use Rattle.ghost_model.specs.Split.{Hidden, value_at, hidden_of}
+use Rattle.ghost_model.specs.SplitByFlags.{merged, hidden_flags, rejoined_rows, rejoined_tables, hidden_values}
+use Rattle.ghost_model.proofs.MeaningLemmas.PartsByFlags.{hidden_rows_at, rejoined_parts}
 use Rattle.ghost_model.specs.Replies.{hidden_places, hidden_value}
 use Rattle.ghost_model.specs.Layout.{hidden_or_none, is_hidden}
 use Rattle.ghost_model.specs.Flash.{zeros, zero_rows, hidden_database, leads_to}
 use Rattle.ghost_model.proofs.MeaningLemmas.OneRow.{child_is}
 use Rattle.ghost_model.proofs.MeaningLemmas.Leading.{told_place}
-use Rattle.ghost_model.proofs.SessionLemmas.Values.{parts_at}
 use Rattle.ghost_model.proofs.LayoutLemmas.Order.{table_there}
 use Rattle.ghost_model.proofs.FlashLemmas.Values.{hidden_among, not_hidden, value_by_place, value_of_row}
 
@@ -83,7 +84,9 @@ field_known schema hidden tree table identifier zero h =
     absurd (not_hidden (column_at schema table 0) (tree.begins_with_id table (table_there schema table 0 h)) h)
 field_known schema hidden tree table zero (suc place) h = refl
 field_known schema hidden tree table (suc k) (suc place) h =
-    ap (λ rows. option_and_then (λ row. slice_get row (suc place)) (slice_get rows k)) (table_known schema hidden.hidden table (table_there schema table (suc place) h))
+    ap (λ (database : Database). option_and_then (λ row. slice_get row (suc place)) (slice_get (rows_or_none (slice_get database table)) k))
+    (rejoined_parts schema (record { visible = map zero_rows hidden.hidden }) hidden)
+    ∙ ap (λ rows. option_and_then (λ row. slice_get row (suc place)) (slice_get rows k)) (table_known schema hidden.hidden table (table_there schema table (suc place) h))
     ∙ rows_known (columns_of schema table) (tree.few_columns table) place h 1 (rows_or_none (slice_get hidden.hidden table)) k
 
 -- a field of the database
@@ -99,7 +102,7 @@ field_hidden schema database tree is table zero column h = refl
 field_hidden schema database tree is table (suc k) column h =
     let value : Row → Option Value = λ kept. value_at (hidden_places schema table) kept column in
     let part : Row → Row = λ whole. hidden_values (hidden_flags (columns_of schema table)) (drop 1 whole) in
-    ap (λ (rows : Rows). option_and_then value (slice_get rows k)) (parts_at hidden_values schema database is.tables table)
+    ap (λ (rows : Rows). option_and_then value (slice_get rows k)) (hidden_rows_at schema database is.tables table)
     ∙ (ap (λ (o : Option Row). option_and_then value o) (slice_get-map part (rows_of database table) k)
     ∙ by_row value part (λ row. slice_get row column) (slice_get (rows_of database table) k)
     (λ row there. value_of_row (columns_of schema table) (tree.begins_with_id table (table_there schema table column h)) column h row (is.widths table (suc k) row there)))

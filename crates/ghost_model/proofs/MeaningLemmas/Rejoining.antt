@@ -4,7 +4,7 @@ use Rattle.std.proofs.lemmas.List.{length-map, length-drop}
 use Rattle.ghost_model.specs.Schema.{Schema, Column, columns_of}
 use Rattle.ghost_model.specs.Values.{Number, Row, Rows, Database}
 use Rattle.ghost_model.specs.Database.{IsDatabase, rows_of}
-use Rattle.ghost_model.specs.Split.{hidden_flags, visible_values, hidden_values, rows_by, tables_by, merged, rejoined_rows, rejoined_tables}
+use Rattle.ghost_model.specs.SplitByFlags.{hidden_flags, merged, rejoined_rows, rejoined_tables, visible_values, hidden_values, rows_by, tables_by}
 
 pub merged-split : {X : Type 0} (flags : List Bool) (values : List X) → length values ≡ length flags
     → merged flags (visible_values flags values) (hidden_values flags values) ≡ values

@@ -15,9 +15,10 @@ use Rattle.ghost_model.specs.QueryMeaning.{top_of, only, is_some_among, Means}
 use Rattle.ghost_model.specs.Channel.{Test}
 use Rattle.ghost_model.specs.Asks.{test_of, tests_of, is_field}
 use Rattle.ghost_model.specs.Database.{rows_or_none, rows_of, row_of, row_count, IsDatabase}
-use Rattle.ghost_model.specs.Split.{Hidden, hidden_values, hidden_of, public_of, meets_test}
+use Rattle.ghost_model.specs.Split.{Hidden, hidden_of, public_of, meets_test}
 use Rattle.ghost_model.specs.Meaning as meaning
 use Rattle.ghost_model.specs.Meaning.{Pick, pick, combinations, compares, no_value, others_of, all_of, answer_by_top, answer}
+use Rattle.ghost_model.proofs.MeaningLemmas.PartsByFlags.{hidden_rows_at}
 use Rattle.ghost_model.specs.Replies as replies
 use Rattle.ghost_model.specs.Replies.{Reply, known_value, known, answer_from}
 use Rattle.ghost_model.specs.SessionLaws.{whole_replies}
@@ -26,7 +27,6 @@ use Rattle.ghost_model.proofs.MeaningLemmas.Picks.{picks, identifiers_of, known_
 use Rattle.ghost_model.proofs.MeaningLemmas.ByRows as by_row
 use Rattle.ghost_model.proofs.MeaningLemmas.ByRows.{Chosen, choice, Combination, row_combinations, row_in, value_in, is_true_in, passes, projection, answer_of_row, mapped_twice, by_rows}
 use Rattle.ghost_model.proofs.MeaningLemmas.OneRow.{Among, Distinct, among-filter, from_filter, not_equal}
-use Rattle.ghost_model.proofs.SessionLemmas.Values.{parts_at}
 use Rattle.ghost_model.proofs.SessionLemmas.Whole.{stands_by, stands_in_is, known_is}
 use Rattle.ghost_model.proofs.SessionLemmas.Accepted.{Each, each_is, ComparesFrom, JoinsUnseen, IsSound, query_is_sound}
 
@@ -344,7 +344,7 @@ module _ (schema : Schema) (database : Database) (is : IsDatabase schema databas
   -- the identifiers of a table are those of its rows
   many : (table : ℕ) → length (rows_or_none (slice_get kept.hidden table)) ≡ row_count database table
   many table =
-      ap (λ (rows : Rows). length rows) (parts_at hidden_values schema database is.tables table)
+      ap (λ (rows : Rows). length rows) (hidden_rows_at schema database is.tables table)
       ∙ length-map (rows_of database table) _
 
   how_many : (table : ℕ) → identifiers_of kept table ≡ range_with_len 1 (length (rows_of database table))

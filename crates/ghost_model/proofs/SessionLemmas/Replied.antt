@@ -1,7 +1,7 @@
 -- That the rows that meet an ask may be sent in any packing, and are read back.
-use Rattle.std.proofs.Common.{◌≡◌, ℕ, zero, suc, ◌+◌, ◌*◌, ◌<◌, ◌≤◌, ◌^◌, true, false, ◌&&◌, List, [], ◌∷◌, ◌++◌, length, map, drop, sym, ◌∙◌, ap, subst, refl, arith, lit<, length-append, Option, Some, None, slice_get}
-use Rattle.std.specs.Prelude.{nat_lt, nat_le, flat_map, filter_map, if◌then◌else◌, sum, slice_index, All, option_to_list, option_and_then, is_some}
-use Rattle.std.specs.List.{list_all, cons_option}
+use Rattle.std.proofs.Common.{◌≡◌, ℕ, zero, suc, ◌+◌, ◌*◌, ◌<◌, ◌≤◌, ◌^◌, true, false, ◌&&◌, List, [], ◌∷◌, ◌++◌, length, map, drop, sym, ◌∙◌, ap, subst, refl, arith, lit<, length-append, Option, Some, None, slice_get, unwrap_or}
+use Rattle.std.specs.Prelude.{nat_lt, nat_le, flat_map, if◌then◌else◌, sum, slice_index, All, option_to_list, option_and_then, is_some}
+use Rattle.std.specs.List.{list_all}
 use Rattle.std.specs.Int.{to_be_bytes, w32}
 use Rattle.std.proofs.lemmas.Option.{slice_get-map}
 use Rattle.std.specs.Option.{option_map}
@@ -10,7 +10,7 @@ use Rattle.std.proofs.lemmas.List.{length-map}
 use Rattle.std.proofs.lemmas.Bool.{lt-ltb, le-leb, ltb-true, leb-true}
 use Rattle.std.proofs.Math.Nat.{mul_comm}
 use Rattle.ghost_model.specs.Schema.{Schema, Kind, Column, columns_of, column_at, is_shown, is_visible}
-use Rattle.ghost_model.specs.Values.{Value, Row, Rows, Database}
+use Rattle.ghost_model.specs.Values.{Value, Text, Row, Rows, Database}
 use Rattle.ghost_model.specs.Query.{Query}
 use Rattle.ghost_model.specs.Channel.{Catalog, row_count_in, Ask}
 use Rattle.ghost_model.specs.Database.{is_of_kind, rows_or_none, rows_of, row_counts, IsDatabase}
@@ -20,7 +20,8 @@ use Rattle.ghost_model.specs.Frames.{AreBytes, most_payload}
 use Rattle.ghost_model.specs.Asks.{ReplyRow, row_bytes, kind_or_none, kind_at, kinds_of, row_width}
 use Rattle.ghost_model.specs.ChannelLaws.{IsReplyRow}
 use Rattle.ghost_model.specs.NextMove.{are_cells, rows_fit, last_identifier}
-use Rattle.ghost_model.specs.Split.{cells, are_of_kinds, value_at, visible_places, visible_values, Replied, replied, meets_tests, replies_from, visible_rows, reply_row, reply_rows, public_of}
+use Rattle.ghost_model.specs.Split.{cells, are_of_kinds, value_at, asked_value, visible_places, Replied, replied, meets_tests, replies_from, visible_rows, reply_row, reply_rows, public_of}
+use Rattle.ghost_model.proofs.MeaningLemmas.PartsByFlags.{visible_rows_at}
 use Rattle.ghost_model.specs.Honest.{fits_frame}
 use Rattle.ghost_model.specs.HostLaws.{AreGroups}
 use Rattle.ghost_model.specs.NextMove as next
@@ -29,11 +30,10 @@ use Rattle.ghost_model.proofs.ChannelLemmas.Tests.{false_is_not, BothHold, both_
 use Rattle.ghost_model.proofs.ChannelLemmas.Asks.{cell_is_read, cell_length}
 use Rattle.ghost_model.proofs.SessionLemmas.Accepted.{Each}
 use Rattle.ghost_model.proofs.SessionLemmas.Limits.{high_bytes, append_bytes, cell_bytes}
-use Rattle.ghost_model.proofs.SessionLemmas.Values.{parts_at}
 use Rattle.ghost_model.proofs.SessionLemmas.Whole.{shown_part, visible_value, shown_within, there_is}
 
 -- cells of values of their kinds
-cells_length : (kinds : List Kind) (values : Row) → are_of_kinds kinds values ≡ true → length (cells kinds values) ≡ sum (map cell_width kinds)
+pub cells_length : (kinds : List Kind) (values : Row) → are_of_kinds kinds values ≡ true → length (cells kinds values) ≡ sum (map cell_width kinds)
 cells_length [] [] e = refl
 cells_length [] (value ∷ values) e = absurd (false_is_not e)
 cells_length (kind ∷ kinds) [] e = absurd (false_is_not e)
@@ -158,7 +158,7 @@ module _ (schema : Schema) (database : Database) (is : IsDatabase schema databas
 
   values_kinds :
       (place : ℕ) (row : Row) (columns : List ℕ) → slice_get (rows_of database ask.table) place ≡ Some row → list_all (is_visible schema ask.table) columns ≡ true
-      → are_of_kinds (map (kind_at schema ask.table) columns) (filter_map (value_at shown_places (shown row)) columns) ≡ true
+      → are_of_kinds (map (kind_at schema ask.table) columns) (map (asked_value shown_places (shown row)) columns) ≡ true
   values_kinds place row [] h v = refl
   values_kinds place row (column ∷ columns) h v =
       let both : BothHold (is_visible schema ask.table column) (list_all (is_visible schema ask.table) columns) = both_hold _ _ v in
@@ -170,7 +170,7 @@ module _ (schema : Schema) (database : Database) (is : IsDatabase schema databas
       let kind : is_of_kind (kind_at schema ask.table column) value.0 ≡ true =
       ap (λ (o : Option Column). is_of_kind (kind_or_none o) value.0) declared.1
       ∙ is.kinds ask.table (suc place) column value.0 declared.0 (ap (λ (o : Option Row). option_and_then (λ r. slice_get r column) o) h ∙ value.1) declared.1 in
-      ap (λ (o : Option Value). are_of_kinds (kind_at schema ask.table column ∷ map (kind_at schema ask.table) columns) (cons_option o (filter_map (value_at shown_places (shown row)) columns))) found
+      ap (λ (o : Option Value). are_of_kinds (kind_at schema ask.table column ∷ map (kind_at schema ask.table) columns) (unwrap_or o (Text []) ∷ (map (asked_value shown_places (shown row)) columns))) found
       ∙ hold_both _ _ kind (values_kinds place row columns h both.other)
 
   record IsGood (last : ℕ) (rows : List Replied) : Type 0 where
@@ -190,13 +190,13 @@ module _ (schema : Schema) (database : Database) (is : IsDatabase schema databas
       (λ place other e. let moved : before + suc place ≡ suc before + place = omega arith in subst (λ (n : ℕ). slice_get (rows_of database ask.table) n ≡ Some other) moved (at (suc place) other e))) in
       let here : slice_get (rows_of database ask.table) before ≡ Some row =
       subst (λ (n : ℕ). slice_get (rows_of database ask.table) n ≡ Some row) (omega arith) (at 0 row refl) in
-      let values : are_of_kinds (kinds_of schema ask) (filter_map (value_at shown_places (shown row)) ask.columns) ≡ true = values_kinds before row ask.columns here visible in
+      let values : are_of_kinds (kinds_of schema ask) (map (asked_value shown_places (shown row)) ask.columns) ≡ true = values_kinds before row ask.columns here visible in
       (elim (meets_tests shown_places ask.tests (shown row)) as (λ v. IsGood last (if v then replied shown_places ask (suc before) (shown row) ∷ replies_from (suc before + 1) shown_places ask (map shown some) else replies_from (suc before + 1) shown_places ask (map shown some))) [
         | true ↦ (let rest = later (suc before) (omega arith) in
             record {
               kinds = (record { fits = omega (arith, high, few); kinds = values }, rest.kinds);
               fits = hold_both _ _
-                  (hold_both _ _ (hold_both _ _ (lt-ltb last (suc before) (omega (arith, low))) (le-leb (suc before) (length (rows_of database ask.table)) (omega (arith, high)))) (cells_are (kinds_of schema ask) (filter_map (value_at shown_places (shown row)) ask.columns) values))
+                  (hold_both _ _ (hold_both _ _ (lt-ltb last (suc before) (omega (arith, low))) (le-leb (suc before) (length (rows_of database ask.table)) (omega (arith, high)))) (cells_are (kinds_of schema ask) (map (asked_value shown_places (shown row)) ask.columns) values))
                   rest.fits;
             })
         | false ↦ later last (omega (arith, low))
@@ -204,7 +204,7 @@ module _ (schema : Schema) (database : Database) (is : IsDatabase schema databas
 
   all_good : IsGood 0 (visible_rows schema (public_of schema database) ask)
   all_good =
-      subst (λ (rows : Rows). IsGood 0 (replies_from 1 shown_places ask rows)) (sym (parts_at visible_values schema database is.tables ask.table))
+      subst (λ (rows : Rows). IsGood 0 (replies_from 1 shown_places ask rows)) (sym (visible_rows_at schema database is.tables ask.table))
       (good_from (rows_of database ask.table) 0 0 (omega arith) (omega arith)
       (λ place row e. subst (λ (n : ℕ). slice_get (rows_of database ask.table) n ≡ Some row) (omega arith) e))
 
@@ -226,7 +226,7 @@ module _ (schema : Schema) (database : Database) (is : IsDatabase schema databas
       let good = all_good in
       let size = length-map (visible_rows schema (public_of schema database) ask) (reply_row schema ask) in
       let count : length (visible_rows schema (public_of schema database) ask) ≤ length (rows_of database ask.table) =
-      subst (λ (rows : Rows). length (replies_from 1 shown_places ask rows) ≤ length (rows_of database ask.table)) (sym (parts_at visible_values schema database is.tables ask.table))
+      subst (λ (rows : Rows). length (replies_from 1 shown_places ask rows) ≤ length (rows_of database ask.table)) (sym (visible_rows_at schema database is.tables ask.table))
       (let few_shown = count_from (map shown (rows_of database ask.table)) 1 in let same = length-map (rows_of database ask.table) shown in omega (arith, few_shown, same)) in
       record { kinds = good.kinds; ascend = good.fits; few_rows = omega (arith, size, count, few) }
 

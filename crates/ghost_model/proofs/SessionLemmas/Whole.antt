@@ -13,12 +13,14 @@ use Rattle.ghost_model.specs.Query.{Query, Field, Condition, Compare, Join}
 use Rattle.ghost_model.specs.Channel.{Ask, Test}
 use Rattle.ghost_model.specs.Asks.{ask_for, is_needed, is_from, places, test_of, tests_of, is_wanted, is_field}
 use Rattle.ghost_model.specs.Database.{rows_of, IsDatabase}
-use Rattle.ghost_model.specs.Split.{Public, hidden_flags, visible_values, rows_by, hidden_of, public_of, value_at, visible_places, Replied, replied, meets_test, meets_tests, replies_from, visible_rows}
+use Rattle.ghost_model.specs.Split.{Public, hidden_of, public_of, value_at, visible_places, Replied, replied, meets_test, meets_tests, replies_from, visible_rows}
+use Rattle.ghost_model.specs.SplitByFlags.{hidden_flags, visible_values, rows_by}
+use Rattle.ghost_model.proofs.MeaningLemmas.PartsByFlags.{visible_rows_at}
 use Rattle.ghost_model.specs.Replies.{Reply, hidden_value, row_replied, reply_about, replied_value, known_value, stands_in}
 use Rattle.ghost_model.specs.SessionLaws.{whole_reply, whole_replies}
 use Rattle.ghost_model.proofs.ChannelLemmas.Tests.{false_is_not, BothHold, both_hold, hold_both}
 use Rattle.ghost_model.proofs.MeaningLemmas.OneRow.{Among, among-filter}
-use Rattle.ghost_model.proofs.SessionLemmas.Values.{parts_at, hidden_is_known, visible_of_row, row_is_replied, if_met, AllThere, value_asked}
+use Rattle.ghost_model.proofs.SessionLemmas.Values.{hidden_is_known, visible_of_row, row_is_replied, if_met, AllThere, value_asked}
 
 -- places of a list
 place_stands : {X : Type 0} (at place : ℕ) (xs : List X) → place < length xs → Among (at + place) (places_from (λ (x : X). true) at xs)
@@ -187,7 +189,7 @@ module _ (schema : Schema) (database : Database) (is : IsDatabase schema databas
       let ask : Ask = ask_for schema asked table in
       let at : slice_get (rows_by visible_values (columns_of schema table) (rows_of database table)) place ≡ Some (shown_part table row) =
       slice_get-map (shown_part table) (rows_of database table) place ∙ ap (option_map (shown_part table)) h in
-      ap (λ (rows : Rows). row_replied (suc place) (replies_from 1 (visible_places schema table) ask rows)) (parts_at visible_values schema database is.tables table)
+      ap (λ (rows : Rows). row_replied (suc place) (replies_from 1 (visible_places schema table) ask rows)) (visible_rows_at schema database is.tables table)
       ∙ subst (λ (n : ℕ). row_replied n (replies_from 1 (visible_places schema table) ask (rows_by visible_values (columns_of schema table) (rows_of database table))) ≡ if_met (visible_places schema table) ask n (shown_part table row)) (omega arith)
       (row_is_replied 1 place (visible_places schema table) ask (rows_by visible_values (columns_of schema table) (rows_of database table)) (shown_part table row) at)
 

@@ -1,10 +1,10 @@
 -- The two parts of the clinic, what its public part makes, and what texts over the clinic and the notes print.
-use Rattle.std.specs.Prelude.{◌≡◌, ℕ, negsuc, List, [], ◌∷◌, ◌++◌, length, drop, codes}
-use Rattle.std.specs.List.{concat}
+use Rattle.std.specs.Prelude.{◌≡◌, ℕ, negsuc, List, [], ◌∷◌, ◌++◌, length, drop, flat_map, codes}
 use Rattle.ghost_model.specs.Values.{Value, Number, Text, Row}
 use Rattle.ghost_model.specs.Query.{Equal, AtLeast}
 use Rattle.ghost_model.specs.Channel.{Ask}
-use Rattle.ghost_model.specs.Split.{Replied, public_of, hidden_of, rejoined, image, visible_rows, reply_bytes}
+use Rattle.ghost_model.specs.Asks.{row_bytes}
+use Rattle.ghost_model.specs.Split.{Replied, public_of, hidden_of, rejoined, image, visible_rows, reply_rows}
 use Rattle.ghost_model.specs.Printed.{printed, row_line}
 use Rattle.ghost_model.specs.examples.Clinic.{number, clinic_schema, clinic, clinic_catalog, note_schema, notes}
 use Rattle.ghost_model.specs.examples.Databases.{lines}
@@ -55,7 +55,7 @@ pub record PartsOfTheClinic : Type 0 where
       ∷ 0x80 ∷ 0 ∷ 0 ∷ 0 ∷ 0 ∷ 0 ∷ 0 ∷ 5 ∷ 0x80 ∷ 0 ∷ 0 ∷ 0 ∷ 0 ∷ 0 ∷ 0 ∷ 9 ∷ 0x80 ∷ 0 ∷ 0 ∷ 0 ∷ 0 ∷ 0 ∷ 0 ∷ 2 ∷ [])))
   pub reply : visible_rows clinic_schema (public_of clinic_schema clinic) specialties_of_cardio
       ≡ cardio 1 ∷ cardio 3 ∷ []
-  pub bytes_of_reply : concat (reply_bytes clinic_schema (public_of clinic_schema clinic) specialties_of_cardio)
+  pub bytes_of_reply : flat_map row_bytes (reply_rows clinic_schema (public_of clinic_schema clinic) specialties_of_cardio)
       ≡ 0 ∷ 0 ∷ 0 ∷ 1 ∷ (cardio_cell ++ 0 ∷ 0 ∷ 0 ∷ 3 ∷ cardio_cell)
   pub reply_without_columns : visible_rows clinic_schema (public_of clinic_schema clinic) late_visits
       ≡ identifier_alone 1 ∷ identifier_alone 2 ∷ identifier_alone 3 ∷ []
