@@ -1,6 +1,7 @@
 -- Lemmas on the layout of the flash.
 pub mod Numbers
 pub mod Following
+pub mod Places
 pub mod Order
 pub mod Small
 pub mod Levels

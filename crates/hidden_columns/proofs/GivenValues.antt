@@ -15,7 +15,7 @@ use Rattle.ghost_model.specs.Layout.{hidden_or_none, is_hidden, count_of, column
 use Rattle.ghost_model.specs.Flash.{HoldsColumns}
 use Rattle.ghost_model.specs.FlashLaws.{HiddenPartsGoWithCatalogs, HiddenValuesOfDatabases, ColumnFilesGiveValues}
 use Rattle.ghost_model.proofs.MeaningLemmas.Leading.{get_within}
-use Rattle.ghost_model.proofs.LayoutLemmas.Order.{table_there}
+use Rattle.ghost_model.proofs.LayoutLemmas.Places.{table_there}
 use Rattle.ghost_model.proofs.FlashLemmas.Values.{count_there, not_hidden}
 use Rattle.hidden_columns.specs.Slots.{child_or_none, child_rows, is_in_range, only_in_range, spelled}
 use Rattle.hidden_columns.specs.Laws.{value_on, HasValue, HeldColumnsAreRight, FilesAreOfColumns, FilesStayReadable}

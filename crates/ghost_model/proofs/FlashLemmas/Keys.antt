@@ -15,7 +15,7 @@ use Rattle.ghost_model.specs.Flash.{zeros, zero_rows, hidden_database, leads_to}
 use Rattle.ghost_model.proofs.MeaningLemmas.OneRow.{child_is}
 use Rattle.ghost_model.proofs.MeaningLemmas.Leading.{told_place}
 use Rattle.ghost_model.proofs.SessionLemmas.Values.{parts_at}
-use Rattle.ghost_model.proofs.LayoutLemmas.Order.{table_there}
+use Rattle.ghost_model.proofs.LayoutLemmas.Places.{table_there}
 use Rattle.ghost_model.proofs.FlashLemmas.Values.{hidden_among, not_hidden, value_by_place, value_of_row}
 
 -- a hidden value of a row whose visible values are zeros

@@ -21,7 +21,7 @@ use Rattle.ghost_model.specs.FlashLaws.{hidden_before, CellsFit}
 use Rattle.ghost_model.proofs.ChannelLemmas.Asks.{cell_is_read, cell_length}
 use Rattle.ghost_model.proofs.MeaningLemmas.Leading.{get_within}
 use Rattle.ghost_model.proofs.SessionLemmas.Values.{at_itself, not_later, hidden_of_row, parts_at}
-use Rattle.ghost_model.proofs.LayoutLemmas.Order.{table_there}
+use Rattle.ghost_model.proofs.LayoutLemmas.Places.{table_there}
 use Rattle.ghost_model.proofs.ChannelLemmas.Tests.{BothHold, both_hold}
 
 is_kept : Column → Bool
