@@ -2,6 +2,7 @@
 
 ghost use Rattle.std.specs.Prelude.{◌≡◌, ◌<◌, ◌≤◌, length, true};
 ghost use Rattle.ghost_model.specs.Layout as layout;
+ghost use Rattle.ghost_model.specs.LayoutSums as sums;
 ghost use Rattle.flash_pages.specs.Runs.{run_of};
 
 use crate::columns::{column_pages_before, rows_of, width_of};
@@ -70,7 +71,7 @@ fn level_file(cat: &Catalog, begin: u32, tables: &[usize], level: usize) -> Run
     requires begin { begin < 1000000000 }
     requires few { length tables.now ≤ 12 }
     requires level { level < length tables.now }
-    ensures run { run_of result ≡ layout.level_file_among cat.now begin tables.now level }
+    ensures run { run_of result ≡ sums.level_file cat.now begin tables.now level }
 {
     Run {
         first: begin + levels_pages(cat, &tables[..level]),

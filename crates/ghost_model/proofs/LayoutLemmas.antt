@@ -1,4 +1,5 @@
 -- Lemmas on the layout of the flash.
+pub mod Columns
 pub mod Numbers
 pub mod Following
 pub mod Places

@@ -2,8 +2,9 @@
 -- follow one another in the order of `structures`, each on pages of its own. The static part ends at a block. Then come
 -- the two halves of the spool, in each an area for each table that has a visible column, and then six scratch areas of one
 -- size; each of these areas is of whole blocks. A file or an area is a run: a first page, and so many records of one width.
-use Rattle.std.specs.Prelude.{ℕ, ◌+◌, ◌-◌, ◌*◌, ◌/◌, max, Bool, false, not, ◌&&◌, ◌==◌, List, [], ◌∷◌, ◌++◌, length, take, drop, map, filter, filter_map, flat_map, fold, sum_by, slice_index, get_or, Option, Some, None, if◌then◌else◌}
+use Rattle.std.specs.Prelude.{ℕ, ◌+◌, ◌-◌, ◌*◌, ◌/◌, max, Bool, false, not, ◌&&◌, ◌==◌, List, [], ◌∷◌, ◌++◌, length, take, drop, map, filter, filter_map, flat_map, fold, sum_by, slice_index, get_or, if◌then◌else◌}
 use Rattle.std.specs.List.{list_any, range_with_len, before_first}
+use Rattle.std.specs.Option.{option_map_or}
 use Rattle.ghost_model.specs.Schema.{Schema, Column, columns_of, column_at, is_empty, is_visible}
 use Rattle.ghost_model.specs.Channel.{Catalog}
 use Rattle.ghost_model.specs.SchemaFaults.{ancestor}
@@ -21,28 +22,16 @@ tables_of schema = below (length schema)
 abbrev pub column_count : Schema → (table : ℕ) → ℕ
 column_count schema table = length (columns_of schema table)
 
--- the columns of a table that are so, by place
-abbrev pub columns_that : (Schema → (table column : ℕ) → Bool) → Schema → (table : ℕ) → List ℕ
-columns_that test schema table = filter (test schema table) (below (column_count schema table))
-
-abbrev pub hidden_or_none : Option Column → Bool
-hidden_or_none None = false
-hidden_or_none (Some column) = column.hidden
-
 abbrev pub is_hidden : Schema → (table column : ℕ) → Bool
-is_hidden schema table column = hidden_or_none (column_at schema table column)
+is_hidden schema table column = option_map_or (λ (held : Column). held.hidden) (column_at schema table column) false
 
--- the hidden columns of a table
+-- the hidden columns of a table, by place
 abbrev pub hidden_columns : Schema → (table : ℕ) → List ℕ
-hidden_columns schema table = columns_that is_hidden schema table
-
-abbrev pub width_or_none : Option Column → ℕ
-width_or_none None = 0
-width_or_none (Some column) = cell_width column.kind
+hidden_columns schema table = filter (is_hidden schema table) (below (column_count schema table))
 
 -- the width of a column's cells
 abbrev pub width_at : Schema → (table column : ℕ) → ℕ
-width_at schema table column = width_or_none (column_at schema table column)
+width_at schema table column = option_map_or (λ (held : Column). cell_width held.kind) (column_at schema table column) 0
 
 -- a table and those above it, nearest first: the levels of its indexes
 abbrev pub levels_of : Schema → (table : ℕ) → List ℕ
@@ -179,7 +168,7 @@ abbrev pub static_end : Catalog → ℕ
 static_end cat = in_blocks (files_end cat)
 
 abbrev pub visible_columns : Schema → (table : ℕ) → List ℕ
-visible_columns schema table = columns_that is_visible schema table
+visible_columns schema table = filter (is_visible schema table) (below (column_count schema table))
 
 -- a row of a reply: the identifier and at most all visible cells
 abbrev pub spool_width : Schema → (table : ℕ) → ℕ
@@ -191,16 +180,13 @@ spool_pages cat table =
     if is_empty (visible_columns cat.schema table) then 0
     else in_blocks (pages_of (count_of cat table) (spool_width cat.schema table))
 
-abbrev pub spool_pages_before : Catalog → (table : ℕ) → ℕ
-spool_pages_before cat table = sum_by (spool_pages cat) (below table)
-
 abbrev pub half_pages : Catalog → ℕ
-half_pages cat = spool_pages_before cat (length cat.schema)
+half_pages cat = sum_by (spool_pages cat) (tables_of cat.schema)
 
 -- the area of a table that has a visible column in half 0 or 1
 abbrev pub spool_area : Catalog → (half table : ℕ) → Run
 spool_area cat half table = record {
-  first = static_end cat + (half * half_pages cat + spool_pages_before cat table);
+  first = static_end cat + (half * half_pages cat + sum_by (spool_pages cat) (below table));
   count = count_of cat table;
   width = spool_width cat.schema table;
 }

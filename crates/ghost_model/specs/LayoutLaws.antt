@@ -96,7 +96,7 @@ pub record LieInOrder (cat : Catalog) : Type 0 where
       → LayoutSums.index_pages_before cat table (column + 1)
       ≡ LayoutSums.index_pages_before cat table column + LayoutSums.index_pages cat table column
   pub next_spool :
-      (table : ℕ) → Layout.spool_pages_before cat (table + 1) ≡ Layout.spool_pages_before cat table + Layout.spool_pages cat table
+      (table : ℕ) → LayoutSums.spool_pages_before cat (table + 1) ≡ LayoutSums.spool_pages_before cat table + Layout.spool_pages cat table
   -- one column more of those that a spool row has, and one table more of those below another
   pub next_visible :
       (table column : ℕ)

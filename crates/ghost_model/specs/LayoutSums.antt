@@ -4,7 +4,7 @@ use Rattle.std.specs.Prelude.{ℕ, ◌+◌, ◌*◌, List, length, take, sum_by,
 use Rattle.ghost_model.specs.Schema.{Schema, is_empty}
 use Rattle.ghost_model.specs.Channel.{Catalog}
 use Rattle.ghost_model.specs.Runs.{Run, pages_of}
-use Rattle.ghost_model.specs.Layout.{below, is_hidden, width_at, column_count, levels_of, above_of, descendants_of, count_of, public_pages, column_pages, columns_pages}
+use Rattle.ghost_model.specs.Layout.{below, is_hidden, width_at, column_count, levels_of, above_of, descendants_of, count_of, public_pages, column_pages, columns_pages, spool_pages}
 
 -- the pages of the column files of the columns before one
 abbrev pub column_pages_before : Catalog → (table column : ℕ) → ℕ
@@ -96,3 +96,7 @@ index_level cat table column level =
 abbrev pub id_level : Catalog → (table level : ℕ) → Run
 id_level cat table level =
     level_file cat (id_index_begin cat table + id_directory_pages cat table) (above_of cat.schema table) level
+
+-- the pages of the areas of the tables before one in one half of the spool
+abbrev pub spool_pages_before : Catalog → (table : ℕ) → ℕ
+spool_pages_before cat table = sum_by (spool_pages cat) (below table)

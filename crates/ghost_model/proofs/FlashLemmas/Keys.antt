@@ -10,8 +10,9 @@ use Rattle.ghost_model.specs.SchemaTrees.{IsTree}
 use Rattle.ghost_model.specs.Database.{IsDatabase, rows_or_none, rows_of, field, identifier_in, key_column, points_to, leads_within, leads}
 use Rattle.ghost_model.specs.Split.{Hidden, value_at, merged, hidden_flags, hidden_values, rejoined_rows, rejoined_tables, hidden_of}
 use Rattle.ghost_model.specs.Replies.{hidden_places, hidden_value}
-use Rattle.ghost_model.specs.Layout.{hidden_or_none, is_hidden}
+use Rattle.ghost_model.specs.Layout.{is_hidden}
 use Rattle.ghost_model.specs.Flash.{zeros, zero_rows, hidden_database, leads_to}
+use Rattle.ghost_model.proofs.LayoutLemmas.Columns.{hidden_or_none}
 use Rattle.ghost_model.proofs.MeaningLemmas.OneRow.{child_is}
 use Rattle.ghost_model.proofs.MeaningLemmas.Leading.{told_place}
 use Rattle.ghost_model.proofs.SessionLemmas.Values.{parts_at}

@@ -15,9 +15,10 @@ use Rattle.ghost_model.specs.Cells.{cell_width, decode_cell}
 use Rattle.ghost_model.specs.Asks.{kind_or_none, kind_at}
 use Rattle.ghost_model.specs.Split.{Hidden, value_at, kind_of, are_of_kinds, hidden_values, hidden_flags, hidden_of}
 use Rattle.ghost_model.specs.Replies.{hidden_places}
-use Rattle.ghost_model.specs.Layout.{below, hidden_or_none, is_hidden, width_or_none, count_of}
+use Rattle.ghost_model.specs.Layout.{below, is_hidden, count_of}
 use Rattle.ghost_model.specs.Flash.{hidden_rows, GoesWith, cell_or_none, hidden_cell, hidden_cells}
 use Rattle.ghost_model.specs.FlashLaws.{hidden_before, CellsFit}
+use Rattle.ghost_model.proofs.LayoutLemmas.Columns.{hidden_or_none, width_or_none}
 use Rattle.ghost_model.proofs.ChannelLemmas.Asks.{cell_is_read, cell_length}
 use Rattle.ghost_model.proofs.MeaningLemmas.Leading.{get_within}
 use Rattle.ghost_model.proofs.SessionLemmas.Values.{at_itself, not_later, hidden_of_row, parts_at}

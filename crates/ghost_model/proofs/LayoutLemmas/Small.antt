@@ -14,6 +14,7 @@ use Rattle.ghost_model.specs.Runs.{pages_of}
 use Rattle.ghost_model.specs.Layout
 use Rattle.ghost_model.specs.LayoutSums
 use Rattle.ghost_model.specs.LayoutLaws.{IsLimited, AreNarrow, AreFew}
+use Rattle.ghost_model.proofs.LayoutLemmas.Columns.{hidden_or_none, width_or_none}
 use Rattle.ghost_model.proofs.LayoutLemmas.Numbers.{pages_few}
 use Rattle.ghost_model.proofs.LayoutLemmas.Places.{end_is}
 
@@ -42,11 +43,11 @@ kind_fits : (kind : Kind) → ((most : ℕ) → kind ≡ Chars most → (1 ≤ m
 kind_fits Integer h = (omega arith, omega arith)
 kind_fits (Chars most) h = let fits = h most refl in let least = fits.0 in (omega (arith, least), fits.1)
 
-width_most : (o : Option Column) → ((held : Column) → o ≡ Some held → cell_width held.kind ≤ 64) → Layout.width_or_none o ≤ 64
+width_most : (o : Option Column) → ((held : Column) → o ≡ Some held → cell_width held.kind ≤ 64) → width_or_none o ≤ 64
 width_most None h = omega arith
 width_most (Some held) h = h held refl
 
-width_least : (o : Option Column) → ((held : Column) → o ≡ Some held → 0 < cell_width held.kind) → Layout.hidden_or_none o ≡ true → 0 < Layout.width_or_none o
+width_least : (o : Option Column) → ((held : Column) → o ≡ Some held → 0 < cell_width held.kind) → hidden_or_none o ≡ true → 0 < width_or_none o
 width_least None h e = absurd (cc (e))
 width_least (Some held) h e = h held refl
 
