@@ -19,6 +19,7 @@ pub fn static_end(cat: &Catalog) -> u32
     ensures block { result % 64 ≡ 0 }
     ensures most { result ≤ 607034815 }
 {
+    a_catalog_has_a_layout(cat);
     in_blocks(table_begin(cat, cat.schema().tables()))
 }
 

@@ -33,6 +33,7 @@ pub fn subtree_table(cat: &Catalog, table: usize) -> Run
     requires there { table < length cat.now.schema }
     ensures run { run_of result ≡ layout.subtree_table cat.now table }
 {
+    a_catalog_has_a_layout(cat);
     Run {
         first: subtree_begin(cat, table),
         count: rows_of(cat, table),
@@ -96,6 +97,7 @@ pub fn id_directory(cat: &Catalog, table: usize) -> Run
     requires there { table < length cat.now.schema }
     ensures run { run_of result ≡ layout.id_directory cat.now table }
 {
+    a_catalog_has_a_layout(cat);
     Run {
         first: id_index_begin(cat, table),
         count: rows_of(cat, table),

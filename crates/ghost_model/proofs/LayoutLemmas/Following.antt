@@ -1,12 +1,12 @@
 -- The structures and areas of a catalog follow one another.
-use Rattle.std.proofs.Common.{◌≡◌, refl, ap, sym, ◌∙◌, subst, ℕ, zero, suc, ◌+◌, ◌-◌, ◌*◌, ◌<◌, ◌≤◌, Bool, true, false, not, cond, List, [], ◌∷◌, ◌++◌, length, map, take, filter, flat_map, sum_by, arith}
+use Rattle.std.proofs.Common.{◌≡◌, refl, ap, sym, ◌∙◌, subst, ℕ, zero, suc, ◌+◌, ◌-◌, ◌*◌, ◌<◌, ◌≤◌, Bool, true, false, not, cond, List, [], ◌∷◌, ◌++◌, length, map, filter, flat_map, sum_by, arith}
 use Rattle.std.specs.List.{range_with_len}
 use Rattle.std.proofs.Math.Nat.{div-zero}
 use Rattle.std.proofs.lemmas.List.Sums.{sum_by-cons}
 use Rattle.ghost_model.specs.Schema.{is_empty}
 use Rattle.ghost_model.specs.Channel.{Catalog}
-use Rattle.ghost_model.specs.Runs.{Run, pages_of, per_page}
-use Rattle.ghost_model.specs.Layout.{below, is_hidden, hidden_columns, width_at, column_count, levels_of, above_of, descendants_of, count_of, Structure, ColumnFile, SubtreeTable, ClimbingIndex, IdIndex, structures_of, structures, level_files, files_of, files_pages, structure_pages, column_pages, public_pages, static_end, spool_pages, half_pages, spool_area, has_spool, visible_columns, spool_areas, spool_end, scratch_areas, need}
+use Rattle.ghost_model.specs.Runs.{pages_of, per_page}
+use Rattle.ghost_model.specs.Layout.{below, is_hidden, hidden_columns, width_at, column_count, levels_of, above_of, descendants_of, count_of, Structure, ColumnFile, SubtreeTable, ClimbingIndex, IdIndex, structures_of, structures, level_files, files_pages, structure_pages, column_pages, public_pages, static_end, spool_pages, half_pages, spool_area, has_spool, visible_columns, spool_areas, spool_end, scratch_areas, need}
 use Rattle.ghost_model.specs.LayoutSums.{level_pages, levels_pages, directory_width, directory_pages, index_pages, subtree_width, table_pages, table_begin, column_begin, subtree_begin, indexes_begin, index_begin, id_index_begin}
 use Rattle.ghost_model.specs.LayoutLaws.{LieFrom, Follow, block_room}
 
@@ -173,8 +173,7 @@ module _ (cat : Catalog) where
       let end : id_index_begin cat table + structure_pages cat (IdIndex table) ≡ table_begin cat table + table_pages cat table = omega (arith, above_it) in
       let rest = map (ClimbingIndex table) (hidden_columns cat.schema table) ++ IdIndex table ∷ [] in
       follow_on (begins cat) (structure_pages cat) (map (ColumnFile table) (hidden_columns cat.schema table)) (SubtreeTable table ∷ rest)
-      (table_begin cat table) (subtree_begin cat table) (table_begin cat table + table_pages cat table) (follow_columns table)
-      (
+      (table_begin cat table) (subtree_begin cat table) (table_begin cat table + table_pages cat table) (follow_columns table) (
         refl,
         subst (λ b. LieFrom (begins cat) (structure_pages cat) b rest (table_begin cat table + table_pages cat table)) middle
             (follow_on (begins cat) (structure_pages cat) (map (ClimbingIndex table) (hidden_columns cat.schema table)) (IdIndex table ∷ [])

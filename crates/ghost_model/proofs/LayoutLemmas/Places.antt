@@ -1,5 +1,5 @@
 -- The sums give the places of files.
-use Rattle.std.proofs.Common.{◌≡◌, refl, ap, sym, ◌∙◌, subst, ℕ, zero, suc, ◌+◌, ◌<◌, ◌≤◌, Bool, true, false, not, cond, ◌&&◌, ◌==◌, List, [], ◌∷◌, ◌++◌, length, map, take, filter, flat_map, sum_by, slice_get, slice_index, get_or, inl, inr, arith}
+use Rattle.std.proofs.Common.{◌≡◌, refl, ap, sym, ◌∙◌, subst, ℕ, zero, suc, ◌+◌, ◌<◌, Bool, true, false, not, cond, ◌&&◌, ◌==◌, List, [], ◌∷◌, ◌++◌, length, map, take, filter, flat_map, sum_by, slice_get, slice_index, get_or, inl, inr, arith}
 use Rattle.std.specs.List.{range_with_len, before_first, take-map}
 use Rattle.std.proofs.lemmas.Bool.{cases_lt, and_parts, eqb-true, eq-eqb}
 use Rattle.std.proofs.lemmas.List.{append_assoc, map-append}

@@ -7,8 +7,8 @@ use Rattle.ghost_model.specs.Runs.{Run, run_pages}
 use Rattle.ghost_model.specs.Layout.{levels_of, descendants_of, hidden_columns, column_file, subtree_table, index_header, index_directory, index_level, id_directory, id_level, ColumnFile, SubtreeTable, ClimbingIndex, IdIndex, structures, structure_pages, static_files, files_end, static_end, spool_area, spool_areas, scratch_areas, need}
 use Rattle.ghost_model.specs.examples.Clinic.{id_column, number_column, key_column, clinic_schema, clinic_catalog, note_catalog}
 
-abbrev pub first_page : Run → ℕ
-first_page run = run.first
+abbrev pub page_of_run : Run → ℕ
+page_of_run run = run.first
 
 abbrev pub records_of_run : Run → ℕ
 records_of_run run = run.count
@@ -52,7 +52,7 @@ pub record LayoutOfTheClinic : Type 0 where
       map (structure_pages clinic_catalog) (structures clinic_schema)
       ≡ 1 ∷ 0 ∷ 4 ∷ 2 ∷ 1 ∷ 0 ∷ 4 ∷ 2 ∷ 1 ∷ 1 ∷ 1 ∷ 1 ∷ 3 ∷ 3 ∷ 3 ∷ 0 ∷ []
   pub pages :
-      map first_page (files_with_pages clinic_catalog)
+      map page_of_run (files_with_pages clinic_catalog)
       ≡ 64 ∷ 65 ∷ 66 ∷ 67 ∷ 68 ∷ 69 ∷ 70 ∷ 71 ∷ 72 ∷ 73 ∷ 74 ∷ 75 ∷ 76 ∷ 77 ∷ 78 ∷ 79 ∷ 80 ∷ 81 ∷ 82 ∷ 83 ∷ 84 ∷ 85
       ∷ 86 ∷ 87 ∷ 88 ∷ 89 ∷ 90 ∷ []
   pub counts :
@@ -63,17 +63,17 @@ pub record LayoutOfTheClinic : Type 0 where
       ≡ 2 ∷ 4 ∷ 18 ∷ 4 ∷ 4 ∷ 8 ∷ 4 ∷ 8 ∷ 4 ∷ 24 ∷ 4 ∷ 4 ∷ 8 ∷ 4 ∷ 8 ∷ 8 ∷ 8 ∷ 8 ∷ 4 ∷ 16 ∷ 4 ∷ 4 ∷ 16 ∷ 4 ∷ 4 ∷ 16 ∷ 4 ∷ []
   pub files_end : files_end clinic_catalog ≡ 91
   pub static_end : static_end clinic_catalog ≡ 128
-  pub spool : map first_page (spool_areas clinic_catalog 0 ++ spool_areas clinic_catalog 1) ≡ 128 ∷ 192 ∷ 256 ∷ 320 ∷ 384 ∷ 448 ∷ []
+  pub spool : map page_of_run (spool_areas clinic_catalog 0 ++ spool_areas clinic_catalog 1) ≡ 128 ∷ 192 ∷ 256 ∷ 320 ∷ 384 ∷ 448 ∷ []
   pub spool_of_doctors : spool_area clinic_catalog 0 0 ≡ record { first = 128; count = 3; width = 12 }
-  pub scratch : map first_page (scratch_areas clinic_catalog) ≡ 512 ∷ 576 ∷ 640 ∷ 704 ∷ 768 ∷ 832 ∷ []
+  pub scratch : map page_of_run (scratch_areas clinic_catalog) ≡ 512 ∷ 576 ∷ 640 ∷ 704 ∷ 768 ∷ 832 ∷ []
   pub need : need clinic_catalog ≡ 896
 
 pub record LayoutOfTheNotes : Type 0 where
-  pub pages : map first_page (files_with_pages note_catalog) ≡ 64 ∷ 65 ∷ 66 ∷ 67 ∷ []
+  pub pages : map page_of_run (files_with_pages note_catalog) ≡ 64 ∷ 65 ∷ 66 ∷ 67 ∷ []
   pub files_end : files_end note_catalog ≡ 68
   pub static_end : static_end note_catalog ≡ 128
-  pub spool : map first_page (spool_areas note_catalog 0 ++ spool_areas note_catalog 1) ≡ 128 ∷ 192 ∷ []
-  pub scratch : map first_page (scratch_areas note_catalog) ≡ 256 ∷ 320 ∷ 384 ∷ 448 ∷ 512 ∷ 576 ∷ []
+  pub spool : map page_of_run (spool_areas note_catalog 0 ++ spool_areas note_catalog 1) ≡ 128 ∷ 192 ∷ []
+  pub scratch : map page_of_run (scratch_areas note_catalog) ≡ 256 ∷ 320 ∷ 384 ∷ 448 ∷ 512 ∷ 576 ∷ []
   pub need : need note_catalog ≡ 640
 
 -- two databases of one schema of a leaf and a top table: one with many top rows, one with many leaf rows
@@ -103,12 +103,12 @@ pub record LayoutsOfLargerDatabases : Type 0 where
   pub remainders_files : files_end remainders_catalog ≡ 473
   pub remainders_static : static_end remainders_catalog ≡ 512
   pub remainders_spool :
-      map first_page (spool_areas remainders_catalog 0 ++ spool_areas remainders_catalog 1) ≡ 512 ∷ 576 ∷ 704 ∷ 768 ∷ []
-  pub remainders_scratch : map first_page (scratch_areas remainders_catalog) ≡ 896 ∷ 960 ∷ 1024 ∷ 1088 ∷ 1152 ∷ 1216 ∷ []
+      map page_of_run (spool_areas remainders_catalog 0 ++ spool_areas remainders_catalog 1) ≡ 512 ∷ 576 ∷ 704 ∷ 768 ∷ []
+  pub remainders_scratch : map page_of_run (scratch_areas remainders_catalog) ≡ 896 ∷ 960 ∷ 1024 ∷ 1088 ∷ 1152 ∷ 1216 ∷ []
   pub remainders_need : need remainders_catalog ≡ 1280
   pub saturated_files : files_end saturated_catalog ≡ 962
   pub saturated_static : static_end saturated_catalog ≡ 1024
   pub saturated_spool :
-      map first_page (spool_areas saturated_catalog 0 ++ spool_areas saturated_catalog 1) ≡ 1024 ∷ 1280 ∷ 1344 ∷ 1600 ∷ []
-  pub saturated_scratch : map first_page (scratch_areas saturated_catalog) ≡ 1664 ∷ 1792 ∷ 1920 ∷ 2048 ∷ 2176 ∷ 2304 ∷ []
+      map page_of_run (spool_areas saturated_catalog 0 ++ spool_areas saturated_catalog 1) ≡ 1024 ∷ 1280 ∷ 1344 ∷ 1600 ∷ []
+  pub saturated_scratch : map page_of_run (scratch_areas saturated_catalog) ≡ 1664 ∷ 1792 ∷ 1920 ∷ 2048 ∷ 2176 ∷ 2304 ∷ []
   pub saturated_need : need saturated_catalog ≡ 2432
