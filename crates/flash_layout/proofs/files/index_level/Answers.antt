@@ -1,4 +1,5 @@
 use Rattle.std.proofs.Common.{◌≡◌, ◌+◌, sym, ap, ◌∙◌, arith}
+use Rattle.ghost_model.specs.Layout as layout
 use Rattle.ghost_model.specs.LayoutSums as sums
 use Rattle.flash_layout.proofs.files.index_level.Goals as goal
 
@@ -12,7 +13,7 @@ returns c =
     record {
       run =
           c.level_file.ensures.run
-          ∙ (ap (λ tables. sums.level_file cat (c.index_begin.result + 1 + c.directory_pages.result) tables c.args.level) (c.deref.ensures ∙ c.levels_of.ensures.tables)
-          ∙ (ap (λ page. sums.level_file cat page _ c.args.level) begin
+          ∙ (ap (λ tables. sums.level_file cat (c.index_begin.result + 1 + c.directory_pages.result) tables c.args.level) (c.deref.ensures.0 ∙ c.levels_of.ensures.tables)
+          ∙ (ap (λ page. sums.level_file cat page (layout.levels_of cat.schema table) c.args.level) begin
           ∙ sym (c.a_catalog_has_a_layout.ensures.layout.sums.index_level table column c.args.level c.requires.hidden c.requires.level)));
     }
