@@ -14,11 +14,12 @@ use Rattle.ghost_model.specs.Asks.{kind_or_none, kind_at}
 use Rattle.ghost_model.specs.Split as split
 use Rattle.ghost_model.specs.Split.{Hidden}
 use Rattle.ghost_model.specs.Replies.{hidden_places}
-use Rattle.ghost_model.specs.Layout.{hidden_or_none, is_hidden, width_or_none}
+use Rattle.ghost_model.specs.Layout.{is_hidden}
 use Rattle.ghost_model.specs.LayoutLaws.{AreNarrow}
 use Rattle.ghost_model.specs.Flash.{GoesWith, hidden_cells}
 use Rattle.ghost_model.specs.FlashLaws.{hidden_before, CellsFit, HiddenValuesByPlace, HiddenValuesOfDatabases, HiddenPartsGoWithCatalogs, HiddenCellsFit}
 use Rattle.ghost_model.specs.Flash.{IsHidden}
+use Rattle.ghost_model.proofs.LayoutLemmas.Columns.{hidden_or_none, width_or_none}
 use Rattle.flash_build.specs.Cells.{AreOfKind, cell_at, cells_at, value_at}
 
 abbrev pub cell_if_any : Kind → Option Value → List ℕ

@@ -11,12 +11,17 @@ use Rattle.ghost_model.specs.LoadFaults.{most_rows}
 use Rattle.ghost_model.specs.Catalog.{IsCatalog}
 use Rattle.ghost_model.specs.Runs.{Run, per_page, run_pages, run_end, page_of, slot_of, page_bytes}
 use Rattle.ghost_model.specs.Layout
+use Rattle.ghost_model.specs.LayoutSums
 
--- runs of which the first begins at a page and each later one where the one before ends, up to a page; `room` says how
--- many pages each takes
+-- things of which the first begins at a page and each later one where the one before ends, up to a page; `first` says
+-- where each begins and `room` how many pages it takes
+abbrev pub LieFrom : {X : Type 0} → (first room : X → ℕ) → (begin : ℕ) → List X → (after : ℕ) → Type 0
+LieFrom first room begin [] after = begin ≡ after
+LieFrom first room begin (x ∷ xs) after = (first x ≡ begin) × LieFrom first room (begin + room x) xs after
+
+-- the same of runs
 abbrev pub Follow : (room : Run → ℕ) → (begin : ℕ) → List Run → (after : ℕ) → Type 0
-Follow room begin [] after = begin ≡ after
-Follow room begin (run ∷ runs) after = (run.first ≡ begin) × Follow room (begin + room run) runs after
+Follow room begin runs after = LieFrom (λ run. run.first) room begin runs after
 
 abbrev pub block_room : Run → ℕ
 block_room run = Layout.in_blocks (run_pages run)
@@ -47,24 +52,51 @@ FollowingRunsStandApart =
     (room : Run → ℕ) (begin : ℕ) (runs : List Run) (after : ℕ) → Follow room begin runs after
     → StandApart room begin runs after
 
+-- the sums give the places of the layout
+pub record LieAsSummed (cat : Catalog) : Type 0 where
+  pub column_file :
+      (table column : ℕ) → Layout.is_hidden cat.schema table column ≡ true
+      → (Layout.column_file cat table column).first ≡ LayoutSums.column_begin cat table column
+  pub subtree_table :
+      (table : ℕ) → table < length cat.schema → (Layout.subtree_table cat table).first ≡ LayoutSums.subtree_begin cat table
+  pub index_header :
+      (table column : ℕ) → Layout.is_hidden cat.schema table column ≡ true
+      → (Layout.index_header cat table column).first ≡ LayoutSums.index_begin cat table column
+  pub index_directory :
+      (table column : ℕ) → Layout.is_hidden cat.schema table column ≡ true
+      → (Layout.index_directory cat table column).first ≡ LayoutSums.index_begin cat table column + 1
+  pub index_level :
+      (table column level : ℕ) → Layout.is_hidden cat.schema table column ≡ true
+      → level < length (Layout.levels_of cat.schema table)
+      → Layout.index_level cat table column level ≡ LayoutSums.index_level cat table column level
+  pub id_directory :
+      (table : ℕ) → table < length cat.schema → (Layout.id_directory cat table).first ≡ LayoutSums.id_index_begin cat table
+  pub id_level :
+      (table level : ℕ) → table < length cat.schema → level < length (Layout.above_of cat.schema table)
+      → Layout.id_level cat table level ≡ LayoutSums.id_level cat table level
+  pub files_end : Layout.files_end cat ≡ LayoutSums.table_begin cat (length cat.schema)
+
+abbrev pub FilesLieAsSummed : Type 0
+FilesLieAsSummed = (cat : Catalog) → LieAsSummed cat
+
 -- where the files of tables and columns lie, one by one: the same facts for those who go by table and column
 pub record LieInOrder (cat : Catalog) : Type 0 where
   -- only columns that there are, are hidden
   pub there_are :
       (table column : ℕ) → Layout.is_hidden cat.schema table column ≡ true
       → (table < length cat.schema) × (column < Layout.column_count cat.schema table)
-  pub next_table : (table : ℕ) → Layout.table_begin cat (table + 1) ≡ Layout.table_begin cat table + Layout.table_pages cat table
-  pub tables : (table later : ℕ) → table ≤ later → Layout.table_begin cat table ≤ Layout.table_begin cat later
+  pub next_table : (table : ℕ) → LayoutSums.table_begin cat (table + 1) ≡ LayoutSums.table_begin cat table + LayoutSums.table_pages cat table
+  pub tables : (table later : ℕ) → table ≤ later → LayoutSums.table_begin cat table ≤ LayoutSums.table_begin cat later
   pub next_column :
       (table column : ℕ)
-      → Layout.column_pages_before cat table (column + 1)
-      ≡ Layout.column_pages_before cat table column + Layout.column_pages cat table column
+      → LayoutSums.column_pages_before cat table (column + 1)
+      ≡ LayoutSums.column_pages_before cat table column + Layout.column_pages cat table column
   pub next_index :
       (table column : ℕ)
-      → Layout.index_pages_before cat table (column + 1)
-      ≡ Layout.index_pages_before cat table column + Layout.index_pages cat table column
+      → LayoutSums.index_pages_before cat table (column + 1)
+      ≡ LayoutSums.index_pages_before cat table column + LayoutSums.index_pages cat table column
   pub next_spool :
-      (table : ℕ) → Layout.spool_pages_before cat (table + 1) ≡ Layout.spool_pages_before cat table + Layout.spool_pages cat table
+      (table : ℕ) → LayoutSums.spool_pages_before cat (table + 1) ≡ LayoutSums.spool_pages_before cat table + Layout.spool_pages cat table
   -- one column more of those that a spool row has, and one table more of those below another
   pub next_visible :
       (table column : ℕ)
@@ -79,15 +111,15 @@ pub record LieInOrder (cat : Catalog) : Type 0 where
   -- the column files of one table
   pub column_files :
       (table column later : ℕ) → Layout.is_hidden cat.schema table column ≡ true → column < later
-      → run_end (Layout.column_file cat table column) ≤ (Layout.column_file cat table later).first
+      → run_end (Layout.column_file cat table column) ≤ LayoutSums.column_begin cat table later
   -- those of a table before its other files
   pub within_table :
       (table column : ℕ) → Layout.is_hidden cat.schema table column ≡ true
-      → run_end (Layout.column_file cat table column) ≤ Layout.subtree_begin cat table
+      → run_end (Layout.column_file cat table column) ≤ LayoutSums.subtree_begin cat table
   -- those of a table before the files of a later one, and before the end
   pub before_tables :
       (table later column : ℕ) → Layout.is_hidden cat.schema table column ≡ true → table < later
-      → run_end (Layout.column_file cat table column) ≤ Layout.table_begin cat later
+      → run_end (Layout.column_file cat table column) ≤ LayoutSums.table_begin cat later
   pub after_public : (table column : ℕ) → Layout.public_pages ≤ (Layout.column_file cat table column).first
   pub within :
       (table column : ℕ) → Layout.is_hidden cat.schema table column ≡ true
@@ -138,9 +170,9 @@ pub record AreNarrow (cat : Catalog) : Type 0 where
   pub descendants : (table : ℕ) → length (Layout.descendants_of cat.schema table) ≤ 12
   pub most : (table column : ℕ) → Layout.width_at cat.schema table column ≤ 64
   pub least : (table column : ℕ) → Layout.is_hidden cat.schema table column ≡ true → 0 < Layout.width_at cat.schema table column
-  pub subtree : (table : ℕ) → Layout.subtree_width cat.schema table ≤ 48
-  pub directory : (table column : ℕ) → Layout.directory_width cat.schema table column ≤ 160
-  pub id_directory : (table : ℕ) → Layout.id_directory_width cat.schema table ≤ 96
+  pub subtree : (table : ℕ) → LayoutSums.subtree_width cat.schema table ≤ 48
+  pub directory : (table column : ℕ) → LayoutSums.directory_width cat.schema table column ≤ 160
+  pub id_directory : (table : ℕ) → LayoutSums.id_directory_width cat.schema table ≤ 96
   pub spool : (table : ℕ) → Layout.spool_width cat.schema table ≤ 1540
 
 -- the numbers of pages
@@ -148,17 +180,17 @@ pub record AreFew (cat : Catalog) : Type 0 where
   pub rows : (table : ℕ) → Layout.count_of cat table ≤ 1000000
   pub largest : Layout.largest_count cat ≤ 1000000
   pub column : (table column : ℕ) → Layout.column_pages cat table column ≤ 1000000
-  pub columns_before : (table column : ℕ) → column ≤ 24 → Layout.column_pages_before cat table column ≤ 24000000
+  pub columns_before : (table column : ℕ) → column ≤ 24 → LayoutSums.column_pages_before cat table column ≤ 24000000
   pub columns : (table : ℕ) → Layout.columns_pages cat table ≤ 24000000
-  pub subtree : (table : ℕ) → Layout.subtree_pages cat table ≤ 1000000
-  pub level : (table : ℕ) → Layout.level_pages cat table ≤ 1954
-  pub levels : (tables : List ℕ) → length tables ≤ 12 → Layout.levels_pages cat tables ≤ 23448
-  pub index : (table column : ℕ) → Layout.index_pages cat table column ≤ 1023449
-  pub indexes_before : (table column : ℕ) → column ≤ 24 → Layout.index_pages_before cat table column ≤ 24562776
-  pub indexes : (table : ℕ) → Layout.indexes_pages cat table ≤ 24562776
-  pub id_index : (table : ℕ) → Layout.id_index_pages cat table ≤ 1023448
-  pub table : (table : ℕ) → Layout.table_pages cat table ≤ 50586224
-  pub table_begin : (table : ℕ) → table ≤ 12 → Layout.table_begin cat table ≤ 607034752
+  pub subtree : (table : ℕ) → LayoutSums.subtree_pages cat table ≤ 1000000
+  pub level : (table : ℕ) → LayoutSums.level_pages cat table ≤ 1954
+  pub levels : (tables : List ℕ) → length tables ≤ 12 → LayoutSums.levels_pages cat tables ≤ 23448
+  pub index : (table column : ℕ) → LayoutSums.index_pages cat table column ≤ 1023449
+  pub indexes_before : (table column : ℕ) → column ≤ 24 → LayoutSums.index_pages_before cat table column ≤ 24562776
+  pub indexes : (table : ℕ) → LayoutSums.indexes_pages cat table ≤ 24562776
+  pub id_index : (table : ℕ) → LayoutSums.id_index_pages cat table ≤ 1023448
+  pub table : (table : ℕ) → LayoutSums.table_pages cat table ≤ 50586224
+  pub table_begin : (table : ℕ) → table ≤ 12 → LayoutSums.table_begin cat table ≤ 607034752
   pub files : Layout.files_end cat ≤ 607034752
   pub static : Layout.static_end cat ≤ 607034815
   pub spool : (table : ℕ) → Layout.spool_pages cat table ≤ 1000064

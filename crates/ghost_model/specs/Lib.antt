@@ -52,6 +52,7 @@ pub mod Flash
 pub mod Work
 pub mod RunLaws
 pub mod LayoutLaws
+pub mod LayoutSums
 pub mod FlashLaws
 pub mod ListLaws
 pub mod examples

@@ -11,11 +11,12 @@ use Rattle.ghost_model.specs.Replies.{hidden_value, replied_value}
 use Rattle.ghost_model.specs.Runs.{record_at}
 use Rattle.ghost_model.specs.Asks.{kind_at}
 use Rattle.ghost_model.specs.CellReading.{decode_cell}
-use Rattle.ghost_model.specs.Layout.{hidden_or_none, is_hidden, count_of, column_file}
+use Rattle.ghost_model.specs.Layout.{is_hidden, count_of, column_file}
 use Rattle.ghost_model.specs.Flash.{HoldsColumns}
 use Rattle.ghost_model.specs.FlashLaws.{HiddenPartsGoWithCatalogs, HiddenValuesOfDatabases, ColumnFilesGiveValues}
+use Rattle.ghost_model.proofs.LayoutLemmas.Columns.{hidden_or_none}
 use Rattle.ghost_model.proofs.MeaningLemmas.Leading.{get_within}
-use Rattle.ghost_model.proofs.LayoutLemmas.Order.{table_there}
+use Rattle.ghost_model.proofs.LayoutLemmas.Places.{table_there}
 use Rattle.ghost_model.proofs.FlashLemmas.Values.{count_there, not_hidden}
 use Rattle.ghost_model.specs.Slots.{child_or_none, child_rows, is_in_range, only_in_range, spelled}
 use Rattle.hidden_columns.specs.Laws.{value_on, HasValue, HeldColumnsAreRight, FilesAreOfColumns, FilesStayReadable}

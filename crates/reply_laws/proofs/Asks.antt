@@ -11,8 +11,9 @@ use Rattle.ghost_model.specs.QueryReading.{reading}
 use Rattle.ghost_model.specs.Cells.{cell_width}
 use Rattle.ghost_model.specs.Channel.{Catalog, Ask, row_count_in}
 use Rattle.ghost_model.specs.Asks.{Asked, asked, asked_from, asked_of, asks_of, asks_of_reading, ask_for, is_from, is_needed, is_wanted, places, kind_or_none, kind_at, row_width}
-use Rattle.ghost_model.specs.Layout.{below, count_of, width_or_none, width_at, spool_width}
+use Rattle.ghost_model.specs.Layout.{below, count_of, width_at, spool_width}
 use Rattle.ghost_model.specs.SchemaTrees.{IsTree}
+use Rattle.ghost_model.proofs.LayoutLemmas.Columns.{width_or_none}
 use Rattle.ghost_model.proofs.ChannelLemmas.Tests.{both_hold}
 use Rattle.ghost_model.proofs.SessionLemmas.Accepted.{Each}
 use Rattle.reply_store.specs.Stored.{room_for}

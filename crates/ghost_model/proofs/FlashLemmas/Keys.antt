@@ -12,11 +12,12 @@ use Rattle.ghost_model.specs.Split.{Hidden, value_at, hidden_of}
 use Rattle.ghost_model.specs.SplitByFlags.{merged, hidden_flags, rejoined_rows, rejoined_tables, hidden_values}
 use Rattle.ghost_model.proofs.MeaningLemmas.PartsByFlags.{hidden_rows_at, rejoined_parts}
 use Rattle.ghost_model.specs.Replies.{hidden_places, hidden_value}
-use Rattle.ghost_model.specs.Layout.{hidden_or_none, is_hidden}
+use Rattle.ghost_model.specs.Layout.{is_hidden}
 use Rattle.ghost_model.specs.Flash.{zeros, zero_rows, hidden_database, leads_to}
+use Rattle.ghost_model.proofs.LayoutLemmas.Columns.{hidden_or_none}
 use Rattle.ghost_model.proofs.MeaningLemmas.OneRow.{child_is}
 use Rattle.ghost_model.proofs.MeaningLemmas.Leading.{told_place}
-use Rattle.ghost_model.proofs.LayoutLemmas.Order.{table_there}
+use Rattle.ghost_model.proofs.LayoutLemmas.Places.{table_there}
 use Rattle.ghost_model.proofs.FlashLemmas.Values.{hidden_among, not_hidden, value_by_place, value_of_row}
 
 -- a hidden value of a row whose visible values are zeros

@@ -18,13 +18,14 @@ use Rattle.ghost_model.specs.Split.{Hidden, value_at, column_kind, are_of_kinds,
 use Rattle.ghost_model.specs.SplitByFlags.{hidden_flags, hidden_values}
 use Rattle.ghost_model.proofs.MeaningLemmas.PartsByFlags.{hidden_rows_at}
 use Rattle.ghost_model.specs.Replies.{hidden_places}
-use Rattle.ghost_model.specs.Layout.{below, hidden_or_none, is_hidden, width_or_none, count_of}
+use Rattle.ghost_model.specs.Layout.{below, is_hidden, count_of}
 use Rattle.ghost_model.specs.Flash.{hidden_rows, GoesWith, hidden_cell, hidden_cells}
 use Rattle.ghost_model.specs.FlashLaws.{hidden_before, CellsFit}
+use Rattle.ghost_model.proofs.LayoutLemmas.Columns.{hidden_or_none, width_or_none}
 use Rattle.ghost_model.proofs.ChannelLemmas.Asks.{cell_is_read, cell_length}
 use Rattle.ghost_model.proofs.MeaningLemmas.Leading.{get_within}
 use Rattle.ghost_model.proofs.SessionLemmas.Values.{at_itself, not_later, hidden_of_row}
-use Rattle.ghost_model.proofs.LayoutLemmas.Order.{table_there}
+use Rattle.ghost_model.proofs.LayoutLemmas.Places.{table_there}
 use Rattle.ghost_model.proofs.ChannelLemmas.Tests.{BothHold, both_hold}
 
 abbrev cell_if_any : Kind → Option Value → List ℕ

@@ -4,7 +4,8 @@ use Rattle.std.proofs.lemmas.List.Sums.{sum_by-cons}
 use Rattle.ghost_model.specs.Schema.{is_empty}
 use Rattle.ghost_model.specs.Channel.{Catalog}
 use Rattle.ghost_model.specs.Runs.{pages_of}
-use Rattle.ghost_model.specs.Layout.{below, count_of, in_blocks, spool_pages, spool_pages_before, spool_width, visible_columns, half_pages, scratch_pages}
+use Rattle.ghost_model.specs.Layout.{below, count_of, in_blocks, spool_pages, spool_width, visible_columns, half_pages, scratch_pages}
+use Rattle.ghost_model.specs.LayoutSums.{spool_pages_before}
 use Rattle.ghost_model.specs.LayoutLaws.{AreWholeBlocks}
 use Rattle.ghost_model.proofs.layout.areas_are_whole_blocks.Goals as goal
 
