@@ -9,7 +9,7 @@ use Rattle.ghost_model.specs.Schema.{Schema, Column, Kind, column_at, is_empty}
 use Rattle.ghost_model.specs.Values.{Value}
 use Rattle.ghost_model.specs.Channel.{Catalog}
 use Rattle.ghost_model.specs.Database.{is_row_among}
-use Rattle.ghost_model.specs.Cells.{decode_cell}
+use Rattle.ghost_model.specs.CellReading.{decode_cell}
 use Rattle.ghost_model.specs.Asks.{kind_at}
 use Rattle.ghost_model.specs.Runs.{Run, page_of, slot_of, record_at, number_in, found_in}
 use Rattle.ghost_model.specs.Layout.{is_hidden, width_at, count_of, levels_of, above_of, descendants_of, column_file, subtree_table, index_header, index_directory, index_level, id_directory, id_level}

@@ -182,7 +182,7 @@ abbrev pub quiet_clinic : Database
 quiet_clinic = take 2 clinic ++ [] ∷ []
 
 abbrev pub quiet_catalog : Catalog
-quiet_catalog = record { schema = clinic_schema; counts = 3 ∷ 2 ∷ 0 ∷ []; generation = 1 }
+quiet_catalog = record { schema = clinic_schema; counts = 3 ∷ 2 ∷ 0 ∷ []; generation = 1; version = 1 }
 
 abbrev pub day_texts : List (List ℕ)
 day_texts = codes "SELECT day FROM visit" ∷ []

@@ -1,4 +1,5 @@
 use Rattle.std.proofs.Common.{refl, inl, inr, arith}
+use Rattle.ghost_model.specs.Layout.{first_page}
 use Rattle.ghost_model.specs.Schema.{places_from}
 use Rattle.ghost_model.specs.SchemaFaults.{ancestor}
 use Rattle.ghost_model.specs.Runs.{number_in, record_at, found_in}
@@ -6,7 +7,7 @@ use Rattle.ghost_model.specs.Slots.{Cells, Directory}
 use Rattle.ghost_model.proofs.flash.damaged_slots.Goals as goal
 
 pub returns : goal.returns
-unfolding places_from ancestor number_in record_at found_in
+unfolding places_from ancestor number_in record_at found_in first_page
 returns c = record {
   no_such_doctor = record {
     file = Cells 2 3;

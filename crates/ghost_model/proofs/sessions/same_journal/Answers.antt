@@ -1,7 +1,8 @@
 use Rattle.std.proofs.Common.{refl, [], ◌∷◌, codes}
 use Rattle.std.specs.Fmt.{digits}
 use Rattle.hex.specs.Hex.{encode_with, decode_pairs}
-use Rattle.ghost_model.specs.Asks.{rows_from, tests_in}
+use Rattle.ghost_model.specs.Asks.{rows_from}
+use Rattle.ghost_model.specs.AskReading.{tests_in}
 use Rattle.ghost_model.specs.Schema.{places_from}
 use Rattle.ghost_model.specs.Tokens.{tokens_from, quoted_from}
 use Rattle.ghost_model.specs.QueryPlaces.{read_from}
