@@ -6,15 +6,15 @@ use Rattle.std.specs.List.{list_all}
 use Rattle.std.specs.Cmp.{first_so, second_so}
 use Rattle.std.proofs.lemmas.Option.{slice_get_within}
 use Rattle.std.proofs.Math.Seq.{drop-append_seam}
-use Rattle.ghost_model.specs.Schema.{Schema, Column, Kind, columns_of, column_at, is_visible, is_shown}
-use Rattle.ghost_model.specs.Values.{Value}
-use Rattle.ghost_model.specs.Query.{Operator}
-use Rattle.ghost_model.specs.Channel as channel
-use Rattle.ghost_model.specs.Cells.{cell_width}
-use Rattle.ghost_model.specs.CellReading.{decode_cell}
-use Rattle.ghost_model.specs.Asks as asks
-use Rattle.ghost_model.specs.AskReading as reading
-use Rattle.ghost_model.specs.ChannelLaws as laws
+use Rattle.ghost_model.specs.core.Schema.{Schema, Column, Kind, columns_of, column_at, is_visible, is_shown}
+use Rattle.ghost_model.specs.core.Values.{Value}
+use Rattle.ghost_model.specs.core.Query.{Operator}
+use Rattle.ghost_model.specs.core.Channel as channel
+use Rattle.ghost_model.specs.forms.Cells.{cell_width}
+use Rattle.ghost_model.specs.readings.CellReading.{decode_cell}
+use Rattle.ghost_model.specs.core.Asks as asks
+use Rattle.ghost_model.specs.readings.AskReading as reading
+use Rattle.ghost_model.specs.laws.ChannelLaws as laws
 use Rattle.ghost_base.specs.Views as base
 use Rattle.channel_codec.specs.declared.ask.Test.{Test}
 use Rattle.channel_codec.specs.AskViews.{test_view, test_in, test_width}

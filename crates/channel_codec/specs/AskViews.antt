@@ -1,13 +1,13 @@
 -- What the codec's asks are as asks of the channel.
 use Rattle.std.specs.Prelude.{ℕ, Bool, List, map, take, drop, slice_index}
-use Rattle.ghost_model.specs.Schema.{Schema}
-use Rattle.ghost_model.specs.Channel as channel
-use Rattle.ghost_model.specs.Asks.{kind_at}
-use Rattle.ghost_model.specs.AskReading.{value_or_none}
-use Rattle.ghost_model.specs.AskReading as reading
-use Rattle.ghost_model.specs.Cells.{cell_width}
-use Rattle.ghost_model.specs.CellReading.{decode_cell}
-use Rattle.ghost_model.specs.Database.{is_of_kind}
+use Rattle.ghost_model.specs.core.Schema.{Schema}
+use Rattle.ghost_model.specs.core.Channel as channel
+use Rattle.ghost_model.specs.core.Asks.{kind_at}
+use Rattle.ghost_model.specs.readings.AskReading.{value_or_none}
+use Rattle.ghost_model.specs.readings.AskReading as reading
+use Rattle.ghost_model.specs.forms.Cells.{cell_width}
+use Rattle.ghost_model.specs.readings.CellReading.{decode_cell}
+use Rattle.ghost_model.specs.core.Database.{is_of_kind}
 use Rattle.ghost_base.specs.Views.{operator_of, value_of}
 use Rattle.channel_codec.specs.declared.ask.Ask.{Ask}
 use Rattle.channel_codec.specs.declared.ask.Test.{Test}

@@ -1,10 +1,10 @@
 //! The ask that bytes spell.
 
 ghost use Rattle.std.specs.Prelude.{◌≡◌, ◌≤◌, ◌+◌, true, None, bytes_eq, length, map, take, drop, slice_index, option_map, IfSome, IfNone};
-ghost use Rattle.ghost_model.specs.Asks as asks;
-ghost use Rattle.ghost_model.specs.AskReading as reading;
-ghost use Rattle.ghost_model.specs.Cells as cells;
-ghost use Rattle.ghost_model.specs.CellReading as cell_reading;
+ghost use Rattle.ghost_model.specs.core.Asks as asks;
+ghost use Rattle.ghost_model.specs.readings.AskReading as reading;
+ghost use Rattle.ghost_model.specs.forms.Cells as cells;
+ghost use Rattle.ghost_model.specs.readings.CellReading as cell_reading;
 ghost use Rattle.ghost_base.specs.Views.{kind_of, operator_of, value_of};
 ghost use Rattle.channel_codec.specs.AskViews.{test_view, ask_view, test_in, test_width};
 

@@ -5,12 +5,12 @@ use Rattle.std.proofs.Math.Seq.{take-add}
 use Rattle.std.proofs.lemmas.List.{length-append, length-drop, length-take-le, drop-take, take-take}
 use Rattle.std.proofs.lemmas.Grind.{flat_map-append}
 use Rattle.std.proofs.lemmas.Bool.Decides.{nat_tests}
-use Rattle.ghost_model.specs.Channel as channel
-use Rattle.ghost_model.specs.Channel.{Catalog, Move, Journal}
-use Rattle.ghost_model.specs.Frames as frames
-use Rattle.ghost_model.specs.Asks.{Asked}
-use Rattle.ghost_model.specs.NextMove as next
-use Rattle.ghost_model.specs.NextMove.{Awaits, Heard, Standing, standing_after, heard, hear_all, heard_as, bytes_before}
+use Rattle.ghost_model.specs.core.Channel as channel
+use Rattle.ghost_model.specs.core.Channel.{Catalog, Move, Journal}
+use Rattle.ghost_model.specs.forms.Frames as frames
+use Rattle.ghost_model.specs.core.Asks.{NumberedAsk}
+use Rattle.ghost_model.specs.core.NextMove as next
+use Rattle.ghost_model.specs.core.NextMove.{Awaits, Heard, Standing, standing_after, heard, hear_all, heard_as, bytes_before}
 use Rattle.channel_pump.specs.Forms.{Form}
 use Rattle.channel_pump.specs.declared.rows.Tally.{Tally}
 use Rattle.channel_pump.specs.declared.state.Pump.{Pump}
@@ -50,7 +50,7 @@ taking_fits p n Taking h = h
 taking_fits p n (Closing _) h = absurd h
 taking_fits p n (Closed _) h = absurd h
 
-module _ (catalog : Catalog) (asks : List Asked) (journal : Journal) (p : Pump) (page : List ℕ) (n : ℕ) where
+module _ (catalog : Catalog) (asks : List NumberedAsk) (journal : Journal) (p : Pump) (page : List ℕ) (n : ℕ) where
   abbrev part : List ℕ
   part = take (p.have + n) page
 
@@ -139,10 +139,10 @@ module _ (catalog : Catalog) (asks : List Asked) (journal : Journal) (p : Pump) 
 
   -- the frame at hand is not whole
   pub part_after : (q : Pump) (missing : ℕ) → At → Same p q → q.before ≡ p.before → q.stage ≡ Taking → q.have ≡ p.have + n → q.lacks ≡ missing
-      → verdict_here p part ≡ next.Short missing → IsAfter catalog asks (journal ++ taken_entry p page n ∷ []) q
+      → verdict_here p part ≡ next.Lacking missing → IsAfter catalog asks (journal ++ taken_entry p page n ∷ []) q
   part_after q missing h s before stage have lacking e =
       let l : Standing = standing_after catalog asks journal in
-      after_taken q (next.Short missing) h e (record {
+      after_taken q (next.Lacking missing) h e (record {
         opened = sym (ap is_opened stage);
         closed = not_closed h ∙ sym (ap is_closed stage);
         stopped = not_stopped h ∙ sym (ap has_stopped stage);
@@ -155,15 +155,15 @@ module _ (catalog : Catalog) (asks : List Asked) (journal : Journal) (p : Pump) 
           phase = ap is_over s.phase ∙ (is_taking h).phase;
           sent = (is_taking h).sent ∙ sym (plus_nothing l.sent l.sent refl);
           have = part_length h ∙ sym have;
-          lacks = sym (verdict_is catalog p l.heard.awaits part h.after.awaits) ∙ (e ∙ ap (λ (k : ℕ). next.Short k) (sym lacking));
+          lacks = sym (verdict_is catalog p l.heard.awaits part h.after.awaits) ∙ (e ∙ ap (λ (k : ℕ). next.Lacking k) (sym lacking));
         });
       })
 
-  pub part_keeps : (missing : ℕ) → At → verdict_here p part ≡ next.Short missing → Keeps catalog asks (journal ++ taken_entry p page n ∷ []) page
-  part_keeps missing h e = keeps_taken (next.Short missing) h e (part_kept h)
+  pub part_keeps : (missing : ℕ) → At → verdict_here p part ≡ next.Lacking missing → Keeps catalog asks (journal ++ taken_entry p page n ∷ []) page
+  part_keeps missing h e = keeps_taken (next.Lacking missing) h e (part_kept h)
 
-  pub part_event : (missing : ℕ) → At → verdict_here p part ≡ next.Short missing → event_after catalog (standing_after catalog asks journal).heard piece ≡ event.Part
-  part_event missing h e = event_taken (next.Short missing) h e
+  pub part_event : (missing : ℕ) → At → verdict_here p part ≡ next.Lacking missing → event_after catalog (standing_after catalog asks journal).heard piece ≡ event.Part
+  part_event missing h e = event_taken (next.Lacking missing) h e
 
   -- the frame at hand is invalid
   pub invalid_after : (q : Pump) (kind place : ℕ) → At → Same p q → q.before ≡ p.before → q.stage ≡ Closing (Protocol kind place) → kind ≡ frames.kind_in part → place ≡ p.before
@@ -201,7 +201,7 @@ module _ (catalog : Catalog) (asks : List Asked) (journal : Journal) (p : Pump) 
       subst (λ (x : List ℕ). 8 + frames.size_in x ≤ length x → length x ≡ 8 + frames.size_in x) (sym (part_is h))
       (exact catalog (standing_after catalog asks journal).heard.awaits (standing_after catalog asks journal).heard.part piece p.lacks (is_taking h).lacks (omega (arith, size, fits))) whole
 
-  going_stage : (q : Pump) (turn : next.Turn) (s : Stage) → At → turn.due ≡ due_at q s → IsGoing q.phase s → q.have ≡ 0 → q.lacks ≡ 8
+  going_stage : (q : Pump) (turn : next.FrameOutcome) (s : Stage) → At → turn.due ≡ due_at q s → IsGoing q.phase s → q.have ≡ 0 → q.lacks ≡ 8
       → (h : Heard) → h.awaits ≡ turn.awaits → h.due ≡ (standing_after catalog asks journal).heard.due ++ turn.due → h.part ≡ []
       → IsStage catalog q (goes_to (standing_after catalog asks journal) (taken_entry p page n) h) s
   going_stage q turn Dialling at due going have lacking h aw d pt = absurd going
@@ -227,7 +227,7 @@ module _ (catalog : Catalog) (asks : List Asked) (journal : Journal) (p : Pump) 
         phase = going;
         sent = ap length (d ∙ (ap (λ (x : List channel.Frame). before ++ x) due ∙ append-nil before)) ∙ ((is_taking at).sent ∙ sym (plus_nothing sent sent refl));
         have = ap length pt ∙ sym have;
-        lacks = ap (λ (x : List ℕ). next.verdict catalog h.awaits x) pt ∙ ap (λ (k : ℕ). next.Short k) (sym lacking);
+        lacks = ap (λ (x : List ℕ). next.verdict catalog h.awaits x) pt ∙ ap (λ (k : ℕ). next.Lacking k) (sym lacking);
       }
   going_stage q turn (Closing _) at due going have lacking h aw d pt = absurd going
   going_stage q turn (Closed _) at due going have lacking h aw d pt = absurd going
@@ -247,16 +247,16 @@ module _ (catalog : Catalog) (asks : List Asked) (journal : Journal) (p : Pump) 
       ∙ (length-append (flat_map frames.frame_bytes h.frames) (frames.frame_bytes frame) ∙ ap (λ (m : ℕ). bytes_before h + m) e) in
       omega (arith, all, b)
 
-  pub frame_after : (q : Pump) → At → IsTurned catalog q (next.turn catalog asks (standing_after catalog asks journal).heard.awaits (frames.frame_in part))
+  pub frame_after : (q : Pump) → At → IsTurned catalog q (next.after_frame catalog asks (standing_after catalog asks journal).heard.awaits (frames.frame_in part))
       → IsFresh catalog asks q q.phase → IsGoing q.phase q.stage → q.have ≡ 0 → q.lacks ≡ 8 → q.before ≡ min (p.before + length part) (2 ^ 64 - 1)
       → length (frames.frame_bytes (frames.frame_in part)) ≡ length part
       → AreMarked q.refused ((standing_after catalog asks journal).heard.ended ++ next.ended_by (standing_after catalog asks journal).heard.awaits (standing_after catalog asks journal).heard.rows (frames.frame_in part))
-      → verdict_here p part ≡ next.Whole → IsAfter catalog asks (journal ++ taken_entry p page n ∷ []) q
+      → verdict_here p part ≡ next.Complete → IsAfter catalog asks (journal ++ taken_entry p page n ∷ []) q
   frame_after q h turned fresh going have lacking before size marks e =
       let l : Standing = standing_after catalog asks journal in
-      let turn : next.Turn = next.turn catalog asks (standing_after catalog asks journal).heard.awaits (frames.frame_in part) in
+      let turn : next.FrameOutcome = next.after_frame catalog asks (standing_after catalog asks journal).heard.awaits (frames.frame_in part) in
       let is = stage_bool q q.stage going in
-      after_taken q next.Whole h e (record {
+      after_taken q next.Complete h e (record {
         opened = sym is.0;
         closed = not_closed h ∙ sym is.1;
         stopped = not_stopped h ∙ sym is.2;
@@ -268,13 +268,13 @@ module _ (catalog : Catalog) (asks : List Asked) (journal : Journal) (p : Pump) 
         stage = going_stage q turn q.stage h turned.due going have lacking (next.heard_frame catalog asks l.heard (frames.frame_in part)) refl refl refl;
       })
 
-  pub frame_keeps : At → verdict_here p part ≡ next.Whole → Keeps catalog asks (journal ++ taken_entry p page n ∷ []) page
-  frame_keeps h e = keeps_taken next.Whole h e refl
+  pub frame_keeps : At → verdict_here p part ≡ next.Complete → Keeps catalog asks (journal ++ taken_entry p page n ∷ []) page
+  frame_keeps h e = keeps_taken next.Complete h e refl
 
-  pub frame_event : (tally : Tally) → At → Stands p part tally → verdict_here p part ≡ next.Whole
+  pub frame_event : (tally : Tally) → At → Stands p part tally → verdict_here p part ≡ next.Complete
       → event_after catalog (standing_after catalog asks journal).heard piece ≡ event_of tally.rows (frames.frame_in part)
   frame_event tally h stands e =
-      event_taken next.Whole h e
+      event_taken next.Complete h e
       ∙ ap (λ (k : ℕ). event_of k (frames.frame_in part))
       (sym (stands.rows.rows ∙ ap length (rows_at_are catalog p p.phase (standing_after catalog asks journal).heard.awaits (frames.frame_in part) h.after.awaits)))
 
@@ -361,7 +361,7 @@ header_size kind size serial payload = length-append (frames.header_bytes kind s
 pub frame_size : (p : Pump) (bytes : List ℕ) (tally : Tally) → Stands p bytes tally → length bytes ≡ 8 + frames.size_in bytes
     → length (frames.frame_bytes (frames.frame_in bytes)) ≡ length bytes
 frame_size p bytes tally h exact_size =
-    header_size (frames.kind_of (frames.frame_in bytes)) (length (frames.payload_of (frames.frame_in bytes))) (frames.serial_of (frames.frame_in bytes)) (frames.payload_of (frames.frame_in bytes))
+    header_size (frames.frame_kind (frames.frame_in bytes)) (length (frames.payload_of (frames.frame_in bytes))) (frames.serial_of (frames.frame_in bytes)) (frames.payload_of (frames.frame_in bytes))
     ∙ (ap (λ (k : ℕ). 8 + k) (payload_size p p.phase bytes h.whole h.header) ∙ sym exact_size)
 
 -- what the events tell of the replies

@@ -4,10 +4,10 @@ use Rattle.std.specs.Prelude.{slice_get, true, false}
 use Rattle.std.proofs.lemmas.List.{drop_all, length-map}
 use Rattle.std.proofs.lemmas.Option.{slice_get-get_or}
 use Rattle.std.proofs.lemmas.Grind.{common_steps}
-use Rattle.ghost_model.specs.Cells.{cell_width}
-use Rattle.ghost_model.specs.Schema as schema
-use Rattle.ghost_model.specs.SchemaTrees.{identifier}
-use Rattle.ghost_model.specs.Values.{Rows}
+use Rattle.ghost_model.specs.forms.Cells.{cell_width}
+use Rattle.ghost_model.specs.core.Schema as schema
+use Rattle.ghost_model.specs.laws.SchemaTrees.{identifier}
+use Rattle.ghost_model.specs.core.Values.{Rows}
 use Rattle.tree_schema.specs.declared.schema.Column.{Column}
 use Rattle.tree_schema.specs.Views.{column_of}
 use Rattle.csv_split.specs.ImageLengths.{column_bytes, row_bytes, tables_bytes}

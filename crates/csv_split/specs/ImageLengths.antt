@@ -1,11 +1,11 @@
 -- How many bytes a visible image has where each row of it has a value for each visible column of its table.
 use Rattle.std.specs.Prelude.{ℕ, ◌+◌, ◌*◌, List, [], ◌∷◌, drop, length, if◌then◌else◌}
-use Rattle.ghost_model.specs.Catalog.{catalog_bytes}
-use Rattle.ghost_model.specs.Cells.{cell_width}
-use Rattle.ghost_model.specs.Channel.{Catalog}
-use Rattle.ghost_model.specs.Schema.{Schema, Column}
-use Rattle.ghost_model.specs.Split.{Public}
-use Rattle.ghost_model.specs.Values.{Rows}
+use Rattle.ghost_model.specs.forms.Catalog.{catalog_bytes}
+use Rattle.ghost_model.specs.forms.Cells.{cell_width}
+use Rattle.ghost_model.specs.core.Channel.{Catalog}
+use Rattle.ghost_model.specs.core.Schema.{Schema, Column}
+use Rattle.ghost_model.specs.core.Split.{Public}
+use Rattle.ghost_model.specs.core.Values.{Rows}
 
 -- the bytes of a column in the image's rows
 abbrev pub column_bytes : Column → ℕ

@@ -1,10 +1,10 @@
 //! The visible image: the catalog and the cells of the visible columns, row by row.
 
 ghost use Rattle.std.specs.Prelude.{◌≡◌, pos, ◌≤◌, ◌<◌, ◌*◌, ◌++◌, ◌∷◌, [], map, filter, flat_map, length, replicate, get_or, IfOk, OnOk};
-ghost use Rattle.ghost_model.specs.Catalog.{catalog_bytes};
-ghost use Rattle.ghost_model.specs.Cells as cells;
-ghost use Rattle.ghost_model.specs.Split as parts;
-ghost use Rattle.ghost_model.specs.Values.{Number, Text};
+ghost use Rattle.ghost_model.specs.forms.Catalog.{catalog_bytes};
+ghost use Rattle.ghost_model.specs.forms.Cells as cells;
+ghost use Rattle.ghost_model.specs.core.Split as parts;
+ghost use Rattle.ghost_model.specs.core.Values.{Number, Text};
 ghost use Rattle.ghost_base.specs.Views.{kind_of};
 ghost use Rattle.tree_schema.specs.Views.{column_of};
 ghost use Rattle.csv_split.specs.Cells.{values_in};
@@ -114,7 +114,7 @@ fn put_table(
     part: &Part,
     out: &mut Vec<u8>,
 ) -> Result<(), AllocError>
-    ensures { OnOk result (out.new.items ≡ out.old.items ++ flat_map (parts.cells (map parts.column_kind (filter parts.is_open (columns_of declared.now)))) part.now) }
+    ensures { OnOk result (out.new.items ≡ out.old.items ++ flat_map (parts.cells (map parts.kind_of_column (filter parts.is_open (columns_of declared.now)))) part.now) }
 {
     let kinds = visible_kinds(alloc, declared)?;
     put_rows(&kinds, part.columns(), part.rows(), out)
@@ -122,7 +122,7 @@ fn put_table(
 
 /// The kinds of the visible columns.
 fn visible_kinds(alloc: Global, declared: &[Column]) -> Result<Vec<Kind>, AllocError>
-    ensures { IfOk result (λ kinds. map kind_of kinds.items ≡ map parts.column_kind (filter parts.is_open (columns_of declared.now))) }
+    ensures { IfOk result (λ kinds. map kind_of kinds.items ≡ map parts.kind_of_column (filter parts.is_open (columns_of declared.now))) }
 {
     let mut kinds = Vec::new(alloc);
     for column in declared {
@@ -133,7 +133,7 @@ fn visible_kinds(alloc: Global, declared: &[Column]) -> Result<Vec<Kind>, AllocE
 
 /// Puts the kind of a column at the end, where the column is visible.
 fn put_kind(column: &Column, kinds: &mut Vec<Kind>) -> Result<(), AllocError>
-    ensures { OnOk result (map kind_of kinds.new.items ≡ map kind_of kinds.old.items ++ map parts.column_kind (filter parts.is_open (column_of column.now ∷ []))) }
+    ensures { OnOk result (map kind_of kinds.new.items ≡ map kind_of kinds.old.items ++ map parts.kind_of_column (filter parts.is_open (column_of column.now ∷ []))) }
 {
     if column.hidden {
         return Ok(());

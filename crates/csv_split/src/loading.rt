@@ -1,9 +1,9 @@
 //! The tables of a schema, from their files.
 
 ghost use Rattle.std.specs.Prelude.{◌≡◌, ◌<◌, ◌++◌, ◌∷◌, List, [], length, map, Err, IfErr, IfOk, OnOk, MatchResult, Some, None};
-ghost use Rattle.ghost_model.specs.Database as database;
-ghost use Rattle.ghost_model.specs.LoadFaults as faults;
-ghost use Rattle.ghost_model.specs.Schema as schemas;
+ghost use Rattle.ghost_model.specs.core.Database as database;
+ghost use Rattle.ghost_model.specs.refusals.LoadFaults as faults;
+ghost use Rattle.ghost_model.specs.core.Schema as schemas;
 ghost use Rattle.csv_split.specs.Faults.{told};
 
 use crate::faults::LoadFault;

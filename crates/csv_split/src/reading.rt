@@ -2,8 +2,8 @@
 
 ghost use Rattle.std.specs.Prelude.{◌≡◌, ◌≤◌, ◌&&◌, map, drop, IfOk, IfErr, OnOk};
 ghost use Rattle.csv.specs.Records.{fields_of};
-ghost use Rattle.ghost_model.specs.Database as database;
-ghost use Rattle.ghost_model.specs.LoadFaults as faults;
+ghost use Rattle.ghost_model.specs.core.Database as database;
+ghost use Rattle.ghost_model.specs.refusals.LoadFaults as faults;
 ghost use Rattle.csv_split.specs.Faults.{told};
 ghost use Rattle.csv_split.specs.Reading.{AreColumns, AreOfKinds, HaveAll, columns_of, with_identifier};
 ghost use Rattle.csv_split.specs.Tables.{column_values, rows_in};

@@ -1,8 +1,8 @@
 //! Whether foreign keys are identifiers of rows.
 
 ghost use Rattle.std.specs.Prelude.{◌≡◌, ◌≤◌, ◌<◌, ◌+◌, length, map};
-ghost use Rattle.ghost_model.specs.Database as database;
-ghost use Rattle.ghost_model.specs.LoadFaults as faults;
+ghost use Rattle.ghost_model.specs.core.Database as database;
+ghost use Rattle.ghost_model.specs.refusals.LoadFaults as faults;
 ghost use Rattle.ghost_base.specs.Views.{value_of};
 ghost use Rattle.tree_schema.specs.Views.{column_of};
 ghost use Rattle.csv_split.specs.Faults.{place_of, told};
@@ -51,7 +51,7 @@ fn check_row(
     identifier: Id,
 ) -> Result<(), LoadFault>
     requires { length columns.now ≤ 24 }
-    ensures judged { faults.Judges told result (faults.keys_faults tables.now at.table at.rec 0 (map column_of columns.now) (row_or_none (database.row_of tables.now at.table identifier))) }
+    ensures judged { faults.Judges told result (faults.row_reference_faults tables.now at.table at.rec 0 (map column_of columns.now) (row_or_none (database.row_of tables.now at.table identifier))) }
     ensures tells { NeverWants result }
 {
     for (i, column) in columns.iter().enumerate() {
@@ -66,7 +66,7 @@ fn check_row(
 
 /// Tells a value that is the identifier of no row of the child table, where the column is a foreign key.
 fn check_key(tables: &Tables, at: Place, identifier: Id, child: Option<u8>) -> Result<(), LoadFault>
-    ensures judged { faults.Judges told result (key_faults_in tables.now (place_of at) child (database.field tables.now at.table identifier at.column)) }
+    ensures judged { faults.Judges told result (key_faults_in tables.now (place_of at) child (database.value_at_row tables.now at.table identifier at.column)) }
     ensures tells { NeverWants result }
 {
     let Some(child) = child else {

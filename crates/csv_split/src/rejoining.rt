@@ -2,10 +2,10 @@
 
 ghost use Rattle.std.specs.Prelude.{◌≡◌, ◌++◌, ◌∷◌, [], map, drop, length, slice_get, IfOk, OnOk};
 ghost use Rattle.std.specs.Vec.Iter.{into_iter_items};
-ghost use Rattle.ghost_model.specs.Database as database;
-ghost use Rattle.ghost_model.specs.Split as parts;
-ghost use Rattle.ghost_model.specs.SplitByFlags as flags;
-ghost use Rattle.ghost_model.specs.Values as values;
+ghost use Rattle.ghost_model.specs.core.Database as database;
+ghost use Rattle.ghost_model.specs.core.Split as parts;
+ghost use Rattle.ghost_model.specs.laws.SplitByFlags as flags;
+ghost use Rattle.ghost_model.specs.core.Values as values;
 ghost use Rattle.csv_split.specs.Parts.{HaveAsMany, NextMerged, both_rejoined};
 ghost use Rattle.csv_split.specs.Reading.{columns_of, with_identifier};
 

@@ -2,9 +2,9 @@
 
 ghost use Rattle.std.specs.Prelude.{◌≡◌, ◌≤◌, ◌+◌, ◌∷◌, [], length, map, drop, get_or, pos, OnOk, IfErr};
 ghost use Rattle.csv.specs.Records.{fields_of};
-ghost use Rattle.ghost_model.specs.Database as database;
-ghost use Rattle.ghost_model.specs.LoadFaults as faults;
-ghost use Rattle.ghost_model.specs.Values.{Number};
+ghost use Rattle.ghost_model.specs.core.Database as database;
+ghost use Rattle.ghost_model.specs.refusals.LoadFaults as faults;
+ghost use Rattle.ghost_model.specs.core.Values.{Number};
 ghost use Rattle.csv_split.specs.Faults.{told};
 ghost use Rattle.csv_split.specs.Reading.{AreOfKinds, AtMost, columns_of, with_identifier, with_row};
 ghost use Rattle.csv_split.specs.Tables.{column_values};

@@ -2,8 +2,8 @@
 
 ghost use Rattle.std.specs.Prelude.{◌≡◌, ◌++◌, ◌∷◌, [], map, take, drop, length, IfOk, OnOk};
 ghost use Rattle.std.specs.Vec.Iter.{into_iter_items};
-ghost use Rattle.ghost_model.specs.Split as parts;
-ghost use Rattle.ghost_model.specs.SplitByFlags as flags;
+ghost use Rattle.ghost_model.specs.core.Split as parts;
+ghost use Rattle.ghost_model.specs.laws.SplitByFlags as flags;
 ghost use Rattle.csv_split.specs.Reading.{columns_of, with_identifier};
 
 use crate::cells::Cells;

@@ -2,7 +2,7 @@
 
 ghost use Rattle.std.specs.Prelude.{◌≡◌, ◌++◌, ◌≤◌, Some, None, length, IfOk, OnOk, OnErr, IsTrue, MatchOption, false};
 ghost use Rattle.std.specs.FinMap as map;
-ghost use Rattle.ghost_model.specs.Causes.{HasCause};
+ghost use Rattle.ghost_model.specs.core.Causes.{HasCause};
 ghost use Rattle.edge_traits.specs.Scripts.{IsFresh, IsSure};
 ghost use Rattle.edge_traits.specs.Files.{file_of, with_file, or_empty, SameBut, GivesAt};
 ghost use Rattle.edge_traits.specs.Rooms.{IsEmptyWith, HasRoomFor, KeepsRoomOf};

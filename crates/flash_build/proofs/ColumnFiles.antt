@@ -3,14 +3,14 @@ use Rattle.std.proofs.Common.{◌≡◌, refl, ap, sym, ◌∙◌, subst, ℕ, �
 use Rattle.std.specs.Prelude.{if◌then◌else◌}
 use Rattle.std.proofs.lemmas.Bool.{cases_lt}
 use Rattle.std.proofs.lemmas.Nat.{le-div}
-use Rattle.ghost_model.specs.Channel.{Catalog}
-use Rattle.ghost_model.specs.Split.{Hidden}
-use Rattle.ghost_model.specs.Runs.{Run, Stores, run_end, run_pages, per_page, pages_of}
-use Rattle.ghost_model.specs.Layout as layout
-use Rattle.ghost_model.specs.Layout.{below, is_hidden, column_file, column_pages, columns_pages, files_end, public_pages}
-use Rattle.ghost_model.specs.LayoutSums.{column_pages_before, table_begin, column_begin}
-use Rattle.ghost_model.specs.LayoutLaws.{LieAsSummed, LieInOrder, AreNarrow, SumsByPlace}
-use Rattle.ghost_model.specs.Flash.{hidden_cells}
+use Rattle.ghost_model.specs.core.Channel.{Catalog}
+use Rattle.ghost_model.specs.core.Split.{Hidden}
+use Rattle.ghost_model.specs.forms.Runs.{Run, Stores, run_end, run_pages, per_page, pages_of}
+use Rattle.ghost_model.specs.forms.Layout as layout
+use Rattle.ghost_model.specs.forms.Layout.{below, is_hidden, column_file, column_pages, columns_pages, files_end, public_pages}
+use Rattle.ghost_model.specs.laws.LayoutSums.{column_pages_before, table_begin, column_begin}
+use Rattle.ghost_model.specs.laws.LayoutLaws.{LieAsSummed, LieInOrder, AreNarrow, SumsByPlace}
+use Rattle.ghost_model.specs.forms.Flash.{hidden_cells}
 use Rattle.edge_traits.specs.Devices.{Device, Counts, ChangesOnly}
 use Rattle.edge_traits.proofs.DeviceFrames.{same_trans, changes_wider, changes_joined, counts_more}
 use Rattle.flash_pages.specs.Filling.{CanFill}

@@ -4,21 +4,21 @@ use Rattle.std.specs.Prelude.{IsTrue}
 use Rattle.std.specs.Option.{option_map_or}
 use Rattle.std.proofs.lemmas.Option.{slice_get-get_or}
 use Rattle.std.proofs.lemmas.List.{get_or-map, length-map}
-use Rattle.ghost_model.specs.Schema.{Schema, Column, Kind, column_at}
-use Rattle.ghost_model.specs.Values.{Value, Row, Rows}
-use Rattle.ghost_model.specs.Channel.{Catalog}
-use Rattle.ghost_model.specs.SchemaTrees.{IsTree}
-use Rattle.ghost_model.specs.Database.{rows_of, row_numbered, is_of_kind}
-use Rattle.ghost_model.specs.Cells.{cell_width, encode_cell}
-use Rattle.ghost_model.specs.Asks.{kind_or_none, kind_at}
-use Rattle.ghost_model.specs.Split as split
-use Rattle.ghost_model.specs.Split.{Hidden}
-use Rattle.ghost_model.specs.Replies.{hidden_places}
-use Rattle.ghost_model.specs.Layout.{is_hidden}
-use Rattle.ghost_model.specs.LayoutLaws.{AreNarrow}
-use Rattle.ghost_model.specs.Flash.{GoesWith, hidden_cells}
-use Rattle.ghost_model.specs.FlashLaws.{hidden_before, CellsFit, HiddenValuesByPlace, HiddenValuesOfDatabases, HiddenPartsGoWithCatalogs, HiddenCellsFit}
-use Rattle.ghost_model.specs.Flash.{IsHidden}
+use Rattle.ghost_model.specs.core.Schema.{Schema, Column, Kind, column_at}
+use Rattle.ghost_model.specs.core.Values.{Value, Row, Rows}
+use Rattle.ghost_model.specs.core.Channel.{Catalog}
+use Rattle.ghost_model.specs.laws.SchemaTrees.{IsTree}
+use Rattle.ghost_model.specs.core.Database.{rows_of, row_numbered, is_of_kind}
+use Rattle.ghost_model.specs.forms.Cells.{cell_width, encode_cell}
+use Rattle.ghost_model.specs.core.Asks.{kind_or_none, kind_at}
+use Rattle.ghost_model.specs.core.Split as split
+use Rattle.ghost_model.specs.core.Split.{Hidden}
+use Rattle.ghost_model.specs.core.Replies.{hidden_places}
+use Rattle.ghost_model.specs.forms.Layout.{is_hidden}
+use Rattle.ghost_model.specs.laws.LayoutLaws.{AreNarrow}
+use Rattle.ghost_model.specs.forms.Flash.{GoesWith, hidden_cells}
+use Rattle.ghost_model.specs.laws.FlashLaws.{hidden_before, CellsFit, HiddenValuesByPlace, HiddenValuesOfDatabases, HiddenPartsGoWithCatalogs, HiddenCellsFit}
+use Rattle.ghost_model.specs.forms.Flash.{IsHidden}
 use Rattle.ghost_model.proofs.LayoutLemmas.Columns.{hidden_or_none, width_or_none}
 use Rattle.flash_build.specs.Cells.{AreOfKind, cell_at, cells_at, value_at}
 

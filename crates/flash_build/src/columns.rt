@@ -1,20 +1,20 @@
 //! The column files, one by one and table by table.
 
 ghost use Rattle.std.specs.Prelude.{◌≡◌, ◌<◌, ◌≤◌, ◌+◌, ◌-◌, ℕ, true, [], length, get_or, OnOk, OnErr};
-ghost use Rattle.ghost_model.specs.Asks as asks;
-ghost use Rattle.ghost_model.specs.Causes.{HasCause};
-ghost use Rattle.ghost_model.specs.Flash.{hidden_cells};
-ghost use Rattle.ghost_model.specs.FlashLaws as laws;
-ghost use Rattle.ghost_model.specs.Layout as layout;
-ghost use Rattle.ghost_model.specs.LayoutSums as sums;
-ghost use Rattle.ghost_model.specs.Runs.{Stores};
-ghost use Rattle.ghost_model.specs.Work as work;
+ghost use Rattle.ghost_model.specs.core.Asks as asks;
+ghost use Rattle.ghost_model.specs.core.Causes.{HasCause};
+ghost use Rattle.ghost_model.specs.forms.Flash.{hidden_cells};
+ghost use Rattle.ghost_model.specs.laws.FlashLaws as laws;
+ghost use Rattle.ghost_model.specs.forms.Layout as layout;
+ghost use Rattle.ghost_model.specs.laws.LayoutSums as sums;
+ghost use Rattle.ghost_model.specs.forms.Runs.{Stores};
+ghost use Rattle.ghost_model.specs.forms.Work as work;
 ghost use Rattle.edge_traits.specs.Devices.{Counts, ChangesOnly};
 ghost use Rattle.flash_pages.specs.Filling.{CanFill};
 ghost use Rattle.ghost_base.specs.Views.{kind_of};
 ghost use Rattle.flash_build.specs.Sources.{cells_of};
 ghost use Rattle.flash_build.specs.Building.{ChangesColumns};
-ghost use Rattle.ghost_model.specs.Flash.{IsHidden};
+ghost use Rattle.ghost_model.specs.forms.Flash.{IsHidden};
 
 use crate::source::ColumnCells;
 use csv_split::Hidden;

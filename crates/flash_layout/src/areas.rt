@@ -1,9 +1,9 @@
 //! The areas of the spool and of scratch, and the pages that a device must have.
 
 ghost use Rattle.std.specs.Prelude.{◌≡◌, ◌<◌, ◌≤◌, ◌%◌, ◌^◌, length};
-ghost use Rattle.ghost_model.specs.Schema as schema;
-ghost use Rattle.ghost_model.specs.Layout as layout;
-ghost use Rattle.ghost_model.specs.LayoutSums as sums;
+ghost use Rattle.ghost_model.specs.core.Schema as schema;
+ghost use Rattle.ghost_model.specs.forms.Layout as layout;
+ghost use Rattle.ghost_model.specs.laws.LayoutSums as sums;
 ghost use Rattle.flash_pages.specs.Runs.{run_of};
 
 use crate::columns::{columns_of, rows_of, width_of};

@@ -1,8 +1,8 @@
 //! What a table has: its rows, and the widths and pages of its columns.
 
 ghost use Rattle.std.specs.Prelude.{◌≡◌, ◌<◌, ◌≤◌, true};
-ghost use Rattle.ghost_model.specs.Layout as layout;
-ghost use Rattle.ghost_model.specs.LayoutSums as sums;
+ghost use Rattle.ghost_model.specs.forms.Layout as layout;
+ghost use Rattle.ghost_model.specs.laws.LayoutSums as sums;
 
 use crate::limits::a_catalog_has_a_layout;
 use crate::runs::pages;

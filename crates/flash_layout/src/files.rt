@@ -1,8 +1,8 @@
 //! The static files, by the runs of their records.
 
 ghost use Rattle.std.specs.Prelude.{◌≡◌, ◌<◌, ◌≤◌, length, true};
-ghost use Rattle.ghost_model.specs.Layout as layout;
-ghost use Rattle.ghost_model.specs.LayoutSums as sums;
+ghost use Rattle.ghost_model.specs.forms.Layout as layout;
+ghost use Rattle.ghost_model.specs.laws.LayoutSums as sums;
 ghost use Rattle.flash_pages.specs.Runs.{run_of};
 
 use crate::columns::{column_pages_before, rows_of, width_of};

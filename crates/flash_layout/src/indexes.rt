@@ -1,8 +1,8 @@
 //! The pages of subtree key tables and indexes, and where the files of a table begin.
 
 ghost use Rattle.std.specs.Prelude.{◌≡◌, ◌<◌, ◌≤◌, length, true};
-ghost use Rattle.ghost_model.specs.Layout as layout;
-ghost use Rattle.ghost_model.specs.LayoutSums as sums;
+ghost use Rattle.ghost_model.specs.forms.Layout as layout;
+ghost use Rattle.ghost_model.specs.laws.LayoutSums as sums;
 
 use crate::columns::{columns_of, columns_pages, is_hidden, rows_of, width_of};
 use crate::limits::a_catalog_has_a_layout;

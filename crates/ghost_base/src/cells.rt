@@ -3,11 +3,11 @@
 ghost use Rattle.std.specs.Prelude.{◌≡◌, ◌≤◌, ◌++◌, ◌-◌, ◌==◌, length, replicate, IsTrue, IfSome, Some, option_map};
 ghost use Rattle.std.specs.Int.{from_be_bytes, w64};
 ghost use Rattle.std.specs.List.{list_all};
-ghost use Rattle.ghost_model.specs.Cells as cells;
-ghost use Rattle.ghost_model.specs.CellReading as reading;
-ghost use Rattle.ghost_model.specs.Tokens.{is_printable};
+ghost use Rattle.ghost_model.specs.forms.Cells as cells;
+ghost use Rattle.ghost_model.specs.readings.CellReading as reading;
+ghost use Rattle.ghost_model.specs.refusals.Tokens.{is_printable};
 ghost use Rattle.ghost_base.specs.Views.{kind_of, value_of};
-ghost use Rattle.ghost_model.specs.Database as database;
+ghost use Rattle.ghost_model.specs.core.Database as database;
 
 use crate::limits::MAX_CHARS;
 use crate::text::put_padded;

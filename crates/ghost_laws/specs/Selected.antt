@@ -2,21 +2,21 @@
 -- and its line is short. The same holds of what the key answers by replies to all asks whose cells spelled values.
 use Rattle.std.specs.Prelude.{◌≡◌, ℕ, suc, ◌≤◌, Bool, true, nat_le, List, map, length, Some, is_some, slice_get, IsTrue, Ok}
 use Rattle.std.specs.List.{list_all}
-use Rattle.ghost_model.specs.Schema.{Schema, Kind}
-use Rattle.ghost_model.specs.SchemaTrees.{IsTree}
-use Rattle.ghost_model.specs.Values.{Row, Database}
-use Rattle.ghost_model.specs.Database.{IsDatabase, row_count}
-use Rattle.ghost_model.specs.Query.{Query}
-use Rattle.ghost_model.specs.QueryMeaning.{top_of, Means}
-use Rattle.ghost_model.specs.Asks.{kind_at, kinds_of, asks_of, asked_of}
-use Rattle.ghost_model.specs.Split.{are_of_kinds}
-use Rattle.ghost_model.specs.Replies.{Reply, replies}
-use Rattle.ghost_model.specs.QueryReading.{reading}
-use Rattle.ghost_model.specs.Channel.{Catalog, Journal}
-use Rattle.ghost_model.specs.Frames.{AreBytes}
-use Rattle.ghost_model.specs.Moves.{taken}
-use Rattle.ghost_model.specs.Lines.{ended_of, all_done}
-use Rattle.ghost_model.specs.Printed.{field_text, row_line}
+use Rattle.ghost_model.specs.core.Schema.{Schema, Kind}
+use Rattle.ghost_model.specs.laws.SchemaTrees.{IsTree}
+use Rattle.ghost_model.specs.core.Values.{Row, Database}
+use Rattle.ghost_model.specs.core.Database.{IsDatabase, row_count}
+use Rattle.ghost_model.specs.core.Query.{Query}
+use Rattle.ghost_model.specs.refusals.QueryMeaning.{top_of, Means}
+use Rattle.ghost_model.specs.core.Asks.{kind_at, kinds_of, asks_of, asked_of}
+use Rattle.ghost_model.specs.core.Split.{are_of_kinds}
+use Rattle.ghost_model.specs.core.Replies.{Reply, replies}
+use Rattle.ghost_model.specs.readings.QueryReading.{reading}
+use Rattle.ghost_model.specs.core.Channel.{Catalog, Journal}
+use Rattle.ghost_model.specs.forms.Frames.{AreBytes}
+use Rattle.ghost_model.specs.core.Moves.{taken}
+use Rattle.ghost_model.specs.core.Lines.{ended_of, all_done}
+use Rattle.ghost_model.specs.core.Printed.{field_text, row_line}
 use Rattle.ghost_laws.specs.Scans.{led_value, row_along, answer_along, known_along, stands_along, known_row, known_answer}
 
 -- the kinds of the selected columns

@@ -5,13 +5,13 @@ use Rattle.std.specs.Int.{to_be_bytes, w32}
 use Rattle.std.proofs.lemmas.Bool.{and_parts, ltb-true}
 use Rattle.std.proofs.lemmas.Bool.Decides.{nat_tests}
 use Rattle.std.proofs.lemmas.Fmt.{IsAscii-decimal}
-use Rattle.ghost_model.specs.Tokens.{is_name_byte}
-use Rattle.ghost_model.specs.Spelled.{is_name}
-use Rattle.ghost_model.specs.Frames.{AreBytes}
-use Rattle.ghost_model.specs.Schema.{Integer, Chars, Kind, Column, Table, Schema, columns_or_none, column_at}
-use Rattle.ghost_model.specs.SchemaTrees.{IsTree}
-use Rattle.ghost_model.specs.Channel.{Catalog}
-use Rattle.ghost_model.specs.Catalog.{kind_text, name_or_none, table_name, reference_text, hidden_text, column_text, table_text, canonical_text, catalog_version, counts_bytes, catalog_bytes}
+use Rattle.ghost_model.specs.refusals.Tokens.{is_name_byte}
+use Rattle.ghost_model.specs.laws.Spelled.{is_name}
+use Rattle.ghost_model.specs.forms.Frames.{AreBytes}
+use Rattle.ghost_model.specs.core.Schema.{Integer, Chars, Kind, Column, Table, Schema, columns_or_none, column_at}
+use Rattle.ghost_model.specs.laws.SchemaTrees.{IsTree}
+use Rattle.ghost_model.specs.core.Channel.{Catalog}
+use Rattle.ghost_model.specs.forms.Catalog.{kind_text, name_or_none, table_name, reference_text, hidden_text, column_text, table_text, canonical_text, catalog_version, counts_bytes, catalog_bytes}
 
 no_bytes : AreBytes []
 no_bytes i = lit< tt

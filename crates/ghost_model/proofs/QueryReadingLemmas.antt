@@ -1,14 +1,14 @@
 -- That each query text has one meaning or one refusal, and that the reading tells it: the first rule that the tree of
 -- the text breaks decides.
 use Rattle.std.proofs.Common.{◌≡◌, ℕ, Bool, true, false, List, Option, Some, None, Result, Ok, Err, ◌⊎◌, inl, inr, refl, sym, ap, subst, ◌∙◌}
-use Rattle.ghost_model.specs.Schema.{Schema}
-use Rattle.ghost_model.specs.Query.{Query}
-use Rattle.ghost_model.specs.QueryGrammar.{QueryText}
-use Rattle.ghost_model.specs.QueryPlaces.{syntax_of}
-use Rattle.ghost_model.specs.Rules.{first_broken, MeetsAll, BreaksFirst}
-use Rattle.ghost_model.specs.QueryMeaning.{Refusal, Syntax, Limit, UnknownTable, UnknownColumn, Ambiguous, KindMismatch, BadLiteral, NotLinked, is_over_limit, has_unknown_table, has_unknown_column, is_ambiguous, has_kind_mismatch, has_bad_literal, is_unlinked, rules, resolved, Means, BreaksRule, IsRefused}
-use Rattle.ghost_model.specs.QueryReading.{query_unless, judged, reading}
-use Rattle.ghost_model.specs.QueryLaws.{HasOneMeaning, HasOneRefusal}
+use Rattle.ghost_model.specs.core.Schema.{Schema}
+use Rattle.ghost_model.specs.core.Query.{Query}
+use Rattle.ghost_model.specs.refusals.QueryGrammar.{QueryText}
+use Rattle.ghost_model.specs.readings.QueryPlaces.{syntax_of}
+use Rattle.ghost_model.specs.refusals.Rules.{first_broken, MeetsAll, BreaksFirst}
+use Rattle.ghost_model.specs.refusals.QueryMeaning.{Refusal, Syntax, Limit, UnknownTable, UnknownColumn, Ambiguous, KindMismatch, BadLiteral, NotLinked, is_over_limit, has_unknown_table, has_unknown_column, is_ambiguous, has_kind_mismatch, has_bad_literal, is_unlinked, rules_of_queries, resolved, Means, BreaksRule, IsRefused}
+use Rattle.ghost_model.specs.readings.QueryReading.{query_unless, judged, reading}
+use Rattle.ghost_model.specs.laws.QueryLaws.{HasOneMeaning, HasOneRefusal}
 use Rattle.ghost_model.proofs.RuleLemmas.{kept_and, other_if}
 use Rattle.ghost_model.proofs.QueryLemmas.{tree_spells, spelled_tree, stop_fault, fault_stop}
 
@@ -22,7 +22,7 @@ pub record KeptRules (schema : Schema) (text : List ℕ) (tree : QueryText) : Ty
   pub literals : has_bad_literal schema tree ≡ false
   pub linked : is_unlinked schema (resolved schema tree) ≡ false
 
-pub kept_rules : (schema : Schema) (text : List ℕ) (tree : QueryText) → MeetsAll (rules schema text tree) → KeptRules schema text tree
+pub kept_rules : (schema : Schema) (text : List ℕ) (tree : QueryText) → MeetsAll (rules_of_queries schema text tree) → KeptRules schema text tree
 kept_rules schema text tree e =
     let a = kept_and (is_over_limit schema text tree) Limit _ e in
     let b = kept_and (has_unknown_table schema tree) UnknownTable _ a.1 in
@@ -34,7 +34,7 @@ kept_rules schema text tree e =
     record { limits = a.0; tables = b.0; columns = c.0; one_meaning = d.0; kinds = f.0; literals = g.0; linked = h.0 }
 
 -- no rule is the one of the grammar
-no_syntax : (schema : Schema) (text : List ℕ) (tree : QueryText) (at : ℕ) → BreaksFirst (rules schema text tree) (Syntax at) → ⊥
+no_syntax : (schema : Schema) (text : List ℕ) (tree : QueryText) (at : ℕ) → BreaksFirst (rules_of_queries schema text tree) (Syntax at) → ⊥
 no_syntax schema text tree at =
     other_if (is_over_limit schema text tree) Limit (Syntax at) _ (λ e. absurd (cc))
     (other_if (has_unknown_table schema tree) UnknownTable (Syntax at) _ (λ e. absurd (cc))
@@ -54,7 +54,7 @@ module _ (schema : Schema) (text : List ℕ) where
   Holds (Ok query) = Means schema text query
   Holds (Err refusal) = IsRefused schema text refusal
 
-  judged_holds : (tree : QueryText) → syntax_of text ≡ Ok tree → (o : Option Refusal) → first_broken (rules schema text tree) ≡ o
+  judged_holds : (tree : QueryText) → syntax_of text ≡ Ok tree → (o : Option Refusal) → first_broken (rules_of_queries schema text tree) ≡ o
       → Holds (query_unless (resolved schema tree) o)
   unfolding Holds
   judged_holds tree is None found = record { tree = tree; spells = tree_spells text tree is; keeps = found; means = refl }
@@ -64,7 +64,7 @@ module _ (schema : Schema) (text : List ℕ) where
   reading_holds : Holds (reading schema text)
   unfolding Holds
   reading_holds = elim (syntax_of text) as (λ r. syntax_of text ≡ r → Holds (judged schema text r)) [
-    | Ok tree ↦ (λ is. judged_holds tree is (first_broken (rules schema text tree)) refl)
+    | Ok tree ↦ (λ is. judged_holds tree is (first_broken (rules_of_queries schema text tree)) refl)
     | Err at ↦ (λ is. stop_fault text at is)
   ] refl
 
@@ -76,7 +76,7 @@ module _ (schema : Schema) (text : List ℕ) where
   unfolding Holds
   refused_of refusal is = subst Holds is reading_holds
 
-  judged_as : (tree : QueryText) (o : Option Refusal) → syntax_of text ≡ Ok tree → first_broken (rules schema text tree) ≡ o
+  judged_as : (tree : QueryText) (o : Option Refusal) → syntax_of text ≡ Ok tree → first_broken (rules_of_queries schema text tree) ≡ o
       → reading schema text ≡ query_unless (resolved schema tree) o
   judged_as tree o is found = ap (judged schema text) is ∙ ap (query_unless (resolved schema tree)) found
 

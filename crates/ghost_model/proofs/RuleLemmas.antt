@@ -1,7 +1,7 @@
 -- Rules in their order: what is so where all are met, and what no rule finds.
 use Rattle.std.proofs.Common.{◌≡◌, Bool, true, false, Option, Some, None, option_map, refl}
 use Rattle.std.specs.Option.{option_or}
-use Rattle.ghost_model.specs.Rules.{broken_if}
+use Rattle.ghost_model.specs.refusals.Rules.{broken_if}
 
 -- a rule that is met, and the rules after it
 pub both_none : {X : Type 0} (a b : Option X) → option_or a b ≡ None → (a ≡ None) × (b ≡ None)

@@ -3,16 +3,16 @@ use Rattle.std.proofs.Common.{◌≡◌, ◌≢◌, ◌⊎◌, inl, inr, ℕ, ze
 use Rattle.std.specs.List.{list_any}
 use Rattle.std.proofs.lemmas.Bool.Decides.{Decides-eqb, Decides-ltb}
 use Rattle.std.proofs.lemmas.Bool.{cases_order, cases_lt, or_right}
-use Rattle.ghost_model.specs.Schema.{Schema, Table, places_from, places_of, first_of, is_table, parent, keys_to, is_empty}
-use Rattle.ghost_model.specs.Rules.{broken_if, first_broken, MeetsAll, BreaksFirst}
-use Rattle.ghost_model.specs.Grammar.{Spells}
-use Rattle.ghost_model.specs.SchemaGrammar.{SchemaText, spelling}
-use Rattle.ghost_model.specs.SchemaPlaces.{syntax_of}
-use Rattle.ghost_model.specs.SchemaMeaning.{schema_of}
-use Rattle.ghost_model.specs.SchemaFaults.{SchemaFault, Syntax, Limit, DuplicateName, NoId, UnknownTable, TwoParents, Cycle, NotOneRoot, is_over, is_duplicate, lacks_id, is_unknown, is_shared, ancestor, returns, roots_of, fields, duplicate_at, unknown_at, wrong_roots, rules, MeansSchema, HasFault, IsSchemaFault}
-use Rattle.ghost_model.specs.SchemaReading.{schema_or, judged, schema_reading}
-use Rattle.ghost_model.specs.SchemaTrees.{Returns}
-use Rattle.ghost_model.specs.SchemaLaws.{OneSchemaReading}
+use Rattle.ghost_model.specs.core.Schema.{Schema, Table, places_from, places_of, first_of, is_table, parent, references_to, is_empty}
+use Rattle.ghost_model.specs.refusals.Rules.{broken_if, first_broken, MeetsAll, BreaksFirst}
+use Rattle.ghost_model.specs.refusals.Grammar.{Spells}
+use Rattle.ghost_model.specs.refusals.SchemaGrammar.{SchemaText, spelling}
+use Rattle.ghost_model.specs.readings.SchemaPlaces.{syntax_of}
+use Rattle.ghost_model.specs.refusals.SchemaMeaning.{schema_of}
+use Rattle.ghost_model.specs.refusals.SchemaFaults.{SchemaFault, Syntax, Limit, DuplicateName, NoId, UnknownTable, TwoParents, Cycle, NotOneRoot, is_over, is_duplicate, lacks_id, is_unknown, is_shared, ancestor, returns, roots_of, fields, duplicate_at, unknown_at, wrong_roots, rules_of_schemas, MeansSchema, HasFault, IsSchemaFault}
+use Rattle.ghost_model.specs.readings.SchemaReading.{schema_or, judged, schema_reading}
+use Rattle.ghost_model.specs.laws.SchemaTrees.{Returns}
+use Rattle.ghost_model.specs.laws.SchemaLaws.{OneSchemaReading}
 use Rattle.ghost_model.proofs.RuleLemmas.{both_none, not_broken, other_if, other_mapped}
 use Rattle.ghost_model.proofs.SchemaLemmas.{schema_places}
 
@@ -37,7 +37,7 @@ pub record KeptRules (tables : SchemaText) : Type 0 where
   pub cycles : find (returns (schema_of tables)) (places_of tables) ≡ None
   pub root : roots_of (schema_of tables) ≡ 1
 
-pub kept_rules : (tables : SchemaText) → MeetsAll (rules tables) → KeptRules tables
+pub kept_rules : (tables : SchemaText) → MeetsAll (rules_of_schemas tables) → KeptRules tables
 kept_rules tables e =
     let a = both_none (broken_if (is_over tables) Limit) _ e in
     let b = both_none (option_map duplicate_at (find (is_duplicate tables) (fields tables))) _ a.1 in
@@ -58,7 +58,7 @@ kept_rules tables e =
 
 -- no rule finds a fault of the grammar
 
-no_syntax : (tables : SchemaText) (at : ℕ) → BreaksFirst (rules tables) (Syntax at) → ⊥
+no_syntax : (tables : SchemaText) (at : ℕ) → BreaksFirst (rules_of_schemas tables) (Syntax at) → ⊥
 no_syntax tables at =
     other_if (is_over tables) Limit (Syntax at) _ (λ e. absurd (cc))
     (other_mapped duplicate_at (find (is_duplicate tables) (fields tables)) (Syntax at) _ (λ x e. absurd (cc))
@@ -114,7 +114,7 @@ first_place test (x ∷ xs) at p e = first_by test xs at p (test x) e (first_pla
 
 pub parent_below : (schema : Schema) (table p : ℕ) → parent schema table ≡ Some p → p < length schema
 parent_below schema table p e =
-    let h = first_place (λ (other : Table). not (is_empty (keys_to table other))) schema 0 p e in omega arith
+    let h = first_place (λ (other : Table). not (is_empty (references_to table other))) schema 0 p e in omega arith
 
 -- steps on the way to a table lead to tables
 pub one_less : (o : Option ℕ) (f : ℕ → Option ℕ) (x : ℕ) → option_and_then f o ≡ Some x → (y : ℕ) × (o ≡ Some y) × (f y ≡ Some x)
@@ -330,7 +330,7 @@ as_fault text f b = b
 means_by : (text : List ℕ) (schema : Schema) (syntax : Result SchemaText ℕ) → syntax_of text ≡ syntax → judged syntax ≡ Ok schema → MeansSchema text schema
 means_by text schema (Err at) e h = absurd (cc)
 means_by text schema (Ok tables) e h =
-    let r = reads_schema tables schema (first_broken (rules tables)) h in
+    let r = reads_schema tables schema (first_broken (rules_of_schemas tables)) h in
     record { tables = tables; spells = (schema_places.tree text tables).0 e; obeys = r.0; means = r.1 }
 
 fault_by : (text : List ℕ) (f : SchemaFault) (syntax : Result SchemaText ℕ) → syntax_of text ≡ syntax → judged syntax ≡ Err f → IsSchemaFault text f
@@ -339,7 +339,7 @@ fault_by text f (Ok tables) e h =
     as_fault text f (record {
       tables = tables;
       spells = (schema_places.tree text tables).0 e;
-      breaks = reads_fault tables f (first_broken (rules tables)) h;
+      breaks = reads_fault tables f (first_broken (rules_of_schemas tables)) h;
     })
 
 some_answer : (text : List ℕ) (answer : Result Schema SchemaFault) → schema_reading text ≡ answer

@@ -1,6 +1,6 @@
 //! Laws and examples of canonical texts and catalogs.
 
-ghost use Rattle.ghost_model.specs.CatalogLaws.{CanonicalTextMeansItsSchema, ACatalogOfEachText, NoCatalogIsLong, CatalogsAreBytes, CatalogsHaveOneSpelling};
+ghost use Rattle.ghost_model.specs.laws.CatalogLaws.{CanonicalTextMeansItsSchema, ACatalogOfEachText, NoCatalogIsLong, CatalogsAreBytes, CatalogsHaveOneSpelling};
 ghost use Rattle.ghost_model.specs.examples.Catalogs.{CatalogsOfExamples, BytesOfCatalogs};
 
 /// The canonical text of a schema that a text means is a text that means it too.

@@ -1,7 +1,7 @@
 //! Laws and examples of frames, asks, journals and of what the host sends.
 
-ghost use Rattle.ghost_model.specs.ChannelLaws.{FramesArePrefixFree, FramesHaveOneSpelling, AsksHaveOneSpelling, AsksAreVisible, AsksAreProper, AsksAreFew, RowsHaveOneSpelling, TwoWorlds, ReceivedIsSpelled, AwaitedIsHeard, SentIsDue};
-ghost use Rattle.ghost_model.specs.HostLaws.{FramesAreCut, HostIsHonest, NothingIsLost, GreetingsAreHeard, RepliesAreHeard, HonestStreamsAreHeard};
+ghost use Rattle.ghost_model.specs.laws.ChannelLaws.{FramesArePrefixFree, FramesHaveOneSpelling, AsksHaveOneSpelling, AsksAreVisible, AsksAreProper, AsksAreFew, RowsHaveOneSpelling, TwoWorlds, ReceivedIsSpelled, AwaitedIsHeard, SentIsDue};
+ghost use Rattle.ghost_model.specs.laws.HostLaws.{FramesAreCut, HostIsHonest, NothingIsLost, GreetingsAreHeard, RepliesAreHeard, HonestStreamsAreHeard};
 ghost use Rattle.ghost_model.specs.examples.Channel.{SpellingsOfFrames, ReadingsOfFrames, JournalOfTheNotes, AsksOfQueries, AsksOfBytes, JournalOfTheClinic, JournalWithoutAsks, JournalsOfAsks, JournalsCutShort, JournalInSingleBytes, InvalidFrames, FramesThatAreDue, AnswersOfTheHost};
 
 /// No frame's spelling is a proper prefix of another's.

@@ -1,7 +1,7 @@
 //! Examples and laws of what the flash holds.
 
-ghost use Rattle.ghost_model.specs.FlashLaws.{HiddenValuesByPlace, HiddenPartsGoWithCatalogs, HiddenCellsFit, HiddenCellsOfDatabases, RowsLeadByHiddenValues, HiddenValuesOfDatabases, ColumnFilesGiveValues, HoldingsAreKept, RecordsAreAsWide};
-ghost use Rattle.ghost_model.specs.ListLaws.{ListsPartition, IdListsPartition};
+ghost use Rattle.ghost_model.specs.laws.FlashLaws.{HiddenValuesByPlace, HiddenPartsGoWithCatalogs, HiddenCellsFit, HiddenCellsOfDatabases, RowsLeadByHiddenValues, HiddenValuesOfDatabases, ColumnFilesGiveValues, HoldingsAreKept, RecordsAreAsWide};
+ghost use Rattle.ghost_model.specs.laws.ListLaws.{ListsPartition, IdListsPartition};
 ghost use Rattle.ghost_model.specs.examples.Slots.{RangesOfSlots, OrderOfSlots, DamagedSlots};
 ghost use Rattle.ghost_model.specs.examples.Flash.{CellsOfTheClinic, IndexesOfTheClinic, PagesOfTheClinic};
 

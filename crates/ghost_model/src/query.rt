@@ -1,6 +1,6 @@
 //! Laws and examples of query texts.
 
-ghost use Rattle.ghost_model.specs.QueryLaws.{QueryPlacesAreExact, OneReading};
+ghost use Rattle.ghost_model.specs.laws.QueryLaws.{QueryPlacesAreExact, OneReading};
 ghost use Rattle.ghost_model.specs.examples.Queries.{ClinicQueries, LimitsOfQueries, OneRefusalEach, QueryRulesInOrder, QuerySpellings, QuerySyntaxFaults, RelationsOfQueries};
 
 /// Following the places of the grammar tells exactly the trees of texts, and exactly their syntax faults.

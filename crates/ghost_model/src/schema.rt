@@ -1,7 +1,7 @@
 //! Laws and examples of schemas and the texts that declare them.
 
-ghost use Rattle.ghost_model.specs.SchemaLaws.{SchemaPlacesAreExact, ReturnsAreShort, OneSchemaReading};
-ghost use Rattle.ghost_model.specs.SchemaTrees.{SchemasAreTrees};
+ghost use Rattle.ghost_model.specs.laws.SchemaLaws.{SchemaPlacesAreExact, ReturnsAreShort, OneSchemaReading};
+ghost use Rattle.ghost_model.specs.laws.SchemaTrees.{SchemasAreTrees};
 ghost use Rattle.ghost_model.specs.examples.Schemas.{SchemasOfTexts, RelationsOfSchemas, SyntaxFaultsOfSchemas, LimitsOfSchemas, NamesOfSchemas, TreesOfSchemas};
 
 /// The places between the tokens of a schema's text say of each text what the grammar says.

@@ -1,10 +1,10 @@
 -- How a call of the host's program went: how far it came, what it printed, and how it ended.
 use Rattle.std.specs.Prelude.{◌≡◌, ◌⊎◌, ℕ, false, List, [], ◌∷◌, ◌++◌, Option, None, codes, decimal}
-use Rattle.ghost_model.specs.Causes.{Rose}
-use Rattle.ghost_model.specs.Channel.{Catalog, Journal, Listen, Accept, Made, Port, Failed}
-use Rattle.ghost_model.specs.Host.{Holding, host_of, bad_request}
-use Rattle.ghost_model.specs.Moves.{taken}
-use Rattle.ghost_model.specs.Split.{Public, SpellsImage}
+use Rattle.ghost_model.specs.core.Causes.{Rose}
+use Rattle.ghost_model.specs.core.Channel.{Catalog, Journal, Listen, Accept, Made, Port, Failed}
+use Rattle.ghost_model.specs.core.Host.{Holding, host_of, bad_request}
+use Rattle.ghost_model.specs.core.Moves.{taken}
+use Rattle.ghost_model.specs.core.Split.{Public, SpellsImage}
 use Rattle.edge_traits.specs.Links.{entry}
 use Rattle.edge_traits.specs.Written.{grown, GrowsByFront}
 use Rattle.host_exec.specs.Sessions.{Serves, closed, has_stopped}

@@ -1,10 +1,10 @@
 //! The whole call of the host's program.
 
 ghost use Rattle.std.specs.Prelude.{◌≡◌, ◌≤◌, ◌⊎◌, ℕ, List, [], Some, None, true, false, map, string_bytes};
-ghost use Rattle.ghost_model.specs.Causes.{Rose};
-ghost use Rattle.ghost_model.specs.Channel.{Catalog};
-ghost use Rattle.ghost_model.specs.Host.{host_of};
-ghost use Rattle.ghost_model.specs.Split.{Public, SpellsImage};
+ghost use Rattle.ghost_model.specs.core.Causes.{Rose};
+ghost use Rattle.ghost_model.specs.core.Channel.{Catalog};
+ghost use Rattle.ghost_model.specs.core.Host.{host_of};
+ghost use Rattle.ghost_model.specs.core.Split.{Public, SpellsImage};
 ghost use Rattle.edge_traits.specs.Files.{file_of};
 ghost use Rattle.host_exec.specs.Checked.{IsNoImage};
 ghost use Rattle.host_exec.specs.Hosts.{name_of};

@@ -4,12 +4,12 @@ use Rattle.std.specs.List.{concat}
 use Rattle.std.proofs.Math.Seq.{drop-append_seam}
 use Rattle.std.proofs.lemmas.Grind.{flat_map-append}
 use Rattle.std.proofs.lemmas.List.{length-drop, drop-drop, nil_from_length}
-use Rattle.ghost_model.specs.Channel.{Frame, Entry, Journal}
-use Rattle.ghost_model.specs.Frames.{Got, Found, Short, Bad, IsFrame, frame_bytes, got_of, kind_of}
-use Rattle.ghost_model.specs.Host.{Holding, Stand, Response, reply_to, answers_ask, goes_on, after_reply, said_to, said_with, frames_of, frames_within, frame_and, bad_from, bad_rest, unless_over, refused_or, answer_to, host_sends, bad_request, answer_as, bad_with_refusals, said_with_refusals}
-use Rattle.ghost_model.specs.Host as host
-use Rattle.ghost_model.specs.Moves.{taken, sent, piece_of, sent_by}
-use Rattle.ghost_model.specs.NextMove.{InvalidFrame, is_stop}
+use Rattle.ghost_model.specs.core.Channel.{Frame, Entry, Journal}
+use Rattle.ghost_model.specs.forms.Frames.{Got, Found, Short, Bad, IsFrame, frame_bytes, got_of, frame_kind}
+use Rattle.ghost_model.specs.core.Host.{Holding, Stand, Response, reply_to, answers_ask, goes_on, after_reply, said_to, said_with, frames_of, frames_within, frame_and, bad_from, bad_rest, unless_over, refused_or, answer_to, host_sends, bad_request, answer_as, bad_with_refusals, said_with_refusals}
+use Rattle.ghost_model.specs.core.Host as host
+use Rattle.ghost_model.specs.core.Moves.{taken, sent, piece_of, sent_by}
+use Rattle.ghost_model.specs.core.NextMove.{InvalidFrame, is_stop}
 use Rattle.ghost_model.proofs.ChannelLemmas.{spelled_is_found}
 use Rattle.host_exec.specs.Saying.{Source, Stands}
 use Rattle.host_exec.specs.Hosts.{StandsAs}
@@ -154,7 +154,7 @@ bad_first held stand at this later frame more answered fits answer =
     ∙ over_or held stand this frame answered _ answer))
 
 bad_here : (held : Holding) (stand : Stand) (at : ℕ) (frame : Frame) → IsFrame frame → answer_to held stand frame ≡ None → (stand ≡ host.Over → ⊥)
-    → bad_in held stand at (frame_bytes frame) ≡ Some (invalid (kind_of frame) at)
+    → bad_in held stand at (frame_bytes frame) ≡ Some (invalid (frame_kind frame) at)
 unfolding bad_with_refusals frames_within
 bad_here held stand at frame fits none on =
     ap (bad_in held stand at) (sym (append-nil (frame_bytes frame)))
@@ -176,7 +176,7 @@ rule_broken held stand bytes kind bad = record {
 }
 
 -- a frame out of its place
-pub out_of_place : (held : Holding) (stand : Stand) (bytes : List ℕ) (frame : Frame) (kind : ℕ) → IsFrame frame → bytes ≡ frame_bytes frame → kind ≡ kind_of frame
+pub out_of_place : (held : Holding) (stand : Stand) (bytes : List ℕ) (frame : Frame) (kind : ℕ) → IsFrame frame → bytes ≡ frame_bytes frame → kind ≡ frame_kind frame
     → answer_to held stand frame ≡ None → IsRefused held stand bytes kind
 out_of_place held stand bytes frame kind fits spelled is none = record {
   silent = ap (sends_from held stand) spelled ∙ sends_none held stand frame fits none;

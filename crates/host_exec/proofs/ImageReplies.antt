@@ -5,13 +5,13 @@ use Rattle.std.specs.List.{list_all}
 use Rattle.std.specs.Cmp.{first_so, second_so}
 use Rattle.std.proofs.lemmas.List.{length-drop, drop-drop}
 use Rattle.std.proofs.Math.Seq.{take-append_seam, drop-append_seam}
-use Rattle.ghost_model.specs.Schema.{Schema, Column, Kind, columns_of, column_at, is_visible, is_shown}
-use Rattle.ghost_model.specs.Values.{Value, Text, Row, Rows}
-use Rattle.ghost_model.specs.Cells.{cell_width, encode_cell}
-use Rattle.ghost_model.specs.Database.{is_of_kind, meets}
-use Rattle.ghost_model.specs.Channel.{Ask, Test}
-use Rattle.ghost_model.specs.Asks.{ReplyRow, kind_at, kind_or_none, is_proper_ask}
-use Rattle.ghost_model.specs.Split.{is_open, column_kind, value_at, asked_value, cells, are_of_kinds, meets_test, meets_tests, visible_places, replies_from, replied, reply_row}
+use Rattle.ghost_model.specs.core.Schema.{Schema, Column, Kind, columns_of, column_at, is_visible, is_shown}
+use Rattle.ghost_model.specs.core.Values.{Value, Text, Row, Rows}
+use Rattle.ghost_model.specs.forms.Cells.{cell_width, encode_cell}
+use Rattle.ghost_model.specs.core.Database.{is_of_kind, meets}
+use Rattle.ghost_model.specs.core.Channel.{Ask, Test}
+use Rattle.ghost_model.specs.core.Asks.{RowCells, kind_at, kind_or_none, is_proper_ask}
+use Rattle.ghost_model.specs.core.Split.{is_open, kind_of_column, value_at, asked_value, cells, are_of_kinds, meets_test, meets_tests, visible_places, replies_from, replied, reply_row}
 use Rattle.ghost_base.specs.CellLaws.{byte_order}
 use Rattle.ghost_base.proofs.CellOrders.{cell_order}
 use Rattle.host_exec.specs.RowBytes.{Form, Span, ByteTest, cut, passes, width_before, data_columns, row_width, span_of, test_of, form_of, window, row_at, replies_at}
@@ -48,7 +48,7 @@ module _ (schema : Schema) (table : ℕ) where
       let s = shown_of schema table column v in
       let there : slice_get (data_columns schema table) (column - 1) ≡ Some s.declared = sym (behind_first (columns_of schema table) column s.some) ∙ s.there in
       let c = cell_at 1 (data_columns schema table) row s.declared (column - 1) there s.shown k in
-      let kind : column_kind s.declared ≡ kind_at schema table column = sym (ap kind_or_none s.there) in
+      let kind : kind_of_column s.declared ≡ kind_at schema table column = sym (ap kind_or_none s.there) in
       let place : 1 + (column - 1) ≡ column = omega (arith, s.some) in
       record {
         value = c.value;
@@ -128,9 +128,9 @@ no_reply : (identifier : ℕ) (places : List ℕ) (ask : Ask) → replies_from i
 unfolding replies_from
 no_reply identifier places ask = refl
 
-same_branch : (schema : Schema) (ask : Ask) (one : ReplyRow) (reply : _) (later : List ReplyRow) (replies : List _) (b : Bool) → one ≡ reply_row schema ask reply → later ≡ map (reply_row schema ask) replies
+same_branch : (schema : Schema) (ask : Ask) (one : RowCells) (reply : _) (later : List RowCells) (replies : List _) (b : Bool) → one ≡ reply_row schema ask reply → later ≡ map (reply_row schema ask) replies
     → (if b then one ∷ later else later) ≡ map (reply_row schema ask) (if b then reply ∷ replies else replies)
-same_branch schema ask one reply later replies true p q = ap₂ (λ (x : ReplyRow) (xs : List ReplyRow). x ∷ xs) p q
+same_branch schema ask one reply later replies true p q = ap₂ (λ (x : RowCells) (xs : List RowCells). x ∷ xs) p q
 same_branch schema ask one reply later replies false p q = q
 
 pub image_replies : (schema : Schema) (ask : Ask) (file rest : List ℕ) (start place : ℕ) (all : Rows) → is_proper_ask schema ask ≡ true
@@ -161,5 +161,5 @@ image_replies schema ask file rest start place (row ∷ all) p e k =
     (image_replies schema ask file rest start (place + 1) all p further (λ at r h. k (suc at) r h))
     ∙ ap (map (reply_row schema ask)) (sym (next_reply (place + 1) (visible_places schema ask.table) ask row all)))
   where
-    reply_with : ℕ → List ℕ → ReplyRow
+    reply_with : ℕ → List ℕ → RowCells
     reply_with identifier bytes = record { identifier = identifier; cells = bytes }

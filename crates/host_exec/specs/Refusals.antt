@@ -1,9 +1,9 @@
 -- What a host sends for the bytes of a key where its file cannot be read at times.
 use Rattle.std.specs.Prelude.{ℕ, suc, Bool, true, false, List, [], ◌∷◌, length, drop, flat_map, Option, MatchOption, ⊤}
-use Rattle.ghost_model.specs.Channel.{Frame}
-use Rattle.ghost_model.specs.Frames.{frame_bytes}
-use Rattle.ghost_model.specs.Host.{Holding, Stand, Greeting, answer_as, said_with_refusals, bad_with_refusals, frames_of}
-use Rattle.ghost_model.specs.NextMove.{InvalidFrame}
+use Rattle.ghost_model.specs.core.Channel.{Frame}
+use Rattle.ghost_model.specs.forms.Frames.{frame_bytes}
+use Rattle.ghost_model.specs.core.Host.{Holding, Stand, Greeting, answer_as, said_with_refusals, bad_with_refusals, frames_of}
+use Rattle.ghost_model.specs.core.NextMove.{InvalidFrame}
 
 -- how many answers are refused
 abbrev pub times : (refused : List Bool) → ℕ

@@ -1,8 +1,8 @@
 //! How a frame of the key is answered.
 
 ghost use Rattle.std.specs.Prelude.{◌≡◌, ◌≤◌, ◌<◌, ◌^◌, ℕ, List, Some, None, length, slice_index, IfSome, IfNone, All, true};
-ghost use Rattle.ghost_model.specs.Channel as channel;
-ghost use Rattle.ghost_model.specs.AskReading as reading;
+ghost use Rattle.ghost_model.specs.core.Channel as channel;
+ghost use Rattle.ghost_model.specs.readings.AskReading as reading;
 ghost use Rattle.channel_codec.specs.Views.{frame_view};
 ghost use Rattle.host_exec.specs.Saying as saying;
 ghost use Rattle.host_exec.specs.RowBytes.{form_of};

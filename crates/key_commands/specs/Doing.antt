@@ -1,7 +1,7 @@
 -- What each command did, by its words and its outcome: all that it answers for, from what it found to what it left.
 use Rattle.std.specs.Prelude.{◌≡◌, ◌≤◌, ◌⊎◌, ℕ, Bool, true, false, min, List, [], Option, Some, Result, Ok, Err, IfOk, IfErr, OnErr}
-use Rattle.ghost_model.specs.Causes.{Rose, last_count}
-use Rattle.ghost_model.specs.Channel.{Catalog, Journal}
+use Rattle.ghost_model.specs.core.Causes.{Rose, last_count}
+use Rattle.ghost_model.specs.core.Channel.{Catalog, Journal}
 use Rattle.edge_traits.specs.Devices.{Device}
 use Rattle.edge_traits.specs.Files.{Files, SameBut}
 use Rattle.key_words.specs.Words.{Plain, Load, Local, Query}

@@ -1,12 +1,12 @@
 -- Which slot a call blames.
 use Rattle.std.proofs.Common.{◌≡◌, ◌≤◌, ◌<◌, ◌-◌, ◌∙◌, inl, ℕ, Bool, true, false, List, None, ap, sym, subst, Result, Ok, Err, arith}
 use Rattle.std.specs.Prelude.{IfErr, is_some}
-use Rattle.ghost_model.specs.Values.{Value}
-use Rattle.ghost_model.specs.Channel.{Catalog}
-use Rattle.ghost_model.specs.Asks.{kind_at}
-use Rattle.ghost_model.specs.Runs.{Run, page_of, slot_of, record_at, found_in}
-use Rattle.ghost_model.specs.Layout.{is_hidden, count_of, column_file}
-use Rattle.ghost_model.specs.Slots.{Cells, may_stand, spelled}
+use Rattle.ghost_model.specs.core.Values.{Value}
+use Rattle.ghost_model.specs.core.Channel.{Catalog}
+use Rattle.ghost_model.specs.core.Asks.{kind_at}
+use Rattle.ghost_model.specs.forms.Runs.{Run, page_of, slot_of, record_at, found_in}
+use Rattle.ghost_model.specs.forms.Layout.{is_hidden, count_of, column_file}
+use Rattle.ghost_model.specs.forms.Slots.{Cells, may_stand, spelled}
 use Rattle.flash_pages.specs.Runs.{run_of}
 use Rattle.edge_traits.specs.Devices.{Device, KeepsPages}
 use Rattle.flash_pages.specs.declared.fault.PageFault.{PageFault}

@@ -1,8 +1,8 @@
 -- Files that are read one after another, each judged before the next one, are answered by the first load fault of all of
 -- them: where the files of a schema's tables are all there, they spell tables exactly where there is no such fault.
 use Rattle.std.specs.Prelude.{◌≡◌, ℕ, List, [], Option, Some, None}
-use Rattle.ghost_model.specs.Schema.{Schema}
-use Rattle.ghost_model.specs.LoadFaults.{LoadFault, load_fault}
+use Rattle.ghost_model.specs.core.Schema.{Schema}
+use Rattle.ghost_model.specs.refusals.LoadFaults.{LoadFault, load_fault}
 use Rattle.edge_traits.specs.Files.{Files}
 use Rattle.key_inputs.specs.Openings.{Opening, Spelled, Broken, TableRule, TablesInput, tables_from}
 use Rattle.key_inputs.specs.Views.{AreFiles}

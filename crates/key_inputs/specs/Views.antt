@@ -1,10 +1,10 @@
 -- What the results of an opening tell.
 use Rattle.std.specs.Prelude.{◌≡◌, ℕ, List, [], length, slice_get, map as each, Option, Some, None, Result, Ok, Err, ⊤}
 use Rattle.std.specs.FinMap as map
-use Rattle.ghost_model.specs.LoadFaults as load
-use Rattle.ghost_model.specs.Database.{database_of, rows_spelled}
-use Rattle.ghost_model.specs.Schema.{Schema, Table, Column, columns_of}
-use Rattle.ghost_model.specs.Values.{Rows, Database}
+use Rattle.ghost_model.specs.refusals.LoadFaults as load
+use Rattle.ghost_model.specs.core.Database.{database_of, rows_spelled}
+use Rattle.ghost_model.specs.core.Schema.{Schema, Table, Column, columns_of}
+use Rattle.ghost_model.specs.core.Values.{Rows, Database}
 use Rattle.edge_traits.specs.Files.{Files, HasFile}
 use Rattle.key_inputs.specs.Openings.{InputFault, SchemaBytes, SchemaRule, TableRule, ScriptBytes, ScriptTexts, Opening, Spelled, Broken, TablesInput, on_table, table_file, after_tables, tables_from, tables_opening}
 use Rattle.key_inputs.specs.Rules.{schema_rule, table_rule}

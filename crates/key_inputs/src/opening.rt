@@ -1,14 +1,14 @@
 //! The reading of inputs.
 
 ghost use Rattle.std.specs.Prelude.{◌≡◌, ◌≤◌, ◌<◌, ◌^◌, ℕ, List, [], Some, Err, IfOk, IfErr, MatchResult, length, string_bytes};
-ghost use Rattle.ghost_model.specs.Causes.{Rose};
-ghost use Rattle.ghost_model.specs.Database as database;
+ghost use Rattle.ghost_model.specs.core.Causes.{Rose};
+ghost use Rattle.ghost_model.specs.core.Database as database;
 ghost use Rattle.edge_traits.specs.Files.{Files, AreSure};
 ghost use Rattle.key_inputs.specs.Openings.{tables_opening, tables_from};
 ghost use Rattle.key_inputs.specs.Naming.{IsNamedBy, IsNamedIn, IsShownBy, IsSpelledIn, OfKey, OfTable, ShowsKey};
 ghost use Rattle.key_inputs.specs.Views.{OpensTables, OpensSchema, ReadsFiles, ReadsTable, Tells, TellsRule, rule_in, name_at, opening_at};
-ghost use Rattle.ghost_model.specs.LoadFaults as load;
-ghost use Rattle.ghost_model.specs.Schema as schemas;
+ghost use Rattle.ghost_model.specs.refusals.LoadFaults as load;
+ghost use Rattle.ghost_model.specs.core.Schema as schemas;
 ghost use Rattle.key_inputs.specs.Openings as openings;
 ghost use Rattle.key_inputs.specs.Openings.{Opening, Missing, TablesInput};
 

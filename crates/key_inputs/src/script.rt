@@ -1,8 +1,8 @@
 //! The reading of a script.
 
 ghost use Rattle.std.specs.Prelude.{◌≡◌, ◌≤◌, ℕ, List, Some, Err, IfOk, IfErr, length};
-ghost use Rattle.ghost_model.specs.Causes.{Rose};
-ghost use Rattle.ghost_model.specs.Texts.{texts_of};
+ghost use Rattle.ghost_model.specs.core.Causes.{Rose};
+ghost use Rattle.ghost_model.specs.core.Texts.{texts_of};
 ghost use Rattle.edge_traits.specs.Files.{Files, AreSure};
 ghost use Rattle.key_inputs.specs.Openings.{Spelled, Missing, most_text};
 ghost use Rattle.key_inputs.specs.Scripts.{most_texts, script_opening};

@@ -1,12 +1,12 @@
 -- How a loading ended, from what its parts did.
 use Rattle.std.proofs.Common.{◌≡◌, ◌⊎◌, inl, inr, ℕ, ◌≤◌, ◌<◌, ◌*◌, Bool, true, false, List, Some, Result, Ok, Err, OnOk, refl, ap, subst, ◌∙◌}
-use Rattle.ghost_model.specs.Database.{IsDatabase}
-use Rattle.ghost_model.specs.Flash.{HoldsCatalog, HoldsFilesSoFar, HoldsSoFar}
-use Rattle.ghost_model.specs.Layout.{need}
-use Rattle.ghost_model.specs.Schema.{Schema}
-use Rattle.ghost_model.specs.Split.{Hidden, hidden_of}
-use Rattle.ghost_model.specs.Values.{Database}
-use Rattle.ghost_model.specs.Channel.{Catalog}
+use Rattle.ghost_model.specs.core.Database.{IsDatabase}
+use Rattle.ghost_model.specs.forms.Flash.{HoldsCatalog, HoldsFilesSoFar, HoldsSoFar}
+use Rattle.ghost_model.specs.forms.Layout.{need}
+use Rattle.ghost_model.specs.core.Schema.{Schema}
+use Rattle.ghost_model.specs.core.Split.{Hidden, hidden_of}
+use Rattle.ghost_model.specs.core.Values.{Database}
+use Rattle.ghost_model.specs.core.Channel.{Catalog}
 use Rattle.edge_traits.specs.Files.{with_file}
 use Rattle.edge_traits.specs.Written.{grown, GrowsByFront}
 use Rattle.key_inputs.specs.Openings.{Opening, TablesInput}

@@ -1,12 +1,12 @@
 -- What a call of `load` did, by its result.
 use Rattle.std.specs.Prelude.{◌≡◌, ◌⊎◌, ℕ, ◌≤◌, ◌<◌, Bool, true, false, List, Option, Some, Result, Ok, Err, ⊤}
-use Rattle.ghost_model.specs.Channel.{Catalog}
-use Rattle.ghost_model.specs.Database.{IsDatabase, database_of}
-use Rattle.ghost_model.specs.Flash.{HoldsFilesSoFar, HoldsSoFar}
-use Rattle.ghost_model.specs.Layout.{need}
-use Rattle.ghost_model.specs.Schema.{Schema}
-use Rattle.ghost_model.specs.Split.{public_of, hidden_of, image}
-use Rattle.ghost_model.specs.Values.{Database}
+use Rattle.ghost_model.specs.core.Channel.{Catalog}
+use Rattle.ghost_model.specs.core.Database.{IsDatabase, database_of}
+use Rattle.ghost_model.specs.forms.Flash.{HoldsFilesSoFar, HoldsSoFar}
+use Rattle.ghost_model.specs.forms.Layout.{need}
+use Rattle.ghost_model.specs.core.Schema.{Schema}
+use Rattle.ghost_model.specs.core.Split.{public_of, hidden_of, image}
+use Rattle.ghost_model.specs.core.Values.{Database}
 use Rattle.edge_traits.specs.Devices.{Device}
 use Rattle.edge_traits.specs.Files.{Files, with_file}
 use Rattle.edge_traits.specs.Written.{grown, GrowsByFront}

@@ -1,10 +1,10 @@
 -- The setting of a session in the catalog of a database.
 use Rattle.std.proofs.Common.{◌≡◌, ℕ, ◌≤◌, List, length}
-use Rattle.ghost_model.specs.Catalog.{IsCatalog}
-use Rattle.ghost_model.specs.Channel.{Catalog}
-use Rattle.ghost_model.specs.Database.{IsDatabase, row_counts}
-use Rattle.ghost_model.specs.SessionLaws.{IsSetting, IsCatalogOf}
-use Rattle.ghost_model.specs.Values.{Database}
+use Rattle.ghost_model.specs.forms.Catalog.{IsCatalog}
+use Rattle.ghost_model.specs.core.Channel.{Catalog}
+use Rattle.ghost_model.specs.core.Database.{IsDatabase, row_counts}
+use Rattle.ghost_model.specs.laws.SessionLaws.{IsSetting, IsCatalogOf}
+use Rattle.ghost_model.specs.core.Values.{Database}
 
 -- a catalog and at most 64 texts are one
 pub setting_of : (catalog : Catalog) (texts : List (List ℕ)) → IsCatalog catalog → length texts ≤ 64 → IsSetting catalog texts

@@ -1,10 +1,10 @@
 -- How a session with a host in the key's own process can end.
 use Rattle.std.proofs.Common.{◌≡◌, ℕ, Bool, true, false, ◌||◌, List, [], ◌∷◌, map, Option, None, Some, refl, sym, ap, ◌∙◌, subst}
 use Rattle.std.specs.List.{list_any}
-use Rattle.ghost_model.specs.Channel.{Entry, Journal}
-use Rattle.ghost_model.specs.Moves.{answers}
-use Rattle.ghost_model.specs.NextMove.{Standing, Ended, Ending, Answered, Refused, is_stop}
-use Rattle.ghost_model.specs.Lines.{was_refused, is_refused_by}
+use Rattle.ghost_model.specs.core.Channel.{Entry, Journal}
+use Rattle.ghost_model.specs.core.Moves.{answers}
+use Rattle.ghost_model.specs.core.NextMove.{Standing, EndedAsk, Ending, Answered, Refused, is_stop}
+use Rattle.ghost_model.specs.core.Lines.{was_refused, is_refused_by}
 use Rattle.std.specs.Option.{option_or}
 use Rattle.key_session.specs.Refusing.{first_code, code_of}
 use Rattle.key_session.specs.Running.{status_of, status_with, is_sink, blames_flash, is_damaged as is_damage}
@@ -27,7 +27,7 @@ none_stops (made ∷ later) h = go (is_stop made.answer) (none_stops later) h
     go false rest e = rest e
 
 -- no ask was refused
-pub no_code : (ends : List Ended) → was_refused ends ≡ false → first_code ends ≡ None
+pub no_code : (ends : List EndedAsk) → was_refused ends ≡ false → first_code ends ≡ None
 no_code [] h = refl
 no_code (end ∷ ends) h = go end.ending (no_code ends) h
   where

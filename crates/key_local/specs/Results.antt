@@ -1,13 +1,13 @@
 -- What a call of `local` did, by its result.
 use Rattle.std.specs.Prelude.{◌≡◌, ◌⊎◌, ℕ, ◌+◌, ◌≤◌, Bool, true, false, not, List, Some, Result, Ok, Err, ⊤}
-use Rattle.ghost_model.specs.Database.{IsDatabase, database_of}
-use Rattle.ghost_model.specs.Flash.{HoldsSoFar}
-use Rattle.ghost_model.specs.Layout.{need}
-use Rattle.ghost_model.specs.Schema.{Schema}
-use Rattle.ghost_model.specs.Split.{hidden_of}
-use Rattle.ghost_model.specs.Texts.{texts_of}
-use Rattle.ghost_model.specs.Values.{Database}
-use Rattle.ghost_model.specs.Work.{pages_built}
+use Rattle.ghost_model.specs.core.Database.{IsDatabase, database_of}
+use Rattle.ghost_model.specs.forms.Flash.{HoldsSoFar}
+use Rattle.ghost_model.specs.forms.Layout.{need}
+use Rattle.ghost_model.specs.core.Schema.{Schema}
+use Rattle.ghost_model.specs.core.Split.{hidden_of}
+use Rattle.ghost_model.specs.core.Texts.{texts_of}
+use Rattle.ghost_model.specs.core.Values.{Database}
+use Rattle.ghost_model.specs.forms.Work.{pages_built}
 use Rattle.key_inputs.specs.Openings.{Opening, Spelled, Broken}
 use Rattle.key_inputs.specs.Views.{rule_of}
 use Rattle.key_words.specs.Words.{Local}

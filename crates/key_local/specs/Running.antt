@@ -1,14 +1,14 @@
 -- What the session itself does, apart from what was made for it.
 use Rattle.std.specs.Prelude.{◌≡◌, ℕ, Bool, true, false, List, [], Option, None, Some, ⊤}
 use Rattle.std.specs.List.{list_any}
-use Rattle.ghost_model.specs.Causes.{Rose}
-use Rattle.ghost_model.specs.Channel.{Catalog, Journal}
-use Rattle.ghost_model.specs.Host.{Holding}
-use Rattle.ghost_model.specs.Moves.{lines}
-use Rattle.ghost_model.specs.NextMove.{IsFinished}
-use Rattle.ghost_model.specs.Printed.{printed}
-use Rattle.ghost_model.specs.SessionLaws.{IsCatalogOf}
-use Rattle.ghost_model.specs.Values.{Database}
+use Rattle.ghost_model.specs.core.Causes.{Rose}
+use Rattle.ghost_model.specs.core.Channel.{Catalog, Journal}
+use Rattle.ghost_model.specs.core.Host.{Holding}
+use Rattle.ghost_model.specs.core.Moves.{lines}
+use Rattle.ghost_model.specs.core.NextMove.{IsFinished}
+use Rattle.ghost_model.specs.core.Printed.{printed}
+use Rattle.ghost_model.specs.laws.SessionLaws.{IsCatalogOf}
+use Rattle.ghost_model.specs.core.Values.{Database}
 use Rattle.session_laws.specs.Local.{IsLocal, holding_of}
 use Rattle.edge_traits.specs.Files.{Files}
 use Rattle.edge_traits.specs.Written.{grown}

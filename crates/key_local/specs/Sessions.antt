@@ -2,18 +2,18 @@
 -- that journal where a file is named for it, and gives each text's lines.
 use Rattle.std.specs.Prelude.{◌≡◌, ℕ, ◌+◌, Bool, true, false, List, [], ◌∷◌, Option, None, Some, ⊤}
 use Rattle.std.specs.List.{list_any}
-use Rattle.ghost_model.specs.Causes.{Rose}
-use Rattle.ghost_model.specs.Channel.{Catalog, Journal}
-use Rattle.ghost_model.specs.Database.{row_counts}
-use Rattle.ghost_model.specs.Flash.{HoldsSoFar}
-use Rattle.ghost_model.specs.Layout.{need}
-use Rattle.ghost_model.specs.Moves.{lines}
-use Rattle.ghost_model.specs.NextMove.{IsFinished}
-use Rattle.ghost_model.specs.Printed.{printed}
-use Rattle.ghost_model.specs.Schema.{Schema}
-use Rattle.ghost_model.specs.Split.{hidden_of}
-use Rattle.ghost_model.specs.Values.{Database}
-use Rattle.ghost_model.specs.Work.{pages_built}
+use Rattle.ghost_model.specs.core.Causes.{Rose}
+use Rattle.ghost_model.specs.core.Channel.{Catalog, Journal}
+use Rattle.ghost_model.specs.core.Database.{row_counts}
+use Rattle.ghost_model.specs.forms.Flash.{HoldsSoFar}
+use Rattle.ghost_model.specs.forms.Layout.{need}
+use Rattle.ghost_model.specs.core.Moves.{lines}
+use Rattle.ghost_model.specs.core.NextMove.{IsFinished}
+use Rattle.ghost_model.specs.core.Printed.{printed}
+use Rattle.ghost_model.specs.core.Schema.{Schema}
+use Rattle.ghost_model.specs.core.Split.{hidden_of}
+use Rattle.ghost_model.specs.core.Values.{Database}
+use Rattle.ghost_model.specs.forms.Work.{pages_built}
 use Rattle.session_laws.specs.Local.{IsLocal}
 use Rattle.edge_traits.specs.Devices.{Device}
 use Rattle.edge_traits.specs.Files.{Files, HasFile, SameBut}

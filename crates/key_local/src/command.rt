@@ -1,16 +1,16 @@
 //! The command.
 
 ghost use Rattle.std.specs.Prelude.{◌≡◌, ◌⊎◌, ◌≤◌, ℕ, true, false, Some, Ok, Err, length, option_map, List};
-ghost use Rattle.ghost_model.specs.Causes.{Rose};
-ghost use Rattle.ghost_model.specs.Database.{IsDatabase};
-ghost use Rattle.ghost_model.specs.Schema.{Schema};
-ghost use Rattle.ghost_model.specs.SessionLaws.{IsCatalogOf};
-ghost use Rattle.ghost_model.specs.Split.{hidden_of};
-ghost use Rattle.ghost_model.specs.Texts.{texts_of};
-ghost use Rattle.ghost_model.specs.Values.{Database};
+ghost use Rattle.ghost_model.specs.core.Causes.{Rose};
+ghost use Rattle.ghost_model.specs.core.Database.{IsDatabase};
+ghost use Rattle.ghost_model.specs.core.Schema.{Schema};
+ghost use Rattle.ghost_model.specs.laws.SessionLaws.{IsCatalogOf};
+ghost use Rattle.ghost_model.specs.core.Split.{hidden_of};
+ghost use Rattle.ghost_model.specs.core.Texts.{texts_of};
+ghost use Rattle.ghost_model.specs.core.Values.{Database};
 ghost use Rattle.session_laws.specs.Local.{holding_of};
 ghost use Rattle.edge_traits.specs.Files.{Files, AreSure};
-ghost use Rattle.ghost_model.specs.Flash.{IsHidden};
+ghost use Rattle.ghost_model.specs.forms.Flash.{IsHidden};
 ghost use Rattle.session_replies.specs.Kept.{IsKept, none_heard};
 ghost use Rattle.key_words.specs.Views.{local_view};
 ghost use Rattle.key_inputs.specs.Openings.{InputFault, Spelled, Broken};

@@ -1,14 +1,14 @@
 //! What a session needs in memory: the parts of the tables, the host and its link, and the room for replies.
 
 ghost use Rattle.std.specs.Prelude.{◌≡◌, Some, IfOk};
-ghost use Rattle.ghost_model.specs.Channel as channel;
-ghost use Rattle.ghost_model.specs.Database.{IsDatabase};
-ghost use Rattle.ghost_model.specs.Host.{host_of};
-ghost use Rattle.ghost_model.specs.SessionLaws.{IsCatalogOf};
-ghost use Rattle.ghost_model.specs.Split as divided;
+ghost use Rattle.ghost_model.specs.core.Channel as channel;
+ghost use Rattle.ghost_model.specs.core.Database.{IsDatabase};
+ghost use Rattle.ghost_model.specs.core.Host.{host_of};
+ghost use Rattle.ghost_model.specs.laws.SessionLaws.{IsCatalogOf};
+ghost use Rattle.ghost_model.specs.core.Split as divided;
 ghost use Rattle.session_laws.specs.Local.{holding_of};
 ghost use Rattle.edge_traits.specs.Files.{file_of};
-ghost use Rattle.ghost_model.specs.Flash.{IsHidden};
+ghost use Rattle.ghost_model.specs.forms.Flash.{IsHidden};
 ghost use Rattle.session_replies.specs.Kept.{IsKept, none_heard};
 ghost use Rattle.key_local.specs.Sessions.{catalog_for};
 ghost use Rattle.key_local.specs.Preparing.{IsSomeImage, IsHosted};

@@ -1,12 +1,12 @@
 //! The session.
 
 ghost use Rattle.std.specs.Prelude.{◌≡◌, ◌≤◌, ℕ, true, false, length};
-ghost use Rattle.ghost_model.specs.Causes.{Rose};
-ghost use Rattle.ghost_model.specs.Flash.{HoldsFilesSoFar};
-ghost use Rattle.ghost_model.specs.SessionLaws.{IsCatalogOf};
-ghost use Rattle.ghost_model.specs.Split.{hidden_of};
-ghost use Rattle.ghost_model.specs.Texts.{texts_of};
-ghost use Rattle.ghost_model.specs.Values.{Database};
+ghost use Rattle.ghost_model.specs.core.Causes.{Rose};
+ghost use Rattle.ghost_model.specs.forms.Flash.{HoldsFilesSoFar};
+ghost use Rattle.ghost_model.specs.laws.SessionLaws.{IsCatalogOf};
+ghost use Rattle.ghost_model.specs.core.Split.{hidden_of};
+ghost use Rattle.ghost_model.specs.core.Texts.{texts_of};
+ghost use Rattle.ghost_model.specs.core.Values.{Database};
 ghost use Rattle.session_laws.specs.Local.{holding_of};
 ghost use Rattle.edge_traits.specs.Devices.{KeepsPages};
 ghost use Rattle.key_exec.specs.Plans.{Suffices};

@@ -1,10 +1,10 @@
 -- What a call of `plain` did, by its result.
 use Rattle.std.specs.Prelude.{◌≡◌, ℕ, ◌≤◌, Bool, true, false, List, length, Option, Result, Ok, Err, ⊤}
-use Rattle.ghost_model.specs.Schema.{Schema}
-use Rattle.ghost_model.specs.Values.{Database}
-use Rattle.ghost_model.specs.Database.{database_of, IsDatabase}
-use Rattle.ghost_model.specs.Printed.{printed}
-use Rattle.ghost_model.specs.Texts.{texts_of}
+use Rattle.ghost_model.specs.core.Schema.{Schema}
+use Rattle.ghost_model.specs.core.Values.{Database}
+use Rattle.ghost_model.specs.core.Database.{database_of, IsDatabase}
+use Rattle.ghost_model.specs.core.Printed.{printed}
+use Rattle.ghost_model.specs.core.Texts.{texts_of}
 use Rattle.edge_traits.specs.Written.{grown, GrowsByFront}
 use Rattle.key_inputs.specs.Openings.{Opening, Spelled, Broken, most_text}
 use Rattle.key_inputs.specs.Scripts.{most_texts}

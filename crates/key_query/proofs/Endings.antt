@@ -1,7 +1,7 @@
 -- How an opening ended.
 use Rattle.std.proofs.Common.{◌≡◌, ℕ, Bool, true, List, Result, Ok, Err, refl, subst}
 use Rattle.std.specs.Prelude.{IfErr}
-use Rattle.ghost_model.specs.Channel.{Catalog}
+use Rattle.ghost_model.specs.core.Channel.{Catalog}
 use Rattle.edge_traits.specs.Devices.{Device}
 use Rattle.key_inputs.specs.Openings.{Opening, Spelled, Broken, InputFault}
 use Rattle.key_inputs.specs.Views.{Tells, rule_of}

@@ -3,16 +3,16 @@ use Rattle.std.proofs.Common.{◌≡◌, ℕ, suc, zero, ◌+◌, ◌≤◌, min
 use Rattle.std.specs.List.{list_any, concat}
 use Rattle.std.specs.Prelude.{cond}
 use Rattle.std.proofs.lemmas.List.Sums.{sum_by-cons}
-use Rattle.ghost_model.specs.Causes.{Rose, last_count}
-use Rattle.ghost_model.specs.Values.{Database}
-use Rattle.ghost_model.specs.Catalog.{IsCatalog}
-use Rattle.ghost_model.specs.Channel.{Catalog, Journal, Entry}
-use Rattle.ghost_model.specs.Asks.{asked_of}
-use Rattle.ghost_model.specs.Moves.{answers}
-use Rattle.ghost_model.specs.NextMove.{Standing, standing_after, Ended, Ending, Answered, Refused, is_stop, IsProper, IsFinished}
-use Rattle.ghost_model.specs.Split.{hidden_of}
-use Rattle.ghost_model.specs.Lines.{Reason, IsRefused, WasBroken, WasAnswered, MetFault, OnFlash, OnDamage, was_refused}
-use Rattle.ghost_model.specs.Printed.{printed}
+use Rattle.ghost_model.specs.core.Causes.{Rose, last_count}
+use Rattle.ghost_model.specs.core.Values.{Database}
+use Rattle.ghost_model.specs.forms.Catalog.{IsCatalog}
+use Rattle.ghost_model.specs.core.Channel.{Catalog, Journal, Entry}
+use Rattle.ghost_model.specs.core.Asks.{asked_of}
+use Rattle.ghost_model.specs.core.Moves.{answers}
+use Rattle.ghost_model.specs.core.NextMove.{Standing, standing_after, EndedAsk, Ending, Answered, Refused, is_stop, IsProper, IsFinished}
+use Rattle.ghost_model.specs.core.Split.{hidden_of}
+use Rattle.ghost_model.specs.core.Lines.{Reason, WasRefused, WasBroken, WasAnswered, MetFault, OnFlash, OnDamage, was_refused}
+use Rattle.ghost_model.specs.core.Printed.{printed}
 use Rattle.edge_traits.specs.Written.{grown}
 use Rattle.session_laws.specs.TextEnds.{heard_in}
 use Rattle.session_laws.specs.HonestSessions.{IsHonestSession, HonestSessionsAreSmooth, HonestLinesArePrinted, AreSoundLines, AreAllLines, is_own_fault}
@@ -72,7 +72,7 @@ no_flash before zero now blamed rose = refl
 no_flash before (suc count) now blamed rose = absurd (rose (omega (arith, blamed)))
 
 not_own : (reason : Reason) → is_flash reason ≡ false → is_damage reason ≡ false → is_own_fault reason ≡ false
-not_own IsRefused flash damage = refl
+not_own WasRefused flash damage = refl
 not_own WasBroken flash damage = refl
 not_own WasAnswered flash damage = refl
 not_own (MetFault OnFlash) flash damage = cc
@@ -87,7 +87,7 @@ bytes_in [] = refl
 bytes_in (one ∷ told) =
     ap (λ xs. bytes_of one ++ xs) (bytes_in told) ∙ sym (concat_two one.lines (flat_map (λ lines. lines) (lines_in told)))
 
-no_code : (ended : List Ended) → was_refused ended ≡ false → first_code ended ≡ None
+no_code : (ended : List EndedAsk) → was_refused ended ≡ false → first_code ended ≡ None
 no_code [] none = refl
 no_code (end ∷ ended) none = code_of_end end.ending none (λ h. no_code ended h)
   where

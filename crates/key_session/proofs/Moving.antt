@@ -2,13 +2,13 @@
 use Rattle.std.proofs.Common.{◌≡◌, ◌≤◌, ◌<◌, ℕ, suc, ◌+◌, arith, Bool, true, false, List, [], ◌∷◌, ◌++◌, length, refl, sym, ap, ◌∙◌, Option, Some, None}
 use Rattle.std.proofs.lemmas.Option.{slice_get_within}
 use Rattle.std.specs.Prelude.{is_some, option_map}
-use Rattle.ghost_model.specs.Channel.{Catalog, Journal}
-use Rattle.ghost_model.specs.SchemaFaults.{MeansSchema}
-use Rattle.ghost_model.specs.Asks.{Asked, asked_of}
-use Rattle.ghost_model.specs.Moves.{taken}
-use Rattle.ghost_model.specs.NextMove.{Awaits, Missing, Reply, Nothing, Ended, Heard, hear_all}
-use Rattle.ghost_model.specs.Lines.{Reason, IsRefused, WasBroken, WasAnswered, MetFault, ended_of, all_done}
-use Rattle.ghost_model.specs.Split.{hidden_of}
+use Rattle.ghost_model.specs.core.Channel.{Catalog, Journal}
+use Rattle.ghost_model.specs.refusals.SchemaFaults.{MeansSchema}
+use Rattle.ghost_model.specs.core.Asks.{NumberedAsk, asked_of}
+use Rattle.ghost_model.specs.core.Moves.{taken}
+use Rattle.ghost_model.specs.core.NextMove.{Awaits, AwaitsCatalog, AwaitsReply, AwaitsNothing, EndedAsk, Heard, hear_all}
+use Rattle.ghost_model.specs.core.Lines.{Reason, WasRefused, WasBroken, WasAnswered, MetFault, ended_of, all_done}
+use Rattle.ghost_model.specs.core.Split.{hidden_of}
 use Rattle.channel_pump.specs.Progress.{Tells, ended_on}
 use Rattle.channel_pump.specs.declared.state.Event.{Event}
 use Rattle.channel_pump.specs.declared.state.Event.TheVariants as event_is
@@ -29,7 +29,7 @@ or_else_twice : (a b c : Option ℕ) → option_or (option_or a b) c ≡ option_
 or_else_twice None b c = refl
 or_else_twice (Some a) b c = refl
 
-first_more : (ends more : List Ended) → first_code (ends ++ more) ≡ option_or (first_code ends) (first_code more)
+first_more : (ends more : List EndedAsk) → first_code (ends ++ more) ≡ option_or (first_code ends) (first_code more)
 first_more [] more = refl
 first_more (end ∷ ends) more = ap (option_or (code_of end.ending)) (first_more ends more) ∙ sym (or_else_twice (code_of end.ending) (first_code ends) (first_code more))
 
@@ -37,12 +37,12 @@ code_heard : (event : Event) (awaits : Awaits) (rows : List ℕ) → first_code 
 code_heard event_is.Part awaits rows = refl
 code_heard event_is.Welcome awaits rows = refl
 code_heard (event_is.Rows _) awaits rows = refl
-code_heard event_is.Done (Missing _) rows = refl
-code_heard event_is.Done (Reply asked serial later count last) rows = refl
-code_heard event_is.Done Nothing rows = refl
-code_heard (event_is.Sorry code) (Missing _) rows = refl
-code_heard (event_is.Sorry code) (Reply asked serial later count last) rows = refl
-code_heard (event_is.Sorry code) Nothing rows = refl
+code_heard event_is.Done (AwaitsCatalog _) rows = refl
+code_heard event_is.Done (AwaitsReply asked serial later count last) rows = refl
+code_heard event_is.Done AwaitsNothing rows = refl
+code_heard (event_is.Sorry code) (AwaitsCatalog _) rows = refl
+code_heard (event_is.Sorry code) (AwaitsReply asked serial later count last) rows = refl
+code_heard (event_is.Sorry code) AwaitsNothing rows = refl
 code_heard (event_is.Invalid _ _) awaits rows = refl
 
 -- the first refusal after an event
@@ -76,7 +76,7 @@ came_still all catalog texts journal later number written same came = record {
 
 reason_still : (catalog : Catalog) (texts : List (List ℕ)) (journal later : Journal) (number : ℕ) (written : List ℕ) → ended_of catalog (asked_of catalog.schema texts) later number ≡ ended_of catalog (asked_of catalog.schema texts) journal number
     → (reason : Reason) → IsReason reason catalog texts journal number written → IsReason reason catalog texts later number written
-reason_still catalog texts journal later number written same IsRefused is = is
+reason_still catalog texts journal later number written same WasRefused is = is
 reason_still catalog texts journal later number written same WasBroken is = came_still false catalog texts journal later number written same is
 reason_still catalog texts journal later number written same WasAnswered is = came_still true catalog texts journal later number written same is
 reason_still catalog texts journal later number written same (MetFault fault) is = came_still true catalog texts journal later number written same is
@@ -151,7 +151,7 @@ pub gone_on : EndedTextsStay → ReasonsStay → RepliesFit → (schema_text : L
     → ((after : Heard) (top : ℕ) → Tells catalog new_exchange.page event (heard_in catalog texts gone.journal) after
     → (leads_on event ≡ false → asked_in after.awaits ≡ asked_in (heard_in catalog texts gone.journal).awaits)
     → (event ≡ event_is.Welcome → asked_in (heard_in catalog texts gone.journal).awaits ≡ None)
-    → ((asked : Asked) → asked_in (heard_in catalog texts gone.journal).awaits ≡ Some asked → (middle.is_open ≡ true) × (teller.count + 1 ≤ asked.text))
+    → ((asked : NumberedAsk) → asked_in (heard_in catalog texts gone.journal).awaits ≡ Some asked → (middle.is_open ≡ true) × (teller.count + 1 ≤ asked.text))
     → ((text : ℕ) → Fits catalog after text) → IsKept catalog (heard_in catalog texts gone.journal) (teller.count + 1) top middle → IsKept catalog after (teller.count + 1) top new)
     → is_awaited ≡ is_some (asked_in (heard_in catalog texts gone.journal).awaits)
     → new_refusal ≡ option_or refusal (code_on is_awaited event)

@@ -3,13 +3,13 @@ use Rattle.std.proofs.Common.{◌≡◌, ◌≤◌, ℕ, suc, ◌+◌, arith, Bo
 use Rattle.std.specs.Prelude.{min, if◌then◌else◌, count_by, is_err, is_some}
 use Rattle.std.specs.List.{list_any}
 use Rattle.std.proofs.lemmas.List.Sums.{sum_by-cons}
-use Rattle.ghost_model.specs.Causes.{Rose, last_count}
-use Rattle.ghost_model.specs.Values.{Database}
-use Rattle.ghost_model.specs.Channel.{Catalog, Journal}
-use Rattle.ghost_model.specs.Asks.{asked_of}
-use Rattle.ghost_model.specs.Lines.{Reason, IsRefused, WasBroken, WasAnswered, MetFault}
-use Rattle.ghost_model.specs.NextMove.{Standing, Heard, standing_after, IsProper, IsFinished}
-use Rattle.ghost_model.specs.Split.{hidden_of}
+use Rattle.ghost_model.specs.core.Causes.{Rose, last_count}
+use Rattle.ghost_model.specs.core.Values.{Database}
+use Rattle.ghost_model.specs.core.Channel.{Catalog, Journal}
+use Rattle.ghost_model.specs.core.Asks.{asked_of}
+use Rattle.ghost_model.specs.core.Lines.{Reason, WasRefused, WasBroken, WasAnswered, MetFault}
+use Rattle.ghost_model.specs.core.NextMove.{Standing, Heard, standing_after, IsProper, IsFinished}
+use Rattle.ghost_model.specs.core.Split.{hidden_of}
 use Rattle.edge_traits.specs.Devices.{KeepsPages}
 use Rattle.channel_pump.specs.Progress.{EndsAs}
 use Rattle.channel_pump.specs.State.{IsAfter}
@@ -119,7 +119,7 @@ same_text x y o e f = cc
 
 refusal_read : (catalog : Catalog) (texts : List (List ℕ)) (journal : Journal) (number : ℕ) (written : List ℕ) (reason : Reason) → IsReason reason catalog texts journal number written
     → is_refusal reason ≡ is_refused_text catalog.schema written
-refusal_read catalog texts journal number written IsRefused is = sym (ap is_err is.refused)
+refusal_read catalog texts journal number written WasRefused is = sym (ap is_err is.refused)
 refusal_read catalog texts journal number written WasBroken is = sym (ap is_err is.accepted)
 refusal_read catalog texts journal number written WasAnswered is = sym (ap is_err is.accepted)
 refusal_read catalog texts journal number written (MetFault fault) is = sym (ap is_err is.accepted)

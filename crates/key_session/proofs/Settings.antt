@@ -1,9 +1,9 @@
 -- A catalog with a database of it, and a script within its limits, are the setting of an honest session.
 use Rattle.std.proofs.Common.{ℕ, ◌≤◌, List, length, Bool}
-use Rattle.ghost_model.specs.Catalog.{IsCatalog}
-use Rattle.ghost_model.specs.Channel.{Catalog}
-use Rattle.ghost_model.specs.SessionLaws.{IsSetting, IsCatalogOf}
-use Rattle.ghost_model.specs.Values.{Database}
+use Rattle.ghost_model.specs.forms.Catalog.{IsCatalog}
+use Rattle.ghost_model.specs.core.Channel.{Catalog}
+use Rattle.ghost_model.specs.laws.SessionLaws.{IsSetting, IsCatalogOf}
+use Rattle.ghost_model.specs.core.Values.{Database}
 use Rattle.key_exec.specs.Reading.{Knows}
 
 pub setting : (cat : Catalog) (texts : List (List ℕ)) → IsCatalog cat → length texts ≤ 64 → IsSetting cat texts

@@ -1,12 +1,12 @@
 -- A session that answers all its texts: the host is honest and holds the public part of a database, the flash holds its
 -- hidden part, and neither the flash nor the sink failed.
 use Rattle.std.specs.Prelude.{◌≡◌, ℕ, Bool, false, List}
-use Rattle.ghost_model.specs.Causes.{Rose}
-use Rattle.ghost_model.specs.Values.{Database}
-use Rattle.ghost_model.specs.Channel.{Catalog, Journal}
-use Rattle.ghost_model.specs.Honest.{IsHonest}
-use Rattle.ghost_model.specs.Printed.{printed}
-use Rattle.ghost_model.specs.Split.{public_of}
+use Rattle.ghost_model.specs.core.Causes.{Rose}
+use Rattle.ghost_model.specs.core.Values.{Database}
+use Rattle.ghost_model.specs.core.Channel.{Catalog, Journal}
+use Rattle.ghost_model.specs.core.Honest.{IsHonest}
+use Rattle.ghost_model.specs.core.Printed.{printed}
+use Rattle.ghost_model.specs.core.Split.{public_of}
 use Rattle.edge_traits.specs.Written.{grown}
 use Rattle.key_exec.specs.Reading.{Knows}
 use Rattle.key_session.specs.Telling.{SessionSide}

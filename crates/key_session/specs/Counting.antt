@@ -1,14 +1,14 @@
 -- What is counted of the texts that were told, by the reasons for their lines.
 use Rattle.std.specs.Prelude.{◌≡◌, ℕ, ◌+◌, Bool, true, false, ◌||◌, List, [], ◌∷◌, count_by, if◌then◌else◌, Option, None, Some, is_some}
 use Rattle.std.specs.List.{list_any}
-use Rattle.ghost_model.specs.Lines.{Reason, IsRefused, WasBroken, WasAnswered, MetFault, Fault, OnFlash, OnDamage}
+use Rattle.ghost_model.specs.core.Lines.{Reason, WasRefused, WasBroken, WasAnswered, MetFault, Fault, OnFlash, OnDamage}
 use Rattle.text_lines.specs.declared.text.Told.{Told}
 use Rattle.text_lines.specs.declared.text.Told.TheVariants as told
 use Rattle.key_session.specs.declared.counts.Counts.{Counts}
 use Rattle.key_session.specs.declared.counts.Damage.{Damage}
 
 abbrev pub reason_of : Told → Reason
-reason_of told.Refused = IsRefused
+reason_of told.Refused = WasRefused
 reason_of told.Answered = WasAnswered
 reason_of told.Host = WasBroken
 reason_of told.Link = WasBroken
@@ -17,7 +17,7 @@ reason_of told.Flash = MetFault OnFlash
 reason_of (told.Damaged page slot found) = MetFault OnDamage
 
 abbrev pub is_refusal : Reason → Bool
-is_refusal IsRefused = true
+is_refusal WasRefused = true
 is_refusal _ = false
 
 -- whether a fault ended the text: of the host, the link, the protocol or the flash

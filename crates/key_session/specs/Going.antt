@@ -1,7 +1,7 @@
 -- A session that is under way.
 use Rattle.std.specs.Prelude.{◌≡◌, ℕ, ◌≤◌, ◌+◌, Bool, true, false, List, [], Option, Some}
-use Rattle.ghost_model.specs.Channel.{Catalog, Journal}
-use Rattle.ghost_model.specs.Asks.{Asked, asked_of}
+use Rattle.ghost_model.specs.core.Channel.{Catalog, Journal}
+use Rattle.ghost_model.specs.core.Asks.{NumberedAsk, asked_of}
 use Rattle.session_laws.specs.TextEnds.{heard_in, is_settled_in}
 use Rattle.channel_session.specs.Sessions.{IsLive, asked_in}
 use Rattle.channel_session.specs.declared.exchange.Exchange.{Exchange}
@@ -20,7 +20,7 @@ pub record IsGoing (pages_told : Bool) (catalog : Catalog) (texts : List (List �
 -- the reply to the ask that is awaited was begun, and its text was not told
 pub record IsAttended (pages_told : Bool) (catalog : Catalog) (texts : List (List ℕ)) (journal : Journal) (since now : SessionSide) (teller : Teller) (replies : Replies) : Type 0 where
   pub going : IsGoing pages_told catalog texts journal since now teller replies
-  pub begun : (asked : Asked) → asked_in (heard_in catalog texts journal).awaits ≡ Some asked
+  pub begun : (asked : NumberedAsk) → asked_in (heard_in catalog texts journal).awaits ≡ Some asked
       → (replies.is_open ≡ true) × (teller.count + 1 ≤ asked.text)
 
 -- a session went some moves, and this is the code of the first ask that the host refused

@@ -1,7 +1,7 @@
 -- The first ask that the host refused.
 use Rattle.std.specs.Prelude.{ℕ, Bool, List, [], ◌∷◌, Option, None, Some, if◌then◌else◌}
 use Rattle.std.specs.Option.{option_or}
-use Rattle.ghost_model.specs.NextMove.{Ended, Ending, Answered, Refused}
+use Rattle.ghost_model.specs.core.NextMove.{EndedAsk, Ending, Answered, Refused}
 use Rattle.channel_pump.specs.declared.state.Event.{Event}
 use Rattle.channel_pump.specs.declared.state.Event.TheVariants as event_is
 
@@ -10,7 +10,7 @@ code_of (Answered _) = None
 code_of (Refused code) = Some code
 
 -- the code of the first ask that was refused
-abbrev pub first_code : List Ended → Option ℕ
+abbrev pub first_code : List EndedAsk → Option ℕ
 first_code [] = None
 first_code (end ∷ ends) = option_or (code_of end.ending) (first_code ends)
 

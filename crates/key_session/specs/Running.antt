@@ -2,12 +2,12 @@
 -- text of its script.
 use Rattle.std.specs.Prelude.{◌≡◌, ℕ, Bool, true, false, List, length, count_by, Option, None, Some, is_some, if◌then◌else◌}
 use Rattle.std.specs.List.{list_any, list_all}
-use Rattle.ghost_model.specs.Values.{Database}
-use Rattle.ghost_model.specs.Channel.{Catalog, Journal}
-use Rattle.ghost_model.specs.Asks.{asked_of}
-use Rattle.ghost_model.specs.NextMove.{InvalidFrame, invalid_frame, Standing, standing_after, IsProper, IsFinished}
-use Rattle.ghost_model.specs.Split.{hidden_of}
-use Rattle.ghost_model.specs.Lines.{Reason}
+use Rattle.ghost_model.specs.core.Values.{Database}
+use Rattle.ghost_model.specs.core.Channel.{Catalog, Journal}
+use Rattle.ghost_model.specs.core.Asks.{asked_of}
+use Rattle.ghost_model.specs.core.NextMove.{InvalidFrame, invalid_frame, Standing, standing_after, IsProper, IsFinished}
+use Rattle.ghost_model.specs.core.Split.{hidden_of}
+use Rattle.ghost_model.specs.core.Lines.{Reason}
 use Rattle.channel_pump.specs.State.{counted}
 use Rattle.channel_session.specs.Entries.{is_short_entry, FaultsTell}
 use Rattle.key_exec.specs.Reading.{Knows}

@@ -3,14 +3,14 @@
 -- are those of a database.
 use Rattle.std.specs.Prelude.{◌≡◌, ℕ, suc, ◌+◌, ◌≤◌, min, Bool, true, false, List, length, drop, map, flat_map, count_by, slice_get, Option, Some, Ok, is_some}
 use Rattle.std.specs.List.{concat, list_any}
-use Rattle.ghost_model.specs.Causes.{Rose, last_count}
-use Rattle.ghost_model.specs.Values.{Database}
-use Rattle.ghost_model.specs.Query.{Query}
-use Rattle.ghost_model.specs.QueryReading.{reading}
-use Rattle.ghost_model.specs.Channel.{Catalog, Journal}
-use Rattle.ghost_model.specs.Asks.{asked_of}
-use Rattle.ghost_model.specs.Split.{Hidden, hidden_of}
-use Rattle.ghost_model.specs.Lines.{Reason, AreLinesFor, text_in}
+use Rattle.ghost_model.specs.core.Causes.{Rose, last_count}
+use Rattle.ghost_model.specs.core.Values.{Database}
+use Rattle.ghost_model.specs.core.Query.{Query}
+use Rattle.ghost_model.specs.readings.QueryReading.{reading}
+use Rattle.ghost_model.specs.core.Channel.{Catalog, Journal}
+use Rattle.ghost_model.specs.core.Asks.{asked_of}
+use Rattle.ghost_model.specs.core.Split.{Hidden, hidden_of}
+use Rattle.ghost_model.specs.core.Lines.{Reason, AreLinesFor, session_text}
 use Rattle.edge_traits.specs.Devices.{Device, KeepsPages}
 use Rattle.channel_pump.specs.State.{IsAfter}
 use Rattle.channel_pump.specs.declared.state.Pump.{Pump}
@@ -54,7 +54,7 @@ bytes_told told = flat_map bytes_of told
 pub record IsTold (catalog : Catalog) (kept : Hidden) (texts : List (List ℕ)) (journal : Journal) (place : ℕ) (one : TextTold) : Type 0 where
   pub written : List ℕ
   pub stands : slice_get texts place ≡ Some written
-  pub lines_are : AreLinesFor one.reason (text_in catalog kept texts journal (suc place) written) one.lines
+  pub lines_are : AreLinesFor one.reason (session_text catalog kept texts journal (suc place) written) one.lines
   pub undamaged : is_damage one.reason ≡ false
 
 -- so many texts from the front were told, each by its lines, and counted by their reasons

@@ -1,8 +1,8 @@
 //! A session from its first move to its last line.
 
 ghost use Rattle.std.specs.Prelude.{◌≡◌, ◌≤◌, true, false, min, length};
-ghost use Rattle.ghost_model.specs.Causes.{Rose, last_count};
-ghost use Rattle.ghost_model.specs.Texts.{texts_of};
+ghost use Rattle.ghost_model.specs.core.Causes.{Rose, last_count};
+ghost use Rattle.ghost_model.specs.core.Texts.{texts_of};
 ghost use Rattle.edge_traits.specs.Devices.{KeepsPages};
 ghost use Rattle.channel_pump.specs.State.{want_of};
 ghost use Rattle.channel_session.specs.Entries.{WentBy};

@@ -1,7 +1,7 @@
 //! What a session counts, and how it ended.
 
 ghost use Rattle.std.specs.Prelude.{◌≡◌, false};
-ghost use Rattle.ghost_model.specs.NextMove.{Standing};
+ghost use Rattle.ghost_model.specs.core.NextMove.{Standing};
 ghost use Rattle.channel_pump.specs.Progress.{EndsAs};
 ghost use Rattle.key_session.specs.Refusing.{first_code};
 ghost use Rattle.key_session.specs.Running as running;

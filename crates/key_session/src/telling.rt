@@ -1,8 +1,8 @@
 //! The texts of a session, told one after another.
 
 ghost use Rattle.std.specs.Prelude.{◌≡◌, ◌<◌, ◌≤◌, ◌+◌, ℕ, List, [], true, false, length};
-ghost use Rattle.ghost_model.specs.Channel.{Journal};
-ghost use Rattle.ghost_model.specs.Asks.{asked_of};
+ghost use Rattle.ghost_model.specs.core.Channel.{Journal};
+ghost use Rattle.ghost_model.specs.core.Asks.{asked_of};
 ghost use Rattle.channel_pump.specs.State.{IsAfter};
 ghost use Rattle.key_exec.specs.Plans.{Suffices};
 ghost use Rattle.key_session.specs.Going.{IsGoing, IsAttended};

@@ -3,16 +3,16 @@
 -- for that.
 use Rattle.std.specs.Prelude.{◌≡◌, ℕ, suc, ◌+◌, ◌≤◌, min, Bool, true, false, List, [], ◌∷◌, ◌++◌, length, map, flat_map, count_by, codes, slice_get, Some, Ok}
 use Rattle.std.specs.List.{concat, list_any}
-use Rattle.ghost_model.specs.Causes.{last_count}
-use Rattle.ghost_model.specs.Schema.{Schema}
-use Rattle.ghost_model.specs.Values.{Database, Row}
-use Rattle.ghost_model.specs.Query.{Query}
-use Rattle.ghost_model.specs.QueryReading.{reading}
-use Rattle.ghost_model.specs.Meaning.{answer}
-use Rattle.ghost_model.specs.Printed.{row_line, word_line, lines_of_text, printed}
-use Rattle.ghost_model.specs.Channel.{Catalog, Journal}
-use Rattle.ghost_model.specs.NextMove.{Standing, IsFinished}
-use Rattle.ghost_model.specs.Split.{hidden_of}
+use Rattle.ghost_model.specs.core.Causes.{last_count}
+use Rattle.ghost_model.specs.core.Schema.{Schema}
+use Rattle.ghost_model.specs.core.Values.{Database, Row}
+use Rattle.ghost_model.specs.core.Query.{Query}
+use Rattle.ghost_model.specs.readings.QueryReading.{reading}
+use Rattle.ghost_model.specs.core.Meaning.{answer}
+use Rattle.ghost_model.specs.core.Printed.{row_line, word_line, lines_of_text, printed}
+use Rattle.ghost_model.specs.core.Channel.{Catalog, Journal}
+use Rattle.ghost_model.specs.core.NextMove.{Standing, IsFinished}
+use Rattle.ghost_model.specs.core.Split.{hidden_of}
 use Rattle.session_laws.specs.Local.{IsLocal}
 use Rattle.key_lines.specs.Handing.{Hands}
 use Rattle.key_session.specs.Telling.{SessionSide, AreTold}

@@ -2,12 +2,12 @@
 
 ghost use Rattle.std.specs.Prelude.{◌≡◌, ℕ, ◌+◌, ◌*◌, ◌<◌, ◌≤◌, ◌==◌, true, List, [], ◌∷◌, length, drop, map, IfSome, IfNone};
 ghost use Rattle.std.specs.List.{list_any};
-ghost use Rattle.ghost_model.specs.Schema.{Schema as Tables};
-ghost use Rattle.ghost_model.specs.Asks as asks;
-ghost use Rattle.ghost_model.specs.Asks.{Asked};
-ghost use Rattle.ghost_model.specs.NextMove as next;
-ghost use Rattle.ghost_model.specs.QueryReading.{reading};
-ghost use Rattle.ghost_model.specs.Texts as texts;
+ghost use Rattle.ghost_model.specs.core.Schema.{Schema as Tables};
+ghost use Rattle.ghost_model.specs.core.Asks as asks;
+ghost use Rattle.ghost_model.specs.core.Asks.{NumberedAsk};
+ghost use Rattle.ghost_model.specs.core.NextMove as next;
+ghost use Rattle.ghost_model.specs.readings.QueryReading.{reading};
+ghost use Rattle.ghost_model.specs.core.Texts as texts;
 ghost use Rattle.channel_codec.specs.AskViews.{ask_view};
 ghost use Rattle.script_asks.specs.Left.{are_numbered, are_proper, asked_left, hand_asks};
 
@@ -39,9 +39,9 @@ pub struct ScriptAsks<'a> {
 
 impl<'a> Model for ScriptAsks<'a> {
     ghost use Rattle.std.specs.Prelude.{List, length, ◌+◌, ◌≤◌};
-    ghost use Rattle.ghost_model.specs.Asks.{Asked};
+    ghost use Rattle.ghost_model.specs.core.Asks.{NumberedAsk};
 
-    ghost Value = { List Asked };
+    ghost Value = { List NumberedAsk };
 
     ghost use Rattle.script_asks.specs.Left.{asked_left};
 
@@ -143,7 +143,7 @@ impl<'a> ScriptAsks<'a> {
 
     /// The first ask, and the number of its text.
     pub fn first(&self) -> Option<(u32, &Ask)>
-        ensures some { IfSome result (λ first. (later : List Asked) × (self.now ≡ asks.asked first.0 (ask_view first.1.now) ∷ later)) }
+        ensures some { IfSome result (λ first. (later : List NumberedAsk) × (self.now ≡ asks.asked first.0 (ask_view first.1.now) ∷ later)) }
         ensures few { IfSome result (λ first. first.0 ≤ 64) }
         ensures proper { (schema : Tables) → are_proper schema self.now ≡ true
             → IfSome result (λ first. asks.is_proper_ask schema (ask_view first.1.now) ≡ true) }

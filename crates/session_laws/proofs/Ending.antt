@@ -2,12 +2,12 @@
 use Rattle.std.proofs.Common.{◌≡◌, ℕ, zero, suc, ◌⊎◌, inl, inr, true, List, [], ◌∷◌, ◌++◌, length, length-append, take, drop, sym, ◌∙◌, ap, subst, refl, arith, append-nil, append_assoc, Option, Some}
 use Rattle.std.proofs.lemmas.List.{take-append-drop}
 use Rattle.std.specs.Prelude.{flat_map}
-use Rattle.ghost_model.specs.Values.{Database}
-use Rattle.ghost_model.specs.Channel.{Catalog, Frame, Move, Dial, Listen, Accept, Send, Take, Close, Made, Piece, Entry, Journal}
-use Rattle.ghost_model.specs.Frames.{IsFrame, frame_bytes, frame_in}
-use Rattle.ghost_model.specs.Asks.{Asked, asked_of}
-use Rattle.ghost_model.specs.NextMove.{Standing, standing_after, next_with, GoesOn, IsFinished}
-use Rattle.ghost_model.specs.Host.{Holding, Response, answer_to}
+use Rattle.ghost_model.specs.core.Values.{Database}
+use Rattle.ghost_model.specs.core.Channel.{Catalog, Frame, Move, Dial, Listen, Accept, Send, Take, Close, Made, Piece, Entry, Journal}
+use Rattle.ghost_model.specs.forms.Frames.{IsFrame, frame_bytes, frame_in}
+use Rattle.ghost_model.specs.core.Asks.{NumberedAsk, asked_of}
+use Rattle.ghost_model.specs.core.NextMove.{Standing, standing_after, next_with, GoesOn, IsFinished}
+use Rattle.ghost_model.specs.core.Host.{Holding, Response, answer_to}
 use Rattle.ghost_model.proofs.ChannelLemmas.{frame_is_read}
 use Rattle.session_laws.specs.Serving.{Desk, first_desk, serves, ServedFrom}
 use Rattle.session_laws.specs.Local.{holding_of, IsLocal, finds_desk, EndsBy}
@@ -22,7 +22,7 @@ served_join held first second third [] more e served = subst (λ (d : Desk). Ser
 served_join held first second third (entry ∷ journal) more e served =
     (e.0, e.1, served_join held e.0 second third journal more e.2 served)
 
-goes_more : (catalog : Catalog) (at : List ℕ) (asks : List Asked) (before journal : Journal) (entry : Entry) → GoesOn catalog at asks before journal → next_with catalog at asks (before ++ journal) ≡ Some entry.move → GoesOn catalog at asks before (journal ++ entry ∷ [])
+goes_more : (catalog : Catalog) (at : List ℕ) (asks : List NumberedAsk) (before journal : Journal) (entry : Entry) → GoesOn catalog at asks before journal → next_with catalog at asks (before ++ journal) ≡ Some entry.move → GoesOn catalog at asks before (journal ++ entry ∷ [])
 goes_more catalog at asks before [] entry goes e = (ap (λ (j : Journal). next_with catalog at asks j) (sym (append-nil before)) ∙ e, tt)
 goes_more catalog at asks before (first ∷ journal) entry goes e =
     (goes.0, goes_more catalog at asks (before ++ first ∷ []) journal entry goes.1 (ap (λ (j : Journal). next_with catalog at asks j) (append_assoc before (first ∷ []) journal) ∙ e))
@@ -36,14 +36,14 @@ one_response : (o : Option Response) (one other : Response) → o ≡ Some one �
 one_response o one other e f = cc
 
 -- a move, its answer, and where the host then stands, less being to be done
-record IsMade (held : Holding) (address : List ℕ) (asks : List Asked) (can : CanServe held asks) (journal : Journal) (desk : Desk) (much : ℕ) : Type 0 where
+record IsMade (held : Holding) (address : List ℕ) (asks : List NumberedAsk) (can : CanServe held asks) (journal : Journal) (desk : Desk) (much : ℕ) : Type 0 where
   entry : Entry
   after : Desk
   next : next_with held.catalog address asks journal ≡ Some entry.move
   served : serves held desk entry after
   lower : Lower held address asks can (goes held.catalog asks (standing_after held.catalog asks journal) entry) after.stand after.owed much
 
-module _ (held : Holding) (address : List ℕ) (asks : List Asked) (can : CanServe held asks) where
+module _ (held : Holding) (address : List ℕ) (asks : List NumberedAsk) (can : CanServe held asks) where
   send_so : (journal : Journal) (desk : Desk) (much : ℕ) (bytes : List ℕ) → next_with held.catalog address asks journal ≡ Some (Send bytes) → Sends held address asks can (standing_after held.catalog asks journal) desk.stand desk.owed much bytes → IsMade held address asks can journal desk much
   send_so journal desk much bytes next s =
       let a = answers_at held address asks can (standing_after held.catalog asks journal) desk.stand desk.owed much bytes s in
@@ -138,7 +138,7 @@ module _ (held : Holding) (address : List ℕ) (asks : List Asked) (can : CanSer
 pub ends : (catalog : Catalog) (database : Database) (at : List ℕ) (texts : List (List ℕ)) (journal : Journal) → IsLocal catalog database at texts journal → EndsBy catalog database at texts journal
 ends catalog database at texts journal is =
     let held : Holding = holding_of catalog database in
-    let asks : List Asked = asked_of catalog.schema texts in
+    let asks : List NumberedAsk = asked_of catalog.schema texts in
     let can : CanServe (holding_of catalog database) (asked_of catalog.schema texts) = can_serve catalog database texts is.setting is.stored in
     let w : Walked (holding_of catalog database) at (asked_of catalog.schema texts) can journal is.desk = walked (holding_of catalog database) at asks can journal is.desk is.proper is.served in
     let much : ℕ = rank held at asks can (standing_after catalog asks journal) is.desk.stand is.desk.owed w.there in
@@ -153,7 +153,7 @@ ends catalog database at texts journal is =
 pub finds : (catalog : Catalog) (database : Database) (at : List ℕ) (texts : List (List ℕ)) (journal : Journal) (move : Move) → (is : IsLocal catalog database at texts journal) → next_with catalog at (asked_of catalog.schema texts) journal ≡ Some move → finds_desk is.desk move
 finds catalog database at texts journal move is next =
     let held : Holding = holding_of catalog database in
-    let asks : List Asked = asked_of catalog.schema texts in
+    let asks : List NumberedAsk = asked_of catalog.schema texts in
     let can : CanServe (holding_of catalog database) (asked_of catalog.schema texts) = can_serve catalog database texts is.setting is.stored in
     let w : Walked (holding_of catalog database) at (asked_of catalog.schema texts) can journal is.desk = walked (holding_of catalog database) at asks can journal is.desk is.proper is.served in
     found held at asks can journal is.desk _ move (moves_at held at asks can (standing_after catalog asks journal) is.desk.stand is.desk.owed move w.there next)

@@ -4,17 +4,17 @@ use Rattle.std.specs.Prelude.{flat_map, if◌then◌else◌, not, nat_lt}
 use Rattle.std.proofs.lemmas.Bool.{ltb-true}
 use Rattle.std.proofs.lemmas.Grind.{flat_map-append}
 use Rattle.std.specs.List.{list_any}
-use Rattle.ghost_model.specs.Schema.{is_empty}
-use Rattle.ghost_model.specs.Channel.{Catalog, Frame, Hello, Move, Dial, Listen, Accept, Send, Take, Close, Made, Piece, Entry, Journal}
-use Rattle.ghost_model.specs.Frames.{frame_bytes, frame_in, size_in}
-use Rattle.ghost_model.specs.Moves.{taken, sent, sent_by, piece_of}
-use Rattle.ghost_model.specs.Asks.{Asked}
-use Rattle.ghost_model.specs.NextMove as next
-use Rattle.ghost_model.specs.NextMove.{Awaits, Verdict, Heard, Standing, standing_after, verdict, heard_as, heard_frame, hear_all, bytes_missing, move_from, take_or_close, send_or, is_close, is_stop}
-use Rattle.ghost_model.specs.ChannelLaws.{IsAwaited}
-use Rattle.ghost_model.specs.Lines.{was_refused}
-use Rattle.ghost_model.specs.Host.{Holding, Stand, Response, answer_to}
-use Rattle.ghost_model.specs.Host as host
+use Rattle.ghost_model.specs.core.Schema.{is_empty}
+use Rattle.ghost_model.specs.core.Channel.{Catalog, Frame, HelloFrame, Move, Dial, Listen, Accept, Send, Take, Close, Made, Piece, Entry, Journal}
+use Rattle.ghost_model.specs.forms.Frames.{frame_bytes, frame_in, size_in}
+use Rattle.ghost_model.specs.core.Moves.{taken, sent, sent_by, piece_of}
+use Rattle.ghost_model.specs.core.Asks.{NumberedAsk}
+use Rattle.ghost_model.specs.core.NextMove as next
+use Rattle.ghost_model.specs.core.NextMove.{Awaits, Verdict, Heard, Standing, standing_after, verdict, heard_as, heard_frame, hear_all, bytes_missing, move_from, take_or_close, send_or, is_close, is_stop}
+use Rattle.ghost_model.specs.laws.ChannelLaws.{IsAwaited}
+use Rattle.ghost_model.specs.core.Lines.{was_refused}
+use Rattle.ghost_model.specs.core.Host.{Holding, Stand, Response, answer_to}
+use Rattle.ghost_model.specs.core.Host as host
 use Rattle.ghost_model.proofs.ChannelLemmas.{payload_bound}
 use Rattle.ghost_model.proofs.ChannelLemmas.Hearing.{lacking, heard_on}
 use Rattle.ghost_model.proofs.ChannelLemmas.Sending.{heard_more}
@@ -28,7 +28,7 @@ whole_self : (h : Heard) → h.part ≡ [] → h.broken ≡ false → h ≡ whol
 whole_self h p b =
     ap (λ (x : List ℕ). record h { part = x }) p ∙ ap (λ (x : Bool). record h { part = []; broken = x }) b
 
-module _ (catalog : Catalog) (asks : List Asked) (frame : Frame) where
+module _ (catalog : Catalog) (asks : List NumberedAsk) (frame : Frame) where
   -- a part of a frame that may come
   heard_part : (h : Heard) (part piece : List ℕ) (byte : ℕ) (more : List ℕ) → IsAwaited catalog h.awaits frame → part ++ (piece ++ byte ∷ more) ≡ frame_bytes frame → hear_all catalog asks (whole h part) piece ≡ whole h (part ++ piece)
   unfolding hear_all
@@ -45,7 +45,7 @@ module _ (catalog : Catalog) (asks : List Asked) (frame : Frame) where
       ∙ ap (λ (p : List ℕ). whole h p) (append_assoc part (x ∷ []) (y ∷ piece)))
 
 -- what a journal has led to after one more entry
-abbrev pub goes : Catalog → List Asked → Standing → Entry → Standing
+abbrev pub goes : Catalog → List NumberedAsk → Standing → Entry → Standing
 goes catalog asks l entry = record {
   opened = true;
   closed = l.closed || is_close entry.move;
@@ -82,7 +82,7 @@ left_of opened closed stopped sent heard = record { opened = opened; closed = cl
 five : (a b : Bool) (c d : Bool) (e f : Bool) (m n : ℕ) (g h : Heard) → a ≡ b → c ≡ d → e ≡ f → m ≡ n → g ≡ h → left_of a c e m g ≡ left_of b d f n h
 five a b c d e f m n g h p q r s t = cc
 
-pub left_more : (catalog : Catalog) (asks : List Asked) (before : Journal) (entry : Entry) → standing_after catalog asks (before ++ entry ∷ []) ≡ goes catalog asks (standing_after catalog asks before) entry
+pub left_more : (catalog : Catalog) (asks : List NumberedAsk) (before : Journal) (entry : Entry) → standing_after catalog asks (before ++ entry ∷ []) ≡ goes catalog asks (standing_after catalog asks before) entry
 left_more catalog asks before entry =
     five _ true _ _ _ _ _ _ _ _
     (not_empty before entry)
@@ -93,20 +93,20 @@ left_more catalog asks before entry =
 
 -- a part of a frame lacks some bytes
 lacks_some : (short header part payload : Bool) (m n k : ℕ) → (short ≡ true → 0 < m) → (part ≡ true → 0 < n)
-    → (if short then next.Short m else if not header then next.Invalid else if part then next.Short n else if payload then next.Whole else next.Invalid) ≡ next.Short k → 0 < k
+    → (if short then next.Lacking m else if not header then next.Invalid else if part then next.Lacking n else if payload then next.Complete else next.Invalid) ≡ next.Lacking k → 0 < k
 lacks_some true header part payload m n k p q e = subst (λ (x : ℕ). 0 < x) (same_short m k e) (p refl)
   where
-    same_short : (a b : ℕ) → next.Short a ≡ next.Short b → a ≡ b
+    same_short : (a b : ℕ) → next.Lacking a ≡ next.Lacking b → a ≡ b
     same_short a b e = cc
 lacks_some false false part payload m n k p q e = let bad : ⊥ = cc in absurd bad
 lacks_some false true true payload m n k p q e = subst (λ (x : ℕ). 0 < x) (same_short n k e) (q refl)
   where
-    same_short : (a b : ℕ) → next.Short a ≡ next.Short b → a ≡ b
+    same_short : (a b : ℕ) → next.Lacking a ≡ next.Lacking b → a ≡ b
     same_short a b e = cc
 lacks_some false true false true m n k p q e = let bad : ⊥ = cc in absurd bad
 lacks_some false true false false m n k p q e = let bad : ⊥ = cc in absurd bad
 
-short_is_some : (catalog : Catalog) (awaits : Awaits) (part : List ℕ) (missing : ℕ) → verdict catalog awaits part ≡ next.Short missing → 0 < missing
+short_is_some : (catalog : Catalog) (awaits : Awaits) (part : List ℕ) (missing : ℕ) → verdict catalog awaits part ≡ next.Lacking missing → 0 < missing
 short_is_some catalog awaits part missing e =
     lacks_some (nat_lt (length part) 8) (next.header_fits catalog awaits part) (nat_lt (length part) (8 + size_in part)) (next.payload_fits catalog awaits (frame_in part))
     (8 - length part) (8 + size_in part - length part) missing
@@ -166,7 +166,7 @@ next_closed catalog address l o c =
     ap (λ (x : Bool). chosen address x l.closed l.stopped l.heard.broken (take_or_close catalog l.heard l.heard.awaits) (slice_get l.heard.due l.sent)) o
     ∙ shut_is address l.closed l.stopped l.heard.broken (take_or_close catalog l.heard l.heard.awaits) (slice_get l.heard.due l.sent) c
 
-module _ (held : Holding) (address : List ℕ) (asks : List Asked) (can : CanServe held asks) where
+module _ (held : Holding) (address : List ℕ) (asks : List NumberedAsk) (can : CanServe held asks) where
   -- where a session stands: a frame is due, a frame is being taken and others were said after it, the close is next, or
   -- it is closed
   pub data At (l : Standing) (stand : Stand) (owed : List ℕ) : Type 0 where
@@ -484,5 +484,5 @@ module _ (held : Holding) (address : List ℕ) (asks : List Asked) (can : CanSer
   pub begins : At (standing_after held.catalog asks []) host.Greeting []
   unfolding hear_all
   begins =
-      sending (Hello held.catalog.generation) [] (record { closed = refl; stopped = refl; valid = refl }) refl refl refl refl
+      sending (HelloFrame held.catalog.generation) [] (record { closed = refl; stopped = refl; valid = refl }) refl refl refl refl
       (says_hello (record { awaits = refl; none_refused = refl }) refl refl)

@@ -5,15 +5,15 @@ use Rattle.std.specs.List.{list_all, concat}
 use Rattle.std.proofs.lemmas.Grind.{flat_map-append}
 use Rattle.std.proofs.lemmas.List.{take-append-le, drop-append-le, length-take-le, take-append-drop}
 use Rattle.std.proofs.lemmas.Bool.{eq-eqb}
-use Rattle.ghost_model.specs.Channel.{Frame, Move, Dial, Listen, Accept, Send, Take, Close, Answer, Made, Piece, Entry, Journal}
-use Rattle.ghost_model.specs.Frames.{IsFrame, frame_bytes}
-use Rattle.ghost_model.specs.Asks.{Asked}
-use Rattle.ghost_model.specs.Moves.{taken, sent, sent_by, piece_of}
-use Rattle.ghost_model.specs.NextMove.{Standing, standing_after, next_with, GoesOn, hear_all}
-use Rattle.ghost_model.specs.Host.{Holding, Stand, Response, said_to, said_with, answer_to, frames_of, said_with_refusals}
-use Rattle.ghost_model.specs.Host as host
-use Rattle.ghost_model.specs.Local.{IsServedBy, is_full}
-use Rattle.ghost_model.specs.SessionLaws.{IsServedThroughout}
+use Rattle.ghost_model.specs.core.Channel.{Frame, Move, Dial, Listen, Accept, Send, Take, Close, Answer, Made, Piece, Entry, Journal}
+use Rattle.ghost_model.specs.forms.Frames.{IsFrame, frame_bytes}
+use Rattle.ghost_model.specs.core.Asks.{NumberedAsk}
+use Rattle.ghost_model.specs.core.Moves.{taken, sent, sent_by, piece_of}
+use Rattle.ghost_model.specs.core.NextMove.{Standing, standing_after, next_with, GoesOn, hear_all}
+use Rattle.ghost_model.specs.core.Host.{Holding, Stand, Response, said_to, said_with, answer_to, frames_of, said_with_refusals}
+use Rattle.ghost_model.specs.core.Host as host
+use Rattle.ghost_model.specs.core.Local.{IsServedBy, is_full}
+use Rattle.ghost_model.specs.laws.SessionLaws.{IsServedThroughout}
 use Rattle.ghost_model.proofs.ChannelLemmas.Hosts.{frames_are_cut}
 use Rattle.ghost_model.proofs.ChannelLemmas.Tests.{both_hold, hold_both}
 use Rattle.session_laws.specs.Serving.{Desk, first_desk, Hears, Hands, Stays, handed, serves_move, serves, ServedFrom}
@@ -105,7 +105,7 @@ entry_of move answer = record { move = move; answer = answer }
 abbrev desk_of : Stand → List ℕ → Desk
 desk_of stand owed = record { stand = stand; owed = owed }
 
-module _ (held : Holding) (address : List ℕ) (asks : List Asked) (can : CanServe held asks) where
+module _ (held : Holding) (address : List ℕ) (asks : List NumberedAsk) (can : CanServe held asks) where
   -- so far the key made its moves, and the host served them
   pub record Walked (journal : Journal) (desk : Desk) : Type 0 where
     pub there : At held address asks can (standing_after held.catalog asks journal) desk.stand desk.owed

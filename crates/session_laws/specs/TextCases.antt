@@ -3,14 +3,14 @@
 -- text's word names it.
 use Rattle.std.specs.Prelude.{◌≡◌, ℕ, suc, Bool, true, false, not, ◌&&◌, ◌==◌, List, slice_get, codes, Some, Ok}
 use Rattle.std.specs.List.{list_any}
-use Rattle.ghost_model.specs.Query.{Query}
-use Rattle.ghost_model.specs.QueryReading.{reading}
-use Rattle.ghost_model.specs.Channel.{Catalog, Journal}
-use Rattle.ghost_model.specs.Moves.{answers}
-use Rattle.ghost_model.specs.NextMove.{is_stop, IsProper, IsFinished}
-use Rattle.ghost_model.specs.Lines.{ended_of, is_refused_by, was_refused, all_done, broken_word}
+use Rattle.ghost_model.specs.core.Query.{Query}
+use Rattle.ghost_model.specs.readings.QueryReading.{reading}
+use Rattle.ghost_model.specs.core.Channel.{Catalog, Journal}
+use Rattle.ghost_model.specs.core.Moves.{answers}
+use Rattle.ghost_model.specs.core.NextMove.{is_stop, IsProper, IsFinished}
+use Rattle.ghost_model.specs.core.Lines.{ended_of, is_refused_by, was_refused, all_done, broken_word}
 use Rattle.session_laws.specs.TextEnds.{heard_in, is_settled_in}
-use Rattle.ghost_model.specs.Asks.{asked_of}
+use Rattle.ghost_model.specs.core.Asks.{asked_of}
 
 -- whether the host refused an ask of a text
 abbrev pub is_refused_in : Catalog → (texts : List (List ℕ)) → Journal → (text : ℕ) → Bool

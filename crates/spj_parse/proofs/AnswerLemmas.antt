@@ -7,16 +7,16 @@ use Rattle.std.specs.declared.cmp.Ordering.TheVariants as order
 use Rattle.std.proofs.lemmas.Bool.{and_parts, eqb-true, eq-eqb}
 use Rattle.std.proofs.lemmas.List.Folds.{list_any-append, list_all-append}
 use Rattle.ghost_base.specs.CellLaws.{ValuesAreOrdered}
-use Rattle.ghost_model.specs.Schema.{Schema, parent, is_table, first_of}
-use Rattle.ghost_model.specs.SchemaTrees.{IsTree}
-use Rattle.ghost_model.specs.Values.{Value, Database}
-use Rattle.ghost_model.specs.Database.{order_of, meets, holds}
-use Rattle.ghost_model.specs.Query as query
-use Rattle.ghost_model.specs.Query.{Query, Field, Condition, Compare, Join}
-use Rattle.ghost_model.specs.QueryGrammar.{ColumnText, Bare, Qualified, ConditionText, Compares, LiesBetween, Joins, QueryText}
-use Rattle.ghost_model.specs.QueryMeaning.{field, table_named, column_named, fields_named, meanings, conditions_of, resolved, from_tables, is_among, is_some_among, is_key_to, is_proper, is_join_of, lacks_join, is_unlinked, top_of, value_of}
-use Rattle.ghost_model.specs.Meaning as meaning
-use Rattle.ghost_model.specs.Meaning.{Source, pick, compares, is_kept, answer_of_row, answer_by_top, all_of, answer}
+use Rattle.ghost_model.specs.core.Schema.{Schema, parent, is_table, first_of}
+use Rattle.ghost_model.specs.laws.SchemaTrees.{IsTree}
+use Rattle.ghost_model.specs.core.Values.{Value, Database}
+use Rattle.ghost_model.specs.core.Database.{order_of, meets, holds}
+use Rattle.ghost_model.specs.core.Query as query
+use Rattle.ghost_model.specs.core.Query.{Query, Field, Condition, Compare, Join}
+use Rattle.ghost_model.specs.refusals.QueryGrammar.{ColumnText, Bare, Qualified, ConditionText, Compares, LiesBetween, Joins, QueryText}
+use Rattle.ghost_model.specs.refusals.QueryMeaning.{field, table_named, column_named, fields_named, meanings, conditions_of, resolved, from_tables, is_among, is_some_among, is_reference_to, is_proper, is_join_of, lacks_join, is_unlinked, top_of, value_of_literal}
+use Rattle.ghost_model.specs.core.Meaning as meaning
+use Rattle.ghost_model.specs.core.Meaning.{Source, pick, compares, is_kept, answer_of_row, answer_by_top, all_of, answer}
 use Rattle.spj_parse.specs.Resolved.{is_comparison, keys_between, join_by, join_with, join_to, joins_of, linked}
 use Rattle.spj_parse.proofs.KeyLemmas.{join_is}
 
@@ -70,13 +70,13 @@ or_parts false b h = inr h
 join_true : ValuesAreOrdered → (schema : Schema) → IsTree schema → (from : List ℕ) (row : Combination) (table : ℕ) (left right : Field) → is_join_of schema table (Join left right) ≡ true
     → is_among from left.table ≡ true → is_among from right.table ≡ true → list_all (is_true_in row) (join_to schema from table) ≡ is_true_in row (Join left right)
 join_true laws schema tree from row table left right h l r =
-    elim (or_parts (is_key_to schema left right && right.table == table) (is_key_to schema right left && left.table == table) h) [
+    elim (or_parts (is_reference_to schema left right && right.table == table) (is_reference_to schema right left && left.table == table) h) [
       | inl e ↦
-          let both = and_parts (is_key_to schema left right) (right.table == table) e in
+          let both = and_parts (is_reference_to schema left right) (right.table == table) e in
           ap (λ (t : ℕ). list_all (is_true_in row) (join_to schema from t)) (sym (eqb-true right.table table both.1))
           ∙ ap (list_all (is_true_in row)) (join_is schema tree from left right both.0 l) ∙ and_one (is_true_in row (Join left right))
       | inr e ↦
-          let both = and_parts (is_key_to schema right left) (left.table == table) e in
+          let both = and_parts (is_reference_to schema right left) (left.table == table) e in
           ap (λ (t : ℕ). list_all (is_true_in row) (join_to schema from t)) (sym (eqb-true left.table table both.1))
           ∙ ap (list_all (is_true_in row)) (join_is schema tree from right left both.0 r) ∙ and_one (is_true_in row (Join right left))
           ∙ swapped laws (value_in row right) (value_in row left)
@@ -154,8 +154,8 @@ joins_within from (left ∷ lefts) rights h g =
     (rights_within from left rights parts.0 g) (joins_within from lefts rights parts.1 g)
 
 condition_within : (schema : Schema) (from : List ℕ) (condition : ConditionText) → list_all (within from) (conditions_of schema from condition) ≡ true
-condition_within schema from (Compares column operator literal) = compared_within from (λ place. Compare place operator (value_of literal)) (λ place. refl) (meanings schema from column)
-condition_within schema from (LiesBetween column low high) = bounds_within from (value_of low) (value_of high) (meanings schema from column)
+condition_within schema from (Compares column operator literal) = compared_within from (λ place. Compare place operator (value_of_literal literal)) (λ place. refl) (meanings schema from column)
+condition_within schema from (LiesBetween column low high) = bounds_within from (value_of_literal low) (value_of_literal high) (meanings schema from column)
 condition_within schema from (Joins left right) = joins_within from (meanings schema from left) (meanings schema from right) (meanings_from schema from left) (meanings_from schema from right)
 
 pub all_within : (schema : Schema) (from : List ℕ) (conditions : List ConditionText) → list_all (within from) (flat_map (conditions_of schema from) conditions) ≡ true
@@ -242,9 +242,9 @@ second false b h = h
 
 side_by : (schema : Schema) (left right : Field) → is_proper schema (Join left right) ≡ true → (table : ℕ) × ((table ≡ right.table) ⊎ (table ≡ left.table)) × (is_join_of schema table (Join left right) ≡ true)
 side_by schema left right h =
-    elim (or_parts (is_key_to schema left right) (is_key_to schema right left) h) [
-      | inl e ↦ (right.table, inl refl, ap (λ b. b || (is_key_to schema right left && left.table == right.table)) (both_true (is_key_to schema left right) (right.table == right.table) e (eq-eqb right.table right.table refl)))
-      | inr e ↦ (left.table, inr refl, second (is_key_to schema left right && right.table == left.table) (is_key_to schema right left && left.table == left.table) (both_true (is_key_to schema right left) (left.table == left.table) e (eq-eqb left.table left.table refl)))
+    elim (or_parts (is_reference_to schema left right) (is_reference_to schema right left) h) [
+      | inl e ↦ (right.table, inl refl, ap (λ b. b || (is_reference_to schema right left && left.table == right.table)) (both_true (is_reference_to schema left right) (right.table == right.table) e (eq-eqb right.table right.table refl)))
+      | inr e ↦ (left.table, inr refl, second (is_reference_to schema left right && right.table == left.table) (is_reference_to schema right left && left.table == left.table) (both_true (is_reference_to schema right left) (left.table == left.table) e (eq-eqb left.table left.table refl)))
     ]
 
 among_side : (from : List ℕ) (table left right : ℕ) → (table ≡ right) ⊎ (table ≡ left) → is_among from left ≡ true → is_among from right ≡ true → is_among from table ≡ true

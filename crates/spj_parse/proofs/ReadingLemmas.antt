@@ -4,13 +4,13 @@ use Rattle.std.specs.Prelude.{option_to_list}
 use Rattle.std.specs.List.{list_any, cons_option}
 use Rattle.std.proofs.lemmas.Bool.{ltb-false}
 use Rattle.std.proofs.lemmas.Grind.{flat_map-append}
-use Rattle.ghost_model.specs.Schema.{Schema}
-use Rattle.ghost_model.specs.QueryGrammar.{ColumnText, ConditionText, Selection, All, Columns, QueryText}
-use Rattle.ghost_model.specs.QueryPlaces.{syntax_of}
-use Rattle.ghost_model.specs.Rules.{broken_if, first_broken}
-use Rattle.ghost_model.specs.QueryMeaning as meaning
-use Rattle.ghost_model.specs.QueryMeaning.{Refusal, literal_conditions, selected_count, table_named, from_names, from_tables, resolved, is_over_limit, has_unknown_table, has_unknown_column, is_ambiguous, has_kind_mismatch, has_bad_literal, is_unlinked}
-use Rattle.ghost_model.specs.QueryReading.{reading, judged, query_unless}
+use Rattle.ghost_model.specs.core.Schema.{Schema}
+use Rattle.ghost_model.specs.refusals.QueryGrammar.{ColumnText, ConditionText, Selection, All, Columns, QueryText}
+use Rattle.ghost_model.specs.readings.QueryPlaces.{syntax_of}
+use Rattle.ghost_model.specs.refusals.Rules.{broken_if, first_broken}
+use Rattle.ghost_model.specs.refusals.QueryMeaning as meaning
+use Rattle.ghost_model.specs.refusals.QueryMeaning.{Refusal, literal_conditions, selected_count, table_named, from_names, from_tables, resolved, is_over_limit, has_unknown_table, has_unknown_column, is_ambiguous, has_kind_mismatch, has_bad_literal, is_unlinked}
+use Rattle.ghost_model.specs.readings.QueryReading.{reading, judged, query_unless}
 use Rattle.spj_parse.specs.declared.conditions.ConditionTest.TheVariants as test
 use Rattle.spj_parse.specs.Conditions.{IsClear, item_passes}
 use Rattle.spj_parse.proofs.ConditionLemmas.{test_of_tree}

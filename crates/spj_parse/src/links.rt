@@ -2,10 +2,10 @@
 
 ghost use Rattle.std.specs.Prelude.{◌≡◌, Ok, not};
 ghost use Rattle.std.specs.List.{list_any};
-ghost use Rattle.ghost_model.specs.QueryGrammar as grammar;
-ghost use Rattle.ghost_model.specs.QueryMeaning as meaning;
-ghost use Rattle.ghost_model.specs.QueryPlaces as places;
-ghost use Rattle.ghost_model.specs.Schema as model;
+ghost use Rattle.ghost_model.specs.refusals.QueryGrammar as grammar;
+ghost use Rattle.ghost_model.specs.refusals.QueryMeaning as meaning;
+ghost use Rattle.ghost_model.specs.readings.QueryPlaces as places;
+ghost use Rattle.ghost_model.specs.core.Schema as model;
 ghost use Rattle.spj_parse.specs.Conditions.{IsClear};
 ghost use Rattle.spj_parse.specs.Items.{items_in};
 ghost use Rattle.spj_parse.specs.Links.{lacks_join_in, top_among};

@@ -1,9 +1,9 @@
 //! The values of literals.
 
 ghost use Rattle.std.specs.Prelude.{◌≡◌, ℕ, ◌+◌, ◌<◌, ◌^◌, ◌≤◌, ◌∷◌, ◌++◌, [], IfNone, IfSome, List, MatchOption, false, take, true};
-ghost use Rattle.ghost_model.specs.QueryMeaning as meaning;
-ghost use Rattle.ghost_model.specs.Tokens as tokens;
-ghost use Rattle.ghost_model.specs.Tokens.{number_of};
+ghost use Rattle.ghost_model.specs.refusals.QueryMeaning as meaning;
+ghost use Rattle.ghost_model.specs.refusals.Tokens as tokens;
+ghost use Rattle.ghost_model.specs.refusals.Tokens.{number_of};
 ghost use Rattle.tree_schema.specs.Marks as marks;
 ghost use Rattle.spj_parse.specs.Drafts.{sign_of};
 ghost use Rattle.spj_parse.specs.Literals.{Keeps, is_out, read_on};

@@ -1,7 +1,7 @@
 //! Queries as values of a fixed size.
 
 ghost use Rattle.std.specs.Prelude.{◌≡◌, ℕ, ◌≤◌, List, false, filter, is_none, length, map};
-ghost use Rattle.ghost_model.specs.QueryMeaning as meaning;
+ghost use Rattle.ghost_model.specs.refusals.QueryMeaning as meaning;
 ghost use Rattle.spj_parse.specs.Resolved.{IsMeant, IsRead, is_comparison, is_join};
 ghost use Rattle.spj_parse.specs.Views.{comparison_of, field_of, join_of, query_of};
 
@@ -44,7 +44,7 @@ pub struct Query {
 }
 
 impl Model for Query {
-    ghost use Rattle.ghost_model.specs.Query as query;
+    ghost use Rattle.ghost_model.specs.core.Query as query;
 
     ghost Value = { query.Query };
 

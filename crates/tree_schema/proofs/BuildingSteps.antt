@@ -2,11 +2,11 @@
 use Rattle.std.proofs.Common.{◌≡◌, ℕ, zero, suc, ◌+◌, ◌<◌, Bool, true, false, ◌||◌, List, [], ◌∷◌, length, map, get_or, find, Option, Some, None, option_map, refl, ap, sym, ◌∙◌, arith}
 use Rattle.std.specs.List.{list_any}
 use Rattle.std.specs.Option.{option_or}
-use Rattle.ghost_model.specs.Schema.{places_from, places_of}
-use Rattle.ghost_model.specs.Rules.{broken_if, first_broken}
-use Rattle.ghost_model.specs.SchemaGrammar.{SchemaText}
-use Rattle.ghost_model.specs.SchemaMeaning as meaning
-use Rattle.ghost_model.specs.SchemaFaults as faults
+use Rattle.ghost_model.specs.core.Schema.{places_from, places_of}
+use Rattle.ghost_model.specs.refusals.Rules.{broken_if, first_broken}
+use Rattle.ghost_model.specs.refusals.SchemaGrammar.{SchemaText}
+use Rattle.ghost_model.specs.refusals.SchemaMeaning as meaning
+use Rattle.ghost_model.specs.refusals.SchemaFaults as faults
 use Rattle.tree_schema.specs.declared.syntax.ColumnDraft.{ColumnDraft}
 use Rattle.tree_schema.specs.declared.syntax.TableDraft.{TableDraft}
 use Rattle.tree_schema.specs.Drafts as drafts
@@ -58,7 +58,7 @@ rest_by tables places roots =
 abbrev by_roots : SchemaText → Option faults.SchemaFault
 by_roots tables = faults.wrong_roots (faults.roots_of (meaning.schema_of tables))
 
-pub tree_decides : (tables : SchemaText) → fault_of_texts tables ≡ None → first_broken (faults.rules tables) ≡ fault_of_tree (meaning.schema_of tables)
+pub tree_decides : (tables : SchemaText) → fault_of_texts tables ≡ None → first_broken (faults.rules_of_schemas tables) ≡ fault_of_tree (meaning.schema_of tables)
 tree_decides tables e =
     then_rest (broken_if (faults.is_over tables) faults.Limit) (option_map faults.duplicate_at (find (faults.is_duplicate tables) (faults.fields tables)))
     (option_map faults.NoId (find (faults.lacks_id tables) (places_of tables)))

@@ -9,13 +9,13 @@ use Rattle.std.proofs.lemmas.List.Folds.{find-append, fold-map}
 use Rattle.std.proofs.lemmas.List.Sums.{sum_by-cons}
 use Rattle.std.specs.Slice.{IsItemAt}
 use Rattle.std.proofs.lemmas.Option.{slice_get-map, slice_get_read, slice_get_past}
-use Rattle.ghost_model.specs.Tokens.{is_between}
-use Rattle.ghost_model.specs.Query.{Field}
-use Rattle.ghost_model.specs.Schema.{places_from, places_of}
-use Rattle.ghost_model.specs.Rules.{broken_if}
-use Rattle.ghost_model.specs.SchemaGrammar.{TableText, SchemaText}
-use Rattle.ghost_model.specs.SchemaMeaning.{columns_written}
-use Rattle.ghost_model.specs.SchemaFaults.{is_this_name, repeats, column_name, columns_at, table_repeats, is_duplicate, fields, fields_from, is_over, lacks_id, is_unknown, SchemaFault, Limit, DuplicateName, NoId, duplicate_at as duplicate_fault, unknown_at as unknown_fault}
+use Rattle.ghost_model.specs.refusals.Tokens.{is_between}
+use Rattle.ghost_model.specs.core.Query.{Field}
+use Rattle.ghost_model.specs.core.Schema.{places_from, places_of}
+use Rattle.ghost_model.specs.refusals.Rules.{broken_if}
+use Rattle.ghost_model.specs.refusals.SchemaGrammar.{TableText, SchemaText}
+use Rattle.ghost_model.specs.refusals.SchemaMeaning.{columns_written}
+use Rattle.ghost_model.specs.refusals.SchemaFaults.{is_this_name, repeats, declared_name, columns_at, table_repeats, is_duplicate, fields, fields_from, is_over, lacks_id, is_unknown, SchemaFault, Limit, DuplicateName, NoId, duplicate_at as duplicate_fault, unknown_at as unknown_fault}
 use Rattle.tree_schema.specs.declared.syntax.ColumnDraft.{ColumnDraft}
 use Rattle.tree_schema.specs.Drafts as drafts
 use Rattle.tree_schema.specs.Faults.{field_at, fault_of_texts}
@@ -175,7 +175,7 @@ fields_fail test tables at s past = s.none ∙ ap (λ ts. find test (fields_from
 
 pub duplicate_nowhere : (tables : SchemaText) (table column : ℕ) → slice_get tables table ≡ None → is_duplicate tables (field_at table column) ≡ false
 duplicate_nowhere tables table column e =
-    neither_of _ _ (no_name column) (ap (λ o. repeats (map column_name (columns_at o)) column) e ∙ nothing_repeats column)
+    neither_of _ _ (no_name column) (ap (λ o. repeats (map declared_name (columns_at o)) column) e ∙ nothing_repeats column)
   where
     nothing_repeats : (place : ℕ) → repeats [] place ≡ false
     nothing_repeats zero = refl
@@ -190,8 +190,8 @@ duplicate_nowhere tables table column e =
     neither_of false b f g = g
 
 pub duplicate_at : (tables : SchemaText) (table column : ℕ) (t : TableText) → slice_get tables table ≡ Some t
-    → is_duplicate tables (field_at table column) ≡ ((column == 0 && table_repeats tables table) || repeats (map column_name (columns_written t)) column)
-duplicate_at tables table column t e = ap (λ o. (column == 0 && table_repeats tables table) || repeats (map column_name (columns_at o)) column) e
+    → is_duplicate tables (field_at table column) ≡ ((column == 0 && table_repeats tables table) || repeats (map declared_name (columns_written t)) column)
+duplicate_at tables table column t e = ap (λ o. (column == 0 && table_repeats tables table) || repeats (map declared_name (columns_at o)) column) e
 
 -- what a slice has at a place
 
@@ -209,18 +209,18 @@ map_twice g f [] = refl
 map_twice g f (x ∷ xs) = ap (λ ys. g (f x) ∷ ys) (map_twice g f xs)
 
 abbrev name_in : ColumnDraft → List ℕ
-name_in column = column_name (drafts.column_of column)
+name_in column = declared_name (drafts.column_of column)
 
-names_in : (first : ColumnDraft) (others : List ColumnDraft) → map name_in (first ∷ others) ≡ column_name (drafts.column_of first) ∷ map column_name (map drafts.column_of others)
-names_in first others = ap (λ names. name_in first ∷ names) (sym (map_twice column_name drafts.column_of others))
+names_in : (first : ColumnDraft) (others : List ColumnDraft) → map name_in (first ∷ others) ≡ declared_name (drafts.column_of first) ∷ map declared_name (map drafts.column_of others)
+names_in first others = ap (λ names. name_in first ∷ names) (sym (map_twice declared_name drafts.column_of others))
 
 pub no_column_repeats : (first : ColumnDraft) (others : List ColumnDraft) (place k : ℕ) → place ≡ suc k → slice_get others k ≡ None
-    → repeats (column_name (drafts.column_of first) ∷ map column_name (map drafts.column_of others)) place ≡ false
+    → repeats (declared_name (drafts.column_of first) ∷ map declared_name (map drafts.column_of others)) place ≡ false
 no_column_repeats first others place k e h =
     ap (λ names. repeats names place) (sym (names_in first others)) ∙ repeats_past name_in (first ∷ others) place (ap (slice_get (first ∷ others)) e ∙ h)
 
 pub column_repeats_by : (first : ColumnDraft) (others : List ColumnDraft) (place k : ℕ) (column : ColumnDraft) → place ≡ suc k → slice_get others k ≡ Some column
-    → repeats (column_name (drafts.column_of first) ∷ map column_name (map drafts.column_of others)) place
+    → repeats (declared_name (drafts.column_of first) ∷ map declared_name (map drafts.column_of others)) place
     ≡ (bytes_eq (name_in column) (name_in first) || list_any (λ other. bytes_eq (name_in column) (name_in other)) (take k others))
 column_repeats_by first others place k column e h =
     ap (λ names. repeats names place) (sym (names_in first others))

@@ -1,8 +1,8 @@
 -- Catalogs and their bytes, and the parts of bytes that may begin with a catalog.
 use Rattle.std.specs.Prelude.{◌≡◌, ℕ, ◌<◌, ◌≤◌, ◌^◌, List, ◌++◌, length}
 use Rattle.std.specs.Int.{to_be_bytes, w32}
-use Rattle.ghost_model.specs.Channel.{Catalog}
-use Rattle.ghost_model.specs.Catalog as catalog
+use Rattle.ghost_model.specs.core.Channel.{Catalog}
+use Rattle.ghost_model.specs.forms.Catalog as catalog
 use Rattle.tree_schema.specs.Catalogs.{IsCatalog}
 use Rattle.tree_schema.specs.declared.catalog_reading.Parts.{Parts}
 

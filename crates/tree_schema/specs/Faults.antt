@@ -1,12 +1,12 @@
 -- What the refusals of the code stand for, in the words of the definitions.
 use Rattle.std.specs.Prelude.{◌≡◌, ℕ, Bool, List, find, nat_lt, Option, Some, None, Result, Ok, Err, option_map}
-use Rattle.ghost_model.specs.Query.{Field}
+use Rattle.ghost_model.specs.core.Query.{Field}
 use Rattle.std.specs.Option.{option_or}
-use Rattle.ghost_model.specs.Schema.{Schema, places_of}
-use Rattle.ghost_model.specs.Rules.{broken_if}
-use Rattle.ghost_model.specs.SchemaGrammar.{SchemaText}
-use Rattle.ghost_model.specs.SchemaPlaces.{syntax_of}
-use Rattle.ghost_model.specs.SchemaFaults as faults
+use Rattle.ghost_model.specs.core.Schema.{Schema, places_of}
+use Rattle.ghost_model.specs.refusals.Rules.{broken_if}
+use Rattle.ghost_model.specs.refusals.SchemaGrammar.{SchemaText}
+use Rattle.ghost_model.specs.readings.SchemaPlaces.{syntax_of}
+use Rattle.ghost_model.specs.refusals.SchemaFaults as faults
 use Rattle.tree_schema.specs.declared.faults.SchemaFault.{SchemaFault}
 use Rattle.tree_schema.specs.declared.faults.SchemaFault.TheVariants as fault
 
@@ -46,7 +46,7 @@ fault_of_texts tables =
     (option_map faults.unknown_at (find (faults.is_unknown tables) (faults.fields tables)))))
 
 abbrev pub is_shared : Schema → ℕ → Bool
-is_shared schema child = nat_lt 1 (faults.keys_naming schema child)
+is_shared schema child = nat_lt 1 (faults.references_naming schema child)
 
 abbrev pub fault_of_tree : Schema → Option faults.SchemaFault
 fault_of_tree schema =

@@ -1,7 +1,7 @@
 //! The bytes of a catalog, in parts.
 
 ghost use Rattle.std.specs.Prelude.{◌≡◌, ◌≤◌, ◌-◌, min, length, take, drop, bytes_eq};
-ghost use Rattle.ghost_model.specs.Catalog as catalog;
+ghost use Rattle.ghost_model.specs.forms.Catalog as catalog;
 ghost use Rattle.tree_schema.specs.CatalogParts.{CatalogsAreShort};
 ghost use Rattle.tree_schema.specs.Windows.{pane, with_text};
 

@@ -1,7 +1,7 @@
 //! The schema that a text means, or why it means none.
 
 ghost use Rattle.std.specs.Prelude.{◌≡◌, Ok, map};
-ghost use Rattle.ghost_model.specs.SchemaReading.{judged, schema_reading};
+ghost use Rattle.ghost_model.specs.readings.SchemaReading.{judged, schema_reading};
 ghost use Rattle.tree_schema.specs.Drafts.{table_of};
 ghost use Rattle.tree_schema.specs.Faults.{reading_of, IsSpelled};
 

@@ -1,9 +1,9 @@
 //! The rules that make the tables of a schema one tree.
 
 ghost use Rattle.std.specs.Prelude.{◌≡◌, ◌≤◌, length, find, count_by, option_and_then};
-ghost use Rattle.ghost_model.specs.Schema as schema;
-ghost use Rattle.ghost_model.specs.Schema.{places_of};
-ghost use Rattle.ghost_model.specs.SchemaFaults as faults;
+ghost use Rattle.ghost_model.specs.core.Schema as schema;
+ghost use Rattle.ghost_model.specs.core.Schema.{places_of};
+ghost use Rattle.ghost_model.specs.refusals.SchemaFaults as faults;
 ghost use Rattle.tree_schema.specs.Views.{schema_of, table_of};
 ghost use Rattle.tree_schema.specs.Faults.{refused, is_shared, fault_of_tree};
 
@@ -27,7 +27,7 @@ fn keys_in(columns: &[Column], child: usize) -> usize
 
 /// The number of a table's foreign keys to a table.
 fn keys_of(table: &Table, child: usize) -> usize
-    ensures keys { result ≡ length (schema.keys_to child (table_of table.now)) }
+    ensures keys { result ≡ length (schema.references_to child (table_of table.now)) }
     ensures few { result ≤ MAX_COLUMNS }
 {
     keys_in(&table.columns, child)
@@ -36,7 +36,7 @@ fn keys_of(table: &Table, child: usize) -> usize
 /// The number of foreign keys to a table.
 fn keys_naming(tables: &[Table], child: usize) -> usize
     requires few { length tables.now ≤ MAX_TABLES }
-    ensures keys { result ≡ faults.keys_naming (schema_of tables.now) child }
+    ensures keys { result ≡ faults.references_naming (schema_of tables.now) child }
 {
     let mut keys = 0;
     for table in tables {

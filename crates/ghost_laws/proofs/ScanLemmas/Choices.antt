@@ -2,10 +2,10 @@
 -- that pass are this one or none.
 use Rattle.std.proofs.Common.{◌≡◌, ◌≢◌, refl, sym, ap, ◌∙◌, subst, ℕ, zero, suc, ◌+◌, ◌<◌, ◌≤◌, inl, inr, Bool, true, false, ◌==◌, nat_eq, List, [], ◌∷◌, ◌++◌, map, filter, flat_map, Option, Some, None, unwrap_or, arith, eqb-true, eq-eqb, if◌then◌else◌}
 use Rattle.std.specs.List.{range_with_len}
-use Rattle.ghost_model.specs.Split.{Hidden}
+use Rattle.ghost_model.specs.core.Split.{Hidden}
 use Rattle.ghost_model.proofs.MeaningLemmas.OneRow.{Among, Distinct, filter_none, not_equal, from_map, from_append, distinct-append, distinct-cons}
 use Rattle.ghost_model.proofs.MeaningLemmas.Picks.{picks, identifiers_of}
-use Rattle.ghost_model.specs.Meaning.{Pick, pick, combinations}
+use Rattle.ghost_model.specs.core.Meaning.{Pick, pick, combinations}
 
 -- what a test leaves where one element alone may pass it
 pub filter_exactly : {X : Type 0} (p : X → Bool) (l : X) (xs : List X) → Distinct xs → Among l xs

@@ -2,10 +2,10 @@
 use Rattle.std.proofs.Common.{◌≡◌, refl, sym, ap, ◌∙◌, subst, ℕ, zero, suc, ◌+◌, Bool, true, false, ◌||◌, inl, inr, List, [], ◌∷◌, ◌++◌, length, flat_map, ◌⊎◌, arith, append-nil, append_assoc, nat_lt}
 use Rattle.std.specs.Prelude.{is_some}
 use Rattle.std.specs.List.{list_all, list_any, range_with_len}
-use Rattle.ghost_model.specs.Schema.{Schema}
-use Rattle.ghost_model.specs.Values.{Row}
-use Rattle.ghost_model.specs.Query.{Query, Field, Condition, Compare, Join}
-use Rattle.ghost_model.specs.QueryMeaning.{has_repeat, is_key_to, meanings, columns_in, resolved, Means}
+use Rattle.ghost_model.specs.core.Schema.{Schema}
+use Rattle.ghost_model.specs.core.Values.{Row}
+use Rattle.ghost_model.specs.core.Query.{Query, Field, Condition, Compare, Join}
+use Rattle.ghost_model.specs.refusals.QueryMeaning.{has_repeat, is_reference_to, meanings, columns_in, resolved, Means}
 use Rattle.ghost_model.proofs.QueryReadingLemmas.{kept_rules}
 use Rattle.ghost_model.proofs.ChannelLemmas.Tests.{hold_both}
 use Rattle.ghost_model.proofs.MeaningLemmas.OneRow.{Among, among_is, is_among_to, neither_true, query_is_linked}
@@ -35,7 +35,7 @@ module _ (schema : Schema) (from : List ℕ) where
   condition_from (Compare column operator literal) a has join = column_from column a has
   condition_from (Join one other) a has join =
       hold_both _ _ (hold_both _ _ (column_from one a.0 has.0) (column_from other a.1 has.1))
-      (either_way (is_key_to schema one other) (is_key_to schema other one) join)
+      (either_way (is_reference_to schema one other) (is_reference_to schema other one) join)
 
 conditions_have : (schema : Schema) (text : List ℕ) (asked : Query) → Means schema text asked → (c : Condition) → Among c asked.conditions
     → With (HasColumn schema) c

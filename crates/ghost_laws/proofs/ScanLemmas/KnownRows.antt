@@ -6,18 +6,18 @@ use Rattle.std.specs.List.{list_all, range_with_len}
 use Rattle.std.specs.Option.{option_map}
 use Rattle.std.proofs.lemmas.List.Folds.{list_all-map}
 use Rattle.std.proofs.lemmas.Option.{slice_get-map}
-use Rattle.ghost_model.specs.Schema.{Schema, Column, columns_of, column_at, parent, is_shown, is_visible}
-use Rattle.ghost_model.specs.SchemaTrees.{IsTree}
-use Rattle.ghost_model.specs.Values.{Value, Row, Rows, Database}
-use Rattle.ghost_model.specs.Query.{Query, Field, Condition, Compare, Join}
-use Rattle.ghost_model.specs.QueryMeaning.{top_of, only, is_some_among}
-use Rattle.ghost_model.specs.Database.{IsDatabase, rows_of, row_of, row_count, field}
-use Rattle.ghost_model.specs.Split.{Hidden, hidden_of, value_at}
-use Rattle.ghost_model.specs.Meaning.{compares, others_of, Pick, pick, no_value, answer_by_top}
-use Rattle.ghost_model.specs.SplitByFlags.{hidden_flags, hidden_values}
+use Rattle.ghost_model.specs.core.Schema.{Schema, Column, columns_of, column_at, parent, is_shown, is_visible}
+use Rattle.ghost_model.specs.laws.SchemaTrees.{IsTree}
+use Rattle.ghost_model.specs.core.Values.{Value, Row, Rows, Database}
+use Rattle.ghost_model.specs.core.Query.{Query, Field, Condition, Compare, Join}
+use Rattle.ghost_model.specs.refusals.QueryMeaning.{top_of, only, is_some_among}
+use Rattle.ghost_model.specs.core.Database.{IsDatabase, rows_of, row_of, row_count, value_at_row}
+use Rattle.ghost_model.specs.core.Split.{Hidden, hidden_of, value_at}
+use Rattle.ghost_model.specs.core.Meaning.{compares, others_of, Pick, pick, no_value, answer_by_top}
+use Rattle.ghost_model.specs.laws.SplitByFlags.{hidden_flags, hidden_values}
 use Rattle.ghost_model.proofs.MeaningLemmas.PartsByFlags.{hidden_rows_at}
-use Rattle.ghost_model.specs.Replies as replies
-use Rattle.ghost_model.specs.Replies.{Reply, reply_about, hidden_places, hidden_value, known_value, stands_in, answer_from}
+use Rattle.ghost_model.specs.core.Replies as replies
+use Rattle.ghost_model.specs.core.Replies.{Reply, reply_about, hidden_places, hidden_value, known_value, stands_in, answer_from}
 use Rattle.ghost_model.proofs.MeaningLemmas.OneRow.{Among, from_filter, IsLinked, query_is_linked, both_true, in_table}
 use Rattle.ghost_model.proofs.MeaningLemmas.Leading.{get_within, place_within, to_itself_within}
 use Rattle.ghost_model.proofs.SessionLemmas.Values.{hidden_of_row}
@@ -78,7 +78,7 @@ module _ (schema : Schema) (database : Database) (tree : IsTree schema) (is : Is
 
   -- a hidden value is the database's
   pub hidden_is : (table identifier before : ℕ) → is_shown (column_at schema table (suc before)) ≡ false
-      → hidden_value schema kept table identifier (suc before) ≡ field database table identifier (suc before)
+      → hidden_value schema kept table identifier (suc before) ≡ value_at_row database table identifier (suc before)
   hidden_is table zero before h = refl
   hidden_is table (suc place) before h =
       let value : Row → Option Value = λ values. value_at (hidden_places schema table) values (suc before) in
@@ -89,7 +89,7 @@ module _ (schema : Schema) (database : Database) (tree : IsTree schema) (is : Is
       (λ row there. hidden_of_row (columns_of schema table) row before (is.widths table (suc place) row there) h))
 
   key_known : (table identifier column child : ℕ) (declared : Column) → column_at schema table column ≡ Some declared
-      → declared.child ≡ Some child → known table identifier column ≡ field database table identifier column
+      → declared.child ≡ Some child → known table identifier column ≡ value_at_row database table identifier column
   key_known table identifier zero child declared h hc =
       let held = in_table (slice_get schema table) 0 declared h in
       let within = place_within schema table held.0 held.1 in
@@ -99,7 +99,7 @@ module _ (schema : Schema) (database : Database) (tree : IsTree schema) (is : Is
       absurd bad
   key_known table identifier (suc before) child declared h hc =
       let unseen : is_shown (column_at schema table (suc before)) ≡ false =
-      ap is_shown h ∙ ap not (tree.keys_are_hidden table (suc before) child declared h hc) in
+      ap is_shown h ∙ ap not (tree.references_are_hidden table (suc before) child declared h hc) in
       ap (λ v. if v then replies.replied_value given table identifier (suc before) else hidden_value schema kept table identifier (suc before)) (and_false _ (is_shown (column_at schema table (suc before))) unseen)
       ∙ hidden_is table identifier before unseen
 

@@ -4,16 +4,16 @@ use Rattle.std.proofs.Common.{◌≡◌, ◌≢◌, refl, sym, ap, ◌∙◌, su
 use Rattle.std.specs.Prelude.{filter_map}
 use Rattle.std.specs.List.{list_all, cons_option}
 use Rattle.std.proofs.lemmas.List.{length-map}
-use Rattle.ghost_model.specs.Schema.{Schema}
-use Rattle.ghost_model.specs.SchemaTrees.{IsTree}
-use Rattle.ghost_model.specs.Values.{Value, Row, Rows, Database}
-use Rattle.ghost_model.specs.Query.{Query, Field, Condition, Compare, Join}
-use Rattle.ghost_model.specs.Query as query
-use Rattle.ghost_model.specs.Database.{IsDatabase, rows_or_none, rows_of, row_of, row_count, leads}
-use Rattle.ghost_model.specs.Meaning.{compares, others_of, Pick, pick}
-use Rattle.ghost_model.specs.Split.{Hidden, hidden_of}
+use Rattle.ghost_model.specs.core.Schema.{Schema}
+use Rattle.ghost_model.specs.laws.SchemaTrees.{IsTree}
+use Rattle.ghost_model.specs.core.Values.{Value, Row, Rows, Database}
+use Rattle.ghost_model.specs.core.Query.{Query, Field, Condition, Compare, Join}
+use Rattle.ghost_model.specs.core.Query as query
+use Rattle.ghost_model.specs.core.Database.{IsDatabase, rows_or_none, rows_of, row_of, row_count, leads}
+use Rattle.ghost_model.specs.core.Meaning.{compares, others_of, Pick, pick}
+use Rattle.ghost_model.specs.core.Split.{Hidden, hidden_of}
 use Rattle.ghost_model.proofs.MeaningLemmas.PartsByFlags.{hidden_rows_at}
-use Rattle.ghost_model.specs.SplitByFlags.{hidden_values}
+use Rattle.ghost_model.specs.laws.SplitByFlags.{hidden_values}
 use Rattle.ghost_model.proofs.MeaningLemmas.OneRow.{Among, among-filter, from_filter, distinct-filter, IsLinked}
 use Rattle.ghost_model.proofs.MeaningLemmas.Leading.{landing, to_itself_within, get_within, place_within}
 use Rattle.ghost_laws.proofs.ScanLemmas.Keys.{below_top, IsValues, seen, join_holds, joins_hold, follows}

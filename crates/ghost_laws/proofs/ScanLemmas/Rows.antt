@@ -3,14 +3,14 @@
 use Rattle.std.proofs.Common.{◌≡◌, refl, sym, ap, ◌∙◌, ℕ, suc, zero, ◌+◌, ◌<◌, Bool, true, false, nat_eq, List, [], ◌∷◌, ◌++◌, length, map, filter, flat_map, Option, Some, None, slice_get, unwrap_or, option_and_then, arith, eqb-true, if◌then◌else◌}
 use Rattle.std.specs.List.{list_all, range_with_len}
 use Rattle.std.proofs.lemmas.List.{map-append}
-use Rattle.ghost_model.specs.Schema.{Schema}
-use Rattle.ghost_model.specs.SchemaTrees.{IsTree}
-use Rattle.ghost_model.specs.Values.{Value, Row, Rows, Database}
-use Rattle.ghost_model.specs.Query.{Query, Field, Condition, Compare, Join}
-use Rattle.ghost_model.specs.Database.{IsDatabase, rows_of, row_of, row_count, field}
-use Rattle.ghost_model.specs.Split.{Hidden, hidden_of}
-use Rattle.ghost_model.specs.Meaning as meaning
-use Rattle.ghost_model.specs.Meaning.{Pick, pick, compares, no_value, others_of, all_of, answer_by_top}
+use Rattle.ghost_model.specs.core.Schema.{Schema}
+use Rattle.ghost_model.specs.laws.SchemaTrees.{IsTree}
+use Rattle.ghost_model.specs.core.Values.{Value, Row, Rows, Database}
+use Rattle.ghost_model.specs.core.Query.{Query, Field, Condition, Compare, Join}
+use Rattle.ghost_model.specs.core.Database.{IsDatabase, rows_of, row_of, row_count, value_at_row}
+use Rattle.ghost_model.specs.core.Split.{Hidden, hidden_of}
+use Rattle.ghost_model.specs.core.Meaning as meaning
+use Rattle.ghost_model.specs.core.Meaning.{Pick, pick, compares, no_value, others_of, all_of, answer_by_top}
 use Rattle.ghost_model.proofs.MeaningLemmas.ByRows as by_row
 use Rattle.ghost_model.proofs.MeaningLemmas.ByRows.{Chosen, choice, Combination, row_combinations, row_in, value_in, is_true_in, passes, projection, answer_of_row, mapped_twice, row_field, by_rows}
 use Rattle.ghost_model.proofs.MeaningLemmas.OneRow.{Among, IsLinked, query_is_linked, both_true}
@@ -21,7 +21,7 @@ use Rattle.ghost_laws.proofs.ScanLemmas.Choices.{chosen_in}
 use Rattle.ghost_laws.proofs.ScanLemmas.Accepted.{HasConditions, has_conditions}
 use Rattle.ghost_laws.proofs.ScanLemmas.OneChoice.{all_same, values_same, mapped_if, many, combined, combined_has, join_met, one_or_none}
 use Rattle.ghost_model.proofs.MeaningLemmas.Picks.{picks}
-use Rattle.ghost_model.specs.Asks.{kind_at}
+use Rattle.ghost_model.specs.core.Asks.{kind_at}
 use Rattle.ghost_model.proofs.MeaningLemmas.Leading.{get_within}
 use Rattle.ghost_laws.proofs.ScanLemmas.Columns.{HasColumn, select_has}
 use Rattle.ghost_laws.proofs.ScanLemmas.Values.{all_found, led_stands}
@@ -59,22 +59,22 @@ module _ (schema : Schema) (database : Database) (tree : IsTree schema) (is : Is
   abbrev chosen : Pick → Chosen
   chosen one = choice one.table (unwrap_or (row_of database one.table one.identifier) [])
 
-  is_values : IsValues schema database (field database)
+  is_values : IsValues schema database (value_at_row database)
   is_values = record {
     numbered = λ table identifier row h.
         ap (option_and_then (λ r. slice_get r 0)) h ∙ is.identifiers table identifier row h;
     keys = λ table identifier column child declared h hc. refl;
   }
 
-  value_seen : (x : List Pick) (f : Field) → value_in (map chosen x) f ≡ seen (field database) (chosen_in x) f
+  value_seen : (x : List Pick) (f : Field) → value_in (map chosen x) f ≡ seen (value_at_row database) (chosen_in x) f
   value_seen [] f = refl
   value_seen (one ∷ others) f =
-      (elim (nat_eq one.table f.table) as (λ v. nat_eq one.table f.table ≡ v → option_and_then (λ row. slice_get row f.column) (if v then Some (unwrap_or (row_of database one.table one.identifier) []) else row_in (map chosen others) f.table) ≡ option_and_then (λ n. field database f.table n f.column) (if v then Some one.identifier else chosen_in others f.table)) [
-        | true ↦ λ e. row_field (row_of database one.table one.identifier) f.column ∙ ap (λ t. field database t one.identifier f.column) (eqb-true one.table f.table e)
+      (elim (nat_eq one.table f.table) as (λ v. nat_eq one.table f.table ≡ v → option_and_then (λ row. slice_get row f.column) (if v then Some (unwrap_or (row_of database one.table one.identifier) []) else row_in (map chosen others) f.table) ≡ option_and_then (λ n. value_at_row database f.table n f.column) (if v then Some one.identifier else chosen_in others f.table)) [
+        | true ↦ λ e. row_field (row_of database one.table one.identifier) f.column ∙ ap (λ t. value_at_row database t one.identifier f.column) (eqb-true one.table f.table e)
         | false ↦ λ e. value_seen others f
       ]) refl
 
-  join_seen : (x : List Pick) (c : Condition) → is_true_in (map chosen x) c ≡ true → join_holds (field database) (chosen_in x) c ≡ true
+  join_seen : (x : List Pick) (c : Condition) → is_true_in (map chosen x) c ≡ true → join_holds (value_at_row database) (chosen_in x) c ≡ true
   join_seen x (Compare column operator literal) h = refl
   join_seen x (Join one other) h = rw (sym (value_seen x one), sym (value_seen x other)) h
 
@@ -91,14 +91,14 @@ module _ (schema : Schema) (database : Database) (tree : IsTree schema) (is : Is
     seen_along : (f : Field) → Among f.table asked.from → value_in (map chosen one) f ≡ led_value schema database top identifier f
     seen_along f a =
         value_seen one f
-        ∙ ap (option_and_then (λ n. field database f.table n f.column)) (combined_has schema database tree is asked top linked identifier row there f.table a)
+        ∙ ap (option_and_then (λ n. value_at_row database f.table n f.column)) (combined_has schema database tree is asked top linked identifier row there f.table a)
 
     condition_along : (c : Condition) → Among c asked.conditions → is_true_in (map chosen one) c ≡ holds_along (led_value schema database top identifier) c
     condition_along (Compare column operator literal) a =
         ap (λ o. compares operator o (Some literal)) (seen_along column (conditions.from (Compare column operator literal) a))
     condition_along (Join left right) a =
         rw (value_seen one left, value_seen one right)
-        (join_met schema database tree is asked top linked identifier row there (field database) is_values conditions left right a)
+        (join_met schema database tree is asked top linked identifier row there (value_at_row database) is_values conditions left right a)
 
     row_is : answer_of_row top database asked row ≡ row_along (led_value schema database top identifier) asked
     row_is =
@@ -113,8 +113,8 @@ module _ (schema : Schema) (database : Database) (tree : IsTree schema) (is : Is
         ap (λ (xs : List Combination). map (projection asked.select) (filter (passes asked.conditions) xs)) combinations_of_row
         ∙ ap (map (projection asked.select)) (filter_mapped (map chosen) (passes asked.conditions) all)
         ∙ ap (λ (xs : List (List Pick)). map (projection asked.select) (map (map chosen) xs))
-        (one_or_none schema database tree is asked top linked identifier row there (field database) is_values test
-        (λ x h. all_more (is_true_in (map chosen x)) (join_holds (field database) (chosen_in x)) asked.conditions (λ c hc. join_seen x c hc) h))
+        (one_or_none schema database tree is asked top linked identifier row there (value_at_row database) is_values test
+        (λ x h. all_more (is_true_in (map chosen x)) (join_holds (value_at_row database) (chosen_in x)) asked.conditions (λ c hc. join_seen x c hc) h))
         ∙ ap (map (projection asked.select)) (mapped_if (map chosen) (test one) one)
         ∙ mapped_if (projection asked.select) (test one) (map chosen one)
         ∙ ap (λ (b : Bool). if b then line ∷ [] else []) (all_same (is_true_in (map chosen one)) (holds_along (led_value schema database top identifier)) asked.conditions condition_along)

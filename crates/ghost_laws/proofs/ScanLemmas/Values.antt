@@ -3,13 +3,13 @@ use Rattle.std.proofs.Common.{◌≡◌, ℕ, zero, suc, ◌+◌, ◌<◌, ◌�
 use Rattle.std.specs.Prelude.{filter_map}
 use Rattle.std.specs.List.{list_all, cons_option, range_with_len}
 use Rattle.std.proofs.lemmas.List.Folds.{list_all-append}
-use Rattle.ghost_model.specs.Schema.{Schema, Column, Kind, columns_of, column_at}
-use Rattle.ghost_model.specs.SchemaTrees.{IsTree}
-use Rattle.ghost_model.specs.Values.{Value, Row, Database}
-use Rattle.ghost_model.specs.Query.{Query, Field}
-use Rattle.ghost_model.specs.Database.{IsDatabase, rows_of, row_of, row_count, field, is_of_kind}
-use Rattle.ghost_model.specs.Asks.{kind_or_none, kind_at}
-use Rattle.ghost_model.specs.Split.{are_of_kinds}
+use Rattle.ghost_model.specs.core.Schema.{Schema, Column, Kind, columns_of, column_at}
+use Rattle.ghost_model.specs.laws.SchemaTrees.{IsTree}
+use Rattle.ghost_model.specs.core.Values.{Value, Row, Database}
+use Rattle.ghost_model.specs.core.Query.{Query, Field}
+use Rattle.ghost_model.specs.core.Database.{IsDatabase, rows_of, row_of, row_count, value_at_row, is_of_kind}
+use Rattle.ghost_model.specs.core.Asks.{kind_or_none, kind_at}
+use Rattle.ghost_model.specs.core.Split.{are_of_kinds}
 use Rattle.ghost_model.proofs.ChannelLemmas.Tests.{hold_both}
 use Rattle.ghost_model.proofs.MeaningLemmas.OneRow.{Among, IsLinked, query_is_linked}
 use Rattle.ghost_model.proofs.MeaningLemmas.Leading.{landing, get_within, place_within}
@@ -18,7 +18,7 @@ use Rattle.ghost_laws.specs.Scans.{led_value, holds_along, row_along}
 use Rattle.ghost_laws.specs.Selected.{has_selected, AnswersHaveSelected}
 use Rattle.ghost_laws.proofs.ScanLemmas.Keys.{below_top}
 use Rattle.ghost_laws.proofs.ScanLemmas.Columns.{HasColumn, select_has}
-use Rattle.ghost_model.specs.Meaning.{no_value}
+use Rattle.ghost_model.specs.core.Meaning.{no_value}
 
 -- a value that stands, and of this kind
 abbrev pub Stands : Kind → Option Value → Type 0
@@ -73,12 +73,12 @@ all_by_number p f from (suc count) all =
 module _ (schema : Schema) (database : Database) (tree : IsTree schema) (is : IsDatabase schema database) where
   -- the value of a column in a row that stands
   pub field_stands : (table identifier : ℕ) (row : Row) → row_of database table identifier ≡ Some row → (column : ℕ) (declared : Column)
-      → column_at schema table column ≡ Some declared → Stands (kind_at schema table column) (field database table identifier column)
+      → column_at schema table column ≡ Some declared → Stands (kind_at schema table column) (value_at_row database table identifier column)
   field_stands table identifier row there column declared h =
       let within = place_within (columns_of schema table) column declared h in
       let width = is.widths table identifier row there in
       let v = get_within row column (omega (arith, within, width)) in
-      let stands : field database table identifier column ≡ Some v.0 =
+      let stands : value_at_row database table identifier column ≡ Some v.0 =
       ap (option_and_then (λ r. slice_get r column)) there ∙ v.1 in
       (v.0, stands, ap (λ o. is_of_kind (kind_or_none o) v.0) h ∙ is.kinds table identifier column v.0 declared stands h)
 
@@ -92,7 +92,7 @@ module _ (schema : Schema) (database : Database) (tree : IsTree schema) (is : Is
       let below = below_top schema tree asked top linked f.table from in
       let l = landing schema database tree is below.0 top f.table identifier row below.1 there in
       let value = field_stands f.table l.reached l.row l.stands f.column has.0 has.1 in
-      (value.0, ap (option_and_then (λ reached. field database f.table reached f.column)) l.led ∙ value.1, value.2)
+      (value.0, ap (option_and_then (λ reached. value_at_row database f.table reached f.column)) l.led ∙ value.1, value.2)
 
 pub answers_have_selected : AnswersHaveSelected
 answers_have_selected schema tree database is text asked means top at_top =

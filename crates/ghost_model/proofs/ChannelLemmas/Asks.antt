@@ -8,16 +8,16 @@ use Rattle.std.proofs.lemmas.Bool.Decides.{nat_tests}
 use Rattle.std.proofs.lemmas.Bool.{ltb-true, leb-true}
 use Rattle.std.proofs.lemmas.Slice.Eq.{bytes_eq-Decides}
 use Rattle.std.proofs.Math.Seq.{drop-append_seam}
-use Rattle.ghost_model.specs.Schema.{Schema, Kind, Integer, Chars}
-use Rattle.ghost_model.specs.Query.{Operator, Equal, Unequal, Less, AtMost, More, AtLeast}
-use Rattle.ghost_model.specs.Channel.{Ask, Test}
-use Rattle.ghost_model.specs.Asks as asks
-use Rattle.ghost_model.specs.AskReading as reading
-use Rattle.ghost_model.specs.Values.{Value, Number, Text}
-use Rattle.ghost_model.specs.Tokens.{is_printable}
-use Rattle.ghost_model.specs.Database.{is_of_kind, fits_integer}
-use Rattle.ghost_model.specs.Cells.{cell_width, encode_cell, above_lowest, padded}
-use Rattle.ghost_model.specs.CellReading.{decode_cell, from_lowest, text_in, is_text_cell, is_not_zero}
+use Rattle.ghost_model.specs.core.Schema.{Schema, Kind, Integer, Chars}
+use Rattle.ghost_model.specs.core.Query.{Operator, Equal, Unequal, Less, AtMost, More, AtLeast}
+use Rattle.ghost_model.specs.core.Channel.{Ask, Test}
+use Rattle.ghost_model.specs.core.Asks as asks
+use Rattle.ghost_model.specs.readings.AskReading as reading
+use Rattle.ghost_model.specs.core.Values.{Value, Number, Text}
+use Rattle.ghost_model.specs.refusals.Tokens.{is_printable}
+use Rattle.ghost_model.specs.core.Database.{is_of_kind, fits_integer}
+use Rattle.ghost_model.specs.forms.Cells.{cell_width, encode_cell, above_lowest, padded}
+use Rattle.ghost_model.specs.readings.CellReading.{decode_cell, from_lowest, text_in, is_text_cell, is_not_zero}
 use Rattle.ghost_model.proofs.ChannelLemmas.Tests.{false_is_not, both_hold, hold_both, take_front, drop_front, BothHold}
 
 -- an integer of 64 bits, its distance to the lowest and back

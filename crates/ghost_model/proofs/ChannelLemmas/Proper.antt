@@ -11,19 +11,19 @@ use Rattle.std.proofs.lemmas.Grind.{flat_map-append}
 use Rattle.std.proofs.lemmas.List.Sums.{sum_by-cons}
 use Rattle.std.proofs.lemmas.Bool.Decides.{nat_tests}
 use Rattle.std.proofs.lemmas.Bool.{ltb-false, lt-ltb, le-leb}
-use Rattle.ghost_model.specs.Schema.{Schema, Column, Kind, Integer, Chars, columns_of, column_at, is_visible, is_shown, places_from}
-use Rattle.ghost_model.specs.Values.{Value, Number, Text}
-use Rattle.ghost_model.specs.Query.{Query, Field, Condition, Compare, Join, AtLeast, AtMost}
-use Rattle.ghost_model.specs.Channel.{Test}
-use Rattle.ghost_model.specs.Tokens.{Symbol, Quoted, End, Word, And, Comma, is_printable, symbols}
-use Rattle.ghost_model.specs.Spelled.{is_spelled, IsBeforeEnd}
-use Rattle.ghost_model.specs.Database.{is_of_kind, fits_integer}
-use Rattle.ghost_model.specs.QueryGrammar.{ConditionText, Compares, LiesBetween, Joins, ColumnText, LiteralText, Unsigned, Signed, Written, QueryText, spelling, spell_condition, spell_literal, spell_where, spell_column, spell_table, spell_selection}
-use Rattle.ghost_model.specs.Grammar.{separated}
-use Rattle.ghost_model.specs.QueryMeaning as meaning
-use Rattle.ghost_model.specs.Asks as asks
-use Rattle.ghost_model.specs.ChannelLaws as laws
-use Rattle.ghost_model.specs.QueryReading.{reading}
+use Rattle.ghost_model.specs.core.Schema.{Schema, Column, Kind, Integer, Chars, columns_of, column_at, is_visible, is_shown, places_from}
+use Rattle.ghost_model.specs.core.Values.{Value, Number, Text}
+use Rattle.ghost_model.specs.core.Query.{Query, Field, Condition, Compare, Join, AtLeast, AtMost}
+use Rattle.ghost_model.specs.core.Channel.{Test}
+use Rattle.ghost_model.specs.refusals.Tokens.{Symbol, Quoted, EndOfText, Word, AndWord, Comma, is_printable, symbols}
+use Rattle.ghost_model.specs.laws.Spelled.{is_spelled, IsBeforeEnd}
+use Rattle.ghost_model.specs.core.Database.{is_of_kind, fits_integer}
+use Rattle.ghost_model.specs.refusals.QueryGrammar.{ConditionText, Compares, LiesBetween, Joins, ColumnText, LiteralText, Unsigned, Signed, Written, QueryText, spelling, spell_condition, spell_literal, spell_where, spell_column, spell_table, spell_selection}
+use Rattle.ghost_model.specs.refusals.Grammar.{separated}
+use Rattle.ghost_model.specs.refusals.QueryMeaning as meaning
+use Rattle.ghost_model.specs.core.Asks as asks
+use Rattle.ghost_model.specs.laws.ChannelLaws as laws
+use Rattle.ghost_model.specs.readings.QueryReading.{reading}
 use Rattle.ghost_model.proofs.TokenLemmas.{before_end}
 use Rattle.ghost_model.proofs.QueryReadingLemmas.{means_of, KeptRules, kept_rules}
 use Rattle.ghost_model.proofs.ChannelLemmas.Tests.{false_is_not, both_hold, hold_both, BothHold}
@@ -206,7 +206,7 @@ loose_text : (text : List ℕ) → list_all is_loose (symbols text) ≡ true
 loose_text text =
     let before : (xs : List Symbol) × IsBeforeEnd text xs = before_end text in
     ap (λ (xs : List Symbol). list_all is_loose xs) before.1.whole
-    ∙ (list_all-append is_loose before.0 (End ∷ [])
+    ∙ (list_all-append is_loose before.0 (EndOfText ∷ [])
     ∙ hold_both _ _ (all_weaker is_spelled is_loose before.0 loose_if_spelled before.1.spelled) refl)
 
 loose_right : (xs ys : List Symbol) → list_all is_loose (xs ++ ys) ≡ true → list_all is_loose ys ≡ true
@@ -215,7 +215,7 @@ loose_right xs ys e = (both_hold (list_all is_loose xs) (list_all is_loose ys) (
 loose_left : (xs ys : List Symbol) → list_all is_loose (xs ++ ys) ≡ true → list_all is_loose xs ≡ true
 loose_left xs ys e = (both_hold (list_all is_loose xs) (list_all is_loose ys) (sym (list_all-append is_loose xs ys) ∙ e)).one
 
-plain_literal : (literal : LiteralText) → list_all is_loose (spell_literal literal) ≡ true → is_plain (meaning.value_of literal) ≡ true
+plain_literal : (literal : LiteralText) → list_all is_loose (spell_literal literal) ≡ true → is_plain (meaning.value_of_literal literal) ≡ true
 plain_literal (Unsigned digits) e = refl
 plain_literal (Signed sign digits) e = refl
 plain_literal (Written text) e = (both_hold (list_all is_printable text) true e).one
@@ -224,14 +224,14 @@ module _ (schema : Schema) (from : List ℕ) where
   plain_conditions : (condition : ConditionText) → list_all is_loose (spell_condition condition) ≡ true → list_all is_plain_condition (meaning.conditions_of schema from condition) ≡ true
   plain_conditions (Compares column operator literal) e =
       let right : BothHold _ (list_all is_loose (spell_literal literal)) = both_hold _ _ (loose_right (spell_column column) _ e) in
-      list_all-map is_plain_condition (λ meant. Compare meant operator (meaning.value_of literal)) (meaning.meanings schema from column)
-      ∙ all_each (λ meant. is_plain (meaning.value_of literal)) (meaning.meanings schema from column) (λ _. plain_literal literal right.other)
+      list_all-map is_plain_condition (λ meant. Compare meant operator (meaning.value_of_literal literal)) (meaning.meanings schema from column)
+      ∙ all_each (λ meant. is_plain (meaning.value_of_literal literal)) (meaning.meanings schema from column) (λ _. plain_literal literal right.other)
   plain_conditions (LiesBetween column low high) e =
-      let both : list_all is_loose (spell_literal low ++ (Word And ∷ spell_literal high)) ≡ true = loose_right (spell_column column) _ e in
-      let first : is_plain (meaning.value_of low) ≡ true = plain_literal low (loose_left (spell_literal low) _ both) in
-      let second : is_plain (meaning.value_of high) ≡ true = plain_literal high (loose_right (spell_literal low) _ both) in
-      all_flat is_plain_condition (λ meant. Compare meant AtLeast (meaning.value_of low) ∷ Compare meant AtMost (meaning.value_of high) ∷ []) (meaning.meanings schema from column)
-      (all_each (λ meant. is_plain (meaning.value_of low) && (is_plain (meaning.value_of high) && true)) (meaning.meanings schema from column)
+      let both : list_all is_loose (spell_literal low ++ (Word AndWord ∷ spell_literal high)) ≡ true = loose_right (spell_column column) _ e in
+      let first : is_plain (meaning.value_of_literal low) ≡ true = plain_literal low (loose_left (spell_literal low) _ both) in
+      let second : is_plain (meaning.value_of_literal high) ≡ true = plain_literal high (loose_right (spell_literal low) _ both) in
+      all_flat is_plain_condition (λ meant. Compare meant AtLeast (meaning.value_of_literal low) ∷ Compare meant AtMost (meaning.value_of_literal high) ∷ []) (meaning.meanings schema from column)
+      (all_each (λ meant. is_plain (meaning.value_of_literal low) && (is_plain (meaning.value_of_literal high) && true)) (meaning.meanings schema from column)
       (λ _. hold_both _ _ first (hold_both _ _ second refl)))
   plain_conditions (Joins left right) e =
       all_flat is_plain_condition (λ meant. map (Join meant) (meaning.meanings schema from right)) (meaning.meanings schema from left)
@@ -242,14 +242,14 @@ loose_where : (conditions : List ConditionText) → list_all is_loose (spell_whe
 loose_where [] e = refl
 loose_where (condition ∷ more) e =
     hold_both _ _ (loose_left (spell_condition condition) _ e)
-    (all_inside is_loose (λ other. Word And ∷ spell_condition other) more (loose_right (spell_condition condition) _ e))
+    (all_inside is_loose (λ other. Word AndWord ∷ spell_condition other) more (loose_right (spell_condition condition) _ e))
 
 loose_conditions : (text : List ℕ) (tree : QueryText) → symbols text ≡ spelling tree → list_all (λ condition. list_all is_loose (spell_condition condition)) tree.conditions ≡ true
 loose_conditions text tree e =
     let whole : list_all is_loose (spelling tree) ≡ true = ap (λ (xs : List Symbol). list_all is_loose xs) (sym e) ∙ loose_text text in
     let tables : List Symbol = separated Comma spell_table tree.table tree.more_tables in
-    let after : list_all is_loose (tables ++ (spell_where tree.conditions ++ (End ∷ []))) ≡ true = loose_right (spell_selection tree.selection) _ whole in
-    loose_where tree.conditions (loose_left (spell_where tree.conditions) (End ∷ []) (loose_right tables _ after))
+    let after : list_all is_loose (tables ++ (spell_where tree.conditions ++ (EndOfText ∷ []))) ≡ true = loose_right (spell_selection tree.selection) _ whole in
+    loose_where tree.conditions (loose_left (spell_where tree.conditions) (EndOfText ∷ []) (loose_right tables _ after))
 
 -- how many conditions an ask has
 one_at_most : (b : Bool) (test : Test) (rest : List Test) → length ((if b then test ∷ [] else []) ++ rest) ≤ 1 + length rest
@@ -294,9 +294,9 @@ module _ (schema : Schema) (from : List ℕ) (table : ℕ) where
 
   few_tests : (condition : ConditionText) → list_all has_one (meaning.condition_columns condition) ≡ true → length (flat_map (asks.test_of schema table) (meaning.conditions_of schema from condition)) ≤ meaning.literal_conditions condition
   few_tests (Compares column operator literal) e =
-      few_of_one (λ meant. Compare meant operator (meaning.value_of literal)) (meaning.meanings schema from column) (at_most_one column (both_hold (has_one column) true e).one)
+      few_of_one (λ meant. Compare meant operator (meaning.value_of_literal literal)) (meaning.meanings schema from column) (at_most_one column (both_hold (has_one column) true e).one)
   few_tests (LiesBetween column low high) e =
-      few_of_two (λ meant. Compare meant AtLeast (meaning.value_of low)) (λ meant. Compare meant AtMost (meaning.value_of high)) (meaning.meanings schema from column) (at_most_one column (both_hold (has_one column) true e).one)
+      few_of_two (λ meant. Compare meant AtLeast (meaning.value_of_literal low)) (λ meant. Compare meant AtMost (meaning.value_of_literal high)) (meaning.meanings schema from column) (at_most_one column (both_hold (has_one column) true e).one)
   few_tests (Joins left right) e =
       let none : length (flat_map (asks.test_of schema table) (meaning.conditions_of schema from (Joins left right))) ≡ 0 =
       ap length (none_of_all_joins (meaning.meanings schema from right) (meaning.meanings schema from left)) in

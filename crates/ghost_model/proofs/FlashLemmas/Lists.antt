@@ -4,7 +4,7 @@ use Rattle.std.specs.Prelude.{◌==◌}
 use Rattle.std.specs.List.{concat, range_with_len, list_any, AllByRecursion}
 use Rattle.std.proofs.lemmas.Bool.{cases_lt}
 use Rattle.std.proofs.lemmas.Bool.Decides.{nat_tests}
-use Rattle.ghost_model.specs.Schema.{is_table}
+use Rattle.ghost_model.specs.core.Schema.{is_table}
 use Rattle.ghost_model.proofs.MeaningLemmas.OneRow.{child_is}
 use Rattle.std.specs.List.Sorted.{IsPermutation, IsStrictlySortedBy}
 use Rattle.std.specs.Option.{option_map_or}
@@ -15,14 +15,14 @@ use Rattle.std.proofs.lemmas.List.Sorted.{IsPermutation-refl, IsPermutation-tran
 use Rattle.std.proofs.lemmas.List.Elements.{All-contains_itself}
 use Rattle.std.proofs.lemmas.Slice.Eq.{bytes_eq-Decides}
 use Rattle.std.proofs.lemmas.Map.Text.{is_eq-slice_cmp}
-use Rattle.ghost_model.specs.Values.{Row, Database}
-use Rattle.ghost_model.specs.Channel.{Catalog}
-use Rattle.ghost_model.specs.SchemaTrees.{IsTree}
-use Rattle.ghost_model.specs.Database.{IsDatabase, IsAtOrBelow, Lands, LeadsFollowKeys, rows_of, row_of, row_counts}
-use Rattle.ghost_model.specs.Split.{hidden_of}
-use Rattle.ghost_model.specs.Layout.{is_hidden, count_of}
-use Rattle.ghost_model.specs.Flash.{hidden_cells, ids, cell_led_to, leads_to, value_lists, id_lists, AreValues}
-use Rattle.ghost_model.specs.FlashLaws.{CellsFit}
+use Rattle.ghost_model.specs.core.Values.{Row, Database}
+use Rattle.ghost_model.specs.core.Channel.{Catalog}
+use Rattle.ghost_model.specs.laws.SchemaTrees.{IsTree}
+use Rattle.ghost_model.specs.core.Database.{IsDatabase, IsAtOrBelow, Lands, LeadsFollowKeys, rows_of, row_of, row_counts}
+use Rattle.ghost_model.specs.core.Split.{hidden_of}
+use Rattle.ghost_model.specs.forms.Layout.{is_hidden, count_of}
+use Rattle.ghost_model.specs.forms.Flash.{hidden_cells, ids, cell_led_to, leads_to, value_lists, id_lists, AreValues}
+use Rattle.ghost_model.specs.laws.FlashLaws.{CellsFit}
 use Rattle.ghost_model.proofs.MeaningLemmas.Leading.{rows_lead, get_within, place_within}
 use Rattle.ghost_model.proofs.FlashLemmas.Values.{count_there, cells_fit}
 use Rattle.ghost_model.proofs.FlashLemmas.Parts.{goes_with}

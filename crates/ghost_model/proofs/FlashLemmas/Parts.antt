@@ -2,18 +2,18 @@
 use Rattle.std.proofs.Common.{◌≡◌, refl, sym, ap, ◌∙◌, subst, suc, true, false, ◌&&◌, cond, List, [], ◌∷◌, length, map, drop, filter, Some, slice_get, option_and_then, arith}
 use Rattle.std.proofs.lemmas.List.{length-drop}
 use Rattle.std.proofs.lemmas.Option.{slice_get-map}
-use Rattle.ghost_model.specs.Schema.{Column, columns_of, columns_or_none}
-use Rattle.ghost_model.specs.Values.{Row, Rows, Database}
-use Rattle.ghost_model.specs.Channel.{Catalog}
-use Rattle.ghost_model.specs.Database.{IsDatabase, is_of_kind, rows_or_none, rows_of, row_counts}
-use Rattle.ghost_model.specs.Split.{hidden_of, column_kind, are_of_kinds}
-use Rattle.ghost_model.specs.SplitByFlags.{hidden_flags, hidden_values, rows_by}
+use Rattle.ghost_model.specs.core.Schema.{Column, columns_of, columns_or_none}
+use Rattle.ghost_model.specs.core.Values.{Row, Rows, Database}
+use Rattle.ghost_model.specs.core.Channel.{Catalog}
+use Rattle.ghost_model.specs.core.Database.{IsDatabase, is_of_kind, rows_or_none, rows_of, row_counts}
+use Rattle.ghost_model.specs.core.Split.{hidden_of, kind_of_column, are_of_kinds}
+use Rattle.ghost_model.specs.laws.SplitByFlags.{hidden_flags, hidden_values, rows_by}
 use Rattle.ghost_model.proofs.MeaningLemmas.PartsByFlags.{hidden_parts}
-use Rattle.ghost_model.specs.Flash.{hidden_kinds, GoesWith}
+use Rattle.ghost_model.specs.forms.Flash.{hidden_kinds, GoesWith}
 use Rattle.ghost_model.proofs.MeaningLemmas.PublicPart.{AreOfKinds, row_without, rows_in_tables, counts_of_tables, mapped_row}
 
 kinds_of_hidden : (columns : List Column) (values : Row) → length values ≡ length columns → AreOfKinds columns values
-    → are_of_kinds (map column_kind (filter (λ (c : Column). c.hidden) columns)) (hidden_values (map (λ (column : Column). column.hidden) columns) values) ≡ true
+    → are_of_kinds (map kind_of_column (filter (λ (c : Column). c.hidden) columns)) (hidden_values (map (λ (column : Column). column.hidden) columns) values) ≡ true
 kinds_of_hidden [] [] same are = refl
 kinds_of_hidden [] (v ∷ vs) same are = absurd (omega (arith, same))
 kinds_of_hidden (c ∷ cs) [] same are = absurd (omega (arith, same))
@@ -22,8 +22,8 @@ kinds_of_hidden (c ∷ cs) (v ∷ vs) same are =
     let flags = map (λ (column : Column). column.hidden) cs in
     let rest = filter (λ (column : Column). column.hidden) cs in
     let first : is_of_kind c.kind v ≡ true = are 0 v c refl refl in
-    (elim (c.hidden) as (λ h. are_of_kinds (map column_kind (cond h (c ∷ rest) rest)) (hidden_values (h ∷ flags) (v ∷ vs)) ≡ true) [
-      | true ↦ ap (λ b. b && are_of_kinds (map column_kind rest) (hidden_values flags vs)) first ∙ later
+    (elim (c.hidden) as (λ h. are_of_kinds (map kind_of_column (cond h (c ∷ rest) rest)) (hidden_values (h ∷ flags) (v ∷ vs)) ≡ true) [
+      | true ↦ ap (λ b. b && are_of_kinds (map kind_of_column rest) (hidden_values flags vs)) first ∙ later
       | false ↦ later
     ])
 

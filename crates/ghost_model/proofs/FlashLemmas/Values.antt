@@ -6,21 +6,21 @@ use Rattle.std.specs.Option.{option_map, option_map_or}
 use Rattle.std.proofs.lemmas.List.{length-map}
 use Rattle.std.proofs.lemmas.List.Sums.{sum_by-cons}
 use Rattle.std.proofs.lemmas.Option.{slice_get-map}
-use Rattle.ghost_model.specs.Schema.{Schema, Column, Kind, columns_of, columns_or_none, column_at, places_from, is_shown}
-use Rattle.ghost_model.specs.Values.{Value, Row, Rows, Database}
-use Rattle.ghost_model.specs.Channel.{Catalog}
-use Rattle.ghost_model.specs.SchemaTrees.{IsTree, identifier}
-use Rattle.ghost_model.specs.Database.{IsDatabase, is_of_kind, rows_or_none, rows_of}
-use Rattle.ghost_model.specs.Cells.{cell_width, encode_cell}
-use Rattle.ghost_model.specs.CellReading.{decode_cell}
-use Rattle.ghost_model.specs.Asks.{kind_or_none, kind_at}
-use Rattle.ghost_model.specs.Split.{Hidden, value_at, column_kind, are_of_kinds, hidden_of}
-use Rattle.ghost_model.specs.SplitByFlags.{hidden_flags, hidden_values}
+use Rattle.ghost_model.specs.core.Schema.{Schema, Column, Kind, columns_of, columns_or_none, column_at, places_from, is_shown}
+use Rattle.ghost_model.specs.core.Values.{Value, Row, Rows, Database}
+use Rattle.ghost_model.specs.core.Channel.{Catalog}
+use Rattle.ghost_model.specs.laws.SchemaTrees.{IsTree, identifier}
+use Rattle.ghost_model.specs.core.Database.{IsDatabase, is_of_kind, rows_or_none, rows_of}
+use Rattle.ghost_model.specs.forms.Cells.{cell_width, encode_cell}
+use Rattle.ghost_model.specs.readings.CellReading.{decode_cell}
+use Rattle.ghost_model.specs.core.Asks.{kind_or_none, kind_at}
+use Rattle.ghost_model.specs.core.Split.{Hidden, value_at, kind_of_column, are_of_kinds, hidden_of}
+use Rattle.ghost_model.specs.laws.SplitByFlags.{hidden_flags, hidden_values}
 use Rattle.ghost_model.proofs.MeaningLemmas.PartsByFlags.{hidden_rows_at}
-use Rattle.ghost_model.specs.Replies.{hidden_places}
-use Rattle.ghost_model.specs.Layout.{below, is_hidden, count_of}
-use Rattle.ghost_model.specs.Flash.{hidden_rows, GoesWith, hidden_cell, hidden_cells}
-use Rattle.ghost_model.specs.FlashLaws.{hidden_before, CellsFit}
+use Rattle.ghost_model.specs.core.Replies.{hidden_places}
+use Rattle.ghost_model.specs.forms.Layout.{below, is_hidden, count_of}
+use Rattle.ghost_model.specs.forms.Flash.{hidden_rows, GoesWith, hidden_cell, hidden_cells}
+use Rattle.ghost_model.specs.laws.FlashLaws.{hidden_before, CellsFit}
 use Rattle.ghost_model.proofs.LayoutLemmas.Columns.{hidden_or_none, width_or_none}
 use Rattle.ghost_model.proofs.ChannelLemmas.Asks.{cell_is_read, cell_length}
 use Rattle.ghost_model.proofs.MeaningLemmas.Leading.{get_within}
@@ -154,27 +154,27 @@ pub record HasValue (found : Option Value) (kind : Kind) : Type 0 where
   pub is : is_of_kind kind value ≡ true
 
 kinds_once : (b : Bool) (column : Column) (rest : List Column) (row : Row) → b ≡ true
-    → are_of_kinds (map column_kind (cond b (column ∷ rest) rest)) row ≡ true → HasValue (slice_get row 0) column.kind
+    → are_of_kinds (map kind_of_column (cond b (column ∷ rest) rest)) row ≡ true → HasValue (slice_get row 0) column.kind
 kinds_once false column rest row e are = absurd (cc (e))
 kinds_once true column rest [] e are = absurd (cc (are))
 kinds_once true column rest (value ∷ row) e are =
-    let both : BothHold (is_of_kind column.kind value) (are_of_kinds (map column_kind rest) row) = both_hold _ _ are in
+    let both : BothHold (is_of_kind column.kind value) (are_of_kinds (map kind_of_column rest) row) = both_hold _ _ are in
     record { value = value; there = refl; is = both.one }
 
 kinds_on : (b : Bool) (column : Column) (rest : List Column) (row : Row) (n : ℕ) (kind : Kind)
-    → are_of_kinds (map column_kind (cond b (column ∷ rest) rest)) row ≡ true
-    → ((values : Row) → are_of_kinds (map column_kind rest) values ≡ true → HasValue (slice_get values n) kind)
+    → are_of_kinds (map kind_of_column (cond b (column ∷ rest) rest)) row ≡ true
+    → ((values : Row) → are_of_kinds (map kind_of_column rest) values ≡ true → HasValue (slice_get values n) kind)
     → HasValue (slice_get row (cond b 1 0 + n)) kind
 kinds_on true column rest [] n kind are later = absurd (cc (are))
 kinds_on true column rest (value ∷ row) n kind are later =
-    let both : BothHold (is_of_kind column.kind value) (are_of_kinds (map column_kind rest) row) = both_hold _ _ are in
+    let both : BothHold (is_of_kind column.kind value) (are_of_kinds (map kind_of_column rest) row) = both_hold _ _ are in
     let e : suc n ≡ 1 + n = omega arith in
     subst (λ k. HasValue (slice_get (value ∷ row) k) kind) e (later row both.other)
 kinds_on false column rest row n kind are later =
     let e : n ≡ 0 + n = omega arith in subst (λ k. HasValue (slice_get row k) kind) e (later row are)
 
 kinds_there : (columns : List Column) (place : ℕ) → hidden_or_none (slice_get columns place) ≡ true → (row : Row)
-    → are_of_kinds (map column_kind (filter (λ (c : Column). c.hidden) columns)) row ≡ true
+    → are_of_kinds (map kind_of_column (filter (λ (c : Column). c.hidden) columns)) row ≡ true
     → HasValue (slice_get row (hidden_among place columns)) (kind_or_none (slice_get columns place))
 unfolding hidden_among
 kinds_there [] place h row are = absurd (cc (h))
@@ -184,7 +184,7 @@ kinds_there (column ∷ columns) (suc place) h row are =
     (λ values. kinds_there columns place h values)
 
 value_there : (columns : List Column) → slice_get columns 0 ≡ Some identifier → (column : ℕ) → hidden_or_none (slice_get columns column) ≡ true
-    → (row : Row) → are_of_kinds (map column_kind (filter (λ (c : Column). c.hidden) (drop 1 columns))) row ≡ true
+    → (row : Row) → are_of_kinds (map kind_of_column (filter (λ (c : Column). c.hidden) (drop 1 columns))) row ≡ true
     → HasValue (value_at (places_from (λ (c : Column). c.hidden) 1 (drop 1 columns)) row column) (kind_or_none (slice_get columns column))
 value_there [] first column h row are = absurd (cc (h))
 value_there (id ∷ columns) first zero h row are = absurd (not_hidden (Some id) first h)
@@ -221,7 +221,7 @@ module _ (cat : Catalog) (hidden : Hidden) (tree : IsTree cat.schema) (is : Goes
       let columns : columns_of cat.schema table ≡ held.0.columns = ap columns_or_none held.1 in
       let kinds = is.kinds table place held.0 row held.1 there in
       value_there (columns_of cat.schema table) (tree.begins_with_id table within) column h row
-      (subst (λ cs. are_of_kinds (map column_kind (filter (λ (c : Column). c.hidden) (drop 1 cs))) row ≡ true) (sym columns) kinds)
+      (subst (λ cs. are_of_kinds (map kind_of_column (filter (λ (c : Column). c.hidden) (drop 1 cs))) row ≡ true) (sym columns) kinds)
 
   pub cells_fit : CellsFit cat hidden
   cells_fit = record {

@@ -4,16 +4,16 @@ use Rattle.std.specs.List.{list_all, cons_option}
 use Rattle.std.proofs.lemmas.Bool.{and_parts}
 use Rattle.std.proofs.lemmas.List.FromFn.{length-range_with_len}
 use Rattle.std.proofs.lemmas.List.Sums.{sum_by-le, length-filter, count_by-le-length}
-use Rattle.ghost_model.specs.Schema.{Column, Kind, Integer, Chars, column_at, is_empty, is_visible}
-use Rattle.ghost_model.specs.Channel.{Catalog}
-use Rattle.ghost_model.specs.SchemaFaults.{ancestor}
-use Rattle.ghost_model.specs.SchemaTrees.{IsTree}
-use Rattle.ghost_model.specs.LoadFaults.{most_rows}
-use Rattle.ghost_model.specs.Cells.{cell_width}
-use Rattle.ghost_model.specs.Runs.{pages_of}
-use Rattle.ghost_model.specs.Layout
-use Rattle.ghost_model.specs.LayoutSums
-use Rattle.ghost_model.specs.LayoutLaws.{IsLimited, AreNarrow, AreFew}
+use Rattle.ghost_model.specs.core.Schema.{Column, Kind, Integer, Chars, column_at, is_empty, is_visible}
+use Rattle.ghost_model.specs.core.Channel.{Catalog}
+use Rattle.ghost_model.specs.refusals.SchemaFaults.{ancestor}
+use Rattle.ghost_model.specs.laws.SchemaTrees.{IsTree}
+use Rattle.ghost_model.specs.refusals.LoadFaults.{most_rows}
+use Rattle.ghost_model.specs.forms.Cells.{cell_width}
+use Rattle.ghost_model.specs.forms.Runs.{pages_of}
+use Rattle.ghost_model.specs.forms.Layout
+use Rattle.ghost_model.specs.laws.LayoutSums
+use Rattle.ghost_model.specs.laws.LayoutLaws.{IsLimited, AreNarrow, AreFew}
 use Rattle.ghost_model.proofs.LayoutLemmas.Columns.{hidden_or_none, width_or_none}
 use Rattle.ghost_model.proofs.LayoutLemmas.Numbers.{pages_few}
 use Rattle.ghost_model.proofs.LayoutLemmas.Places.{end_is}

@@ -2,12 +2,12 @@
 use Rattle.std.proofs.Common.{◌≡◌, refl, sym, ap, ◌∙◌, ℕ, suc, ◌+◌, Bool, true, false, ◌&&◌, nat_eq, List, [], ◌∷◌, ◌++◌, length, map, filter, flat_map, Option, Some, None, slice_get, unwrap_or, option_and_then, arith, if◌then◌else◌}
 use Rattle.std.specs.List.{list_all, range_with_len}
 use Rattle.std.proofs.lemmas.List.{map-append}
-use Rattle.ghost_model.specs.Values.{Value, Row, Rows, Database}
-use Rattle.ghost_model.specs.Query.{Query, Field, Condition, Compare, Join}
-use Rattle.ghost_model.specs.Query as query
-use Rattle.ghost_model.specs.Database.{rows_of, row_of, row_count, field}
-use Rattle.ghost_model.specs.Meaning as meaning
-use Rattle.ghost_model.specs.Meaning.{Pick, pick, compares, no_value, others_of, all_of}
+use Rattle.ghost_model.specs.core.Values.{Value, Row, Rows, Database}
+use Rattle.ghost_model.specs.core.Query.{Query, Field, Condition, Compare, Join}
+use Rattle.ghost_model.specs.core.Query as query
+use Rattle.ghost_model.specs.core.Database.{rows_of, row_of, row_count, value_at_row}
+use Rattle.ghost_model.specs.core.Meaning as meaning
+use Rattle.ghost_model.specs.core.Meaning.{Pick, pick, compares, no_value, others_of, all_of}
 
 -- a row of a table
 pub record Chosen : Type 0 where
@@ -93,7 +93,7 @@ module _ (database : Database) where
   value_same : (x : List Pick) (f : Field) → meaning.value_in (all_of database) x f ≡ value_in (map chosen x) f
   value_same [] f = refl
   value_same (one ∷ others) f =
-      (elim (nat_eq one.table f.table) as (λ v. (if v then field database one.table one.identifier f.column else meaning.value_in (all_of database) others f) ≡ option_and_then (λ row. slice_get row f.column) (if v then Some (unwrap_or (row_of database one.table one.identifier) []) else row_in (map chosen others) f.table)) [
+      (elim (nat_eq one.table f.table) as (λ v. (if v then value_at_row database one.table one.identifier f.column else meaning.value_in (all_of database) others f) ≡ option_and_then (λ row. slice_get row f.column) (if v then Some (unwrap_or (row_of database one.table one.identifier) []) else row_in (map chosen others) f.table)) [
         | true ↦ sym (row_field (row_of database one.table one.identifier) f.column)
         | false ↦ value_same others f
       ])

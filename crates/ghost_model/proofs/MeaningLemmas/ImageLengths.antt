@@ -3,13 +3,13 @@ use Rattle.std.proofs.Common.{◌≡◌, refl, ap, ◌∙◌, ℕ, suc, ◌+◌,
 use Rattle.std.specs.Prelude.{flat_map, sum, sum_by}
 use Rattle.std.specs.List.{zip}
 use Rattle.std.proofs.lemmas.List.Sums.{sum_by-cons}
-use Rattle.ghost_model.specs.Schema.{Schema, Table, Kind}
-use Rattle.ghost_model.specs.Values.{Row, Rows}
-use Rattle.ghost_model.specs.Channel.{Catalog}
-use Rattle.ghost_model.specs.Database.{rows_or_none}
-use Rattle.ghost_model.specs.Cells.{cell_width}
-use Rattle.ghost_model.specs.Catalog.{catalog_bytes}
-use Rattle.ghost_model.specs.Split.{Public, cells, visible_kinds, cells_of_tables, are_of_kinds, image, IsPublic}
+use Rattle.ghost_model.specs.core.Schema.{Schema, Table, Kind}
+use Rattle.ghost_model.specs.core.Values.{Row, Rows}
+use Rattle.ghost_model.specs.core.Channel.{Catalog}
+use Rattle.ghost_model.specs.core.Database.{rows_or_none}
+use Rattle.ghost_model.specs.forms.Cells.{cell_width}
+use Rattle.ghost_model.specs.forms.Catalog.{catalog_bytes}
+use Rattle.ghost_model.specs.core.Split.{Public, cells, visible_kinds, cells_of_tables, are_of_kinds, image, IsPublic}
 use Rattle.ghost_model.proofs.SessionLemmas.Replied.{cells_length}
 
 abbrev row_bytes : Table → ℕ

@@ -4,11 +4,11 @@ use Rattle.std.specs.Prelude.{◌==◌, ◌+◌, ◌<◌, if◌then◌else◌, s
 use Rattle.std.specs.List.{zip, enumerate_from}
 use Rattle.std.specs.Option.{option_or, some_prefix}
 use Rattle.std.proofs.lemmas.Bool.Decides.{nat_tests}
-use Rattle.ghost_model.specs.Schema.{Schema, Column, columns_of, places_from}
-use Rattle.ghost_model.specs.Values.{Value, Number, Row, Rows, Database}
-use Rattle.ghost_model.specs.Database.{rows_or_none, rows_of}
-use Rattle.ghost_model.specs.Split.{Public, Hidden, is_open, is_closed, part_of, parts_of, public_of, hidden_of, value_at, rejoined_row, rejoined_table, rejoined}
-use Rattle.ghost_model.specs.SplitByFlags.{hidden_flags, visible_values, hidden_values, rows_by, tables_by, merged, rejoined_rows, rejoined_tables}
+use Rattle.ghost_model.specs.core.Schema.{Schema, Column, columns_of, places_from}
+use Rattle.ghost_model.specs.core.Values.{Value, Number, Row, Rows, Database}
+use Rattle.ghost_model.specs.core.Database.{rows_or_none, rows_of}
+use Rattle.ghost_model.specs.core.Split.{Public, Hidden, is_open, is_closed, part_of, table_parts, public_of, hidden_of, value_at, rejoined_row, rejoined_table, rejoined}
+use Rattle.ghost_model.specs.laws.SplitByFlags.{hidden_flags, visible_values, hidden_values, rows_by, tables_by, merged, rejoined_rows, rejoined_tables}
 
 -- the values beside columns that pass a test
 abbrev beside : (Column → Bool) → List Column → Row → Row
@@ -41,7 +41,7 @@ rows_alike test part columns same (row ∷ rows) = let one = same row in let oth
 
 tables_alike : (test : Column → Bool) (part : List Bool → Row → Row)
     → ((columns : List Column) (row : Row) → part_of test columns row ≡ part (hidden_flags columns) (drop 1 row))
-    → (schema : Schema) (database : Database) → parts_of test schema database ≡ tables_by part schema database
+    → (schema : Schema) (database : Database) → table_parts test schema database ≡ tables_by part schema database
 tables_alike test part same [] database = refl
 tables_alike test part same (table ∷ schema) [] = refl
 tables_alike test part same (table ∷ schema) (rows ∷ database) =

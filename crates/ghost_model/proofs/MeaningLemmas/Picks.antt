@@ -1,14 +1,14 @@
 -- Combinations as the key knows them, under short words of their own.
 use Rattle.std.specs.Prelude.{ℕ, Bool, List, length, Option, slice_get}
 use Rattle.std.specs.List.{range_with_len}
-use Rattle.ghost_model.specs.Schema.{Schema}
-use Rattle.ghost_model.specs.Values.{Value, Row}
-use Rattle.ghost_model.specs.Query.{Query, Field, Condition}
-use Rattle.ghost_model.specs.Database.{rows_or_none}
-use Rattle.ghost_model.specs.Split.{Hidden}
-use Rattle.ghost_model.specs.Meaning as meaning
-use Rattle.ghost_model.specs.Meaning.{Pick, combinations}
-use Rattle.ghost_model.specs.Replies.{Reply, stands_in, reply_about, known}
+use Rattle.ghost_model.specs.core.Schema.{Schema}
+use Rattle.ghost_model.specs.core.Values.{Value, Row}
+use Rattle.ghost_model.specs.core.Query.{Query, Field, Condition}
+use Rattle.ghost_model.specs.core.Database.{rows_or_none}
+use Rattle.ghost_model.specs.core.Split.{Hidden}
+use Rattle.ghost_model.specs.core.Meaning as meaning
+use Rattle.ghost_model.specs.core.Meaning.{Pick, combinations}
+use Rattle.ghost_model.specs.core.Replies.{Reply, stands_in, reply_about, known}
 
 abbrev pub identifiers_of : Hidden → (table : ℕ) → List ℕ
 identifiers_of kept table = range_with_len 1 (length (rows_or_none (slice_get kept.hidden table)))

@@ -3,12 +3,12 @@ use Rattle.std.proofs.Common.{◌≡◌, refl, sym, ap, ◌∙◌, subst, ℕ, z
 use Rattle.std.proofs.lemmas.List.{length-map, length-drop}
 use Rattle.std.proofs.lemmas.Option.{slice_get-map}
 use Rattle.std.specs.Option.{option_map}
-use Rattle.ghost_model.specs.Schema.{Schema, Column, Table, columns_of, columns_or_none}
-use Rattle.ghost_model.specs.Values.{Value, Row, Rows, Database}
-use Rattle.ghost_model.specs.Channel.{Catalog}
-use Rattle.ghost_model.specs.Database.{IsDatabase, is_of_kind, rows_or_none, rows_of, row_counts}
-use Rattle.ghost_model.specs.Split.{public_of, is_open, column_kind, visible_kinds, are_of_kinds, IsPublic}
-use Rattle.ghost_model.specs.SplitByFlags.{hidden_flags, visible_values, rows_by, tables_by}
+use Rattle.ghost_model.specs.core.Schema.{Schema, Column, Table, columns_of, columns_or_none}
+use Rattle.ghost_model.specs.core.Values.{Value, Row, Rows, Database}
+use Rattle.ghost_model.specs.core.Channel.{Catalog}
+use Rattle.ghost_model.specs.core.Database.{IsDatabase, is_of_kind, rows_or_none, rows_of, row_counts}
+use Rattle.ghost_model.specs.core.Split.{public_of, is_open, kind_of_column, visible_kinds, are_of_kinds, IsPublic}
+use Rattle.ghost_model.specs.laws.SplitByFlags.{hidden_flags, visible_values, rows_by, tables_by}
 use Rattle.ghost_model.proofs.MeaningLemmas.PartsByFlags.{visible_parts}
 
 -- each value is of its column's kind
@@ -16,7 +16,7 @@ abbrev pub AreOfKinds : List Column → Row → Type 0
 AreOfKinds columns values = (place : ℕ) (value : Value) (declared : Column) → slice_get values place ≡ Some value → slice_get columns place ≡ Some declared → is_of_kind declared.kind value ≡ true
 
 pub kinds_of_visible : (columns : List Column) (values : Row) → length values ≡ length columns → AreOfKinds columns values
-    → are_of_kinds (map column_kind (filter is_open columns)) (visible_values (map (λ (column : Column). column.hidden) columns) values) ≡ true
+    → are_of_kinds (map kind_of_column (filter is_open columns)) (visible_values (map (λ (column : Column). column.hidden) columns) values) ≡ true
 kinds_of_visible [] [] same are = refl
 kinds_of_visible [] (v ∷ vs) same are = let bad : ⊥ = cc in absurd bad
 kinds_of_visible (c ∷ cs) [] same are = let bad : ⊥ = cc in absurd bad
@@ -24,9 +24,9 @@ kinds_of_visible (c ∷ cs) (v ∷ vs) same are =
     let later = kinds_of_visible cs vs (omega arith) (λ place. are (suc place)) in
     let flags = map (λ (column : Column). column.hidden) cs in
     let first : is_of_kind c.kind v ≡ true = are 0 v c refl refl in
-    (elim (c.hidden) as (λ h. are_of_kinds (map column_kind (cond (not h) (c ∷ filter is_open cs) (filter is_open cs))) (visible_values (h ∷ flags) (v ∷ vs)) ≡ true) [
+    (elim (c.hidden) as (λ h. are_of_kinds (map kind_of_column (cond (not h) (c ∷ filter is_open cs) (filter is_open cs))) (visible_values (h ∷ flags) (v ∷ vs)) ≡ true) [
       | true ↦ later
-      | false ↦ ap (λ b. b && are_of_kinds (map column_kind (filter is_open cs)) (visible_values flags vs)) first ∙ later
+      | false ↦ ap (λ b. b && are_of_kinds (map kind_of_column (filter is_open cs)) (visible_values flags vs)) first ∙ later
     ])
 
 -- the kinds of a row without its identifier

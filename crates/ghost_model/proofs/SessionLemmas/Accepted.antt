@@ -4,11 +4,11 @@ use Rattle.std.proofs.Common.{◌≡◌, ℕ, inl, inr, Bool, true, false, not, 
 use Rattle.std.specs.Prelude.{◌==◌, option_to_list, option_and_then}
 use Rattle.std.specs.List.{list_all, list_any}
 use Rattle.std.proofs.lemmas.Bool.{eqb-true, eq-eqb}
-use Rattle.ghost_model.specs.Schema.{Schema, Column, columns_of, column_at, places_where, is_table, is_shown, is_visible}
-use Rattle.ghost_model.specs.SchemaTrees.{IsTree}
-use Rattle.ghost_model.specs.Query.{Query, Field, Condition, Compare, Join, AtMost, AtLeast}
-use Rattle.ghost_model.specs.QueryGrammar.{ColumnText, Bare, Qualified, ConditionText, Compares, LiesBetween, Joins, Selection, All, Columns, QueryText}
-use Rattle.ghost_model.specs.QueryMeaning.{field, value_of, column_named, table_named, fields_named, fields_of, is_among, meanings, conditions_of, selected, resolved, has_repeat, top_of, is_key_to, is_proper, lacks_join, columns_in, Means}
+use Rattle.ghost_model.specs.core.Schema.{Schema, Column, columns_of, column_at, places_where, is_table, is_shown, is_visible}
+use Rattle.ghost_model.specs.laws.SchemaTrees.{IsTree}
+use Rattle.ghost_model.specs.core.Query.{Query, Field, Condition, Compare, Join, AtMost, AtLeast}
+use Rattle.ghost_model.specs.refusals.QueryGrammar.{ColumnText, Bare, Qualified, ConditionText, Compares, LiesBetween, Joins, Selection, All, Columns, QueryText}
+use Rattle.ghost_model.specs.refusals.QueryMeaning.{field, value_of_literal, column_named, table_named, fields_named, fields_of, is_among, meanings, conditions_of, selected_fields, resolved, has_repeat, top_of, is_reference_to, is_proper, lacks_join, columns_in, Means}
 use Rattle.ghost_model.proofs.QueryReadingLemmas.{kept_rules}
 use Rattle.ghost_model.proofs.ChannelLemmas.Tests.{false_is_not, BothHold, both_hold}
 use Rattle.ghost_model.proofs.MeaningLemmas.OneRow.{Among, Distinct, from_filter, child_is, either_true, neither_true}
@@ -68,7 +68,7 @@ module _ (schema : Schema) (from : List ℕ) where
   conditions_from (Compares column operator literal) =
       each_mapped ComparesFrom IsFrom (λ meant. Compare meant operator _) (meanings schema from column) (λ one h. h) (meanings_from column)
   conditions_from (LiesBetween column low high) =
-      two_from (meanings schema from column) (λ meant. Compare meant AtLeast (value_of low) ∷ Compare meant AtMost (value_of high) ∷ []) (λ one h. (h, (h, tt))) (meanings_from column)
+      two_from (meanings schema from column) (λ meant. Compare meant AtLeast (value_of_literal low) ∷ Compare meant AtMost (value_of_literal high) ∷ []) (λ one h. (h, (h, tt))) (meanings_from column)
   conditions_from (Joins left right) =
       each_flat ComparesFrom (λ meant. map (Join meant) (meanings schema from right)) (meanings schema from left)
       (λ one a. joins_from one (meanings schema from right))
@@ -80,7 +80,7 @@ module _ (schema : Schema) (from : List ℕ) where
   fields_from table [] h = tt
   fields_from table (column ∷ columns) h = (h, fields_from table columns h)
 
-  selected_from : (selection : Selection) → Each IsFrom (selected schema from selection)
+  selected_from : (selection : Selection) → Each IsFrom (selected_fields schema from selection)
   selected_from All = each_flat IsFrom (fields_of schema) from (λ table h. fields_from table (places_where (λ column. true) (columns_of schema table)) h)
   selected_from (Columns column more) = each_flat IsFrom (meanings schema from) (column ∷ more) (λ one a. meanings_from one)
 
@@ -100,9 +100,9 @@ module _ (schema : Schema) (tree : IsTree schema) where
   key_in : (key : Field) (table : ℕ) (o : Option Column) → column_at schema key.table key.column ≡ o → is_table table (option_and_then (λ (column : Column). column.child) o) ≡ true → is_shown o ≡ false
   key_in key table None at h = absurd (false_is_not h)
   key_in key table (Some declared) at h =
-      ap not (tree.keys_are_hidden key.table key.column table declared at (child_is table declared.child h))
+      ap not (tree.references_are_hidden key.table key.column table declared at (child_is table declared.child h))
 
-  key_unseen : (key identifier : Field) → is_key_to schema key identifier ≡ true → IsUnseen schema key × IsUnseen schema identifier
+  key_unseen : (key identifier : Field) → is_reference_to schema key identifier ≡ true → IsUnseen schema key × IsUnseen schema identifier
   key_unseen key identifier h =
       let both : BothHold (is_table identifier.table (option_and_then (λ (column : Column). column.child) (column_at schema key.table key.column))) (identifier.column == 0) = both_hold _ _ h in (
         and_false (nat_lt 0 key.column) (is_shown (column_at schema key.table key.column)) (key_in key identifier.table (column_at schema key.table key.column) refl both.one),
@@ -112,7 +112,7 @@ module _ (schema : Schema) (tree : IsTree schema) where
   join_unseen : (condition : Condition) → is_proper schema condition ≡ true → JoinsUnseen schema condition
   join_unseen (Compare one operator value) h = tt
   join_unseen (Join left right) h =
-      (elim (either_true (is_key_to schema left right) (is_key_to schema right left) h) [
+      (elim (either_true (is_reference_to schema left right) (is_reference_to schema right left) h) [
         | inl e ↦ key_unseen left right e
         | inr e ↦ (let k = key_unseen right left e in (k.1, k.0))
       ])

@@ -6,22 +6,22 @@ use Rattle.std.proofs.lemmas.List.{length-map}
 use Rattle.std.proofs.lemmas.List.Folds.{list_all-append}
 use Rattle.std.proofs.lemmas.Bool.Decides.{nat_tests}
 use Rattle.std.proofs.lemmas.Bool.{eqb-true}
-use Rattle.ghost_model.specs.Schema.{Schema, is_visible, parent}
-use Rattle.ghost_model.specs.SchemaTrees.{IsTree}
-use Rattle.ghost_model.specs.Values.{Value, Row, Rows, Database}
-use Rattle.ghost_model.specs.Query.{Query, Field, Condition, Compare, Join, Operator}
-use Rattle.ghost_model.specs.Query as query
-use Rattle.ghost_model.specs.QueryMeaning.{top_of, only, is_some_among, Means}
-use Rattle.ghost_model.specs.Channel.{Test}
-use Rattle.ghost_model.specs.Asks.{test_of, tests_of, is_field}
-use Rattle.ghost_model.specs.Database.{rows_or_none, rows_of, row_of, row_count, IsDatabase}
-use Rattle.ghost_model.specs.Split.{Hidden, hidden_of, public_of, meets_test}
-use Rattle.ghost_model.specs.Meaning as meaning
-use Rattle.ghost_model.specs.Meaning.{Pick, pick, combinations, compares, no_value, others_of, all_of, answer_by_top, answer}
+use Rattle.ghost_model.specs.core.Schema.{Schema, is_visible, parent}
+use Rattle.ghost_model.specs.laws.SchemaTrees.{IsTree}
+use Rattle.ghost_model.specs.core.Values.{Value, Row, Rows, Database}
+use Rattle.ghost_model.specs.core.Query.{Query, Field, Condition, Compare, Join, Operator}
+use Rattle.ghost_model.specs.core.Query as query
+use Rattle.ghost_model.specs.refusals.QueryMeaning.{top_of, only, is_some_among, Means}
+use Rattle.ghost_model.specs.core.Channel.{Test}
+use Rattle.ghost_model.specs.core.Asks.{test_of, tests_of, is_field}
+use Rattle.ghost_model.specs.core.Database.{rows_or_none, rows_of, row_of, row_count, IsDatabase}
+use Rattle.ghost_model.specs.core.Split.{Hidden, hidden_of, public_of, meets_test}
+use Rattle.ghost_model.specs.core.Meaning as meaning
+use Rattle.ghost_model.specs.core.Meaning.{Pick, pick, combinations, compares, no_value, others_of, all_of, answer_by_top, answer}
 use Rattle.ghost_model.proofs.MeaningLemmas.PartsByFlags.{hidden_rows_at}
-use Rattle.ghost_model.specs.Replies as replies
-use Rattle.ghost_model.specs.Replies.{Reply, known_value, known, answer_from}
-use Rattle.ghost_model.specs.SessionLaws.{whole_replies}
+use Rattle.ghost_model.specs.core.Replies as replies
+use Rattle.ghost_model.specs.core.Replies.{Reply, known_value, known, answer_from}
+use Rattle.ghost_model.specs.laws.SessionLaws.{whole_replies}
 use Rattle.ghost_model.proofs.ChannelLemmas.Tests.{false_is_not, BothHold, both_hold, hold_both}
 use Rattle.ghost_model.proofs.MeaningLemmas.Picks.{picks, identifiers_of, known_in, is_true_or_asked, stands_in_reply, is_kept, answer_of_pick}
 use Rattle.ghost_model.proofs.MeaningLemmas.ByRows as by_row

@@ -9,23 +9,23 @@ use Rattle.std.proofs.lemmas.List.Sums.{sum_by-cons}
 use Rattle.std.proofs.lemmas.List.{length-map}
 use Rattle.std.proofs.lemmas.Bool.{lt-ltb, le-leb, ltb-true, leb-true}
 use Rattle.std.proofs.Math.Nat.{mul_comm}
-use Rattle.ghost_model.specs.Schema.{Schema, Kind, Column, columns_of, column_at, is_shown, is_visible}
-use Rattle.ghost_model.specs.Values.{Value, Text, Row, Rows, Database}
-use Rattle.ghost_model.specs.Query.{Query}
-use Rattle.ghost_model.specs.Channel.{Catalog, row_count_in, Ask}
-use Rattle.ghost_model.specs.Database.{is_of_kind, rows_or_none, rows_of, row_counts, IsDatabase}
-use Rattle.ghost_model.specs.Cells.{cell_width, encode_cell}
-use Rattle.ghost_model.specs.CellReading.{decode_cell}
-use Rattle.ghost_model.specs.Frames.{AreBytes, most_payload}
-use Rattle.ghost_model.specs.Asks.{ReplyRow, row_bytes, kind_or_none, kind_at, kinds_of, row_width}
-use Rattle.ghost_model.specs.ChannelLaws.{IsReplyRow}
-use Rattle.ghost_model.specs.NextMove.{are_cells, rows_fit, last_identifier}
-use Rattle.ghost_model.specs.Split.{cells, are_of_kinds, value_at, asked_value, visible_places, Replied, replied, meets_tests, replies_from, visible_rows, reply_row, reply_rows, public_of}
+use Rattle.ghost_model.specs.core.Schema.{Schema, Kind, Column, columns_of, column_at, is_shown, is_visible}
+use Rattle.ghost_model.specs.core.Values.{Value, Text, Row, Rows, Database}
+use Rattle.ghost_model.specs.core.Query.{Query}
+use Rattle.ghost_model.specs.core.Channel.{Catalog, row_count_in, Ask}
+use Rattle.ghost_model.specs.core.Database.{is_of_kind, rows_or_none, rows_of, row_counts, IsDatabase}
+use Rattle.ghost_model.specs.forms.Cells.{cell_width, encode_cell}
+use Rattle.ghost_model.specs.readings.CellReading.{decode_cell}
+use Rattle.ghost_model.specs.forms.Frames.{AreBytes, most_payload}
+use Rattle.ghost_model.specs.core.Asks.{RowCells, row_bytes, kind_or_none, kind_at, kinds_of, row_width}
+use Rattle.ghost_model.specs.laws.ChannelLaws.{IsReplyRow}
+use Rattle.ghost_model.specs.core.NextMove.{are_cells, rows_fit, last_identifier}
+use Rattle.ghost_model.specs.core.Split.{cells, are_of_kinds, value_at, asked_value, visible_places, RowValues, replied, meets_tests, replies_from, visible_rows, reply_row, reply_rows, public_of}
 use Rattle.ghost_model.proofs.MeaningLemmas.PartsByFlags.{visible_rows_at}
-use Rattle.ghost_model.specs.Honest.{fits_frame}
-use Rattle.ghost_model.specs.HostLaws.{AreGroups}
-use Rattle.ghost_model.specs.NextMove as next
-use Rattle.ghost_model.specs.Replies.{values_in}
+use Rattle.ghost_model.specs.core.Honest.{fits_frame}
+use Rattle.ghost_model.specs.laws.HostLaws.{AreGroups}
+use Rattle.ghost_model.specs.core.NextMove as next
+use Rattle.ghost_model.specs.core.Replies.{values_in}
 use Rattle.ghost_model.proofs.ChannelLemmas.Tests.{false_is_not, BothHold, both_hold, hold_both, take_front, drop_front}
 use Rattle.ghost_model.proofs.ChannelLemmas.Asks.{cell_is_read, cell_length}
 use Rattle.ghost_model.proofs.SessionLemmas.Accepted.{Each}
@@ -75,31 +75,31 @@ cells_back (kind ∷ kinds) (value ∷ values) e =
     ∙ ap (λ (rest : Row). value ∷ rest) (ap (λ (bytes : List ℕ). values_in kinds bytes) (drop_front (cell_width kind) (encode_cell kind value) (cells kinds values) size) ∙ cells_back kinds values both.other))
 
 -- a row of a reply that may be sent
-pub record IsSendable (schema : Schema) (ask : Ask) (row : ReplyRow) : Type 0 where
+pub record IsSendable (schema : Schema) (ask : Ask) (row : RowCells) : Type 0 where
   pub is_row : IsReplyRow schema ask row
   pub bytes : AreBytes (row_bytes row)
 
 -- a reply's row with values of the kinds that are asked for
-pub record IsOfKinds (schema : Schema) (ask : Ask) (row : Replied) : Type 0 where
+pub record IsOfKinds (schema : Schema) (ask : Ask) (row : RowValues) : Type 0 where
   pub fits : row.identifier < 2 ^ 32
   pub kinds : are_of_kinds (kinds_of schema ask) row.values ≡ true
 
-sendable : (schema : Schema) (ask : Ask) (row : Replied) → IsOfKinds schema ask row → IsSendable schema ask (reply_row schema ask row)
+sendable : (schema : Schema) (ask : Ask) (row : RowValues) → IsOfKinds schema ask row → IsSendable schema ask (reply_row schema ask row)
 sendable schema ask row is = record {
   is_row = record { identifier = is.fits; width = ap (λ (n : ℕ). 4 + n) (cells_length (kinds_of schema ask) row.values is.kinds) };
   bytes = append_bytes (to_be_bytes w32 row.identifier) (cells (kinds_of schema ask) row.values) (high_bytes 4 row.identifier) (cells_bytes (kinds_of schema ask) row.values is.kinds);
 }
 
-pub all_sendable : (schema : Schema) (ask : Ask) (rows : List Replied) → Each (IsOfKinds schema ask) rows → Each (IsSendable schema ask) (map (reply_row schema ask) rows)
+pub all_sendable : (schema : Schema) (ask : Ask) (rows : List RowValues) → Each (IsOfKinds schema ask) rows → Each (IsSendable schema ask) (map (reply_row schema ask) rows)
 all_sendable schema ask [] e = tt
 all_sendable schema ask (row ∷ rows) e = (sendable schema ask row e.0, all_sendable schema ask rows e.1)
 
 -- groups of rows that may be sent
-record SplitFits (count last : ℕ) (kinds : List Kind) (one other : List ReplyRow) : Type 0 where
+record SplitFits (count last : ℕ) (kinds : List Kind) (one other : List RowCells) : Type 0 where
   front : rows_fit count last kinds one ≡ true
   back : rows_fit count (last_identifier last one) kinds other ≡ true
 
-split_fits : (count last : ℕ) (kinds : List Kind) (one other : List ReplyRow) → rows_fit count last kinds (one ++ other) ≡ true → SplitFits count last kinds one other
+split_fits : (count last : ℕ) (kinds : List Kind) (one other : List RowCells) → rows_fit count last kinds (one ++ other) ≡ true → SplitFits count last kinds one other
 unfolding rows_fit
 split_fits count last kinds [] other e = record { front = refl; back = e }
 split_fits count last kinds (row ∷ one) other e =
@@ -107,25 +107,25 @@ split_fits count last kinds (row ∷ one) other e =
     let later : SplitFits count row.identifier kinds one other = split_fits count row.identifier kinds one other both.other in
     record { front = hold_both _ _ both.one later.front; back = later.back }
 
-record SplitEach (schema : Schema) (ask : Ask) (one other : List ReplyRow) : Type 0 where
+record SplitEach (schema : Schema) (ask : Ask) (one other : List RowCells) : Type 0 where
   front : Each (IsSendable schema ask) one
   back : Each (IsSendable schema ask) other
 
-split_each : (schema : Schema) (ask : Ask) (one other : List ReplyRow) → Each (IsSendable schema ask) (one ++ other) → SplitEach schema ask one other
+split_each : (schema : Schema) (ask : Ask) (one other : List RowCells) → Each (IsSendable schema ask) (one ++ other) → SplitEach schema ask one other
 split_each schema ask [] other e = record { front = tt; back = e }
 split_each schema ask (row ∷ one) other e = let later = split_each schema ask one other e.1 in record { front = (e.0, later.front); back = later.back }
 
-pub all_rows : (schema : Schema) (ask : Ask) (rows : List ReplyRow) → Each (IsSendable schema ask) rows → All (IsReplyRow schema ask) rows
+pub all_rows : (schema : Schema) (ask : Ask) (rows : List RowCells) → Each (IsSendable schema ask) rows → All (IsReplyRow schema ask) rows
 all_rows schema ask [] e k d less = absurd (omega (arith, less))
 all_rows schema ask (row ∷ rows) e zero d less = e.0.is_row
 all_rows schema ask (row ∷ rows) e (suc k) d less = all_rows schema ask rows e.1 k d (omega (arith, less))
 
-all_bytes : (schema : Schema) (ask : Ask) (rows : List ReplyRow) → Each (IsSendable schema ask) rows → AreBytes (flat_map row_bytes rows)
+all_bytes : (schema : Schema) (ask : Ask) (rows : List RowCells) → Each (IsSendable schema ask) rows → AreBytes (flat_map row_bytes rows)
 all_bytes schema ask [] e = λ i. lit< tt
 all_bytes schema ask (row ∷ rows) e = append_bytes (row_bytes row) (flat_map row_bytes rows) e.0.bytes (all_bytes schema ask rows e.1)
 
 pub are_groups :
-    (catalog : Catalog) (ask : Ask) (last : ℕ) (packing : List (List ReplyRow)) → list_all (fits_frame (row_width catalog.schema ask)) packing ≡ true
+    (catalog : Catalog) (ask : Ask) (last : ℕ) (packing : List (List RowCells)) → list_all (fits_frame (row_width catalog.schema ask)) packing ≡ true
     → rows_fit (row_count_in catalog ask.table) last (kinds_of catalog.schema ask) (flat_map (λ group. group) packing) ≡ true
     → Each (IsSendable catalog.schema ask) (flat_map (λ group. group) packing) → AreGroups catalog ask last packing
 are_groups catalog ask last [] fits ascend each = tt
@@ -173,7 +173,7 @@ module _ (schema : Schema) (database : Database) (is : IsDatabase schema databas
       ap (λ (o : Option Value). are_of_kinds (kind_at schema ask.table column ∷ map (kind_at schema ask.table) columns) (unwrap_or o (Text []) ∷ (map (asked_value shown_places (shown row)) columns))) found
       ∙ hold_both _ _ kind (values_kinds place row columns h both.other)
 
-  record IsGood (last : ℕ) (rows : List Replied) : Type 0 where
+  record IsGood (last : ℕ) (rows : List RowValues) : Type 0 where
     kinds : Each (IsOfKinds schema ask) rows
     fits : rows_fit (length (rows_of database ask.table)) last (kinds_of schema ask) (map (reply_row schema ask) rows) ≡ true
 
@@ -231,8 +231,8 @@ module _ (schema : Schema) (database : Database) (is : IsDatabase schema databas
       record { kinds = good.kinds; ascend = good.fits; few_rows = omega (arith, size, count, few) }
 
 -- what is read back of a reply's rows
-pub rows_back : (schema : Schema) (ask : Ask) (rows : List Replied) → Each (IsOfKinds schema ask) rows → map (λ (row : ReplyRow). record { identifier = row.identifier; values = values_in (kinds_of schema ask) row.cells }) (map (reply_row schema ask) rows) ≡ rows
+pub rows_back : (schema : Schema) (ask : Ask) (rows : List RowValues) → Each (IsOfKinds schema ask) rows → map (λ (row : RowCells). record { identifier = row.identifier; values = values_in (kinds_of schema ask) row.cells }) (map (reply_row schema ask) rows) ≡ rows
 rows_back schema ask [] e = refl
 rows_back schema ask (row ∷ rows) e =
-    ap (λ (values : Row). record { identifier = row.identifier; values = values } ∷ map (λ (other : ReplyRow). record { identifier = other.identifier; values = values_in (kinds_of schema ask) other.cells }) (map (reply_row schema ask) rows)) (cells_back (kinds_of schema ask) row.values e.0.kinds)
-    ∙ ap (λ (rest : List Replied). row ∷ rest) (rows_back schema ask rows e.1)
+    ap (λ (values : Row). record { identifier = row.identifier; values = values } ∷ map (λ (other : RowCells). record { identifier = other.identifier; values = values_in (kinds_of schema ask) other.cells }) (map (reply_row schema ask) rows)) (cells_back (kinds_of schema ask) row.values e.0.kinds)
+    ∙ ap (λ (rest : List RowValues). row ∷ rest) (rows_back schema ask rows e.1)

@@ -5,19 +5,19 @@ use Rattle.std.specs.Prelude.{nat_le}
 use Rattle.std.specs.List.{list_all}
 use Rattle.std.proofs.lemmas.Bool.{and_parts, leb-true}
 use Rattle.std.proofs.lemmas.List.{length-map}
-use Rattle.ghost_model.specs.Schema.{Schema, places_from}
-use Rattle.ghost_model.specs.Values.{Rows, Database}
-use Rattle.ghost_model.specs.Database.{rows_or_none, row_count, row_counts}
-use Rattle.ghost_model.specs.LoadFaults.{most_rows}
-use Rattle.ghost_model.specs.Query.{Query}
-use Rattle.ghost_model.specs.QueryReading.{reading}
-use Rattle.ghost_model.specs.Channel.{Catalog, Ask}
-use Rattle.ghost_model.specs.Catalog.{IsCatalog, canonical_text, catalog_bytes}
-use Rattle.ghost_model.specs.Frames.{AreBytes}
-use Rattle.ghost_model.specs.Asks.{asked, asked_from, asked_of, ask_for, asks_of, asks_of_reading, is_from, is_needed, places}
-use Rattle.ghost_model.specs.ChannelLaws.{AsksAreFew}
-use Rattle.ghost_model.specs.SchemaTrees.{IsTree}
-use Rattle.ghost_model.specs.SessionLaws.{IsSetting, IsCatalogOf}
+use Rattle.ghost_model.specs.core.Schema.{Schema, places_from}
+use Rattle.ghost_model.specs.core.Values.{Rows, Database}
+use Rattle.ghost_model.specs.core.Database.{rows_or_none, row_count, row_counts}
+use Rattle.ghost_model.specs.refusals.LoadFaults.{most_rows}
+use Rattle.ghost_model.specs.core.Query.{Query}
+use Rattle.ghost_model.specs.readings.QueryReading.{reading}
+use Rattle.ghost_model.specs.core.Channel.{Catalog, Ask}
+use Rattle.ghost_model.specs.forms.Catalog.{IsCatalog, canonical_text, catalog_bytes}
+use Rattle.ghost_model.specs.forms.Frames.{AreBytes}
+use Rattle.ghost_model.specs.core.Asks.{asked, asked_from, asked_of, ask_for, asks_of, asks_of_reading, is_from, is_needed, places}
+use Rattle.ghost_model.specs.laws.ChannelLaws.{AsksAreFew}
+use Rattle.ghost_model.specs.laws.SchemaTrees.{IsTree}
+use Rattle.ghost_model.specs.laws.SessionLaws.{IsSetting, IsCatalogOf}
 use Rattle.ghost_model.proofs.CatalogByteLemmas.{catalog_is_bytes}
 use Rattle.ghost_model.proofs.MeaningLemmas.OneRow.{length-filter_le}
 use Rattle.ghost_model.proofs.SchemaTreeLemmas.{schemas_are_trees}

@@ -5,14 +5,14 @@ use Rattle.std.specs.Option.{option_map}
 use Rattle.std.proofs.lemmas.Option.{slice_get-map}
 use Rattle.std.proofs.lemmas.Bool.Decides.{nat_tests}
 use Rattle.std.proofs.lemmas.Bool.{eqb-true}
-use Rattle.ghost_model.specs.Schema.{Schema, Column, columns_of, column_at, places_from, is_shown}
-use Rattle.ghost_model.specs.Values.{Value, Text, Row, Rows, Database}
-use Rattle.ghost_model.specs.Channel.{Ask}
-use Rattle.ghost_model.specs.Database.{rows_of, IsDatabase}
-use Rattle.ghost_model.specs.Split.{hidden_of, value_at, is_open, Replied, replied, meets_tests, replies_from}
-use Rattle.ghost_model.specs.SplitByFlags.{hidden_flags, visible_values, hidden_values}
+use Rattle.ghost_model.specs.core.Schema.{Schema, Column, columns_of, column_at, places_from, is_shown}
+use Rattle.ghost_model.specs.core.Values.{Value, Text, Row, Rows, Database}
+use Rattle.ghost_model.specs.core.Channel.{Ask}
+use Rattle.ghost_model.specs.core.Database.{rows_of, IsDatabase}
+use Rattle.ghost_model.specs.core.Split.{hidden_of, value_at, is_open, RowValues, replied, meets_tests, replies_from}
+use Rattle.ghost_model.specs.laws.SplitByFlags.{hidden_flags, visible_values, hidden_values}
 use Rattle.ghost_model.proofs.MeaningLemmas.PartsByFlags.{hidden_rows_at}
-use Rattle.ghost_model.specs.Replies.{hidden_places, hidden_value, row_replied}
+use Rattle.ghost_model.specs.core.Replies.{hidden_places, hidden_value, row_replied}
 use Rattle.ghost_model.proofs.MeaningLemmas.OneRow.{Among}
 use Rattle.ghost_model.proofs.ChannelLemmas.Tests.{false_is_not}
 
@@ -95,11 +95,11 @@ visible_of_row (first ∷ columns) (value ∷ values) column same h =
     (visible_at 1 columns values column (omega (arith, same)) h)
 
 -- the row of an identifier among the rows that meet an ask
-row_if : (here : Bool) (row : Replied) (other found : Option Replied) → (here ≡ true → Some row ≡ found) → (here ≡ false → other ≡ found) → (if here then Some row else other) ≡ found
+row_if : (here : Bool) (row : RowValues) (other found : Option RowValues) → (here ≡ true → Some row ≡ found) → (here ≡ false → other ≡ found) → (if here then Some row else other) ≡ found
 row_if true row other found p q = p refl
 row_if false row other found p q = q refl
 
-abbrev pub if_met : (places : List ℕ) → Ask → (identifier : ℕ) → Row → Option Replied
+abbrev pub if_met : (places : List ℕ) → Ask → (identifier : ℕ) → Row → Option RowValues
 if_met places ask identifier row = if meets_tests places ask.tests row then Some (replied places ask identifier row) else None
 
 -- no row before the first one

@@ -1,7 +1,7 @@
 -- The catalogs of the worked databases, the greatest counts and generation that a catalog has, and what is no catalog.
 use Rattle.std.specs.Prelude.{ℕ, List, [], ◌∷◌, ◌++◌, take, drop, replicate, codes}
-use Rattle.ghost_model.specs.Channel.{Catalog}
-use Rattle.ghost_model.specs.Catalog.{catalog_bytes, IsCatalog, SpellsCatalog, BeginsWithCatalog}
+use Rattle.ghost_model.specs.core.Channel.{Catalog}
+use Rattle.ghost_model.specs.forms.Catalog.{catalog_bytes, IsCatalog, SpellsCatalog, BeginsWithCatalog}
 use Rattle.ghost_model.specs.examples.Clinic.{clinic_catalog, note_catalog}
 
 pub record CatalogsOfExamples : Type 0 where

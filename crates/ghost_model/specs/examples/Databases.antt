@@ -1,11 +1,11 @@
 -- The clinic's files and the database that they spell, and files that break the rules of loading: each rule alone, and
 -- two rules at once, of which the earlier one is told. The parts of rows, and what is no image.
 use Rattle.std.specs.Prelude.{◌≡◌, ℕ, pos, negsuc, List, [], ◌∷◌, ◌++◌, flat_map, take, codes, Option, Some, None}
-use Rattle.ghost_model.specs.Schema.{Schema, Column}
-use Rattle.ghost_model.specs.Values.{Text, Row}
-use Rattle.ghost_model.specs.Split.{Public, is_open, is_closed, part_of, places_of, asked_value, rejoined_row, public_of, image, SpellsImage}
-use Rattle.ghost_model.specs.Database.{database_of, integer_of, leads, records_of}
-use Rattle.ghost_model.specs.LoadFaults.{LoadFault, Header, RowLimit, FieldCount, BadId, BadInt, BadChars, BadReference, place, load_fault, load_faults, row_faults}
+use Rattle.ghost_model.specs.core.Schema.{Schema, Column}
+use Rattle.ghost_model.specs.core.Values.{Text, Row}
+use Rattle.ghost_model.specs.core.Split.{Public, is_open, is_closed, part_of, column_places, asked_value, rejoined_row, public_of, image, SpellsImage}
+use Rattle.ghost_model.specs.core.Database.{database_of, integer_of, leads, records_of}
+use Rattle.ghost_model.specs.refusals.LoadFaults.{LoadFault, Header, RowLimit, FieldCount, BadId, BadInt, BadChars, BadReference, place, load_fault, load_faults, row_faults}
 use Rattle.ghost_model.specs.examples.Clinic.{id_column, number_column, text_column, hidden_text_column, key_column, patient_table, clinic_schema, clinic_catalog, clinic, number}
 
 -- lines that each end with a line feed
@@ -194,7 +194,7 @@ pub record PartsOfRows : Type 0 where
   pub a_column_is_missing : part_of is_open (id_column ∷ number_column (codes "count") ∷ []) mixed_row ≡ number 5 ∷ []
   pub a_short_part : rejoined_row mixed_columns 1 (number 5 ∷ []) mixed_hidden
       ≡ number 1 ∷ number 5 ∷ Text (codes "Ann") ∷ []
-  pub asked : asked_value (places_of is_open mixed_columns) mixed_visible 3 ≡ Text (codes "ward")
+  pub asked : asked_value (column_places is_open mixed_columns) mixed_visible 3 ≡ Text (codes "ward")
 
 -- the clinic's image has 437 bytes. No public part makes its first 436
 pub record NoShorterImage : Type 0 where

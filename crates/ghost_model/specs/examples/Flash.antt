@@ -1,10 +1,10 @@
 -- What the clinic's flash holds, file by file, and what loading it takes.
 use Rattle.std.specs.Prelude.{◌≡◌, ℕ, List, [], ◌∷◌, ◌++◌, codes, length, map, replicate}
-use Rattle.ghost_model.specs.Split.{Hidden, hidden_of}
-use Rattle.ghost_model.specs.Runs.{Stores}
-use Rattle.ghost_model.specs.Layout.{column_file}
-use Rattle.ghost_model.specs.Flash.{catalog_page, hidden_cells, AreValues, value_lists, index_lists, list_records, directory_records, subtree_record, id_lists, id_index_lists, ids}
-use Rattle.ghost_model.specs.Work.{catalog_pages, file_pages, pages_built}
+use Rattle.ghost_model.specs.core.Split.{Hidden, hidden_of}
+use Rattle.ghost_model.specs.forms.Runs.{Stores}
+use Rattle.ghost_model.specs.forms.Layout.{column_file}
+use Rattle.ghost_model.specs.forms.Flash.{catalog_page, hidden_cells, AreValues, value_lists, index_lists, list_records, directory_records, subtree_record, id_lists, id_index_lists, ids}
+use Rattle.ghost_model.specs.forms.Work.{catalog_pages, file_pages, pages_built}
 use Rattle.ghost_model.specs.examples.Clinic.{clinic_schema, clinic_catalog, note_schema, note_catalog, clinic, notes}
 
 abbrev pub hidden_clinic : Hidden

@@ -1,11 +1,11 @@
 -- The two parts of the clinic, what its public part makes, and what texts over the clinic and the notes print.
 use Rattle.std.specs.Prelude.{◌≡◌, ℕ, negsuc, List, [], ◌∷◌, ◌++◌, length, drop, flat_map, codes}
-use Rattle.ghost_model.specs.Values.{Value, Number, Text, Row}
-use Rattle.ghost_model.specs.Query.{Equal, AtLeast}
-use Rattle.ghost_model.specs.Channel.{Ask}
-use Rattle.ghost_model.specs.Asks.{row_bytes}
-use Rattle.ghost_model.specs.Split.{Replied, public_of, hidden_of, rejoined, image, visible_rows, reply_rows}
-use Rattle.ghost_model.specs.Printed.{printed, row_line}
+use Rattle.ghost_model.specs.core.Values.{Value, Number, Text, Row}
+use Rattle.ghost_model.specs.core.Query.{Equal, AtLeast}
+use Rattle.ghost_model.specs.core.Channel.{Ask}
+use Rattle.ghost_model.specs.core.Asks.{row_bytes}
+use Rattle.ghost_model.specs.core.Split.{RowValues, public_of, hidden_of, rejoined, image, visible_rows, reply_rows}
+use Rattle.ghost_model.specs.core.Printed.{printed, row_line}
 use Rattle.ghost_model.specs.examples.Clinic.{number, clinic_schema, clinic, clinic_catalog, note_schema, notes}
 use Rattle.ghost_model.specs.examples.Databases.{lines}
 
@@ -27,10 +27,10 @@ abbrev pub late_visits : Ask
 late_visits =
     record { table = 2; columns = []; tests = record { column = 1; operator = AtLeast; value = number 5 } ∷ [] }
 
-abbrev pub cardio : ℕ → Replied
+abbrev pub cardio : ℕ → RowValues
 cardio identifier = record { identifier = identifier; values = one (Text (codes "cardio")) }
 
-abbrev pub identifier_alone : ℕ → Replied
+abbrev pub identifier_alone : ℕ → RowValues
 identifier_alone identifier = record { identifier = identifier; values = [] }
 
 -- the cell of the word cardio in eight bytes

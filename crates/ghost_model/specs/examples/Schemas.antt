@@ -1,10 +1,10 @@
 -- Schemas of texts, and the faults of texts that mean none: the offset of the token at which a text leaves the grammar,
 -- the place of each rule that is broken, and which of two broken rules is named.
 use Rattle.std.specs.Prelude.{◌≡◌, ℕ, nat_le, true, false, length, List, [], ◌∷◌, ◌++◌, flat_map, replicate, codes, Ok, Err}
-use Rattle.ghost_model.specs.SchemaReading.{schema_reading}
-use Rattle.ghost_model.specs.SchemaFaults.{most_schema_bytes, Syntax, Limit, DuplicateName, NoId, UnknownTable, TwoParents, Cycle, NotOneRoot, MeansSchema, IsSchemaFault}
-use Rattle.ghost_model.specs.Grammar.{IsSyntaxFault}
-use Rattle.ghost_model.specs.SchemaGrammar.{spelling}
+use Rattle.ghost_model.specs.readings.SchemaReading.{schema_reading}
+use Rattle.ghost_model.specs.refusals.SchemaFaults.{most_schema_bytes, Syntax, Limit, DuplicateName, NoId, UnknownTable, TwoParents, Cycle, NotOneRoot, MeansSchema, IsSchemaFault}
+use Rattle.ghost_model.specs.refusals.Grammar.{IsSyntaxFault}
+use Rattle.ghost_model.specs.refusals.SchemaGrammar.{spelling}
 use Rattle.ghost_model.specs.examples.Tokens.{spaces}
 use Rattle.ghost_model.specs.examples.Clinic.{clinic_schema, id_column, text_column, key_column}
 

@@ -1,19 +1,19 @@
 -- Telling sessions over the clinic: an honest host, one that tells wrong rows in good form, and one that refuses; and the
 -- lines that texts have in them.
 use Rattle.std.specs.Prelude.{◌≡◌, ℕ, true, false, List, [], ◌∷◌, ◌++◌, take, codes}
-use Rattle.ghost_model.specs.Values.{Row, Text, Database}
-use Rattle.ghost_model.specs.Channel.{Hello, Asking, More, Bye, Done, Frame, Ask, Catalog, Journal, Entry, Take, End}
-use Rattle.ghost_model.specs.NextMove.{IsProper, IsFinished, Ended}
-use Rattle.ghost_model.specs.Asks.{ReplyRow, asked_of}
-use Rattle.ghost_model.specs.Split.{public_of, hidden_of, Hidden, Public, reply_rows}
-use Rattle.ghost_model.specs.Host.{rows_frame, host_of}
-use Rattle.ghost_model.specs.Local.{IsServedBy}
-use Rattle.ghost_model.specs.Meaning.{answer}
-use Rattle.ghost_model.specs.Honest.{IsHonest}
-use Rattle.ghost_model.specs.Lines.{AreLines, ended_of, all_done, broken_word, rows_from_replies}
+use Rattle.ghost_model.specs.core.Values.{Row, Text, Database}
+use Rattle.ghost_model.specs.core.Channel.{HelloFrame, AskFrame, MoreFrame, ByeFrame, DoneFrame, Frame, Ask, Catalog, Journal, Entry, Take, End}
+use Rattle.ghost_model.specs.core.NextMove.{IsProper, IsFinished, EndedAsk}
+use Rattle.ghost_model.specs.core.Asks.{RowCells, asked_of}
+use Rattle.ghost_model.specs.core.Split.{public_of, hidden_of, Hidden, Public, reply_rows}
+use Rattle.ghost_model.specs.core.Host.{rows_frame, host_of}
+use Rattle.ghost_model.specs.core.Local.{IsServedBy}
+use Rattle.ghost_model.specs.core.Meaning.{answer}
+use Rattle.ghost_model.specs.core.Honest.{IsHonest}
+use Rattle.ghost_model.specs.core.Lines.{AreLines, ended_of, all_done, broken_word, rows_from_replies}
 use Rattle.ghost_model.specs.examples.Clinic.{clinic, clinic_schema, clinic_catalog, number, doctor_row, patient_row, visit_row}
 use Rattle.ghost_model.specs.examples.Channel.{hex, cardio_text, cardio_query, cardio_ask, cardio_test, cardio_journal, late_text, name_text, dialled, sends, takes, welcomed, closed}
-use Rattle.ghost_model.specs.Printed.{printed}
+use Rattle.ghost_model.specs.core.Printed.{printed}
 use Rattle.ghost_model.specs.examples.Meaning.{cardio_on, tabbed}
 
 abbrev pub ends : ℕ → Entry
@@ -33,7 +33,7 @@ abbrev pub rows_by : Journal → List Row
 rows_by journal = rows_from_replies clinic_catalog clinic_hidden (asked_of clinic_schema cardio_texts) journal 1 cardio_query
 
 -- which asks of it were ended, and how
-abbrev pub ends_by : Journal → List Ended
+abbrev pub ends_by : Journal → List EndedAsk
 ends_by journal = ended_of clinic_catalog (asked_of clinic_schema cardio_texts) journal 1
 
 abbrev pub cardio_row : ℕ → Row
@@ -43,16 +43,16 @@ cardio_row visit = number visit ∷ Text (codes "cardio") ∷ []
 abbrev pub lying_journal : Journal
 lying_journal =
     dialled []
-    ∷ sends (Hello 1)
+    ∷ sends (HelloFrame 1)
     ∷ takes 8 (codes "1101016e00000000")
     ∷ welcomed clinic_catalog
     ∷ sends cardio_ask
     ∷ takes 8 (codes "1201001800000001")
     ∷ takes 24 (codes "0000000163617264696f00000000000263617264696f0000")
-    ∷ sends (More 1)
+    ∷ sends (MoreFrame 1)
     ∷ takes 8 (codes "1301000400000001")
     ∷ takes 4 (codes "00000002")
-    ∷ sends Bye
+    ∷ sends ByeFrame
     ∷ closed
     ∷ []
 
@@ -60,13 +60,13 @@ lying_journal =
 abbrev pub refusing_journal : Journal
 refusing_journal =
     dialled []
-    ∷ sends (Hello 1)
+    ∷ sends (HelloFrame 1)
     ∷ takes 8 (codes "1101016e00000000")
     ∷ welcomed clinic_catalog
     ∷ sends cardio_ask
     ∷ takes 8 (codes "1401000100000001")
     ∷ takes 1 (codes "01")
-    ∷ sends Bye
+    ∷ sends ByeFrame
     ∷ closed
     ∷ []
 
@@ -74,7 +74,7 @@ refusing_journal =
 abbrev pub ending_journal : Journal
 ending_journal =
     dialled []
-    ∷ sends (Hello 1)
+    ∷ sends (HelloFrame 1)
     ∷ takes 8 (codes "1101016e00000000")
     ∷ welcomed clinic_catalog
     ∷ sends cardio_ask
@@ -87,7 +87,7 @@ ending_journal =
 abbrev pub invalid_journal : Journal
 invalid_journal =
     dialled []
-    ∷ sends (Hello 1)
+    ∷ sends (HelloFrame 1)
     ∷ takes 8 (codes "1101016e00000000")
     ∷ welcomed clinic_catalog
     ∷ sends cardio_ask
@@ -100,11 +100,11 @@ invalid_journal =
 abbrev pub cardio_wanted : Ask
 cardio_wanted = record { table = 0; columns = 1 ∷ []; tests = cardio_test ∷ [] }
 
-abbrev pub cardio_replied : List ReplyRow
+abbrev pub cardio_replied : List RowCells
 cardio_replied = reply_rows clinic_schema clinic_public cardio_wanted
 
 abbrev pub cardio_reply : List Frame
-cardio_reply = rows_frame 1 cardio_replied ∷ Done 1 2 ∷ []
+cardio_reply = rows_frame 1 cardio_replied ∷ DoneFrame 1 2 ∷ []
 
 pub record HonestSession : Type 0 where
   pub served : IsServedBy (host_of clinic_catalog clinic_public) cardio_journal
@@ -190,13 +190,13 @@ day_texts = codes "SELECT day FROM visit" ∷ []
 abbrev pub quiet_journal : Journal
 quiet_journal =
     dialled []
-    ∷ sends (Hello 1)
+    ∷ sends (HelloFrame 1)
     ∷ takes 8 (codes "1101016e00000000")
     ∷ welcomed quiet_catalog
-    ∷ sends (Asking 1 (hex (codes "02010100")))
+    ∷ sends (AskFrame 1 (hex (codes "02010100")))
     ∷ takes 8 (codes "1301000400000001")
     ∷ takes 4 (codes "00000000")
-    ∷ sends Bye
+    ∷ sends ByeFrame
     ∷ closed
     ∷ []
 
@@ -213,22 +213,22 @@ three_texts = cardio_text ∷ late_text ∷ name_text ∷ []
 abbrev pub three_texts_journal : Journal
 three_texts_journal =
     dialled []
-    ∷ sends (Hello 1)
+    ∷ sends (HelloFrame 1)
     ∷ takes 8 (codes "1101016e00000000")
     ∷ welcomed clinic_catalog
     ∷ sends cardio_ask
     ∷ takes 8 (codes "1201001800000001")
     ∷ takes 24 (codes "0000000163617264696f00000000000363617264696f0000")
-    ∷ sends (More 1)
+    ∷ sends (MoreFrame 1)
     ∷ takes 8 (codes "1301000400000001")
     ∷ takes 4 (codes "00000002")
-    ∷ sends (Asking 2 (hex (codes "0201010101068000000000000002")))
+    ∷ sends (AskFrame 2 (hex (codes "0201010101068000000000000002")))
     ∷ takes 8 (codes "1201003000000002")
     ∷ takes 48 (codes "000000018000000000000005000000028000000000000005000000038000000000000009000000048000000000000002")
-    ∷ sends (More 2)
+    ∷ sends (MoreFrame 2)
     ∷ takes 8 (codes "1301000400000002")
     ∷ takes 4 (codes "00000004")
-    ∷ sends Bye
+    ∷ sends ByeFrame
     ∷ closed
     ∷ []
 

@@ -1,6 +1,6 @@
 -- What slots of the clinic's files may hold, and what they may not, kind by kind.
 use Rattle.std.specs.Prelude.{◌≡◌, Bool, true, false, List, [], ◌∷◌, ◌++◌, codes, ℕ, replicate, Option, Some, None}
-use Rattle.ghost_model.specs.Slots.{File, Cells, Subtrees, Header, Directory, Level, IdDirectory, IdLevel, may_stand, may_follow, IsDamagedSlot}
+use Rattle.ghost_model.specs.forms.Slots.{File, Cells, Subtrees, IndexHeader, IndexDirectory, IndexLevel, IdDirectory, IdLevel, may_stand, may_follow, IsDamagedSlot}
 use Rattle.ghost_model.specs.examples.Clinic.{clinic_catalog}
 use Rattle.ghost_model.specs.examples.Flash.{small, key}
 
@@ -29,16 +29,16 @@ pub record RangesOfSlots : Type 0 where
   pub a_doctor_and_a_patient : stands (Subtrees 2) (small 3 ++ small 2) ≡ true
   pub no_patient : stands (Subtrees 2) (small 3 ++ small 3) ≡ false
   pub doctor_0 : stands (Subtrees 2) (small 0 ++ small 1) ≡ false
-  pub two_values : stands (Header 0 2) (small 2) ≡ true
-  pub more_values_than_rows : stands (Header 0 2) (small 4) ≡ false
-  pub no_value : stands (Header 0 2) (small 0) ≡ false
-  pub spain : stands (Directory 0 2) (entry (codes "ES") 0 2 0 3) ≡ true
-  pub a_value_of_no_text : stands (Directory 0 2) (entry (codes "E" ++ 31 ∷ []) 0 2 0 3) ≡ false
-  pub more_doctors_than_rows : stands (Directory 0 2) (entry (codes "ES") 2 2 0 3) ≡ false
-  pub more_visits_than_rows : stands (Directory 0 2) (entry (codes "ES") 0 2 2 3) ≡ false
-  pub the_last_visit : stands (Level 0 2 1) (small 4) ≡ true
-  pub no_visit : stands (Level 0 2 1) (small 5) ≡ false
-  pub visit_0 : stands (Level 0 2 1) (small 0) ≡ false
+  pub two_values : stands (IndexHeader 0 2) (small 2) ≡ true
+  pub more_values_than_rows : stands (IndexHeader 0 2) (small 4) ≡ false
+  pub no_value : stands (IndexHeader 0 2) (small 0) ≡ false
+  pub spain : stands (IndexDirectory 0 2) (entry (codes "ES") 0 2 0 3) ≡ true
+  pub a_value_of_no_text : stands (IndexDirectory 0 2) (entry (codes "E" ++ 31 ∷ []) 0 2 0 3) ≡ false
+  pub more_doctors_than_rows : stands (IndexDirectory 0 2) (entry (codes "ES") 2 2 0 3) ≡ false
+  pub more_visits_than_rows : stands (IndexDirectory 0 2) (entry (codes "ES") 0 2 2 3) ≡ false
+  pub the_last_visit : stands (IndexLevel 0 2 1) (small 4) ≡ true
+  pub no_visit : stands (IndexLevel 0 2 1) (small 5) ≡ false
+  pub visit_0 : stands (IndexLevel 0 2 1) (small 0) ≡ false
   pub visits_of_a_doctor : stands (IdDirectory 0) (small 2 ++ small 2) ≡ true
   pub more_than_visits : stands (IdDirectory 0) (small 3 ++ small 2) ≡ false
   pub a_visit_of_a_doctor : stands (IdLevel 0 0) (small 4) ≡ true
@@ -46,15 +46,15 @@ pub record RangesOfSlots : Type 0 where
 
 pub record OrderOfSlots : Type 0 where
   pub any_country : follows country (Some (codes "FR")) (codes "ES") ≡ true
-  pub spain_first : follows (Directory 0 2) None (entry (codes "ES") 0 2 0 3) ≡ true
-  pub a_gap_at_the_beginning : follows (Directory 0 2) None (entry (codes "ES") 1 2 0 3) ≡ false
-  pub then_france : follows (Directory 0 2) (Some (entry (codes "ES") 0 2 0 3)) (entry (codes "FR") 2 1 3 1) ≡ true
-  pub france_twice : follows (Directory 0 2) (Some (entry (codes "FR") 0 2 0 3)) (entry (codes "FR") 2 1 3 1) ≡ false
-  pub a_gap_between_doctors : follows (Directory 0 2) (Some (entry (codes "ES") 0 1 0 3)) (entry (codes "FR") 2 1 3 1) ≡ false
-  pub visits_twice : follows (Directory 0 2) (Some (entry (codes "ES") 0 2 0 3)) (entry (codes "FR") 2 1 2 1) ≡ false
-  pub first_of_a_list : follows (Level 0 2 1) None (small 1) ≡ true
-  pub a_later_visit : follows (Level 0 2 1) (Some (small 2)) (small 3) ≡ true
-  pub the_same_visit : follows (Level 0 2 1) (Some (small 3)) (small 3) ≡ false
+  pub spain_first : follows (IndexDirectory 0 2) None (entry (codes "ES") 0 2 0 3) ≡ true
+  pub a_gap_at_the_beginning : follows (IndexDirectory 0 2) None (entry (codes "ES") 1 2 0 3) ≡ false
+  pub then_france : follows (IndexDirectory 0 2) (Some (entry (codes "ES") 0 2 0 3)) (entry (codes "FR") 2 1 3 1) ≡ true
+  pub france_twice : follows (IndexDirectory 0 2) (Some (entry (codes "FR") 0 2 0 3)) (entry (codes "FR") 2 1 3 1) ≡ false
+  pub a_gap_between_doctors : follows (IndexDirectory 0 2) (Some (entry (codes "ES") 0 1 0 3)) (entry (codes "FR") 2 1 3 1) ≡ false
+  pub visits_twice : follows (IndexDirectory 0 2) (Some (entry (codes "ES") 0 2 0 3)) (entry (codes "FR") 2 1 2 1) ≡ false
+  pub first_of_a_list : follows (IndexLevel 0 2 1) None (small 1) ≡ true
+  pub a_later_visit : follows (IndexLevel 0 2 1) (Some (small 2)) (small 3) ≡ true
+  pub the_same_visit : follows (IndexLevel 0 2 1) (Some (small 3)) (small 3) ≡ false
   pub the_next_doctor : follows (IdDirectory 0) (Some (small 1 ++ small 1)) (small 2 ++ small 2) ≡ true
   pub a_doctor_too_early : follows (IdDirectory 0) (Some (small 1 ++ small 1)) (small 1 ++ small 2) ≡ false
   pub a_later_visit_of_a_doctor : follows (IdLevel 0 0) (Some (small 2)) (small 3) ≡ true

@@ -1,6 +1,6 @@
 use Rattle.std.proofs.Common.{◌≡◌, ◌+◌, ◌≤◌, ◌++◌, map}
 use Rattle.arrayvec.specs.ArrayVec.{array_vec_len}
-use Rattle.ghost_model.specs.AskReading as reading
+use Rattle.ghost_model.specs.readings.AskReading as reading
 use Rattle.channel_codec.specs.AskViews.{test_view}
 use Rattle.channel_codec.proofs.asking.tests_in.Given as goal
 

@@ -1,5 +1,5 @@
 use Rattle.std.proofs.Common.{◌<◌, length, arith}
-use Rattle.ghost_model.specs.Catalog.{catalog_bytes}
+use Rattle.ghost_model.specs.forms.Catalog.{catalog_bytes}
 use Rattle.csv_split.specs.Reading.{columns_of}
 use Rattle.csv_split.proofs.ImageLengths.{capped, no_table, one_length}
 use Rattle.csv_split.proofs.image.image_len.Goals as goal

@@ -1,5 +1,5 @@
 use Rattle.std.proofs.Common.{length}
-use Rattle.ghost_model.specs.Catalog.{catalog_bytes}
+use Rattle.ghost_model.specs.forms.Catalog.{catalog_bytes}
 use Rattle.csv_split.proofs.ImageLengths.{IsLengthSoFar}
 use Rattle.csv_split.proofs.image.image_len.Given as goal
 

@@ -1,8 +1,8 @@
 use Rattle.std.proofs.Common.{◌≡◌, ◌++◌, ◌∙◌, [], length, map, sym, ap₂, subst, Vec, Global, ℕ}
 use Rattle.std.proofs.lemmas.List.{length-map}
-use Rattle.ghost_model.specs.Database as database
-use Rattle.ghost_model.specs.LoadFaults as faults
-use Rattle.ghost_model.specs.Values.{Database}
+use Rattle.ghost_model.specs.core.Database as database
+use Rattle.ghost_model.specs.refusals.LoadFaults as faults
+use Rattle.ghost_model.specs.core.Values.{Database}
 use Rattle.csv_split.proofs.loading.read_tables.Goals as goal
 
 pub returns-clause-database : goal.returns-clause-database

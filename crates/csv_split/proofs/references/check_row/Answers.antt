@@ -1,6 +1,6 @@
 use Rattle.std.proofs.Common.{◌∙◌}
 use Rattle.std.proofs.lemmas.Result.{err_from_is_err_and}
-use Rattle.ghost_model.specs.Database as database
+use Rattle.ghost_model.specs.core.Database as database
 use Rattle.csv_split.specs.References.{row_or_none}
 use Rattle.csv_split.proofs.Judging.{first_more, none_first}
 use Rattle.csv_split.proofs.CheckedKeys.{key_next, no_key}

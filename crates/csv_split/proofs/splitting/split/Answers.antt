@@ -1,6 +1,6 @@
 use Rattle.std.proofs.Common.{◌∙◌, List, map, length, sym, ap, arith}
 use Rattle.std.specs.Vec.Iter.{into_iter_items}
-use Rattle.ghost_model.specs.Values.{Rows}
+use Rattle.ghost_model.specs.core.Values.{Rows}
 use Rattle.csv_split.specs.Parts.{public_with, hidden_with}
 use Rattle.csv_split.specs.Reading.{columns_of, with_identifier}
 use Rattle.csv_split.proofs.SplitParts.{all_tables_parted, one_table_parted, same_counts}

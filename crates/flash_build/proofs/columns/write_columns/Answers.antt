@@ -1,5 +1,5 @@
 use Rattle.std.proofs.Common.{◌∙◌, ◌+◌, ap, arith, length}
-use Rattle.ghost_model.specs.Layout as layout
+use Rattle.ghost_model.specs.forms.Layout as layout
 use Rattle.flash_build.proofs.ColumnFiles.{can_fill_table, tables_more, stores_tables, columns_trans, counts_as}
 use Rattle.flash_build.proofs.columns.write_columns.Goals as goal
 

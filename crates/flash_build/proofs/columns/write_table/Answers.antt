@@ -1,8 +1,8 @@
 use Rattle.std.proofs.Common.{◌≡◌, ◌∙◌, ◌+◌, ap, subst, arith}
 use Rattle.edge_traits.specs.Devices.{ChangesOnly}
 use Rattle.edge_traits.proofs.DeviceFrames.{changes_wider}
-use Rattle.ghost_model.specs.Layout as layout
-use Rattle.ghost_model.specs.LayoutSums as sums
+use Rattle.ghost_model.specs.forms.Layout as layout
+use Rattle.ghost_model.specs.laws.LayoutSums as sums
 use Rattle.flash_build.proofs.ColumnFiles.{can_fill_column, changed_more, stores_more, columns_trans, counts_as}
 use Rattle.flash_build.proofs.columns.write_table.Goals as goal
 

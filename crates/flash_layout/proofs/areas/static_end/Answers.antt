@@ -1,6 +1,6 @@
 use Rattle.std.proofs.Common.{length, sym, ap, ◌∙◌}
-use Rattle.ghost_model.specs.Layout as layout
-use Rattle.ghost_model.specs.LayoutSums as sums
+use Rattle.ghost_model.specs.forms.Layout as layout
+use Rattle.ghost_model.specs.laws.LayoutSums as sums
 use Rattle.flash_layout.proofs.areas.static_end.Goals as goal
 
 pub returns-clause-page : goal.returns-clause-page

@@ -1,5 +1,5 @@
 use Rattle.std.proofs.Common.{◌≡◌, ap, ◌∙◌, arith}
-use Rattle.ghost_model.specs.LayoutSums as sums
+use Rattle.ghost_model.specs.laws.LayoutSums as sums
 use Rattle.flash_layout.proofs.indexes.index_pages_before.Goals as goal
 
 pub returns-clause-value : goal.returns-clause-value

@@ -1,5 +1,5 @@
 use Rattle.std.proofs.Common.{◌≡◌, ◌≤◌, ◌*◌, take}
-use Rattle.ghost_model.specs.LayoutSums as sums
+use Rattle.ghost_model.specs.laws.LayoutSums as sums
 use Rattle.flash_layout.proofs.indexes.levels_pages.Given as goal
 
 abbrev pub invariant-loop-table : goal.invariant-loop-table

@@ -1,5 +1,5 @@
 use Rattle.std.proofs.Common.{◌≡◌, ◌≤◌, ◌+◌, ◌*◌}
-use Rattle.ghost_model.specs.LayoutSums as sums
+use Rattle.ghost_model.specs.laws.LayoutSums as sums
 use Rattle.flash_layout.proofs.indexes.table_begin.Given as goal
 
 abbrev pub invariant-loop-at : goal.invariant-loop-at

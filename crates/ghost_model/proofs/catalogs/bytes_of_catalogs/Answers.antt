@@ -1,12 +1,12 @@
 use Rattle.std.proofs.Common.{◌≡◌, ℕ, zero, suc, List, [], ◌∷◌, ◌++◌, take, drop, replicate, get_or, Ok, refl, sym, ap, ◌∙◌, append-nil, arith}
 use Rattle.std.specs.Fmt.{digits}
-use Rattle.ghost_model.specs.Schema.{places_from}
-use Rattle.ghost_model.specs.Channel.{Catalog}
-use Rattle.ghost_model.specs.Tokens.{tokens_from, quoted_from}
-use Rattle.ghost_model.specs.SchemaPlaces.{syntax_from}
-use Rattle.ghost_model.specs.SchemaFaults.{ancestor, fields_from}
-use Rattle.ghost_model.specs.SchemaReading.{schema_reading}
-use Rattle.ghost_model.specs.Catalog.{canonical_text, catalog_bytes, IsCatalog, SpellsCatalog, BeginsWithCatalog}
+use Rattle.ghost_model.specs.core.Schema.{places_from}
+use Rattle.ghost_model.specs.core.Channel.{Catalog}
+use Rattle.ghost_model.specs.refusals.Tokens.{tokens_from, quoted_from}
+use Rattle.ghost_model.specs.readings.SchemaPlaces.{syntax_from}
+use Rattle.ghost_model.specs.refusals.SchemaFaults.{ancestor, fields_from}
+use Rattle.ghost_model.specs.readings.SchemaReading.{schema_reading}
+use Rattle.ghost_model.specs.forms.Catalog.{canonical_text, catalog_bytes, IsCatalog, SpellsCatalog, BeginsWithCatalog}
 use Rattle.ghost_model.specs.examples.Clinic.{clinic_schema, clinic_catalog}
 use Rattle.ghost_model.specs.examples.Catalogs.{SpellsNone}
 use Rattle.ghost_model.proofs.SchemaRuleLemmas.{one_schema}

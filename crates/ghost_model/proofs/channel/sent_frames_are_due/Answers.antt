@@ -1,4 +1,4 @@
-use Rattle.ghost_model.specs.Asks.{asked_of}
+use Rattle.ghost_model.specs.core.Asks.{asked_of}
 use Rattle.ghost_model.proofs.ChannelLemmas.Sending.{sent_is_due}
 use Rattle.ghost_model.proofs.channel.sent_frames_are_due.Goals as goal
 

@@ -1,9 +1,9 @@
 use Rattle.std.proofs.Common.{refl, inl, inr, arith}
-use Rattle.ghost_model.specs.Layout.{first_page}
-use Rattle.ghost_model.specs.Schema.{places_from}
-use Rattle.ghost_model.specs.SchemaFaults.{ancestor}
-use Rattle.ghost_model.specs.Runs.{number_in, record_at, found_in}
-use Rattle.ghost_model.specs.Slots.{Cells, Directory}
+use Rattle.ghost_model.specs.forms.Layout.{first_page}
+use Rattle.ghost_model.specs.core.Schema.{places_from}
+use Rattle.ghost_model.specs.refusals.SchemaFaults.{ancestor}
+use Rattle.ghost_model.specs.forms.Runs.{number_in, record_at, found_in}
+use Rattle.ghost_model.specs.forms.Slots.{Cells, IndexDirectory}
 use Rattle.ghost_model.proofs.flash.damaged_slots.Goals as goal
 
 pub returns : goal.returns
@@ -22,7 +22,7 @@ returns c = record {
     };
   };
   the_later_of_two = record {
-    file = Directory 0 2;
+    file = IndexDirectory 0 2;
     place = 1;
     at = record {
       has = refl;

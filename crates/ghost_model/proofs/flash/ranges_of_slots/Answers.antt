@@ -1,7 +1,7 @@
 use Rattle.std.proofs.Common.{refl}
-use Rattle.ghost_model.specs.Schema.{places_from}
-use Rattle.ghost_model.specs.SchemaFaults.{ancestor}
-use Rattle.ghost_model.specs.Runs.{number_in}
+use Rattle.ghost_model.specs.core.Schema.{places_from}
+use Rattle.ghost_model.specs.refusals.SchemaFaults.{ancestor}
+use Rattle.ghost_model.specs.forms.Runs.{number_in}
 use Rattle.ghost_model.proofs.flash.ranges_of_slots.Goals as goal
 
 pub returns : goal.returns

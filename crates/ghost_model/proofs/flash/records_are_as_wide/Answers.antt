@@ -1,8 +1,8 @@
 use Rattle.std.proofs.Common.{◌≡◌, refl, ◌∙◌, ℕ, zero, suc, ◌+◌, ◌*◌, List, [], ◌∷◌, length, flat_map, replicate, get_or, unwrap_or, arith}
 use Rattle.std.proofs.lemmas.List.{length-append, length-map}
-use Rattle.ghost_model.specs.Runs.{number_cell}
-use Rattle.ghost_model.specs.Layout.{count_of, levels_of, above_of, descendants_of}
-use Rattle.ghost_model.specs.Flash.{list_place, directory_record, value_lists, index_lists, id_lists, id_index_lists, leads_to}
+use Rattle.ghost_model.specs.forms.Runs.{number_cell}
+use Rattle.ghost_model.specs.forms.Layout.{count_of, levels_of, above_of, descendants_of}
+use Rattle.ghost_model.specs.forms.Flash.{list_place, directory_record, value_lists, index_lists, id_lists, id_index_lists, leads_to}
 use Rattle.ghost_model.proofs.flash.records_are_as_wide.Goals as goal
 
 joined : {X : Type 0} (f : X → List ℕ) (n : ℕ) → ((k : X) → length (f k) ≡ n) → (ks : List X) → length (flat_map f ks) ≡ n * length ks

@@ -1,6 +1,6 @@
 use Rattle.std.proofs.Common.{◌≡◌, ◌∙◌, ap, arith, length}
 use Rattle.std.specs.Fmt.{digits}
-use Rattle.ghost_model.specs.Schema.{places_from}
+use Rattle.ghost_model.specs.core.Schema.{places_from}
 use Rattle.ghost_model.specs.examples.Clinic.{clinic_catalog}
 use Rattle.ghost_model.proofs.MeaningLemmas.ImageLengths.{images_are_long}
 use Rattle.ghost_model.proofs.meaning.no_shorter_image.Goals as goal

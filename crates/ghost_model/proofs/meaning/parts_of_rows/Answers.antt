@@ -1,5 +1,5 @@
 use Rattle.std.proofs.Common.{refl}
-use Rattle.ghost_model.specs.Schema.{places_from}
+use Rattle.ghost_model.specs.core.Schema.{places_from}
 use Rattle.ghost_model.proofs.meaning.parts_of_rows.Goals as goal
 
 pub returns : goal.returns

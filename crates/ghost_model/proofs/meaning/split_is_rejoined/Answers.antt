@@ -1,6 +1,6 @@
 use Rattle.std.proofs.Common.{◌∙◌}
-use Rattle.ghost_model.specs.Split.{public_of, hidden_of}
-use Rattle.ghost_model.specs.SplitByFlags.{rejoined_tables}
+use Rattle.ghost_model.specs.core.Split.{public_of, hidden_of}
+use Rattle.ghost_model.specs.laws.SplitByFlags.{rejoined_tables}
 use Rattle.ghost_model.proofs.MeaningLemmas.PartsByFlags.{visible_parts, hidden_parts, rejoined_parts}
 use Rattle.ghost_model.proofs.MeaningLemmas.Rejoining.{tables_again, are_tables}
 use Rattle.ghost_model.proofs.meaning.split_is_rejoined.Goals as goal

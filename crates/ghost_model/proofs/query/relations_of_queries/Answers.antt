@@ -1,11 +1,11 @@
 use Rattle.std.proofs.Common.{◌≡◌, ℕ, List, [], ◌∷◌, codes, Result, Ok, Err, sum_by, refl, ap, arith}
-use Rattle.ghost_model.specs.Tokens.{tokens_from, quoted_from}
-use Rattle.ghost_model.specs.Schema.{places_from}
-use Rattle.ghost_model.specs.Query.{Query, Field}
-use Rattle.ghost_model.specs.QueryGrammar.{QueryText}
-use Rattle.ghost_model.specs.QueryPlaces.{read_from, syntax_of}
-use Rattle.ghost_model.specs.QueryMeaning.{Refusal, Syntax, Limit, UnknownTable, UnknownColumn, field}
-use Rattle.ghost_model.specs.QueryReading.{reading}
+use Rattle.ghost_model.specs.refusals.Tokens.{tokens_from, quoted_from}
+use Rattle.ghost_model.specs.core.Schema.{places_from}
+use Rattle.ghost_model.specs.core.Query.{Query, Field}
+use Rattle.ghost_model.specs.refusals.QueryGrammar.{QueryText}
+use Rattle.ghost_model.specs.readings.QueryPlaces.{read_from, syntax_of}
+use Rattle.ghost_model.specs.refusals.QueryMeaning.{Refusal, Syntax, Limit, UnknownTable, UnknownColumn, field}
+use Rattle.ghost_model.specs.readings.QueryReading.{reading}
 use Rattle.ghost_model.specs.examples.Clinic.{clinic_schema}
 use Rattle.ghost_model.specs.examples.Queries.{query}
 use Rattle.ghost_model.proofs.QueryLemmas.{stop_fault, fault_stop, spelled_tree}

@@ -1,17 +1,17 @@
 use Rattle.std.proofs.Common.{refl, [], ◌∷◌}
 use Rattle.std.specs.Fmt.{digits}
 use Rattle.hex.specs.Hex.{encode_with, decode_pairs}
-use Rattle.ghost_model.specs.Asks.{rows_from}
-use Rattle.ghost_model.specs.AskReading.{tests_in}
-use Rattle.ghost_model.specs.Schema.{places_from}
-use Rattle.ghost_model.specs.Tokens.{tokens_from, quoted_from}
-use Rattle.ghost_model.specs.QueryPlaces.{read_from}
-use Rattle.ghost_model.specs.NextMove.{hear_all, rows_fit}
-use Rattle.ghost_model.specs.Meaning.{combinations}
-use Rattle.ghost_model.specs.Split.{replies_from}
-use Rattle.ghost_model.specs.Honest.{AreReplies}
-use Rattle.ghost_model.specs.Host.{welcomes, groups_from, said_to, frames_within, said_with_refusals}
-use Rattle.ghost_model.specs.Catalog.{catalog_bytes}
+use Rattle.ghost_model.specs.core.Asks.{rows_from}
+use Rattle.ghost_model.specs.readings.AskReading.{tests_in}
+use Rattle.ghost_model.specs.core.Schema.{places_from}
+use Rattle.ghost_model.specs.refusals.Tokens.{tokens_from, quoted_from}
+use Rattle.ghost_model.specs.readings.QueryPlaces.{read_from}
+use Rattle.ghost_model.specs.core.NextMove.{hear_all, rows_fit}
+use Rattle.ghost_model.specs.core.Meaning.{combinations}
+use Rattle.ghost_model.specs.core.Split.{replies_from}
+use Rattle.ghost_model.specs.core.Honest.{AreReplies}
+use Rattle.ghost_model.specs.core.Host.{welcomes, groups_from, said_to, frames_within, said_with_refusals}
+use Rattle.ghost_model.specs.forms.Catalog.{catalog_bytes}
 use Rattle.ghost_model.specs.examples.Clinic.{clinic_catalog}
 use Rattle.ghost_model.specs.examples.Sessions.{cardio_reply, cardio_replied}
 use Rattle.ghost_model.proofs.sessions.honest_session.Goals as goal

@@ -1,9 +1,9 @@
 use Rattle.std.proofs.Common.{ℕ, List, refl, sym, ◌∙◌, subst}
-use Rattle.ghost_model.specs.Flash.{HoldsSoFar}
-use Rattle.ghost_model.specs.Split.{Hidden}
-use Rattle.ghost_model.specs.Work.{pages_built}
+use Rattle.ghost_model.specs.forms.Flash.{HoldsSoFar}
+use Rattle.ghost_model.specs.core.Split.{Hidden}
+use Rattle.ghost_model.specs.forms.Work.{pages_built}
 use Rattle.edge_traits.specs.Devices.{Counts}
-use Rattle.ghost_model.specs.Texts.{texts_of}
+use Rattle.ghost_model.specs.core.Texts.{texts_of}
 use Rattle.key_words.specs.Views.{local_view}
 use Rattle.key_local.specs.Sessions.{local_side}
 use Rattle.key_local.proofs.Endings.{part_stands, made_of, ran_of}

@@ -1,6 +1,6 @@
 use Rattle.std.proofs.Common.{ℕ, List, Some, sym, subst}
 use Rattle.edge_traits.specs.Scripts.{IsSure}
-use Rattle.ghost_model.specs.Host.{host_of}
+use Rattle.ghost_model.specs.core.Host.{host_of}
 use Rattle.key_local.proofs.Hosting.{holds_part, awaits_greeting, finds_file}
 use Rattle.key_local.proofs.preparing.link_over.Goals as goal
 

@@ -1,6 +1,6 @@
 use Rattle.std.proofs.Common.{sym, subst}
-use Rattle.ghost_model.specs.Database.{IsDatabase}
-use Rattle.ghost_model.specs.Schema.{Schema}
+use Rattle.ghost_model.specs.core.Database.{IsDatabase}
+use Rattle.ghost_model.specs.core.Schema.{Schema}
 use Rattle.key_local.proofs.Settings.{stored_of}
 use Rattle.key_local.proofs.preparing.parts_of.Goals as goal
 

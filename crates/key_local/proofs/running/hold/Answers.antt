@@ -1,9 +1,9 @@
 use Rattle.std.proofs.Common.{[], ap, sym, ◌∙◌}
 use Rattle.std.specs.List.{list_any}
-use Rattle.ghost_model.specs.Asks.{asked_of}
-use Rattle.ghost_model.specs.Catalog.{canonical_text}
-use Rattle.ghost_model.specs.NextMove.{standing_after}
-use Rattle.ghost_model.specs.Texts.{texts_of}
+use Rattle.ghost_model.specs.core.Asks.{asked_of}
+use Rattle.ghost_model.specs.forms.Catalog.{canonical_text}
+use Rattle.ghost_model.specs.core.NextMove.{standing_after}
+use Rattle.ghost_model.specs.core.Texts.{texts_of}
 use Rattle.key_session.specs.Counting.{is_flash}
 use Rattle.key_session.specs.Running.{is_sink}
 use Rattle.key_local.specs.Running.{clears_journal}

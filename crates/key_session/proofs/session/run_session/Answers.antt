@@ -1,6 +1,6 @@
 use Rattle.std.proofs.Common.{◌∙◌, sym, refl}
-use Rattle.ghost_model.specs.Texts.{texts_of}
-use Rattle.ghost_model.specs.Asks.{asked_of}
+use Rattle.ghost_model.specs.core.Texts.{texts_of}
+use Rattle.ghost_model.specs.core.Asks.{asked_of}
 use Rattle.key_lines.specs.Handing.{handed}
 use Rattle.text_lines.specs.Rows.{PrintsSome}
 use Rattle.key_session.specs.Telling.{session_side}

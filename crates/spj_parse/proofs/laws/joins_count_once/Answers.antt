@@ -1,6 +1,6 @@
 use Rattle.std.proofs.Common.{◌≡◌, refl, sym, subst}
-use Rattle.ghost_model.specs.Query.{Query}
-use Rattle.ghost_model.specs.Meaning.{answer}
+use Rattle.ghost_model.specs.core.Query.{Query}
+use Rattle.ghost_model.specs.core.Meaning.{answer}
 use Rattle.ghost_model.proofs.QueryReadingLemmas.{kept_rules}
 use Rattle.spj_parse.specs.Resolved.{linked}
 use Rattle.spj_parse.proofs.AnswerLemmas.{answer_once}

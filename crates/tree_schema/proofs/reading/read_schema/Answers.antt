@@ -1,5 +1,5 @@
 use Rattle.std.proofs.Common.{Ok, map, sym, ap, ◌∙◌}
-use Rattle.ghost_model.specs.SchemaReading.{judged}
+use Rattle.ghost_model.specs.readings.SchemaReading.{judged}
 use Rattle.tree_schema.specs.Drafts.{table_of}
 use Rattle.tree_schema.proofs.reading.read_schema.Goals as goal
 

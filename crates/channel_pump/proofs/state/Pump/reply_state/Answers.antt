@@ -1,5 +1,5 @@
 use Rattle.std.proofs.Common.{Some, sym, ◌∙◌, subst}
-use Rattle.ghost_model.specs.NextMove.{standing_after}
+use Rattle.ghost_model.specs.core.NextMove.{standing_after}
 use Rattle.channel_pump.specs.declared.state.Cause.{Cause}
 use Rattle.channel_pump.specs.Progress.{EndsAs}
 use Rattle.channel_pump.proofs.MarkLemmas.{is_done, is_link, is_protocol, is_awaited}

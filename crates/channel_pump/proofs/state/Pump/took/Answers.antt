@@ -1,7 +1,7 @@
 use Rattle.std.proofs.Common.{◌≡◌, ℕ, ◌+◌, ◌-◌, ◌^◌, min, Bool, List, [], ◌∷◌, ◌++◌, length, take, refl, ap, sym, ◌∙◌, subst, arith}
-use Rattle.ghost_model.specs.Frames as frames
-use Rattle.ghost_model.specs.NextMove as next
-use Rattle.ghost_model.specs.NextMove.{standing_after}
+use Rattle.ghost_model.specs.forms.Frames as frames
+use Rattle.ghost_model.specs.core.NextMove as next
+use Rattle.ghost_model.specs.core.NextMove.{standing_after}
 use Rattle.channel_pump.specs.Here.{Stands, verdict_here}
 use Rattle.channel_pump.specs.State.{IsTurned, taken_entry}
 use Rattle.channel_pump.specs.declared.state.Event.{Event}
@@ -61,8 +61,8 @@ returns-in-Whole-clause-after c catalog asks journal h k =
     subst (λ (x : List ℕ). Stands c.args.self.now x c.in-Whole.tally) c.split_at.ensures.front c.in-Whole.ensures.judged in
     let size : length (take (c.args.self.now.have + c.args.n) c.args.page.now) ≡ 8 + frames.size_in (take (c.args.self.now.have + c.args.n) c.args.page.now) =
     whole_length catalog asks journal c.args.self.now c.args.page.now c.args.n c.in-Whole.tally at stands in
-    let turned : IsTurned catalog c.hear.new.self (next.turn catalog asks (standing_after catalog asks journal).heard.awaits (frames.frame_in (take (c.args.self.now.have + c.args.n) c.args.page.now))) =
-    subst (λ (x : List ℕ). IsTurned catalog c.hear.new.self (next.turn catalog asks (standing_after catalog asks journal).heard.awaits (frames.frame_in x))) c.split_at.ensures.front
+    let turned : IsTurned catalog c.hear.new.self (next.after_frame catalog asks (standing_after catalog asks journal).heard.awaits (frames.frame_in (take (c.args.self.now.have + c.args.n) c.args.page.now))) =
+    subst (λ (x : List ℕ). IsTurned catalog c.hear.new.self (next.after_frame catalog asks (standing_after catalog asks journal).heard.awaits (frames.frame_in x))) c.split_at.ensures.front
     (c.hear.ensures.turned catalog asks (standing_after catalog asks journal).heard.awaits
     (awaits_on catalog c.args.self.now _ (standing_after catalog asks journal).heard.awaits (same_fields _ _ refl refl refl refl refl refl refl) h.awaits)
     (fresh_on catalog asks c.args.self.now _ (same_fields _ _ refl refl refl refl refl refl refl) h.fresh)) in

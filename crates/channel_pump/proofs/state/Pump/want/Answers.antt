@@ -1,4 +1,4 @@
-use Rattle.ghost_model.specs.NextMove.{standing_after}
+use Rattle.ghost_model.specs.core.NextMove.{standing_after}
 use Rattle.channel_pump.proofs.ReportLemmas.{wants_dial, wants_send, wants_take, wants_close}
 use Rattle.channel_pump.proofs.state.Pump.want.Goals as goal
 

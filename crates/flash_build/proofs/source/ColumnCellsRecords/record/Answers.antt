@@ -1,5 +1,5 @@
 use Rattle.std.proofs.Common.{ap, sym, ◌∙◌}
-use Rattle.ghost_model.specs.Database.{rows_of}
+use Rattle.ghost_model.specs.core.Database.{rows_of}
 use Rattle.flash_build.proofs.HiddenCells.{cell_if_any}
 use Rattle.ghost_base.specs.Views.{kind_of}
 use Rattle.flash_build.proofs.HiddenCells.{cell_of_row}

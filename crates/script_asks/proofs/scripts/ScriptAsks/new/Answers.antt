@@ -1,6 +1,6 @@
 use Rattle.std.proofs.Common.{◌*◌, ◌≤◌, length, map, ap, ◌∙◌, arith}
-use Rattle.ghost_model.specs.Asks.{asked_from}
-use Rattle.ghost_model.specs.QueryReading.{reading}
+use Rattle.ghost_model.specs.core.Asks.{asked_from}
+use Rattle.ghost_model.specs.readings.QueryReading.{reading}
 use Rattle.script_asks.specs.Left.{are_numbered, are_proper}
 use Rattle.script_asks.proofs.ScriptLemmas.{proper_from, numbered_from}
 use Rattle.script_asks.proofs.scripts.ScriptAsks.new.Goals as goal
