@@ -75,7 +75,7 @@ enum InText {
 }
 
 /// What a byte does in a text literal, where the byte before closed it or not.
-#[tactic(auto, unfolding(ghost_model::specs::Tokens::quoted_from))]
+#[tactic(auto, unfolding(ghost_model::specs::refusals::Tokens::quoted_from))]
 fn step_in_text(ended: bool, byte: u8) -> InText
     ensures step { (value : List ℕ) (count : ℕ) (rest : List ℕ) → tokens.quoted_from ended value count (byte ∷ rest) ≡ read_on result byte value count rest }
 {

@@ -209,7 +209,7 @@ fn sign(byte: u8) -> Mark
 }
 
 /// The length of a text literal whose `'` stands before these bytes, and `None` where it is broken.
-#[tactic(auto, unfolding(ghost_model::specs::Tokens::quoted_from))]
+#[tactic(auto, unfolding(ghost_model::specs::refusals::Tokens::quoted_from))]
 fn literal_len(rest: &[u8]) -> Option<usize>
     ensures within { IfSome result (λ len. len ≤ length rest.now + 1) }
     ensures read { MatchOption result (tokens.quoted_from false [] 1 rest.now ≡ tokens.read tokens.NoToken 1) (λ len. (value : List ℕ) × (tokens.quoted_from false [] 1 rest.now ≡ tokens.read (tokens.Quoted value) len)) }
