@@ -6,9 +6,9 @@ use Rattle.std.specs.List.{list_all, range_with_len}
 use Rattle.ghost_model.specs.core.Schema.{Schema, column_at, parent}
 use Rattle.ghost_model.specs.laws.SchemaTrees.{IsTree}
 use Rattle.ghost_model.specs.core.Values.{Row}
-use Rattle.ghost_model.specs.core.Database.{IsAtOrBelow}
-use Rattle.ghost_model.specs.core.Query.{Query, Field, Condition, Compare, Join}
-use Rattle.ghost_model.specs.refusals.QueryMeaning.{is_among, has_repeat, is_reference_to, top_of, Means}
+use Rattle.ghost_model.specs.laws.MeaningLaws.{IsAtOrBelow}
+use Rattle.ghost_model.specs.core.Query.{Query, Field, Condition, Compare, Join, is_among, top_of}
+use Rattle.ghost_model.specs.refusals.QueryMeaning.{has_repeat, is_reference_to, Means}
 
 -- whether a column is one of a FROM table
 abbrev pub is_column_from : Schema → (from : List ℕ) → Field → Bool

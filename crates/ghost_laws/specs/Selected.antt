@@ -6,8 +6,8 @@ use Rattle.ghost_model.specs.core.Schema.{Schema, Kind}
 use Rattle.ghost_model.specs.laws.SchemaTrees.{IsTree}
 use Rattle.ghost_model.specs.core.Values.{Row, Database}
 use Rattle.ghost_model.specs.core.Database.{IsDatabase, row_count}
-use Rattle.ghost_model.specs.core.Query.{Query}
-use Rattle.ghost_model.specs.refusals.QueryMeaning.{top_of, Means}
+use Rattle.ghost_model.specs.core.Query.{Query, top_of}
+use Rattle.ghost_model.specs.refusals.QueryMeaning.{Means}
 use Rattle.ghost_model.specs.core.Asks.{kind_at, kinds_of, asks_of, asked_of}
 use Rattle.ghost_model.specs.core.Split.{are_of_kinds}
 use Rattle.ghost_model.specs.core.Replies.{Reply, replies}

@@ -15,7 +15,7 @@ use Rattle.std.proofs.lemmas.Slice.Eq.{bytes_eq-Decides}
 use Rattle.ghost_model.specs.core.Schema as schema
 use Rattle.ghost_model.specs.core.Schema.{Schema, Column, Chars, places_from, places_of}
 use Rattle.ghost_model.specs.core.Query.{Field}
-use Rattle.ghost_model.specs.refusals.Tokens.{number_of, is_between, Keyword, Symbol, Word, Reserved, Name, Digits, Open, Closing, Comma, Semicolon, EndOfText, CharWord, CreateWord, HiddenWord, IntegerWord, KeyWord, PrimaryWord, ReferencesWord, TableWord, Read, read, symbol_of, symbols, tokens_from, token_at, word_at, digits_at, symbol_of_word, keyword_of, other_reserved, in_lower_case, begins_name, is_space, is_digit, is_name_byte}
+use Rattle.ghost_model.specs.refusals.Tokens.{number_of, is_between, Keyword, Symbol, Word, Reserved, Name, Digits, Open, Closing, Comma, Semicolon, EndOfText, CharWord, CreateWord, HiddenWord, IntegerWord, PrimaryKeyWord, PrimaryWord, ReferencesWord, TableWord, Read, read, symbol_of, symbols, tokens_from, token_at, word_at, digits_at, symbol_of_word, keyword_of, other_reserved, in_lower_case, begins_name, is_space, is_digit, is_name_byte}
 use Rattle.ghost_model.specs.laws.Spelled.{is_spelled, is_reserved, is_name}
 use Rattle.ghost_model.specs.refusals.SchemaGrammar.{To, ColumnDeclaration, CharColumn, IntegerColumn, TableText, SchemaText, spell_hidden, spell_id, spell_column, spell_heading, spell_table}
 use Rattle.ghost_model.specs.readings.SchemaPlaces.{syntax_of}
@@ -111,12 +111,12 @@ unfolding tokens_from
 create_first rest = ap (λ (xs : List Symbol). Word CreateWord ∷ Word TableWord ∷ xs) (kinds_anywhere 0 13 0 rest)
 
 id_first : (rest : List ℕ) → AfterColumn rest
-    → symbols (codes " (id INTEGER PRIMARY KEY" ++ rest) ≡ Open ∷ Name (codes "id") ∷ Word IntegerWord ∷ Word PrimaryWord ∷ Word KeyWord ∷ symbols rest
+    → symbols (codes " (id INTEGER PRIMARY KEY" ++ rest) ≡ Open ∷ Name (codes "id") ∷ Word IntegerWord ∷ Word PrimaryWord ∷ Word PrimaryKeyWord ∷ symbols rest
 unfolding tokens_from
 id_first rest (comma later) =
-    ap (λ (xs : List Symbol). Open ∷ Name (codes "id") ∷ Word IntegerWord ∷ Word PrimaryWord ∷ Word KeyWord ∷ Comma ∷ xs) (kinds_anywhere 0 25 1 later)
+    ap (λ (xs : List Symbol). Open ∷ Name (codes "id") ∷ Word IntegerWord ∷ Word PrimaryWord ∷ Word PrimaryKeyWord ∷ Comma ∷ xs) (kinds_anywhere 0 25 1 later)
 id_first rest (closing later) =
-    ap (λ (xs : List Symbol). Open ∷ Name (codes "id") ∷ Word IntegerWord ∷ Word PrimaryWord ∷ Word KeyWord ∷ Closing ∷ xs) (kinds_anywhere 0 25 1 later)
+    ap (λ (xs : List Symbol). Open ∷ Name (codes "id") ∷ Word IntegerWord ∷ Word PrimaryWord ∷ Word PrimaryKeyWord ∷ Closing ∷ xs) (kinds_anywhere 0 25 1 later)
 
 end_first : (rest : List ℕ) → symbols (codes ");" ++ 10 ∷ rest) ≡ Closing ∷ Semicolon ∷ symbols rest
 unfolding tokens_from
@@ -280,7 +280,7 @@ module _ (tables : SchemaText) where
       (first_name table.name 32 (codes "(id INTEGER PRIMARY KEY" ++ (columns ++ tail)) p.named refl
       ∙ ap (λ (xs : List Symbol). Name table.name ∷ xs)
       (id_first (columns ++ tail) (columns_after table.others tail (closing _))
-      ∙ ap (λ (xs : List Symbol). Open ∷ Name (codes "id") ∷ Word IntegerWord ∷ Word PrimaryWord ∷ Word KeyWord ∷ xs)
+      ∙ ap (λ (xs : List Symbol). Open ∷ Name (codes "id") ∷ Word IntegerWord ∷ Word PrimaryWord ∷ Word PrimaryKeyWord ∷ xs)
       (columns_read table.others tail p.proper (closing _) ∙ ap (λ (xs : List Symbol). others ++ xs) (end_first rest))))
       ∙ (sym (table_shape (spell_heading table.name) (spell_column (IntegerColumn (codes "id") true None false)) others (Closing ∷ Semicolon ∷ []) (symbols rest))
       ∙ ap (λ column. (spell_heading table.name ++ ((spell_column (canonical_column column) ++ others) ++ Closing ∷ Semicolon ∷ [])) ++ symbols rest)

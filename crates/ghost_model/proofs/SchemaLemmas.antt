@@ -9,7 +9,7 @@ use Rattle.std.proofs.lemmas.Bool.{and_from}
 use Rattle.ghost_model.proofs.TokenLemmas.{before_end}
 use Rattle.ghost_model.proofs.GrammarLemmas.{more_begun, spelled_both, spelled_front, no_end_inside, viable_of, run, run-append, dead_after, fault_after, no_fault, one_fault}
 use Rattle.ghost_model.specs.laws.Spelled.{is_spelled, is_name}
-use Rattle.ghost_model.specs.refusals.Tokens.{symbol_of, symbols, tokens, offset_of, Symbol, Token, Word, Name, Digits, Open, Closing, Comma, Semicolon, EndOfText, CharWord, CreateWord, HiddenWord, IntegerWord, KeyWord, PrimaryWord, ReferencesWord, TableWord}
+use Rattle.ghost_model.specs.refusals.Tokens.{symbol_of, symbols, tokens, offset_of, Symbol, Token, Word, Name, Digits, Open, Closing, Comma, Semicolon, EndOfText, CharWord, CreateWord, HiddenWord, IntegerWord, PrimaryKeyWord, PrimaryWord, ReferencesWord, TableWord}
 use Rattle.ghost_model.specs.refusals.Grammar.{Spells, IsViable, IsSyntaxFault, separated, begun}
 use Rattle.ghost_model.specs.refusals.SchemaGrammar.{Reference, To, ColumnDeclaration, CharColumn, IntegerColumn, TableText, SchemaText, spell_column, spell_heading, spell_table, spelling}
 use Rattle.ghost_model.specs.readings.SchemaPlaces.{InColumn, Named, AfterChar, AfterOpen, AfterLength, AfterPrimary, AfterReferences, OpensId, AfterId, Whole, SchemaPlace, Between, AfterCreate, AfterTable, AfterName, WantsColumn, Within, AfterColumns, Ended, before_in, before, table_from, after_integer, after_column, after_parenthesis, step_in, step_within, step, tree_at, syntax_from, syntax_of}
@@ -66,7 +66,7 @@ in_read (Named name) (Word IntegerWord) q e = ap before_in (unSome (sym e))
 in_read (AfterChar name) Open q e = ap before_in (unSome (sym e))
 in_read (AfterOpen name) (Digits digits) q e = ap before_in (unSome (sym e))
 in_read (AfterLength name digits) Closing q e = ap before_in (unSome (sym e))
-in_read (AfterPrimary name) (Word KeyWord) q e = ap before_in (unSome (sym e))
+in_read (AfterPrimary name) (Word PrimaryKeyWord) q e = ap before_in (unSome (sym e))
 in_read (AfterReferences name true) (Name table) q e = ap before_in (unSome (sym e))
 in_read (AfterReferences name false) (Name table) q e = ap before_in (unSome (sym e))
 in_read (OpensId name primary table) (Name inside) q e = parenthesis_read name primary table inside q e
@@ -281,7 +281,7 @@ module _ (tables : SchemaText) (name : List ℕ) (columns : List ColumnDeclarati
   from_column (AfterOpen column) = from_open column
   from_column (AfterLength column digits) = from_length column digits
   from_column (AfterPrimary column) =
-      on_within (AfterPrimary column) (Word KeyWord) (Whole (IntegerColumn column true None false)) refl refl (from_whole (IntegerColumn column true None false))
+      on_within (AfterPrimary column) (Word PrimaryKeyWord) (Whole (IntegerColumn column true None false)) refl refl (from_whole (IntegerColumn column true None false))
   from_column (AfterReferences column primary) =
       on_within (AfterReferences column primary) (Name (97 ∷ [])) (Whole (IntegerColumn column primary (Some (To (97 ∷ []) false)) false)) refl refl
       (from_whole (IntegerColumn column primary (Some (To (97 ∷ []) false)) false))

@@ -3,13 +3,13 @@ use Rattle.std.proofs.Common.{◌≡◌, ◌≢◌, ◌⊎◌, inl, inr, ℕ, ze
 use Rattle.std.specs.List.{list_any}
 use Rattle.std.proofs.lemmas.Bool.Decides.{Decides-eqb, Decides-ltb}
 use Rattle.std.proofs.lemmas.Bool.{cases_order, cases_lt, or_right}
-use Rattle.ghost_model.specs.core.Schema.{Schema, Table, places_from, places_of, first_of, is_table, parent, references_to, is_empty}
+use Rattle.ghost_model.specs.core.Schema.{Schema, Table, places_from, places_of, first_of, is_table, parent, references_to, is_empty, ancestor}
 use Rattle.ghost_model.specs.refusals.Rules.{broken_if, first_broken, MeetsAll, BreaksFirst}
 use Rattle.ghost_model.specs.refusals.Grammar.{Spells}
 use Rattle.ghost_model.specs.refusals.SchemaGrammar.{SchemaText, spelling}
 use Rattle.ghost_model.specs.readings.SchemaPlaces.{syntax_of}
 use Rattle.ghost_model.specs.refusals.SchemaMeaning.{schema_of}
-use Rattle.ghost_model.specs.refusals.SchemaFaults.{SchemaFault, Syntax, Limit, DuplicateName, NoId, UnknownTable, TwoParents, Cycle, NotOneRoot, is_over, is_duplicate, lacks_id, is_unknown, is_shared, ancestor, returns, roots_of, fields, duplicate_at, unknown_at, wrong_roots, rules_of_schemas, MeansSchema, HasFault, IsSchemaFault}
+use Rattle.ghost_model.specs.refusals.SchemaFaults.{SchemaFault, Syntax, Limit, DuplicateName, NoId, UnknownTable, TwoParents, Cycle, NotOneRoot, is_over, is_duplicate, lacks_id, is_unknown, is_shared, returns, roots_of, fields, duplicate_at, unknown_at, wrong_roots, rules_of_schemas, MeansSchema, HasFault, IsSchemaFault}
 use Rattle.ghost_model.specs.readings.SchemaReading.{schema_or, judged, schema_reading}
 use Rattle.ghost_model.specs.laws.SchemaTrees.{Returns}
 use Rattle.ghost_model.specs.laws.SchemaLaws.{OneSchemaReading}

@@ -5,7 +5,7 @@ use Rattle.std.proofs.lemmas.Bool.{ltb-true, ltb-false, leb-true, and_parts, or_
 use Rattle.std.proofs.lemmas.List.{length-map}
 use Rattle.std.proofs.lemmas.Option.{slice_get-map}
 use Rattle.std.proofs.lemmas.Slice.Eq.{bytes_eq-Decides}
-use Rattle.ghost_model.specs.core.Schema.{Integer, Chars, Column, Table, Schema, columns_or_none, columns_of, column_at, places_of, parent}
+use Rattle.ghost_model.specs.core.Schema.{Integer, Chars, Column, Table, Schema, columns_or_none, columns_of, column_at, places_of, parent, ancestor}
 use Rattle.ghost_model.specs.core.Query.{Field}
 use Rattle.ghost_model.specs.refusals.Tokens.{Symbol, Comma, Closing, Semicolon, EndOfText, number_of, is_between}
 use Rattle.ghost_model.specs.refusals.Grammar.{separated}
@@ -13,7 +13,7 @@ use Rattle.ghost_model.specs.laws.Spelled.{is_spelled, is_name}
 use Rattle.ghost_model.specs.refusals.SchemaGrammar.{To, ColumnDeclaration, CharColumn, IntegerColumn, TableText, SchemaText, spell_column, spell_table}
 use Rattle.ghost_model.specs.refusals.SchemaMeaning.{columns_written, column_of, table_of, schema_of}
 use Rattle.ghost_model.specs.refusals.SchemaFaults as faults
-use Rattle.ghost_model.specs.refusals.SchemaFaults.{is_over, is_table_over, is_column_over, declared_name, columns_at, repeats, table_repeats, is_duplicate, fields_from, fields, is_identifier, table_lacks_id, lacks_id, is_primary, refers_nowhere, is_unknown, is_shared, ancestor, returns, roots_of, rules_of_schemas, MeansSchema}
+use Rattle.ghost_model.specs.refusals.SchemaFaults.{is_over, is_table_over, is_column_over, declared_name, columns_at, repeats, table_repeats, is_duplicate, fields_from, fields, is_identifier, table_lacks_id, lacks_id, is_primary, refers_nowhere, is_unknown, is_shared, returns, roots_of, rules_of_schemas, MeansSchema}
 use Rattle.ghost_model.specs.refusals.Rules.{MeetsAll}
 use Rattle.ghost_model.specs.laws.SchemaTrees.{identifier, Returns, IsTree, SchemasAreTrees}
 use Rattle.ghost_model.proofs.GrammarLemmas.{spelled_parts, spelled_front}

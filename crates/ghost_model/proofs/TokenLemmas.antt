@@ -10,7 +10,7 @@ use Rattle.std.proofs.lemmas.Slice.Eq.{bytes_eq-Decides}
 use Rattle.std.specs.Option.{option_map_or}
 use Rattle.std.specs.Char.{to_ascii_lowercase}
 use Rattle.std.proofs.lemmas.Bool.Decides.{nat_tests}
-use Rattle.ghost_model.specs.refusals.Tokens.{Keyword, AndWord, BetweenWord, CharWord, CreateWord, FromWord, HiddenWord, IntegerWord, KeyWord, PrimaryWord, ReferencesWord, SelectWord, TableWord, WhereWord, Symbol, Word, Reserved, Name, Digits, Quoted, Open, Closing, Comma, Point, Semicolon, Star, PlusSign, MinusSign, EqualSign, UnequalSign, LessSign, AtMostSign, MoreSign, AtLeastSign, NoToken, EndOfText, keyword_text, keyword_of, other_reserved, symbol_of, symbols, tokens_from, quoted_from, token_at, word_at, digits_at, in_lower_case, symbol_of_word, is_space, is_digit, begins_name, is_name_byte, is_printable, sign_of, less_and, more_and, read, Read}
+use Rattle.ghost_model.specs.refusals.Tokens.{Keyword, AndWord, BetweenWord, CharWord, CreateWord, FromWord, HiddenWord, IntegerWord, PrimaryKeyWord, PrimaryWord, ReferencesWord, SelectWord, TableWord, WhereWord, Symbol, Word, Reserved, Name, Digits, Quoted, Open, Closing, Comma, Point, Semicolon, Star, PlusSign, MinusSign, EqualSign, UnequalSign, LessSign, AtMostSign, MoreSign, AtLeastSign, NoToken, EndOfText, keyword_text, keyword_of, other_reserved, symbol_of, symbols, tokens_from, quoted_from, token_at, word_at, digits_at, in_lower_case, symbol_of_word, is_space, is_digit, begins_name, is_name_byte, is_printable, sign_of, less_and, more_and, read, Read}
 use Rattle.ghost_model.specs.laws.Spelled.{is_reserved, begins_as_name, is_name, is_spelled, symbol_text, inside_literal, text_of, IsBeforeEnd}
 
 -- the symbols of a text whose first `left` bytes belong to a token before; the offset of the text does not matter
@@ -165,7 +165,7 @@ keyword_reads CreateWord rest = token_before_space 99 (codes "reate") rest (Word
 keyword_reads FromWord rest = token_before_space 102 (codes "rom") rest (Word FromWord) refl refl
 keyword_reads HiddenWord rest = token_before_space 104 (codes "idden") rest (Word HiddenWord) refl refl
 keyword_reads IntegerWord rest = token_before_space 105 (codes "nteger") rest (Word IntegerWord) refl refl
-keyword_reads KeyWord rest = token_before_space 107 (codes "ey") rest (Word KeyWord) refl refl
+keyword_reads PrimaryKeyWord rest = token_before_space 107 (codes "ey") rest (Word PrimaryKeyWord) refl refl
 keyword_reads PrimaryWord rest = token_before_space 112 (codes "rimary") rest (Word PrimaryWord) refl refl
 keyword_reads ReferencesWord rest = token_before_space 114 (codes "eferences") rest (Word ReferencesWord) refl refl
 keyword_reads SelectWord rest = token_before_space 115 (codes "elect") rest (Word SelectWord) refl refl

@@ -13,3 +13,4 @@ pub mod LayoutLaws
 pub mod FlashLaws
 pub mod ListLaws
 pub mod SessionLaws
+pub mod MeaningLaws

@@ -1,10 +1,7 @@
 //! Laws and examples of databases, of their files, of the two parts of a database and of a query's meaning.
 
-ghost use Rattle.ghost_model.specs.core.Database.{RowsLeadToRows};
-ghost use Rattle.ghost_model.specs.refusals.LoadFaults.{FilesSpellADatabase, FilesKeepTheRowLimit, LongFilesAreToldFirst};
-ghost use Rattle.ghost_model.specs.core.Split.{SplitIsRejoined, PublicPartsGoWithCatalogs, ImagesAreAsLong};
+ghost use Rattle.ghost_model.specs.laws.MeaningLaws.{RowsLeadToRows, FilesSpellADatabase, FilesKeepTheRowLimit, LongFilesAreToldFirst, SplitIsRejoined, PublicPartsGoWithCatalogs, ImagesAreAsLong, OneRowEach};
 ghost use Rattle.ghost_model.specs.laws.SplitByFlags.{PartsByFlags};
-ghost use Rattle.ghost_model.specs.core.Meaning.{OneRowEach};
 ghost use Rattle.ghost_model.specs.examples.Databases.{ClinicIsSpelled, IntegersOfFields, RecordsOfFiles, HeadersOfFiles, OneRuleBroken, TwoRulesBroken, PartsOfRows, NoShorterImage};
 ghost use Rattle.ghost_model.specs.examples.Meaning.{PartsOfTheClinic, AnswersOfTheClinic, RefusedTexts, LinesOfRows};
 

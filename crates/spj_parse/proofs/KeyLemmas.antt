@@ -5,8 +5,8 @@ use Rattle.std.proofs.lemmas.Bool.{and_parts, eqb-true, eq-eqb}
 use Rattle.ghost_model.specs.core.Schema.{Schema, Table, Column, column_at, columns_of, columns_or_none, places_from, places_where, first_of, is_empty, is_table, references_to, parent}
 use Rattle.ghost_model.specs.refusals.SchemaFaults.{references_naming}
 use Rattle.ghost_model.specs.laws.SchemaTrees.{IsTree}
-use Rattle.ghost_model.specs.core.Query.{Field, Join}
-use Rattle.ghost_model.specs.refusals.QueryMeaning.{field, is_reference_to, is_among}
+use Rattle.ghost_model.specs.core.Query.{Field, Join, is_among}
+use Rattle.ghost_model.specs.refusals.QueryMeaning.{field, is_reference_to}
 use Rattle.spj_parse.specs.Resolved.{keys_between, join_by, join_with, join_to}
 use Rattle.spj_parse.proofs.TreeLemmas.{sum_cons}
 

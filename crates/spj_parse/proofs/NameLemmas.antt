@@ -13,9 +13,9 @@ use Rattle.ghost_model.specs.laws.SchemaTrees.{IsTree}
 use Rattle.ghost_model.specs.laws.Spelled.{is_name, begins_as_name, is_reserved}
 use Rattle.ghost_model.specs.refusals.Tokens.{in_lower_case, is_name_byte}
 use Rattle.std.specs.List.{list_all}
-use Rattle.ghost_model.specs.core.Query.{Field}
+use Rattle.ghost_model.specs.core.Query.{Field, only}
 use Rattle.ghost_model.specs.refusals.QueryGrammar.{ColumnText, Bare, Qualified}
-use Rattle.ghost_model.specs.refusals.QueryMeaning.{fields_named, meanings, table_named, only}
+use Rattle.ghost_model.specs.refusals.QueryMeaning.{fields_named, meanings, table_named}
 use Rattle.spj_parse.specs.Names.{fields_in}
 
 lower : (name : List ℕ) → is_name name ≡ true → in_lower_case name ≡ name

@@ -1,8 +1,8 @@
 -- A query that a text means has a top table.
 use Rattle.std.proofs.Common.{◌≡◌, ℕ, Bool, true, false, ◌||◌, List, is_none, ap, refl, ◌∙◌}
 use Rattle.ghost_model.specs.core.Schema.{Schema}
-use Rattle.ghost_model.specs.core.Query.{Query}
-use Rattle.ghost_model.specs.refusals.QueryMeaning.{resolved, top_of}
+use Rattle.ghost_model.specs.core.Query.{Query, top_of}
+use Rattle.ghost_model.specs.refusals.QueryMeaning.{resolved}
 use Rattle.ghost_model.specs.laws.QueryLaws.{OneReading}
 use Rattle.ghost_model.proofs.QueryReadingLemmas.{kept_rules}
 use Rattle.spj_parse.specs.Resolved.{IsMeant, linked}

@@ -4,8 +4,7 @@ use Rattle.std.specs.Prelude.{◌≡◌, ℕ, List, Ok}
 use Rattle.ghost_model.specs.core.Schema.{Schema}
 use Rattle.ghost_model.specs.laws.SchemaTrees.{IsTree}
 use Rattle.ghost_model.specs.core.Values.{Database}
-use Rattle.ghost_model.specs.core.Query.{Query}
-use Rattle.ghost_model.specs.refusals.QueryMeaning.{top_of}
+use Rattle.ghost_model.specs.core.Query.{Query, top_of}
 use Rattle.ghost_model.specs.readings.QueryReading.{reading}
 use Rattle.ghost_model.specs.core.Meaning.{answer}
 use Rattle.ghost_model.specs.core.Asks.{asks_of}

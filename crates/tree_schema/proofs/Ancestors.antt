@@ -4,8 +4,7 @@ use Rattle.std.specs.List.{list_any, AllByRecursion, IsDistinct}
 use Rattle.std.proofs.lemmas.Bool.{ne_eqb, eqb-true, cases_lt}
 use Rattle.std.proofs.lemmas.Map.Steps.{length-le_from_distinct_below}
 use Rattle.std.proofs.lemmas.Option.{slice_get_past}
-use Rattle.ghost_model.specs.core.Schema.{Schema, Table, places_from, first_of, is_empty, references_to, parent}
-use Rattle.ghost_model.specs.refusals.SchemaFaults.{ancestor}
+use Rattle.ghost_model.specs.core.Schema.{Schema, Table, places_from, first_of, is_empty, references_to, parent, ancestor}
 use Rattle.ghost_model.specs.laws.SchemaTrees.{Returns}
 
 some_before : (o : Option ℕ) (f : ℕ → Option ℕ) (x : ℕ) → option_and_then f o ≡ Some x → (y : ℕ) × (o ≡ Some y) × (f y ≡ Some x)

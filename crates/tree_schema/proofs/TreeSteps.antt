@@ -4,10 +4,10 @@ use Rattle.std.specs.List.{list_any, count_by}
 use Rattle.std.specs.Option.{is_some, option_or}
 use Rattle.std.proofs.lemmas.List.Sums.{sum_by-cons}
 use Rattle.std.proofs.lemmas.Bool.{ne_eqb}
-use Rattle.ghost_model.specs.core.Schema.{Schema, is_table, parent, places_from, places_of}
+use Rattle.ghost_model.specs.core.Schema.{Schema, is_table, parent, places_from, places_of, ancestor}
 use Rattle.ghost_model.specs.refusals.Rules.{broken_if}
 use Rattle.ghost_model.specs.refusals.SchemaFaults as faults
-use Rattle.ghost_model.specs.refusals.SchemaFaults.{ancestor, returns, roots_of}
+use Rattle.ghost_model.specs.refusals.SchemaFaults.{returns, roots_of}
 use Rattle.tree_schema.specs.Faults.{is_shared, fault_of_tree}
 use Rattle.tree_schema.proofs.RuleSteps.{place_next, places_end}
 

@@ -9,8 +9,7 @@ use Rattle.std.proofs.lemmas.Option.{slice_get-map}
 use Rattle.ghost_model.specs.core.Schema.{Schema, Column, columns_of, column_at, parent, is_shown, is_visible}
 use Rattle.ghost_model.specs.laws.SchemaTrees.{IsTree}
 use Rattle.ghost_model.specs.core.Values.{Value, Row, Rows, Database}
-use Rattle.ghost_model.specs.core.Query.{Query, Field, Condition, Compare, Join}
-use Rattle.ghost_model.specs.refusals.QueryMeaning.{top_of, only, is_some_among}
+use Rattle.ghost_model.specs.core.Query.{Query, Field, Condition, Compare, Join, top_of, only, is_some_among}
 use Rattle.ghost_model.specs.core.Database.{IsDatabase, rows_of, row_of, row_count, value_at_row}
 use Rattle.ghost_model.specs.core.Split.{Hidden, hidden_of, value_at}
 use Rattle.ghost_model.specs.core.Meaning.{compares, others_of, Pick, pick, no_value, answer_by_top}

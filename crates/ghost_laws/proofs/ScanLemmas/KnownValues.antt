@@ -7,9 +7,9 @@ use Rattle.std.proofs.lemmas.Bool.{lt-ltb}
 use Rattle.ghost_model.specs.core.Schema.{Schema, Column, Kind, columns_of, column_at, places_from, is_empty, is_shown, is_visible}
 use Rattle.ghost_model.specs.laws.SchemaTrees.{IsTree}
 use Rattle.ghost_model.specs.core.Values.{Number, Row, Database}
-use Rattle.ghost_model.specs.core.Query.{Query, Field}
+use Rattle.ghost_model.specs.core.Query.{Query, Field, top_of}
 use Rattle.ghost_model.specs.refusals.QueryMeaning as meaning
-use Rattle.ghost_model.specs.refusals.QueryMeaning.{top_of, Means}
+use Rattle.ghost_model.specs.refusals.QueryMeaning.{Means}
 use Rattle.ghost_model.specs.core.Channel.{Ask}
 use Rattle.ghost_model.specs.core.Asks.{kind_at, kinds_of, is_field, is_wanted, places, ask_for, is_needed, is_from, asks_of}
 use Rattle.ghost_model.specs.core.Database.{IsDatabase, row_of, row_count, is_of_kind}

@@ -4,8 +4,7 @@ use Rattle.std.specs.List.{range_with_len, cons_option}
 use Rattle.std.proofs.lemmas.Bool.{cases_lt}
 use Rattle.std.proofs.lemmas.Option.{slice_get_past}
 use Rattle.std.proofs.lemmas.List.FromFn.{length-range_with_len}
-use Rattle.ghost_model.specs.core.Schema.{Schema, parent}
-use Rattle.ghost_model.specs.refusals.SchemaFaults.{ancestor}
+use Rattle.ghost_model.specs.core.Schema.{Schema, parent, ancestor}
 use Rattle.ghost_model.specs.laws.SchemaTrees.{IsTree}
 use Rattle.ghost_model.specs.forms.Layout.{below, levels_of}
 use Rattle.ghost_model.proofs.MeaningLemmas.Leading.{way_is_short}

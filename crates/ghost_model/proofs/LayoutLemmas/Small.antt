@@ -4,9 +4,8 @@ use Rattle.std.specs.List.{list_all, cons_option}
 use Rattle.std.proofs.lemmas.Bool.{and_parts}
 use Rattle.std.proofs.lemmas.List.FromFn.{length-range_with_len}
 use Rattle.std.proofs.lemmas.List.Sums.{sum_by-le, length-filter, count_by-le-length}
-use Rattle.ghost_model.specs.core.Schema.{Column, Kind, Integer, Chars, column_at, is_empty, is_visible}
+use Rattle.ghost_model.specs.core.Schema.{Column, Kind, Integer, Chars, column_at, is_empty, is_visible, ancestor}
 use Rattle.ghost_model.specs.core.Channel.{Catalog}
-use Rattle.ghost_model.specs.refusals.SchemaFaults.{ancestor}
 use Rattle.ghost_model.specs.laws.SchemaTrees.{IsTree}
 use Rattle.ghost_model.specs.refusals.LoadFaults.{most_rows}
 use Rattle.ghost_model.specs.forms.Cells.{cell_width}

@@ -2,11 +2,12 @@
 -- foreign key is the identifier of a row.
 use Rattle.std.proofs.Common.{◌≡◌, ◌≢◌, refl, sym, ap, ◌∙◌, subst, ℕ, zero, suc, ◌+◌, ◌<◌, ◌≤◌, ◌⊎◌, inl, inr, pos, negsuc, Bool, true, false, not, nat_eq, nat_le, List, [], ◌∷◌, length, filter, Option, Some, None, slice_get, unwrap_or, option_and_then, arith, eqb-true, eq-eqb, leb-true, if◌then◌else◌}
 use Rattle.std.specs.List.{range_with_len}
-use Rattle.ghost_model.specs.core.Schema.{Schema, Column, Table, columns_of, columns_or_none, column_at, parent, is_table, is_empty, references_to, first_of, places_from}
+use Rattle.ghost_model.specs.core.Schema.{Schema, Column, Table, columns_of, columns_or_none, column_at, parent, is_table, is_empty, references_to, first_of, places_from, ancestor}
 use Rattle.ghost_model.specs.core.Values.{Value, Number, Text, Row, Rows, Database}
-use Rattle.ghost_model.specs.refusals.SchemaFaults.{ancestor}
 use Rattle.ghost_model.specs.laws.SchemaTrees.{IsTree}
-use Rattle.ghost_model.specs.core.Database.{IsDatabase, rows_of, row_of, row_numbered, value_at_row, is_row_among, identifier_in, reference_column, points_to, leads_within, leads, Lands, LeadsFollowKeys}
+use Rattle.ghost_model.specs.core.Database.{IsDatabase, rows_of, row_of, row_numbered, value_at_row, is_row_among, identifier_in, reference_column, points_to, leads_within, leads}
+use Rattle.ghost_model.specs.laws.MeaningLaws.{Lands}
+use Rattle.ghost_model.specs.laws.MeaningLaws.{LeadsFollowKeys}
 use Rattle.ghost_model.proofs.MeaningLemmas.OneRow.{Among, among-filter, length-without, LeadsUp, leads_once, leads_on, both_true, not_equal, child_is}
 use Rattle.ghost_model.proofs.SchemaRuleLemmas.{parent_below}
 use Rattle.std.proofs.Math.Nat.{eq-or-lt_of_le}

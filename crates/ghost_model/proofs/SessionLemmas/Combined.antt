@@ -9,9 +9,9 @@ use Rattle.std.proofs.lemmas.Bool.{eqb-true}
 use Rattle.ghost_model.specs.core.Schema.{Schema, is_visible, parent}
 use Rattle.ghost_model.specs.laws.SchemaTrees.{IsTree}
 use Rattle.ghost_model.specs.core.Values.{Value, Row, Rows, Database}
-use Rattle.ghost_model.specs.core.Query.{Query, Field, Condition, Compare, Join, Operator}
+use Rattle.ghost_model.specs.core.Query.{Query, Field, Condition, Compare, Join, Operator, top_of, only, is_some_among}
 use Rattle.ghost_model.specs.core.Query as query
-use Rattle.ghost_model.specs.refusals.QueryMeaning.{top_of, only, is_some_among, Means}
+use Rattle.ghost_model.specs.refusals.QueryMeaning.{Means}
 use Rattle.ghost_model.specs.core.Channel.{Test}
 use Rattle.ghost_model.specs.core.Asks.{test_of, tests_of, is_field}
 use Rattle.ghost_model.specs.core.Database.{rows_or_none, rows_of, row_of, row_count, IsDatabase}

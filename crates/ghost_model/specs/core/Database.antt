@@ -10,8 +10,6 @@ use Rattle.std.specs.declared.cmp.Ordering.{Ordering}
 use Rattle.std.specs.declared.cmp.Ordering.TheVariants as order
 use Rattle.csv.specs.Reading.{records, default_config, strip_bom}
 use Rattle.ghost_model.specs.core.Schema.{Schema, Column, Kind, Integer, Chars, columns_of, column_at, parent, references_to, first_of}
-use Rattle.ghost_model.specs.refusals.SchemaFaults.{ancestor}
-use Rattle.ghost_model.specs.laws.SchemaTrees.{IsTree}
 use Rattle.ghost_model.specs.refusals.Tokens.{is_printable}
 pub use Rattle.ghost_model.specs.refusals.Tokens.{number_of, is_numeral}
 pub use Rattle.ghost_model.specs.core.Values.{fits_integer}
@@ -104,31 +102,6 @@ leads_within (_ ∷ steps) schema database from identifier to =
 -- has more of them than there are tables
 abbrev pub leads : Schema → Database → (from identifier to : ℕ) → Option ℕ
 leads schema database from identifier to = leads_within schema schema database from identifier to
-
--- a table is another one or lies below it: following parents from it comes there
-abbrev pub IsAtOrBelow : Schema → (from to : ℕ) → Type 0
-IsAtOrBelow schema from to = (steps : ℕ) × (ancestor schema steps to ≡ Some from)
-
--- a row of a table that another row leads to
-pub record Lands (schema : Schema) (database : Database) (from identifier to : ℕ) : Type 0 where
-  pub reached : ℕ
-  pub row : Row
-  pub led : leads schema database from identifier to ≡ Some reached
-  pub stands : row_of database to reached ≡ Some row
-
--- what rows lead to, whatever the number of tables between
-pub record LeadsFollowKeys (schema : Schema) (database : Database) : Type 0 where
-  pub to_itself : (table identifier : ℕ) → leads schema database table identifier table ≡ Some identifier
-  pub along_a_reference : (from above to identifier : ℕ) → IsAtOrBelow schema from above → parent schema to ≡ Some above
-      → leads schema database from identifier to
-      ≡ option_and_then (λ reached. points_to schema database above reached to) (leads schema database from identifier above)
-  pub lands : (from to identifier : ℕ) (row : Row) → IsAtOrBelow schema from to → row_of database from identifier ≡ Some row
-      → Lands schema database from identifier to
-
--- in a database of a tree of tables each row leads to one row of each table below
-abbrev pub RowsLeadToRows : Type 0
-RowsLeadToRows =
-    (schema : Schema) (database : Database) → IsTree schema → IsDatabase schema database → LeadsFollowKeys schema database
 
 -- the order of values of one kind: integers by number, texts by bytes, a prefix before the longer text
 abbrev pub order_of : Value → Value → Ordering

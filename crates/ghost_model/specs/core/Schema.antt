@@ -1,7 +1,7 @@
 -- A schema: a list of tables, each a list of columns. Tables and columns are numbered by place from 0, in the order
 -- of their declaration; column 0 of each table is its identifier, `id`. A name is a list of bytes in lower case.
 -- A foreign key names its child table; the parent of a table is the table that holds the foreign key to it.
-use Rattle.std.specs.Prelude.{ℕ, ◌+◌, Bool, true, false, not, ◌&&◌, ◌==◌, List, [], ◌∷◌, Option, Some, None, option_map, slice_get, if◌then◌else◌, nat_lt}
+use Rattle.std.specs.Prelude.{ℕ, ◌+◌, Bool, true, false, not, ◌&&◌, ◌==◌, List, [], ◌∷◌, Option, Some, None, option_map, slice_get, if◌then◌else◌, nat_lt, zero, suc, option_and_then}
 
 -- what a column holds: 64-bit signed integers, or texts of at most so many bytes
 pub data Kind : Type 0 where
@@ -92,3 +92,8 @@ is_shown (Some column) = not column.hidden
 
 abbrev pub is_visible : Schema → ℕ → ℕ → Bool
 is_visible schema table column = nat_lt 0 column && is_shown (column_at schema table column)
+
+-- Cycle: following parents from a table returns to it, in at most as many steps as there are tables
+unfoldable pub ancestor : Schema → (steps table : ℕ) → Option ℕ
+ancestor schema zero table = Some table
+ancestor schema (suc steps) table = option_and_then (parent schema) (ancestor schema steps table)

@@ -156,23 +156,3 @@ pub record SpellsImage (cat : Catalog) (public : Public) (bytes : List ℕ) : Ty
   pub catalog : IsCatalog cat
   pub goes_with : IsPublic cat public
   pub spelled : bytes ≡ image cat public
-
--- the public part of a database goes with its catalog
-abbrev pub PublicPartsGoWithCatalogs : Type 0
-PublicPartsGoWithCatalogs =
-    (cat : Catalog) (database : Database) → IsDatabase cat.schema database → row_counts database ≡ cat.counts
-    → IsPublic cat (public_of cat.schema database)
-
--- an image has the bytes of its catalog, and for each row of a table the cells of its visible columns
-abbrev pub ImagesAreAsLong : Type 0
-ImagesAreAsLong =
-    (cat : Catalog) (public : Public) → IsPublic cat public
-    → length (image cat public)
-    ≡ length (catalog_bytes cat)
-    + sum_by (λ held. held.1 * sum (map cell_width (visible_kinds held.0))) (zip cat.schema cat.counts)
-
--- a database is its two parts rejoined
-abbrev pub SplitIsRejoined : Type 0
-SplitIsRejoined =
-    (schema : Schema) (database : Database) → IsDatabase schema database
-    → rejoined schema (public_of schema database) (hidden_of schema database) ≡ database

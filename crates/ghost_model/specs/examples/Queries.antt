@@ -1,10 +1,10 @@
 -- What telling query texts mean over the clinic's schema, and why others are refused.
 use Rattle.std.specs.Prelude.{◌≡◌, ℕ, negsuc, List, [], ◌∷◌, ◌++◌, replicate, codes, Some, None, Result, Ok, Err}
 use Rattle.ghost_model.specs.core.Values.{Number, Text}
-use Rattle.ghost_model.specs.core.Query.{Field, Condition, Query, Equal, Unequal, Less, AtMost, More, AtLeast, Compare, Join}
+use Rattle.ghost_model.specs.core.Query.{Field, Condition, Query, Equal, Unequal, Less, AtMost, More, AtLeast, Compare, Join, top_of}
 use Rattle.ghost_model.specs.refusals.Grammar.{IsSyntaxFault}
 use Rattle.ghost_model.specs.refusals.QueryGrammar.{spelling}
-use Rattle.ghost_model.specs.refusals.QueryMeaning.{Refusal, Syntax, Limit, UnknownTable, UnknownColumn, Ambiguous, KindMismatch, BadLiteral, NotLinked, field, top_of, Means, IsRefused}
+use Rattle.ghost_model.specs.refusals.QueryMeaning.{Refusal, Syntax, Limit, UnknownTable, UnknownColumn, Ambiguous, KindMismatch, BadLiteral, NotLinked, field, Means, IsRefused}
 use Rattle.ghost_model.specs.readings.QueryReading.{reading}
 use Rattle.ghost_model.specs.examples.Clinic.{clinic_schema, note_schema, number}
 

@@ -3,9 +3,8 @@
 -- all widths fit a page and all page numbers fit 32 bits.
 use Rattle.std.specs.Prelude.{◌≡◌, ℕ, ◌+◌, ◌*◌, ◌%◌, ◌^◌, ◌<◌, ◌≤◌, nat_le, true, cond, filter, sum_by, List, [], ◌∷◌, length, Some, slice_get}
 use Rattle.std.specs.List.{list_all}
-use Rattle.ghost_model.specs.core.Schema.{Schema, is_visible}
+use Rattle.ghost_model.specs.core.Schema.{Schema, is_visible, ancestor}
 use Rattle.ghost_model.specs.core.Channel.{Catalog}
-use Rattle.ghost_model.specs.refusals.SchemaFaults.{ancestor}
 use Rattle.ghost_model.specs.laws.SchemaTrees.{IsTree}
 use Rattle.ghost_model.specs.refusals.LoadFaults.{most_rows}
 use Rattle.ghost_model.specs.forms.Catalog.{IsCatalog}

@@ -4,9 +4,9 @@
 -- foreign keys are hidden integers, at most one of them names a table, following parents never returns, and exactly one
 -- table, the root, has no parent.
 use Rattle.std.specs.Prelude.{◌≡◌, ℕ, ◌<◌, ◌≤◌, true, false, List, length, codes, Some, None, slice_get}
-use Rattle.ghost_model.specs.core.Schema.{Integer, Chars, Column, Table, Schema, columns_of, column_at}
+use Rattle.ghost_model.specs.core.Schema.{Integer, Chars, Column, Table, Schema, columns_of, column_at, ancestor}
 use Rattle.ghost_model.specs.laws.Spelled.{is_name}
-use Rattle.ghost_model.specs.refusals.SchemaFaults.{ancestor, references_naming, roots_of, MeansSchema}
+use Rattle.ghost_model.specs.refusals.SchemaFaults.{references_naming, roots_of, MeansSchema}
 
 -- `id`, which both sides know
 abbrev pub identifier : Column

@@ -4,7 +4,7 @@
 -- nowhere. Nothing in this module need be believed: the law SchemaPlacesAreExact (function `schema_places_are_exact`)
 -- makes `syntax_of` the tree which the text spells and the fault that the grammar gives it.
 use Rattle.std.specs.Prelude.{ℕ, Bool, true, false, List, [], ◌∷◌, ◌++◌, flat_map, codes, bytes_eq, Option, Some, None, option_map, Result, Ok, Err, if◌then◌else◌}
-use Rattle.ghost_model.specs.refusals.Tokens.{Symbol, Token, Word, Name, Digits, Open, Closing, Comma, Semicolon, EndOfText, CharWord, CreateWord, HiddenWord, IntegerWord, KeyWord, PrimaryWord, ReferencesWord, TableWord, tokens}
+use Rattle.ghost_model.specs.refusals.Tokens.{Symbol, Token, Word, Name, Digits, Open, Closing, Comma, Semicolon, EndOfText, CharWord, CreateWord, HiddenWord, IntegerWord, PrimaryKeyWord, PrimaryWord, ReferencesWord, TableWord, tokens}
 use Rattle.ghost_model.specs.refusals.Grammar.{begun}
 use Rattle.ghost_model.specs.refusals.SchemaGrammar.{Reference, To, ColumnDeclaration, CharColumn, IntegerColumn, TableText, SchemaText, spell_primary, spell_column, spell_heading, spell_table, spelling}
 
@@ -90,7 +90,7 @@ step_in (Named name) (Word IntegerWord) = Some (Whole (IntegerColumn name false 
 step_in (AfterChar name) Open = Some (AfterOpen name)
 step_in (AfterOpen name) (Digits digits) = Some (AfterLength name digits)
 step_in (AfterLength name digits) Closing = Some (Whole (CharColumn name digits false))
-step_in (AfterPrimary name) (Word KeyWord) = Some (Whole (IntegerColumn name true None false))
+step_in (AfterPrimary name) (Word PrimaryKeyWord) = Some (Whole (IntegerColumn name true None false))
 step_in (AfterReferences name primary) (Name table) =
     Some (Whole (IntegerColumn name primary (Some (To table false)) false))
 step_in (OpensId name primary table) (Name inside) = after_parenthesis name primary table inside

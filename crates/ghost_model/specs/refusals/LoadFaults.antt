@@ -9,7 +9,6 @@ use Rattle.std.specs.Option.{option_map_or}
 use Rattle.std.specs.Cmp.Lexicographic.{pointwise}
 use Rattle.std.specs.Ordering.{int_eq}
 use Rattle.ghost_model.specs.core.Schema.{Schema, Column, Kind, Integer, Chars, first_of}
-use Rattle.ghost_model.specs.laws.SchemaTrees.{IsTree}
 use Rattle.ghost_model.specs.refusals.Tokens.{in_lower_case}
 use Rattle.ghost_model.specs.core.Values.{Value, Row, Rows, Database}
 use Rattle.ghost_model.specs.core.Database.{is_text, is_row_among, row_count, records_of, integer_of, database_of, IsDatabase}
@@ -148,21 +147,3 @@ TellsFirst (Some fault) faults = IsFirst fault faults
 abbrev pub Judges : {T E : Type 0} → (told : E → Option LoadFault) → Result T E → List LoadFault → Type 0
 Judges told (Ok _) faults = faults ≡ []
 Judges told (Err error) faults = TellsFirst (told error) faults
-
--- files that keep every rule spell a database, one file for each table
-abbrev pub FilesSpellADatabase : Type 0
-FilesSpellADatabase =
-    (schema : Schema) (files : List (List ℕ)) → IsTree schema → length files ≡ length schema
-    → load_faults schema files ≡ [] → IsDatabase schema (database_of schema files)
-
--- and each table has at most as many rows as it may have
-abbrev pub FilesKeepTheRowLimit : Type 0
-FilesKeepTheRowLimit =
-    (schema : Schema) (files : List (List ℕ)) → load_faults schema files ≡ []
-    → (table : ℕ) → row_count (database_of schema files) table ≤ most_rows
-
--- a file that is too long has that fault first, whatever else is in it
-abbrev pub LongFilesAreToldFirst : Type 0
-LongFilesAreToldFirst =
-    (table : ℕ) (columns : List Column) (file : List ℕ) → most_bytes < length file
-    → IsFirst (FileLimit (place table 0 0)) (file_faults table columns file)

@@ -7,7 +7,7 @@ use Rattle.std.specs.List.{list_any, list_all}
 use Rattle.ghost_model.specs.core.Schema.{Schema, Kind, Integer, Chars, columns_of, column_at, column_kind, places_where, places_of, first_of, is_empty, is_table, parent}
 use Rattle.ghost_model.specs.refusals.Tokens.{number_of}
 use Rattle.ghost_model.specs.core.Values.{Value, Number, Text, fits_integer}
-use Rattle.ghost_model.specs.core.Query.{Field, AtMost, AtLeast, Condition, Compare, Join, Query}
+use Rattle.ghost_model.specs.core.Query.{Field, AtMost, AtLeast, Condition, Compare, Join, Query, is_among, is_some_among, top_of}
 use Rattle.ghost_model.specs.refusals.Rules.{broken_if, MeetsAll, BreaksFirst}
 use Rattle.ghost_model.specs.refusals.Grammar.{Spells, IsSyntaxFault}
 use Rattle.ghost_model.specs.refusals.QueryGrammar.{ColumnText, Bare, Qualified, Sign, Positive, Negative, LiteralText, Unsigned, Signed, Written, ConditionText, Compares, LiesBetween, Joins, Selection, All, Columns, QueryText, spelling}
@@ -40,9 +40,6 @@ fields_named schema name table = option_to_list (option_map (field table) (colum
 
 abbrev pub fields_of : Schema → ℕ → List Field
 fields_of schema table = map (field table) (places_of (columns_of schema table))
-
-abbrev pub is_among : List ℕ → ℕ → Bool
-is_among tables table = list_any (λ other. other == table) tables
 
 -- the FROM tables of a text, by name and by place
 abbrev pub from_names : QueryText → List (List ℕ)
@@ -182,19 +179,6 @@ abbrev pub has_bad_literal : Schema → QueryText → Bool
 has_bad_literal schema tree = list_any (literal_fails schema is_too_large) (resolved schema tree).conditions
 
 -- the top table and the joins
-
--- whether the table, if there is one, is among these
-abbrev pub is_some_among : List ℕ → Option ℕ → Bool
-is_some_among tables None = false
-is_some_among tables (Some table) = is_among tables table
-
-abbrev pub only : {X : Type 0} → List X → Option X
-only (x ∷ []) = Some x
-only _ = None
-
--- the one FROM table whose parent is not in FROM; the root has none
-abbrev pub top_of : Schema → Query → Option ℕ
-top_of schema query = only (filter (λ table. not (is_some_among query.from (parent schema table))) query.from)
 
 -- the first column is a foreign key and the second the identifier of its child
 abbrev pub is_reference_to : Schema → Field → Field → Bool

@@ -5,7 +5,7 @@ use Rattle.std.specs.Prelude.{◌≡◌, ℕ, zero, suc, ◌+◌, nat_lt, Bool, 
 use Rattle.std.specs.List.{list_any}
 use Rattle.ghost_model.specs.refusals.Tokens.{is_between, number_of}
 use Rattle.ghost_model.specs.core.Query.{Field}
-use Rattle.ghost_model.specs.core.Schema.{Schema, Table, places_of, is_table, references_to, parent}
+use Rattle.ghost_model.specs.core.Schema.{Schema, Table, places_of, is_table, references_to, parent, ancestor}
 use Rattle.ghost_model.specs.refusals.Rules.{broken_if, MeetsAll, BreaksFirst}
 use Rattle.ghost_model.specs.refusals.Grammar.{Spells, IsSyntaxFault}
 use Rattle.ghost_model.specs.refusals.SchemaGrammar.{To, ColumnDeclaration, CharColumn, IntegerColumn, TableText, SchemaText, spelling}
@@ -102,11 +102,6 @@ references_naming schema child = sum_by (λ (table : Table). length (references_
 
 abbrev pub is_shared : SchemaText → ℕ → Bool
 is_shared tables child = nat_lt 1 (references_naming (schema_of tables) child)
-
--- Cycle: following parents from a table returns to it, in at most as many steps as there are tables
-unfoldable pub ancestor : Schema → (steps table : ℕ) → Option ℕ
-ancestor schema zero table = Some table
-ancestor schema (suc steps) table = option_and_then (parent schema) (ancestor schema steps table)
 
 abbrev pub returns : Schema → ℕ → Bool
 returns schema table =

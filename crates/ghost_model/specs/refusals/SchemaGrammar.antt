@@ -4,7 +4,7 @@
 -- perhaps `( id )`, then HIDDEN; after CHAR and its length may follow HIDDEN. What a text declares is a tree, with
 -- whatever may be left out among it, and each tree is spelled in one way.
 use Rattle.std.specs.Prelude.{ℕ, Bool, true, false, List, [], ◌∷◌, ◌++◌, flat_map, codes, Option, Some, None}
-use Rattle.ghost_model.specs.refusals.Tokens.{Symbol, Word, Name, Digits, Open, Closing, Comma, Semicolon, EndOfText, CharWord, CreateWord, HiddenWord, IntegerWord, KeyWord, PrimaryWord, ReferencesWord, TableWord}
+use Rattle.ghost_model.specs.refusals.Tokens.{Symbol, Word, Name, Digits, Open, Closing, Comma, Semicolon, EndOfText, CharWord, CreateWord, HiddenWord, IntegerWord, PrimaryKeyWord, PrimaryWord, ReferencesWord, TableWord}
 use Rattle.ghost_model.specs.refusals.Grammar.{separated}
 
 -- REFERENCES: the name of a table, and whether `( id )` follows it
@@ -30,7 +30,7 @@ spell_hidden true = Word HiddenWord ∷ []
 
 abbrev pub spell_primary : Bool → List Symbol
 spell_primary false = []
-spell_primary true = Word PrimaryWord ∷ Word KeyWord ∷ []
+spell_primary true = Word PrimaryWord ∷ Word PrimaryKeyWord ∷ []
 
 abbrev pub spell_id : Bool → List Symbol
 spell_id false = []

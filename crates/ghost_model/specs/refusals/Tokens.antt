@@ -18,7 +18,7 @@ pub data Keyword : Type 0 where
   FromWord : Keyword
   HiddenWord : Keyword
   IntegerWord : Keyword
-  KeyWord : Keyword
+  PrimaryKeyWord : Keyword
   PrimaryWord : Keyword
   ReferencesWord : Keyword
   SelectWord : Keyword
@@ -96,7 +96,7 @@ keyword_text CreateWord = codes "create"
 keyword_text FromWord = codes "from"
 keyword_text HiddenWord = codes "hidden"
 keyword_text IntegerWord = codes "integer"
-keyword_text KeyWord = codes "key"
+keyword_text PrimaryKeyWord = codes "key"
 keyword_text PrimaryWord = codes "primary"
 keyword_text ReferencesWord = codes "references"
 keyword_text SelectWord = codes "select"
@@ -105,7 +105,7 @@ keyword_text WhereWord = codes "where"
 
 abbrev pub keywords : List Keyword
 keywords =
-    AndWord ∷ BetweenWord ∷ CharWord ∷ CreateWord ∷ FromWord ∷ HiddenWord ∷ IntegerWord ∷ KeyWord ∷ PrimaryWord ∷ ReferencesWord ∷ SelectWord ∷ TableWord ∷ WhereWord ∷ []
+    AndWord ∷ BetweenWord ∷ CharWord ∷ CreateWord ∷ FromWord ∷ HiddenWord ∷ IntegerWord ∷ PrimaryKeyWord ∷ PrimaryWord ∷ ReferencesWord ∷ SelectWord ∷ TableWord ∷ WhereWord ∷ []
 
 -- the keyword that a word in lower case is; INT is INTEGER too
 abbrev pub keyword_of : List ℕ → Option Keyword

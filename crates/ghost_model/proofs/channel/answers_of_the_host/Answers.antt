@@ -5,7 +5,7 @@ use Rattle.ghost_model.specs.core.Asks.{rows_from}
 use Rattle.ghost_model.specs.readings.AskReading.{tests_in}
 use Rattle.ghost_model.specs.core.Schema.{places_from}
 use Rattle.ghost_model.specs.core.Split.{replies_from}
-use Rattle.ghost_model.specs.core.Host.{groups_from, said_to, frames_within, bad_from, bad_with_refusals, said_with_refusals}
+use Rattle.ghost_model.specs.core.Host.{groups_from, frames_within, bad_with_refusals, said_with_refusals}
 use Rattle.ghost_model.proofs.channel.answers_of_the_host.Goals as goal
 
 pub returns : goal.returns

@@ -1,4 +1,3 @@
-use Rattle.ghost_model.specs.core.Asks.{asked_of}
 use Rattle.ghost_model.proofs.ChannelLemmas.Sending.{sent_is_due}
 use Rattle.ghost_model.proofs.channel.sent_frames_are_due.Goals as goal
 

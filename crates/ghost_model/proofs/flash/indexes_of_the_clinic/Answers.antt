@@ -1,7 +1,6 @@
 use Rattle.std.proofs.Common.{◌≡◌, refl, ℕ, zero, suc, ◌<◌, List, Contains, slice_index_or, arith}
 use Rattle.std.specs.List.Sorted.{IsStrictlySortedBy}
-use Rattle.ghost_model.specs.core.Schema.{places_from}
-use Rattle.ghost_model.specs.refusals.SchemaFaults.{ancestor}
+use Rattle.ghost_model.specs.core.Schema.{places_from, ancestor}
 use Rattle.ghost_model.specs.core.Database.{leads_within}
 use Rattle.ghost_model.specs.forms.Flash.{hidden_cells}
 use Rattle.ghost_model.specs.examples.Clinic.{clinic_schema}

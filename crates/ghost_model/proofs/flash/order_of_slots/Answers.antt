@@ -1,6 +1,5 @@
 use Rattle.std.proofs.Common.{refl}
-use Rattle.ghost_model.specs.core.Schema.{places_from}
-use Rattle.ghost_model.specs.refusals.SchemaFaults.{ancestor}
+use Rattle.ghost_model.specs.core.Schema.{places_from, ancestor}
 use Rattle.ghost_model.specs.forms.Runs.{number_in}
 use Rattle.ghost_model.proofs.flash.order_of_slots.Goals as goal
 

@@ -1,6 +1,5 @@
 use Rattle.std.proofs.Common.{refl}
-use Rattle.ghost_model.specs.refusals.SchemaFaults.{ancestor}
-use Rattle.ghost_model.specs.core.Schema.{places_from}
+use Rattle.ghost_model.specs.core.Schema.{places_from, ancestor}
 use Rattle.ghost_model.specs.forms.Layout.{first_page, files_end}
 use Rattle.ghost_model.proofs.layout.layout_of_the_clinic.Goals as goal
 

@@ -1,7 +1,6 @@
 use Rattle.std.proofs.Common.{refl}
 use Rattle.std.specs.Fmt.{digits}
-use Rattle.ghost_model.specs.refusals.SchemaFaults.{ancestor}
-use Rattle.ghost_model.specs.core.Schema.{places_from}
+use Rattle.ghost_model.specs.core.Schema.{places_from, ancestor}
 use Rattle.ghost_model.specs.forms.Layout.{first_page, files_end}
 use Rattle.ghost_model.proofs.layout.layouts_of_larger_databases.Goals as goal
 

@@ -1,8 +1,8 @@
 use Rattle.std.proofs.Common.{◌≡◌, ℕ, List, codes, Result, Ok, Err, refl}
-use Rattle.ghost_model.specs.core.Schema.{places_from}
+use Rattle.ghost_model.specs.core.Schema.{places_from, ancestor}
 use Rattle.ghost_model.specs.refusals.Tokens.{tokens_from, quoted_from}
 use Rattle.ghost_model.specs.readings.SchemaPlaces.{syntax_from, syntax_of}
-use Rattle.ghost_model.specs.refusals.SchemaFaults.{DuplicateName, NoId, NotOneRoot, ancestor, fields_from}
+use Rattle.ghost_model.specs.refusals.SchemaFaults.{DuplicateName, NoId, NotOneRoot, fields_from}
 use Rattle.ghost_model.specs.readings.SchemaReading.{schema_reading}
 use Rattle.ghost_model.specs.examples.Clinic.{clinic_schema}
 use Rattle.ghost_model.specs.examples.Schemas.{clinic_text}
