@@ -1,5 +1,5 @@
 -- The files of tables, read one after another, are answered by the first load fault of all of them.
-use Rattle.std.proofs.Common.{◌≡◌, ℕ, ◌+◌, List, [], ◌∷◌, ◌++◌, map as each, Option, Some, refl, sym, ap, ◌∙◌, append_assoc, append-nil}
+use Rattle.std.proofs.Common.{◌≡◌, ℕ, ◌+◌, List, [], ◌∷◌, ◌++◌, map as each, Some, refl, sym, ap, ◌∙◌, append_assoc, append-nil}
 use Rattle.std.specs.FinMap as map
 use Rattle.ghost_model.specs.core.Schema.{Schema, Table, first_of}
 use Rattle.ghost_model.specs.core.Database.{database_of}
