@@ -1,5 +1,5 @@
 -- One schema or one fault for each text: the first rule that its tree breaks decides.
-use Rattle.std.proofs.Common.{◌≡◌, ◌≢◌, ◌⊎◌, inl, inr, ℕ, zero, suc, ◌+◌, ◌-◌, ◌<◌, ◌≤◌, nat_lt, Bool, true, false, cond, ◌||◌, ◌==◌, List, [], ◌∷◌, ◌++◌, length, find, not, Option, Some, None, option_map, option_and_then, Result, Ok, Err, if◌then◌else◌, Decides, add-zero, zero-add, refl, sym, ap, ◌∙◌, subst, arith}
+use Rattle.std.proofs.Common.{◌≡◌, ◌⊎◌, inl, inr, ℕ, zero, suc, ◌+◌, ◌-◌, ◌<◌, ◌≤◌, nat_lt, Bool, true, false, ◌||◌, ◌==◌, List, [], ◌∷◌, length, find, not, Option, Some, None, option_map, option_and_then, Result, Ok, Err, if◌then◌else◌, Decides, add-zero, zero-add, refl, sym, ap, ◌∙◌, subst, arith}
 use Rattle.std.specs.List.{list_any}
 use Rattle.std.proofs.lemmas.Bool.Decides.{Decides-eqb, Decides-ltb}
 use Rattle.std.proofs.lemmas.Bool.{cases_order, cases_lt, or_right}
@@ -9,7 +9,7 @@ use Rattle.ghost_model.specs.refusals.Grammar.{Spells}
 use Rattle.ghost_model.specs.refusals.SchemaGrammar.{SchemaText, spelling}
 use Rattle.ghost_model.specs.readings.SchemaPlaces.{syntax_of}
 use Rattle.ghost_model.specs.refusals.SchemaMeaning.{schema_of}
-use Rattle.ghost_model.specs.refusals.SchemaFaults.{SchemaFault, Syntax, Limit, DuplicateName, NoId, UnknownTable, TwoParents, Cycle, NotOneRoot, is_over, is_duplicate, lacks_id, is_unknown, is_shared, returns, roots_of, fields, duplicate_at, unknown_at, wrong_roots, rules_of_schemas, MeansSchema, HasFault, IsSchemaFault}
+use Rattle.ghost_model.specs.refusals.SchemaFaults.{SchemaFault, Syntax, Limit, NoId, TwoParents, Cycle, NotOneRoot, is_over, is_duplicate, lacks_id, is_unknown, is_shared, returns, roots_of, fields, duplicate_at, unknown_at, wrong_roots, rules_of_schemas, MeansSchema, HasFault, IsSchemaFault}
 use Rattle.ghost_model.specs.readings.SchemaReading.{schema_or, judged, schema_reading}
 use Rattle.ghost_model.specs.laws.SchemaTrees.{Returns}
 use Rattle.ghost_model.specs.laws.SchemaLaws.{OneSchemaReading}

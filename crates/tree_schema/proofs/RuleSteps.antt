@@ -1,5 +1,5 @@
 -- The rules place by place: the first place that breaks one, and the length that digits write.
-use Rattle.std.proofs.Common.{◌≡◌, ℕ, zero, suc, ◌+◌, ◌-◌, ◌*◌, ◌<◌, ◌≤◌, Bool, true, false, cond, ◌&&◌, ◌||◌, ◌==◌, nat_le, List, [], ◌∷◌, ◌++◌, length, map, take, drop, find, slice_get, bytes_eq, Option, Some, None, option_map, Bor, if◌then◌else◌, refl, ap, sym, ◌∙◌, add-one, get_or, drop-cons, inl, inr, arith}
+use Rattle.std.proofs.Common.{◌≡◌, ℕ, zero, suc, ◌+◌, ◌-◌, ◌*◌, ◌<◌, ◌≤◌, Bool, true, false, cond, ◌&&◌, ◌||◌, ◌==◌, nat_le, List, [], ◌∷◌, ◌++◌, length, map, take, drop, find, slice_get, bytes_eq, Option, Some, None, option_map, Bor, refl, ap, sym, ◌∙◌, add-one, get_or, drop-cons, inl, inr, arith}
 use Rattle.std.specs.List.{list_any, fold, count_by, sum_by}
 use Rattle.std.specs.Option.{option_or}
 use Rattle.std.proofs.lemmas.Bool.{ne_eqb}

@@ -1,5 +1,5 @@
 -- The rules of trees, table by table.
-use Rattle.std.proofs.Common.{◌≡◌, ℕ, suc, ◌+◌, ◌<◌, ◌≤◌, Bool, true, false, cond, ◌||◌, length, drop, find, not, Option, Some, None, is_none, option_map, option_and_then, if◌then◌else◌, refl, ap, sym, ◌∙◌, add-one, arith}
+use Rattle.std.proofs.Common.{◌≡◌, ℕ, suc, ◌+◌, ◌<◌, ◌≤◌, Bool, true, false, cond, ◌||◌, length, drop, find, not, Option, Some, None, is_none, option_map, option_and_then, refl, ap, sym, ◌∙◌, add-one, arith}
 use Rattle.std.specs.List.{list_any, count_by}
 use Rattle.std.specs.Option.{is_some, option_or}
 use Rattle.std.proofs.lemmas.List.Sums.{sum_by-cons}

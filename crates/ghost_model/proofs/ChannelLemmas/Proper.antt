@@ -1,15 +1,13 @@
 -- That the asks of queries are such as a key may send.
-use Rattle.std.proofs.Common.{◌≡◌, ℕ, ◌+◌, ◌-◌, ◌<◌, ◌≤◌, ◌^◌, Bool, true, false, ◌&&◌, List, [], ◌∷◌, ◌++◌, length, map, sym, ◌∙◌, ap, subst, refl, arith, length-append, lit<, Option, Some, None, pos, negsuc, ℤ, Ok}
-use Rattle.std.specs.Prelude.{◌==◌, ◌||◌, nat_lt, nat_le, not, if◌then◌else◌, filter, flat_map}
+use Rattle.std.proofs.Common.{◌≡◌, ℕ, ◌+◌, ◌-◌, ◌<◌, ◌≤◌, Bool, true, false, ◌&&◌, List, [], ◌∷◌, ◌++◌, length, map, sym, ◌∙◌, ap, subst, refl, arith, length-append, lit<, Option, Some, None, Ok}
+use Rattle.std.specs.Prelude.{◌==◌, ◌||◌, nat_lt, not, if◌then◌else◌, filter, flat_map}
 use Rattle.std.specs.List.{sum_by}
 use Rattle.std.specs.Option.{option_map}
-use Rattle.std.proofs.Math.Bool.{and-true}
 use Rattle.std.proofs.lemmas.Bool.{eqb-true}
 use Rattle.std.specs.List.{list_all, list_any}
 use Rattle.std.proofs.lemmas.List.Folds.{list_all-append, list_all-map}
 use Rattle.std.proofs.lemmas.Grind.{flat_map-append}
 use Rattle.std.proofs.lemmas.List.Sums.{sum_by-cons}
-use Rattle.std.proofs.lemmas.Bool.Decides.{nat_tests}
 use Rattle.std.proofs.lemmas.Bool.{ltb-false, lt-ltb, le-leb}
 use Rattle.ghost_model.specs.core.Schema.{Schema, Column, Kind, Integer, Chars, columns_of, column_at, is_visible, is_shown, places_from}
 use Rattle.ghost_model.specs.core.Values.{Value, Number, Text}

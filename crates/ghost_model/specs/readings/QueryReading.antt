@@ -1,6 +1,6 @@
 -- The reading of a query text over a schema, which computes: its tree by the places of the grammar, then the first of
--- the rules that it breaks. Nothing in this module need be believed: the law OneReading (function `one_reading`) makes
--- `reading` the relations Means and IsRefused.
+-- the rules that it breaks. Outside, what a text means is named by `reading` alone. Nothing in this module need be
+-- believed: the law OneReading (function `one_reading`) makes `reading` the relations Means and IsRefused.
 use Rattle.std.specs.Prelude.{ℕ, List, Option, Some, None, Result, Ok, Err}
 use Rattle.ghost_model.specs.core.Schema.{Schema}
 use Rattle.ghost_model.specs.core.Query.{Query}

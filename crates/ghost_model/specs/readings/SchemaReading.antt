@@ -1,6 +1,7 @@
 -- The reading of a schema's text, which computes: its tree by the places of the grammar, then the first of the rules that
--- it breaks. Nothing in this module need be believed: the law OneSchemaReading (function `one_schema_reading`) makes
--- `schema_reading` the relations MeansSchema and IsSchemaFault.
+-- it breaks. Outside, what a text declares is named by `schema_reading` alone. Nothing in this module need be believed:
+-- the law OneSchemaReading (function `one_schema_reading`) makes `schema_reading` the relations MeansSchema and
+-- IsSchemaFault.
 use Rattle.std.specs.Prelude.{ℕ, List, Option, Some, None, Result, Ok, Err}
 use Rattle.ghost_model.specs.core.Schema.{Schema}
 use Rattle.ghost_model.specs.refusals.Rules.{first_broken}

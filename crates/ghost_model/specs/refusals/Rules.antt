@@ -12,6 +12,7 @@ abbrev pub first_broken : {Fault : Type 0} → (rules : List (Option Fault)) →
 first_broken [] = None
 first_broken (rule ∷ later) = option_or rule (first_broken later)
 
+-- no rule is broken, and this is the fault of the first one that is
 abbrev pub MeetsAll : {Fault : Type 0} → (rules : List (Option Fault)) → Type 0
 MeetsAll rules = first_broken rules ≡ None
 

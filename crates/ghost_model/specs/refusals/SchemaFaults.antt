@@ -121,7 +121,7 @@ fields_from at (table ∷ later) =
 abbrev pub fields : SchemaText → List Field
 fields tables = fields_from 0 tables
 
--- the rules that a tree may break, in their order, each with its fault at the first place that breaks it
+-- the faults of a place
 abbrev pub duplicate_at : Field → SchemaFault
 duplicate_at field = DuplicateName field.table field.column
 
@@ -131,6 +131,7 @@ unknown_at field = UnknownTable field.table field.column
 abbrev pub wrong_roots : ℕ → Option SchemaFault
 wrong_roots roots = broken_if (not (roots == 1)) (NotOneRoot roots)
 
+-- the rules that a tree may break, in their order, each with its fault at the first place that breaks it
 abbrev pub rules_of_schemas : SchemaText → List (Option SchemaFault)
 rules_of_schemas tables =
     broken_if (is_over tables) Limit

@@ -4,7 +4,7 @@
 -- the reserved ones are no names. A text literal is one token: `'`, characters 0x20 to 0x7E with `''` for one `'`, and
 -- a last `'`. A byte that begins no token, and a `'` whose literal has another byte in it or no end, are a bad token,
 -- which no text of a grammar has. The list ends with the end of the text, so that each fault has its place.
-use Rattle.std.specs.Prelude.{ℕ, zero, suc, ◌+◌, ◌-◌, Bool, true, false, ◌&&◌, ◌||◌, ◌==◌, nat_le, List, [], ◌∷◌, ◌++◌, length, map, take_while, if◌then◌else◌, codes, bytes_eq, Option, Some, None, find, slice_get, option_map, ◌*◌, fold}
+use Rattle.std.specs.Prelude.{ℕ, zero, suc, ◌+◌, ◌-◌, Bool, true, false, ◌&&◌, ◌||◌, ◌==◌, nat_le, List, [], ◌∷◌, ◌++◌, length, map, take_while, if◌then◌else◌, codes, bytes_eq, Option, Some, find, slice_get, option_map, ◌*◌, fold}
 use Rattle.std.specs.List.{list_any, list_all}
 use Rattle.std.specs.Option.{option_map_or}
 use Rattle.std.specs.Char.{to_ascii_lowercase}

@@ -2,13 +2,12 @@ use Rattle.std.proofs.Common.{◌≡◌, ℕ, List, [], ◌∷◌, codes, Result
 use Rattle.ghost_model.specs.refusals.Tokens.{tokens_from, quoted_from}
 use Rattle.ghost_model.specs.core.Schema.{places_from}
 use Rattle.ghost_model.specs.core.Query.{Query, Field}
-use Rattle.ghost_model.specs.refusals.QueryGrammar.{QueryText}
 use Rattle.ghost_model.specs.readings.QueryPlaces.{read_from, syntax_of}
-use Rattle.ghost_model.specs.refusals.QueryMeaning.{Refusal, Syntax, Limit, UnknownTable, UnknownColumn, field}
+use Rattle.ghost_model.specs.refusals.QueryMeaning.{Syntax, Limit, UnknownTable, UnknownColumn, field}
 use Rattle.ghost_model.specs.readings.QueryReading.{reading}
 use Rattle.ghost_model.specs.examples.Clinic.{clinic_schema}
 use Rattle.ghost_model.specs.examples.Queries.{query}
-use Rattle.ghost_model.proofs.QueryLemmas.{stop_fault, fault_stop, spelled_tree}
+use Rattle.ghost_model.proofs.QueryLemmas.{stop_fault, fault_stop}
 use Rattle.ghost_model.proofs.QueryReadingLemmas.{means_of, reading_of_means, refused_of, reading_of_refused}
 use Rattle.ghost_model.proofs.query.relations_of_queries.Goals as goal
 
