@@ -68,6 +68,7 @@ fn parts_of(alloc: Global, input: Input) -> Result<Parts, AllocError>
 }
 
 /// A depot in memory that has one file of this name.
+#[tactic(auto, using(crate::proofs::Begun::has_just_room))]
 fn depot_with(alloc: Global, name: &str, image: Vec<u8>) -> Result<MemDepot, AllocError>
     ensures file { IfOk result (λ depot. file_of (⟦<MemDepot as Depot>⟧.contents depot) name.now ≡ Some image.items) }
     ensures is_sure { IfOk result (λ depot. ⟦<MemDepot as Depot>⟧.sure depot name.now) }
