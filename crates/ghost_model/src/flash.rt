@@ -3,7 +3,7 @@
 ghost use Rattle.ghost_model.specs.laws.FlashLaws.{HiddenValuesByPlace, HiddenPartsGoWithCatalogs, HiddenCellsFit, HiddenCellsOfDatabases, RowsLeadByHiddenValues, HiddenValuesOfDatabases, ColumnFilesGiveValues, HoldingsAreKept, RecordsAreAsWide};
 ghost use Rattle.ghost_model.specs.laws.ListLaws.{ListsPartition, IdListsPartition};
 ghost use Rattle.ghost_model.specs.examples.Slots.{RangesOfSlots, OrderOfSlots, DamagedSlots};
-ghost use Rattle.ghost_model.specs.examples.Flash.{CellsOfTheClinic, IndexesOfTheClinic, PagesOfTheClinic};
+ghost use Rattle.ghost_model.specs.examples.Flash.{CellsOfTheClinic, IndexesOfTheClinic, HoldingsOfTheClinic, PagesOfTheClinic};
 
 /// Where a row of the hidden part has the value of a hidden column.
 pub fn hidden_values_by_place()
@@ -68,6 +68,11 @@ pub fn cells_of_the_clinic()
 /// Its subtree key table and its indexes.
 pub fn indexes_of_the_clinic()
     ensures { IndexesOfTheClinic }
+{}
+
+/// All its pages hold it, and do not with a byte changed.
+pub fn holdings_of_the_clinic()
+    ensures { HoldingsOfTheClinic }
 {}
 
 /// Some of its pages, pages that do not hold it, and how many pages are built.

@@ -1,8 +1,10 @@
 -- What slots of the clinic's files may hold, and what they may not, kind by kind.
-use Rattle.std.specs.Prelude.{◌≡◌, Bool, true, false, List, [], ◌∷◌, ◌++◌, codes, ℕ, replicate, Option, Some, None}
-use Rattle.ghost_model.specs.forms.Slots.{File, Cells, Subtrees, IndexHeader, IndexDirectory, IndexLevel, IdDirectory, IdLevel, may_stand, may_follow, IsDamagedSlot}
-use Rattle.ghost_model.specs.examples.Clinic.{clinic_catalog}
-use Rattle.ghost_model.specs.examples.Flash.{small, key}
+use Rattle.std.specs.Prelude.{◌≡◌, Bool, true, false, List, [], ◌∷◌, ◌++◌, codes, ℕ, replicate, Option, Some, None, ◌&&◌, map, get_or}
+use Rattle.std.specs.List.{list_all}
+use Rattle.ghost_model.specs.forms.Layout.{static_files}
+use Rattle.ghost_model.specs.forms.Slots.{File, Cells, Subtrees, IndexHeader, IndexDirectory, IndexLevel, IdDirectory, IdLevel, run_of_file, has_file, may_stand, may_follow, IsDamagedSlot}
+use Rattle.ghost_model.specs.examples.Clinic.{clinic_schema, clinic_catalog}
+use Rattle.ghost_model.specs.examples.Flash.{doctor_files, patient_files, visit_files, small, key}
 
 abbrev pub stands : File → List ℕ → Bool
 stands file bytes = may_stand clinic_catalog file bytes
@@ -21,7 +23,29 @@ doctor_of_visit = Cells 2 3
 abbrev pub entry : (cell : List ℕ) → (first count other_first other_count : ℕ) → List ℕ
 entry cell first count other_first other_count = cell ++ (small first ++ (small count ++ (small other_first ++ small other_count)))
 
+-- the static files of the clinic in order
+abbrev pub clinic_files : List File
+clinic_files =
+    Cells 0 2 ∷ IndexHeader 0 2 ∷ IndexDirectory 0 2 ∷ IndexLevel 0 2 0 ∷ IndexLevel 0 2 1 ∷ IdDirectory 0 ∷ IdLevel 0 0
+    ∷ Cells 1 2 ∷ IndexHeader 1 2 ∷ IndexDirectory 1 2 ∷ IndexLevel 1 2 0 ∷ IndexLevel 1 2 1 ∷ IdDirectory 1 ∷ IdLevel 1 0
+    ∷ Cells 2 2 ∷ Cells 2 3 ∷ Cells 2 4 ∷ Subtrees 2 ∷ IndexHeader 2 2 ∷ IndexDirectory 2 2 ∷ IndexLevel 2 2 0
+    ∷ IndexHeader 2 3 ∷ IndexDirectory 2 3 ∷ IndexLevel 2 3 0 ∷ IndexHeader 2 4 ∷ IndexDirectory 2 4 ∷ IndexLevel 2 4 0 ∷ []
+
+-- whether records may stand one after another, and whether those of files may stand in their slots by themselves
+abbrev pub keeps_order : File → (before : Option (List ℕ)) → (records : List (List ℕ)) → Bool
+keeps_order file before [] = true
+keeps_order file before (bytes ∷ later) = follows file before bytes && keeps_order file (Some bytes) later
+
+abbrev pub each_stands : List File → (records : List (List (List ℕ))) → Bool
+each_stands [] [] = true
+each_stands [] (_ ∷ _) = false
+each_stands (_ ∷ _) [] = false
+each_stands (file ∷ files) (records ∷ later) = list_all (stands file) records && each_stands files later
+
 pub record RangesOfSlots : Type 0 where
+  pub files_of_the_layout : map (run_of_file clinic_catalog) clinic_files ≡ static_files clinic_catalog
+  pub files_are_there : list_all (has_file clinic_schema) clinic_files ≡ true
+  pub all_of_the_clinic : each_stands clinic_files (doctor_files ++ (patient_files ++ visit_files)) ≡ true
   pub a_country : stands country (codes "FR") ≡ true
   pub a_byte_after_the_text : stands country (0 ∷ codes "R") ≡ false
   pub the_last_doctor : stands doctor_of_visit (key 3) ≡ true
@@ -45,6 +69,12 @@ pub record RangesOfSlots : Type 0 where
   pub no_visit_of_a_doctor : stands (IdLevel 0 0) (small 5) ≡ false
 
 pub record OrderOfSlots : Type 0 where
+  pub countries_of_the_clinic : keeps_order (IndexDirectory 0 2) None (get_or doctor_files 2 []) ≡ true
+  pub doctors_of_the_clinic : keeps_order (IdDirectory 0) None (get_or doctor_files 5 []) ≡ true
+  pub names_of_the_clinic : keeps_order (IndexDirectory 1 2) None (get_or patient_files 2 []) ≡ true
+  pub patients_of_the_clinic : keeps_order (IdDirectory 1) None (get_or patient_files 5 []) ≡ true
+  pub purposes_of_the_clinic : keeps_order (IndexDirectory 2 2) None (get_or visit_files 5 []) ≡ true
+  pub doctors_of_visits : keeps_order (IndexDirectory 2 3) None (get_or visit_files 8 []) ≡ true
   pub any_country : follows country (Some (codes "FR")) (codes "ES") ≡ true
   pub spain_first : follows (IndexDirectory 0 2) None (entry (codes "ES") 0 2 0 3) ≡ true
   pub a_gap_at_the_beginning : follows (IndexDirectory 0 2) None (entry (codes "ES") 1 2 0 3) ≡ false

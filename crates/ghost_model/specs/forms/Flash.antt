@@ -4,7 +4,7 @@
 -- rows that have it and the rows of each table above that lead to such a row; an id index has the same for each
 -- identifier. At one level the lists of all entries stand one after another, and an entry of the directory says where
 -- its own begins and how long it is. The part that each file kind has is a word of its own; `Holds` is all of them.
-use Rattle.std.specs.Prelude.{◌≡◌, ℕ, ◌-◌, ◌*◌, ◌<◌, pos, true, false, List, [], ◌∷◌, ◌++◌, length, take, drop, map, filter, flat_map, replicate, get_or, Contains, bytes_eq, Option, Some, slice_get, unwrap_or, IsTrue}
+use Rattle.std.specs.Prelude.{◌≡◌, ℕ, ◌-◌, ◌*◌, ◌<◌, pos, true, false, List, [], ◌∷◌, ◌++◌, length, take, drop, map, filter, flat_map, replicate, get_or, slice_index, Contains, bytes_eq, Option, Some, slice_get, unwrap_or, IsTrue}
 use Rattle.std.specs.List.Sorted.{IsStrictlySortedBy}
 use Rattle.std.specs.List.{concat, range_with_len}
 use Rattle.std.specs.Option.{option_map_or}
@@ -104,18 +104,19 @@ abbrev pub list_place : (lists : List (List ℕ)) → (entry : ℕ) → List ℕ
 list_place lists entry =
     number_cell (length (concat (take entry lists))) ++ number_cell (length (get_or lists entry []))
 
--- the record of an entry in the directory: its own bytes, and at each level the place of its list
-abbrev pub directory_record : (heads : List (List ℕ)) → (levels : List (List (List ℕ))) → (entry : ℕ) → List ℕ
-directory_record heads levels entry = get_or heads entry [] ++ flat_map (λ lists. list_place lists entry) levels
+-- the record of an entry in the directory: its own bytes, and at the level of each table the place of its list
+abbrev pub directory_record : (heads : List (List ℕ)) → (tables : List ℕ) → (lists : ℕ → List (List ℕ)) → (entry : ℕ) → List ℕ
+directory_record heads tables lists entry = get_or heads entry [] ++ flat_map (λ table. list_place (lists table) entry) tables
 
-abbrev pub directory_records : (heads : List (List ℕ)) → (levels : List (List (List ℕ))) → List (List ℕ)
-directory_records heads levels = map (directory_record heads levels) (below (length heads))
+abbrev pub directory_records : (heads : List (List ℕ)) → (tables : List ℕ) → (lists : ℕ → List (List ℕ)) → List (List ℕ)
+directory_records heads tables lists = map (directory_record heads tables lists) (below (length heads))
 
--- a directory and level files have these entries with these lists
-pub record HoldsLists (page : ℕ → List ℕ) (directory : Run) (level_file : ℕ → Run) (heads : List (List ℕ)) (levels : List (List (List ℕ))) : Type 0 where
-  pub places : Stores page directory (directory_records heads levels)
-  pub lists :
-      (level : ℕ) → level < length levels → Stores page (level_file level) (list_records (get_or levels level []))
+-- a directory and level files have these entries, with these lists at the levels of these tables
+pub record HoldsLists (page : ℕ → List ℕ) (directory : Run) (level_file : ℕ → Run) (heads : List (List ℕ)) (tables : List ℕ) (lists : ℕ → List (List ℕ)) : Type 0 where
+  pub places : Stores page directory (directory_records heads tables lists)
+  pub levels :
+      (level : ℕ) → level < length tables
+      → Stores page (level_file level) (list_records (lists (slice_index tables level)))
 
 -- Climbing indexes. The cell of a hidden column in the row of its table that a row leads to
 abbrev pub cell_led_to : Schema → Hidden → (table column from identifier : ℕ) → List ℕ
@@ -136,11 +137,6 @@ pub record AreValues (cells values : List (List ℕ)) : Type 0 where
   pub only : (value : List ℕ) → Contains values value → Contains cells value
   pub all : (cell : List ℕ) → Contains cells cell → Contains values cell
 
--- the lists at all levels
-abbrev pub index_lists : Catalog → Hidden → (table column : ℕ) → (values : List (List ℕ)) → List (List (List ℕ))
-index_lists cat hidden table column values =
-    map (value_lists cat hidden table column values) (levels_of cat.schema table)
-
 pub record HoldsIndex (page : ℕ → List ℕ) (cat : Catalog) (hidden : Hidden) (table column : ℕ) : Type 0 where
   pub values : List (List ℕ)
   pub are_values : AreValues (hidden_cells cat.schema hidden table column) values
@@ -148,7 +144,7 @@ pub record HoldsIndex (page : ℕ → List ℕ) (cat : Catalog) (hidden : Hidden
   -- an entry for each value, at most as many as the directory has room for
   pub entries :
       HoldsLists page (record (index_directory cat table column) { count = length values }) (index_level cat table column)
-      values (index_lists cat hidden table column values)
+      values (levels_of cat.schema table) (value_lists cat hidden table column values)
 
 abbrev pub HoldsIndexes : (ℕ → List ℕ) → Catalog → Hidden → Type 0
 HoldsIndexes page cat hidden =
@@ -162,14 +158,11 @@ id_lists cat hidden table from =
     filter (λ other. is_table identifier (leads_to cat.schema hidden from other table)) (ids (count_of cat from)))
     (ids (count_of cat table))
 
-abbrev pub id_index_lists : Catalog → Hidden → (table : ℕ) → List (List (List ℕ))
-id_index_lists cat hidden table = map (id_lists cat hidden table) (above_of cat.schema table)
-
 abbrev pub HoldsIdIndexes : (ℕ → List ℕ) → Catalog → Hidden → Type 0
 HoldsIdIndexes page cat hidden =
     (table : ℕ) → table < length cat.schema → is_empty (above_of cat.schema table) ≡ false
     → HoldsLists page (id_directory cat table) (id_level cat table) (replicate (count_of cat table) [])
-    (id_index_lists cat hidden table)
+    (above_of cat.schema table) (id_lists cat hidden table)
 
 -- the static pages hold the hidden part
 pub record HoldsFiles (page : ℕ → List ℕ) (cat : Catalog) (hidden : Hidden) : Type 0 where

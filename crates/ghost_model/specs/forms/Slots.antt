@@ -2,7 +2,7 @@
 -- spells a value, an identifier of a row, a place within a level file. After the slot before it, it has to keep the order:
 -- values ascend in a directory, lists follow one another without a gap, identifiers ascend within a list; where an order
 -- is broken the later slot is the damaged one.
-use Rattle.std.specs.Prelude.{◌≡◌, ◌⊎◌, ℕ, zero, suc, ◌+◌, ◌*◌, ◌<◌, ⊤, Bool, true, false, not, ◌&&◌, ◌||◌, ◌==◌, nat_le, nat_lt, List, [], ◌∷◌, take, drop, length, slice_index, Option, Some, None, is_some, option_map, if◌then◌else◌}
+use Rattle.std.specs.Prelude.{◌≡◌, ◌⊎◌, ℕ, zero, suc, ◌+◌, ◌*◌, ◌<◌, ⊤, Bool, true, false, not, ◌&&◌, ◌||◌, ◌==◌, nat_le, nat_lt, min, List, [], ◌∷◌, take, drop, length, slice_index, Option, Some, None, is_some, option_map, if◌then◌else◌}
 use Rattle.std.specs.Cmp.Lexicographic.{slice_cmp}
 use Rattle.std.specs.Ordering.{nat_cmp, is_lt}
 use Rattle.ghost_model.specs.core.Schema.{Schema, Column, Kind, column_at, is_empty}
@@ -146,6 +146,17 @@ may_follow cat (IdLevel table level) before bytes = ascends before bytes
 abbrev pub in_slot : (ℕ → List ℕ) → Catalog → File → (place : ℕ) → List ℕ
 in_slot page cat file place = record_at page (run_of_file cat file) place
 
+-- how many slots of a file have a record: in the directory of a climbing index as many as its header says
+abbrev pub slots_in : (ℕ → List ℕ) → Catalog → File → ℕ
+slots_in page cat (Cells table column) = count_of cat table
+slots_in page cat (Subtrees table) = count_of cat table
+slots_in page cat (IndexHeader table column) = 1
+slots_in page cat (IndexDirectory table column) =
+    min (count_of cat table) (number_in (in_slot page cat (IndexHeader table column) 0) 0)
+slots_in page cat (IndexLevel table column level) = count_of cat (slice_index (levels_of cat.schema table) level)
+slots_in page cat (IdDirectory table) = count_of cat table
+slots_in page cat (IdLevel table level) = count_of cat (slice_index (above_of cat.schema table) level)
+
 -- the record before it, if it is not the first
 abbrev pub before_slot : (ℕ → List ℕ) → Catalog → File → (place : ℕ) → Option (List ℕ)
 before_slot page cat file zero = None
@@ -155,7 +166,7 @@ before_slot page cat file (suc place) = Some (in_slot page cat file place)
 -- bytes, after so many bytes for the cell and for the levels below
 pub record AreInOneList (page : ℕ → List ℕ) (cat : Catalog) (directory : File) (skipped place : ℕ) : Type 0 where
   pub entry : ℕ
-  pub there : entry < (run_of_file cat directory).count
+  pub there : entry < slots_in page cat directory
   pub after_first : first_listed (drop skipped (in_slot page cat directory entry)) < place
   pub before_end : place < list_end (drop skipped (in_slot page cat directory entry))
 
@@ -178,7 +189,7 @@ pub record IsOutOfOrder (page : ℕ → List ℕ) (cat : Catalog) (file : File) 
 -- a slot of a file that is damaged, by its page and its place in it, and what was found there
 pub record IsDamagedIn (cat : Catalog) (page : ℕ → List ℕ) (file : File) (place number slot found : ℕ) : Type 0 where
   pub has : has_file cat.schema file ≡ true
-  pub within : place < (run_of_file cat file).count
+  pub within : place < slots_in page cat file
   pub page_is : number ≡ page_of (run_of_file cat file) place
   pub slot_is : slot ≡ slot_of (run_of_file cat file) place
   pub damaged : (may_stand cat file (in_slot page cat file place) ≡ false) ⊎ IsOutOfOrder page cat file place

@@ -14,8 +14,8 @@ use Rattle.ghost_model.specs.core.Split.{Hidden, hidden_of, value_at}
 use Rattle.ghost_model.specs.core.Replies.{hidden_places, hidden_value}
 use Rattle.ghost_model.specs.forms.Runs.{number_cell, record_at}
 use Rattle.ghost_model.specs.laws.RunLaws.{AgreeOn}
-use Rattle.ghost_model.specs.forms.Layout.{below, is_hidden, width_at, count_of, public_pages, files_end, column_file, subtree_table, index_directory, id_directory}
-use Rattle.ghost_model.specs.forms.Flash.{GoesWith, HoldsCatalog, HoldsColumns, HoldsFilesSoFar, hidden_cells, leads_to, subtree_record, directory_record, index_lists, id_index_lists}
+use Rattle.ghost_model.specs.forms.Layout.{below, is_hidden, width_at, count_of, levels_of, above_of, public_pages, files_end, column_file, subtree_table, index_directory, id_directory}
+use Rattle.ghost_model.specs.forms.Flash.{GoesWith, HoldsCatalog, HoldsColumns, HoldsFilesSoFar, hidden_cells, leads_to, subtree_record, directory_record, value_lists, id_lists}
 
 -- how many hidden columns a table has before a column
 abbrev pub hidden_before : Schema → (table column : ℕ) → ℕ
@@ -97,10 +97,10 @@ pub record RecordsAreAsWide : Type 0 where
   pub directory :
       (cat : Catalog) (hidden : Hidden) (table column : ℕ) (values : List (List ℕ)) (entry : ℕ)
       → length (get_or values entry []) ≡ width_at cat.schema table column
-      → length (directory_record values (index_lists cat hidden table column values) entry)
+      → length (directory_record values (levels_of cat.schema table) (value_lists cat hidden table column values) entry)
       ≡ (index_directory cat table column).width
   pub id_directory :
       (cat : Catalog) (hidden : Hidden) (table entry : ℕ)
-      → length (directory_record (replicate (count_of cat table) []) (id_index_lists cat hidden table) entry)
+      → length (directory_record (replicate (count_of cat table) []) (above_of cat.schema table) (id_lists cat hidden table) entry)
       ≡ (id_directory cat table).width
   pub number : (number : ℕ) → length (number_cell number) ≡ 4

@@ -6,6 +6,12 @@ use Rattle.ghost_model.proofs.flash.order_of_slots.Goals as goal
 pub returns : goal.returns
 unfolding places_from ancestor number_in
 returns c = record {
+  countries_of_the_clinic = refl;
+  doctors_of_the_clinic = refl;
+  names_of_the_clinic = refl;
+  patients_of_the_clinic = refl;
+  purposes_of_the_clinic = refl;
+  doctors_of_visits = refl;
   any_country = refl;
   spain_first = refl;
   a_gap_at_the_beginning = refl;

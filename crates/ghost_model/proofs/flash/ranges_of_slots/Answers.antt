@@ -6,6 +6,9 @@ use Rattle.ghost_model.proofs.flash.ranges_of_slots.Goals as goal
 pub returns : goal.returns
 unfolding places_from ancestor number_in
 returns c = record {
+  files_of_the_layout = refl;
+  files_are_there = refl;
+  all_of_the_clinic = refl;
   a_country = refl;
   a_byte_after_the_text = refl;
   the_last_doctor = refl;

@@ -1,11 +1,11 @@
 use Rattle.std.proofs.Common.{◌≡◌, refl, ◌∙◌, ℕ, zero, suc, ◌+◌, ◌*◌, List, [], ◌∷◌, length, flat_map, replicate, get_or, unwrap_or, arith}
-use Rattle.std.proofs.lemmas.List.{length-append, length-map}
+use Rattle.std.proofs.lemmas.List.{length-append}
 use Rattle.ghost_model.specs.forms.Runs.{number_cell}
 use Rattle.ghost_model.specs.forms.Layout.{count_of, levels_of, above_of, descendants_of}
-use Rattle.ghost_model.specs.forms.Flash.{list_place, directory_record, value_lists, index_lists, id_lists, id_index_lists, leads_to}
+use Rattle.ghost_model.specs.forms.Flash.{list_place, directory_record, value_lists, id_lists, leads_to}
 use Rattle.ghost_model.proofs.flash.records_are_as_wide.Goals as goal
 
-joined : {X : Type 0} (f : X → List ℕ) (n : ℕ) → ((k : X) → length (f k) ≡ n) → (ks : List X) → length (flat_map f ks) ≡ n * length ks
+joined : (f : ℕ → List ℕ) (n : ℕ) → ((k : ℕ) → length (f k) ≡ n) → (ks : List ℕ) → length (flat_map f ks) ≡ n * length ks
 joined f n wide [] = omega arith
 joined f n wide (k ∷ ks) =
     let parts = length-append (f k) (flat_map f ks) in
@@ -14,11 +14,11 @@ joined f n wide (k ∷ ks) =
     omega (arith, parts, here, rest)
 
 -- a record of a directory has eight bytes for each level after the entry's own
-of_entry : (heads : List (List ℕ)) (levels : List (List (List ℕ))) (entry : ℕ) → length (directory_record heads levels entry) ≡ length (get_or heads entry []) + 8 * length levels
-of_entry heads levels entry =
-    let place = λ (lists : List (List ℕ)). list_place lists entry in
-    let parts = length-append (get_or heads entry []) (flat_map place levels) in
-    let places = joined place 8 (λ k. refl) levels in
+of_entry : (heads : List (List ℕ)) (tables : List ℕ) (lists : ℕ → List (List ℕ)) (entry : ℕ) → length (directory_record heads tables lists entry) ≡ length (get_or heads entry []) + 8 * length tables
+of_entry heads tables lists entry =
+    let place = λ (table : ℕ). list_place (lists table) entry in
+    let parts = length-append (get_or heads entry []) (flat_map place tables) in
+    let places = joined place 8 (λ k. refl) tables in
     parts ∙ omega (arith, places)
 
 nothing : List ℕ
@@ -35,13 +35,11 @@ unfolding nothing
 returns c = record {
   subtree = λ cat hidden table identifier. joined (λ to. number_cell (unwrap_or (leads_to cat.schema hidden table identifier to) 0)) 4 (λ k. refl) (descendants_of cat.schema table);
   directory = λ cat hidden table column values entry wide.
-      let width = of_entry values (index_lists cat hidden table column values) entry in
-      let levels = length-map (levels_of cat.schema table) (value_lists cat hidden table column values) in
-      omega (arith, wide, width, levels);
+      let width = of_entry values (levels_of cat.schema table) (value_lists cat hidden table column values) entry in
+      omega (arith, wide, width);
   id_directory = λ cat hidden table entry.
-      let width = of_entry (replicate (count_of cat table) []) (id_index_lists cat hidden table) entry in
+      let width = of_entry (replicate (count_of cat table) nothing) (above_of cat.schema table) (id_lists cat hidden table) entry in
       let none = no_bytes (count_of cat table) entry in
-      let levels = length-map (above_of cat.schema table) (id_lists cat hidden table) in
-      omega (arith, width, none, levels);
+      omega (arith, width, none);
   number = λ number. refl;
 }
