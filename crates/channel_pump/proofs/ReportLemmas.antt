@@ -318,7 +318,7 @@ sent_other catalog at asks journal p q outgoing move s before stage have lacking
       phase = ap is_over s.phase ∙ (sending.phase ∙ more);
       sent = sending.last;
       have = ap length sending.part ∙ sym have;
-      bytes_missing = ap (λ (part : List ℕ). next.verdict catalog l.heard.awaits part) sending.part ∙ ap (λ (k : ℕ). next.Lacking k) (sym lacking);
+      lacks = ap (λ (part : List ℕ). next.verdict catalog l.heard.awaits part) sending.part ∙ ap (λ (k : ℕ). next.Lacking k) (sym lacking);
     }))
 
 same_cause : (p q : Pump) (l : Standing) (e : channel.Entry) (cause : Cause) → Same p q → length (sent_by e.move) ≡ 0 → IsCause p l cause → IsCause q (goes_to l e l.heard) cause
