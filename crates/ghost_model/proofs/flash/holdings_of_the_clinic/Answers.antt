@@ -9,7 +9,7 @@ use Rattle.std.proofs.lemmas.Bool.Decides.{nat_tests}
 use Rattle.ghost_model.specs.core.Schema.{places_from, ancestor}
 use Rattle.ghost_model.specs.core.Database.{leads_within}
 use Rattle.ghost_model.specs.forms.Runs.{number_cell, record_at, records_in, Stores}
-use Rattle.ghost_model.specs.forms.Layout.{levels_of, above_of, is_hidden, column_file, subtree_table, index_header, index_directory, index_level, id_directory, id_level}
+use Rattle.ghost_model.specs.forms.Layout.{levels_of, above_of, is_hidden, column_file, subtree_table, index_header, index_directory, index_level, id_directory, id_level, first_page}
 use Rattle.ghost_model.specs.forms.Flash.{HoldsCatalog, HoldsColumns, HoldsSubtrees, HoldsIndex, HoldsIndexes, HoldsIdIndexes, AreValues, catalog_page, hidden_cells, subtree_record, ids, directory_records, value_lists, id_lists, list_records}
 use Rattle.ghost_model.specs.examples.Clinic.{clinic_schema, clinic_catalog}
 use Rattle.ghost_model.specs.examples.Flash.{hidden_clinic, countries, names, purposes, doctors, key, doctor_files, patient_files, visit_files, filled, clinic_page}
@@ -75,7 +75,7 @@ catalog place low =
     ap (λ b. if b then catalog_page clinic_catalog place else filled (concat (get_or (doctor_files ++ (patient_files ++ visit_files)) (place - 64) []))) below
 
 columns : HoldsColumns clinic_page clinic_catalog hidden_clinic
-unfolding places_from ancestor leads_within record_at IsStrictlySortedBy
+unfolding places_from ancestor leads_within record_at IsStrictlySortedBy first_page
 columns =
     of_hidden (λ table column. Stores clinic_page (column_file clinic_catalog table column) (hidden_cells clinic_schema hidden_clinic table column))
     (record { has = record { count = refl; each = thrice (λ i. record_at clinic_page (column_file clinic_catalog 0 2) i ≡ get_or (hidden_cells clinic_schema hidden_clinic 0 2) i []) refl refl refl }; rest = once (λ i. drop (records_in (column_file clinic_catalog 0 2) i * (column_file clinic_catalog 0 2).width) (clinic_page ((column_file clinic_catalog 0 2).first + i)) ≡ replicate (2048 - records_in (column_file clinic_catalog 0 2) i * (column_file clinic_catalog 0 2).width) 0xff) refl })
@@ -85,7 +85,7 @@ columns =
     (record { has = record { count = refl; each = four_times (λ i. record_at clinic_page (column_file clinic_catalog 2 4) i ≡ get_or (hidden_cells clinic_schema hidden_clinic 2 4) i []) refl refl refl refl }; rest = once (λ i. drop (records_in (column_file clinic_catalog 2 4) i * (column_file clinic_catalog 2 4).width) (clinic_page ((column_file clinic_catalog 2 4).first + i)) ≡ replicate (2048 - records_in (column_file clinic_catalog 2 4) i * (column_file clinic_catalog 2 4).width) 0xff) refl })
 
 subtrees : HoldsSubtrees clinic_page clinic_catalog hidden_clinic
-unfolding places_from ancestor leads_within record_at IsStrictlySortedBy
+unfolding places_from ancestor leads_within record_at IsStrictlySortedBy first_page
 subtrees zero low h = absurd (cc (h))
 subtrees (suc zero) low h = absurd (cc (h))
 subtrees (suc (suc zero)) low h =
@@ -96,7 +96,7 @@ patients : List (List ℕ)
 patients = key 1 ∷ key 2 ∷ []
 
 country_index : HoldsIndex clinic_page clinic_catalog hidden_clinic 0 2
-unfolding places_from ancestor leads_within record_at IsStrictlySortedBy patients
+unfolding places_from ancestor leads_within record_at IsStrictlySortedBy patients first_page
 country_index = record {
   values = countries;
   are_values = values_of (hidden_cells clinic_schema hidden_clinic 0 2) countries ((refl, tt), (tt, tt)) ((1, omega arith, refl), ((0, omega arith, refl), tt)) ((1, omega arith, refl), ((0, omega arith, refl), ((0, omega arith, refl), tt)));
@@ -110,7 +110,7 @@ country_index = record {
 }
 
 name_index : HoldsIndex clinic_page clinic_catalog hidden_clinic 1 2
-unfolding places_from ancestor leads_within record_at IsStrictlySortedBy patients
+unfolding places_from ancestor leads_within record_at IsStrictlySortedBy patients first_page
 name_index = record {
   values = names;
   are_values = values_of (hidden_cells clinic_schema hidden_clinic 1 2) names ((refl, tt), (tt, tt)) ((0, omega arith, refl), ((1, omega arith, refl), tt)) ((0, omega arith, refl), ((1, omega arith, refl), tt));
@@ -124,7 +124,7 @@ name_index = record {
 }
 
 purpose_index : HoldsIndex clinic_page clinic_catalog hidden_clinic 2 2
-unfolding places_from ancestor leads_within record_at IsStrictlySortedBy patients
+unfolding places_from ancestor leads_within record_at IsStrictlySortedBy patients first_page
 purpose_index = record {
   values = purposes;
   are_values = values_of (hidden_cells clinic_schema hidden_clinic 2 2) purposes ((refl, tt), (tt, tt)) ((1, omega arith, refl), ((0, omega arith, refl), tt)) ((1, omega arith, refl), ((0, omega arith, refl), ((1, omega arith, refl), ((1, omega arith, refl), tt))));
@@ -137,7 +137,7 @@ purpose_index = record {
 }
 
 doctor_index : HoldsIndex clinic_page clinic_catalog hidden_clinic 2 3
-unfolding places_from ancestor leads_within record_at IsStrictlySortedBy patients
+unfolding places_from ancestor leads_within record_at IsStrictlySortedBy patients first_page
 doctor_index = record {
   values = doctors;
   are_values = values_of (hidden_cells clinic_schema hidden_clinic 2 3) doctors ((refl, (refl, tt)), ((refl, tt), (tt, tt))) ((0, omega arith, refl), ((3, omega arith, refl), ((1, omega arith, refl), tt))) ((0, omega arith, refl), ((2, omega arith, refl), ((2, omega arith, refl), ((1, omega arith, refl), tt))));
@@ -150,7 +150,7 @@ doctor_index = record {
 }
 
 patient_index : HoldsIndex clinic_page clinic_catalog hidden_clinic 2 4
-unfolding places_from ancestor leads_within record_at IsStrictlySortedBy patients
+unfolding places_from ancestor leads_within record_at IsStrictlySortedBy patients first_page
 patient_index = record {
   values = patients;
   are_values = values_of (hidden_cells clinic_schema hidden_clinic 2 4) patients ((refl, tt), (tt, tt)) ((0, omega arith, refl), ((1, omega arith, refl), tt)) ((0, omega arith, refl), ((1, omega arith, refl), ((0, omega arith, refl), ((1, omega arith, refl), tt))));
@@ -166,7 +166,7 @@ indexes : HoldsIndexes clinic_page clinic_catalog hidden_clinic
 indexes = of_hidden (HoldsIndex clinic_page clinic_catalog hidden_clinic) country_index name_index purpose_index doctor_index patient_index
 
 id_indexes : HoldsIdIndexes clinic_page clinic_catalog hidden_clinic
-unfolding places_from ancestor leads_within record_at IsStrictlySortedBy
+unfolding places_from ancestor leads_within record_at IsStrictlySortedBy first_page
 id_indexes zero low h = record {
   places = record { has = record { count = refl; each = thrice (λ i. record_at clinic_page (id_directory clinic_catalog 0) i ≡ get_or (directory_records (replicate 3 []) (above_of clinic_schema 0) (id_lists clinic_catalog hidden_clinic 0)) i []) refl refl refl }; rest = once (λ i. drop (records_in (id_directory clinic_catalog 0) i * (id_directory clinic_catalog 0).width) (clinic_page ((id_directory clinic_catalog 0).first + i)) ≡ replicate (2048 - records_in (id_directory clinic_catalog 0) i * (id_directory clinic_catalog 0).width) 0xff) refl };
   levels = once (λ level. Stores clinic_page (id_level clinic_catalog 0 level) (list_records (id_lists clinic_catalog hidden_clinic 0 (slice_index (above_of clinic_schema 0) level))))
@@ -181,7 +181,7 @@ id_indexes (suc (suc zero)) low h = absurd (cc (h))
 id_indexes (suc (suc (suc table))) low h = absurd (omega (arith, low))
 
 pub returns : goal.returns
-unfolding places_from ancestor leads_within record_at digits
+unfolding places_from ancestor leads_within record_at digits first_page
 returns c = record {
   whole = record { catalog = catalog; files = record { columns = columns; subtrees = subtrees; indexes = indexes; id_indexes = id_indexes } };
   so_far = record { catalog = catalog; files = record { columns = columns } };

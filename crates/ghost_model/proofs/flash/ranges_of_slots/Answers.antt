@@ -1,10 +1,11 @@
 use Rattle.std.proofs.Common.{refl}
 use Rattle.ghost_model.specs.core.Schema.{places_from, ancestor}
+use Rattle.ghost_model.specs.forms.Layout.{first_page}
 use Rattle.ghost_model.specs.forms.Runs.{number_in}
 use Rattle.ghost_model.proofs.flash.ranges_of_slots.Goals as goal
 
 pub returns : goal.returns
-unfolding places_from ancestor number_in
+unfolding places_from ancestor number_in first_page
 returns c = record {
   files_of_the_layout = refl;
   files_are_there = refl;
