@@ -1,5 +1,5 @@
 -- What slots of the clinic's files may hold, and what they may not, kind by kind.
-use Rattle.std.specs.Prelude.{◌≡◌, Bool, true, false, List, [], ◌∷◌, ◌++◌, codes, ℕ, replicate, Option, Some, None, ◌&&◌, map, get_or}
+use Rattle.std.specs.Prelude.{◌≡◌, Bool, true, false, List, [], ◌∷◌, ◌++◌, codes, ℕ, replicate, Option, Some, None, ◌&&◌, map, get_or, filter, nat_lt}
 use Rattle.std.specs.List.{list_all}
 use Rattle.ghost_model.specs.forms.Layout.{static_files}
 use Rattle.ghost_model.specs.forms.Slots.{File, Cells, Subtrees, IndexHeader, IndexDirectory, IndexLevel, IdDirectory, IdLevel, run_of_file, has_file, may_stand, may_follow, IsDamagedSlot}
@@ -43,7 +43,8 @@ each_stands (_ ∷ _) [] = false
 each_stands (file ∷ files) (records ∷ later) = list_all (stands file) records && each_stands files later
 
 pub record RangesOfSlots : Type 0 where
-  pub files_of_the_layout : map (run_of_file clinic_catalog) clinic_files ≡ static_files clinic_catalog
+  pub files_of_the_layout :
+      map (run_of_file clinic_catalog) clinic_files ≡ filter (λ run. nat_lt 0 run.width) (static_files clinic_catalog)
   pub files_are_there : list_all (has_file clinic_schema) clinic_files ≡ true
   pub all_of_the_clinic : each_stands clinic_files (doctor_files ++ (patient_files ++ visit_files)) ≡ true
   pub a_country : stands country (codes "FR") ≡ true
