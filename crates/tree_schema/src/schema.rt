@@ -3,7 +3,6 @@
 ghost use Rattle.std.specs.Prelude.{◌≡◌, ℕ, ◌<◌, ◌≤◌, not, length, slice_get, option_map, position};
 ghost use Rattle.std.specs.List.{list_any};
 ghost use Rattle.ghost_model.specs.core.Schema as schema;
-ghost use Rattle.ghost_model.specs.refusals.SchemaFaults as faults;
 ghost use Rattle.tree_schema.specs.Views.{column_of, table_of, schema_of};
 ghost use Rattle.tree_schema.specs.Schemas as schemas;
 ghost use Rattle.tree_schema.specs.Schemas.{DeclaredSchemasAreTrees};
@@ -183,7 +182,7 @@ impl Schema {
     /// steps, and the way ends where there is none.
     pub fn path_to_root(&self, table: usize) -> ArrayVec<usize, MAX_TABLES>
         requires { table < length self.now }
-        ensures { (steps : ℕ) → slice_get result.items steps ≡ faults.ancestor self.now steps table }
+        ensures { (steps : ℕ) → slice_get result.items steps ≡ schema.ancestor self.now steps table }
     {
         let _ = self.tables();
         schemas_are_trees();
