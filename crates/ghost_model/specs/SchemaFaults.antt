@@ -1,7 +1,7 @@
 -- Why a text means no schema. There are eight rules, tested in their order: the fault of a text is of the first rule
 -- that it breaks, and of one rule it is the first place in text order. The first rule is the grammar; the others speak
 -- of the tree that the text spells. A text that breaks none means the schema of its tree.
-use Rattle.std.specs.Prelude.{◌≡◌, ◌≢◌, ◌⊎◌, ◌↔◌, ℕ, zero, suc, ◌+◌, ◌<◌, nat_lt, nat_le, Bool, true, false, not, ◌&&◌, ◌||◌, ◌==◌, List, [], ◌∷◌, ◌++◌, length, map, take, find, sum_by, count_by, slice_get, codes, bytes_eq, Option, Some, None, is_none, option_map, option_and_then, Result, Ok, Err, if◌then◌else◌}
+use Rattle.std.specs.Prelude.{◌≡◌, ◌≢◌, ◌⊎◌, ◌↔◌, ℕ, zero, suc, ◌+◌, ◌<◌, nat_lt, Bool, true, false, not, ◌&&◌, ◌||◌, ◌==◌, List, [], ◌∷◌, ◌++◌, length, map, take, find, sum_by, count_by, slice_get, codes, bytes_eq, Option, Some, None, is_none, option_map, option_and_then, Result, Ok, Err, if◌then◌else◌}
 use Rattle.std.specs.List.{list_any}
 use Rattle.ghost_model.specs.Tokens.{is_between, number_of}
 use Rattle.ghost_model.specs.Query.{Field}
@@ -11,9 +11,9 @@ use Rattle.ghost_model.specs.SchemaGrammar.{To, ColumnText, CharColumn, IntegerC
 use Rattle.ghost_model.specs.SchemaPlaces.{syntax_of}
 use Rattle.ghost_model.specs.SchemaMeaning.{table_named, columns_written, schema_of}
 
--- a schema's text has at most so many bytes; a longer one is not read
-abbrev pub has_few_bytes : List ℕ → Bool
-has_few_bytes text = nat_le (length text) 65536
+-- the bytes of a schema's text, at most; a longer one is not read
+abbrev pub most_schema_bytes : ℕ
+most_schema_bytes = 65536
 
 -- tables and columns by their places. The fault of a table's name has column 0
 pub data SchemaFault : Type 0 where

@@ -1,7 +1,7 @@
 -- The texts of a script, which is any list of bytes. The script is cut at each `;` that has an even number of `'`
 -- before it, counted from the script's start. A part of white space alone is no text; each other part is one as it
 -- stands, its white space included. Texts are numbered from 1.
-use Rattle.std.specs.Prelude.{◌≡◌, ℕ, zero, suc, ◌%◌, Bool, true, not, ◌&&◌, ◌==◌, nat_le, List, [], ◌∷◌, ◌++◌, length, filter, count_by, if◌then◌else◌, Option, None, slice_get}
+use Rattle.std.specs.Prelude.{◌≡◌, ℕ, ◌%◌, Bool, true, not, ◌&&◌, ◌==◌, List, [], ◌∷◌, ◌++◌, filter, count_by, if◌then◌else◌}
 use Rattle.std.specs.List.{list_all}
 use Rattle.ghost_model.specs.Tokens.{is_space}
 
@@ -27,17 +27,12 @@ is_blank part = list_all is_space part
 abbrev pub texts_of : List ℕ → List (List ℕ)
 texts_of script = filter (λ part. not (is_blank part)) (parts_of script)
 
--- the text with a number, where the script has so many
-abbrev pub text_at : List ℕ → ℕ → Option (List ℕ)
-text_at script zero = None
-text_at script (suc earlier) = slice_get (texts_of script) earlier
+-- the limits of a script: its bytes and its texts, at most
+abbrev pub most_script_bytes : ℕ
+most_script_bytes = 65536
 
--- a script's limits: its bytes and its texts
-abbrev pub has_few_bytes : List ℕ → Bool
-has_few_bytes script = nat_le (length script) 65536
-
-abbrev pub has_few_texts : List ℕ → Bool
-has_few_texts script = nat_le (length (texts_of script)) 64
+abbrev pub most_texts : ℕ
+most_texts = 64
 
 -- how many `'` there are
 abbrev pub quotes : List ℕ → ℕ

@@ -1,8 +1,8 @@
 -- Telling texts and their tokens, and telling scripts and their texts.
-use Rattle.std.specs.Prelude.{◌≡◌, true, false, [], ◌∷◌, ◌++◌, codes, Some, None, replicate, flat_map}
+use Rattle.std.specs.Prelude.{◌≡◌, ℕ, true, false, List, [], ◌∷◌, ◌++◌, codes, Some, None, length, nat_le, replicate, flat_map}
 use Rattle.ghost_model.specs.Tokens.{Word, Reserved, Name, Digits, Quoted, Open, Closing, Comma, Point, Semicolon, Star, Plus, Minus, Equal, Unequal, Less, AtMost, More, AtLeast, Bad, End, Select, And, Integer, Table, symbols, offset_of}
 use Rattle.ghost_model.specs.Spelled.{text_of}
-use Rattle.ghost_model.specs.Texts.{texts_of, text_at, has_few_bytes, has_few_texts}
+use Rattle.ghost_model.specs.Texts.{texts_of, most_script_bytes, most_texts}
 
 pub record TokensOfTexts : Type 0 where
   pub no_bytes : symbols [] ≡ End ∷ []
@@ -48,6 +48,13 @@ pub record TextsOfSymbols : Type 0 where
   pub words_and_signs : text_of (Word Select ∷ Name (codes "age") ∷ Less ∷ Equal ∷ Digits (codes "5") ∷ []) ≡ codes "SELECT age < = 5 "
   pub a_literal : text_of (Quoted (codes "it's") ∷ Reserved ∷ Bad ∷ []) ≡ codes "'it''s' NULL ? "
 
+-- so many spaces, and so many texts of one letter
+abbrev pub spaces : ℕ → List ℕ
+spaces count = replicate count 32
+
+abbrev pub short_texts : ℕ → List ℕ
+short_texts count = flat_map (λ letter. letter ∷ 59 ∷ []) (replicate count 97)
+
 pub record TextsOfScripts : Type 0 where
   pub no_bytes : texts_of [] ≡ []
   pub one_without_a_semicolon : texts_of (codes "SELECT a") ≡ codes "SELECT a" ∷ []
@@ -60,11 +67,7 @@ pub record TextsOfScripts : Type 0 where
   pub one_odd_quote_joins_all : texts_of (codes "SELECT don't; SELECT id FROM doctor;") ≡ codes "SELECT don't; SELECT id FROM doctor;" ∷ []
   pub quotes_count_over_the_whole_script : texts_of (codes "a';b';c'd;e") ≡ codes "a';b'" ∷ codes "c'd;e" ∷ []
   pub a_bad_byte_in_a_literal_changes_nothing : texts_of (codes "'a;" ++ (10 ∷ codes "';b")) ≡ (codes "'a;" ++ (10 ∷ codes "'")) ∷ codes "b" ∷ []
-  pub the_first : text_at (codes ";a;b") 1 ≡ Some (codes "a")
-  pub the_second : text_at (codes ";a;b") 2 ≡ Some (codes "b")
-  pub none_before_the_first : text_at (codes ";a;b") 0 ≡ None
-  pub none_after_the_last : text_at (codes ";a;b") 3 ≡ None
-  pub bytes_within : has_few_bytes (replicate 65536 32) ≡ true
-  pub one_byte_over : has_few_bytes (replicate 65537 32) ≡ false
-  pub texts_within : has_few_texts (flat_map (λ byte. byte ∷ 59 ∷ []) (replicate 64 97)) ≡ true
-  pub one_text_over : has_few_texts (flat_map (λ byte. byte ∷ 59 ∷ []) (replicate 65 97)) ≡ false
+  pub bytes_within : nat_le (length (spaces 65536)) most_script_bytes ≡ true
+  pub one_byte_over : nat_le (length (spaces 65537)) most_script_bytes ≡ false
+  pub texts_within : nat_le (length (texts_of (short_texts 64))) most_texts ≡ true
+  pub one_text_over : nat_le (length (texts_of (short_texts 65))) most_texts ≡ false
