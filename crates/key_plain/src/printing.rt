@@ -6,10 +6,9 @@ ghost use Rattle.ghost_model.specs.Causes.{HasCause};
 ghost use Rattle.ghost_model.specs.Database.{IsDatabase};
 ghost use Rattle.ghost_model.specs.LoadFaults.{most_rows};
 ghost use Rattle.ghost_model.specs.Printed.{row_line, lines_of_text, printed};
-ghost use Rattle.ghost_model.specs.Texts.{texts_of};
+ghost use Rattle.ghost_model.specs.Texts.{most_texts, texts_of};
 ghost use Rattle.edge_traits.specs.Written.{grown, GrowsByFront};
 ghost use Rattle.key_lines.specs.Handing.{Hands, handed};
-ghost use Rattle.key_inputs.specs.Scripts.{most_texts};
 
 use csv_split::Tables;
 use edge_traits::Failed;
