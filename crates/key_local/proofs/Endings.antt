@@ -116,8 +116,10 @@ unmade told schema database texts words catalog hidden before after failure.NoMe
 unmade told schema database texts words catalog hidden before after failure.Depot same is of few = absurd of
 unmade told schema database texts words catalog hidden before after (failure.Input broken) same is of few = of
 unmade told schema database texts words catalog hidden before after failure.Flash same is of few =
-    record { few_calls = subst (λ (part : Hidden). after.device.calls ≤ before.device.calls + pages_built (catalog_for schema database) part) is
-        (subst (λ (c : Catalog). after.device.calls ≤ before.device.calls + pages_built c hidden) same few) }
+    record {
+      few_calls = subst (λ (part : Hidden). after.device.calls ≤ before.device.calls + pages_built (catalog_for schema database) part) is
+          (subst (λ (c : Catalog). after.device.calls ≤ before.device.calls + pages_built c hidden) same few);
+    }
 
 abbrev inputs_of : Opened → (files : List (List ℕ)) → PlainInput
 inputs_of opened files = record { schema = opened.tables.schema; files = files; script = opened.script.items }
