@@ -4,7 +4,7 @@
 use Rattle.std.specs.Prelude.{ℕ, ◌+◌, nat_le, List, [], ◌∷◌, ◌++◌, length, codes, Option, Some, None, Result, Ok, Err, if◌then◌else◌}
 use Rattle.std.specs.FinMap as map
 use Rattle.ghost_model.specs.core.Schema.{Schema, Table}
-use Rattle.ghost_model.specs.refusals.SchemaFaults.{SchemaFault}
+use Rattle.ghost_model.specs.refusals.SchemaFaults.{SchemaFault, most_schema_bytes}
 use Rattle.ghost_model.specs.readings.SchemaReading.{schema_reading}
 use Rattle.ghost_model.specs.refusals.LoadFaults.{LoadFault, file_faults, reference_faults}
 use Rattle.ghost_model.specs.core.Database.{database_of}
@@ -29,18 +29,15 @@ pub record TablesInput : Type 0 where
   pub schema : Schema
   pub files : List (List ℕ)
 
--- the bytes of a schema's or a script's file, at most
-abbrev pub most_text : ℕ
-most_text = 65536
-
 -- the file of a table's rows, in the folder of the tables
 abbrev pub table_file : (folder table : List ℕ) → List ℕ
 table_file folder table = folder ++ (codes "/" ++ (table ++ codes ".csv"))
 
 module _ {X : Type 0} where
-  abbrev pub on_text : InputFault → (List ℕ → Opening X) → Option (List ℕ) → Opening X
-  on_text too_long next None = Missing
-  on_text too_long next (Some bytes) = if nat_le (length bytes) most_text then next bytes else Broken too_long
+  -- a file that may have so many bytes at most
+  abbrev pub on_text : (most : ℕ) → InputFault → (List ℕ → Opening X) → Option (List ℕ) → Opening X
+  on_text most too_long next None = Missing
+  on_text most too_long next (Some bytes) = if nat_le (length bytes) most then next bytes else Broken too_long
 
   abbrev pub unless_broken : Opening X → List LoadFault → Opening X
   unless_broken next [] = next
@@ -69,4 +66,4 @@ on_schema files folder (Ok schema) = tables_from files folder schema 0 schema []
 -- what the file of a schema and the files of its tables spell
 abbrev pub tables_opening : Files → (schema folder : List ℕ) → Opening TablesInput
 tables_opening files schema folder =
-    on_text SchemaBytes (λ text. on_schema files folder (schema_reading text)) (map.get files schema)
+    on_text most_schema_bytes SchemaBytes (λ text. on_schema files folder (schema_reading text)) (map.get files schema)

@@ -3,11 +3,10 @@
 ghost use Rattle.std.specs.Prelude.{◌≡◌, ◌≤◌, Some, Err, IfOk, IfErr, length};
 ghost use Rattle.ghost_model.specs.core.Causes.{Rose};
 ghost use Rattle.ghost_model.specs.core.Database as database;
-ghost use Rattle.ghost_model.specs.core.Texts.{texts_of};
+ghost use Rattle.ghost_model.specs.core.Texts.{most_texts, texts_of};
 ghost use Rattle.edge_traits.specs.Files.{Files, AreSure};
 ghost use Rattle.key_words.specs.Views.{local_view};
 ghost use Rattle.key_inputs.specs.Openings.{Missing};
-ghost use Rattle.key_inputs.specs.Scripts.{most_texts};
 ghost use Rattle.key_inputs.specs.Views.{Tells};
 ghost use Rattle.key_local.specs.Openings.{local_opening};
 ghost use Rattle.key_local.specs.Reading.{AreSpelled};

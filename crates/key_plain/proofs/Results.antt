@@ -3,10 +3,8 @@ use Rattle.std.proofs.Common.{◌≡◌, ℕ, ◌≤◌, true, false, List, leng
 use Rattle.std.specs.Prelude.{is_err}
 use Rattle.ghost_model.specs.core.Database.{IsDatabase}
 use Rattle.ghost_model.specs.core.Printed.{printed}
-use Rattle.ghost_model.specs.core.Texts.{texts_of}
+use Rattle.ghost_model.specs.core.Texts.{most_script_bytes, most_texts, texts_of}
 use Rattle.edge_traits.specs.Written.{grown, GrowsByFront}
-use Rattle.key_inputs.specs.Openings.{most_text}
-use Rattle.key_inputs.specs.Scripts.{most_texts}
 use Rattle.key_plain.specs.declared.opening.Opened.{Opened}
 use Rattle.key_plain.specs.Views.{PlainRead, PrintsRead, PrintsReadFront}
 
@@ -19,7 +17,7 @@ module _ {T E : Type 0} where
   ok_of (Ok value) P h holds = holds
   ok_of (Err error) P h holds = cc h
 
-abbrev read_of : (opened : Opened) → IsDatabase opened.tables.schema opened.tables.tables → length opened.script.items ≤ most_text
+abbrev read_of : (opened : Opened) → IsDatabase opened.tables.schema opened.tables.tables → length opened.script.items ≤ most_script_bytes
     → length (texts_of opened.script.items) ≤ most_texts → PlainRead
 read_of opened are short few = record {
   schema = opened.tables.schema;
@@ -30,7 +28,7 @@ read_of opened are short few = record {
   few = few;
 }
 
-pub prints_front : {T E : Type 0} (opened : Opened) → IsDatabase opened.tables.schema opened.tables.tables → length opened.script.items ≤ most_text
+pub prints_front : {T E : Type 0} (opened : Opened) → IsDatabase opened.tables.schema opened.tables.tables → length opened.script.items ≤ most_script_bytes
     → length (texts_of opened.script.items) ≤ most_texts → (script : List ℕ) → script ≡ opened.script.items → (before after : Option (List ℕ))
     → (result : Result T E) → is_err result ≡ true
     → OnErr result (GrowsByFront before (printed opened.tables.schema (texts_of script) opened.tables.tables) after) → PrintsReadFront before after
@@ -40,7 +38,7 @@ prints_front opened are short few script same before after result failed h = rec
       (err_of result (GrowsByFront before (printed opened.tables.schema (texts_of script) opened.tables.tables) after) failed h);
 }
 
-pub prints_read : {T E : Type 0} (opened : Opened) → IsDatabase opened.tables.schema opened.tables.tables → length opened.script.items ≤ most_text
+pub prints_read : {T E : Type 0} (opened : Opened) → IsDatabase opened.tables.schema opened.tables.tables → length opened.script.items ≤ most_script_bytes
     → length (texts_of opened.script.items) ≤ most_texts → (script : List ℕ) → script ≡ opened.script.items → (before after : Option (List ℕ))
     → (result : Result T E) → is_err result ≡ false
     → OnOk result (after ≡ grown before (printed opened.tables.schema (texts_of script) opened.tables.tables)) → PrintsRead before after

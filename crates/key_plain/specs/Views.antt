@@ -4,10 +4,9 @@ use Rattle.ghost_model.specs.core.Schema.{Schema}
 use Rattle.ghost_model.specs.core.Values.{Database}
 use Rattle.ghost_model.specs.core.Database.{database_of, IsDatabase}
 use Rattle.ghost_model.specs.core.Printed.{printed}
-use Rattle.ghost_model.specs.core.Texts.{texts_of}
+use Rattle.ghost_model.specs.core.Texts.{most_script_bytes, most_texts, texts_of}
 use Rattle.edge_traits.specs.Written.{grown, GrowsByFront}
-use Rattle.key_inputs.specs.Openings.{Opening, Spelled, Broken, most_text}
-use Rattle.key_inputs.specs.Scripts.{most_texts}
+use Rattle.key_inputs.specs.Openings.{Opening, Spelled, Broken}
 use Rattle.key_inputs.specs.Views.{rule_of}
 use Rattle.key_plain.specs.Openings.{PlainInput, printed_by}
 use Rattle.key_plain.specs.declared.faults.PlainFault.{PlainFault}
@@ -45,7 +44,7 @@ pub record PlainRead : Type 0 where
   pub database : Database
   pub script : List ℕ
   pub are : IsDatabase schema database
-  pub short : length script ≤ most_text
+  pub short : length script ≤ most_script_bytes
   pub few : length (texts_of script) ≤ most_texts
 
 abbrev pub printed_of : PlainRead → List ℕ

@@ -3,11 +3,10 @@
 ghost use Rattle.std.specs.Prelude.{◌≡◌, ◌≤◌, ℕ, List, Some, Err, IfOk, IfErr, length};
 ghost use Rattle.ghost_model.specs.core.Causes.{Rose};
 ghost use Rattle.ghost_model.specs.core.Database as database;
-ghost use Rattle.ghost_model.specs.core.Texts.{texts_of};
+ghost use Rattle.ghost_model.specs.core.Texts.{most_script_bytes, most_texts, texts_of};
 ghost use Rattle.edge_traits.specs.Files.{Files, AreSure};
 ghost use Rattle.key_words.specs.Views.{plain_view};
-ghost use Rattle.key_inputs.specs.Openings.{Missing, most_text};
-ghost use Rattle.key_inputs.specs.Scripts.{most_texts};
+ghost use Rattle.key_inputs.specs.Openings.{Missing};
 ghost use Rattle.key_inputs.specs.Views.{Tells};
 ghost use Rattle.key_plain.specs.Openings.{plain_opening};
 ghost use Rattle.key_plain.specs.Views.{AreSpelled};
@@ -33,7 +32,7 @@ pub(crate) fn open<D: Depot>(
     ensures spelled { (files : Files) → D.contents depot.old ≡ Some files → IfOk result (λ opened. AreSpelled (plain_opening files (plain_view words.now)) opened) }
     ensures told { (files : Files) → D.contents depot.old ≡ Some files → IfErr result (λ fault. Tells (plain_opening files (plain_view words.now)) fault) }
     ensures database { IfOk result (λ opened. database.IsDatabase opened.tables.schema opened.tables.tables) }
-    ensures short { IfOk result (λ opened. length opened.script.items ≤ most_text) }
+    ensures short { IfOk result (λ opened. length opened.script.items ≤ most_script_bytes) }
     ensures few { IfOk result (λ opened. length (texts_of opened.script.items) ≤ most_texts) }
     ensures never_falls { D.faults depot.old ≤ D.faults depot.new }
     ensures failed { result ≡ Err OpenFault.Depot → Rose (D.faults depot.old) (D.faults depot.new) }

@@ -1,11 +1,11 @@
 -- What a session is opened over: a script, a catalog whose pages the flash has, and stores for the replies.
 use Rattle.std.specs.Prelude.{◌≡◌, ℕ, ◌≤◌, Bool, true, List, length, Option, Some}
-use Rattle.ghost_model.specs.core.Texts.{texts_of}
+use Rattle.ghost_model.specs.core.Texts.{most_texts, texts_of}
 use Rattle.edge_traits.specs.Devices.{Device}
 use Rattle.edge_traits.specs.Files.{Files}
 use Rattle.key_words.specs.Words.{Query}
 use Rattle.key_inputs.specs.Openings.{Spelled}
-use Rattle.key_inputs.specs.Scripts.{most_texts, script_opening}
+use Rattle.key_inputs.specs.Scripts.{script_opening}
 use Rattle.session_replies.specs.Kept.{IsKept, none_heard}
 use Rattle.key_exec.specs.Plans.{Suffices}
 use Rattle.key_query.specs.PublicPages.{HasCatalog}
