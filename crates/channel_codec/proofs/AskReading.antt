@@ -6,12 +6,15 @@ use Rattle.std.specs.List.{list_all}
 use Rattle.std.specs.Cmp.{first_so, second_so}
 use Rattle.std.proofs.lemmas.Option.{slice_get_within}
 use Rattle.std.proofs.Math.Seq.{drop-append_seam}
-use Rattle.ghost_model.specs.Schema.{Schema, Column, Kind, columns_of, column_at, is_visible, is_shown}
-use Rattle.ghost_model.specs.Values.{Value}
-use Rattle.ghost_model.specs.Query.{Operator}
-use Rattle.ghost_model.specs.Channel as channel
-use Rattle.ghost_model.specs.Cells.{cell_width, decode_cell}
-use Rattle.ghost_model.specs.Asks as asks
+use Rattle.ghost_model.specs.core.Schema.{Schema, Column, Kind, columns_of, column_at, is_visible, is_shown}
+use Rattle.ghost_model.specs.core.Values.{Value}
+use Rattle.ghost_model.specs.core.Query.{Operator}
+use Rattle.ghost_model.specs.core.Channel as channel
+use Rattle.ghost_model.specs.forms.Cells.{cell_width}
+use Rattle.ghost_model.specs.readings.CellReading.{decode_cell}
+use Rattle.ghost_model.specs.core.Asks as asks
+use Rattle.ghost_model.specs.readings.AskReading as reading
+use Rattle.ghost_model.specs.laws.ChannelLaws as laws
 use Rattle.ghost_base.specs.Views as base
 use Rattle.channel_codec.specs.declared.ask.Test.{Test}
 use Rattle.channel_codec.specs.AskViews.{test_view, test_in, test_width}
@@ -21,49 +24,49 @@ test_with column operator value = record { column = column; operator = operator;
 
 -- a condition that was read is the one that the bytes may spell
 pub test_read : (schema : Schema) (table : ℕ) (rest : List ℕ) (test : Test) (column code width : ℕ) (kind : Kind) (cell : List ℕ)
-    → test.column ≡ column → column ≡ slice_index rest 0 → base.operator_of test.operator ≡ asks.operator_of code → code ≡ slice_index rest 1
+    → test.column ≡ column → column ≡ slice_index rest 0 → base.operator_of test.operator ≡ reading.operator_of code → code ≡ slice_index rest 1
     → kind ≡ asks.kind_at schema table column → width ≡ cell_width kind → cell ≡ take width (drop 2 rest)
-    → base.value_of test.value ≡ asks.value_or_none (decode_cell kind cell)
+    → base.value_of test.value ≡ reading.value_or_none (decode_cell kind cell)
     → test_view test ≡ test_in schema table rest
 test_read schema table rest test column code width kind cell a b c d e f g h =
     let at_column : test.column ≡ slice_index rest 0 = a ∙ b in
     let of_kind : kind ≡ asks.kind_at schema table (slice_index rest 0) = e ∙ ap (asks.kind_at schema table) b in
     let bytes : cell ≡ take (test_width schema table rest) (drop 2 rest) = g ∙ ap (λ (n : ℕ). take n (drop 2 rest)) (f ∙ ap cell_width of_kind) in
     ap (λ (n : ℕ). test_with n (base.operator_of test.operator) (base.value_of test.value)) at_column
-    ∙ (ap (λ (o : Operator). test_with (slice_index rest 0) o (base.value_of test.value)) (c ∙ ap asks.operator_of d)
-    ∙ ap (λ (v : Value). test_with (slice_index rest 0) (asks.operator_of (slice_index rest 1)) v)
-    (h ∙ (ap (λ (k : Kind). asks.value_or_none (decode_cell k cell)) of_kind
-    ∙ ap (λ (bs : List ℕ). asks.value_or_none (decode_cell (asks.kind_at schema table (slice_index rest 0)) bs)) bytes)))
+    ∙ (ap (λ (o : Operator). test_with (slice_index rest 0) o (base.value_of test.value)) (c ∙ ap reading.operator_of d)
+    ∙ ap (λ (v : Value). test_with (slice_index rest 0) (reading.operator_of (slice_index rest 1)) v)
+    (h ∙ (ap (λ (k : Kind). reading.value_or_none (decode_cell k cell)) of_kind
+    ∙ ap (λ (bs : List ℕ). reading.value_or_none (decode_cell (asks.kind_at schema table (slice_index rest 0)) bs)) bytes)))
 
-no_tests : (schema : Schema) (table : ℕ) (rest : List ℕ) → asks.tests_in schema table 0 rest ≡ []
-unfolding asks.tests_in
+no_tests : (schema : Schema) (table : ℕ) (rest : List ℕ) → reading.tests_in schema table 0 rest ≡ []
+unfolding reading.tests_in
 no_tests schema table rest = refl
 
 -- all conditions were read
 pub all_read : (schema : Schema) (table left : ℕ) (rest : List ℕ) (tests : List Test) (all : List channel.Test) → left ≡ 0
-    → map test_view tests ++ asks.tests_in schema table left rest ≡ all → map test_view tests ≡ all
+    → map test_view tests ++ reading.tests_in schema table left rest ≡ all → map test_view tests ≡ all
 all_read schema table left rest tests all h told =
-    sym (ap (λ (xs : List channel.Test). map test_view tests ++ xs) (ap (λ (n : ℕ). asks.tests_in schema table n rest) h ∙ no_tests schema table rest) ∙ append-nil (map test_view tests)) ∙ told
+    sym (ap (λ (xs : List channel.Test). map test_view tests ++ xs) (ap (λ (n : ℕ). reading.tests_in schema table n rest) h ∙ no_tests schema table rest) ∙ append-nil (map test_view tests)) ∙ told
 
 tests_more : (schema : Schema) (table left : ℕ) (rest : List ℕ) → 0 < left
-    → asks.tests_in schema table left rest ≡ test_in schema table rest ∷ asks.tests_in schema table (left - 1) (drop (2 + test_width schema table rest) rest)
-unfolding asks.tests_in
+    → reading.tests_in schema table left rest ≡ test_in schema table rest ∷ reading.tests_in schema table (left - 1) (drop (2 + test_width schema table rest) rest)
+unfolding reading.tests_in
 tests_more schema table zero rest h = absurd (omega (arith, h))
 tests_more schema table (suc left) rest h =
     let e : suc left - 1 ≡ left = omega arith in
-    ap (λ (n : ℕ). test_in schema table rest ∷ asks.tests_in schema table n (drop (2 + test_width schema table rest) rest)) (sym e)
+    ap (λ (n : ℕ). test_in schema table rest ∷ reading.tests_in schema table n (drop (2 + test_width schema table rest) rest)) (sym e)
 
 -- one more condition was read
 pub more_read : (schema : Schema) (table left : ℕ) (rest later : List ℕ) (tests new : List Test) (test : Test) (all : List channel.Test)
     → 0 < left → new ≡ tests ++ test ∷ [] → test_view test ≡ test_in schema table rest → later ≡ drop (2 + test_width schema table rest) rest
-    → map test_view tests ++ asks.tests_in schema table left rest ≡ all
-    → map test_view new ++ asks.tests_in schema table (left - 1) later ≡ all
+    → map test_view tests ++ reading.tests_in schema table left rest ≡ all
+    → map test_view new ++ reading.tests_in schema table (left - 1) later ≡ all
 more_read schema table left rest later tests new test all h e t l told =
-    ap (λ (xs : List Test). map test_view xs ++ asks.tests_in schema table (left - 1) later) e
-    ∙ (ap (λ (xs : List channel.Test). xs ++ asks.tests_in schema table (left - 1) later) (map-append test_view tests (test ∷ []))
-    ∙ (append_assoc (map test_view tests) (test_view test ∷ []) (asks.tests_in schema table (left - 1) later)
-    ∙ (ap (λ (x : channel.Test). map test_view tests ++ x ∷ asks.tests_in schema table (left - 1) later) t
-    ∙ (ap (λ (bs : List ℕ). map test_view tests ++ test_in schema table rest ∷ asks.tests_in schema table (left - 1) bs) l
+    ap (λ (xs : List Test). map test_view xs ++ reading.tests_in schema table (left - 1) later) e
+    ∙ (ap (λ (xs : List channel.Test). xs ++ reading.tests_in schema table (left - 1) later) (map-append test_view tests (test ∷ []))
+    ∙ (append_assoc (map test_view tests) (test_view test ∷ []) (reading.tests_in schema table (left - 1) later)
+    ∙ (ap (λ (x : channel.Test). map test_view tests ++ x ∷ reading.tests_in schema table (left - 1) later) t
+    ∙ (ap (λ (bs : List ℕ). map test_view tests ++ test_in schema table rest ∷ reading.tests_in schema table (left - 1) bs) l
     ∙ (ap (λ (xs : List channel.Test). map test_view tests ++ xs) (sym (tests_more schema table left rest h)) ∙ told)))))
 
 -- ---- bytes that spell no ask
@@ -101,10 +104,10 @@ none_if : (o : Option channel.Ask) → ((ask : channel.Ask) → o ≡ Some ask �
 none_if None h = refl
 none_if (Some ask) h = absurd (h ask refl)
 
-pub no_ask_of_columns : (schema : Schema) (payload : List ℕ) → ((table : ℕ) → length (columns_of schema table) ≤ 24) → asks.AsksHaveOneSpelling
-    → 24 < slice_index payload 1 → asks.ask_in schema payload ≡ None
+pub no_ask_of_columns : (schema : Schema) (payload : List ℕ) → ((table : ℕ) → length (columns_of schema table) ≤ 24) → laws.AsksHaveOneSpelling
+    → 24 < slice_index payload 1 → reading.ask_in schema payload ≡ None
 no_ask_of_columns schema payload narrow law h =
-    none_if (asks.ask_in schema payload) (λ ask e.
+    none_if (reading.ask_in schema payload) (λ ask e.
     (let short = few schema ask narrow (law.read_is_proper schema payload ask e) in
     let count : length ask.columns ≡ slice_index payload 1 = ap (λ (bs : List ℕ). slice_index bs 1) (law.read_is_spelled schema payload ask e) in
     omega (arith, h, count, short.columns)))
@@ -115,10 +118,10 @@ at_tests schema ask =
     ap (λ (n : ℕ). slice_index (drop n (asks.ask_payload schema ask)) 0) two
     ∙ ap (λ (bs : List ℕ). slice_index bs 0) (drop-append_seam ask.columns (length ask.tests ∷ flat_map (asks.test_bytes schema ask.table) ask.tests))
 
-pub no_ask_of_tests : (schema : Schema) (payload : List ℕ) → ((table : ℕ) → length (columns_of schema table) ≤ 24) → asks.AsksHaveOneSpelling
-    → 16 < slice_index (drop (2 + slice_index payload 1) payload) 0 → asks.ask_in schema payload ≡ None
+pub no_ask_of_tests : (schema : Schema) (payload : List ℕ) → ((table : ℕ) → length (columns_of schema table) ≤ 24) → laws.AsksHaveOneSpelling
+    → 16 < slice_index (drop (2 + slice_index payload 1) payload) 0 → reading.ask_in schema payload ≡ None
 no_ask_of_tests schema payload narrow law h =
-    none_if (asks.ask_in schema payload) (λ ask e.
+    none_if (reading.ask_in schema payload) (λ ask e.
     (let short = few schema ask narrow (law.read_is_proper schema payload ask e) in
     let count : length ask.tests ≡ slice_index (drop (2 + slice_index payload 1) payload) 0 =
     sym (at_tests schema ask) ∙ ap (λ (bs : List ℕ). slice_index (drop (2 + slice_index bs 1) bs) 0) (law.read_is_spelled schema payload ask e) in

@@ -4,9 +4,9 @@ use Rattle.std.proofs.lemmas.List.{length-map}
 use Rattle.std.proofs.lemmas.List.Folds.{list_all-map}
 use Rattle.std.specs.List.{list_all}
 use Rattle.std.specs.Cmp.{second_so}
-use Rattle.ghost_model.specs.Schema.{Schema, is_visible}
-use Rattle.ghost_model.specs.Channel as channel
-use Rattle.ghost_model.specs.Asks.{test_bytes, most_tests, ascend_from, is_proper_ask}
+use Rattle.ghost_model.specs.core.Schema.{Schema, is_visible}
+use Rattle.ghost_model.specs.core.Channel as channel
+use Rattle.ghost_model.specs.core.Asks.{test_bytes, most_tests, ascend_from, is_proper_ask}
 use Rattle.channel_codec.specs.AskViews.{has_kind, test_view, ask_view}
 use Rattle.channel_codec.specs.declared.ask.Test.{Test}
 use Rattle.channel_codec.specs.declared.ask.Ask.{Ask}

@@ -1,11 +1,13 @@
 -- What the codec's asks are as asks of the channel.
 use Rattle.std.specs.Prelude.{ℕ, Bool, List, map, take, drop, slice_index}
-use Rattle.ghost_model.specs.Schema.{Schema}
-use Rattle.ghost_model.specs.Channel as channel
-use Rattle.ghost_model.specs.Asks.{kind_at, value_or_none}
-use Rattle.ghost_model.specs.Asks as asks
-use Rattle.ghost_model.specs.Cells.{cell_width, decode_cell}
-use Rattle.ghost_model.specs.Database.{is_of_kind}
+use Rattle.ghost_model.specs.core.Schema.{Schema}
+use Rattle.ghost_model.specs.core.Channel as channel
+use Rattle.ghost_model.specs.core.Asks.{kind_at}
+use Rattle.ghost_model.specs.readings.AskReading.{value_or_none}
+use Rattle.ghost_model.specs.readings.AskReading as reading
+use Rattle.ghost_model.specs.forms.Cells.{cell_width}
+use Rattle.ghost_model.specs.readings.CellReading.{decode_cell}
+use Rattle.ghost_model.specs.core.Database.{is_of_kind}
 use Rattle.ghost_base.specs.Views.{operator_of, value_of}
 use Rattle.channel_codec.specs.declared.ask.Ask.{Ask}
 use Rattle.channel_codec.specs.declared.ask.Test.{Test}
@@ -28,6 +30,6 @@ abbrev pub test_in : Schema → (table : ℕ) → List ℕ → channel.Test
 test_in schema table bytes =
     record {
       column = slice_index bytes 0;
-      operator = asks.operator_of (slice_index bytes 1);
+      operator = reading.operator_of (slice_index bytes 1);
       value = value_or_none (decode_cell (kind_at schema table (slice_index bytes 0)) (take (test_width schema table bytes) (drop 2 bytes)));
     }

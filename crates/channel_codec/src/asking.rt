@@ -1,8 +1,10 @@
 //! The ask that bytes spell.
 
 ghost use Rattle.std.specs.Prelude.{◌≡◌, ◌≤◌, ◌+◌, true, None, bytes_eq, length, map, take, drop, slice_index, option_map, IfSome, IfNone};
-ghost use Rattle.ghost_model.specs.Asks as asks;
-ghost use Rattle.ghost_model.specs.Cells as cells;
+ghost use Rattle.ghost_model.specs.core.Asks as asks;
+ghost use Rattle.ghost_model.specs.readings.AskReading as reading;
+ghost use Rattle.ghost_model.specs.forms.Cells as cells;
+ghost use Rattle.ghost_model.specs.readings.CellReading as cell_reading;
 ghost use Rattle.ghost_base.specs.Views.{kind_of, operator_of, value_of};
 ghost use Rattle.channel_codec.specs.AskViews.{test_view, ask_view, test_in, test_width};
 
@@ -19,7 +21,7 @@ use tree_schema::schema::schemas_are_trees;
 
 /// The operator of a byte from 1 to 6.
 fn operator_in(code: u8) -> Operator
-    ensures { operator_of result ≡ asks.operator_of code }
+    ensures { operator_of result ≡ reading.operator_of code }
 {
     match code {
         1 => Operator::Equal,
@@ -34,7 +36,7 @@ fn operator_in(code: u8) -> Operator
 /// The value of a cell, and the empty text where it spells none.
 fn value_in(kind: Kind, cell: &[u8]) -> Value
     requires { cells.cell_width (kind_of kind) ≤ MAX_CHARS }
-    ensures { value_of result ≡ asks.value_or_none (cells.decode_cell (kind_of kind) cell.now) }
+    ensures { value_of result ≡ reading.value_or_none (cell_reading.decode_cell (kind_of kind) cell.now) }
 {
     match decode_cell(kind, cell) {
         None => Value::Chars(Text64::of(&[])),
@@ -50,7 +52,7 @@ fn tests_in(
     bytes: &[u8],
 ) -> ArrayVec<Test, MAX_CONDITIONS>
     requires { count ≤ MAX_CONDITIONS }
-    ensures { map test_view result.items ≡ asks.tests_in schema.now table count bytes.now }
+    ensures { map test_view result.items ≡ reading.tests_in schema.now table count bytes.now }
 {
     let mut tests = ArrayVec::new();
     let mut left = count;
@@ -84,8 +86,8 @@ fn columns_in(columns: &[u8]) -> ArrayVec<u8, MAX_COLUMNS>
 
 /// The only ask that bytes may spell, and `None` where they spell none for its size.
 fn ask_like(schema: &Schema, payload: &[u8]) -> Option<Ask>
-    ensures like { IfSome result (λ ask. ask_view ask ≡ asks.ask_like schema.now payload.now) }
-    ensures none { IfNone result (asks.ask_in schema.now payload.now ≡ None) }
+    ensures like { IfSome result (λ ask. ask_view ask ≡ reading.ask_like schema.now payload.now) }
+    ensures none { IfNone result (reading.ask_in schema.now payload.now ≡ None) }
 {
     let _ = schema.tables();
     schemas_are_trees();
@@ -120,7 +122,7 @@ fn is_payload(schema: &Schema, ask: &Ask, payload: &[u8]) -> bool
 
 /// The ask whose payload bytes are, and `None` exactly where they are the payload of no ask that a key may send.
 pub fn ask_of(schema: &Schema, payload: &[u8]) -> Option<Ask>
-    ensures ask { option_map ask_view result ≡ asks.ask_in schema.now payload.now }
+    ensures ask { option_map ask_view result ≡ reading.ask_in schema.now payload.now }
 {
     let ask = ask_like(schema, payload)?;
     if is_proper(schema, &ask) && is_payload(schema, &ask, payload) {

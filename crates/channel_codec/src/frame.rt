@@ -1,7 +1,7 @@
 //! Frames, and how each one is spelled.
 
 ghost use Rattle.std.specs.Prelude.{◌≡◌, ◌≤◌, ◌+◌, ◌++◌, length, take, drop};
-ghost use Rattle.ghost_model.specs.Frames.{frame_bytes, payload_of, kind_of, serial_of, header_bytes, most_payload};
+ghost use Rattle.ghost_model.specs.forms.Frames.{frame_bytes, payload_of, frame_kind, serial_of, header_bytes, most_payload};
 ghost use Rattle.channel_codec.specs.Views.{frame_view};
 
 /// The bytes of a header.
@@ -40,7 +40,7 @@ pub enum Frame<'a> {
 
 /// The first byte of a frame.
 fn kind(frame: &Frame) -> u8
-    ensures { result ≡ kind_of (frame_view frame.now) }
+    ensures { result ≡ frame_kind (frame_view frame.now) }
 {
     match frame {
         Frame::Hello { .. } => 1,

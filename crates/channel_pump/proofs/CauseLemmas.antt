@@ -1,9 +1,9 @@
 -- Why a session ends.
 use Rattle.std.proofs.Common.{◌≡◌, true, List, refl}
-use Rattle.ghost_model.specs.Channel.{Catalog}
-use Rattle.ghost_model.specs.Asks.{Asked}
-use Rattle.ghost_model.specs.NextMove as next
-use Rattle.ghost_model.specs.NextMove.{Awaits, Missing, Nothing, Left}
+use Rattle.ghost_model.specs.core.Channel.{Catalog}
+use Rattle.ghost_model.specs.core.Asks.{NumberedAsk}
+use Rattle.ghost_model.specs.core.NextMove as next
+use Rattle.ghost_model.specs.core.NextMove.{Awaits, AwaitsCatalog, AwaitsNothing, Standing}
 use Rattle.channel_pump.specs.declared.state.Pump.{Pump}
 use Rattle.channel_pump.specs.declared.state.Phase.{Phase}
 use Rattle.channel_pump.specs.declared.state.Phase.TheVariants.{Greeting, Reply, Over}
@@ -14,16 +14,16 @@ use Rattle.channel_pump.specs.declared.state.Cause.TheVariants.{Finished, Link, 
 use Rattle.channel_pump.specs.State.{IsLeft, IsAwaiting, IsStage, IsCause, cause_at, is_over, has_stopped, has_broken}
 use Rattle.channel_pump.specs.Progress.{EndsBy, EndsAs}
 
-nothing_awaited : (catalog : Catalog) (p : Pump) (phase : Phase) (awaits : Awaits) → IsAwaiting catalog p phase awaits → is_over phase ≡ true → awaits ≡ Nothing
-nothing_awaited catalog p phase Nothing h e = refl
-nothing_awaited catalog p Greeting (Missing bytes) h e = cc
-nothing_awaited catalog p Greeting (next.Reply _ _ _ _ _) h e = absurd h
-nothing_awaited catalog p Reply (Missing bytes) h e = absurd h
-nothing_awaited catalog p Reply (next.Reply _ _ _ _ _) h e = cc
-nothing_awaited catalog p Over (Missing bytes) h e = absurd h
-nothing_awaited catalog p Over (next.Reply _ _ _ _ _) h e = absurd h
+nothing_awaited : (catalog : Catalog) (p : Pump) (phase : Phase) (awaits : Awaits) → IsAwaiting catalog p phase awaits → is_over phase ≡ true → awaits ≡ AwaitsNothing
+nothing_awaited catalog p phase AwaitsNothing h e = refl
+nothing_awaited catalog p Greeting (AwaitsCatalog bytes) h e = cc
+nothing_awaited catalog p Greeting (next.AwaitsReply _ _ _ _ _) h e = absurd h
+nothing_awaited catalog p Reply (AwaitsCatalog bytes) h e = absurd h
+nothing_awaited catalog p Reply (next.AwaitsReply _ _ _ _ _) h e = cc
+nothing_awaited catalog p Over (AwaitsCatalog bytes) h e = absurd h
+nothing_awaited catalog p Over (next.AwaitsReply _ _ _ _ _) h e = absurd h
 
-module _ (catalog : Catalog) (asks : List Asked) (p : Pump) (l : Left) (h : IsLeft catalog asks p l) where
+module _ (catalog : Catalog) (asks : List NumberedAsk) (p : Pump) (l : Standing) (h : IsLeft catalog asks p l) where
   by_cause : (cause : Cause) → IsCause p l cause → l.stopped ≡ has_stopped (Closing cause) → l.heard.broken ≡ has_broken (Closing cause) → EndsBy l cause
   by_cause Finished c s b = (nothing_awaited catalog p p.phase l.heard.awaits h.awaits c.phase, s, b)
   by_cause Link c s b = (s, b)

@@ -1,7 +1,7 @@
 -- Lists that are not empty, and places in a list of bytes.
 use Rattle.std.proofs.Common.{◌≡◌, ◌<◌, ◌≤◌, ◌+◌, ◌-◌, ℕ, false, List, [], ◌∷◌, length, drop, arith}
 use Rattle.std.proofs.lemmas.List.{length-drop}
-use Rattle.ghost_model.specs.Schema.{is_empty}
+use Rattle.ghost_model.specs.core.Schema.{is_empty}
 
 pub not_empty : {X : Type 0} (xs : List X) → is_empty xs ≡ false → 0 < length xs
 not_empty [] e = cc

@@ -2,12 +2,12 @@
 use Rattle.std.proofs.Common.{◌≡◌, ℕ, ◌+◌, ◌*◌, ◌/◌, ◌%◌, ◌≤◌, Bool, true, false, ◌&&◌, ◌==◌, nat_le, List, [], ◌∷◌, ◌++◌, length, take, refl, ap, sym, ◌∙◌, subst, arith, append-nil}
 use Rattle.std.proofs.lemmas.Bool.Decides.{nat_tests}
 use Rattle.std.proofs.Math.Nat.{div-add-mod}
-use Rattle.ghost_model.specs.Channel as channel
-use Rattle.ghost_model.specs.Channel.{Catalog, Journal}
-use Rattle.ghost_model.specs.Frames as frames
-use Rattle.ghost_model.specs.Asks.{Asked, rows_in, row_width}
-use Rattle.ghost_model.specs.NextMove as next
-use Rattle.ghost_model.specs.NextMove.{Awaits, Missing, Nothing, Heard, Left, left, heard_as}
+use Rattle.ghost_model.specs.core.Channel as channel
+use Rattle.ghost_model.specs.core.Channel.{Catalog, Journal}
+use Rattle.ghost_model.specs.forms.Frames as frames
+use Rattle.ghost_model.specs.core.Asks.{NumberedAsk, rows_in, row_width}
+use Rattle.ghost_model.specs.core.NextMove as next
+use Rattle.ghost_model.specs.core.NextMove.{Awaits, AwaitsCatalog, AwaitsNothing, Heard, Standing, standing_after, heard_as}
 use Rattle.channel_pump.specs.declared.rows.Tally.{Tally}
 use Rattle.channel_pump.specs.declared.state.Pump.{Pump}
 use Rattle.channel_pump.specs.declared.state.Event.{Event}
@@ -26,30 +26,30 @@ use Rattle.channel_pump.proofs.PlaceLemmas.{header_is, payload_is, rows_at_are}
 use Rattle.channel_pump.proofs.TookLemmas.{At, left_is, rows, done, sorry, kind_of_header, payload_of_longer, FrameKind, greets, replies}
 
 ended_is : (awaits : Awaits) (bytes : List ℕ) (n : ℕ) (frame : channel.Frame) → next.ended_by awaits bytes frame ≡ ended_on (event_of n frame) awaits bytes
-ended_is (Missing _) bytes n (channel.Hello _) = refl
-ended_is (Missing _) bytes n (channel.Asking _ _) = refl
-ended_is (Missing _) bytes n (channel.More _) = refl
-ended_is (Missing _) bytes n channel.Bye = refl
-ended_is (Missing _) bytes n (channel.Welcome _ _) = refl
-ended_is (Missing _) bytes n (channel.Replied _ _) = refl
-ended_is (Missing _) bytes n (channel.Done _ _) = refl
-ended_is (Missing _) bytes n (channel.Sorry _ _) = refl
-ended_is (next.Reply _ _ _ _ _) bytes n (channel.Hello _) = refl
-ended_is (next.Reply _ _ _ _ _) bytes n (channel.Asking _ _) = refl
-ended_is (next.Reply _ _ _ _ _) bytes n (channel.More _) = refl
-ended_is (next.Reply _ _ _ _ _) bytes n channel.Bye = refl
-ended_is (next.Reply _ _ _ _ _) bytes n (channel.Welcome _ _) = refl
-ended_is (next.Reply _ _ _ _ _) bytes n (channel.Replied _ _) = refl
-ended_is (next.Reply _ _ _ _ _) bytes n (channel.Done _ _) = refl
-ended_is (next.Reply _ _ _ _ _) bytes n (channel.Sorry _ _) = refl
-ended_is Nothing bytes n (channel.Hello _) = refl
-ended_is Nothing bytes n (channel.Asking _ _) = refl
-ended_is Nothing bytes n (channel.More _) = refl
-ended_is Nothing bytes n channel.Bye = refl
-ended_is Nothing bytes n (channel.Welcome _ _) = refl
-ended_is Nothing bytes n (channel.Replied _ _) = refl
-ended_is Nothing bytes n (channel.Done _ _) = refl
-ended_is Nothing bytes n (channel.Sorry _ _) = refl
+ended_is (AwaitsCatalog _) bytes n (channel.HelloFrame _) = refl
+ended_is (AwaitsCatalog _) bytes n (channel.AskFrame _ _) = refl
+ended_is (AwaitsCatalog _) bytes n (channel.MoreFrame _) = refl
+ended_is (AwaitsCatalog _) bytes n channel.ByeFrame = refl
+ended_is (AwaitsCatalog _) bytes n (channel.WelcomeFrame _ _) = refl
+ended_is (AwaitsCatalog _) bytes n (channel.RowsFrame _ _) = refl
+ended_is (AwaitsCatalog _) bytes n (channel.DoneFrame _ _) = refl
+ended_is (AwaitsCatalog _) bytes n (channel.SorryFrame _ _) = refl
+ended_is (next.AwaitsReply _ _ _ _ _) bytes n (channel.HelloFrame _) = refl
+ended_is (next.AwaitsReply _ _ _ _ _) bytes n (channel.AskFrame _ _) = refl
+ended_is (next.AwaitsReply _ _ _ _ _) bytes n (channel.MoreFrame _) = refl
+ended_is (next.AwaitsReply _ _ _ _ _) bytes n channel.ByeFrame = refl
+ended_is (next.AwaitsReply _ _ _ _ _) bytes n (channel.WelcomeFrame _ _) = refl
+ended_is (next.AwaitsReply _ _ _ _ _) bytes n (channel.RowsFrame _ _) = refl
+ended_is (next.AwaitsReply _ _ _ _ _) bytes n (channel.DoneFrame _ _) = refl
+ended_is (next.AwaitsReply _ _ _ _ _) bytes n (channel.SorryFrame _ _) = refl
+ended_is AwaitsNothing bytes n (channel.HelloFrame _) = refl
+ended_is AwaitsNothing bytes n (channel.AskFrame _ _) = refl
+ended_is AwaitsNothing bytes n (channel.MoreFrame _) = refl
+ended_is AwaitsNothing bytes n channel.ByeFrame = refl
+ended_is AwaitsNothing bytes n (channel.WelcomeFrame _ _) = refl
+ended_is AwaitsNothing bytes n (channel.RowsFrame _ _) = refl
+ended_is AwaitsNothing bytes n (channel.DoneFrame _ _) = refl
+ended_is AwaitsNothing bytes n (channel.SorryFrame _ _) = refl
 
 rows_whole : (version serial : Bool) (width kind size : ℕ) → kind ≡ 18 → (version && serial && next.reply_size_fits width kind size) ≡ true → size % width ≡ 0
 rows_whole version serial width kind size e t = grind (arith, nat_tests)
@@ -70,16 +70,16 @@ product width size n e whole =
 came_of : (catalog : Catalog) (awaits : Awaits) (part : List ℕ) (n : ℕ) → frames.kind_in part ≡ 18 → 8 + frames.size_in part ≤ length part
     → next.header_fits catalog awaits part ≡ true → next.payload_fits catalog awaits (frames.frame_in part) ≡ true
     → n ≡ length (rows_of_frame catalog awaits (frames.frame_in part)) → MayCome catalog awaits (frames.payload_in part) n
-came_of catalog (Missing bytes) part n kind whole header payload count =
+came_of catalog (AwaitsCatalog bytes) part n kind whole header payload count =
     not_greeting (frames.version_in part) (frames.kind_in part) (frames.serial_in part) (frames.size_in part) (length bytes) kind header
-came_of catalog (next.Reply asked serial later count last) part n kind whole header payload number =
-    let frame : frames.frame_in part ≡ channel.Replied (frames.serial_in part) (frames.payload_in part) = frame_of_kind part 18 kind in
+came_of catalog (next.AwaitsReply asked serial later count last) part n kind whole header payload number =
+    let frame : frames.frame_in part ≡ channel.RowsFrame (frames.serial_in part) (frames.payload_in part) = frame_of_kind part 18 kind in
     let width : ℕ = row_width catalog.schema asked.ask in
-    let awaits : Awaits = next.Reply asked serial later count last in
+    let awaits : Awaits = next.AwaitsReply asked serial later count last in
     let counted : n ≡ length (rows_in catalog.schema asked.ask (frames.payload_in part)) =
-    number ∙ ap (λ (f : channel.Frame). length (rows_of_frame catalog (next.Reply asked serial later count last) f)) frame in
+    number ∙ ap (λ (f : channel.Frame). length (rows_of_frame catalog (next.AwaitsReply asked serial later count last) f)) frame in
     record {
-      fit = subst (λ (f : channel.Frame). next.payload_fits catalog (next.Reply asked serial later count last) f ≡ true) frame payload;
+      fit = subst (λ (f : channel.Frame). next.payload_fits catalog (next.AwaitsReply asked serial later count last) f ≡ true) frame payload;
       count = counted;
       size = payload_length part whole
           ∙ product (row_width catalog.schema asked.ask) (frames.size_in part) n
@@ -87,7 +87,7 @@ came_of catalog (next.Reply asked serial later count last) part n kind whole hea
           ∙ ap (λ (k : ℕ). k / row_width catalog.schema asked.ask) (payload_length part whole)))
           (rows_whole (frames.version_in part == frames.frame_version) (frames.serial_in part == serial) (row_width catalog.schema asked.ask) (frames.kind_in part) (frames.size_in part) kind header);
     }
-came_of catalog Nothing part n kind whole header payload count = absurd (no_truth header)
+came_of catalog AwaitsNothing part n kind whole header payload count = absurd (no_truth header)
 
 rows_short : (version serial : Bool) (width kind size : ℕ) → kind ≡ 18 → (version && serial && next.reply_size_fits width kind size) ≡ true → size ≤ 2040
 rows_short version serial width kind size e t = grind (arith, nat_tests)
@@ -97,7 +97,7 @@ reply_fit : (forms : List Form) (serial count last : ℕ) (part : List ℕ) (n :
     → n ≡ length (reply_rows forms (frames.frame_in part)) → RowsFit forms last (frames.payload_in part) n
 reply_fit [] serial count last part n kind whole header payload number = absurd (no_truth header)
 reply_fit (form ∷ forms) serial count last part n kind whole header payload number =
-    let frame : frames.frame_in part ≡ channel.Replied (frames.serial_in part) (frames.payload_in part) = frame_of_kind part 18 kind in
+    let frame : frames.frame_in part ≡ channel.RowsFrame (frames.serial_in part) (frames.payload_in part) = frame_of_kind part 18 kind in
     let counted : n ≡ length (rows_with form.kinds (frames.payload_in part)) =
     number ∙ ap (λ (f : channel.Frame). length (reply_rows (form ∷ forms) f)) frame in
     let short : frames.size_in part ≤ 2040 =
@@ -134,22 +134,22 @@ rows_here p m page tally long stands =
     by_kind (replies (done k z)) = subst (λ (f : channel.Frame). RowsHere p page (event_of tally.rows f)) (sym (frame_of_kind (take m page) 19 k)) tt
     by_kind (replies (sorry k z)) = subst (λ (f : channel.Frame). RowsHere p page (event_of tally.rows f)) (sym (frame_of_kind (take m page) 20 k)) tt
 
-module _ (catalog : Catalog) (asks : List Asked) (journal : Journal) (p : Pump) (page : List ℕ) (n : ℕ) where
+module _ (catalog : Catalog) (asks : List NumberedAsk) (journal : Journal) (p : Pump) (page : List ℕ) (n : ℕ) where
   abbrev part : List ℕ
   part = take (p.have + n) page
 
   tells_as : (result : Event) (v : next.Verdict) → At catalog asks journal p page n → verdict_here p part ≡ v
-      → Tells catalog page result (left catalog asks journal).heard (heard_as catalog asks (left catalog asks journal).heard part v)
-      → Tells catalog page result (left catalog asks journal).heard (left catalog asks (journal ++ taken_entry p page n ∷ [])).heard
+      → Tells catalog page result (standing_after catalog asks journal).heard (heard_as catalog asks (standing_after catalog asks journal).heard part v)
+      → Tells catalog page result (standing_after catalog asks journal).heard (standing_after catalog asks (journal ++ taken_entry p page n ∷ [])).heard
   tells_as result v h e t =
-      subst (λ (l : Left). Tells catalog page result (left catalog asks journal).heard l.heard) (sym (left_is catalog asks journal p page n h v e)) t
+      subst (λ (l : Standing). Tells catalog page result (standing_after catalog asks journal).heard l.heard) (sym (left_is catalog asks journal p page n h v e)) t
 
-  pub part_tells : (missing : ℕ) → At catalog asks journal p page n → verdict_here p part ≡ next.Short missing
-      → Tells catalog page event.Part (left catalog asks journal).heard (left catalog asks (journal ++ taken_entry p page n ∷ [])).heard
-  part_tells missing h e = tells_as event.Part (next.Short missing) h e (record { rows = refl; ended = sym (append-nil _); came = tt })
+  pub part_tells : (missing : ℕ) → At catalog asks journal p page n → verdict_here p part ≡ next.Lacking missing
+      → Tells catalog page event.Part (standing_after catalog asks journal).heard (standing_after catalog asks (journal ++ taken_entry p page n ∷ [])).heard
+  part_tells missing h e = tells_as event.Part (next.Lacking missing) h e (record { rows = refl; ended = sym (append-nil _); came = tt })
 
   pub invalid_tells : (kind place : ℕ) → At catalog asks journal p page n → verdict_here p part ≡ next.Invalid
-      → Tells catalog page (event.Invalid kind place) (left catalog asks journal).heard (left catalog asks (journal ++ taken_entry p page n ∷ [])).heard
+      → Tells catalog page (event.Invalid kind place) (standing_after catalog asks journal).heard (standing_after catalog asks (journal ++ taken_entry p page n ∷ [])).heard
   invalid_tells kind place h e = tells_as (event.Invalid kind place) next.Invalid h e (record { rows = refl; ended = sym (append-nil _); came = tt })
 
   rows_are : (bytes : List ℕ) (count : ℕ) → FrameKind (frames.kind_in part) (frames.size_in part) → frames.payload_in part ≡ frames.payload_in page
@@ -170,18 +170,18 @@ module _ (catalog : Catalog) (asks : List Asked) (journal : Journal) (p : Pump) 
   came awaits count (replies (done k z)) h = subst (λ (f : channel.Frame). RowsOf catalog awaits page (event_of count f)) (sym (frame_of_kind part 19 k)) tt
   came awaits count (replies (sorry k z)) h = subst (λ (f : channel.Frame). RowsOf catalog awaits page (event_of count f)) (sym (frame_of_kind part 20 k)) tt
 
-  pub frame_tells : (tally : Tally) → At catalog asks journal p page n → Stands p part tally → verdict_here p part ≡ next.Whole → frames.payload_in part ≡ frames.payload_in page
-      → Tells catalog page (event_of tally.rows (frames.frame_in part)) (left catalog asks journal).heard (left catalog asks (journal ++ taken_entry p page n ∷ [])).heard
+  pub frame_tells : (tally : Tally) → At catalog asks journal p page n → Stands p part tally → verdict_here p part ≡ next.Complete → frames.payload_in part ≡ frames.payload_in page
+      → Tells catalog page (event_of tally.rows (frames.frame_in part)) (standing_after catalog asks journal).heard (standing_after catalog asks (journal ++ taken_entry p page n ∷ [])).heard
   frame_tells tally h stands e same =
-      let l : Left = left catalog asks journal in
+      let l : Standing = standing_after catalog asks journal in
       let kind : FrameKind (frames.kind_in part) (frames.size_in part) = kind_of_header p p.phase part stands.header in
-      tells_as (event_of tally.rows (frames.frame_in part)) next.Whole h e (record {
-        rows = rows_are (left catalog asks journal).heard.rows tally.rows kind same;
-        ended = ap (λ (x : List next.Ended). (left catalog asks journal).heard.ended ++ x) (ended_is (left catalog asks journal).heard.awaits (left catalog asks journal).heard.rows tally.rows (frames.frame_in part));
-        came = came (left catalog asks journal).heard.awaits tally.rows kind (λ k.
-            subst (λ (x : List ℕ). MayCome catalog (left catalog asks journal).heard.awaits x tally.rows) same
-            (came_of catalog (left catalog asks journal).heard.awaits part tally.rows k stands.whole
-            (sym (header_is catalog p p.phase (left catalog asks journal).heard.awaits part h.after.awaits) ∙ stands.header)
-            (sym (payload_is catalog p p.phase (left catalog asks journal).heard.awaits (frames.frame_in part) h.after.awaits) ∙ stands.payload)
-            (stands.rows.rows ∙ ap length (rows_at_are catalog p p.phase (left catalog asks journal).heard.awaits (frames.frame_in part) h.after.awaits))));
+      tells_as (event_of tally.rows (frames.frame_in part)) next.Complete h e (record {
+        rows = rows_are (standing_after catalog asks journal).heard.rows tally.rows kind same;
+        ended = ap (λ (x : List next.EndedAsk). (standing_after catalog asks journal).heard.ended ++ x) (ended_is (standing_after catalog asks journal).heard.awaits (standing_after catalog asks journal).heard.rows tally.rows (frames.frame_in part));
+        came = came (standing_after catalog asks journal).heard.awaits tally.rows kind (λ k.
+            subst (λ (x : List ℕ). MayCome catalog (standing_after catalog asks journal).heard.awaits x tally.rows) same
+            (came_of catalog (standing_after catalog asks journal).heard.awaits part tally.rows k stands.whole
+            (sym (header_is catalog p p.phase (standing_after catalog asks journal).heard.awaits part h.after.awaits) ∙ stands.header)
+            (sym (payload_is catalog p p.phase (standing_after catalog asks journal).heard.awaits (frames.frame_in part) h.after.awaits) ∙ stands.payload)
+            (stands.rows.rows ∙ ap length (rows_at_are catalog p p.phase (standing_after catalog asks journal).heard.awaits (frames.frame_in part) h.after.awaits))));
       })

@@ -2,9 +2,9 @@
 use Rattle.std.proofs.Common.{◌≡◌, ℕ, zero, suc, ◌+◌, ◌-◌, ◌<◌, ◌≤◌, ◌*◌, subst, Bool, true, false, ◌&&◌, nat_lt, nat_le, List, [], ◌∷◌, length, take, drop, refl, ap, sym, ◌∙◌, arith}
 use Rattle.std.proofs.lemmas.List.{length-drop}
 use Rattle.std.proofs.lemmas.Bool.Decides.{nat_tests}
-use Rattle.ghost_model.specs.Schema.{Kind}
-use Rattle.ghost_model.specs.Asks.{ReplyRow, row_in, rows_from}
-use Rattle.ghost_model.specs.NextMove.{rows_fit, are_cells, last_identifier}
+use Rattle.ghost_model.specs.core.Schema.{Kind}
+use Rattle.ghost_model.specs.core.Asks.{RowCells, row_in, rows_from}
+use Rattle.ghost_model.specs.core.NextMove.{rows_fit, are_cells, last_identifier}
 
 pub rows_more : (width left : ℕ) (bytes : List ℕ) → 0 < left
     → rows_from width left bytes ≡ row_in (take width bytes) ∷ rows_from width (left - 1) (drop width bytes)
@@ -23,7 +23,7 @@ unfolding rows_from
 rows_count width zero bytes = refl
 rows_count width (suc left) bytes = ap suc (rows_count width left (drop width bytes))
 
-abbrev pub row_test : (rows last : ℕ) → List Kind → ReplyRow → Bool
+abbrev pub row_test : (rows last : ℕ) → List Kind → RowCells → Bool
 row_test rows last kinds row = nat_lt last row.identifier && nat_le row.identifier rows && are_cells kinds row.cells
 
 and_true : (b c : Bool) → b ≡ true → (b && c) ≡ c
@@ -38,7 +38,7 @@ pub fits_none : (rows last : ℕ) (kinds : List Kind) → rows_fit rows last kin
 unfolding rows_fit
 fits_none rows last kinds = refl
 
-fits_next : (rows last : ℕ) (kinds : List Kind) (row : ReplyRow) (later : List ReplyRow)
+fits_next : (rows last : ℕ) (kinds : List Kind) (row : RowCells) (later : List RowCells)
     → rows_fit rows last kinds (row ∷ later) ≡ (row_test rows last kinds row && rows_fit rows row.identifier kinds later)
 unfolding rows_fit
 fits_next rows last kinds row later = refl
@@ -48,7 +48,7 @@ pub fits_more : (rows last width left : ℕ) (kinds : List Kind) (bytes : List �
     → rows_fit rows last kinds (rows_from width left bytes)
     ≡ rows_fit rows (row_in (take width bytes)).identifier kinds (rows_from width (left - 1) (drop width bytes))
 fits_more rows last width left kinds bytes h t =
-    ap (λ (all : List ReplyRow). rows_fit rows last kinds all) (rows_more width left bytes h)
+    ap (λ (all : List RowCells). rows_fit rows last kinds all) (rows_more width left bytes h)
     ∙ (fits_next rows last kinds (row_in (take width bytes)) (rows_from width (left - 1) (drop width bytes))
     ∙ and_true _ _ t)
 
@@ -56,7 +56,7 @@ pub fits_not : (rows last width left : ℕ) (kinds : List Kind) (bytes : List �
     → row_test rows last kinds (row_in (take width bytes)) ≡ false
     → rows_fit rows last kinds (rows_from width left bytes) ≡ false
 fits_not rows last width left kinds bytes h t =
-    ap (λ (all : List ReplyRow). rows_fit rows last kinds all) (rows_more width left bytes h)
+    ap (λ (all : List RowCells). rows_fit rows last kinds all) (rows_more width left bytes h)
     ∙ (fits_next rows last kinds (row_in (take width bytes)) (rows_from width (left - 1) (drop width bytes))
     ∙ and_false _ _ t)
 
@@ -64,10 +64,10 @@ pub last_more : (last width left : ℕ) (bytes : List ℕ) → 0 < left
     → last_identifier last (rows_from width left bytes)
     ≡ last_identifier (row_in (take width bytes)).identifier (rows_from width (left - 1) (drop width bytes))
 last_more last width left bytes h =
-    ap (λ (all : List ReplyRow). last_identifier last all) (rows_more width left bytes h)
+    ap (λ (all : List RowCells). last_identifier last all) (rows_more width left bytes h)
 
 -- between two rows: what the rows so far leave of the tests and of the last identifier
-pub record RowsLeft (most last : ℕ) (kinds : List Kind) (all : List ReplyRow) (width left before count : ℕ) (rest : List ℕ) : Type 0 where
+pub record RowsLeft (most last : ℕ) (kinds : List Kind) (all : List RowCells) (width left before count : ℕ) (rest : List ℕ) : Type 0 where
   pub same : rows_fit most before kinds (rows_from width left rest) ≡ rows_fit most last kinds all
   pub final : last_identifier before (rows_from width left rest) ≡ last_identifier last all
   pub above : last + count ≤ before
@@ -80,7 +80,7 @@ record IsAbove (most last identifier : ℕ) : Type 0 where
 is_above : (most last identifier : ℕ) (cells : Bool) → (nat_lt last identifier && nat_le identifier most && cells) ≡ true → IsAbove most last identifier
 is_above most last identifier cells e = record { above = grind (arith, nat_tests); within = grind (arith, nat_tests) }
 
-pub row_read : (most last : ℕ) (kinds : List Kind) (all : List ReplyRow) (width left before count identifier : ℕ) (rest row later : List ℕ)
+pub row_read : (most last : ℕ) (kinds : List Kind) (all : List RowCells) (width left before count identifier : ℕ) (rest row later : List ℕ)
     → RowsLeft most last kinds all width left before count rest → 0 < left → row ≡ take width rest → later ≡ drop width rest
     → row_test most before kinds (row_in row) ≡ true → identifier ≡ (row_in row).identifier
     → RowsLeft most last kinds all width (left - 1) identifier (count + 1) later

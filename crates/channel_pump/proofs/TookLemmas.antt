@@ -5,12 +5,12 @@ use Rattle.std.proofs.Math.Seq.{take-add}
 use Rattle.std.proofs.lemmas.List.{length-append, length-drop, length-take-le, drop-take, take-take}
 use Rattle.std.proofs.lemmas.Grind.{flat_map-append}
 use Rattle.std.proofs.lemmas.Bool.Decides.{nat_tests}
-use Rattle.ghost_model.specs.Channel as channel
-use Rattle.ghost_model.specs.Channel.{Catalog, Move, Journal}
-use Rattle.ghost_model.specs.Frames as frames
-use Rattle.ghost_model.specs.Asks.{Asked}
-use Rattle.ghost_model.specs.NextMove as next
-use Rattle.ghost_model.specs.NextMove.{Awaits, Heard, Left, left, heard, hear_all, heard_as}
+use Rattle.ghost_model.specs.core.Channel as channel
+use Rattle.ghost_model.specs.core.Channel.{Catalog, Move, Journal}
+use Rattle.ghost_model.specs.forms.Frames as frames
+use Rattle.ghost_model.specs.core.Asks.{NumberedAsk}
+use Rattle.ghost_model.specs.core.NextMove as next
+use Rattle.ghost_model.specs.core.NextMove.{Awaits, Heard, Standing, standing_after, heard, hear_all, heard_as, bytes_before}
 use Rattle.channel_pump.specs.Forms.{Form}
 use Rattle.channel_pump.specs.declared.rows.Tally.{Tally}
 use Rattle.channel_pump.specs.declared.state.Pump.{Pump}
@@ -22,7 +22,7 @@ use Rattle.channel_pump.specs.declared.state.Cause.TheVariants.{Protocol}
 use Rattle.channel_pump.specs.declared.state.Event.TheVariants as event
 use Rattle.channel_pump.specs.Asked.{form_kinds, width_of}
 use Rattle.channel_pump.specs.Here.{verdict_here, header_at, reply_header, Stands}
-use Rattle.channel_pump.specs.State.{IsLeft, IsAfter, IsFresh, IsStage, IsTaking, IsTurned, IsGoing, IsTakenBy, want_at, want_of, frame_due, due_at, is_over, is_opened, is_closed, has_stopped, has_broken, counted, bytes_before, taken_entry, Keeps}
+use Rattle.channel_pump.specs.State.{IsLeft, IsAfter, IsFresh, IsStage, IsTaking, IsTurned, IsGoing, IsTakenBy, want_at, want_of, frame_due, due_at, is_over, is_opened, is_closed, has_stopped, has_broken, counted, taken_entry, Keeps}
 use Rattle.channel_pump.specs.Marks.{AreMarked}
 use Rattle.channel_pump.specs.Turning.{event_after, event_at, event_of}
 use Rattle.channel_pump.proofs.JournalLemmas.{goes_to, left_more}
@@ -50,7 +50,7 @@ taking_fits p n Taking h = h
 taking_fits p n (Closing _) h = absurd h
 taking_fits p n (Closed _) h = absurd h
 
-module _ (catalog : Catalog) (asks : List Asked) (journal : Journal) (p : Pump) (page : List ℕ) (n : ℕ) where
+module _ (catalog : Catalog) (asks : List NumberedAsk) (journal : Journal) (p : Pump) (page : List ℕ) (n : ℕ) where
   abbrev part : List ℕ
   part = take (p.have + n) page
 
@@ -68,8 +68,8 @@ module _ (catalog : Catalog) (asks : List Asked) (journal : Journal) (p : Pump) 
   stage_of : At → p.stage ≡ Taking
   stage_of h = taking_stage p n p.stage h.taken_by
 
-  is_taking : At → IsTaking catalog p (left catalog asks journal)
-  is_taking h = subst (λ (x : Stage). IsStage catalog p (left catalog asks journal) x) (stage_of h) h.after.stage
+  is_taking : At → IsTaking catalog p (standing_after catalog asks journal)
+  is_taking h = subst (λ (x : Stage). IsStage catalog p (standing_after catalog asks journal) x) (stage_of h) h.after.stage
 
   fits_of : At → n ≤ p.lacks
   fits_of h = taking_fits p n p.stage h.taken_by
@@ -77,8 +77,8 @@ module _ (catalog : Catalog) (asks : List Asked) (journal : Journal) (p : Pump) 
   enough : At → p.have + n ≤ length page
   enough h = let fits : n ≤ p.lacks = fits_of h in omega (arith, fits, p.bounded, h.room)
 
-  pub part_is : At → part ≡ (left catalog asks journal).heard.part ++ piece
-  part_is h = page_part p.have n page (left catalog asks journal).heard.part h.keeps (is_taking h).have
+  pub part_is : At → part ≡ (standing_after catalog asks journal).heard.part ++ piece
+  part_is h = page_part p.have n page (standing_after catalog asks journal).heard.part h.keeps (is_taking h).have
 
   pub part_length : At → length part ≡ p.have + n
   part_length h = length-take-le (p.have + n) page (enough h)
@@ -88,50 +88,50 @@ module _ (catalog : Catalog) (asks : List Asked) (journal : Journal) (p : Pump) 
       let room : p.have + n ≤ length page = enough h in
       length-take-le n (drop p.have page) (omega (arith, length-drop p.have page, room))
 
-  unbroken : At → (left catalog asks journal).heard.broken ≡ false
+  unbroken : At → (standing_after catalog asks journal).heard.broken ≡ false
   unbroken h = h.after.broken ∙ ap has_broken (stage_of h)
 
-  pub verdict_of : At → verdict_here p part ≡ next.verdict catalog (left catalog asks journal).heard.awaits ((left catalog asks journal).heard.part ++ piece)
+  pub verdict_of : At → verdict_here p part ≡ next.verdict catalog (standing_after catalog asks journal).heard.awaits ((standing_after catalog asks journal).heard.part ++ piece)
   verdict_of h =
-      verdict_is catalog p (left catalog asks journal).heard.awaits part h.after.awaits
-      ∙ ap (λ (x : List ℕ). next.verdict catalog (left catalog asks journal).heard.awaits x) (part_is h)
+      verdict_is catalog p (standing_after catalog asks journal).heard.awaits part h.after.awaits
+      ∙ ap (λ (x : List ℕ). next.verdict catalog (standing_after catalog asks journal).heard.awaits x) (part_is h)
 
-  heard_is : At → hear_all catalog asks (left catalog asks journal).heard piece ≡ heard_as catalog asks (left catalog asks journal).heard part (verdict_here p part)
+  heard_is : At → hear_all catalog asks (standing_after catalog asks journal).heard piece ≡ heard_as catalog asks (standing_after catalog asks journal).heard part (verdict_here p part)
   heard_is h =
-      let l : Left = left catalog asks journal in
+      let l : Standing = standing_after catalog asks journal in
       let size : length piece ≡ n = piece_length h in
       let fits : n ≤ p.lacks = fits_of h in
-      cut catalog asks (left catalog asks journal).heard piece p.lacks (unbroken h) (is_taking h).lacks (omega (arith, size, h.some)) (omega (arith, size, fits))
-      ∙ (ap (λ (v : next.Verdict). heard_as catalog asks (left catalog asks journal).heard ((left catalog asks journal).heard.part ++ piece) v) (sym (verdict_of h))
-      ∙ ap (λ (x : List ℕ). heard_as catalog asks (left catalog asks journal).heard x (verdict_here p part)) (sym (part_is h)))
+      cut catalog asks (standing_after catalog asks journal).heard piece p.lacks (unbroken h) (is_taking h).lacks (omega (arith, size, h.some)) (omega (arith, size, fits))
+      ∙ (ap (λ (v : next.Verdict). heard_as catalog asks (standing_after catalog asks journal).heard ((standing_after catalog asks journal).heard.part ++ piece) v) (sym (verdict_of h))
+      ∙ ap (λ (x : List ℕ). heard_as catalog asks (standing_after catalog asks journal).heard x (verdict_here p part)) (sym (part_is h)))
 
-  pub left_is : At → (v : next.Verdict) → verdict_here p part ≡ v → left catalog asks (journal ++ taken_entry p page n ∷ [])
-      ≡ goes_to (left catalog asks journal) (taken_entry p page n) (heard_as catalog asks (left catalog asks journal).heard part v)
+  pub left_is : At → (v : next.Verdict) → verdict_here p part ≡ v → standing_after catalog asks (journal ++ taken_entry p page n ∷ [])
+      ≡ goes_to (standing_after catalog asks journal) (taken_entry p page n) (heard_as catalog asks (standing_after catalog asks journal).heard part v)
   left_is h v e =
       left_more catalog asks journal (taken_entry p page n)
-      ∙ ap (goes_to (left catalog asks journal) (taken_entry p page n))
-      (heard_is h ∙ ap (λ (x : next.Verdict). heard_as catalog asks (left catalog asks journal).heard part x) e)
+      ∙ ap (goes_to (standing_after catalog asks journal) (taken_entry p page n))
+      (heard_is h ∙ ap (λ (x : next.Verdict). heard_as catalog asks (standing_after catalog asks journal).heard part x) e)
 
   after_taken : (q : Pump) (v : next.Verdict) → At → verdict_here p part ≡ v
-      → IsLeft catalog asks q (goes_to (left catalog asks journal) (taken_entry p page n) (heard_as catalog asks (left catalog asks journal).heard part v))
+      → IsLeft catalog asks q (goes_to (standing_after catalog asks journal) (taken_entry p page n) (heard_as catalog asks (standing_after catalog asks journal).heard part v))
       → IsAfter catalog asks (journal ++ taken_entry p page n ∷ []) q
-  after_taken q v h e l = subst (λ (x : Left). IsLeft catalog asks q x) (sym (left_is h v e)) l
+  after_taken q v h e l = subst (λ (x : Standing). IsLeft catalog asks q x) (sym (left_is h v e)) l
 
   keeps_taken : (v : next.Verdict) → At → verdict_here p part ≡ v
-      → take (length (heard_as catalog asks (left catalog asks journal).heard part v).part) page ≡ (heard_as catalog asks (left catalog asks journal).heard part v).part
+      → take (length (heard_as catalog asks (standing_after catalog asks journal).heard part v).part) page ≡ (heard_as catalog asks (standing_after catalog asks journal).heard part v).part
       → Keeps catalog asks (journal ++ taken_entry p page n ∷ []) page
-  keeps_taken v h e k = subst (λ (x : Left). take (length x.heard.part) page ≡ x.heard.part) (sym (left_is h v e)) k
+  keeps_taken v h e k = subst (λ (x : Standing). take (length x.heard.part) page ≡ x.heard.part) (sym (left_is h v e)) k
 
   event_taken : (v : next.Verdict) → At → verdict_here p part ≡ v
-      → event_after catalog (left catalog asks journal).heard piece ≡ event_at catalog (left catalog asks journal).heard part v
+      → event_after catalog (standing_after catalog asks journal).heard piece ≡ event_at catalog (standing_after catalog asks journal).heard part v
   event_taken v h e =
-      ap (λ (x : next.Verdict). event_at catalog (left catalog asks journal).heard ((left catalog asks journal).heard.part ++ piece) x) (sym (verdict_of h) ∙ e)
-      ∙ ap (λ (x : List ℕ). event_at catalog (left catalog asks journal).heard x v) (sym (part_is h))
+      ap (λ (x : next.Verdict). event_at catalog (standing_after catalog asks journal).heard ((standing_after catalog asks journal).heard.part ++ piece) x) (sym (verdict_of h) ∙ e)
+      ∙ ap (λ (x : List ℕ). event_at catalog (standing_after catalog asks journal).heard x v) (sym (part_is h))
 
-  not_stopped : At → ((left catalog asks journal).stopped || false) ≡ false
+  not_stopped : At → ((standing_after catalog asks journal).stopped || false) ≡ false
   not_stopped h = or_nothing _ false (h.after.stopped ∙ ap has_stopped (stage_of h))
 
-  not_closed : At → ((left catalog asks journal).closed || false) ≡ false
+  not_closed : At → ((standing_after catalog asks journal).closed || false) ≡ false
   not_closed h = or_nothing _ false (h.after.closed ∙ ap is_closed (stage_of h))
 
   part_kept : At → take (length part) page ≡ part
@@ -139,10 +139,10 @@ module _ (catalog : Catalog) (asks : List Asked) (journal : Journal) (p : Pump) 
 
   -- the frame at hand is not whole
   pub part_after : (q : Pump) (missing : ℕ) → At → Same p q → q.before ≡ p.before → q.stage ≡ Taking → q.have ≡ p.have + n → q.lacks ≡ missing
-      → verdict_here p part ≡ next.Short missing → IsAfter catalog asks (journal ++ taken_entry p page n ∷ []) q
+      → verdict_here p part ≡ next.Lacking missing → IsAfter catalog asks (journal ++ taken_entry p page n ∷ []) q
   part_after q missing h s before stage have lacking e =
-      let l : Left = left catalog asks journal in
-      after_taken q (next.Short missing) h e (record {
+      let l : Standing = standing_after catalog asks journal in
+      after_taken q (next.Lacking missing) h e (record {
         opened = sym (ap is_opened stage);
         closed = not_closed h ∙ sym (ap is_closed stage);
         stopped = not_stopped h ∙ sym (ap has_stopped stage);
@@ -155,21 +155,21 @@ module _ (catalog : Catalog) (asks : List Asked) (journal : Journal) (p : Pump) 
           phase = ap is_over s.phase ∙ (is_taking h).phase;
           sent = (is_taking h).sent ∙ sym (plus_nothing l.sent l.sent refl);
           have = part_length h ∙ sym have;
-          lacks = sym (verdict_is catalog p l.heard.awaits part h.after.awaits) ∙ (e ∙ ap (λ (k : ℕ). next.Short k) (sym lacking));
+          lacks = sym (verdict_is catalog p l.heard.awaits part h.after.awaits) ∙ (e ∙ ap (λ (k : ℕ). next.Lacking k) (sym lacking));
         });
       })
 
-  pub part_keeps : (missing : ℕ) → At → verdict_here p part ≡ next.Short missing → Keeps catalog asks (journal ++ taken_entry p page n ∷ []) page
-  part_keeps missing h e = keeps_taken (next.Short missing) h e (part_kept h)
+  pub part_keeps : (missing : ℕ) → At → verdict_here p part ≡ next.Lacking missing → Keeps catalog asks (journal ++ taken_entry p page n ∷ []) page
+  part_keeps missing h e = keeps_taken (next.Lacking missing) h e (part_kept h)
 
-  pub part_event : (missing : ℕ) → At → verdict_here p part ≡ next.Short missing → event_after catalog (left catalog asks journal).heard piece ≡ event.Part
-  part_event missing h e = event_taken (next.Short missing) h e
+  pub part_event : (missing : ℕ) → At → verdict_here p part ≡ next.Lacking missing → event_after catalog (standing_after catalog asks journal).heard piece ≡ event.Part
+  part_event missing h e = event_taken (next.Lacking missing) h e
 
   -- the frame at hand is invalid
   pub invalid_after : (q : Pump) (kind place : ℕ) → At → Same p q → q.before ≡ p.before → q.stage ≡ Closing (Protocol kind place) → kind ≡ frames.kind_in part → place ≡ p.before
       → verdict_here p part ≡ next.Invalid → IsAfter catalog asks (journal ++ taken_entry p page n ∷ []) q
   invalid_after q kind place h s before stage kind_is place_is e =
-      let l : Left = left catalog asks journal in
+      let l : Standing = standing_after catalog asks journal in
       after_taken q next.Invalid h e (record {
         opened = sym (ap is_opened stage);
         closed = not_closed h ∙ sym (ap is_closed stage);
@@ -187,10 +187,10 @@ module _ (catalog : Catalog) (asks : List Asked) (journal : Journal) (p : Pump) 
   invalid_keeps h e = keeps_taken next.Invalid h e (part_kept h)
 
   pub invalid_event : (kind place : ℕ) → At → kind ≡ frames.kind_in part → place ≡ p.before → verdict_here p part ≡ next.Invalid
-      → event_after catalog (left catalog asks journal).heard piece ≡ event.Invalid kind place
+      → event_after catalog (standing_after catalog asks journal).heard piece ≡ event.Invalid kind place
   invalid_event kind place h kind_is place_is e =
       event_taken next.Invalid h e
-      ∙ (ap (λ (k : ℕ). event.Invalid k (counted (bytes_before (left catalog asks journal).heard))) (sym kind_is)
+      ∙ (ap (λ (k : ℕ). event.Invalid k (counted (bytes_before (standing_after catalog asks journal).heard))) (sym kind_is)
       ∙ ap (λ (k : ℕ). event.Invalid kind k) (sym (place_is ∙ h.after.before)))
 
   -- the frame at hand is whole
@@ -199,15 +199,15 @@ module _ (catalog : Catalog) (asks : List Asked) (journal : Journal) (p : Pump) 
       let size : length piece ≡ n = piece_length h in
       let fits : n ≤ p.lacks = fits_of h in
       subst (λ (x : List ℕ). 8 + frames.size_in x ≤ length x → length x ≡ 8 + frames.size_in x) (sym (part_is h))
-      (exact catalog (left catalog asks journal).heard.awaits (left catalog asks journal).heard.part piece p.lacks (is_taking h).lacks (omega (arith, size, fits))) whole
+      (exact catalog (standing_after catalog asks journal).heard.awaits (standing_after catalog asks journal).heard.part piece p.lacks (is_taking h).lacks (omega (arith, size, fits))) whole
 
-  going_stage : (q : Pump) (turn : next.Turn) (s : Stage) → At → turn.due ≡ due_at q s → IsGoing q.phase s → q.have ≡ 0 → q.lacks ≡ 8
-      → (h : Heard) → h.awaits ≡ turn.awaits → h.due ≡ (left catalog asks journal).heard.due ++ turn.due → h.part ≡ []
-      → IsStage catalog q (goes_to (left catalog asks journal) (taken_entry p page n) h) s
+  going_stage : (q : Pump) (turn : next.FrameOutcome) (s : Stage) → At → turn.due ≡ due_at q s → IsGoing q.phase s → q.have ≡ 0 → q.lacks ≡ 8
+      → (h : Heard) → h.awaits ≡ turn.awaits → h.due ≡ (standing_after catalog asks journal).heard.due ++ turn.due → h.part ≡ []
+      → IsStage catalog q (goes_to (standing_after catalog asks journal) (taken_entry p page n) h) s
   going_stage q turn Dialling at due going have lacking h aw d pt = absurd going
   going_stage q turn (Sending outgoing) at due going have lacking h aw d pt =
-      let sent : ℕ = (left catalog asks journal).sent in
-      let before : List channel.Frame = (left catalog asks journal).heard.due in
+      let sent : ℕ = (standing_after catalog asks journal).sent in
+      let before : List channel.Frame = (standing_after catalog asks journal).heard.due in
       let all : h.due ≡ before ++ frame_due q outgoing ∷ [] = d ∙ ap (λ (x : List channel.Frame). before ++ x) due in
       let at_end : sent + 0 ≡ length before = plus_nothing sent (length before) (sym (is_taking at).sent) in
       record {
@@ -221,13 +221,13 @@ module _ (catalog : Catalog) (asks : List Asked) (journal : Journal) (p : Pump) 
       last_got [] x = refl
       last_got (_ ∷ xs) x = last_got xs x
   going_stage q turn Taking at due going have lacking h aw d pt =
-      let sent : ℕ = (left catalog asks journal).sent in
-      let before : List channel.Frame = (left catalog asks journal).heard.due in
+      let sent : ℕ = (standing_after catalog asks journal).sent in
+      let before : List channel.Frame = (standing_after catalog asks journal).heard.due in
       record {
         phase = going;
         sent = ap length (d ∙ (ap (λ (x : List channel.Frame). before ++ x) due ∙ append-nil before)) ∙ ((is_taking at).sent ∙ sym (plus_nothing sent sent refl));
         have = ap length pt ∙ sym have;
-        lacks = ap (λ (x : List ℕ). next.verdict catalog h.awaits x) pt ∙ ap (λ (k : ℕ). next.Short k) (sym lacking);
+        lacks = ap (λ (x : List ℕ). next.verdict catalog h.awaits x) pt ∙ ap (λ (k : ℕ). next.Lacking k) (sym lacking);
       }
   going_stage q turn (Closing _) at due going have lacking h aw d pt = absurd going
   going_stage q turn (Closed _) at due going have lacking h aw d pt = absurd going
@@ -247,16 +247,16 @@ module _ (catalog : Catalog) (asks : List Asked) (journal : Journal) (p : Pump) 
       ∙ (length-append (flat_map frames.frame_bytes h.frames) (frames.frame_bytes frame) ∙ ap (λ (m : ℕ). bytes_before h + m) e) in
       omega (arith, all, b)
 
-  pub frame_after : (q : Pump) → At → IsTurned catalog q (next.turn catalog asks (left catalog asks journal).heard.awaits (frames.frame_in part))
+  pub frame_after : (q : Pump) → At → IsTurned catalog q (next.after_frame catalog asks (standing_after catalog asks journal).heard.awaits (frames.frame_in part))
       → IsFresh catalog asks q q.phase → IsGoing q.phase q.stage → q.have ≡ 0 → q.lacks ≡ 8 → q.before ≡ min (p.before + length part) (2 ^ 64 - 1)
       → length (frames.frame_bytes (frames.frame_in part)) ≡ length part
-      → AreMarked q.refused ((left catalog asks journal).heard.ended ++ next.ended_by (left catalog asks journal).heard.awaits (left catalog asks journal).heard.rows (frames.frame_in part))
-      → verdict_here p part ≡ next.Whole → IsAfter catalog asks (journal ++ taken_entry p page n ∷ []) q
+      → AreMarked q.refused ((standing_after catalog asks journal).heard.ended ++ next.ended_by (standing_after catalog asks journal).heard.awaits (standing_after catalog asks journal).heard.rows (frames.frame_in part))
+      → verdict_here p part ≡ next.Complete → IsAfter catalog asks (journal ++ taken_entry p page n ∷ []) q
   frame_after q h turned fresh going have lacking before size marks e =
-      let l : Left = left catalog asks journal in
-      let turn : next.Turn = next.turn catalog asks (left catalog asks journal).heard.awaits (frames.frame_in part) in
+      let l : Standing = standing_after catalog asks journal in
+      let turn : next.FrameOutcome = next.after_frame catalog asks (standing_after catalog asks journal).heard.awaits (frames.frame_in part) in
       let is = stage_bool q q.stage going in
-      after_taken q next.Whole h e (record {
+      after_taken q next.Complete h e (record {
         opened = sym is.0;
         closed = not_closed h ∙ sym is.1;
         stopped = not_stopped h ∙ sym is.2;
@@ -268,15 +268,15 @@ module _ (catalog : Catalog) (asks : List Asked) (journal : Journal) (p : Pump) 
         stage = going_stage q turn q.stage h turned.due going have lacking (next.heard_frame catalog asks l.heard (frames.frame_in part)) refl refl refl;
       })
 
-  pub frame_keeps : At → verdict_here p part ≡ next.Whole → Keeps catalog asks (journal ++ taken_entry p page n ∷ []) page
-  frame_keeps h e = keeps_taken next.Whole h e refl
+  pub frame_keeps : At → verdict_here p part ≡ next.Complete → Keeps catalog asks (journal ++ taken_entry p page n ∷ []) page
+  frame_keeps h e = keeps_taken next.Complete h e refl
 
-  pub frame_event : (tally : Tally) → At → Stands p part tally → verdict_here p part ≡ next.Whole
-      → event_after catalog (left catalog asks journal).heard piece ≡ event_of tally.rows (frames.frame_in part)
+  pub frame_event : (tally : Tally) → At → Stands p part tally → verdict_here p part ≡ next.Complete
+      → event_after catalog (standing_after catalog asks journal).heard piece ≡ event_of tally.rows (frames.frame_in part)
   frame_event tally h stands e =
-      event_taken next.Whole h e
+      event_taken next.Complete h e
       ∙ ap (λ (k : ℕ). event_of k (frames.frame_in part))
-      (sym (stands.rows.rows ∙ ap length (rows_at_are catalog p p.phase (left catalog asks journal).heard.awaits (frames.frame_in part) h.after.awaits)))
+      (sym (stands.rows.rows ∙ ap length (rows_at_are catalog p p.phase (standing_after catalog asks journal).heard.awaits (frames.frame_in part) h.after.awaits)))
 
   pub whole_length : (tally : Tally) → At → Stands p part tally → length part ≡ 8 + frames.size_in part
   whole_length tally h stands = exact_length h stands.whole
@@ -361,7 +361,7 @@ header_size kind size serial payload = length-append (frames.header_bytes kind s
 pub frame_size : (p : Pump) (bytes : List ℕ) (tally : Tally) → Stands p bytes tally → length bytes ≡ 8 + frames.size_in bytes
     → length (frames.frame_bytes (frames.frame_in bytes)) ≡ length bytes
 frame_size p bytes tally h exact_size =
-    header_size (frames.kind_of (frames.frame_in bytes)) (length (frames.payload_of (frames.frame_in bytes))) (frames.serial_of (frames.frame_in bytes)) (frames.payload_of (frames.frame_in bytes))
+    header_size (frames.frame_kind (frames.frame_in bytes)) (length (frames.payload_of (frames.frame_in bytes))) (frames.serial_of (frames.frame_in bytes)) (frames.payload_of (frames.frame_in bytes))
     ∙ (ap (λ (k : ℕ). 8 + k) (payload_size p p.phase bytes h.whole h.header) ∙ sym exact_size)
 
 -- what the events tell of the replies

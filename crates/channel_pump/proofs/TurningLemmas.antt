@@ -3,13 +3,13 @@ use Rattle.std.proofs.Common.{◌≡◌, ◌≢◌, ℕ, zero, suc, ◌+◌, ◌
 use Rattle.std.proofs.lemmas.Bool.Decides.{nat_tests}
 use Rattle.std.proofs.Math.Nat.{div-add-mod}
 use Rattle.std.proofs.lemmas.List.Sums.{take_while-cons}
-use Rattle.ghost_model.specs.Channel as channel
-use Rattle.ghost_model.specs.Channel.{Catalog}
+use Rattle.ghost_model.specs.core.Channel as channel
+use Rattle.ghost_model.specs.core.Channel.{Catalog}
 use Rattle.std.proofs.lemmas.List.{length-drop, length-take-le}
-use Rattle.ghost_model.specs.Asks.{Asked, ask_payload}
-use Rattle.ghost_model.specs.Schema.{Schema}
-use Rattle.ghost_model.specs.Frames as frames
-use Rattle.ghost_model.specs.NextMove as next
+use Rattle.ghost_model.specs.core.Asks.{NumberedAsk, ask_payload}
+use Rattle.ghost_model.specs.core.Schema.{Schema}
+use Rattle.ghost_model.specs.forms.Frames as frames
+use Rattle.ghost_model.specs.core.NextMove as next
 use Rattle.channel_pump.specs.Forms.{Form}
 use Rattle.channel_pump.specs.declared.state.Pump.{Pump}
 use Rattle.channel_pump.specs.declared.state.Phase.{Phase}
@@ -26,25 +26,25 @@ use Rattle.channel_pump.specs.Turning.{forms_after}
 false_is_not : false ≡ true → ⊥
 false_is_not e = cc
 
-payload_of_first : (catalog : Catalog) (forms : List Form) (asked : Asked) (later : List Asked) → AreAsked catalog forms (asked ∷ later)
+payload_of_first : (catalog : Catalog) (forms : List Form) (asked : NumberedAsk) (later : List NumberedAsk) → AreAsked catalog forms (asked ∷ later)
     → first_payload forms ≡ ask_payload catalog.schema asked.ask
 payload_of_first catalog [] asked later h = absurd h
 payload_of_first catalog (form ∷ forms) asked later h = h.0.payload
 
 -- asks are left, and the first of them is sent
-pub asks_on : (catalog : Catalog) (q : Pump) (serial : ℕ) (asks : List Asked) → q.phase ≡ Reply → q.stage ≡ Sending Ask → q.serial ≡ serial
+pub asks_on : (catalog : Catalog) (q : Pump) (serial : ℕ) (asks : List NumberedAsk) → q.phase ≡ Reply → q.stage ≡ Sending Ask → q.serial ≡ serial
     → q.count ≡ 0 → q.last ≡ 0 → 0 < length q.rest → AreAsked catalog q.rest asks
-    → IsTurned catalog q (next.on_with catalog.schema serial asks)
+    → IsTurned catalog q (next.ask_next catalog.schema serial asks)
 asks_on catalog q serial [] phase stage s count last some h = absurd (none_left catalog q.rest some h)
   where
     none_left : (catalog : Catalog) (forms : List Form) → 0 < length forms → AreAsked catalog forms [] → ⊥
     none_left catalog [] some h = omega (arith, some)
     none_left catalog (form ∷ forms) some h = h
 asks_on catalog q serial (asked ∷ later) phase stage s count last some h = record {
-  awaits = subst (λ (x : Phase). IsAwaiting catalog q x (next.Reply asked serial later 0 0)) (sym phase)
+  awaits = subst (λ (x : Phase). IsAwaiting catalog q x (next.AwaitsReply asked serial later 0 0)) (sym phase)
       (record { asks = h; its_serial = s; its_count = count; its_last = last });
-  due = ap (λ (p : List ℕ). channel.Asking serial p ∷ []) (sym (payload_of_first catalog q.rest asked later h))
-      ∙ (ap (λ (n : ℕ). channel.Asking n (first_payload q.rest) ∷ []) (sym s)
+  due = ap (λ (p : List ℕ). channel.AskFrame serial p ∷ []) (sym (payload_of_first catalog q.rest asked later h))
+      ∙ (ap (λ (n : ℕ). channel.AskFrame n (first_payload q.rest) ∷ []) (sym s)
       ∙ ap (due_at q) (sym stage));
 }
 
@@ -73,11 +73,11 @@ welcomed_length part whole =
     let size : length (frames.payload_in part) ≡ frames.size_in part = payload_length part whole in
     omega (arith, length-drop 1 (frames.payload_in part), size)
 
-abbrev greeting_turn : Schema → List Asked → List ℕ → List ℕ → Bool → next.Turn
-greeting_turn schema asks missing part last = if last then next.on_with schema 1 asks else next.still (next.Missing (drop (length part) missing))
+abbrev greeting_turn : Schema → List NumberedAsk → List ℕ → List ℕ → Bool → next.FrameOutcome
+greeting_turn schema asks missing part last = if last then next.ask_next schema 1 asks else next.still (next.AwaitsCatalog (drop (length part) missing))
 
-frame_of_greeting : (missing part : List ℕ) → next.header_fits nothing (next.Missing missing) part ≡ true
-    → frames.frame_in part ≡ channel.Welcome (slice_index (frames.payload_in part) 0) (welcomed part)
+frame_of_greeting : (missing part : List ℕ) → next.header_fits nothing (next.AwaitsCatalog missing) part ≡ true
+    → frames.frame_in part ≡ channel.WelcomeFrame (slice_index (frames.payload_in part) 0) (welcomed part)
 frame_of_greeting missing part fits =
     let all : Greets (frames.version_in part) (frames.kind_in part) (frames.serial_in part) (frames.size_in part) =
     greets (frames.version_in part) (frames.kind_in part) (frames.serial_in part) (frames.size_in part) (length missing) fits in
@@ -90,27 +90,27 @@ test_false : (a b : ℕ) → a ≢ b → (a == b) ≡ false
 test_false a b e = grind (arith, nat_tests)
 
 -- the part that ends the catalog leads to the first ask
-pub greeted_last : (schema : Schema) (asks : List Asked) (missing part : List ℕ) → 8 + frames.size_in part ≤ length part
-    → next.header_fits nothing (next.Missing missing) part ≡ true → frames.size_in part - 1 ≡ length missing
-    → next.turn_of_greeting schema asks missing (frames.frame_in part) ≡ next.on_with schema 1 asks
+pub greeted_last : (schema : Schema) (asks : List NumberedAsk) (missing part : List ℕ) → 8 + frames.size_in part ≤ length part
+    → next.header_fits nothing (next.AwaitsCatalog missing) part ≡ true → frames.size_in part - 1 ≡ length missing
+    → next.turn_of_greeting schema asks missing (frames.frame_in part) ≡ next.ask_next schema 1 asks
 greeted_last schema asks missing part whole fits e =
     ap (next.turn_of_greeting schema asks missing) (frame_of_greeting missing part fits)
     ∙ ap (greeting_turn schema asks missing (welcomed part)) (test_true (length (welcomed part)) (length missing) (welcomed_length part whole ∙ e))
 
 -- any other part leaves the rest of the catalog missing
-pub greeted_part : (schema : Schema) (asks : List Asked) (missing part : List ℕ) → 8 + frames.size_in part ≤ length part
-    → next.header_fits nothing (next.Missing missing) part ≡ true → frames.size_in part - 1 ≢ length missing
-    → next.turn_of_greeting schema asks missing (frames.frame_in part) ≡ next.still (next.Missing (drop (frames.size_in part - 1) missing))
+pub greeted_part : (schema : Schema) (asks : List NumberedAsk) (missing part : List ℕ) → 8 + frames.size_in part ≤ length part
+    → next.header_fits nothing (next.AwaitsCatalog missing) part ≡ true → frames.size_in part - 1 ≢ length missing
+    → next.turn_of_greeting schema asks missing (frames.frame_in part) ≡ next.still (next.AwaitsCatalog (drop (frames.size_in part - 1) missing))
 greeted_part schema asks missing part whole fits ne =
     ap (next.turn_of_greeting schema asks missing) (frame_of_greeting missing part fits)
     ∙ (ap (greeting_turn schema asks missing (welcomed part)) (test_false (length (welcomed part)) (length missing) (λ e. ne (sym (welcomed_length part whole) ∙ e)))
-    ∙ ap (λ (n : ℕ). next.still (next.Missing (drop n missing))) (welcomed_length part whole))
+    ∙ ap (λ (n : ℕ). next.still (next.AwaitsCatalog (drop n missing))) (welcomed_length part whole))
 
-pub still_missing : (catalog : Catalog) (q : Pump) (turn : next.Turn) (bytes : List ℕ) → q.phase ≡ Greeting → q.stage ≡ Taking → q.missing ≡ bytes
-    → turn ≡ next.still (next.Missing bytes) → IsTurned catalog q turn
+pub still_missing : (catalog : Catalog) (q : Pump) (turn : next.FrameOutcome) (bytes : List ℕ) → q.phase ≡ Greeting → q.stage ≡ Taking → q.missing ≡ bytes
+    → turn ≡ next.still (next.AwaitsCatalog bytes) → IsTurned catalog q turn
 still_missing catalog q turn bytes phase stage e t =
-    subst (λ (x : next.Turn). IsTurned catalog q x) (sym t) (record {
-      awaits = subst (λ (x : Phase). IsAwaiting catalog q x (next.Missing bytes)) (sym phase) e;
+    subst (λ (x : next.FrameOutcome). IsTurned catalog q x) (sym t) (record {
+      awaits = subst (λ (x : Phase). IsAwaiting catalog q x (next.AwaitsCatalog bytes)) (sym phase) e;
       due = ap (due_at q) (sym stage);
     })
 
@@ -164,14 +164,14 @@ fewer_by_rows p q part tally phase same rest last kind h =
 
 -- a text that is given up
 
-after_either : (catalog : Catalog) (text : ℕ) (form : Form) (forms : List Form) (asked : Asked) (asks : List Asked) (b : Bool)
+after_either : (catalog : Catalog) (text : ℕ) (form : Form) (forms : List Form) (asked : NumberedAsk) (asks : List NumberedAsk) (b : Bool)
     → AreAsked catalog (forms_after text forms) (next.of_later_texts text asks) → AreAsked catalog (form ∷ forms) (asked ∷ asks)
     → AreAsked catalog (drop (length (cond b (form ∷ take_while (λ (f : Form). f.text == text) forms) [])) (form ∷ forms))
     (if b then next.of_later_texts text asks else asked ∷ asks)
 after_either catalog text form forms asked asks true later all = later
 after_either catalog text form forms asked asks false later all = all
 
-pub asked_after : (catalog : Catalog) (text : ℕ) (forms : List Form) (asks : List Asked) → AreAsked catalog forms asks
+pub asked_after : (catalog : Catalog) (text : ℕ) (forms : List Form) (asks : List NumberedAsk) → AreAsked catalog forms asks
     → AreAsked catalog (forms_after text forms) (next.of_later_texts text asks)
 asked_after catalog text [] [] h = h
 asked_after catalog text [] (asked ∷ asks) h = absurd h
@@ -196,14 +196,14 @@ sorry_header [] serial part a b t = absurd (false_is_not t)
 sorry_header (form ∷ forms) serial part a b t =
     sorry_kind (frames.version_in part == frames.frame_version) (frames.serial_in part == serial) (width_of (form_kinds form)) (frames.kind_in part) (frames.size_in part) a b t
 
-pub refused_turn : (p : Pump) (part : List ℕ) (schema : Schema) (asked : Asked) (serial : ℕ) (later : List Asked) (count last : ℕ)
+pub refused_turn : (p : Pump) (part : List ℕ) (schema : Schema) (asked : NumberedAsk) (serial : ℕ) (later : List NumberedAsk) (count last : ℕ)
     → p.phase ≡ Reply → frames.kind_in part ≢ 18 → frames.kind_in part ≢ 19 → header_at p.phase p part ≡ true
-    → next.turn_of_reply schema asked serial later count last (frames.frame_in part) ≡ next.on_with schema (serial + 1) (next.of_later_texts asked.text later)
+    → next.turn_of_reply schema asked serial later count last (frames.frame_in part) ≡ next.ask_next schema (serial + 1) (next.of_later_texts asked.text later)
 refused_turn p part schema asked serial later count last phase a b t =
     let header : reply_header p.rest p.serial part ≡ true = subst (λ (x : Phase). header_at x p part ≡ true) phase t in
     ap (next.turn_of_reply schema asked serial later count last) (frame_of_kind part 20 (sorry_header p.rest p.serial part a b header))
 
-pub refused_asks : (catalog : Catalog) (form : Form) (forms rest : List Form) (asked : Asked) (later : List Asked)
+pub refused_asks : (catalog : Catalog) (form : Form) (forms rest : List Form) (asked : NumberedAsk) (later : List NumberedAsk)
     → AreAsked catalog rest (asked ∷ later) → rest ≡ form ∷ forms → AreAsked catalog (forms_after form.text forms) (next.of_later_texts asked.text later)
 refused_asks catalog form forms rest asked later h e =
     let all : AreAsked catalog (form ∷ forms) (asked ∷ later) = subst (λ (x : List Form). AreAsked catalog x (asked ∷ later)) e h in
@@ -218,7 +218,7 @@ fewer_by_end p q form forms left phase rest less e =
     (subst (λ (x : List Form). frames_left q < frames_of_reply x p.last) (sym rest) (omega (arith, less, e)))
 
 -- the asks that are left where the first was refused
-pub asks_given_up : (catalog : Catalog) (rest left later forms : List Form) (form : Form) (text : ℕ) (asked : Asked) (asks : List Asked)
+pub asks_given_up : (catalog : Catalog) (rest left later forms : List Form) (form : Form) (text : ℕ) (asked : NumberedAsk) (asks : List NumberedAsk)
     → AreAsked catalog rest (asked ∷ asks) → rest ≡ form ∷ forms → form.text ≡ text → later ≡ drop 1 rest → left ≡ forms_after text later
     → AreAsked catalog left (next.of_later_texts asked.text asks)
 asks_given_up catalog rest left later forms form text asked asks h first of_text without given =

@@ -1,8 +1,8 @@
 -- An ask as the pump sees it: the number of its text, the ask itself, the bytes of its payload, the kinds of the asked
 -- columns and the number of its table's rows.
 use Rattle.std.specs.Prelude.{◌≡◌, ℕ, List, [], ◌∷◌, map}
-use Rattle.ghost_model.specs.Schema.{Kind}
-use Rattle.ghost_model.specs.Channel.{Ask}
+use Rattle.ghost_model.specs.core.Schema.{Kind}
+use Rattle.ghost_model.specs.core.Channel.{Ask}
 use Rattle.ghost_base.specs.Views.{kind_of}
 use Rattle.channel_codec.specs.AskViews.{ask_view}
 use Rattle.channel_pump.specs.declared.forms.AskForm.{AskForm}

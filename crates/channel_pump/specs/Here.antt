@@ -2,10 +2,10 @@
 -- for what it awaits.
 use Rattle.std.specs.Prelude.{◌≡◌, ℕ, ◌+◌, ◌-◌, ◌*◌, ◌<◌, ◌≤◌, Bool, true, false, not, ◌&&◌, ◌==◌, nat_lt, List, [], ◌∷◌, length, if◌then◌else◌}
 use Rattle.std.specs.List.{list_any}
-use Rattle.ghost_model.specs.Channel as channel
-use Rattle.ghost_model.specs.Frames.{frame_version, version_in, kind_in, size_in, serial_in, frame_in}
-use Rattle.ghost_model.specs.Asks.{ReplyRow}
-use Rattle.ghost_model.specs.NextMove as next
+use Rattle.ghost_model.specs.core.Channel as channel
+use Rattle.ghost_model.specs.forms.Frames.{frame_version, version_in, kind_in, size_in, serial_in, frame_in}
+use Rattle.ghost_model.specs.core.Asks.{RowCells}
+use Rattle.ghost_model.specs.core.NextMove as next
 use Rattle.channel_pump.specs.Forms.{Form}
 use Rattle.channel_pump.specs.declared.rows.Tally.{Tally}
 use Rattle.channel_pump.specs.declared.judging.Judged.{Judged}
@@ -30,15 +30,15 @@ reply_header (form ∷ _) serial header =
 
 -- whether a whole header may stand here
 abbrev pub header_at : Phase → Pump → List ℕ → Bool
-header_at Greeting p header = next.header_fits nothing (next.Missing p.missing) header
+header_at Greeting p header = next.header_fits nothing (next.AwaitsCatalog p.missing) header
 header_at Reply p header = reply_header p.rest p.serial header
 header_at Over p header = false
 
 abbrev pub form_fits : Form → (count last : ℕ) → channel.Frame → Bool
-form_fits form count last (channel.Replied _ payload) =
+form_fits form count last (channel.RowsFrame _ payload) =
     next.rows_fit form.rows last (form_kinds form) (rows_with (form_kinds form) payload)
-form_fits form count last (channel.Done _ total) = total == count
-form_fits form count last (channel.Sorry _ code) = not (code == 0)
+form_fits form count last (channel.DoneFrame _ total) = total == count
+form_fits form count last (channel.SorryFrame _ code) = not (code == 0)
 form_fits form count last _ = false
 
 abbrev pub reply_payload : List Form → (count last : ℕ) → channel.Frame → Bool
@@ -54,22 +54,22 @@ payload_at Over p frame = false
 -- what the bytes at hand amount to
 abbrev pub verdict_here : Pump → List ℕ → next.Verdict
 verdict_here p part =
-    if nat_lt (length part) 8 then next.Short (8 - length part)
+    if nat_lt (length part) 8 then next.Lacking (8 - length part)
     else if not (header_at p.phase p part) then next.Invalid
-    else if nat_lt (length part) (8 + size_in part) then next.Short (8 + size_in part - length part)
-    else if payload_at p.phase p (frame_in part) then next.Whole
+    else if nat_lt (length part) (8 + size_in part) then next.Lacking (8 + size_in part - length part)
+    else if payload_at p.phase p (frame_in part) then next.Complete
     else next.Invalid
 
-abbrev pub form_rows : Form → channel.Frame → List ReplyRow
-form_rows form (channel.Replied _ payload) = rows_with (form_kinds form) payload
+abbrev pub form_rows : Form → channel.Frame → List RowCells
+form_rows form (channel.RowsFrame _ payload) = rows_with (form_kinds form) payload
 form_rows form _ = []
 
-abbrev pub reply_rows : List Form → channel.Frame → List ReplyRow
+abbrev pub reply_rows : List Form → channel.Frame → List RowCells
 reply_rows [] frame = []
 reply_rows (form ∷ _) frame = form_rows form frame
 
 -- the rows that a frame brings here
-abbrev pub rows_at : Phase → Pump → channel.Frame → List ReplyRow
+abbrev pub rows_at : Phase → Pump → channel.Frame → List RowCells
 rows_at Greeting p frame = []
 rows_at Reply p frame = reply_rows p.rest frame
 rows_at Over p frame = []
@@ -83,8 +83,8 @@ abbrev pub IsTallyHere : Pump → List ℕ → Tally → Type 0
 IsTallyHere p part tally = IsTally p.last (table_rows p.rest) (rows_at p.phase p (frame_in part)) tally
 
 abbrev pub judged_view : Judged → next.Verdict
-judged_view (judged.Short missing) = next.Short missing
-judged_view (judged.Whole _) = next.Whole
+judged_view (judged.Short missing) = next.Lacking missing
+judged_view (judged.Whole _) = next.Complete
 judged_view judged.Invalid = next.Invalid
 
 -- a whole frame that may stand here, with the tally of its rows

@@ -1,11 +1,11 @@
 -- What an event tells of the replies: the rows that came, the asks that were ended, and why the session ends.
 use Rattle.std.specs.Prelude.{◌≡◌, ℕ, ◌*◌, ◌≤◌, true, false, List, [], ◌∷◌, ◌++◌, length, Option, Some, None}
-use Rattle.ghost_model.specs.Channel.{Catalog}
-use Rattle.ghost_model.specs.Asks.{Asked, rows_in, row_width, kinds_of}
-use Rattle.ghost_model.specs.Frames.{payload_in, kind_in}
-use Rattle.ghost_model.specs.NextMove as next
-use Rattle.ghost_model.specs.NextMove.{Awaits, Missing, Nothing, Heard, Left, Ended, Ending, Answered, Refused, rows_fit, rows_of}
-use Rattle.ghost_model.specs.Schema.{Kind}
+use Rattle.ghost_model.specs.core.Channel.{Catalog, row_count_in}
+use Rattle.ghost_model.specs.core.Asks.{NumberedAsk, rows_in, row_width, kinds_of}
+use Rattle.ghost_model.specs.forms.Frames.{payload_in, kind_in}
+use Rattle.ghost_model.specs.core.NextMove as next
+use Rattle.ghost_model.specs.core.NextMove.{Awaits, AwaitsCatalog, AwaitsNothing, Heard, Standing, EndedAsk, Ending, Answered, Refused, rows_fit, bytes_before}
+use Rattle.ghost_model.specs.core.Schema.{Kind}
 use Rattle.channel_pump.specs.Forms.{Form}
 use Rattle.channel_pump.specs.Asked.{width_of, rows_with}
 use Rattle.channel_pump.specs.Here.{table_rows}
@@ -16,7 +16,7 @@ use Rattle.channel_pump.specs.declared.state.Event.{Event}
 use Rattle.channel_pump.specs.declared.state.Event.TheVariants as event
 use Rattle.channel_pump.specs.declared.state.Cause.{Cause}
 use Rattle.channel_pump.specs.declared.state.Cause.TheVariants.{Finished, Link, Protocol}
-use Rattle.channel_pump.specs.State.{counted, bytes_before}
+use Rattle.channel_pump.specs.State.{counted}
 
 -- the bytes of the rows of the ask at hand after an event; those that came stand in the page behind the header
 abbrev pub rows_on : Event → (page rows : List ℕ) → List ℕ
@@ -27,13 +27,13 @@ rows_on event.Done page rows = []
 rows_on (event.Sorry _) page rows = []
 rows_on (event.Invalid _ _) page rows = rows
 
-abbrev pub ended_with : Awaits → Ending → List Ended
-ended_with (Missing _) ending = []
-ended_with (next.Reply asked serial later count last) ending = next.ended asked ending ∷ []
-ended_with Nothing ending = []
+abbrev pub ended_with : Awaits → Ending → List EndedAsk
+ended_with (AwaitsCatalog _) ending = []
+ended_with (next.AwaitsReply asked serial later count last) ending = next.ended asked ending ∷ []
+ended_with AwaitsNothing ending = []
 
 -- the ask that an event ends
-abbrev pub ended_on : Event → Awaits → (rows : List ℕ) → List Ended
+abbrev pub ended_on : Event → Awaits → (rows : List ℕ) → List EndedAsk
 ended_on event.Part awaits rows = []
 ended_on event.Welcome awaits rows = []
 ended_on (event.Rows _) awaits rows = []
@@ -42,15 +42,15 @@ ended_on (event.Sorry code) awaits rows = ended_with awaits (Refused code)
 ended_on (event.Invalid _ _) awaits rows = []
 
 -- rows of the reply that is awaited came: so many whole ones, which may stand after those before
-pub record RowsCame (catalog : Catalog) (asked : Asked) (last : ℕ) (payload : List ℕ) (n : ℕ) : Type 0 where
-  pub fit : rows_fit (rows_of catalog asked.ask.table) last (kinds_of catalog.schema asked.ask) (rows_in catalog.schema asked.ask payload) ≡ true
+pub record RowsCame (catalog : Catalog) (asked : NumberedAsk) (last : ℕ) (payload : List ℕ) (n : ℕ) : Type 0 where
+  pub fit : rows_fit (row_count_in catalog asked.ask.table) last (kinds_of catalog.schema asked.ask) (rows_in catalog.schema asked.ask payload) ≡ true
   pub count : n ≡ length (rows_in catalog.schema asked.ask payload)
   pub size : length payload ≡ n * row_width catalog.schema asked.ask
 
 abbrev pub MayCome : Catalog → Awaits → (payload : List ℕ) → (n : ℕ) → Type 0
-MayCome catalog (Missing _) payload n = ⊥
-MayCome catalog (next.Reply asked serial later count last) payload n = RowsCame catalog asked last payload n
-MayCome catalog Nothing payload n = ⊥
+MayCome catalog (AwaitsCatalog _) payload n = ⊥
+MayCome catalog (next.AwaitsReply asked serial later count last) payload n = RowsCame catalog asked last payload n
+MayCome catalog AwaitsNothing payload n = ⊥
 
 abbrev pub RowsOf : Catalog → Awaits → (page : List ℕ) → Event → Type 0
 RowsOf catalog awaits page event.Part = Unit {0}
@@ -67,13 +67,13 @@ pub record Tells (catalog : Catalog) (page : List ℕ) (result : Event) (before 
   pub came : RowsOf catalog before.awaits page result
 
 -- why a session ends, if it does
-abbrev pub EndsBy : Left → Cause → Type 0
-EndsBy l Finished = (l.heard.awaits ≡ Nothing) × (l.stopped ≡ false) × (l.heard.broken ≡ false)
+abbrev pub EndsBy : Standing → Cause → Type 0
+EndsBy l Finished = (l.heard.awaits ≡ AwaitsNothing) × (l.stopped ≡ false) × (l.heard.broken ≡ false)
 EndsBy l Link = (l.stopped ≡ true) × (l.heard.broken ≡ false)
 EndsBy l (Protocol kind at) =
     (l.stopped ≡ false) × (l.heard.broken ≡ true) × (kind ≡ kind_in l.heard.part) × (at ≡ counted (bytes_before l.heard))
 
-abbrev pub EndsAs : Left → Option Cause → Type 0
+abbrev pub EndsAs : Standing → Option Cause → Type 0
 EndsAs l None = (l.stopped ≡ false) × (l.heard.broken ≡ false)
 EndsAs l (Some cause) = EndsBy l cause
 

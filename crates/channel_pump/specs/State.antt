@@ -1,13 +1,13 @@
--- When a pump stands where a journal leaves the key: its fields are what is left of the journal, for a catalog and the
+-- When a pump stands where a journal leaves the key: its fields are what the journal has led to, for a catalog and the
 -- asks of the session.
 use Rattle.std.specs.Prelude.{◌≡◌, ℕ, ◌+◌, ◌-◌, ◌^◌, ◌<◌, ◌≤◌, Bool, true, false, List, [], ◌∷◌, length, take, drop, flat_map, slice_get, min, Option, Some, None}
-use Rattle.ghost_model.specs.Channel as channel
-use Rattle.ghost_model.specs.Channel.{Catalog, Journal, Move}
-use Rattle.ghost_model.specs.Frames.{frame_bytes, kind_in}
-use Rattle.ghost_model.specs.Asks.{Asked}
-use Rattle.ghost_model.specs.Moves.{taken}
-use Rattle.ghost_model.specs.NextMove as next
-use Rattle.ghost_model.specs.NextMove.{Awaits, Missing, Nothing, Heard, Left, Turn, left, next_with, heard}
+use Rattle.ghost_model.specs.core.Channel as channel
+use Rattle.ghost_model.specs.core.Channel.{Catalog, Journal, Move}
+use Rattle.ghost_model.specs.forms.Frames.{frame_bytes, kind_in}
+use Rattle.ghost_model.specs.core.Asks.{NumberedAsk}
+use Rattle.ghost_model.specs.core.Moves.{taken}
+use Rattle.ghost_model.specs.core.NextMove as next
+use Rattle.ghost_model.specs.core.NextMove.{Awaits, AwaitsCatalog, AwaitsNothing, Heard, Standing, bytes_before, FrameOutcome, standing_after, next_with, heard}
 use Rattle.channel_pump.specs.Forms.{Form}
 use Rattle.channel_pump.specs.declared.state.Pump.{Pump}
 use Rattle.channel_pump.specs.declared.state.Phase.{Phase}
@@ -24,7 +24,7 @@ use Rattle.channel_pump.specs.Asked.{AreAsked}
 use Rattle.channel_pump.specs.Marks.{AreMarked}
 
 -- the forms, serial, number of rows and last identifier are those of the reply that is awaited
-pub record IsReplying (catalog : Catalog) (p : Pump) (asked : Asked) (serial : ℕ) (later : List Asked) (count last : ℕ) : Type 0 where
+pub record IsReplying (catalog : Catalog) (p : Pump) (asked : NumberedAsk) (serial : ℕ) (later : List NumberedAsk) (count last : ℕ) : Type 0 where
   pub asks : AreAsked catalog p.rest (asked ∷ later)
   pub its_serial : p.serial ≡ serial
   pub its_count : p.count ≡ count
@@ -32,17 +32,17 @@ pub record IsReplying (catalog : Catalog) (p : Pump) (asked : Asked) (serial : �
 
 -- the pump awaits the same
 abbrev pub IsAwaiting : Catalog → Pump → Phase → Awaits → Type 0
-IsAwaiting catalog p Greeting (Missing bytes) = p.missing ≡ bytes
-IsAwaiting catalog p Reply (next.Reply asked serial later count last) = IsReplying catalog p asked serial later count last
-IsAwaiting catalog p Over Nothing = Unit {0}
+IsAwaiting catalog p Greeting (AwaitsCatalog bytes) = p.missing ≡ bytes
+IsAwaiting catalog p Reply (next.AwaitsReply asked serial later count last) = IsReplying catalog p asked serial later count last
+IsAwaiting catalog p Over AwaitsNothing = Unit {0}
 IsAwaiting catalog p _ _ = ⊥
 
 -- before the first ask is sent, all asks are left, and the serial is the first one
-pub record IsBefore (catalog : Catalog) (asks : List Asked) (p : Pump) : Type 0 where
+pub record IsBefore (catalog : Catalog) (asks : List NumberedAsk) (p : Pump) : Type 0 where
   pub all : AreAsked catalog p.rest asks
   pub serial : p.serial ≡ 1
 
-abbrev pub IsFresh : Catalog → List Asked → Pump → Phase → Type 0
+abbrev pub IsFresh : Catalog → List NumberedAsk → Pump → Phase → Type 0
 IsFresh catalog asks p Greeting = IsBefore catalog asks p
 IsFresh catalog asks p Reply = Unit {0}
 IsFresh catalog asks p Over = Unit {0}
@@ -53,10 +53,10 @@ first_payload (form ∷ _) = form.payload
 
 -- the frame that is sent
 abbrev pub frame_due : Pump → Outgoing → channel.Frame
-frame_due p Hello = channel.Hello p.generation
-frame_due p Ask = channel.Asking p.serial (first_payload p.rest)
-frame_due p More = channel.More p.serial
-frame_due p Bye = channel.Bye
+frame_due p Hello = channel.HelloFrame p.generation
+frame_due p Ask = channel.AskFrame p.serial (first_payload p.rest)
+frame_due p More = channel.MoreFrame p.serial
+frame_due p Bye = channel.ByeFrame
 
 abbrev pub is_over : Phase → Bool
 is_over Greeting = false
@@ -111,29 +111,26 @@ has_broken (Closed cause) = is_protocol cause
 abbrev pub counted : ℕ → ℕ
 counted bytes = min bytes (2 ^ 64 - 1)
 
-abbrev pub bytes_before : Heard → ℕ
-bytes_before heard = length (flat_map frame_bytes heard.frames)
-
-pub record IsDialling (p : Pump) (l : Left) : Type 0 where
+pub record IsDialling (p : Pump) (l : Standing) : Type 0 where
   pub phase : is_over p.phase ≡ false
   pub sent : l.sent ≡ 0
-  pub due : l.heard.due ≡ channel.Hello p.generation ∷ []
+  pub due : l.heard.due ≡ channel.HelloFrame p.generation ∷ []
   pub part : l.heard.part ≡ []
 
-pub record IsSending (p : Pump) (outgoing : Outgoing) (l : Left) : Type 0 where
+pub record IsSending (p : Pump) (outgoing : Outgoing) (l : Standing) : Type 0 where
   pub phase : is_over p.phase ≡ is_bye outgoing
   pub frame : slice_get l.heard.due l.sent ≡ Some (frame_due p outgoing)
   pub last : length l.heard.due ≡ l.sent + 1
   pub part : l.heard.part ≡ []
 
-pub record IsTaking (catalog : Catalog) (p : Pump) (l : Left) : Type 0 where
+pub record IsTaking (catalog : Catalog) (p : Pump) (l : Standing) : Type 0 where
   pub phase : is_over p.phase ≡ false
   pub sent : length l.heard.due ≡ l.sent
   pub have : length l.heard.part ≡ p.have
-  pub lacks : next.verdict catalog l.heard.awaits l.heard.part ≡ next.Short p.lacks
+  pub lacks : next.verdict catalog l.heard.awaits l.heard.part ≡ next.Lacking p.lacks
 
 -- an end that was called for: nothing more is awaited, and all frames that were due were sent
-pub record IsFinished (p : Pump) (l : Left) : Type 0 where
+pub record IsFinished (p : Pump) (l : Standing) : Type 0 where
   pub phase : is_over p.phase ≡ true
   pub sent : length l.heard.due ≡ l.sent
 
@@ -142,20 +139,20 @@ pub record IsInvalid (kind at : ℕ) (heard : Heard) : Type 0 where
   pub its_place : at ≡ counted (bytes_before heard)
 
 -- why a session ends
-abbrev pub IsCause : Pump → Left → Cause → Type 0
+abbrev pub IsCause : Pump → Standing → Cause → Type 0
 IsCause p l Finished = IsFinished p l
 IsCause p l Link = Unit {0}
 IsCause p l (Protocol kind at) = IsInvalid kind at l.heard
 
-abbrev pub IsStage : Catalog → Pump → Left → Stage → Type 0
+abbrev pub IsStage : Catalog → Pump → Standing → Stage → Type 0
 IsStage catalog p l Dialling = IsDialling p l
 IsStage catalog p l (Sending outgoing) = IsSending p outgoing l
 IsStage catalog p l Taking = IsTaking catalog p l
 IsStage catalog p l (Closing cause) = IsCause p l cause
 IsStage catalog p l (Closed cause) = IsCause p l cause
 
--- the pump's fields are what is left of a journal
-pub record IsLeft (catalog : Catalog) (asks : List Asked) (p : Pump) (l : Left) : Type 0 where
+-- the pump's fields are what a journal has led to
+pub record IsLeft (catalog : Catalog) (asks : List NumberedAsk) (p : Pump) (l : Standing) : Type 0 where
   pub opened : l.opened ≡ is_opened p.stage
   pub closed : l.closed ≡ is_closed p.stage
   pub stopped : l.stopped ≡ has_stopped p.stage
@@ -167,11 +164,11 @@ pub record IsLeft (catalog : Catalog) (asks : List Asked) (p : Pump) (l : Left) 
   pub stage : IsStage catalog p l p.stage
 
 -- the pump stands where the journal leaves a session with these asks
-abbrev pub IsAfter : Catalog → (asks : List Asked) → Journal → Pump → Type 0
-IsAfter catalog asks journal p = IsLeft catalog asks p (left catalog asks journal)
+abbrev pub IsAfter : Catalog → (asks : List NumberedAsk) → Journal → Pump → Type 0
+IsAfter catalog asks journal p = IsLeft catalog asks p (standing_after catalog asks journal)
 
 -- a page begins with the part of the frame at hand
-abbrev pub Keeps : Catalog → (asks : List Asked) → Journal → (page : List ℕ) → Type 0
+abbrev pub Keeps : Catalog → (asks : List NumberedAsk) → Journal → (page : List ℕ) → Type 0
 Keeps catalog asks journal page =
     take (length (heard catalog asks (taken journal)).part) page ≡ (heard catalog asks (taken journal)).part
 
@@ -233,7 +230,7 @@ IsGoing phase Taking = is_over phase ≡ false
 IsGoing phase (Closing _) = ⊥
 IsGoing phase (Closed _) = ⊥
 
-pub record IsTurned (catalog : Catalog) (p : Pump) (turn : Turn) : Type 0 where
+pub record IsTurned (catalog : Catalog) (p : Pump) (turn : FrameOutcome) : Type 0 where
   pub awaits : IsAwaiting catalog p p.phase turn.awaits
   pub due : turn.due ≡ due_at p p.stage
 

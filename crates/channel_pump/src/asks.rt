@@ -2,10 +2,10 @@
 
 ghost use Rattle.std.specs.Prelude.{◌≡◌, ◌≤◌, ◌==◌, ◌*◌, true, [], ◌∷◌, List, take, length, drop, map, IfSome, IfNone, IsTrue};
 ghost use Rattle.std.specs.List.{list_all, list_any};
-ghost use Rattle.ghost_model.specs.Asks as asked;
-ghost use Rattle.ghost_model.specs.Schema.{is_empty};
-ghost use Rattle.ghost_model.specs.NextMove.{rows_of as table_rows};
-ghost use Rattle.ghost_model.specs.Texts.{texts_of};
+ghost use Rattle.ghost_model.specs.core.Asks as asked;
+ghost use Rattle.ghost_model.specs.core.Schema.{is_empty};
+ghost use Rattle.ghost_model.specs.core.Channel.{row_count_in as table_rows};
+ghost use Rattle.ghost_model.specs.core.Texts.{texts_of};
 ghost use Rattle.ghost_base.specs.Views.{kind_of};
 ghost use Rattle.channel_codec.specs.AskViews.{ask_view};
 ghost use Rattle.script_asks.specs.Left.{are_proper};

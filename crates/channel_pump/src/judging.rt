@@ -1,8 +1,8 @@
 //! What the bytes of the frame at hand amount to.
 
 ghost use Rattle.std.specs.Prelude.{◌≡◌, ◌+◌, ◌≤◌, ◌&&◌, ◌==◌, true, length, drop, is_some, IfSome, slice_index, IsTrue, map};
-ghost use Rattle.ghost_model.specs.Frames as frames;
-ghost use Rattle.ghost_model.specs.NextMove as next;
+ghost use Rattle.ghost_model.specs.forms.Frames as frames;
+ghost use Rattle.ghost_model.specs.core.NextMove as next;
 ghost use Rattle.ghost_base.specs.Views.{kind_of};
 ghost use Rattle.channel_pump.specs.Forms.{form_of};
 ghost use Rattle.channel_pump.specs.Asked.{width_of};
@@ -29,7 +29,7 @@ pub(crate) enum Judged {
 /// Whether a header may begin a frame that welcomes a part of these missing bytes.
 fn greeting_header(missing: &Missing, header: &[u8]) -> bool
     requires { 8 ≤ length header.now }
-    ensures { result ≡ next.header_fits nothing (next.Missing missing.now) header.now }
+    ensures { result ≡ next.header_fits nothing (next.AwaitsCatalog missing.now) header.now }
 {
     let size = size_in(header) as usize;
     version_in(header) == VERSION

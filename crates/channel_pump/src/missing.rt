@@ -1,7 +1,7 @@
 //! The bytes of a catalog that were not welcomed yet.
 
 ghost use Rattle.std.specs.Prelude.{◌≡◌, ◌≤◌, length, take, drop, bytes_eq};
-ghost use Rattle.ghost_model.specs.Catalog.{catalog_bytes};
+ghost use Rattle.ghost_model.specs.forms.Catalog.{catalog_bytes};
 
 use std::marker::Model;
 use tree_schema::Catalog;
@@ -16,7 +16,7 @@ pub struct Missing<'a> {
 
 impl<'a> Model for Missing<'a> {
     ghost use Rattle.std.specs.Prelude.{ℕ, List, drop};
-    ghost use Rattle.ghost_model.specs.Catalog.{catalog_bytes};
+    ghost use Rattle.ghost_model.specs.forms.Catalog.{catalog_bytes};
 
     ghost Value = { List ℕ };
 

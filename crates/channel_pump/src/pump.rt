@@ -2,14 +2,14 @@
 
 ghost use Rattle.std.specs.Prelude.{◌≡◌, ℕ, ◌+◌, ◌<◌, ◌≤◌, ◌^◌, ◌++◌, ◌==◌, true, List, [], ◌∷◌, length, take, drop, option_map, Option, Some, None};
 ghost use Rattle.std.specs.List.{list_any};
-ghost use Rattle.ghost_model.specs.Channel as channel;
-ghost use Rattle.ghost_model.specs.Channel.{Catalog, Journal, Move};
-ghost use Rattle.ghost_model.specs.Asks.{Asked, asked, asked_of};
-ghost use Rattle.ghost_model.specs.Texts.{texts_of};
-ghost use Rattle.ghost_model.specs.Moves.{taken};
-ghost use Rattle.ghost_model.specs.NextMove as next;
-ghost use Rattle.ghost_model.specs.NextMove.{next_with, heard, left};
-ghost use Rattle.ghost_model.specs.Frames.{payload_of};
+ghost use Rattle.ghost_model.specs.core.Channel as channel;
+ghost use Rattle.ghost_model.specs.core.Channel.{Catalog, Journal, Move};
+ghost use Rattle.ghost_model.specs.core.Asks.{NumberedAsk, asked, asked_of};
+ghost use Rattle.ghost_model.specs.core.Texts.{texts_of};
+ghost use Rattle.ghost_model.specs.core.Moves.{taken};
+ghost use Rattle.ghost_model.specs.core.NextMove as next;
+ghost use Rattle.ghost_model.specs.core.NextMove.{next_with, heard, standing_after};
+ghost use Rattle.ghost_model.specs.forms.Frames.{payload_of};
 ghost use Rattle.channel_codec.specs.AskViews.{ask_view};
 ghost use Rattle.channel_codec.specs.Views.{frame_view};
 ghost use Rattle.channel_pump.specs.Here.{moves_left, awaits_at};
@@ -54,7 +54,7 @@ impl<'a> Pump<'a> {
     /// What is wanted: the next move of the session.
     pub fn want(&self) -> Want
         ensures want { result ≡ want_of self.now }
-        ensures next { (catalog : Catalog) (at : List ℕ) (asks : List Asked) (journal : Journal)
+        ensures next { (catalog : Catalog) (at : List ℕ) (asks : List NumberedAsk) (journal : Journal)
             → IsAfter catalog asks journal self.now → IsWanted at result (next_with catalog at asks journal) }
         ensures page { FitsPage result }
     {
@@ -73,8 +73,8 @@ impl<'a> Pump<'a> {
     /// Why the session ends, if it does.
     pub fn cause(&self) -> Option<Cause>
         ensures cause { result ≡ cause_at self.now.stage }
-        ensures ends { (catalog : Catalog) (asks : List Asked) (journal : Journal)
-            → IsAfter catalog asks journal self.now → EndsAs (left catalog asks journal) result }
+        ensures ends { (catalog : Catalog) (asks : List NumberedAsk) (journal : Journal)
+            → IsAfter catalog asks journal self.now → EndsAs (standing_after catalog asks journal) result }
     {
         match self.stage {
             Stage::Closing(cause) | Stage::Closed(cause) => Some(cause),
@@ -96,8 +96,8 @@ impl<'a> Pump<'a> {
     /// In what state the replies to the asks of a text are.
     pub fn reply_state(&self, text: u32) -> ReplyState
         requires { text ≤ 64 }
-        ensures { (catalog : Catalog) (asks : List Asked) (journal : Journal)
-            → IsAfter catalog asks journal self.now → result ≡ state_of asks text (left catalog asks journal) }
+        ensures { (catalog : Catalog) (asks : List NumberedAsk) (journal : Journal)
+            → IsAfter catalog asks journal self.now → result ≡ state_of asks text (standing_after catalog asks journal) }
     {
         if self.refused[text as usize] {
             return ReplyState::Host;
@@ -116,7 +116,7 @@ impl<'a> Pump<'a> {
     /// The ask whose reply is awaited, also where it is about to be sent, and the number of its text. There is none in the
     /// greeting, and none behind the last ask.
     pub fn asked(&self) -> Option<(u32, &Ask)>
-        ensures awaited { (catalog : Catalog) (asks : List Asked) (journal : Journal)
+        ensures awaited { (catalog : Catalog) (asks : List NumberedAsk) (journal : Journal)
             → IsAfter catalog asks journal self.now → option_map (λ first. asked first.0 (ask_view first.1.now)) result ≡ asked_at (heard catalog asks (taken journal)).awaits }
     {
         match self.phase {
@@ -149,9 +149,9 @@ impl<'a> Pump<'a> {
     pub fn frame(&self, page: &mut [u8]) -> usize
         requires sending { want_of self.now ≡ Want.Send }
         requires room { 2048 ≤ length page.old }
-        ensures sends { (catalog : Catalog) (at : List ℕ) (asks : List Asked) (journal : Journal)
+        ensures sends { (catalog : Catalog) (at : List ℕ) (asks : List NumberedAsk) (journal : Journal)
             → IsAfter catalog asks journal self.now → next_with catalog at asks journal ≡ Some (channel.Send (take result page.new)) }
-        ensures keeps { (catalog : Catalog) (asks : List Asked) (journal : Journal)
+        ensures keeps { (catalog : Catalog) (asks : List NumberedAsk) (journal : Journal)
             → IsAfter catalog asks journal self.now → Keeps catalog asks journal page.new }
         ensures most { result ≤ 2048 }
     {
@@ -164,7 +164,7 @@ impl<'a> Pump<'a> {
     /// The dial, the send or the close that was wanted is done.
     pub fn made(&mut self)
         requires { is_done_by (want_of self.old) ≡ true }
-        ensures after { (catalog : Catalog) (at : List ℕ) (asks : List Asked) (journal : Journal) (move : Move)
+        ensures after { (catalog : Catalog) (at : List ℕ) (asks : List NumberedAsk) (journal : Journal) (move : Move)
             → IsAfter catalog asks journal self.old → next_with catalog at asks journal ≡ Some move
             → IsAfter catalog asks (journal ++ entry move channel.Made ∷ []) self.new }
         ensures fewer { moves_left self.new < moves_left self.old }
@@ -185,7 +185,7 @@ impl<'a> Pump<'a> {
     /// The dial, the send or the take that was wanted failed.
     pub fn failed(&mut self)
         requires { can_fail (want_of self.old) ≡ true }
-        ensures after { (catalog : Catalog) (at : List ℕ) (asks : List Asked) (journal : Journal) (move : Move)
+        ensures after { (catalog : Catalog) (at : List ℕ) (asks : List NumberedAsk) (journal : Journal) (move : Move)
             → IsAfter catalog asks journal self.old → next_with catalog at asks journal ≡ Some move
             → IsAfter catalog asks (journal ++ entry move channel.Failed ∷ []) self.new }
         ensures fewer { moves_left self.new < moves_left self.old }
@@ -196,7 +196,7 @@ impl<'a> Pump<'a> {
     /// The take that was wanted was answered by the end of the stream.
     pub fn ended(&mut self)
         requires { is_take (want_of self.old) ≡ true }
-        ensures after { (catalog : Catalog) (at : List ℕ) (asks : List Asked) (journal : Journal) (move : Move)
+        ensures after { (catalog : Catalog) (at : List ℕ) (asks : List NumberedAsk) (journal : Journal) (move : Move)
             → IsAfter catalog asks journal self.old → next_with catalog at asks journal ≡ Some move
             → IsAfter catalog asks (journal ++ entry move channel.End ∷ []) self.new }
         ensures fewer { moves_left self.new < moves_left self.old }
@@ -209,16 +209,16 @@ impl<'a> Pump<'a> {
         requires some { 0 < n }
         requires taken { IsTakenBy n (want_of self.old) }
         requires room { 2048 ≤ length page.now }
-        ensures after { (catalog : Catalog) (asks : List Asked) (journal : Journal)
+        ensures after { (catalog : Catalog) (asks : List NumberedAsk) (journal : Journal)
             → IsAfter catalog asks journal self.old → Keeps catalog asks journal page.now
             → IsAfter catalog asks (journal ++ taken_entry self.old page.now n ∷ []) self.new }
-        ensures keeps { (catalog : Catalog) (asks : List Asked) (journal : Journal)
+        ensures keeps { (catalog : Catalog) (asks : List NumberedAsk) (journal : Journal)
             → IsAfter catalog asks journal self.old → Keeps catalog asks journal page.now
             → Keeps catalog asks (journal ++ taken_entry self.old page.now n ∷ []) page.now }
-        ensures event { (catalog : Catalog) (asks : List Asked) (journal : Journal)
+        ensures event { (catalog : Catalog) (asks : List NumberedAsk) (journal : Journal)
             → IsAfter catalog asks journal self.old → Keeps catalog asks journal page.now
             → result ≡ event_after catalog (heard catalog asks (taken journal)) (take n (drop self.old.have page.now)) }
-        ensures tells { (catalog : Catalog) (asks : List Asked) (journal : Journal)
+        ensures tells { (catalog : Catalog) (asks : List NumberedAsk) (journal : Journal)
             → IsAfter catalog asks journal self.old → Keeps catalog asks journal page.now
             → Tells catalog page.now result (heard catalog asks (taken journal)) (heard catalog asks (taken (journal ++ taken_entry self.old page.now n ∷ []))) }
         ensures rows { RowsHere self.old page.now result }

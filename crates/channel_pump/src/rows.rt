@@ -2,8 +2,8 @@
 
 ghost use Rattle.std.specs.Prelude.{◌≡◌, ℕ, ◌≤◌, ◌&&◌, true, length, map, nat_lt, nat_le, IsTrue, IfSome, is_some, drop, slice_index};
 ghost use Rattle.std.specs.List.{list_all};
-ghost use Rattle.ghost_model.specs.Asks.{row_in};
-ghost use Rattle.ghost_model.specs.NextMove as next;
+ghost use Rattle.ghost_model.specs.core.Asks.{row_in};
+ghost use Rattle.ghost_model.specs.core.NextMove as next;
 ghost use Rattle.ghost_base.specs.Views.{kind_of};
 ghost use Rattle.channel_pump.specs.Narrow.{is_narrow};
 ghost use Rattle.channel_pump.specs.Asked.{form_kinds, width_of, rows_with};

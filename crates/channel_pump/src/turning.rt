@@ -1,10 +1,10 @@
 //! What a whole frame leads to.
 
 ghost use Rattle.std.specs.Prelude.{◌≡◌, ℕ, ◌+◌, ◌-◌, ◌≤◌, ◌<◌, ◌^◌, ◌≢◌, ◌==◌, true, List, ◌∷◌, length, drop, take_while};
-ghost use Rattle.ghost_model.specs.Channel.{Catalog};
-ghost use Rattle.ghost_model.specs.Asks.{Asked};
-ghost use Rattle.ghost_model.specs.Frames as frames;
-ghost use Rattle.ghost_model.specs.NextMove as next;
+ghost use Rattle.ghost_model.specs.core.Channel.{Catalog};
+ghost use Rattle.ghost_model.specs.core.Asks.{NumberedAsk};
+ghost use Rattle.ghost_model.specs.forms.Frames as frames;
+ghost use Rattle.ghost_model.specs.core.NextMove as next;
 ghost use Rattle.channel_pump.specs.Asked.{AreAsked};
 ghost use Rattle.channel_pump.specs.Here.{Stands, header_at, payload_at, frames_left, frames_for};
 ghost use Rattle.channel_pump.specs.State.{IsAwaiting, IsFresh, IsBefore, IsTurned, IsGoing};
@@ -21,8 +21,8 @@ impl<'a> Pump<'a> {
     /// Sends the first of the asks that are left, or BYE where there is none.
     fn go_on_with(&mut self, serial: u32)
         requires { serial + length self.old.rest < 2 ^ 32 }
-        ensures turned { (catalog : Catalog) (asked : List Asked) → AreAsked catalog self.old.rest asked
-            → IsTurned catalog self.new (next.on_with catalog.schema serial asked) }
+        ensures turned { (catalog : Catalog) (asked : List NumberedAsk) → AreAsked catalog self.old.rest asked
+            → IsTurned catalog self.new (next.ask_next catalog.schema serial asked) }
         ensures fresh { self.new.phase ≢ Phase.Greeting }
         ensures going { IsGoing self.new.phase self.new.stage }
         ensures frames { frames_left self.new ≡ frames_for self.old.rest }
@@ -49,9 +49,9 @@ impl<'a> Pump<'a> {
         requires phase { self.old.phase ≡ Phase.Greeting }
         requires whole { 8 + frames.size_in part.now ≤ length part.now }
         requires header { header_at Phase.Greeting self.old part.now ≡ true }
-        ensures turned { (catalog : Catalog) (asks : List Asked) → IsBefore catalog asks self.old
+        ensures turned { (catalog : Catalog) (asks : List NumberedAsk) → IsBefore catalog asks self.old
             → IsTurned catalog self.new (next.turn_of_greeting catalog.schema asks self.old.missing (frames.frame_in part.now)) }
-        ensures fresh { (catalog : Catalog) (asks : List Asked) → IsBefore catalog asks self.old → IsFresh catalog asks self.new self.new.phase }
+        ensures fresh { (catalog : Catalog) (asks : List NumberedAsk) → IsBefore catalog asks self.old → IsFresh catalog asks self.new self.new.phase }
         ensures going { IsGoing self.new.phase self.new.stage }
         ensures frames { frames_left self.new < frames_left self.old }
         ensures have { self.new.have ≡ self.old.have }
@@ -85,8 +85,8 @@ impl<'a> Pump<'a> {
     fn replied(&mut self, part: &[u8], tally: Tally) -> Event
         requires phase { self.old.phase ≡ Phase.Reply }
         requires stands { Stands self.old part.now tally }
-        ensures turned { (catalog : Catalog) (asked : Asked) (serial : ℕ) (later : List Asked) (count last : ℕ)
-            → IsAwaiting catalog self.old Phase.Reply (next.Reply asked serial later count last)
+        ensures turned { (catalog : Catalog) (asked : NumberedAsk) (serial : ℕ) (later : List NumberedAsk) (count last : ℕ)
+            → IsAwaiting catalog self.old Phase.Reply (next.AwaitsReply asked serial later count last)
             → IsTurned catalog self.new (next.turn_of_reply catalog.schema asked serial later count last (frames.frame_in part.now)) }
         ensures fresh { self.new.phase ≢ Phase.Greeting }
         ensures going { IsGoing self.new.phase self.new.stage }
@@ -126,10 +126,10 @@ impl<'a> Pump<'a> {
     /// Hears a whole frame that may stand here.
     pub(crate) fn hear(&mut self, part: &[u8], tally: Tally) -> Event
         requires stands { Stands self.old part.now tally }
-        ensures turned { (catalog : Catalog) (asks : List Asked) (awaits : next.Awaits)
+        ensures turned { (catalog : Catalog) (asks : List NumberedAsk) (awaits : next.Awaits)
             → IsAwaiting catalog self.old self.old.phase awaits → IsFresh catalog asks self.old self.old.phase
-            → IsTurned catalog self.new (next.turn catalog asks awaits (frames.frame_in part.now)) }
-        ensures fresh { (catalog : Catalog) (asks : List Asked) → IsFresh catalog asks self.old self.old.phase
+            → IsTurned catalog self.new (next.after_frame catalog asks awaits (frames.frame_in part.now)) }
+        ensures fresh { (catalog : Catalog) (asks : List NumberedAsk) → IsFresh catalog asks self.old self.old.phase
             → IsFresh catalog asks self.new self.new.phase }
         ensures going { IsGoing self.new.phase self.new.stage }
         ensures frames { frames_left self.new < frames_left self.old }

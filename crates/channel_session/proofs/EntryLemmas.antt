@@ -4,9 +4,9 @@ use Rattle.std.specs.Prelude.{min}
 use Rattle.std.specs.List.{list_any, list_all}
 use Rattle.std.proofs.lemmas.List.{length-take}
 use Rattle.std.proofs.lemmas.List.Folds.{list_any-append, list_all-append}
-use Rattle.ghost_model.specs.Causes.{Rose, last_count}
-use Rattle.ghost_model.specs.Channel.{Take, Piece, End, Entry, Journal}
-use Rattle.ghost_model.specs.Moves.{piece_of}
+use Rattle.ghost_model.specs.core.Causes.{Rose, last_count}
+use Rattle.ghost_model.specs.core.Channel.{Take, Piece, End, Entry, Journal}
+use Rattle.ghost_model.specs.core.Moves.{piece_of}
 use Rattle.edge_traits.specs.Links.{entry}
 use Rattle.channel_session.specs.Entries.{bytes_of, is_short_entry, is_failure, has_failed, FaultsTell, WentBy, MovesJoin}
 use Rattle.channel_session.specs.Sessions.{piece_at}

@@ -2,9 +2,9 @@
 -- its failed calls: the count rose where one of the moves failed, and else it is as it was.
 use Rattle.std.specs.Prelude.{◌≡◌, ℕ, ◌+◌, ◌≤◌, Bool, true, false, nat_le, List, [], ◌++◌, length}
 use Rattle.std.specs.List.{list_any, list_all}
-use Rattle.ghost_model.specs.Causes.{Rose}
-use Rattle.ghost_model.specs.Channel.{Move, Dial, Listen, Accept, Send, Take, Close, Answer, Made, Port, Piece, End, Failed, Entry, Journal}
-use Rattle.ghost_model.specs.Moves.{piece_of}
+use Rattle.ghost_model.specs.core.Causes.{Rose}
+use Rattle.ghost_model.specs.core.Channel.{Move, Dial, Listen, Accept, Send, Take, Close, Answer, Made, Port, Piece, End, Failed, Entry, Journal}
+use Rattle.ghost_model.specs.core.Moves.{piece_of}
 
 -- the bytes that a move sends
 abbrev pub bytes_of : Move → List ℕ

@@ -1,11 +1,11 @@
 -- A session of the key, move by move. It went so far by a journal each of whose moves is the next one after those before
 -- it; the pump stands where that journal leaves the key, and the page has the part of the frame at hand.
 use Rattle.std.specs.Prelude.{◌≡◌, ℕ, zero, suc, Bool, true, false, Option, Some, None, List, [], ◌∷◌, ◌++◌, take, drop, Result, Ok, Err}
-use Rattle.ghost_model.specs.Channel.{Catalog, Entry, Journal, Answer, Piece, End, Failed}
-use Rattle.ghost_model.specs.Asks.{Asked}
-use Rattle.ghost_model.specs.Frames.{AreBytes}
-use Rattle.ghost_model.specs.Moves.{taken}
-use Rattle.ghost_model.specs.NextMove.{Heard, Awaits, Missing, Reply, Nothing, GoesOn, IsFinished, left, heard}
+use Rattle.ghost_model.specs.core.Channel.{Catalog, Entry, Journal, Answer, Piece, End, Failed}
+use Rattle.ghost_model.specs.core.Asks.{NumberedAsk}
+use Rattle.ghost_model.specs.forms.Frames.{AreBytes}
+use Rattle.ghost_model.specs.core.Moves.{taken}
+use Rattle.ghost_model.specs.core.NextMove.{Heard, Awaits, AwaitsCatalog, AwaitsReply, AwaitsNothing, GoesOn, IsFinished, standing_after, heard}
 use Rattle.channel_pump.specs.State.{IsAfter, Keeps, want_of}
 use Rattle.channel_pump.specs.Progress.{Tells}
 use Rattle.channel_pump.specs.declared.state.Event.{Event}
@@ -13,22 +13,22 @@ use Rattle.channel_pump.specs.declared.state.Event.TheVariants as event_is
 use Rattle.channel_pump.specs.declared.state.Want.TheVariants as want
 use Rattle.channel_session.specs.declared.exchange.Exchange.{Exchange}
 
-pub record IsLive (catalog : Catalog) (at : List ℕ) (asks : List Asked) (journal : Journal) (exchange : Exchange) : Type 0 where
+pub record IsLive (catalog : Catalog) (at : List ℕ) (asks : List NumberedAsk) (journal : Journal) (exchange : Exchange) : Type 0 where
   pub proper : GoesOn catalog at asks [] journal
   pub after : IsAfter catalog asks journal exchange.pump
   pub keeps : Keeps catalog asks journal exchange.page
   pub bytes : AreBytes (taken journal)
-  pub finished : (left catalog asks journal).closed ≡ true → IsFinished journal
+  pub finished : (standing_after catalog asks journal).closed ≡ true → IsFinished journal
 
 -- what the bytes taken so far amount to
-abbrev pub heard_by : Catalog → (asks : List Asked) → Journal → Heard
+abbrev pub heard_by : Catalog → (asks : List NumberedAsk) → Journal → Heard
 heard_by catalog asks journal = heard catalog asks (taken journal)
 
 -- the ask whose reply is awaited
-abbrev pub asked_in : Awaits → Option Asked
-asked_in (Missing _) = None
-asked_in (Reply asked serial later count last) = Some asked
-asked_in Nothing = None
+abbrev pub asked_in : Awaits → Option NumberedAsk
+asked_in (AwaitsCatalog _) = None
+asked_in (AwaitsReply asked serial later count last) = Some asked
+asked_in AwaitsNothing = None
 
 -- whether an event may lead to another ask, as the end of a reply and a part of the catalog may
 abbrev pub leads_on : Event → Bool
@@ -40,7 +40,7 @@ leads_on (event_is.Sorry _) = true
 leads_on (event_is.Invalid _ _) = false
 
 -- one move was made after those of a journal, and led to this event
-pub record Moved (goes : Journal → Type 0) (catalog : Catalog) (at : List ℕ) (asks : List Asked) (journal : Journal) (event : Event) (exchange : Exchange) : Type 0 where
+pub record Moved (goes : Journal → Type 0) (catalog : Catalog) (at : List ℕ) (asks : List NumberedAsk) (journal : Journal) (event : Event) (exchange : Exchange) : Type 0 where
   pub made : Entry
   pub went : goes (made ∷ [])
   pub live : IsLive catalog at asks (journal ++ made ∷ []) exchange
@@ -64,5 +64,5 @@ gave_at at (Err _) page = Failed
 -- nothing more is wanted only after a finished journal
 abbrev pub ClosedIsFinished : Type 0
 ClosedIsFinished =
-    (catalog : Catalog) (at : List ℕ) (asks : List Asked) (journal : Journal) (exchange : Exchange)
+    (catalog : Catalog) (at : List ℕ) (asks : List NumberedAsk) (journal : Journal) (exchange : Exchange)
     → IsLive catalog at asks journal exchange → want_of exchange.pump ≡ want.Closed → IsFinished journal

@@ -1,12 +1,12 @@
 //! The moves of a session.
 
 ghost use Rattle.std.specs.Prelude.{◌≡◌, ◌≢◌, ◌+◌, ◌<◌, ◌≤◌, ◌∷◌, List, ℕ, Some, IfOk, [], take};
-ghost use Rattle.ghost_model.specs.Causes.{HasCause};
-ghost use Rattle.ghost_model.specs.Channel as channel;
-ghost use Rattle.ghost_model.specs.Channel.{Catalog, Journal};
-ghost use Rattle.ghost_model.specs.Asks.{Asked};
-ghost use Rattle.ghost_model.specs.Frames.{AreBytes};
-ghost use Rattle.ghost_model.specs.NextMove.{next_with};
+ghost use Rattle.ghost_model.specs.core.Causes.{HasCause};
+ghost use Rattle.ghost_model.specs.core.Channel as channel;
+ghost use Rattle.ghost_model.specs.core.Channel.{Catalog, Journal};
+ghost use Rattle.ghost_model.specs.core.Asks.{NumberedAsk};
+ghost use Rattle.ghost_model.specs.forms.Frames.{AreBytes};
+ghost use Rattle.ghost_model.specs.core.NextMove.{next_with};
 ghost use Rattle.channel_pump.specs.Here.{moves_left};
 ghost use Rattle.channel_pump.specs.State.{IsAfter, want_of};
 ghost use Rattle.edge_traits.specs.Links.{entry};
@@ -32,7 +32,7 @@ impl<'a> Exchange<'a> {
     /// A session before its first move.
     pub fn begin(pump: Pump<'a>) -> Self
         ensures pump { result.pump ≡ pump.entry }
-        ensures live { (catalog : Catalog) (at : List ℕ) (asks : List Asked) → IsAfter catalog asks [] pump.entry → IsLive catalog at asks [] result }
+        ensures live { (catalog : Catalog) (at : List ℕ) (asks : List NumberedAsk) → IsAfter catalog asks [] pump.entry → IsLive catalog at asks [] result }
     {
         pages_keep_the_part();
         Exchange {
@@ -46,7 +46,7 @@ impl<'a> Exchange<'a> {
     /// What is sent and dialled leads to nothing by itself, and neither does the close, a failure or the end of the stream.
     pub fn step<L: Link>(&mut self, at: &str, link: &mut L) -> Event
         requires going { want_of self.old.pump ≢ Want.Closed }
-        ensures moved { (catalog : Catalog) (asks : List Asked) (journal : Journal) → IsLive catalog at.now asks journal self.old
+        ensures moved { (catalog : Catalog) (asks : List NumberedAsk) (journal : Journal) → IsLive catalog at.now asks journal self.old
             → Moved (WentBy (λ more. L.went link.old more link.new) (L.faults link.old) (L.faults link.new)) catalog at.now asks journal result self.new }
         ensures fewer { moves_left self.new.pump < moves_left self.old.pump }
         ensures faults { L.faults link.old ≤ L.faults link.new }
@@ -63,7 +63,7 @@ impl<'a> Exchange<'a> {
     /// Dials the host.
     fn dial<L: Link>(&mut self, at: &str, link: &mut L) -> Event
         requires wanted { want_of self.old.pump ≡ Want.Dial }
-        ensures moved { (catalog : Catalog) (asks : List Asked) (journal : Journal) → IsLive catalog at.now asks journal self.old
+        ensures moved { (catalog : Catalog) (asks : List NumberedAsk) (journal : Journal) → IsLive catalog at.now asks journal self.old
             → next_with catalog at.now asks journal ≡ Some (channel.Dial at.now)
             → Moved (WentBy (λ more. L.went link.old more link.new) (L.faults link.old) (L.faults link.new)) catalog at.now asks journal result self.new }
         ensures fewer { moves_left self.new.pump < moves_left self.old.pump }
@@ -80,7 +80,7 @@ impl<'a> Exchange<'a> {
     /// Sends the frame that is wanted.
     fn send<L: Link>(&mut self, link: &mut L) -> Event
         requires wanted { want_of self.old.pump ≡ Want.Send }
-        ensures moved { (catalog : Catalog) (at : List ℕ) (asks : List Asked) (journal : Journal) → IsLive catalog at asks journal self.old
+        ensures moved { (catalog : Catalog) (at : List ℕ) (asks : List NumberedAsk) (journal : Journal) → IsLive catalog at asks journal self.old
             → Moved (WentBy (λ more. L.went link.old more link.new) (L.faults link.old) (L.faults link.new)) catalog at asks journal result self.new }
         ensures fewer { moves_left self.new.pump < moves_left self.old.pump }
         ensures faults { L.faults link.old ≤ L.faults link.new }
@@ -100,7 +100,7 @@ impl<'a> Exchange<'a> {
         requires wanted { want_of self.old.pump ≡ Want.Take place most }
         requires some { 0 < most }
         requires fits { place + most ≤ 2048 }
-        ensures moved { (catalog : Catalog) (at : List ℕ) (asks : List Asked) (journal : Journal) → IsLive catalog at asks journal self.old
+        ensures moved { (catalog : Catalog) (at : List ℕ) (asks : List NumberedAsk) (journal : Journal) → IsLive catalog at asks journal self.old
             → next_with catalog at asks journal ≡ Some (channel.Take most)
             → Moved (WentBy (λ more. L.went link.old more link.new) (L.faults link.old) (L.faults link.new)) catalog at asks journal result self.new }
         ensures fewer { moves_left self.new.pump < moves_left self.old.pump }
@@ -128,7 +128,7 @@ impl<'a> Exchange<'a> {
     /// Closes the stream.
     fn close<L: Link>(&mut self, link: &mut L) -> Event
         requires wanted { want_of self.old.pump ≡ Want.Close }
-        ensures moved { (catalog : Catalog) (at : List ℕ) (asks : List Asked) (journal : Journal) → IsLive catalog at asks journal self.old
+        ensures moved { (catalog : Catalog) (at : List ℕ) (asks : List NumberedAsk) (journal : Journal) → IsLive catalog at asks journal self.old
             → next_with catalog at asks journal ≡ Some channel.Close
             → Moved (WentBy (λ more. L.went link.old more link.new) (L.faults link.old) (L.faults link.new)) catalog at asks journal result self.new }
         ensures fewer { moves_left self.new.pump < moves_left self.old.pump }

@@ -1,7 +1,7 @@
 //! Frames and asks in hexadecimal, both ways, as docs/CHANNEL.md gives them, and bytes that are none.
 
 ghost use Rattle.std.specs.Prelude.{◌≡◌, ◌≤◌, true, length};
-ghost use Rattle.ghost_model.specs.Frames as frames;
+ghost use Rattle.ghost_model.specs.forms.Frames as frames;
 ghost use Rattle.channel_codec.specs.Views.{frame_view};
 
 use crate::clinic::{Bytes, add, add_number, bytes_of, part};

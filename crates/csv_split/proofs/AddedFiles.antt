@@ -1,8 +1,8 @@
 -- One file after others.
 use Rattle.std.proofs.Common.{◌≡◌, ◌<◌, ◌+◌, ◌∙◌, ℕ, suc, List, [], ◌∷◌, ◌++◌, length, drop, sym, ap, ap₂, refl, arith, append_assoc}
-use Rattle.ghost_model.specs.LoadFaults.{file_faults, files_faults}
-use Rattle.ghost_model.specs.Schema.{Schema, columns_of}
-use Rattle.ghost_model.specs.Database.{database_of, rows_spelled}
+use Rattle.ghost_model.specs.refusals.LoadFaults.{file_faults, files_faults}
+use Rattle.ghost_model.specs.core.Schema.{Schema, columns_of}
+use Rattle.ghost_model.specs.core.Database.{database_of, rows_spelled}
 use Rattle.csv_split.specs.ReadingOrder.{AddsItsOwn}
 
 faults_from : (at : ℕ) (schema : Schema) (before : List (List ℕ)) (file : List ℕ) (later : List (List ℕ)) → length before < length schema

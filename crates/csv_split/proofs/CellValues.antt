@@ -3,7 +3,7 @@ use Rattle.std.proofs.Common.{◌≡◌, ◌≤◌, ◌<◌, ◌∙◌, ℕ, Lis
 use Rattle.std.specs.Prelude.{slice_get, option_map}
 use Rattle.std.proofs.lemmas.List.{length-map}
 use Rattle.std.proofs.lemmas.Option.{slice_get-map, slice_get-get_or, slice_get_past}
-use Rattle.ghost_model.specs.Values.{Value, Text}
+use Rattle.ghost_model.specs.core.Values.{Value, Text}
 
 pub found : {X : Type 0} (make : X → Value) (xs : List X) (place : ℕ) (default : X) → place < length xs
     → Some (make (get_or xs place default)) ≡ slice_get (map make xs) place

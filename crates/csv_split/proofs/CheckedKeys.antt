@@ -3,11 +3,11 @@ use Rattle.std.proofs.Common.{◌≡◌, ◌≤◌, ◌<◌, ◌+◌, ◌∙◌,
 use Rattle.std.specs.Prelude.{slice_get, option_and_then}
 use Rattle.std.proofs.lemmas.List.{drop_all, length-map}
 use Rattle.std.proofs.lemmas.Option.{slice_get-get_or, slice_get_past, slice_get_cases}
-use Rattle.ghost_model.specs.LoadFaults.{keys_faults, place, references_from, table_references}
-use Rattle.ghost_model.specs.Schema as schema
-use Rattle.ghost_model.specs.SchemaTrees.{identifier}
-use Rattle.ghost_model.specs.Values.{Value, Row, Rows, Database}
-use Rattle.ghost_model.specs.Database.{field, row_of, rows_of}
+use Rattle.ghost_model.specs.refusals.LoadFaults.{row_reference_faults, place, references_from, table_references}
+use Rattle.ghost_model.specs.core.Schema as schema
+use Rattle.ghost_model.specs.laws.SchemaTrees.{identifier}
+use Rattle.ghost_model.specs.core.Values.{Value, Row, Rows, Database}
+use Rattle.ghost_model.specs.core.Database.{value_at_row, row_of, rows_of}
 use Rattle.tree_schema.specs.declared.schema.Column.{Column}
 use Rattle.tree_schema.specs.Views.{column_of}
 use Rattle.csv_split.specs.References.{key_faults_in, row_or_none}
@@ -15,21 +15,21 @@ use Rattle.csv_split.proofs.FieldPlaces.{next}
 use Rattle.csv_split.proofs.Headers.{column_there}
 
 -- no values, no faults
-no_values : (database : Database) (table rec at : ℕ) (columns : List schema.Column) → keys_faults database table rec at columns [] ≡ []
-unfolding keys_faults
+no_values : (database : Database) (table rec at : ℕ) (columns : List schema.Column) → row_reference_faults database table rec at columns [] ≡ []
+unfolding row_reference_faults
 no_values database table rec at [] = refl
 no_values database table rec at (_ ∷ _) = refl
 
 -- the faults from a column on begin with its own
 keys_next : (database : Database) (table rec i : ℕ) (column : schema.Column) (columns : List schema.Column) (row : Row)
-    → keys_faults database table rec i (column ∷ columns) (drop i row)
-    ≡ key_faults_in database (place table rec i) column.child (slice_get row i) ++ keys_faults database table rec (i + 1) columns (drop (i + 1) row)
-unfolding keys_faults
+    → row_reference_faults database table rec i (column ∷ columns) (drop i row)
+    ≡ key_faults_in database (place table rec i) column.child (slice_get row i) ++ row_reference_faults database table rec (i + 1) columns (drop (i + 1) row)
+unfolding row_reference_faults
 keys_next database table rec i column columns row = by (slice_get_cases row i).1
   where
     by : ((value : Value) × (i < length row) × (slice_get row i ≡ Some value) × (get_or row i value ≡ value)) ⊎ ((length row ≤ i) × (slice_get row i ≡ None))
-        → keys_faults database table rec i (column ∷ columns) (drop i row)
-        ≡ key_faults_in database (place table rec i) column.child (slice_get row i) ++ keys_faults database table rec (i + 1) columns (drop (i + 1) row)
+        → row_reference_faults database table rec i (column ∷ columns) (drop i row)
+        ≡ key_faults_in database (place table rec i) column.child (slice_get row i) ++ row_reference_faults database table rec (i + 1) columns (drop (i + 1) row)
     by (inl here) =
         let there : drop i row ≡ here.0 ∷ drop (i + 1) row = next row i here.0 here.1 ∙ ap (λ value. value ∷ drop (i + 1) row) here.3 in
         rw (there, here.2) refl
@@ -39,33 +39,33 @@ keys_next database table rec i column columns row = by (slice_get_cases row i).1
         rw (none, none_later, past.1) (sym (no_values database table rec (i + 1) columns))
 
 pub key_next : (database : Database) (table rec id : ℕ) (declared : List Column) (i : ℕ) (column : Column) → i < length declared → column ≡ get_or declared i column
-    → keys_faults database table rec i (drop i (map column_of declared)) (drop i (row_or_none (row_of database table id)))
-    ≡ key_faults_in database (place table rec i) column.child (field database table id i)
-    ++ keys_faults database table rec (i + 1) (drop (i + 1) (map column_of declared)) (drop (i + 1) (row_or_none (row_of database table id)))
+    → row_reference_faults database table rec i (drop i (map column_of declared)) (drop i (row_or_none (row_of database table id)))
+    ≡ key_faults_in database (place table rec i) column.child (value_at_row database table id i)
+    ++ row_reference_faults database table rec (i + 1) (drop (i + 1) (map column_of declared)) (drop (i + 1) (row_or_none (row_of database table id)))
 key_next database table rec id declared i column within is =
     let wide : length (map column_of declared) ≡ length declared = length-map declared column_of in
     let here : drop i (map column_of declared) ≡ column_of column ∷ drop (i + 1) (map column_of declared) =
     next (map column_of declared) i identifier (omega arith) ∙ ap (λ held. held ∷ drop (i + 1) (map column_of declared)) (column_there declared i column within is) in
     let later = drop (i + 1) (map column_of declared) in
-    ap (λ columns. keys_faults database table rec i columns (drop i (row_or_none (row_of database table id)))) here
+    ap (λ columns. row_reference_faults database table rec i columns (drop i (row_or_none (row_of database table id)))) here
     ∙ keys_next database table rec i (column_of column) later (row_or_none (row_of database table id))
-    ∙ ap (λ value. key_faults_in database (place table rec i) column.child value ++ keys_faults database table rec (i + 1) later (drop (i + 1) (row_or_none (row_of database table id)))) (there (row_of database table id))
+    ∙ ap (λ value. key_faults_in database (place table rec i) column.child value ++ row_reference_faults database table rec (i + 1) later (drop (i + 1) (row_or_none (row_of database table id)))) (there (row_of database table id))
   where
     there : (o : Option Row) → slice_get (row_or_none o) i ≡ option_and_then (λ row. slice_get row i) o
     there None = slice_get_past [] i (omega arith)
     there (Some row) = refl
 
 pub no_key : (database : Database) (table rec i : ℕ) (declared : List Column) (row : Row) → length declared ≤ i
-    → keys_faults database table rec i (drop i (map column_of declared)) (drop i row) ≡ []
-unfolding keys_faults
+    → row_reference_faults database table rec i (drop i (map column_of declared)) (drop i row) ≡ []
+unfolding row_reference_faults
 no_key database table rec i declared row past =
     let wide : length (map column_of declared) ≡ length declared = length-map declared column_of in
-    ap (λ columns. keys_faults database table rec i columns (drop i row)) (drop_all i (map column_of declared) (omega arith))
+    ap (λ columns. row_reference_faults database table rec i columns (drop i row)) (drop_all i (map column_of declared) (omega arith))
 
 -- the faults from a row on begin with its own
 pub row_next : (database : Database) (table : ℕ) (columns : List schema.Column) (i : ℕ) → i < length (rows_of database table)
     → table_references database table (i + 2) columns (drop i (rows_of database table))
-    ≡ keys_faults database table (i + 2) 0 columns (row_or_none (row_of database table (i + 1)))
+    ≡ row_reference_faults database table (i + 2) 0 columns (row_or_none (row_of database table (i + 1)))
     ++ table_references database table (i + 1 + 2) columns (drop (i + 1) (rows_of database table))
 unfolding table_references
 row_next database table columns i within =
@@ -74,7 +74,7 @@ row_next database table columns i within =
     let here : row_of database table (suc i) ≡ Some (get_or (rows_of database table) i []) = slice_get-get_or (rows_of database table) i [] within in
     let row : row_or_none (row_of database table (i + 1)) ≡ get_or (rows_of database table) i [] = ap (λ n. row_or_none (row_of database table n)) number ∙ ap row_or_none here in
     ap (table_references database table (i + 2) columns) (next (rows_of database table) i [] within)
-    ∙ ap₂ (λ row rec. keys_faults database table (i + 2) 0 columns row ++ table_references database table rec columns (drop (i + 1) (rows_of database table))) (sym row) rec
+    ∙ ap₂ (λ row rec. row_reference_faults database table (i + 2) 0 columns row ++ table_references database table rec columns (drop (i + 1) (rows_of database table))) (sym row) rec
 
 pub no_row : (database : Database) (table i : ℕ) (columns : List schema.Column) → length (rows_of database table) ≤ i
     → table_references database table (i + 2) columns (drop i (rows_of database table)) ≡ []

@@ -4,12 +4,12 @@ use Rattle.std.specs.Prelude.{slice_get}
 use Rattle.std.specs.Cmp.{first_so, second_so}
 use Rattle.std.proofs.lemmas.Slice.Eq.{bytes_eq-Decides}
 use Rattle.std.proofs.lemmas.List.{length-map}
-use Rattle.ghost_model.specs.Cells.{cell_width}
-use Rattle.ghost_model.specs.Schema as schema
-use Rattle.ghost_model.specs.Schema.{Kind, Integer, Chars, column_at}
-use Rattle.ghost_model.specs.SchemaTrees.{IsTree}
-use Rattle.ghost_model.specs.Spelled.{is_name}
-use Rattle.ghost_model.specs.Tokens.{in_lower_case}
+use Rattle.ghost_model.specs.forms.Cells.{cell_width}
+use Rattle.ghost_model.specs.core.Schema as schema
+use Rattle.ghost_model.specs.core.Schema.{Kind, Integer, Chars, column_at}
+use Rattle.ghost_model.specs.laws.SchemaTrees.{IsTree}
+use Rattle.ghost_model.specs.laws.Spelled.{is_name}
+use Rattle.ghost_model.specs.refusals.Tokens.{in_lower_case}
 use Rattle.tree_schema.specs.declared.schema.Column.{Column}
 use Rattle.tree_schema.specs.Views.{column_of}
 use Rattle.csv_split.specs.Reading.{AreColumns, columns_of}

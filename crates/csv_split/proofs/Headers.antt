@@ -5,10 +5,10 @@ use Rattle.std.proofs.lemmas.List.{drop_all, get_or-map, length-map}
 use Rattle.tree_schema.specs.declared.schema.Column.{Column}
 use Rattle.tree_schema.specs.Views.{column_of}
 use Rattle.std.proofs.lemmas.Option.{slice_get-get_or}
-use Rattle.ghost_model.specs.LoadFaults.{is_header}
-use Rattle.ghost_model.specs.Schema as schema
-use Rattle.ghost_model.specs.SchemaTrees.{identifier}
-use Rattle.ghost_model.specs.Tokens.{in_lower_case}
+use Rattle.ghost_model.specs.refusals.LoadFaults.{is_header}
+use Rattle.ghost_model.specs.core.Schema as schema
+use Rattle.ghost_model.specs.laws.SchemaTrees.{identifier}
+use Rattle.ghost_model.specs.refusals.Tokens.{in_lower_case}
 use Rattle.csv_split.proofs.FieldPlaces.{next}
 use Rattle.csv_split.specs.Reading.{columns_of, with_identifier}
 

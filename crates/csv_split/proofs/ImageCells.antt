@@ -4,11 +4,11 @@ use Rattle.std.specs.Prelude.{slice_get}
 use Rattle.std.proofs.lemmas.List.{drop_all, length-map, get_or-map, take-replicate}
 use Rattle.std.proofs.lemmas.List.FromFn.{get_or-map-range_with_len}
 use Rattle.std.proofs.lemmas.Option.{slice_get-get_or}
-use Rattle.ghost_model.specs.Cells.{encode_cell}
-use Rattle.ghost_model.specs.Schema as schema
-use Rattle.ghost_model.specs.SchemaTrees.{identifier}
-use Rattle.ghost_model.specs.Split as parts
-use Rattle.ghost_model.specs.Values.{Value, Number, Row, Rows}
+use Rattle.ghost_model.specs.forms.Cells.{encode_cell}
+use Rattle.ghost_model.specs.core.Schema as schema
+use Rattle.ghost_model.specs.laws.SchemaTrees.{identifier}
+use Rattle.ghost_model.specs.core.Split as parts
+use Rattle.ghost_model.specs.core.Values.{Value, Number, Row, Rows}
 use Rattle.ghost_base.specs.declared.kind.Kind.{Kind}
 use Rattle.ghost_base.specs.Views.{kind_of}
 use Rattle.tree_schema.specs.declared.schema.Column.{Column}
@@ -27,14 +27,14 @@ zeros count most few = take-replicate count most 0 few
 
 -- the kinds of the visible ones of columns
 abbrev pub open_kinds : List schema.Column → List schema.Kind
-open_kinds columns = map parts.kind_of (filter parts.is_open columns)
+open_kinds columns = map parts.kind_of_column (filter parts.is_open columns)
 
 kinds_first : (column : schema.Column) (later : List schema.Column) → open_kinds (column ∷ later) ≡ open_kinds (column ∷ []) ++ open_kinds later
 kinds_first column later = by column.hidden
   where
     by : (hidden : Bool)
-        → map parts.kind_of (if not hidden then column ∷ filter parts.is_open later else filter parts.is_open later)
-        ≡ map parts.kind_of (if not hidden then column ∷ [] else []) ++ open_kinds later
+        → map parts.kind_of_column (if not hidden then column ∷ filter parts.is_open later else filter parts.is_open later)
+        ≡ map parts.kind_of_column (if not hidden then column ∷ [] else []) ++ open_kinds later
     by true = refl
     by false = refl
 

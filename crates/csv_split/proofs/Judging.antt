@@ -1,7 +1,7 @@
 -- How a result judges the faults of a whole by those of its parts.
 use Rattle.std.proofs.Common.{◌≡◌, Bool, true, false, List, [], ◌++◌, Option, Some, None, Result, sym, ap, subst}
-use Rattle.ghost_model.specs.LoadFaults as faults
-use Rattle.ghost_model.specs.LoadFaults.{IsFirst, Judges, TellsFirst, unless}
+use Rattle.ghost_model.specs.refusals.LoadFaults as faults
+use Rattle.ghost_model.specs.refusals.LoadFaults.{IsFirst, Judges, TellsFirst, unless}
 
 -- the first fault of a part is that of the whole that begins with it
 pub first_more : (told : Option faults.LoadFault) (part later : List faults.LoadFault) → TellsFirst told part → TellsFirst told (part ++ later)

@@ -6,8 +6,9 @@ use Rattle.std.proofs.lemmas.Bool.Decides.{nat_tests}
 use Rattle.std.specs.Cmp.{first_so, second_so}
 use Rattle.ghost_base.proofs.TextCells.{text_of_padded}
 use Rattle.std.proofs.lemmas.List.Folds.{length-prefix_len}
-use Rattle.ghost_model.specs.Cells.{is_not_zero, padded, text_in}
-use Rattle.ghost_model.specs.Database.{is_text}
+use Rattle.ghost_model.specs.forms.Cells.{padded}
+use Rattle.ghost_model.specs.readings.CellReading.{is_not_zero, text_in}
+use Rattle.ghost_model.specs.core.Database.{is_text}
 use Rattle.std.proofs.lemmas.Nat.{mul-le}
 use Rattle.csv_split.specs.declared.texts.Texts.TheInside.{Inside}
 use Rattle.csv_split.specs.Texts.{AreCells, IsCell, KeepsTexts, TextList, list_of, texts_in}

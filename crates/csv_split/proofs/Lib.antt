@@ -16,3 +16,4 @@ pub mod PartRows
 pub mod SplitParts
 pub mod ImageCells
 pub mod RejoinedParts
+mod ImageLengths

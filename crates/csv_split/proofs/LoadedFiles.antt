@@ -1,11 +1,11 @@
 -- The files that are left, and the faults and rows of all.
-use Rattle.std.proofs.Common.{◌≡◌, ◌≤◌, ◌<◌, ◌+◌, ◌∙◌, ℕ, List, [], ◌∷◌, ◌++◌, length, drop, get_or, sym, ap, ap₂, refl, append_assoc, append-nil}
+use Rattle.std.proofs.Common.{◌≡◌, ◌≤◌, ◌<◌, ◌+◌, ◌∙◌, ℕ, List, [], ◌∷◌, ◌++◌, length, drop, get_or, sym, ap, ap₂, refl, append_assoc, append-nil, Option, Result, Ok, Err, IfOk, MatchResult}
 use Rattle.std.proofs.lemmas.List.{drop_all}
 use Rattle.std.proofs.lemmas.Option.{slice_get-get_or}
-use Rattle.ghost_model.specs.LoadFaults.{file_faults, files_faults}
-use Rattle.ghost_model.specs.Schema as schema
-use Rattle.ghost_model.specs.Values.{Rows, Database}
-use Rattle.ghost_model.specs.Database.{database_of, rows_spelled}
+use Rattle.ghost_model.specs.refusals.LoadFaults.{Judges, LoadFault, file_faults, files_faults}
+use Rattle.ghost_model.specs.core.Schema as schema
+use Rattle.ghost_model.specs.core.Values.{Rows, Database}
+use Rattle.ghost_model.specs.core.Database.{database_of, rows_spelled}
 use Rattle.csv_split.proofs.FieldPlaces.{next}
 
 nowhere : schema.Table
@@ -58,3 +58,12 @@ all_read tables files i database so_far past =
       so_far.faults ∙ ap (λ tables. files_faults i tables (drop i files)) none,
       sym (so_far.rows ∙ ap (λ tables. database ++ database_of tables (drop i files)) none ∙ append-nil database),
     )
+
+-- the same where the file was read and its table put at the end
+pub file_put : (tables : schema.Schema) (files : List (List ℕ)) (i : ℕ) (database more : Database) (file : List ℕ) {E : Type 0} (told : E → Option LoadFault) (read : Result Rows E) → AreReadSoFar tables files i database
+    → i < length tables → i < length files → file ≡ get_or files i []
+    → Judges told read (file_faults i (schema.columns_of tables i) file) → IfOk read (λ rows. rows ≡ rows_spelled (schema.columns_of tables i) file)
+    → MatchResult read (λ rows. more ≡ database ++ rows ∷ []) (λ _. ⊥)
+    → AreReadSoFar tables files (i + 1) more
+file_put tables files i database more file told (Ok rows) so_far within here is judged spelled grown = file_read tables files i database more file rows so_far within here is judged spelled grown
+file_put tables files i database more file told (Err fault) so_far within here is judged spelled grown = absurd grown

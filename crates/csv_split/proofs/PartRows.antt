@@ -3,7 +3,7 @@ use Rattle.std.proofs.Common.{◌≡◌, ◌≤◌, ◌<◌, ◌+◌, ◌-◌, �
 use Rattle.std.specs.Prelude.{slice_get, option_map, option_and_then, IfSome, IfNone, get_or}
 use Rattle.std.proofs.lemmas.List.FromFn.{length-map-range_with_len, get_or-map-range_with_len}
 use Rattle.std.proofs.lemmas.Option.{slice_get-get_or, slice_get_past, slice_get_cases}
-use Rattle.ghost_model.specs.Values.{Value, Row, Rows}
+use Rattle.ghost_model.specs.core.Values.{Value, Row, Rows}
 use Rattle.csv_split.specs.declared.cells.Cells.{Cells}
 use Rattle.csv_split.specs.Cells.{values_in}
 use Rattle.csv_split.specs.Parts.{part_in}

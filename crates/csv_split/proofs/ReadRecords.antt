@@ -3,7 +3,7 @@ use Rattle.std.proofs.Common.{Bor, ◌≡◌, ◌⊎◌, ◌<◌, ◌+◌, ◌�
 use Rattle.std.specs.Prelude.{⊤, option_map, if◌then◌else◌, ◌++◌, not, ◌&&◌, ◌==◌, drop, take}
 use Rattle.csv.specs.declared.reader.Trim.TheVariants as trim
 use Rattle.csv.specs.Machine.{Read, ends_at_end, field_after, fields_after, is_end, next_record, step}
-use Rattle.csv.specs.Reading.{NextIs, ReadRecord, ReadsNext, ReadsOn, Ready, buffered_of, default_config, has_failed, pending_of, records_from, records_next, source_of, strip_bom}
+use Rattle.csv.specs.Reading.{NextIs, ReadRecord, ReadsNext, ReadsOn, Ready, buffered_of, default_config, has_failed, is_flexible, pending_of, records_from, records_next, source_of, strip_bom}
 use Rattle.csv.specs.declared.parser.Config.{Config}
 use Rattle.csv.specs.declared.parser.State.{State}
 use Rattle.csv.specs.declared.parser.State.TheVariants as st
@@ -89,16 +89,16 @@ stays old new true reading going fails on = inl fails
 stays old new false (inl failed) going fails on = absurd (going failed)
 stays old new false (inr set) going fails on =
     let r = on refl in
-    inr (record { going = fails; plain = r.1 ∙ set.plain; standard = r.0 ∙ set.standard; ready = (r.4 set.ready).0 })
+    inr (record { going = fails; plain = r.1 ∙ set.plain; standard = r.0 ∙ set.standard; flexible = r.2 ∙ set.flexible; ready = (r.4 set.ready).0 })
 
 -- and after a read
 pub stays_after : {R : Type 0} (rem : R → Option (List ℕ)) (old new : Reader R) (found : Bool) (fields : List (List ℕ)) → IsReading old
     → has_failed new ≡ has_failed old → (old.trim ≡ trim.None → new.first ≡ true)
-    → (old.trim ≡ trim.None → Ready old → ReadRecord rem old new found fields) → IsReading new
-stays_after rem old new found fields (inl failed) goes first reads = inl (goes ∙ failed)
-stays_after rem old new found fields (inr set) goes first reads =
+    → (old.trim ≡ trim.None → Ready old → ReadRecord rem old new found fields) → is_flexible new ≡ is_flexible old → IsReading new
+stays_after rem old new found fields (inl failed) goes first reads kept = inl (goes ∙ failed)
+stays_after rem old new found fields (inr set) goes first reads kept =
     let r = reads set.plain set.ready in
-    inr (record { going = goes ∙ set.going; plain = r.3 ∙ set.plain; standard = r.2 ∙ set.standard; ready = inl (first set.plain) })
+    inr (record { going = goes ∙ set.going; plain = r.3 ∙ set.plain; standard = r.2 ∙ set.standard; flexible = kept ∙ set.flexible; ready = inl (first set.plain) })
 
 from_bytes : (config : Config) (state after : State) (before later : Option (List ℕ)) (bytes : List ℕ) (found : Bool) (fields : List (List ℕ))
     → config ≡ default_config → before ≡ Some bytes → ReadsNext config state before later found fields after

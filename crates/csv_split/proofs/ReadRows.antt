@@ -6,15 +6,15 @@ use Rattle.std.proofs.Math.ListN.{get_or-append}
 use Rattle.std.proofs.Math.Seq.{get_or-append_seam}
 use Rattle.std.proofs.lemmas.List.{drop_all, length-map, map_push}
 use Rattle.std.proofs.lemmas.List.FromFn.{map-range_with_len_more}
-use Rattle.ghost_model.specs.Cells.{cell_width}
-use Rattle.ghost_model.specs.LoadFaults.{FieldCount, LoadFault, RowLimit, most_rows, place, row_faults, rows_faults, unless}
-use Rattle.ghost_model.specs.Schema as schema
-use Rattle.ghost_model.specs.SchemaTrees.{identifier}
-use Rattle.ghost_model.specs.Split.{kind_of}
-use Rattle.ghost_model.specs.Values.{Value, Number, Row}
+use Rattle.ghost_model.specs.forms.Cells.{cell_width}
+use Rattle.ghost_model.specs.refusals.LoadFaults.{FieldCount, LoadFault, RowLimit, most_rows, place, row_faults, rows_faults, unless}
+use Rattle.ghost_model.specs.core.Schema as schema
+use Rattle.ghost_model.specs.laws.SchemaTrees.{identifier}
+use Rattle.ghost_model.specs.core.Split.{kind_of_column}
+use Rattle.ghost_model.specs.core.Values.{Value, Number, Row}
 use Rattle.tree_schema.specs.declared.schema.Column.{Column}
 use Rattle.tree_schema.specs.Views.{column_of}
-use Rattle.ghost_model.specs.Database.{row_spelled}
+use Rattle.ghost_model.specs.core.Database.{row_spelled}
 use Rattle.csv_split.specs.declared.cells.Cells.{Cells}
 use Rattle.csv_split.specs.Cells.{kind_in, values_in}
 use Rattle.csv_split.specs.Reading.{AreColumns, AreOfKinds, HaveAll, columns_of, with_identifier, with_row}
@@ -164,7 +164,7 @@ none_more (first ∷ columns) values none is = record { each = each (none_more c
 
 -- the kinds of the columns made are those of the first columns
 pub record AreMade (columns : List schema.Column) (cells : List Cells) (i : ℕ) : Type 0 where
-  pub kinds : map kind_of columns ≡ map kind_in cells ++ map kind_of (drop i columns)
+  pub kinds : map kind_of_column columns ≡ map kind_in cells ++ map kind_of_column (drop i columns)
   pub none : HaveAll 0 (column_values cells)
 
 pub one_made : (declared : List Column) (cells more : List Cells) (i : ℕ) (column : Column) (cell : Cells)
@@ -174,10 +174,10 @@ one_made declared cells more i column cell made within is grown kind none =
     let wide : length (columns_of declared) ≡ length declared = length-map declared column_of in
     let here : drop i (columns_of declared) ≡ column_of column ∷ drop (i + 1) (columns_of declared) =
     next (columns_of declared) i identifier (omega arith) ∙ ap (λ held. held ∷ drop (i + 1) (columns_of declared)) (column_there declared i column within is) in
-    let rest = map kind_of (drop (i + 1) (columns_of declared)) in
+    let rest = map kind_of_column (drop (i + 1) (columns_of declared)) in
     record {
       kinds = made.kinds
-          ∙ ap (λ left. map kind_in cells ++ map kind_of left) here
+          ∙ ap (λ left. map kind_in cells ++ map kind_of_column left) here
           ∙ ap (λ kind. map kind_in cells ++ (kind ∷ rest)) (sym kind)
           ∙ sym (append_assoc (map kind_in cells) (kind_in cell ∷ []) rest)
           ∙ ap (λ kinds. kinds ++ rest) (sym (ap (map kind_in) grown ∙ map_push kind_in cells cell));
@@ -188,7 +188,7 @@ pub all_made : (declared : List Column) (cells : List Cells) (i : ℕ) → AreMa
 all_made declared cells i made past =
     let wide : length (columns_of declared) ≡ length declared = length-map declared column_of in
     let none : drop i (columns_of declared) ≡ [] = drop_all i (columns_of declared) (omega arith) in
-    sym (made.kinds ∙ ap (λ left. map kind_in cells ++ map kind_of left) none ∙ append-nil (map kind_in cells))
+    sym (made.kinds ∙ ap (λ left. map kind_in cells ++ map kind_of_column left) none ∙ append-nil (map kind_in cells))
 
 -- no columns yet
 pub none_made : (columns : List schema.Column) (cells : List Cells) → cells ≡ [] → AreMade columns cells 0

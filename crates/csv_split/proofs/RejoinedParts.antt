@@ -4,9 +4,9 @@ use Rattle.std.specs.Prelude.{slice_get}
 use Rattle.std.specs.List.{range_with_len}
 use Rattle.std.proofs.lemmas.List.{drop_all, length-map}
 use Rattle.std.proofs.lemmas.Option.{slice_get-get_or}
-use Rattle.ghost_model.specs.Schema as schema
-use Rattle.ghost_model.specs.Split.{hidden_flags, merged, rejoined_rows, rejoined_tables}
-use Rattle.ghost_model.specs.Values.{Value, Number, Rows, Database}
+use Rattle.ghost_model.specs.core.Schema as schema
+use Rattle.ghost_model.specs.laws.SplitByFlags.{hidden_flags, merged, rejoined_rows, rejoined_tables}
+use Rattle.ghost_model.specs.core.Values.{Value, Number, Rows, Database}
 use Rattle.tree_schema.specs.declared.schema.Column.{Column}
 use Rattle.csv_split.specs.declared.cells.Cells.{Cells}
 use Rattle.csv_split.specs.Cells.{values_in}

@@ -5,10 +5,10 @@ use Rattle.std.specs.List.{range_with_len}
 use Rattle.std.proofs.lemmas.List.{drop_all, length-map, get_or-map}
 use Rattle.std.proofs.lemmas.Option.{slice_get-get_or}
 use Rattle.std.proofs.lemmas.Simd.{map-map}
-use Rattle.ghost_model.specs.Schema as schema
-use Rattle.ghost_model.specs.SchemaTrees.{identifier}
-use Rattle.ghost_model.specs.Split.{hidden_flags, hidden_values, rows_by, tables_by, visible_values}
-use Rattle.ghost_model.specs.Values.{Value, Number, Row, Rows, Database}
+use Rattle.ghost_model.specs.core.Schema as schema
+use Rattle.ghost_model.specs.laws.SchemaTrees.{identifier}
+use Rattle.ghost_model.specs.laws.SplitByFlags.{hidden_flags, hidden_values, rows_by, tables_by, visible_values}
+use Rattle.ghost_model.specs.core.Values.{Value, Number, Row, Rows, Database}
 use Rattle.tree_schema.specs.declared.schema.Column.{Column}
 use Rattle.csv_split.specs.declared.cells.Cells.{Cells}
 use Rattle.csv_split.specs.Cells.{values_in}

@@ -3,7 +3,7 @@ use Rattle.std.proofs.Common.{◌≡◌, ◌≤◌, ◌<◌, ◌+◌, ◌-◌, �
 use Rattle.std.specs.Prelude.{slice_get, option_map, option_and_then, IfSome, IfNone}
 use Rattle.std.proofs.lemmas.List.FromFn.{length-map-range_with_len, get_or-map-range_with_len}
 use Rattle.std.proofs.lemmas.Option.{slice_get-map, slice_get-get_or, slice_get_past, slice_get_cases}
-use Rattle.ghost_model.specs.Values.{Value, Number, Row, Rows}
+use Rattle.ghost_model.specs.core.Values.{Value, Number, Row, Rows}
 use Rattle.csv_split.specs.declared.cells.Cells.{Cells}
 use Rattle.csv_split.specs.Cells.{values_in}
 use Rattle.csv_split.specs.Tables.{IsColumn, row_at, rows_in, value_in, value_of_columns, values_at}

@@ -4,12 +4,12 @@ use Rattle.std.proofs.Math.ListN.{set, get_or-map}
 use Rattle.std.proofs.lemmas.List.{map-set, set-get_or, length-map, length-set, drop-set-lt, drop_all, take_all, get_or-drop}
 use Rattle.std.proofs.lemmas.Grind.{take-set_at}
 use Rattle.std.proofs.lemmas.Option.{slice_get-get_or}
-use Rattle.ghost_model.specs.LoadFaults.{field_faults, place, value_faults}
-use Rattle.ghost_model.specs.Schema as schema
-use Rattle.ghost_model.specs.SchemaTrees.{identifier}
-use Rattle.ghost_model.specs.Split.{kind_of}
-use Rattle.ghost_model.specs.Values.{Value, Row}
-use Rattle.ghost_model.specs.Database.{row_spelled, value_of}
+use Rattle.ghost_model.specs.refusals.LoadFaults.{field_faults, place, value_faults}
+use Rattle.ghost_model.specs.core.Schema as schema
+use Rattle.ghost_model.specs.laws.SchemaTrees.{identifier}
+use Rattle.ghost_model.specs.core.Split.{kind_of_column}
+use Rattle.ghost_model.specs.core.Values.{Value, Row}
+use Rattle.ghost_model.specs.core.Database.{row_spelled, value_of_field}
 use Rattle.csv_split.specs.declared.cells.Cells.{Cells}
 use Rattle.csv_split.specs.Cells.{kind_in, values_in}
 use Rattle.csv_split.specs.Tables.{column_values}
@@ -29,7 +29,7 @@ pub begin : (table rec : ℕ) (columns : List schema.Column) (fields : List (Lis
 begin table rec columns fields old kinds = record { faults = refl; values = refl; kinds = kinds; left = refl }
 
 pub same_length : (columns : List schema.Column) (cells : List Cells) → AreOfKinds columns cells → length cells ≡ length columns
-same_length columns cells kinds = sym (length-map cells kind_in) ∙ ap length kinds ∙ length-map columns kind_of
+same_length columns cells kinds = sym (length-map cells kind_in) ∙ ap length kinds ∙ length-map columns kind_of_column
 
 -- the kind of the column at a place
 pub kind_there : (columns : List schema.Column) (cells : List Cells) (i : ℕ) (held : schema.Column) (cell : Cells) → AreOfKinds columns cells → i < length columns
@@ -38,7 +38,7 @@ kind_there columns cells i held cell kinds within =
     let many = same_length columns cells kinds in
     sym (Rattle.std.proofs.lemmas.List.get_or-map kind_in cells i cell schema.Integer (omega arith))
     ∙ ap (λ kinds. get_or kinds i schema.Integer) kinds
-    ∙ Rattle.std.proofs.lemmas.List.get_or-map kind_of columns i held schema.Integer within
+    ∙ Rattle.std.proofs.lemmas.List.get_or-map kind_of_column columns i held schema.Integer within
 
 -- the faults that are left begin with those of the field of column `i`
 pub faults_next : (table rec : ℕ) (columns : List schema.Column) (fields : List (List ℕ)) (i : ℕ) (cells : List Cells) (cell : Cells)
@@ -103,11 +103,11 @@ values_step N i x value row within is =
 pub step : (table rec : ℕ) (columns : List schema.Column) (fields : List (List ℕ)) (old new : List Cells) (i : ℕ) (cell more : Cells) (field : List ℕ)
     → IsTakenSoFar table rec columns fields old new i → AreOfKinds columns old → i < length columns → length fields ≡ length columns + 1 → field ≡ get_or fields (i + 1) []
     → value_faults (place table rec (i + 1)) (kind_in (get_or new i cell)) field ≡ []
-    → values_in more ≡ values_in (get_or new i cell) ++ value_of (kind_in (get_or new i cell)) field ∷ [] → kind_in more ≡ kind_in (get_or new i cell)
+    → values_in more ≡ values_in (get_or new i cell) ++ value_of_field (kind_in (get_or new i cell)) field ∷ [] → kind_in more ≡ kind_in (get_or new i cell)
     → IsTakenSoFar table rec columns fields old (set new i more) (i + 1)
 step table rec columns fields old new i cell more field so_far kinds within many is none values same =
     let clean : value_faults (place table rec (i + 1)) (kind_in (get_or new i cell)) (get_or fields (i + 1) []) ≡ [] = rw is at none in
-    let value = value_of (kind_in (get_or new i cell)) field in
+    let value = value_of_field (kind_in (get_or new i cell)) field in
     let many_new = same_length columns new so_far.kinds in
     let many_old = same_length columns old kinds in
     let wide_new : length (column_values new) ≡ length new = length-map new values_in in
@@ -117,7 +117,7 @@ step table rec columns fields old new i cell more field so_far kinds within many
     let kind : kind_in (get_or new i cell) ≡ (get_or columns i identifier).kind = kind_there columns new i identifier cell so_far.kinds within in
     let row : row_spelled (drop i columns) (drop (i + 1) fields) ≡ value ∷ row_spelled (drop (i + 1) columns) (drop (i + 1 + 1) fields) =
     ap₂ row_spelled (next columns i identifier within) (next fields (i + 1) [] (omega arith))
-    ∙ ap₂ (λ kind field. value_of kind field ∷ row_spelled (drop (i + 1) columns) (drop (i + 1 + 1) fields)) (sym kind) (sym is) in
+    ∙ ap₂ (λ kind field. value_of_field kind field ∷ row_spelled (drop (i + 1) columns) (drop (i + 1 + 1) fields)) (sym kind) (sym is) in
     let set_is = values_set new i more in
     record {
       faults = all_faults table rec columns fields old new i cell so_far within many ∙ ap (λ faults. faults ++ field_faults table rec (i + 1 + 1) (drop (i + 1) columns) (drop (i + 1 + 1) fields)) clean;

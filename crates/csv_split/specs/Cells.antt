@@ -1,7 +1,7 @@
 -- The cells of a column: their kind, and the values that they are the cells of.
 use Rattle.std.specs.Prelude.{List, map}
-use Rattle.ghost_model.specs.Schema.{Kind, Integer, Chars}
-use Rattle.ghost_model.specs.Values.{Value, Number, Text}
+use Rattle.ghost_model.specs.core.Schema.{Kind, Integer, Chars}
+use Rattle.ghost_model.specs.core.Values.{Value, Number, Text}
 use Rattle.csv_split.specs.declared.cells.Cells.{Cells}
 use Rattle.csv_split.specs.declared.cells.Cells.TheVariants as cells
 

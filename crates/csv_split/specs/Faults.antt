@@ -1,6 +1,6 @@
 -- What the faults of the code tell, in the words of the definitions: a broken rule, or none where memory was wanting.
 use Rattle.std.specs.Prelude.{Option, Some, None}
-use Rattle.ghost_model.specs.LoadFaults as faults
+use Rattle.ghost_model.specs.refusals.LoadFaults as faults
 use Rattle.csv_split.specs.declared.faults.Place.{Place}
 use Rattle.csv_split.specs.declared.faults.LoadFault.{LoadFault}
 use Rattle.csv_split.specs.declared.faults.LoadFault.TheVariants as fault

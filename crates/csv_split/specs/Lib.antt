@@ -8,3 +8,5 @@ pub mod Reading
 pub mod References
 pub mod ReadingOrder
 pub mod Parts
+pub mod Wants
+pub mod ImageLengths

@@ -1,10 +1,11 @@
 -- The part of each row of a table that some of its columns hold, the identifier standing in none of them, and the two
 -- parts of a database as one list of rows for each table.
 use Rattle.std.specs.Prelude.{◌≡◌, ◌≤◌, ◌<◌, ℕ, Bool, List, [], ◌∷◌, length, Option, Some, None, slice_get}
-use Rattle.ghost_model.specs.LoadFaults.{most_rows}
-use Rattle.ghost_model.specs.Schema as schema
-use Rattle.ghost_model.specs.Split.{Public, Hidden, merged, rejoined_rows}
-use Rattle.ghost_model.specs.Values.{Value, Rows, Database}
+use Rattle.ghost_model.specs.refusals.LoadFaults.{most_rows}
+use Rattle.ghost_model.specs.core.Schema as schema
+use Rattle.ghost_model.specs.core.Split.{Public, Hidden}
+use Rattle.ghost_model.specs.laws.SplitByFlags.{merged, rejoined_rows}
+use Rattle.ghost_model.specs.core.Values.{Value, Rows, Database}
 use Rattle.csv_split.specs.declared.part.Part.TheInside.{Inside}
 use Rattle.csv_split.specs.Tables.{column_values, rows_made, values_at}
 

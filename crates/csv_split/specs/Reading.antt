@@ -1,11 +1,11 @@
 -- The columns of a table whose identifier is left out, and one more row at the ends of their values.
 use Rattle.std.specs.Prelude.{◌≡◌, ◌≤◌, ℕ, List, [], ◌∷◌, ◌++◌, length, map, slice_get, Some}
-use Rattle.ghost_model.specs.Cells.{cell_width}
-use Rattle.ghost_model.specs.Schema as schema
-use Rattle.ghost_model.specs.SchemaTrees.{identifier}
-use Rattle.ghost_model.specs.Split.{kind_of}
-use Rattle.ghost_model.specs.Tokens.{in_lower_case}
-use Rattle.ghost_model.specs.Values.{Value, Row}
+use Rattle.ghost_model.specs.forms.Cells.{cell_width}
+use Rattle.ghost_model.specs.core.Schema as schema
+use Rattle.ghost_model.specs.laws.SchemaTrees.{identifier}
+use Rattle.ghost_model.specs.core.Split.{kind_of_column}
+use Rattle.ghost_model.specs.refusals.Tokens.{in_lower_case}
+use Rattle.ghost_model.specs.core.Values.{Value, Row}
 use Rattle.tree_schema.specs.declared.schema.Column.{Column}
 use Rattle.tree_schema.specs.Views.{column_of}
 use Rattle.csv_split.specs.declared.cells.Cells.{Cells}
@@ -27,7 +27,7 @@ pub record AreColumns (columns : List schema.Column) : Type 0 where
 
 -- the kinds of cells are those of the columns
 abbrev pub AreOfKinds : List schema.Column → List Cells → Type 0
-AreOfKinds columns cells = map kind_in cells ≡ map kind_of columns
+AreOfKinds columns cells = map kind_in cells ≡ map kind_of_column columns
 
 -- one value more in each column
 abbrev pub with_row : (columns : List (List Value)) → Row → List (List Value)

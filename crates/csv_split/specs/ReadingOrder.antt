@@ -1,8 +1,8 @@
 -- What one file more adds to the faults and the rows of the files before it.
 use Rattle.std.specs.Prelude.{◌≡◌, ℕ, ◌+◌, ◌<◌, List, [], ◌∷◌, ◌++◌, length, drop}
-use Rattle.ghost_model.specs.Schema.{Schema, columns_of}
-use Rattle.ghost_model.specs.Database.{database_of, rows_spelled}
-use Rattle.ghost_model.specs.LoadFaults.{file_faults, files_faults}
+use Rattle.ghost_model.specs.core.Schema.{Schema, columns_of}
+use Rattle.ghost_model.specs.core.Database.{database_of, rows_spelled}
+use Rattle.ghost_model.specs.refusals.LoadFaults.{file_faults, files_faults}
 
 pub record AddsItsOwn (schema : Schema) (before : List (List ℕ)) (file : List ℕ) (later : List (List ℕ)) : Type 0 where
   -- its faults come after those of the files before, and before those of the later ones

@@ -1,9 +1,9 @@
 -- The rows of a table whose columns stand beside one another, the identifier, which is the row's number, apart.
 use Rattle.std.specs.Prelude.{◌≡◌, ◌<◌, ◌≤◌, ◌+◌, ℕ, pos, List, ◌∷◌, length, map, get_or, Option, Some, slice_get, option_and_then}
 use Rattle.std.specs.List.{range_with_len}
-use Rattle.ghost_model.specs.Values.{Value, Number, Row, Rows}
-use Rattle.ghost_model.specs.Database.{row_numbered}
-use Rattle.ghost_model.specs.LoadFaults.{most_rows}
+use Rattle.ghost_model.specs.core.Values.{Value, Number, Row, Rows}
+use Rattle.ghost_model.specs.core.Database.{row_numbered}
+use Rattle.ghost_model.specs.refusals.LoadFaults.{most_rows}
 use Rattle.csv_split.specs.declared.cells.Cells.{Cells}
 use Rattle.csv_split.specs.declared.table.Table.TheInside.{Inside}
 use Rattle.csv_split.specs.Cells.{values_in}

@@ -1,7 +1,8 @@
 -- A list of texts of a column, each kept as its cell. A clause sees how wide the cells are and the list of the texts.
 use Rattle.std.specs.Prelude.{◌≡◌, ◌≤◌, ◌*◌, ℕ, zero, suc, true, List, [], ◌∷◌, length, take, drop}
-use Rattle.ghost_model.specs.Cells.{padded, text_in}
-use Rattle.ghost_model.specs.Database.{is_text}
+use Rattle.ghost_model.specs.forms.Cells.{padded}
+use Rattle.ghost_model.specs.readings.CellReading.{text_in}
+use Rattle.ghost_model.specs.core.Database.{is_text}
 use Rattle.csv_split.specs.declared.texts.Texts.TheInside.{Inside}
 
 pub record TextList : Type 0 where

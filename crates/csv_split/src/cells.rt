@@ -1,11 +1,11 @@
 //! The cells of one column of a table.
 
-ghost use Rattle.std.specs.Prelude.{◌≡◌, ◌<◌, ◌≤◌, ◌^◌, ◌++◌, ◌∷◌, [], length, map, slice_get, option_map, OnOk};
-ghost use Rattle.ghost_model.specs.Schema as schema;
-ghost use Rattle.ghost_model.specs.Values.{Number, Text};
-ghost use Rattle.ghost_model.specs.Cells as cells;
-ghost use Rattle.ghost_model.specs.Database as database;
-ghost use Rattle.ghost_model.specs.LoadFaults as faults;
+ghost use Rattle.std.specs.Prelude.{◌≡◌, ◌<◌, ◌≤◌, ◌^◌, ◌++◌, ◌∷◌, [], length, map, slice_get, option_map, OnOk, Err};
+ghost use Rattle.ghost_model.specs.core.Schema as schema;
+ghost use Rattle.ghost_model.specs.core.Values.{Number, Text};
+ghost use Rattle.ghost_model.specs.forms.Cells as cells;
+ghost use Rattle.ghost_model.specs.core.Database as database;
+ghost use Rattle.ghost_model.specs.refusals.LoadFaults as faults;
 ghost use Rattle.ghost_base.specs.Views.{kind_of, value_of};
 ghost use Rattle.csv_split.specs.Cells.{kind_in, values_in};
 ghost use Rattle.csv_split.specs.Faults.{place_of, told};
@@ -63,7 +63,8 @@ impl Cells {
     pub fn take(&mut self, at: Place, field: &[u8]) -> Result<(), LoadFault>
         requires room { length (values_in self.old) < 2 ^ 32 }
         ensures judged { faults.Judges told result (faults.value_faults (place_of at) (kind_in self.old) field.now) }
-        ensures values { OnOk result (values_in self.new ≡ values_in self.old ++ database.value_of (kind_in self.old) field.now ∷ []) }
+        ensures memory { result ≡ Err LoadFault.NoMemory → faults.value_faults (place_of at) (kind_in self.old) field.now ≡ [] }
+        ensures values { OnOk result (values_in self.new ≡ values_in self.old ++ database.value_of_field (kind_in self.old) field.now ∷ []) }
         ensures kind { kind_in self.new ≡ kind_in self.old }
     {
         match self {
@@ -76,7 +77,8 @@ impl Cells {
 /// Puts the integer that a field spells at the end.
 fn take_number(numbers: &mut Vec<i64>, at: Place, field: &[u8]) -> Result<(), LoadFault>
     ensures judged { faults.Judges told result (faults.value_faults (place_of at) schema.Integer field.now) }
-    ensures values { OnOk result (map Number numbers.new.items ≡ map Number numbers.old.items ++ database.value_of schema.Integer field.now ∷ []) }
+    ensures memory { result ≡ Err LoadFault.NoMemory → faults.value_faults (place_of at) schema.Integer field.now ≡ [] }
+    ensures values { OnOk result (map Number numbers.new.items ≡ map Number numbers.old.items ++ database.value_of_field schema.Integer field.now ∷ []) }
 {
     let Some(number) = integer_of(field) else {
         return Err(LoadFault::BadInt(at));
@@ -91,6 +93,7 @@ fn take_number(numbers: &mut Vec<i64>, at: Place, field: &[u8]) -> Result<(), Lo
 fn take_text(texts: &mut Texts, at: Place, field: &[u8]) -> Result<(), LoadFault>
     requires room { length texts.old.texts < 2 ^ 32 }
     ensures judged { faults.Judges told result (faults.value_faults (place_of at) (schema.Chars texts.old.width) field.now) }
+    ensures memory { result ≡ Err LoadFault.NoMemory → faults.value_faults (place_of at) (schema.Chars texts.old.width) field.now ≡ [] }
     ensures values { OnOk result (map Text texts.new.texts ≡ map Text texts.old.texts ++ Text field.now ∷ []) }
     ensures width { texts.new.width ≡ texts.old.width }
 {

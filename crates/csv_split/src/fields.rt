@@ -3,9 +3,9 @@
 ghost use Rattle.std.specs.Prelude.{◌≡◌, ◌≤◌, ◌+◌, ◌-◌, ◌^◌, IfNone, IfSome, length, pos, neg_ℤ, true};
 ghost use Rattle.csv_split.specs.Numbers.{number_within};
 ghost use Rattle.std.specs.List.{list_all};
-ghost use Rattle.ghost_model.specs.Tokens.{is_digit};
-ghost use Rattle.ghost_model.specs.Database as database;
-ghost use Rattle.ghost_model.specs.LoadFaults as faults;
+ghost use Rattle.ghost_model.specs.refusals.Tokens.{is_digit};
+ghost use Rattle.ghost_model.specs.core.Database as database;
+ghost use Rattle.ghost_model.specs.refusals.LoadFaults as faults;
 
 use ghost_base::is_printable_text;
 

@@ -2,8 +2,8 @@
 
 ghost use Rattle.std.specs.Prelude.{◌≡◌, ◌≤◌, bytes_eq, length};
 ghost use Rattle.csv.specs.Records.{fields_of};
-ghost use Rattle.ghost_model.specs.LoadFaults as faults;
-ghost use Rattle.ghost_model.specs.Tokens.{in_lower_case};
+ghost use Rattle.ghost_model.specs.refusals.LoadFaults as faults;
+ghost use Rattle.ghost_model.specs.refusals.Tokens.{in_lower_case};
 ghost use Rattle.csv_split.specs.Reading.{AreColumns, columns_of, with_identifier};
 
 use crate::rows::field_of;

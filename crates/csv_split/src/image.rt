@@ -1,13 +1,14 @@
 //! The visible image: the catalog and the cells of the visible columns, row by row.
 
-ghost use Rattle.std.specs.Prelude.{◌≡◌, pos, ◌≤◌, ◌<◌, ◌++◌, ◌∷◌, [], map, filter, flat_map, length, replicate, get_or, IfOk, OnOk};
-ghost use Rattle.ghost_model.specs.Catalog.{catalog_bytes};
-ghost use Rattle.ghost_model.specs.Cells as cells;
-ghost use Rattle.ghost_model.specs.Split as parts;
-ghost use Rattle.ghost_model.specs.Values.{Number, Text};
+ghost use Rattle.std.specs.Prelude.{◌≡◌, pos, ◌≤◌, ◌<◌, ◌*◌, ◌++◌, ◌∷◌, [], map, filter, flat_map, length, replicate, get_or, IfOk, OnOk};
+ghost use Rattle.ghost_model.specs.forms.Catalog.{catalog_bytes};
+ghost use Rattle.ghost_model.specs.forms.Cells as cells;
+ghost use Rattle.ghost_model.specs.core.Split as parts;
+ghost use Rattle.ghost_model.specs.core.Values.{Number, Text};
 ghost use Rattle.ghost_base.specs.Views.{kind_of};
 ghost use Rattle.tree_schema.specs.Views.{column_of};
 ghost use Rattle.csv_split.specs.Cells.{values_in};
+ghost use Rattle.csv_split.specs.ImageLengths.{column_bytes, image_bytes, row_bytes};
 ghost use Rattle.csv_split.specs.Parts.{HaveRow, part_in};
 ghost use Rattle.csv_split.specs.Reading.{HaveAll, columns_of};
 ghost use Rattle.csv_split.specs.Tables.{column_values, values_at};
@@ -42,26 +43,48 @@ fn catalog_in(alloc: Global, cat: &Catalog, room: usize) -> Result<Vec<u8>, Allo
     Ok(out)
 }
 
-/// How many bytes are to be reserved for an image. Another number would cost time alone.
-fn image_len(cat: &Catalog, public: &Public) -> usize {
+/// How many bytes are to be reserved for an image, and no more than the image of whole rows has. Fewer would cost time alone.
+#[tactic(auto, using(crate::proofs::ImageLengths::all_lengths))]
+fn image_len(cat: &Catalog, public: &Public) -> usize
+    ensures at_most { result ≤ image_bytes cat.now public.now }
+{
     let schema = cat.schema();
     let mut len = catalog_len(cat) as usize;
     for table in 0..schema.tables() {
         if let Some(part) = public.part(table) {
-            let width = row_width(declared_columns(schema, table));
-            len = len.saturating_add(width.saturating_mul(part.rows() as usize));
+            let rows = table_len(declared_columns(schema, table), part);
+            len = len.saturating_add(rows);
         }
     }
     len
 }
 
+/// How many bytes are to be reserved for the rows of a table.
+#[tactic(auto, using(crate::proofs::ImageLengths::scaled))]
+fn table_len(declared: &[Column], part: &Part) -> usize
+    ensures at_most { result ≤ row_bytes (columns_of declared.now) * length part.now }
+{
+    row_width(declared).saturating_mul(part.rows() as usize)
+}
+
+/// How many bytes a column has in each row.
+fn column_len(column: &Column) -> usize
+    ensures { result ≡ column_bytes (column_of column.now) }
+{
+    if column.hidden {
+        return 0;
+    }
+    cell_width(column.kind)
+}
+
 /// How many bytes the visible columns of one row have.
-fn row_width(declared: &[Column]) -> usize {
+#[tactic(auto, using(crate::proofs::ImageLengths::all_widths))]
+fn row_width(declared: &[Column]) -> usize
+    ensures at_most { result ≤ row_bytes (columns_of declared.now) }
+{
     let mut width: usize = 0;
     for column in declared {
-        if !column.hidden {
-            width = width.saturating_add(cell_width(column.kind));
-        }
+        width = width.saturating_add(column_len(column));
     }
     width
 }
@@ -91,7 +114,7 @@ fn put_table(
     part: &Part,
     out: &mut Vec<u8>,
 ) -> Result<(), AllocError>
-    ensures { OnOk result (out.new.items ≡ out.old.items ++ flat_map (parts.cells (map parts.kind_of (filter parts.is_open (columns_of declared.now)))) part.now) }
+    ensures { OnOk result (out.new.items ≡ out.old.items ++ flat_map (parts.cells (map parts.kind_of_column (filter parts.is_open (columns_of declared.now)))) part.now) }
 {
     let kinds = visible_kinds(alloc, declared)?;
     put_rows(&kinds, part.columns(), part.rows(), out)
@@ -99,7 +122,7 @@ fn put_table(
 
 /// The kinds of the visible columns.
 fn visible_kinds(alloc: Global, declared: &[Column]) -> Result<Vec<Kind>, AllocError>
-    ensures { IfOk result (λ kinds. map kind_of kinds.items ≡ map parts.kind_of (filter parts.is_open (columns_of declared.now))) }
+    ensures { IfOk result (λ kinds. map kind_of kinds.items ≡ map parts.kind_of_column (filter parts.is_open (columns_of declared.now))) }
 {
     let mut kinds = Vec::new(alloc);
     for column in declared {
@@ -110,7 +133,7 @@ fn visible_kinds(alloc: Global, declared: &[Column]) -> Result<Vec<Kind>, AllocE
 
 /// Puts the kind of a column at the end, where the column is visible.
 fn put_kind(column: &Column, kinds: &mut Vec<Kind>) -> Result<(), AllocError>
-    ensures { OnOk result (map kind_of kinds.new.items ≡ map kind_of kinds.old.items ++ map parts.kind_of (filter parts.is_open (column_of column.now ∷ []))) }
+    ensures { OnOk result (map kind_of kinds.new.items ≡ map kind_of kinds.old.items ++ map parts.kind_of_column (filter parts.is_open (column_of column.now ∷ []))) }
 {
     if column.hidden {
         return Ok(());

@@ -1,9 +1,9 @@
 //! The tables of a schema, from their files.
 
-ghost use Rattle.std.specs.Prelude.{◌≡◌, ◌<◌, length, map, IfOk};
-ghost use Rattle.ghost_model.specs.Database as database;
-ghost use Rattle.ghost_model.specs.LoadFaults as faults;
-ghost use Rattle.ghost_model.specs.Schema as schemas;
+ghost use Rattle.std.specs.Prelude.{◌≡◌, ◌<◌, ◌++◌, ◌∷◌, List, [], length, map, Err, IfErr, IfOk, OnOk, MatchResult, Some, None};
+ghost use Rattle.ghost_model.specs.core.Database as database;
+ghost use Rattle.ghost_model.specs.refusals.LoadFaults as faults;
+ghost use Rattle.ghost_model.specs.core.Schema as schemas;
 ghost use Rattle.csv_split.specs.Faults.{told};
 
 use crate::faults::LoadFault;
@@ -37,7 +37,8 @@ pub fn read_table(
 /// told, those of foreign keys after all others. `NoMemory` may come at any time.
 pub fn read_tables(alloc: Global, schema: &Schema, files: &[Vec<u8>]) -> Result<Tables, LoadFault>
     requires { length files.now ≡ length schema.now }
-    ensures judged { faults.Judges told result (faults.load_faults schema.now (map (λ file. file.items) files.now)) }
+    ensures clean { IfOk result (λ _. faults.load_fault schema.now (map (λ file. file.items) files.now) ≡ None) }
+    ensures first { IfErr result (λ error. (fault : faults.LoadFault) → told error ≡ Some fault → faults.load_fault schema.now (map (λ file. file.items) files.now) ≡ Some fault) }
     ensures tables { IfOk result (λ tables. tables ≡ database.database_of schema.now (map (λ file. file.items) files.now)) }
     ensures database { IfOk result (λ tables. database.IsDatabase schema.now tables) }
 {
@@ -49,6 +50,20 @@ pub fn read_tables(alloc: Global, schema: &Schema, files: &[Vec<u8>]) -> Result<
     Ok(tables)
 }
 
+/// Puts the table of the next file at the end, where the file was read; its fault is the answer where it was not.
+fn put_table(tables: &mut Tables, read: Result<Table, LoadFault>) -> Result<(), LoadFault>
+    ensures same { (fault : LoadFault) → read ≡ Err fault → result ≡ Err fault }
+    ensures memory { IfErr result (λ fault. IfOk read (λ _. fault ≡ LoadFault.NoMemory)) }
+    ensures first { (found : List faults.LoadFault) → faults.Judges told read found → IfErr result (λ fault. faults.TellsFirst (told fault) found) }
+    ensures tables { OnOk result (MatchResult read (λ table. tables.new ≡ tables.old ++ table ∷ []) (λ _. ⊥)) }
+{
+    let table = read?;
+    match tables.push(table) {
+        Ok(()) => Ok(()),
+        Err(_) => Err(LoadFault::NoMemory),
+    }
+}
+
 /// The tables that files spell, their foreign keys not being looked at.
 fn read_files(alloc: Global, schema: &Schema, files: &[Vec<u8>]) -> Result<Tables, LoadFault>
     requires { length files.now ≡ length schema.now }
@@ -57,10 +72,8 @@ fn read_files(alloc: Global, schema: &Schema, files: &[Vec<u8>]) -> Result<Table
 {
     let mut tables = Tables::new(alloc);
     for (i, file) in files.iter().enumerate() {
-        let table = read_table(alloc, schema, i, file)?;
-        let Ok(()) = tables.push(table) else {
-            return Err(LoadFault::NoMemory);
-        };
+        let table = read_table(alloc, schema, i, file);
+        put_table(&mut tables, table)?;
     }
     Ok(tables)
 }

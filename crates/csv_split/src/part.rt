@@ -1,7 +1,7 @@
 //! Parts of tables: some columns, with all rows.
 
 ghost use Rattle.std.specs.Prelude.{◌≡◌, ℕ, ◌≤◌, length, slice_get, option_map, IfSome, IfNone, None};
-ghost use Rattle.ghost_model.specs.LoadFaults as faults;
+ghost use Rattle.ghost_model.specs.refusals.LoadFaults as faults;
 ghost use Rattle.ghost_base.specs.Views.{value_of};
 ghost use Rattle.csv_split.specs.Cells.{values_in};
 ghost use Rattle.csv_split.specs.Parts.{part_in};
@@ -22,7 +22,7 @@ pub struct Part {
 }
 
 impl Model for Part {
-    ghost use Rattle.ghost_model.specs.Values.{Rows};
+    ghost use Rattle.ghost_model.specs.core.Values.{Rows};
     ghost use Rattle.csv_split.specs.Parts.{IsPart, rows_of_part};
 
     ghost Value = { Rows };

@@ -1,8 +1,8 @@
 //! The two parts of a database.
 
 ghost use Rattle.std.specs.Prelude.{◌≡◌, ℕ, ◌≤◌, ◌++◌, ◌∷◌, [], length, slice_get, option_map, IfSome, IfNone, None, OnOk};
-ghost use Rattle.ghost_model.specs.Database as database;
-ghost use Rattle.ghost_model.specs.LoadFaults as faults;
+ghost use Rattle.ghost_model.specs.core.Database as database;
+ghost use Rattle.ghost_model.specs.refusals.LoadFaults as faults;
 ghost use Rattle.ghost_base.specs.Views.{value_of};
 ghost use Rattle.csv_split.specs.Cells.{values_in};
 ghost use Rattle.csv_split.specs.Parts.{hidden_with, public_with};
@@ -21,7 +21,7 @@ pub struct Public {
 }
 
 impl Model for Public {
-    ghost use Rattle.ghost_model.specs.Split as split;
+    ghost use Rattle.ghost_model.specs.core.Split as split;
     ghost use Rattle.csv_split.specs.Parts.{public_with};
 
     ghost Value = { split.Public };
@@ -78,7 +78,7 @@ pub struct Hidden {
 }
 
 impl Model for Hidden {
-    ghost use Rattle.ghost_model.specs.Split as split;
+    ghost use Rattle.ghost_model.specs.core.Split as split;
     ghost use Rattle.csv_split.specs.Parts.{hidden_with};
 
     ghost Value = { split.Hidden };
@@ -141,7 +141,7 @@ impl Hidden {
     /// The value in a hidden column of a table's row, and `None` exactly where there is no such table, row or column.
     /// The hidden columns of a table are counted from 0.
     pub fn value(&self, table: usize, identifier: Id, column: usize) -> Option<Value>
-        ensures { option_map value_of result ≡ database.field self.now.hidden table identifier column }
+        ensures { option_map value_of result ≡ database.value_at_row self.now.hidden table identifier column }
     {
         match self.parts.get(table) {
             Some(found) => found.value(identifier, column),
@@ -153,7 +153,7 @@ impl Hidden {
     /// column. The hidden columns of a table are counted from 0.
     pub fn column(&self, table: usize, column: usize) -> Option<&Cells>
         ensures held { IfSome result (λ cells. IsColumn (database.rows_of self.now.hidden table) column (values_in cells.now)) }
-        ensures none { IfNone result ((identifier : ℕ) → database.field self.now.hidden table identifier column ≡ None) }
+        ensures none { IfNone result ((identifier : ℕ) → database.value_at_row self.now.hidden table identifier column ≡ None) }
     {
         match self.parts.get(table) {
             Some(found) => found.column(column),

@@ -1,11 +1,13 @@
 //! A table from its file, record by record.
 
-ghost use Rattle.std.specs.Prelude.{◌≡◌, ◌≤◌, map, drop, IfOk, IfErr, OnOk};
-ghost use Rattle.ghost_model.specs.Database as database;
-ghost use Rattle.ghost_model.specs.LoadFaults as faults;
+ghost use Rattle.std.specs.Prelude.{◌≡◌, ◌≤◌, ◌&&◌, map, drop, IfOk, IfErr, OnOk};
+ghost use Rattle.csv.specs.Records.{fields_of};
+ghost use Rattle.ghost_model.specs.core.Database as database;
+ghost use Rattle.ghost_model.specs.refusals.LoadFaults as faults;
 ghost use Rattle.csv_split.specs.Faults.{told};
 ghost use Rattle.csv_split.specs.Reading.{AreColumns, AreOfKinds, HaveAll, columns_of, with_identifier};
 ghost use Rattle.csv_split.specs.Tables.{column_values, rows_in};
+ghost use Rattle.csv_split.specs.Wants.{NeverWants};
 
 use crate::cells::Cells;
 use crate::faults::{LoadFault, Place};
@@ -46,6 +48,27 @@ pub(crate) fn read_rows(
     Ok(Table::of(rows, columns))
 }
 
+/// Judges the first record of a table's file, where there is one.
+fn judge_header(
+    table: u8,
+    declared: &[Column],
+    found: bool,
+    row: &ByteRecord,
+) -> Result<(), LoadFault>
+    requires { AreColumns (columns_of declared.now) }
+    ensures judged { faults.Judges told result (faults.unless (found && faults.is_header (with_identifier (columns_of declared.now)) (fields_of row.now)) (faults.Header (faults.place table 1 0))) }
+    ensures tells { NeverWants result }
+{
+    if !found || !is_header(declared, row) {
+        return Err(LoadFault::Header(Place {
+            table,
+            rec: 1,
+            column: 0,
+        }));
+    }
+    Ok(())
+}
+
 /// Takes the header of a table's file.
 fn take_header(
     table: u8,
@@ -58,21 +81,10 @@ fn take_header(
     ensures faults { OnOk result (faults.record_faults table (with_identifier (columns_of declared.now)) records.old ≡ faults.rows_faults table 1 (with_identifier (columns_of declared.now)) records.new) }
     ensures left { OnOk result (drop 1 records.old ≡ records.new) }
 {
-    let at = Place {
-        table,
-        rec: 1,
-        column: 0,
-    };
     let Ok(found) = records.read(row) else {
         return Err(LoadFault::NoMemory);
     };
-    if !found {
-        return Err(LoadFault::Header(at));
-    }
-    if !is_header(declared, row) {
-        return Err(LoadFault::Header(at));
-    }
-    Ok(())
+    judge_header(table, declared, found, row)
 }
 
 /// Columns without values.

@@ -2,7 +2,7 @@
 
 ghost use Rattle.std.specs.Prelude.{◌≡◌, IfOk};
 ghost use Rattle.csv.specs.Records.{fields_of};
-ghost use Rattle.ghost_model.specs.Database.{records_of};
+ghost use Rattle.ghost_model.specs.core.Database.{records_of};
 ghost use Rattle.csv_split.specs.Records.{Reads};
 
 use csv::{ByteRecord, Reader, ReaderBuilder};

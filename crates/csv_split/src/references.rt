@@ -1,12 +1,13 @@
 //! Whether foreign keys are identifiers of rows.
 
 ghost use Rattle.std.specs.Prelude.{◌≡◌, ◌≤◌, ◌<◌, ◌+◌, length, map};
-ghost use Rattle.ghost_model.specs.Database as database;
-ghost use Rattle.ghost_model.specs.LoadFaults as faults;
+ghost use Rattle.ghost_model.specs.core.Database as database;
+ghost use Rattle.ghost_model.specs.refusals.LoadFaults as faults;
 ghost use Rattle.ghost_base.specs.Views.{value_of};
 ghost use Rattle.tree_schema.specs.Views.{column_of};
 ghost use Rattle.csv_split.specs.Faults.{place_of, told};
 ghost use Rattle.csv_split.specs.References.{key_faults_in, row_or_none};
+ghost use Rattle.csv_split.specs.Wants.{NeverWants};
 
 use crate::faults::{LoadFault, Place};
 use crate::schema_columns::columns_in;
@@ -16,7 +17,8 @@ use tree_schema::{Column, Schema};
 
 /// Tells the first foreign key, by table, record and column, that is the identifier of no row of its child table.
 pub fn check_references(schema: &Schema, tables: &Tables) -> Result<(), LoadFault>
-    ensures { faults.Judges told result (faults.reference_faults schema.now tables.now) }
+    ensures judged { faults.Judges told result (faults.reference_faults schema.now tables.now) }
+    ensures tells { NeverWants result }
 {
     for table in 0..schema.tables() {
         check_table(tables, table as u8, columns_in(schema, table))?;
@@ -27,7 +29,8 @@ pub fn check_references(schema: &Schema, tables: &Tables) -> Result<(), LoadFaul
 /// Tells the first foreign key of a table that is the identifier of no row.
 pub(crate) fn check_table(tables: &Tables, table: u8, columns: &[Column]) -> Result<(), LoadFault>
     requires { length columns.now ≤ 24 }
-    ensures { faults.Judges told result (faults.table_references tables.now table 2 (map column_of columns.now) (database.rows_of tables.now table)) }
+    ensures judged { faults.Judges told result (faults.table_references tables.now table 2 (map column_of columns.now) (database.rows_of tables.now table)) }
+    ensures tells { NeverWants result }
 {
     for place in 0..tables.rows(table as usize) {
         let at = Place {
@@ -48,7 +51,8 @@ fn check_row(
     identifier: Id,
 ) -> Result<(), LoadFault>
     requires { length columns.now ≤ 24 }
-    ensures { faults.Judges told result (faults.keys_faults tables.now at.table at.rec 0 (map column_of columns.now) (row_or_none (database.row_of tables.now at.table identifier))) }
+    ensures judged { faults.Judges told result (faults.row_reference_faults tables.now at.table at.rec 0 (map column_of columns.now) (row_or_none (database.row_of tables.now at.table identifier))) }
+    ensures tells { NeverWants result }
 {
     for (i, column) in columns.iter().enumerate() {
         let key_at = Place {
@@ -62,7 +66,8 @@ fn check_row(
 
 /// Tells a value that is the identifier of no row of the child table, where the column is a foreign key.
 fn check_key(tables: &Tables, at: Place, identifier: Id, child: Option<u8>) -> Result<(), LoadFault>
-    ensures { faults.Judges told result (key_faults_in tables.now (place_of at) child (database.field tables.now at.table identifier at.column)) }
+    ensures judged { faults.Judges told result (key_faults_in tables.now (place_of at) child (database.value_at_row tables.now at.table identifier at.column)) }
+    ensures tells { NeverWants result }
 {
     let Some(child) = child else {
         return Ok(());

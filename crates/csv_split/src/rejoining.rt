@@ -2,9 +2,10 @@
 
 ghost use Rattle.std.specs.Prelude.{◌≡◌, ◌++◌, ◌∷◌, [], map, drop, length, slice_get, IfOk, OnOk};
 ghost use Rattle.std.specs.Vec.Iter.{into_iter_items};
-ghost use Rattle.ghost_model.specs.Database as database;
-ghost use Rattle.ghost_model.specs.Split as parts;
-ghost use Rattle.ghost_model.specs.Values as values;
+ghost use Rattle.ghost_model.specs.core.Database as database;
+ghost use Rattle.ghost_model.specs.core.Split as parts;
+ghost use Rattle.ghost_model.specs.laws.SplitByFlags as flags;
+ghost use Rattle.ghost_model.specs.core.Values as values;
 ghost use Rattle.csv_split.specs.Parts.{HaveAsMany, NextMerged, both_rejoined};
 ghost use Rattle.csv_split.specs.Reading.{columns_of, with_identifier};
 
@@ -15,7 +16,7 @@ use crate::schema_columns::declared_columns;
 use crate::splitting::put;
 use crate::table::Table;
 use crate::tables::Tables;
-use ghost_model::meaning::split_is_rejoined;
+use ghost_model::meaning::{parts_by_flags, split_is_rejoined};
 use std::alloc::{AllocError, Global};
 use std::vec::IntoIter;
 use tree_schema::{Column, Schema};
@@ -33,6 +34,7 @@ pub fn rejoin(
     ensures again { IfOk result (λ tables. (whole : values.Database) → database.IsDatabase schema.now whole → public ≡ parts.public_of schema.now whole → hidden ≡ parts.hidden_of schema.now whole → tables ≡ whole) }
 {
     split_is_rejoined();
+    parts_by_flags();
     join_tables(alloc, schema, public.into_parts(), hidden.into_parts())
 }
 
@@ -44,7 +46,7 @@ fn join_tables(
     kept: Vec<Part>,
 ) -> Result<Tables, AllocError>
     requires { map length visible.items ≡ map length kept.items }
-    ensures { IfOk result (λ tables. tables ≡ parts.rejoined_tables schema.now visible.items kept.items) }
+    ensures { IfOk result (λ tables. tables ≡ flags.rejoined_tables schema.now visible.items kept.items) }
 {
     let mut tables = Tables::new(alloc);
     let mut visible_left = visible.into_iter();
@@ -95,7 +97,7 @@ fn join_table(
     other: Part,
 ) -> Result<Table, AllocError>
     requires { length one ≡ length other }
-    ensures { IfOk result (λ table. table ≡ parts.rejoined_rows 1 (with_identifier (columns_of declared.now)) one other) }
+    ensures { IfOk result (λ table. table ≡ flags.rejoined_rows 1 (with_identifier (columns_of declared.now)) one other) }
 {
     let rows = one.rows();
     let columns = join_columns(alloc, declared, one.into_columns(), other.into_columns())?;
@@ -109,7 +111,7 @@ fn join_columns(
     visible: Vec<Cells>,
     kept: Vec<Cells>,
 ) -> Result<Vec<Cells>, AllocError>
-    ensures { IfOk result (λ columns. columns.items ≡ parts.merged (parts.hidden_flags (with_identifier (columns_of declared.now))) visible.items kept.items) }
+    ensures { IfOk result (λ columns. columns.items ≡ flags.merged (flags.hidden_flags (with_identifier (columns_of declared.now))) visible.items kept.items) }
 {
     let mut columns = Vec::new(alloc);
     let mut visible_left = visible.into_iter();

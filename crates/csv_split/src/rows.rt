@@ -1,13 +1,14 @@
 //! The rows of a table, from the records of its file.
 
-ghost use Rattle.std.specs.Prelude.{◌≡◌, ◌≤◌, ◌+◌, ◌∷◌, [], length, map, drop, get_or, pos, OnOk};
+ghost use Rattle.std.specs.Prelude.{◌≡◌, ◌≤◌, ◌+◌, ◌∷◌, [], length, map, drop, get_or, pos, OnOk, IfErr};
 ghost use Rattle.csv.specs.Records.{fields_of};
-ghost use Rattle.ghost_model.specs.Database as database;
-ghost use Rattle.ghost_model.specs.LoadFaults as faults;
-ghost use Rattle.ghost_model.specs.Values.{Number};
+ghost use Rattle.ghost_model.specs.core.Database as database;
+ghost use Rattle.ghost_model.specs.refusals.LoadFaults as faults;
+ghost use Rattle.ghost_model.specs.core.Values.{Number};
 ghost use Rattle.csv_split.specs.Faults.{told};
 ghost use Rattle.csv_split.specs.Reading.{AreOfKinds, AtMost, columns_of, with_identifier, with_row};
 ghost use Rattle.csv_split.specs.Tables.{column_values};
+ghost use Rattle.csv_split.specs.Wants.{NeverWants};
 
 use crate::cells::Cells;
 use crate::faults::{LoadFault, Place};
@@ -25,6 +26,35 @@ pub(crate) fn field_of(row: &ByteRecord, place: usize) -> &[u8]
         Some(field) => field,
         None => &[],
     }
+}
+
+/// Judges the record of the row with a number but for the fields after its identifier: whether the table may have so many
+/// rows, the number of the fields, and the identifier.
+fn judge_row(table: u8, number: u32, declared: &[Column], row: &ByteRecord) -> Result<(), LoadFault>
+    requires { number ≤ faults.most_rows + 1 }
+    ensures broken { IfErr result (λ fault. faults.TellsFirst (told fault) (faults.row_faults table number (with_identifier (columns_of declared.now)) (fields_of row.now))) }
+    ensures kept { OnOk result (faults.row_faults table number (with_identifier (columns_of declared.now)) (fields_of row.now)
+        ≡ faults.field_faults table (number + 1) 1 (columns_of declared.now) (drop 1 (fields_of row.now))) }
+    ensures few { OnOk result (number ≤ faults.most_rows) }
+    ensures width { OnOk result (length (fields_of row.now) ≡ length declared.now + 1) }
+    ensures identifier { OnOk result (database.row_spelled (with_identifier (columns_of declared.now)) (fields_of row.now) ≡ Number (pos number) ∷ database.row_spelled (columns_of declared.now) (drop 1 (fields_of row.now))) }
+    ensures tells { NeverWants result }
+{
+    let at = Place {
+        table,
+        rec: number + 1,
+        column: 0,
+    };
+    if number > MAX_ROWS {
+        return Err(LoadFault::RowLimit(at));
+    }
+    if row.len() != declared.len() + 1 {
+        return Err(LoadFault::FieldCount(at));
+    }
+    if !is_number(number as usize, field_of(row, 0)) {
+        return Err(LoadFault::BadId(at));
+    }
+    Ok(())
 }
 
 /// Puts the values of the row with a number at the ends of the columns, unless its record breaks a rule.
@@ -49,15 +79,7 @@ pub(crate) fn take_row(
         rec: number + 1,
         column: 0,
     };
-    if number > MAX_ROWS {
-        return Err(LoadFault::RowLimit(at));
-    }
-    if row.len() != declared.len() + 1 {
-        return Err(LoadFault::FieldCount(at));
-    }
-    if !is_number(number as usize, field_of(row, 0)) {
-        return Err(LoadFault::BadId(at));
-    }
+    judge_row(table, number, declared, row)?;
     take_fields(at, declared, row, columns)
 }
 

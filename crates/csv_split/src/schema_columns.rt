@@ -1,7 +1,7 @@
 //! The columns of a schema's table.
 
 ghost use Rattle.std.specs.Prelude.{◌≡◌, ◌<◌, ◌≤◌, drop, length, map};
-ghost use Rattle.ghost_model.specs.Schema as schemas;
+ghost use Rattle.ghost_model.specs.core.Schema as schemas;
 ghost use Rattle.tree_schema.specs.Views.{column_of};
 ghost use Rattle.csv_split.specs.Reading.{AreColumns, columns_of, with_identifier};
 

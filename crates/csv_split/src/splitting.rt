@@ -2,7 +2,8 @@
 
 ghost use Rattle.std.specs.Prelude.{◌≡◌, ◌++◌, ◌∷◌, [], map, take, drop, length, IfOk, OnOk};
 ghost use Rattle.std.specs.Vec.Iter.{into_iter_items};
-ghost use Rattle.ghost_model.specs.Split as parts;
+ghost use Rattle.ghost_model.specs.core.Split as parts;
+ghost use Rattle.ghost_model.specs.laws.SplitByFlags as flags;
 ghost use Rattle.csv_split.specs.Reading.{columns_of, with_identifier};
 
 use crate::cells::Cells;
@@ -11,6 +12,7 @@ use crate::parts::{Hidden, Public};
 use crate::schema_columns::declared_columns;
 use crate::table::Table;
 use crate::tables::Tables;
+use ghost_model::meaning::parts_by_flags;
 use std::alloc::{AllocError, Global};
 use std::vec::IntoIter;
 use tree_schema::{Column, Schema};
@@ -21,6 +23,7 @@ pub fn split(alloc: Global, schema: &Schema, tables: Tables) -> Result<(Public, 
     ensures hidden { IfOk result (λ two. two.1 ≡ parts.hidden_of schema.now tables) }
     ensures counts { IfOk result (λ two. map length two.0.visible ≡ map length two.1.hidden) }
 {
+    parts_by_flags();
     let mut public = Public::new(alloc);
     let mut hidden = Hidden::new(alloc);
     let mut left = tables.into_tables().into_iter();
@@ -40,8 +43,8 @@ fn split_next(
     public: &mut Public,
     hidden: &mut Hidden,
 ) -> Result<(), AllocError>
-    ensures visible { OnOk result (public.new.visible ≡ public.old.visible ++ map (parts.rows_by parts.visible_values (with_identifier (columns_of declared.now))) (take 1 (into_iter_items left.old))) }
-    ensures kept { OnOk result (hidden.new.hidden ≡ hidden.old.hidden ++ map (parts.rows_by parts.hidden_values (with_identifier (columns_of declared.now))) (take 1 (into_iter_items left.old))) }
+    ensures visible { OnOk result (public.new.visible ≡ public.old.visible ++ map (flags.rows_by flags.visible_values (with_identifier (columns_of declared.now))) (take 1 (into_iter_items left.old))) }
+    ensures kept { OnOk result (hidden.new.hidden ≡ hidden.old.hidden ++ map (flags.rows_by flags.hidden_values (with_identifier (columns_of declared.now))) (take 1 (into_iter_items left.old))) }
     ensures left { OnOk result (into_iter_items left.new ≡ drop 1 (into_iter_items left.old)) }
 {
     let Some(table) = left.next() else {
@@ -54,8 +57,8 @@ fn split_next(
 
 /// The two parts of a table.
 fn split_table(alloc: Global, declared: &[Column], table: Table) -> Result<(Part, Part), AllocError>
-    ensures visible { IfOk result (λ two. two.0 ≡ parts.rows_by parts.visible_values (with_identifier (columns_of declared.now)) table) }
-    ensures kept { IfOk result (λ two. two.1 ≡ parts.rows_by parts.hidden_values (with_identifier (columns_of declared.now)) table) }
+    ensures visible { IfOk result (λ two. two.0 ≡ flags.rows_by flags.visible_values (with_identifier (columns_of declared.now)) table) }
+    ensures kept { IfOk result (λ two. two.1 ≡ flags.rows_by flags.hidden_values (with_identifier (columns_of declared.now)) table) }
 {
     let rows = table.rows();
     let (visible, kept) = split_columns(alloc, declared, table.into_columns())?;
@@ -68,8 +71,8 @@ fn split_columns(
     declared: &[Column],
     columns: Vec<Cells>,
 ) -> Result<(Vec<Cells>, Vec<Cells>), AllocError>
-    ensures visible { IfOk result (λ two. two.0.items ≡ parts.visible_values (parts.hidden_flags (with_identifier (columns_of declared.now))) columns.items) }
-    ensures kept { IfOk result (λ two. two.1.items ≡ parts.hidden_values (parts.hidden_flags (with_identifier (columns_of declared.now))) columns.items) }
+    ensures visible { IfOk result (λ two. two.0.items ≡ flags.visible_values (flags.hidden_flags (with_identifier (columns_of declared.now))) columns.items) }
+    ensures kept { IfOk result (λ two. two.1.items ≡ flags.hidden_values (flags.hidden_flags (with_identifier (columns_of declared.now))) columns.items) }
 {
     let mut visible = Vec::new(alloc);
     let mut kept = Vec::new(alloc);
@@ -88,8 +91,8 @@ fn put_next(
     visible: &mut Vec<Cells>,
     kept: &mut Vec<Cells>,
 ) -> Result<(), AllocError>
-    ensures visible { OnOk result (visible.new.items ≡ visible.old.items ++ parts.visible_values (hidden ∷ []) (into_iter_items left.old)) }
-    ensures kept { OnOk result (kept.new.items ≡ kept.old.items ++ parts.hidden_values (hidden ∷ []) (into_iter_items left.old)) }
+    ensures visible { OnOk result (visible.new.items ≡ visible.old.items ++ flags.visible_values (hidden ∷ []) (into_iter_items left.old)) }
+    ensures kept { OnOk result (kept.new.items ≡ kept.old.items ++ flags.hidden_values (hidden ∷ []) (into_iter_items left.old)) }
     ensures left { OnOk result (into_iter_items left.new ≡ drop 1 (into_iter_items left.old)) }
 {
     let Some(cells) = left.next() else {

@@ -1,8 +1,8 @@
 //! Tables in memory.
 
 ghost use Rattle.std.specs.Prelude.{◌≡◌, ℕ, ◌≤◌, ◌<◌, pos, length, slice_get, option_map, IfSome, IfNone, None};
-ghost use Rattle.ghost_model.specs.LoadFaults as faults;
-ghost use Rattle.ghost_model.specs.Values.{Number};
+ghost use Rattle.ghost_model.specs.refusals.LoadFaults as faults;
+ghost use Rattle.ghost_model.specs.core.Values.{Number};
 ghost use Rattle.ghost_base.specs.Views.{value_of};
 ghost use Rattle.csv_split.specs.Cells.{values_in};
 ghost use Rattle.csv_split.specs.Reading.{HaveAll};
@@ -20,7 +20,7 @@ pub struct Table {
 }
 
 impl Model for Table {
-    ghost use Rattle.ghost_model.specs.Values.{Rows};
+    ghost use Rattle.ghost_model.specs.core.Values.{Rows};
     ghost use Rattle.csv_split.specs.Tables.{IsTable, rows_of_table};
 
     ghost Value = { Rows };

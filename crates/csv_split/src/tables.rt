@@ -1,8 +1,8 @@
 //! The tables of a schema in memory.
 
 ghost use Rattle.std.specs.Prelude.{◌≡◌, ◌≤◌, ◌++◌, ◌∷◌, [], length, slice_get, option_map, OnOk, OnErr};
-ghost use Rattle.ghost_model.specs.Database as database;
-ghost use Rattle.ghost_model.specs.LoadFaults as faults;
+ghost use Rattle.ghost_model.specs.core.Database as database;
+ghost use Rattle.ghost_model.specs.refusals.LoadFaults as faults;
 ghost use Rattle.ghost_base.specs.Views.{value_of};
 
 use crate::table::Table;
@@ -17,7 +17,7 @@ pub struct Tables {
 }
 
 impl Model for Tables {
-    ghost use Rattle.ghost_model.specs.Values.{Database};
+    ghost use Rattle.ghost_model.specs.core.Values.{Database};
 
     ghost Value = { Database };
 
@@ -79,7 +79,7 @@ impl Tables {
 
     /// The value in a column of a table's row, and `None` exactly where there is no such table, row or column.
     pub fn value(&self, table: usize, identifier: Id, column: usize) -> Option<Value>
-        ensures { option_map value_of result ≡ database.field self.now table identifier column }
+        ensures { option_map value_of result ≡ database.value_at_row self.now table identifier column }
     {
         match self.tables.get(table) {
             Some(found) => found.value(identifier, column),

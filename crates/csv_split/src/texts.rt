@@ -1,8 +1,9 @@
 //! The texts of a CHAR column, kept as cells of one width.
 
 ghost use Rattle.std.specs.Prelude.{◌≡◌, ◌==◌, ◌≤◌, ◌<◌, ◌+◌, ◌*◌, ◌^◌, ◌++◌, ◌∷◌, [], true, length, take, drop, Some, OnOk, OnErr, slice_get, option_map};
-ghost use Rattle.ghost_model.specs.Cells.{padded, text_in};
-ghost use Rattle.ghost_model.specs.Database as database;
+ghost use Rattle.ghost_model.specs.forms.Cells.{padded};
+ghost use Rattle.ghost_model.specs.readings.CellReading.{text_in};
+ghost use Rattle.ghost_model.specs.core.Database as database;
 ghost use Rattle.csv_split.specs.Texts.{empty};
 
 use ghost_base::{Kind, Text64, Value, encode_cell};

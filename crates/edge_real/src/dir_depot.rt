@@ -1,7 +1,7 @@
 //! The file system as a depot.
 
 ghost use Rattle.std.specs.Prelude.{◌≡◌, ◌≤◌, None, length, IfOk};
-ghost use Rattle.ghost_model.specs.Causes.{Rose};
+ghost use Rattle.ghost_model.specs.core.Causes.{Rose};
 
 use edge_traits::Failed;
 use edge_traits::depot::Depot;

@@ -1,7 +1,7 @@
 //! A file as a flash device.
 
 ghost use Rattle.std.specs.Prelude.{◌≡◌, ◌≤◌, ◌+◌, ◌*◌, IsTrue, IsOk, ◌↔◌, IfSome, None, option_map, false, [], vec_len};
-ghost use Rattle.ghost_model.specs.Causes.{HasCause};
+ghost use Rattle.ghost_model.specs.core.Causes.{HasCause};
 ghost use Rattle.edge_traits.specs.Devices.{next, since_call};
 ghost use Rattle.edge_traits.specs.Marks.{is_marked};
 

@@ -1,7 +1,7 @@
 //! A TCP connection as a link.
 
 ghost use Rattle.std.specs.Prelude.{◌≡◌, ◌+◌, ◌≤◌, min, length, IfOk};
-ghost use Rattle.ghost_model.specs.Causes.{Rose, last_count};
+ghost use Rattle.ghost_model.specs.core.Causes.{Rose, last_count};
 ghost use Rattle.edge_traits.specs.Links.{faults_after, Steps, steps_stay, steps_join};
 
 use edge_traits::Failed;

@@ -1,16 +1,18 @@
 -- The files in slots: what the first slot of a name says of the map, and what a write to it does.
-use Rattle.std.proofs.Common.{◌≡◌, ℕ, ◌+◌, ◌<◌, ◌≤◌, Bool, true, false, cond, List, [], ◌∷◌, ◌++◌, length, take, set, get_or, map as each, Option, None, Some, refl, sym, ◌∙◌, ap, arith, nat_lt, not, zero, suc}
+use Rattle.std.proofs.Common.{◌≡◌, ℕ, ◌+◌, ◌<◌, ◌≤◌, Bool, true, false, cond, List, [], ◌∷◌, ◌++◌, length, take, set, get_or, map as each, Option, None, Some, refl, sym, ◌∙◌, ap, arith, nat_lt, not, zero, suc, inl, inr, All, vec_capacity}
+use Rattle.std.specs.Prelude.{is_some}
 use Rattle.std.specs.Ordering.{nat_cmp, eq_by_cmp}
 use Rattle.std.specs.Cmp.Lexicographic.{slice_cmp, texts_ties, same_text, other_text, nat_list_cmp_total}
 use Rattle.std.specs.List.{position, position_or_len}
 use Rattle.std.specs.FinMap as map
 use Rattle.std.proofs.lemmas.List.{take_more_set, map-append, get_or-take}
 use Rattle.std.proofs.lemmas.Bool.{ltb-false}
+use Rattle.std.proofs.lemmas.List.Elements.{All-push}
 use Rattle.std.proofs.lemmas.List.Quantifiers.{position-Some}
 use Rattle.std.proofs.Math.Seq.{take-set-lt}
 use Rattle.std.proofs.lemmas.Grind.{common_steps}
 use Rattle.edge_traits.specs.Files.{or_empty}
-use Rattle.edge_traits.specs.Slots.{is_named, entry_of, files_in}
+use Rattle.edge_traits.specs.Slots.{HasRoom, IsSized, entry_of, files_in, is_named, stored_in}
 use Rattle.edge_traits.specs.declared.slots.Slot.{Slot}
 
 -- the first slot of a name
@@ -134,3 +136,25 @@ put_more name piece used slots place old slot is read kept grew =
     let named : name ≡ old.name.items = same_text name old.name.items (sym (ap (is_named name) (sym at) ∙ first.named)) in
     put_placed name (or_empty (map.get (files_in used slots) name) ++ piece) used slots place slot (sym is) (kept ∙ sym named)
     (grew ∙ ap (λ b. or_empty b ++ piece) (sym (get_read name used slots place old is read)))
+
+-- so many slots were made, each with the room that was asked for
+pub record AreMade (count name_bytes file_bytes : ℕ) (slots : List Slot) : Type 0 where
+  pub count_is : length slots ≡ count
+  pub sized : All (IsSized name_bytes file_bytes) slots
+
+is_none : (found : Option (List ℕ)) → found ≡ None → is_some found ≡ true → ⊥
+is_none None none there = cc there
+is_none (Some bytes) none there = cc none
+
+-- there is no place for a file that is not there, where each slot is in use
+pub no_place : (name bytes : List ℕ) (used name_bytes file_bytes : ℕ) (slots : List Slot) → position (is_named name) (take used slots) ≡ None → length slots ≤ used → HasRoom (stored_in used name_bytes file_bytes slots) name bytes → ⊥
+no_place name bytes used name_bytes file_bytes slots is full room = elim room.place [
+  | inl there ↦ is_none (map.get (files_in used slots) name) (get_absent name used slots is) there
+  | inr left ↦ omega (arith, full, left)
+]
+
+pub one_more : (count name_bytes file_bytes : ℕ) (slots : List Slot) (slot : Slot) → AreMade count name_bytes file_bytes slots → vec_capacity slot.name ≡ name_bytes → vec_capacity slot.bytes ≡ file_bytes → AreMade (count + 1) name_bytes file_bytes (slots ++ slot ∷ [])
+one_more count name_bytes file_bytes slots slot made name file = record {
+  count_is = let is = made.count_is in grind (arith, common_steps, is);
+  sized = All-push (IsSized name_bytes file_bytes) slots slot made.sized (record { name = name; file = file });
+}

@@ -4,10 +4,10 @@ use Rattle.std.specs.List.{list_any}
 use Rattle.std.proofs.lemmas.Grind.{common_steps, flat_map-append}
 use Rattle.std.proofs.Math.Seq.{take-add}
 use Rattle.std.proofs.lemmas.Bool.{lt-ltb, le-ltb}
-use Rattle.ghost_model.specs.Channel.{Move, Answer, Piece, End, Failed, Entry, Journal}
-use Rattle.ghost_model.specs.Channel as channel
-use Rattle.ghost_model.specs.Moves.{piece_of, answers, taken}
-use Rattle.ghost_model.specs.NextMove.{is_stop}
+use Rattle.ghost_model.specs.core.Channel.{Move, Answer, Piece, End, Failed, Entry, Journal}
+use Rattle.ghost_model.specs.core.Channel as channel
+use Rattle.ghost_model.specs.core.Moves.{piece_of, answers, taken}
+use Rattle.ghost_model.specs.core.NextMove.{is_stop}
 use Rattle.edge_traits.specs.Links.{entry, gave}
 use Rattle.edge_traits.specs.Filling.{AreTakes, Fills}
 

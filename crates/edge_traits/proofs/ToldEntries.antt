@@ -4,8 +4,8 @@ use Rattle.std.proofs.lemmas.Bool.Decides.{nat_tests}
 use Rattle.std.proofs.lemmas.List.{take-append-le, drop-append-le, length-append}
 use Rattle.std.proofs.lemmas.Bool.{and_parts, and_from}
 use Rattle.std.proofs.lemmas.Grind.{common_steps}
-use Rattle.ghost_model.specs.Channel as channel
-use Rattle.ghost_model.specs.Channel.{Entry, Journal}
+use Rattle.ghost_model.specs.core.Channel as channel
+use Rattle.ghost_model.specs.core.Channel.{Entry, Journal}
 use Rattle.edge_traits.specs.Links.{entry, done, listening, appended, GrewBy}
 use Rattle.edge_traits.specs.Told.{size_of, entry_of, entries, sizes}
 use Rattle.edge_traits.specs.MemLinks.{told_in, told_while, has_room, told_within}

@@ -2,7 +2,7 @@
 -- 64 pages, a page 2,048 bytes. The bytes of pages are a function of the page's number: a clause claims something of them
 -- only where they are told.
 use Rattle.std.specs.Prelude.{◌≡◌, ℕ, ◌+◌, ◌<◌, ◌≤◌, min, Bool, true, false, if◌then◌else◌, List, replicate, Option, Result, Ok, Err}
-use Rattle.ghost_model.specs.Causes.{Rose, last_count}
+use Rattle.ghost_model.specs.core.Causes.{Rose, last_count}
 use Rattle.edge_traits.specs.declared.flash.AttachFault.{AttachFault}
 use Rattle.edge_traits.specs.declared.flash.AttachFault.TheVariants.{Failed, NoMemory}
 

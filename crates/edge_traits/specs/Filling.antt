@@ -1,10 +1,10 @@
 -- A buffer that is filled from a link by one take after another.
 use Rattle.std.specs.Prelude.{◌≡◌, ℕ, ◌-◌, true, ⊤, nat_lt, List, [], ◌∷◌, length, take, Result, IfOk, OnErr}
 use Rattle.std.specs.List.{list_any}
-use Rattle.ghost_model.specs.Channel.{Entry, Journal}
-use Rattle.ghost_model.specs.Channel as channel
-use Rattle.ghost_model.specs.Moves.{piece_of, answers, taken}
-use Rattle.ghost_model.specs.NextMove.{is_stop}
+use Rattle.ghost_model.specs.core.Channel.{Entry, Journal}
+use Rattle.ghost_model.specs.core.Channel as channel
+use Rattle.ghost_model.specs.core.Moves.{piece_of, answers, taken}
+use Rattle.ghost_model.specs.core.NextMove.{is_stop}
 
 -- one move of a filling: it asks for what is missing, and after the end of the stream or a failure there is no other
 pub record IsTakeOf (missing : ℕ) (made : Entry) (more : Journal) : Type 0 where

@@ -2,6 +2,7 @@ pub mod Written
 pub mod Files
 pub mod Scripts
 pub mod Slots
+pub mod Rooms
 pub mod Devices
 pub mod Marks
 pub mod Pages

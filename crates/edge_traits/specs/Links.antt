@@ -2,8 +2,8 @@
 -- moves so far; any other link can say what one move does to it.
 use Rattle.std.specs.Prelude.{◌≡◌, ℕ, zero, suc, ◌+◌, min, ⊤, refl, List, [], ◌∷◌, ◌++◌, take, Option, None, Some, Result, Ok, Err}
 use Rattle.std.proofs.Common.{sym, ◌∙◌, ap, subst, append-nil, append_assoc}
-use Rattle.ghost_model.specs.Causes.{last_count}
-use Rattle.ghost_model.specs.Channel.{Move, Answer, Made, Port, Piece, End, Failed, Entry, Journal}
+use Rattle.ghost_model.specs.core.Causes.{last_count}
+use Rattle.ghost_model.specs.core.Channel.{Move, Answer, Made, Port, Piece, End, Failed, Entry, Journal}
 
 abbrev pub entry : Move → Answer → Entry
 entry move answer = record { move = move; answer = answer }

@@ -1,7 +1,7 @@
 -- What a link in memory tells, and what its other end gives.
 use Rattle.std.specs.Prelude.{◌≡◌, ℕ, ◌+◌, Bool, true, false, ◌&&◌, nat_lt, nat_le, List, drop, length, min, max, Option, None, Some, Result, OnOk, OnErr, ◌⊎◌, slice_get, slice_index_or, vec_len, vec_capacity}
-use Rattle.ghost_model.specs.Causes.{last_count}
-use Rattle.ghost_model.specs.Channel.{Journal}
+use Rattle.ghost_model.specs.core.Causes.{last_count}
+use Rattle.ghost_model.specs.core.Channel.{Journal}
 use Rattle.edge_traits.specs.Scripts.{IsNamed}
 use Rattle.edge_traits.specs.Links.{appended}
 use Rattle.edge_traits.specs.Told.{entries}

@@ -1,7 +1,7 @@
 -- How a link in memory keeps its moves: each with its lengths, and all their bytes one after another.
 use Rattle.std.specs.Prelude.{ℕ, ◌+◌, List, [], ◌∷◌, take, drop, Result, Ok, Err}
-use Rattle.ghost_model.specs.Channel as channel
-use Rattle.ghost_model.specs.Channel.{Entry, Journal}
+use Rattle.ghost_model.specs.core.Channel as channel
+use Rattle.ghost_model.specs.core.Channel.{Entry, Journal}
 use Rattle.edge_traits.specs.Links.{entry, done, listening, gave}
 use Rattle.edge_traits.specs.declared.told.Told.{Told}
 use Rattle.edge_traits.specs.declared.told.Told.TheVariants.{Dial, Listen, Accept, Send, Take, Close}

@@ -1,7 +1,7 @@
 //! Where files lie.
 
 ghost use Rattle.std.specs.Prelude.{◌≡◌, ◌≤◌, ◌++◌, ℕ, true, List, length, Option, is_ok, IfOk, OnOk};
-ghost use Rattle.ghost_model.specs.Causes.{HasCause};
+ghost use Rattle.ghost_model.specs.core.Causes.{HasCause};
 ghost use Rattle.edge_traits.specs.Files.{Files, file_of, with_file, or_empty, SameBut, ReadsAt};
 
 use crate::Failed;

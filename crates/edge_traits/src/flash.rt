@@ -1,7 +1,7 @@
 //! A flash device of pages and blocks.
 
 ghost use Rattle.std.specs.Prelude.{◌≡◌, ◌<◌, ◌≤◌, ◌+◌, ◌*◌, ◌%◌, Bool, true, false, Some, None, IfOk, OnOk, OnErr, nat_le};
-ghost use Rattle.ghost_model.specs.Causes.{HasCause};
+ghost use Rattle.ghost_model.specs.core.Causes.{HasCause};
 ghost use Rattle.edge_traits.specs.Devices.{Device, next, next_if, since_call, since_attach, AttachCause, KeepsPages, ChangesOnly, IsErased, NotBlank};
 ghost use Rattle.edge_traits.specs.declared.flash.AttachFault.TheVariants.{Failed as call_failed, NoMemory as no_memory};
 

@@ -1,9 +1,9 @@
 //! Where bytes come from and go to: one stream in each direction.
 
 ghost use Rattle.std.specs.Prelude.{◌≡◌, ◌<◌, ◌≤◌, ◌++◌, ℕ, List, [], ◌∷◌, length, IfOk};
-ghost use Rattle.ghost_model.specs.Causes.{HasCause};
-ghost use Rattle.ghost_model.specs.Channel as channel;
-ghost use Rattle.ghost_model.specs.Channel.{Journal};
+ghost use Rattle.ghost_model.specs.core.Causes.{HasCause};
+ghost use Rattle.ghost_model.specs.core.Channel as channel;
+ghost use Rattle.ghost_model.specs.core.Channel.{Journal};
 ghost use Rattle.edge_traits.specs.Links.{entry, done, listening, gave};
 
 use crate::Failed;

@@ -1,10 +1,11 @@
 //! A depot in memory.
 
-ghost use Rattle.std.specs.Prelude.{◌≡◌, ◌++◌, ◌≤◌, Some, None, length, IfOk, OnOk, IsTrue, MatchOption, false};
+ghost use Rattle.std.specs.Prelude.{◌≡◌, ◌++◌, ◌≤◌, Some, None, length, IfOk, OnOk, OnErr, IsTrue, MatchOption, false};
 ghost use Rattle.std.specs.FinMap as map;
-ghost use Rattle.ghost_model.specs.Causes.{HasCause};
+ghost use Rattle.ghost_model.specs.core.Causes.{HasCause};
 ghost use Rattle.edge_traits.specs.Scripts.{IsFresh, IsSure};
 ghost use Rattle.edge_traits.specs.Files.{file_of, with_file, or_empty, SameBut, GivesAt};
+ghost use Rattle.edge_traits.specs.Rooms.{IsEmptyWith, HasRoomFor, KeepsRoomOf};
 
 use crate::Failed;
 use crate::depot::Depot;
@@ -41,6 +42,7 @@ impl MemDepot {
         ensures faults { IfOk result (λ depot. ⟦<MemDepot as Depot>⟧.faults depot ≡ 0) }
         ensures append_faults { IfOk result (λ depot. ⟦<MemDepot as Depot>⟧.append_faults depot ≡ 0) }
         ensures script { IfOk result (λ depot. IsFresh fails.now depot.script) }
+        ensures room { IfOk result (λ depot. IsEmptyWith room depot) }
     {
         Ok(MemDepot {
             files: Slots::new(alloc, room.files, room.name_bytes, room.file_bytes)?,
@@ -56,6 +58,8 @@ impl MemDepot {
         ensures faults { ⟦<MemDepot as Depot>⟧.faults self.new ≡ ⟦<MemDepot as Depot>⟧.faults self.old }
         ensures append_faults { ⟦<MemDepot as Depot>⟧.append_faults self.new ≡ ⟦<MemDepot as Depot>⟧.append_faults self.old }
         ensures script { self.new.script ≡ self.old.script }
+        ensures fits { HasRoomFor self.old name.now bytes.now → IsTrue result }
+        ensures room { KeepsRoomOf self.old self.new }
     {
         self.files.put(name.as_bytes(), bytes)
     }
@@ -71,8 +75,9 @@ impl MemDepot {
     fn add(&mut self, name: &str, bytes: &[u8]) -> Result<(), Failed>
         ensures cause { HasCause (⟦<MemDepot as Depot>⟧.faults self.old) (⟦<MemDepot as Depot>⟧.faults self.new) result }
         ensures append_faults { self.new.append_faults ≡ self.old.append_faults }
-        ensures added { OnOk result (Some self.new.files ≡ with_file (Some self.old.files) name.now (or_empty (file_of (Some self.old.files) name.now) ++ bytes.now)) }
-        ensures others { SameBut name.now (Some self.old.files) (Some self.new.files) }
+        ensures added { OnOk result (Some self.new.files.files ≡ with_file (Some self.old.files.files) name.now (or_empty (file_of (Some self.old.files.files) name.now) ++ bytes.now)) }
+        ensures others { SameBut name.now (Some self.old.files.files) (Some self.new.files.files) }
+        ensures kept { OnErr result (self.new.files ≡ self.old.files) }
     {
         self.script.begin()?;
         if !self.files.add(name.as_bytes(), bytes) {
@@ -112,13 +117,13 @@ fn copy_at(bytes: &[u8], at: u64, buf: &mut [u8]) -> usize
 }
 
 impl Depot for MemDepot {
-    ghost contents = { λ depot. Some depot.files };
+    ghost contents = { λ depot. Some depot.files.files };
 
     ghost faults = { λ depot. depot.script.faults };
 
     ghost append_faults = { λ depot. depot.append_faults };
 
-    ghost sure = { λ depot. λ name. IsSure depot.script (Some depot.files) name };
+    ghost sure = { λ depot. λ name. IsSure depot.script (Some depot.files.files) name };
 
     fn read_at(&mut self, name: &str, at: u64, buf: &mut [u8]) -> Result<usize, Failed> {
         self.script.begin()?;
@@ -128,7 +133,13 @@ impl Depot for MemDepot {
         }
     }
 
-    fn replace(&mut self, name: &str, bytes: &[u8]) -> Result<(), Failed> {
+    fn replace(&mut self, name: &str, bytes: &[u8]) -> Result<(), Failed>
+        ensures cause { HasCause self.old.script.faults self.new.script.faults result }
+        ensures appends { self.new.append_faults ≡ self.old.append_faults }
+        ensures replaced { OnOk result (Some self.new.files.files ≡ with_file (Some self.old.files.files) name.now bytes.now) }
+        ensures others { SameBut name.now (Some self.old.files.files) (Some self.new.files.files) }
+        ensures kept { OnErr result (self.new.files ≡ self.old.files) }
+    {
         self.script.begin()?;
         if !self.files.put(name.as_bytes(), bytes) {
             return Err(self.script.fault());
@@ -136,7 +147,13 @@ impl Depot for MemDepot {
         Ok(())
     }
 
-    fn append(&mut self, name: &str, bytes: &[u8]) -> Result<(), Failed> {
+    fn append(&mut self, name: &str, bytes: &[u8]) -> Result<(), Failed>
+        ensures cause { HasCause self.old.script.faults self.new.script.faults result }
+        ensures append_cause { HasCause self.old.append_faults self.new.append_faults result }
+        ensures appended { OnOk result (Some self.new.files.files ≡ with_file (Some self.old.files.files) name.now (or_empty (file_of (Some self.old.files.files) name.now) ++ bytes.now)) }
+        ensures others { SameBut name.now (Some self.old.files.files) (Some self.new.files.files) }
+        ensures kept { OnErr result (self.new.files ≡ self.old.files) }
+    {
         let result = self.add(name, bytes);
         if result.is_err() {
             self.append_faults = self.append_faults.saturating_add(1);

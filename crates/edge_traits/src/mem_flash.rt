@@ -1,7 +1,7 @@
 //! A flash device in memory.
 
 ghost use Rattle.std.specs.Prelude.{◌≡◌, ◌≤◌, ◌<◌, ◌*◌, ◌+◌, ◌++◌, ℕ, true, false, None, take, drop, IfOk, IsTrue, ◌↔◌, MatchOption, [], slice_set, length, replicate, vec_len};
-ghost use Rattle.ghost_model.specs.Causes.{HasCause, Rose};
+ghost use Rattle.ghost_model.specs.core.Causes.{HasCause, Rose};
 ghost use Rattle.edge_traits.specs.Devices.{next, since_call, ChangesOnly};
 ghost use Rattle.edge_traits.specs.Scripts.{IsFresh};
 ghost use Rattle.edge_traits.specs.Pages.{page_at};

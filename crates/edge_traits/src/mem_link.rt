@@ -1,9 +1,9 @@
 //! A link in memory.
 
 ghost use Rattle.std.specs.Prelude.{◌≡◌, ◌+◌, ◌<◌, ◌≤◌, ◌⊎◌, true, false, Some, None, [], ◌∷◌, IfOk, OnOk, OnErr, MatchOption, slice_get, length, take, drop, min};
-ghost use Rattle.ghost_model.specs.Causes.{HasCause, last_count};
+ghost use Rattle.ghost_model.specs.core.Causes.{HasCause, last_count};
 ghost use Rattle.edge_traits.specs.Scripts.{IsFresh, IsNamed};
-ghost use Rattle.ghost_model.specs.Channel as channel;
+ghost use Rattle.ghost_model.specs.core.Channel as channel;
 ghost use Rattle.edge_traits.specs.Links.{entry, done, listening, gave, GrewBy, grew_stays, grew_joins};
 ghost use Rattle.edge_traits.specs.Told.{entries};
 ghost use Rattle.edge_traits.specs.MemLinks.{journal_of, told_in, has_room, told_within, left_of, next_port, next_size, IsNew, move_room, byte_room, Passes, SamePlan, SameRoom};

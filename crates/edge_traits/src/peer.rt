@@ -36,7 +36,7 @@ pub struct Peer {
 
 impl Peer {
     ghost use Rattle.std.specs.Prelude.{◌≡◌, ◌+◌, length, take, drop, min, IfOk, slice_get};
-    ghost use Rattle.ghost_model.specs.Causes.{last_count};
+    ghost use Rattle.ghost_model.specs.core.Causes.{last_count};
     ghost use Rattle.edge_traits.specs.MemLinks.{left_of, next_port, next_size, IsNew, SamePlan};
 
     /// The other end that did nothing yet.

@@ -1,7 +1,7 @@
 //! Reading a file whole.
 
-ghost use Rattle.std.specs.Prelude.{◌≡◌, ◌≤◌, ℕ, List, IfOk, Err, vec_len};
-ghost use Rattle.ghost_model.specs.Causes.{Rose};
+ghost use Rattle.std.specs.Prelude.{◌≡◌, ◌<◌, ◌≤◌, ◌+◌, ◌++◌, ℕ, List, IfOk, OnOk, Err, length, vec_len};
+ghost use Rattle.ghost_model.specs.core.Causes.{Rose};
 ghost use Rattle.edge_traits.specs.Files.{HasFile, HasLonger};
 ghost use Rattle.edge_traits.specs.declared.reading.ReadFault.TheVariants.{Depot as depot_failed, NoMemory as no_memory};
 
@@ -36,6 +36,22 @@ impl From<AllocError> for ReadFault {
     }
 }
 
+/// Puts a piece behind the bytes that were read, unless they would be more than the limit.
+fn add_piece(bytes: &mut Vec<u8>, piece: &[u8], limit: usize) -> Result<(), ReadFault>
+    requires within { vec_len bytes.old ≤ limit }
+    ensures too_long { limit < vec_len bytes.old + length piece.now → result ≡ Err ReadFault.TooLong }
+    ensures fits { vec_len bytes.old + length piece.now ≤ limit → result ≡ Err ReadFault.TooLong → ⊥ }
+    ensures no_read { result ≡ Err ReadFault.Depot → ⊥ }
+    ensures added { OnOk result (bytes.new.items ≡ bytes.old.items ++ piece.now) }
+    ensures still_within { OnOk result (vec_len bytes.new ≤ limit) }
+{
+    if piece.len() > limit - bytes.len() {
+        return Err(ReadFault::TooLong);
+    }
+    bytes.extend_from_slice(piece)?;
+    Ok(())
+}
+
 /// All bytes of the file `name`, of which there may be `limit` at most.
 #[tactic(auto, using(crate::proofs::WholeFile::goes_on, crate::proofs::WholeFile::ends, crate::proofs::WholeFile::is_longer))]
 pub fn read_file<D: Depot>(
@@ -62,9 +78,6 @@ pub fn read_file<D: Depot>(
         if count == 0 {
             return Ok(bytes);
         }
-        if count > limit - bytes.len() {
-            return Err(ReadFault::TooLong);
-        }
-        bytes.extend_from_slice(&piece[..count])?;
+        add_piece(&mut bytes, &piece[..count], limit)?;
     }
 }

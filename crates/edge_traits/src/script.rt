@@ -1,7 +1,7 @@
 //! Which calls of an object in memory fail.
 
 ghost use Rattle.std.specs.Prelude.{◌≡◌, ◌+◌, ◌≤◌, min, IfOk, OnOk, OnErr};
-ghost use Rattle.ghost_model.specs.Causes.{HasCause, Rose, last_count};
+ghost use Rattle.ghost_model.specs.core.Causes.{HasCause, Rose, last_count};
 ghost use Rattle.edge_traits.specs.Scripts.{IsNamed, IsFresh};
 
 use crate::Failed;

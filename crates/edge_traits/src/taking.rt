@@ -1,8 +1,8 @@
 //! Filling a buffer from a link.
 
 ghost use Rattle.std.specs.Prelude.{◌≡◌, ◌+◌, ◌-◌, ◌<◌, ◌≤◌, [], ◌∷◌, length, take, drop, IfOk};
-ghost use Rattle.ghost_model.specs.Causes.{HasCause};
-ghost use Rattle.ghost_model.specs.Channel as channel;
+ghost use Rattle.ghost_model.specs.core.Causes.{HasCause};
+ghost use Rattle.ghost_model.specs.core.Channel as channel;
 ghost use Rattle.edge_traits.specs.Links.{entry, gave};
 ghost use Rattle.edge_traits.specs.Filling.{Fills};
 

@@ -1,7 +1,7 @@
 //! Handing a piece whole to a sink.
 
 ghost use Rattle.std.specs.Prelude.{◌≡◌, OnOk, OnErr};
-ghost use Rattle.ghost_model.specs.Causes.{HasCause};
+ghost use Rattle.ghost_model.specs.core.Causes.{HasCause};
 ghost use Rattle.edge_traits.specs.Written.{grown, GrowsByFront};
 
 use crate::Failed;

@@ -2,11 +2,11 @@
 use Rattle.std.proofs.Common.{◌≡◌, ap, sym, ◌∙◌, subst, ℕ, ◌+◌, ◌-◌, ◌*◌, ◌<◌, ◌≤◌, min, Bool, true, zero, suc, inl, inr, List, [], ◌++◌, length, take, drop, replicate, get_or, flat_map, arith, Result, Ok, Err, OnOk}
 use Rattle.std.proofs.lemmas.Bool.{cases_lt}
 use Rattle.std.proofs.lemmas.List.{take-append-drop, take_min, drop_all, drop-replicate, length-drop, length-take}
-use Rattle.ghost_model.specs.Channel.{Catalog}
-use Rattle.ghost_model.specs.Catalog.{catalog_bytes}
-use Rattle.ghost_model.specs.Flash.{catalog_page}
-use Rattle.ghost_model.specs.Layout.{below, public_pages}
-use Rattle.ghost_model.specs.Work.{catalog_pages}
+use Rattle.ghost_model.specs.core.Channel.{Catalog}
+use Rattle.ghost_model.specs.forms.Catalog.{catalog_bytes}
+use Rattle.ghost_model.specs.forms.Flash.{catalog_page}
+use Rattle.ghost_model.specs.forms.Layout.{below, public_pages}
+use Rattle.ghost_model.specs.forms.Work.{catalog_pages}
 use Rattle.edge_traits.specs.Devices.{Device, Counts, ChangesOnly}
 use Rattle.edge_traits.proofs.DeviceFrames.{changes_trans, changes_wider}
 use Rattle.flash_build.specs.Sealing.{HoldsFrom, SpellsNoCatalog, public_bytes}

@@ -3,13 +3,14 @@ use Rattle.std.proofs.Common.{◌≡◌, refl, ap, sym, ◌∙◌, subst, ℕ, �
 use Rattle.std.specs.Prelude.{if◌then◌else◌}
 use Rattle.std.proofs.lemmas.Bool.{cases_lt}
 use Rattle.std.proofs.lemmas.Nat.{le-div}
-use Rattle.ghost_model.specs.Channel.{Catalog}
-use Rattle.ghost_model.specs.Split.{Hidden}
-use Rattle.ghost_model.specs.Runs.{Run, Stores, run_end, run_pages, per_page, pages_of}
-use Rattle.ghost_model.specs.Layout as layout
-use Rattle.ghost_model.specs.Layout.{below, is_hidden, column_file, column_pages, column_pages_before, columns_pages, table_begin, files_end, public_pages}
-use Rattle.ghost_model.specs.LayoutLaws.{LieInOrder, AreNarrow, SumsByPlace}
-use Rattle.ghost_model.specs.Flash.{hidden_cells}
+use Rattle.ghost_model.specs.core.Channel.{Catalog}
+use Rattle.ghost_model.specs.core.Split.{Hidden}
+use Rattle.ghost_model.specs.forms.Runs.{Run, Stores, run_end, run_pages, per_page, pages_of}
+use Rattle.ghost_model.specs.forms.Layout as layout
+use Rattle.ghost_model.specs.forms.Layout.{below, is_hidden, column_file, column_pages, columns_pages, files_end, public_pages}
+use Rattle.ghost_model.specs.laws.LayoutSums.{column_pages_before, table_begin, column_begin}
+use Rattle.ghost_model.specs.laws.LayoutLaws.{LieAsSummed, LieInOrder, AreNarrow, SumsByPlace}
+use Rattle.ghost_model.specs.forms.Flash.{hidden_cells}
 use Rattle.edge_traits.specs.Devices.{Device, Counts, ChangesOnly}
 use Rattle.edge_traits.proofs.DeviceFrames.{same_trans, changes_wider, changes_joined, counts_more}
 use Rattle.flash_pages.specs.Filling.{CanFill}
@@ -132,7 +133,7 @@ pub record TablesFilled (told : Bool) (cat : Catalog) (hidden : Hidden) (before 
 pub changed_more :
     {cat : Catalog} (table column : ℕ) {a b c : Device} → LieInOrder cat
     → ChangesOnly (table_begin cat table) (table_begin cat table + column_pages_before cat table column) a b
-    → ChangesOnly (column_file cat table column).first ((column_file cat table column).first + column_pages cat table column) b c
+    → ChangesOnly (column_begin cat table column) ((column_begin cat table column) + column_pages cat table column) b c
     → ChangesOnly (table_begin cat table) (table_begin cat table + column_pages_before cat table (column + 1)) a c
 changed_more {cat = cat} table column order first second =
     let next = order.next_column table column in
@@ -143,7 +144,7 @@ pub stores_more :
     {told : Bool} {cat : Catalog} (hidden : Hidden) (table column : ℕ) {b c : Device} → LieInOrder cat → AreNarrow cat
     → (told ≡ true → (earlier : ℕ) → earlier < column → is_hidden cat.schema table earlier ≡ true
     → Stores b.page (column_file cat table earlier) (hidden_cells cat.schema hidden table earlier))
-    → ChangesOnly (column_file cat table column).first ((column_file cat table column).first + column_pages cat table column) b c
+    → ChangesOnly (column_begin cat table column) ((column_begin cat table column) + column_pages cat table column) b c
     → (told ≡ true → is_hidden cat.schema table column ≡ true → Stores c.page (column_file cat table column) (hidden_cells cat.schema hidden table column))
     → told ≡ true → (earlier : ℕ) → earlier < column + 1 → is_hidden cat.schema table earlier ≡ true
     → Stores c.page (column_file cat table earlier) (hidden_cells cat.schema hidden table earlier)
@@ -157,12 +158,12 @@ pub can_fill_column :
     {cat : Catalog} (table column : ℕ) {a b : Device} → LieInOrder cat → SumsByPlace → column < layout.column_count cat.schema table
     → CanFill a (table_begin cat table) (columns_pages cat table)
     → ChangesOnly (table_begin cat table) (table_begin cat table + column_pages_before cat table column) a b
-    → CanFill b (column_file cat table column).first (column_pages cat table column)
+    → CanFill b (column_begin cat table column) (column_pages cat table column)
 can_fill_column {cat = cat} table column order sums less can changes =
     let next = order.next_column table column in
     let rise = sums.rise (column_pages cat table) (column + 1) (layout.column_count cat.schema table) (omega arith) in
     can_fill_kept changes (omega arith)
-    (can_fill_part can (column_file cat table column).first (column_pages cat table column) (omega arith) (omega (arith, next, rise)))
+    (can_fill_part can (column_begin cat table column) (column_pages cat table column) (omega arith) (omega (arith, next, rise)))
 
 -- one table more
 pub tables_more :
@@ -188,14 +189,15 @@ stores_tables {cat = cat} hidden table {c = c} order narrow were changes last to
     (last told)
 
 pub can_fill_table :
-    {cat : Catalog} (table : ℕ) {a b : Device} → LieInOrder cat → table < length cat.schema
+    {cat : Catalog} (table : ℕ) {a b : Device} → LieAsSummed cat → LieInOrder cat → table < length cat.schema
     → CanFill a public_pages (files_end cat - public_pages) → ChangesOnly public_pages (table_begin cat table) a b
     → CanFill b (table_begin cat table) (columns_pages cat table)
-can_fill_table {cat = cat} table order less can changes =
+can_fill_table {cat = cat} table laid order less can changes =
+    let end = laid.files_end in
     let next = order.next_table table in
     let rise = order.tables (table + 1) (length cat.schema) (omega arith) in
     can_fill_kept changes (omega arith)
-    (can_fill_part can (table_begin cat table) (columns_pages cat table) (omega arith) (omega (arith, next, rise, order.some)))
+    (can_fill_part can (table_begin cat table) (columns_pages cat table) (omega arith) (omega (arith, next, rise, end, order.some)))
 
 -- the calls of one file or table more
 pub counts_as : {first second sum a b c : ℕ} → sum ≡ first + second → Counts first a b → Counts second b c → Counts sum a c

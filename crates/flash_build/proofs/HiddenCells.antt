@@ -1,24 +1,29 @@
 -- The cells of a hidden column are those of the values at its place among the hidden ones, which are of its kind.
 use Rattle.std.proofs.Common.{◌≡◌, refl, ap, sym, ◌∙◌, subst, ℕ, suc, ◌+◌, ◌<◌, ◌≤◌, true, List, [], length, map, get_or, Option, Some, None, slice_get, option_and_then, arith}
 use Rattle.std.specs.Prelude.{IsTrue}
+use Rattle.std.specs.Option.{option_map_or}
 use Rattle.std.proofs.lemmas.Option.{slice_get-get_or}
 use Rattle.std.proofs.lemmas.List.{get_or-map, length-map}
-use Rattle.ghost_model.specs.Schema.{Schema, Column, Kind, column_at}
-use Rattle.ghost_model.specs.Values.{Value, Row, Rows}
-use Rattle.ghost_model.specs.Channel.{Catalog}
-use Rattle.ghost_model.specs.SchemaTrees.{IsTree}
-use Rattle.ghost_model.specs.Database.{rows_of, row_numbered, is_of_kind}
-use Rattle.ghost_model.specs.Cells.{cell_width}
-use Rattle.ghost_model.specs.Asks.{kind_or_none, kind_at}
-use Rattle.ghost_model.specs.Split as split
-use Rattle.ghost_model.specs.Split.{Hidden}
-use Rattle.ghost_model.specs.Replies.{hidden_places}
-use Rattle.ghost_model.specs.Layout.{hidden_or_none, is_hidden, width_or_none}
-use Rattle.ghost_model.specs.LayoutLaws.{AreNarrow}
-use Rattle.ghost_model.specs.Flash.{GoesWith, cell_or_none, hidden_cells}
-use Rattle.ghost_model.specs.FlashLaws.{hidden_before, CellsFit, HiddenValuesByPlace, HiddenValuesOfDatabases, HiddenPartsGoWithCatalogs, HiddenCellsFit}
-use Rattle.ghost_model.specs.Flash.{IsHidden}
+use Rattle.ghost_model.specs.core.Schema.{Schema, Column, Kind, column_at}
+use Rattle.ghost_model.specs.core.Values.{Value, Row, Rows}
+use Rattle.ghost_model.specs.core.Channel.{Catalog}
+use Rattle.ghost_model.specs.laws.SchemaTrees.{IsTree}
+use Rattle.ghost_model.specs.core.Database.{rows_of, row_numbered, is_of_kind}
+use Rattle.ghost_model.specs.forms.Cells.{cell_width, encode_cell}
+use Rattle.ghost_model.specs.core.Asks.{kind_or_none, kind_at}
+use Rattle.ghost_model.specs.core.Split as split
+use Rattle.ghost_model.specs.core.Split.{Hidden}
+use Rattle.ghost_model.specs.core.Replies.{hidden_places}
+use Rattle.ghost_model.specs.forms.Layout.{is_hidden}
+use Rattle.ghost_model.specs.laws.LayoutLaws.{AreNarrow}
+use Rattle.ghost_model.specs.forms.Flash.{GoesWith, hidden_cells}
+use Rattle.ghost_model.specs.laws.FlashLaws.{hidden_before, CellsFit, HiddenValuesByPlace, HiddenValuesOfDatabases, HiddenPartsGoWithCatalogs, HiddenCellsFit}
+use Rattle.ghost_model.specs.forms.Flash.{IsHidden}
+use Rattle.ghost_model.proofs.LayoutLemmas.Columns.{hidden_or_none, width_or_none}
 use Rattle.flash_build.specs.Cells.{AreOfKind, cell_at, cells_at, value_at}
+
+abbrev pub cell_if_any : Kind → Option Value → List ℕ
+cell_if_any kind value = option_map_or (encode_cell kind) value []
 
 -- a hidden column is there
 declared : (o : Option Column) → hidden_or_none o ≡ true → (held : Column) × (o ≡ Some held) × (held.kind ≡ kind_or_none o)
@@ -58,18 +63,18 @@ pub same_cells :
     → cells_at (kind_at schema table column) (hidden_before schema table column) (rows_of hidden.hidden table)
     ≡ hidden_cells schema hidden table column
 same_cells schema hidden tree by_place table column h =
-    λ i. map (λ row. cell_or_none (kind_at schema table column) (sym (by_place schema tree table column h row) i)) (rows_of hidden.hidden table)
+    λ i. map (λ row. cell_if_any (kind_at schema table column) (sym (by_place schema tree table column h row) i)) (rows_of hidden.hidden table)
 
 -- the cell of a row by its number
 pub cell_of_row :
     (kind : Kind) (place : ℕ) (rows : Rows) (i : ℕ) → i < length (cells_at kind place rows)
-    → get_or (cells_at kind place rows) i [] ≡ cell_or_none kind (value_at rows (i + 1) place)
+    → get_or (cells_at kind place rows) i [] ≡ cell_if_any kind (value_at rows (i + 1) place)
 cell_of_row kind place rows i within =
     let less : i < length rows = omega (arith, within, length-map rows (cell_at kind place)) in
     let e : i + 1 ≡ suc i = omega arith in
     get_or-map (cell_at kind place) rows i [] [] less
-    ∙ sym (ap (λ n. cell_or_none kind (value_at rows n place)) e
-    ∙ ap (λ o. cell_or_none kind (option_and_then (λ row. slice_get row place) o)) (slice_get-get_or rows i [] less))
+    ∙ sym (ap (λ n. cell_if_any kind (value_at rows n place)) e
+    ∙ ap (λ o. cell_if_any kind (option_and_then (λ row. slice_get row place) o)) (slice_get-get_or rows i [] less))
 
 -- the source of a column file, as it is made: its kind and place under equations
 pub source_kinds :

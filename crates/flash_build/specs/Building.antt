@@ -1,8 +1,8 @@
 -- What is written when the hidden part of a database is put on the flash: the pages of the column files, and no other.
 use Rattle.std.specs.Prelude.{◌≡◌, ℕ, ◌<◌, ◌≤◌, true}
-use Rattle.ghost_model.specs.Channel.{Catalog}
-use Rattle.ghost_model.specs.Runs.{Run, run_end}
-use Rattle.ghost_model.specs.Layout.{is_hidden, column_file}
+use Rattle.ghost_model.specs.core.Channel.{Catalog}
+use Rattle.ghost_model.specs.forms.Runs.{Run, run_end}
+use Rattle.ghost_model.specs.forms.Layout.{is_hidden, column_file}
 use Rattle.edge_traits.specs.Devices.{Device, SamePage}
 
 -- the pages from `low` on and below `high` are blank, as far as the device has them

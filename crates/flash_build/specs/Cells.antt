@@ -1,13 +1,13 @@
 -- The cells of a hidden column, as its values stand in the hidden part: at one place of each row.
-use Rattle.std.specs.Prelude.{◌≡◌, ℕ, ◌≤◌, List, map, Option, Some, option_and_then, slice_get, IsTrue}
-use Rattle.ghost_model.specs.Schema.{Kind}
-use Rattle.ghost_model.specs.Values.{Value, Row, Rows}
-use Rattle.ghost_model.specs.Database.{row_numbered, is_of_kind}
-use Rattle.ghost_model.specs.Cells.{cell_width}
-use Rattle.ghost_model.specs.Flash.{cell_or_none}
+use Rattle.std.specs.Prelude.{◌≡◌, ℕ, ◌≤◌, List, [], map, Option, Some, option_and_then, slice_get, IsTrue}
+use Rattle.std.specs.Option.{option_map_or}
+use Rattle.ghost_model.specs.core.Schema.{Kind}
+use Rattle.ghost_model.specs.core.Values.{Value, Row, Rows}
+use Rattle.ghost_model.specs.core.Database.{row_numbered, is_of_kind}
+use Rattle.ghost_model.specs.forms.Cells.{cell_width, encode_cell}
 
 abbrev pub cell_at : Kind → (place : ℕ) → Row → List ℕ
-cell_at kind place row = cell_or_none kind (slice_get row place)
+cell_at kind place row = option_map_or (encode_cell kind) (slice_get row place) []
 
 abbrev pub cells_at : Kind → (place : ℕ) → Rows → List (List ℕ)
 cells_at kind place rows = map (cell_at kind place) rows

@@ -1,6 +1,6 @@
 -- Why the flash was not built: which fault comes of what.
 use Rattle.std.specs.Prelude.{◌≡◌, ℕ, ◌≤◌, ⊤, Result, Ok, Err}
-use Rattle.ghost_model.specs.Causes.{Rose}
+use Rattle.ghost_model.specs.core.Causes.{Rose}
 use Rattle.flash_build.specs.declared.faults.BuildFault.{BuildFault}
 use Rattle.flash_build.specs.declared.faults.BuildFault.TheVariants.{NoMemory, Flash, TooSmall}
 

@@ -1,9 +1,9 @@
 -- A flash is sealed by the catalog on its public pages. As long as page 0 is blank, they spell no catalog.
 use Rattle.std.specs.Prelude.{◌≡◌, ℕ, ◌<◌, ◌≤◌, List, flat_map}
-use Rattle.ghost_model.specs.Channel.{Catalog}
-use Rattle.ghost_model.specs.Catalog.{BeginsWithCatalog}
-use Rattle.ghost_model.specs.Flash.{catalog_page}
-use Rattle.ghost_model.specs.Layout.{below, public_pages}
+use Rattle.ghost_model.specs.core.Channel.{Catalog}
+use Rattle.ghost_model.specs.forms.Catalog.{BeginsWithCatalog}
+use Rattle.ghost_model.specs.forms.Flash.{catalog_page}
+use Rattle.ghost_model.specs.forms.Layout.{below, public_pages}
 
 -- the bytes of the public pages
 unfoldable pub public_bytes : (ℕ → List ℕ) → List ℕ

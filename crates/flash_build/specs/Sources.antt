@@ -1,6 +1,6 @@
 -- The records of a column file's source.
 use Rattle.std.specs.Prelude.{ℕ, List}
-use Rattle.ghost_model.specs.Database.{rows_of}
+use Rattle.ghost_model.specs.core.Database.{rows_of}
 use Rattle.ghost_base.specs.Views.{kind_of}
 use Rattle.flash_build.specs.declared.source.ColumnCells.{ColumnCells}
 use Rattle.flash_build.specs.Cells.{cells_at}

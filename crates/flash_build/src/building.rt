@@ -1,12 +1,12 @@
 //! The hidden part on the flash.
 
 ghost use Rattle.std.specs.Prelude.{◌≡◌, ◌<◌, ◌≤◌, ◌+◌, true, Err, OnOk};
-ghost use Rattle.ghost_model.specs.Flash.{HoldsFilesSoFar};
-ghost use Rattle.ghost_model.specs.Layout as layout;
-ghost use Rattle.ghost_model.specs.Work as work;
+ghost use Rattle.ghost_model.specs.forms.Flash.{HoldsFilesSoFar};
+ghost use Rattle.ghost_model.specs.forms.Layout as layout;
+ghost use Rattle.ghost_model.specs.forms.Work as work;
 ghost use Rattle.edge_traits.specs.Devices.{Counts, ChangesOnly};
 ghost use Rattle.flash_build.specs.Building.{IsBlank, ChangesColumns};
-ghost use Rattle.ghost_model.specs.Flash.{IsHidden};
+ghost use Rattle.ghost_model.specs.forms.Flash.{IsHidden};
 ghost use Rattle.flash_build.specs.Faults.{BuildCause, EndsAtFault, BlamesFlash};
 ghost use Rattle.flash_build.specs.declared.faults.BuildFault.TheVariants as fault;
 

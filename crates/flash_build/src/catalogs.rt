@@ -1,7 +1,7 @@
 //! The catalog of a database.
 
 ghost use Rattle.std.specs.Prelude.{◌≡◌, length, IsTrue};
-ghost use Rattle.ghost_model.specs.Database.{IsDatabase, row_counts};
+ghost use Rattle.ghost_model.specs.core.Database.{IsDatabase, row_counts};
 ghost use Rattle.tree_schema.specs.Catalogs.{are_counts};
 
 use arrayvec::ArrayVec;

@@ -1,19 +1,20 @@
 //! The column files, one by one and table by table.
 
 ghost use Rattle.std.specs.Prelude.{◌≡◌, ◌<◌, ◌≤◌, ◌+◌, ◌-◌, ℕ, true, [], length, get_or, OnOk, OnErr};
-ghost use Rattle.ghost_model.specs.Asks as asks;
-ghost use Rattle.ghost_model.specs.Causes.{HasCause};
-ghost use Rattle.ghost_model.specs.Flash.{hidden_cells};
-ghost use Rattle.ghost_model.specs.FlashLaws as laws;
-ghost use Rattle.ghost_model.specs.Layout as layout;
-ghost use Rattle.ghost_model.specs.Runs.{Stores};
-ghost use Rattle.ghost_model.specs.Work as work;
+ghost use Rattle.ghost_model.specs.core.Asks as asks;
+ghost use Rattle.ghost_model.specs.core.Causes.{HasCause};
+ghost use Rattle.ghost_model.specs.forms.Flash.{hidden_cells};
+ghost use Rattle.ghost_model.specs.laws.FlashLaws as laws;
+ghost use Rattle.ghost_model.specs.forms.Layout as layout;
+ghost use Rattle.ghost_model.specs.laws.LayoutSums as sums;
+ghost use Rattle.ghost_model.specs.forms.Runs.{Stores};
+ghost use Rattle.ghost_model.specs.forms.Work as work;
 ghost use Rattle.edge_traits.specs.Devices.{Counts, ChangesOnly};
 ghost use Rattle.flash_pages.specs.Filling.{CanFill};
 ghost use Rattle.ghost_base.specs.Views.{kind_of};
 ghost use Rattle.flash_build.specs.Sources.{cells_of};
 ghost use Rattle.flash_build.specs.Building.{ChangesColumns};
-ghost use Rattle.ghost_model.specs.Flash.{IsHidden};
+ghost use Rattle.ghost_model.specs.forms.Flash.{IsHidden};
 
 use crate::source::ColumnCells;
 use csv_split::Hidden;
@@ -115,9 +116,9 @@ fn write_column<F: Flash>(
     buf: &mut [u8; 2048],
 ) -> Result<(), Failed>
     requires part { IsHidden cat.now hidden.now }
-    requires can { CanFill (F.state flash.old) (layout.column_file cat.now table column).first (layout.column_pages cat.now table column) }
+    requires can { CanFill (F.state flash.old) (sums.column_begin cat.now table column) (layout.column_pages cat.now table column) }
     ensures stores { OnOk result (F.told ≡ true → layout.is_hidden cat.now.schema table column ≡ true → Stores (F.state flash.new).page (layout.column_file cat.now table column) (hidden_cells cat.now.schema hidden.now table column)) }
-    ensures others { ChangesOnly (layout.column_file cat.now table column).first ((layout.column_file cat.now table column).first + layout.column_pages cat.now table column) (F.state flash.old) (F.state flash.new) }
+    ensures others { ChangesOnly (sums.column_begin cat.now table column) ((sums.column_begin cat.now table column) + layout.column_pages cat.now table column) (F.state flash.old) (F.state flash.new) }
     ensures columns { ChangesColumns cat.now (F.state flash.old) (F.state flash.new) }
     ensures exact { OnOk result (Counts (layout.column_pages cat.now table column) (F.state flash.old).calls (F.state flash.new).calls) }
     ensures at_most { (F.state flash.new).calls ≤ (F.state flash.old).calls + layout.column_pages cat.now table column }
@@ -125,6 +126,7 @@ fn write_column<F: Flash>(
     ensures cause { HasCause (F.state flash.old).faults (F.state flash.new).faults result }
     ensures last { OnErr result ((F.state flash.new).since_fault ≡ 0) }
 {
+    a_catalog_has_a_layout(cat);
     if is_hidden(cat, table, column) {
         write_file(cat, hidden, table, column, flash, buf)
     } else {
@@ -141,9 +143,9 @@ fn write_table<F: Flash>(
     buf: &mut [u8; 2048],
 ) -> Result<(), Failed>
     requires part { IsHidden cat.now hidden.now }
-    requires can { CanFill (F.state flash.old) (layout.table_begin cat.now table) (layout.columns_pages cat.now table) }
+    requires can { CanFill (F.state flash.old) (sums.table_begin cat.now table) (layout.columns_pages cat.now table) }
     ensures stores { OnOk result (F.told ≡ true → (column : ℕ) → layout.is_hidden cat.now.schema table column ≡ true → Stores (F.state flash.new).page (layout.column_file cat.now table column) (hidden_cells cat.now.schema hidden.now table column)) }
-    ensures others { ChangesOnly (layout.table_begin cat.now table) (layout.table_begin cat.now table + layout.columns_pages cat.now table) (F.state flash.old) (F.state flash.new) }
+    ensures others { ChangesOnly (sums.table_begin cat.now table) (sums.table_begin cat.now table + layout.columns_pages cat.now table) (F.state flash.old) (F.state flash.new) }
     ensures columns { ChangesColumns cat.now (F.state flash.old) (F.state flash.new) }
     ensures exact { OnOk result (Counts (layout.columns_pages cat.now table) (F.state flash.old).calls (F.state flash.new).calls) }
     ensures at_most { (F.state flash.new).calls ≤ (F.state flash.old).calls + layout.columns_pages cat.now table }

@@ -1,11 +1,11 @@
 //! The whole of a new flash.
 
 ghost use Rattle.std.specs.Prelude.{◌≡◌, ◌<◌, ◌≤◌, ◌+◌, ◌*◌, ℕ, List, true, false, Some, Err, OnOk};
-ghost use Rattle.ghost_model.specs.Flash.{HoldsFilesSoFar, HoldsSoFar};
-ghost use Rattle.ghost_model.specs.Layout as layout;
-ghost use Rattle.ghost_model.specs.Work as work;
+ghost use Rattle.ghost_model.specs.forms.Flash.{HoldsFilesSoFar, HoldsSoFar};
+ghost use Rattle.ghost_model.specs.forms.Layout as layout;
+ghost use Rattle.ghost_model.specs.forms.Work as work;
 ghost use Rattle.edge_traits.specs.Devices.{Counts, IsErased};
-ghost use Rattle.ghost_model.specs.Flash.{IsHidden};
+ghost use Rattle.ghost_model.specs.forms.Flash.{IsHidden};
 ghost use Rattle.flash_build.specs.Faults.{BuildCause, EndsAtFault, IsLargeEnough};
 ghost use Rattle.flash_build.specs.Sealing.{HoldsFrom, SpellsNoCatalog};
 ghost use Rattle.flash_build.specs.declared.faults.BuildFault.TheVariants as fault;

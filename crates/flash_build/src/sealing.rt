@@ -1,11 +1,11 @@
 //! The catalog on the public pages.
 
 ghost use Rattle.std.specs.Prelude.{◌≡◌, ◌<◌, ◌≤◌, ◌+◌, ◌-◌, true, false, OnOk, OnErr};
-ghost use Rattle.ghost_model.specs.Causes.{HasCause};
-ghost use Rattle.ghost_model.specs.Flash.{HoldsCatalog, HoldsFilesSoFar, catalog_page};
-ghost use Rattle.ghost_model.specs.Layout as layout;
-ghost use Rattle.ghost_model.specs.Split.{Hidden};
-ghost use Rattle.ghost_model.specs.Work as work;
+ghost use Rattle.ghost_model.specs.core.Causes.{HasCause};
+ghost use Rattle.ghost_model.specs.forms.Flash.{HoldsCatalog, HoldsFilesSoFar, catalog_page};
+ghost use Rattle.ghost_model.specs.forms.Layout as layout;
+ghost use Rattle.ghost_model.specs.core.Split.{Hidden};
+ghost use Rattle.ghost_model.specs.forms.Work as work;
 ghost use Rattle.edge_traits.specs.Devices.{Counts, ChangesOnly, IsErased, next, since_call};
 ghost use Rattle.flash_build.specs.Sealing.{HoldsFrom, SpellsNoCatalog};
 

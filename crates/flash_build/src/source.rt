@@ -1,7 +1,7 @@
 //! The cells of a hidden column, as records of its file.
 
 ghost use Rattle.std.specs.Prelude.{◌≡◌, List, ℕ};
-ghost use Rattle.ghost_model.specs.Database.{rows_of, row_count};
+ghost use Rattle.ghost_model.specs.core.Database.{rows_of, row_count};
 ghost use Rattle.ghost_base.specs.Views.{kind_of};
 ghost use Rattle.flash_build.specs.Cells.{AreOfKind, cells_at};
 

@@ -1,8 +1,9 @@
 //! The areas of the spool and of scratch, and the pages that a device must have.
 
 ghost use Rattle.std.specs.Prelude.{◌≡◌, ◌<◌, ◌≤◌, ◌%◌, ◌^◌, length};
-ghost use Rattle.ghost_model.specs.Schema as schema;
-ghost use Rattle.ghost_model.specs.Layout as layout;
+ghost use Rattle.ghost_model.specs.core.Schema as schema;
+ghost use Rattle.ghost_model.specs.forms.Layout as layout;
+ghost use Rattle.ghost_model.specs.laws.LayoutSums as sums;
 ghost use Rattle.flash_pages.specs.Runs.{run_of};
 
 use crate::columns::{columns_of, rows_of, width_of};
@@ -18,6 +19,7 @@ pub fn static_end(cat: &Catalog) -> u32
     ensures block { result % 64 ≡ 0 }
     ensures most { result ≤ 607034815 }
 {
+    a_catalog_has_a_layout(cat);
     in_blocks(table_begin(cat, cat.schema().tables()))
 }
 
@@ -65,7 +67,7 @@ fn spool_pages(cat: &Catalog, table: usize) -> u32
 /// The pages of the areas of the tables before one in one half of the spool.
 fn spool_pages_before(cat: &Catalog, table: usize) -> u32
     requires few { table ≤ 12 }
-    ensures value { result ≡ layout.spool_pages_before cat.now table }
+    ensures value { result ≡ sums.spool_pages_before cat.now table }
     ensures most { result ≤ 12000768 }
 {
     a_catalog_has_a_layout(cat);

@@ -1,7 +1,8 @@
 //! What a table has: its rows, and the widths and pages of its columns.
 
 ghost use Rattle.std.specs.Prelude.{◌≡◌, ◌<◌, ◌≤◌, true};
-ghost use Rattle.ghost_model.specs.Layout as layout;
+ghost use Rattle.ghost_model.specs.forms.Layout as layout;
+ghost use Rattle.ghost_model.specs.laws.LayoutSums as sums;
 
 use crate::limits::a_catalog_has_a_layout;
 use crate::runs::pages;
@@ -78,7 +79,7 @@ fn column_pages(cat: &Catalog, table: usize, column: usize) -> u32
 /// The pages of the files of a table's columns before one.
 pub(crate) fn column_pages_before(cat: &Catalog, table: usize, column: usize) -> u32
     requires few { column ≤ 24 }
-    ensures value { result ≡ layout.column_pages_before cat.now table column }
+    ensures value { result ≡ sums.column_pages_before cat.now table column }
     ensures most { result ≤ 24000000 }
 {
     a_catalog_has_a_layout(cat);

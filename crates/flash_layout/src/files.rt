@@ -1,7 +1,8 @@
 //! The static files, by the runs of their records.
 
 ghost use Rattle.std.specs.Prelude.{◌≡◌, ◌<◌, ◌≤◌, length, true};
-ghost use Rattle.ghost_model.specs.Layout as layout;
+ghost use Rattle.ghost_model.specs.forms.Layout as layout;
+ghost use Rattle.ghost_model.specs.laws.LayoutSums as sums;
 ghost use Rattle.flash_pages.specs.Runs.{run_of};
 
 use crate::columns::{column_pages_before, rows_of, width_of};
@@ -32,6 +33,7 @@ pub fn subtree_table(cat: &Catalog, table: usize) -> Run
     requires there { table < length cat.now.schema }
     ensures run { run_of result ≡ layout.subtree_table cat.now table }
 {
+    a_catalog_has_a_layout(cat);
     Run {
         first: subtree_begin(cat, table),
         count: rows_of(cat, table),
@@ -70,7 +72,7 @@ fn level_file(cat: &Catalog, begin: u32, tables: &[usize], level: usize) -> Run
     requires begin { begin < 1000000000 }
     requires few { length tables.now ≤ 12 }
     requires level { level < length tables.now }
-    ensures run { run_of result ≡ layout.level_file_among cat.now begin tables.now level }
+    ensures run { run_of result ≡ sums.level_file cat.now begin tables.now level }
 {
     Run {
         first: begin + levels_pages(cat, &tables[..level]),
@@ -95,6 +97,7 @@ pub fn id_directory(cat: &Catalog, table: usize) -> Run
     requires there { table < length cat.now.schema }
     ensures run { run_of result ≡ layout.id_directory cat.now table }
 {
+    a_catalog_has_a_layout(cat);
     Run {
         first: id_index_begin(cat, table),
         count: rows_of(cat, table),

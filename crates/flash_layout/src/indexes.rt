@@ -1,7 +1,8 @@
 //! The pages of subtree key tables and indexes, and where the files of a table begin.
 
 ghost use Rattle.std.specs.Prelude.{◌≡◌, ◌<◌, ◌≤◌, length, true};
-ghost use Rattle.ghost_model.specs.Layout as layout;
+ghost use Rattle.ghost_model.specs.forms.Layout as layout;
+ghost use Rattle.ghost_model.specs.laws.LayoutSums as sums;
 
 use crate::columns::{columns_of, columns_pages, is_hidden, rows_of, width_of};
 use crate::limits::a_catalog_has_a_layout;
@@ -11,7 +12,7 @@ use tree_schema::Catalog;
 
 /// The width of the records of a table's subtree key table in bytes, and 0 where no table lies below it.
 pub(crate) fn subtree_width(cat: &Catalog, table: usize) -> u32
-    ensures value { result ≡ layout.subtree_width cat.now.schema table }
+    ensures value { result ≡ sums.subtree_width cat.now.schema table }
     ensures most { result ≤ 48 }
 {
     4 * tables_below(cat, table)
@@ -19,7 +20,7 @@ pub(crate) fn subtree_width(cat: &Catalog, table: usize) -> u32
 
 /// The pages of a table's subtree key table, none where no table lies below it.
 pub(crate) fn subtree_pages(cat: &Catalog, table: usize) -> u32
-    ensures value { result ≡ layout.subtree_pages cat.now table }
+    ensures value { result ≡ sums.subtree_pages cat.now table }
     ensures most { result ≤ 1000000 }
 {
     let width = subtree_width(cat, table);
@@ -32,7 +33,7 @@ pub(crate) fn subtree_pages(cat: &Catalog, table: usize) -> u32
 
 /// The pages of a level file with an identifier for each row of a table.
 fn level_pages(cat: &Catalog, table: usize) -> u32
-    ensures value { result ≡ layout.level_pages cat.now table }
+    ensures value { result ≡ sums.level_pages cat.now table }
     ensures most { result ≤ 1954 }
 {
     a_catalog_has_a_layout(cat);
@@ -42,7 +43,7 @@ fn level_pages(cat: &Catalog, table: usize) -> u32
 /// The pages of the level files of some tables.
 pub(crate) fn levels_pages(cat: &Catalog, tables: &[usize]) -> u32
     requires few { length tables.now ≤ 12 }
-    ensures value { result ≡ layout.levels_pages cat.now tables.now }
+    ensures value { result ≡ sums.levels_pages cat.now tables.now }
     ensures most { result ≤ 23448 }
 {
     let mut total = 0;
@@ -55,7 +56,7 @@ pub(crate) fn levels_pages(cat: &Catalog, tables: &[usize]) -> u32
 /// The width of the records of an index's directory in bytes.
 pub(crate) fn directory_width(cat: &Catalog, table: usize, column: usize) -> u32
     requires there { table < length cat.now.schema }
-    ensures value { result ≡ layout.directory_width cat.now.schema table column }
+    ensures value { result ≡ sums.directory_width cat.now.schema table column }
     ensures most { result ≤ 160 }
     ensures some { 8 ≤ result }
 {
@@ -66,7 +67,7 @@ pub(crate) fn directory_width(cat: &Catalog, table: usize, column: usize) -> u32
 /// The pages of an index's directory.
 pub(crate) fn directory_pages(cat: &Catalog, table: usize, column: usize) -> u32
     requires there { table < length cat.now.schema }
-    ensures value { result ≡ layout.directory_pages cat.now table column }
+    ensures value { result ≡ sums.directory_pages cat.now table column }
     ensures most { result ≤ 1000000 }
 {
     pages(rows_of(cat, table), directory_width(cat, table, column))
@@ -75,7 +76,7 @@ pub(crate) fn directory_pages(cat: &Catalog, table: usize, column: usize) -> u32
 /// The pages of the level files of a table's indexes.
 fn own_levels_pages(cat: &Catalog, table: usize) -> u32
     requires there { table < length cat.now.schema }
-    ensures value { result ≡ layout.levels_pages cat.now (layout.levels_of cat.now.schema table) }
+    ensures value { result ≡ sums.levels_pages cat.now (layout.levels_of cat.now.schema table) }
     ensures most { result ≤ 23448 }
 {
     levels_pages(cat, &levels_of(cat, table))
@@ -84,7 +85,7 @@ fn own_levels_pages(cat: &Catalog, table: usize) -> u32
 /// The pages of the index of a column, none where it is not hidden.
 fn index_pages(cat: &Catalog, table: usize, column: usize) -> u32
     requires there { table < length cat.now.schema }
-    ensures value { result ≡ layout.index_pages cat.now table column }
+    ensures value { result ≡ sums.index_pages cat.now table column }
     ensures most { result ≤ 1023449 }
 {
     if is_hidden(cat, table, column) {
@@ -98,7 +99,7 @@ fn index_pages(cat: &Catalog, table: usize, column: usize) -> u32
 pub(crate) fn index_pages_before(cat: &Catalog, table: usize, column: usize) -> u32
     requires there { table < length cat.now.schema }
     requires few { column ≤ 24 }
-    ensures value { result ≡ layout.index_pages_before cat.now table column }
+    ensures value { result ≡ sums.index_pages_before cat.now table column }
     ensures most { result ≤ 24562776 }
 {
     a_catalog_has_a_layout(cat);
@@ -112,7 +113,7 @@ pub(crate) fn index_pages_before(cat: &Catalog, table: usize, column: usize) -> 
 /// The pages of the indexes of a table's columns.
 pub(crate) fn indexes_pages(cat: &Catalog, table: usize) -> u32
     requires there { table < length cat.now.schema }
-    ensures value { result ≡ layout.indexes_pages cat.now table }
+    ensures value { result ≡ sums.indexes_pages cat.now table }
     ensures most { result ≤ 24562776 }
 {
     index_pages_before(cat, table, columns_of(cat, table))
@@ -121,7 +122,7 @@ pub(crate) fn indexes_pages(cat: &Catalog, table: usize) -> u32
 /// The width of the records of an id index's directory in bytes, and 0 for the root, which has none.
 pub(crate) fn id_directory_width(cat: &Catalog, table: usize) -> u32
     requires there { table < length cat.now.schema }
-    ensures value { result ≡ layout.id_directory_width cat.now.schema table }
+    ensures value { result ≡ sums.id_directory_width cat.now.schema table }
     ensures most { result ≤ 96 }
 {
     8 * but_first(&levels_of(cat, table)).len() as u32
@@ -131,7 +132,7 @@ pub(crate) fn id_directory_width(cat: &Catalog, table: usize) -> u32
 pub(crate) fn id_directory_pages(cat: &Catalog, table: usize) -> u32
     requires there { table < length cat.now.schema }
     requires above { 0 < length (layout.above_of cat.now.schema table) }
-    ensures value { result ≡ layout.id_directory_pages cat.now table }
+    ensures value { result ≡ sums.id_directory_pages cat.now table }
     ensures most { result ≤ 1000000 }
 {
     pages(rows_of(cat, table), id_directory_width(cat, table))
@@ -140,7 +141,7 @@ pub(crate) fn id_directory_pages(cat: &Catalog, table: usize) -> u32
 /// The pages of a table's id index, none where it is the root.
 fn id_index_pages(cat: &Catalog, table: usize) -> u32
     requires there { table < length cat.now.schema }
-    ensures value { result ≡ layout.id_index_pages cat.now table }
+    ensures value { result ≡ sums.id_index_pages cat.now table }
     ensures most { result ≤ 1023448 }
 {
     let levels = levels_of(cat, table);
@@ -155,7 +156,7 @@ fn id_index_pages(cat: &Catalog, table: usize) -> u32
 /// The pages of the files of a table.
 fn table_pages(cat: &Catalog, table: usize) -> u32
     requires there { table < length cat.now.schema }
-    ensures value { result ≡ layout.table_pages cat.now table }
+    ensures value { result ≡ sums.table_pages cat.now table }
     ensures most { result ≤ 50586224 }
 {
     columns_pages(cat, table)
@@ -165,7 +166,7 @@ fn table_pages(cat: &Catalog, table: usize) -> u32
 /// The first page of a table's files, and after the last table the page where they end.
 pub(crate) fn table_begin(cat: &Catalog, table: usize) -> u32
     requires there { table ≤ length cat.now.schema }
-    ensures value { result ≡ layout.table_begin cat.now table }
+    ensures value { result ≡ sums.table_begin cat.now table }
     ensures most { result ≤ 607034752 }
 {
     a_catalog_has_a_layout(cat);
@@ -179,7 +180,7 @@ pub(crate) fn table_begin(cat: &Catalog, table: usize) -> u32
 /// The page where the subtree key table of a table begins.
 pub(crate) fn subtree_begin(cat: &Catalog, table: usize) -> u32
     requires there { table < length cat.now.schema }
-    ensures value { result ≡ layout.subtree_begin cat.now table }
+    ensures value { result ≡ sums.subtree_begin cat.now table }
     ensures most { result ≤ 631034752 }
 {
     table_begin(cat, table) + columns_pages(cat, table)
@@ -188,7 +189,7 @@ pub(crate) fn subtree_begin(cat: &Catalog, table: usize) -> u32
 /// The page where the indexes of a table begin.
 fn indexes_begin(cat: &Catalog, table: usize) -> u32
     requires there { table < length cat.now.schema }
-    ensures value { result ≡ layout.indexes_begin cat.now table }
+    ensures value { result ≡ sums.indexes_begin cat.now table }
     ensures most { result ≤ 632034752 }
 {
     subtree_begin(cat, table) + subtree_pages(cat, table)
@@ -198,7 +199,7 @@ fn indexes_begin(cat: &Catalog, table: usize) -> u32
 pub(crate) fn index_begin(cat: &Catalog, table: usize, column: usize) -> u32
     requires there { table < length cat.now.schema }
     requires few { column ≤ 24 }
-    ensures value { result ≡ layout.index_begin cat.now table column }
+    ensures value { result ≡ sums.index_begin cat.now table column }
     ensures most { result ≤ 656597528 }
 {
     indexes_begin(cat, table) + index_pages_before(cat, table, column)
@@ -207,7 +208,7 @@ pub(crate) fn index_begin(cat: &Catalog, table: usize, column: usize) -> u32
 /// The page where the id index of a table begins.
 pub(crate) fn id_index_begin(cat: &Catalog, table: usize) -> u32
     requires there { table < length cat.now.schema }
-    ensures value { result ≡ layout.id_index_begin cat.now table }
+    ensures value { result ≡ sums.id_index_begin cat.now table }
     ensures most { result ≤ 656597528 }
 {
     indexes_begin(cat, table) + indexes_pages(cat, table)

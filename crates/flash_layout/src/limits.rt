@@ -13,6 +13,7 @@ pub fn a_catalog_has_a_layout(cat: &Catalog)
     ghost_model::layout::catalogs_are_limited();
     ghost_model::layout::layout_is_small();
     ghost_model::layout::files_follow();
+    ghost_model::layout::files_lie_as_summed();
     ghost_model::layout::files_lie_in_order();
     ghost_model::layout::areas_are_whole_blocks();
 }

@@ -1,8 +1,8 @@
 //! The pages of runs, and blocks.
 
 ghost use Rattle.std.specs.Prelude.{◌≡◌, ◌<◌, ◌≤◌, ◌+◌, ◌%◌};
-ghost use Rattle.ghost_model.specs.Runs as runs;
-ghost use Rattle.ghost_model.specs.Layout as layout;
+ghost use Rattle.ghost_model.specs.forms.Runs as runs;
+ghost use Rattle.ghost_model.specs.forms.Layout as layout;
 ghost use Rattle.flash_pages.specs.Runs.{run_of};
 
 use flash_pages::run::Run;

@@ -2,8 +2,8 @@
 
 ghost use Rattle.std.specs.Prelude.{◌≡◌, ◌<◌, ◌≤◌, ◌==◌, length, drop};
 ghost use Rattle.std.specs.List.{list_any};
-ghost use Rattle.ghost_model.specs.Schema as schema;
-ghost use Rattle.ghost_model.specs.Layout as layout;
+ghost use Rattle.ghost_model.specs.core.Schema as schema;
+ghost use Rattle.ghost_model.specs.forms.Layout as layout;
 
 use crate::limits::a_catalog_has_a_layout;
 use arrayvec::ArrayVec;

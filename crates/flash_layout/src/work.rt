@@ -1,8 +1,8 @@
 //! How many calls of the flash a loading makes.
 
 ghost use Rattle.std.specs.Prelude.{◌≡◌, ◌≤◌};
-ghost use Rattle.ghost_model.specs.Split.{Hidden};
-ghost use Rattle.ghost_model.specs.Work as work;
+ghost use Rattle.ghost_model.specs.core.Split.{Hidden};
+ghost use Rattle.ghost_model.specs.forms.Work as work;
 
 use crate::columns::columns_pages;
 use crate::runs::pages;

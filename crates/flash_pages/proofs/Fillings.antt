@@ -2,7 +2,7 @@
 use Rattle.std.proofs.Common.{◌≡◌, ℕ, ◌+◌, ◌-◌, ◌*◌, ◌/◌, ◌<◌, ◌∙◌, ap, sym, subst, refl, zero, suc, Bool, true, false, if◌then◌else◌, List, length, take, nat_lt, arith}
 use Rattle.std.proofs.lemmas.Nat.{le-div, div-mul-add}
 use Rattle.edge_traits.specs.Devices.{Device, KeepsPages, ChangesOnly, Counts}
-use Rattle.ghost_model.specs.Runs.{per_page, pages_of}
+use Rattle.ghost_model.specs.forms.Runs.{per_page, pages_of}
 use Rattle.flash_pages.specs.declared.writer.RunWriter.{RunWriter}
 use Rattle.std.proofs.lemmas.Bool.Decides.{nat_tests}
 use Rattle.edge_traits.proofs.DeviceFrames.{changes_trans, changes_wider, changes_kept, changes_joined}

@@ -3,7 +3,7 @@ use Rattle.std.proofs.Common.{◌≡◌, ℕ, zero, suc, ◌+◌, ◌-◌, ◌*�
 use Rattle.std.proofs.lemmas.Bool.{cases_lt}
 use Rattle.std.proofs.lemmas.List.{take_all, drop-replicate}
 use Rattle.std.proofs.lemmas.Nat.{div-mul-add}
-use Rattle.ghost_model.specs.Runs.{Run, per_page, cell_in, record_at, id_at, ids_from, number_in, found_in}
+use Rattle.ghost_model.specs.forms.Runs.{Run, per_page, cell_in, record_at, id_at, ids_from, number_in, found_in}
 
 -- the slot of the page that was read is the record
 pub record_read :

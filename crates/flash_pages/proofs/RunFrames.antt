@@ -3,7 +3,7 @@ use Rattle.std.proofs.Common.{◌≡◌, ℕ, zero, suc, ◌+◌, ◌-◌, ◌*�
 use Rattle.std.specs.Prelude.{IfSome, Option, Some, None, Bool, true}
 use Rattle.std.specs.List.{slice_range}
 use Rattle.std.proofs.lemmas.List.{drop-take, take-take, drop-drop}
-use Rattle.ghost_model.specs.Runs.{Run, HasRecords, Stores, record_at, records_in, page_of, run_pages, run_end, per_page, cell_in, id_at, ids_from}
+use Rattle.ghost_model.specs.forms.Runs.{Run, HasRecords, Stores, record_at, records_in, page_of, run_pages, run_end, per_page, cell_in, id_at, ids_from}
 use Rattle.edge_traits.specs.Devices.{Device, ChangesOnly, IsErased}
 use Rattle.flash_pages.specs.Runs.{HasRun, run_of}
 use Rattle.std.proofs.lemmas.Nat.{le-div, div-add-mod'}

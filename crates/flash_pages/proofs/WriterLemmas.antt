@@ -5,7 +5,7 @@ use Rattle.std.proofs.lemmas.Bool.{cases_lt}
 use Rattle.std.proofs.lemmas.List.{take-take, drop-drop, drop_at, drop-replicate, get_or_append_left, get_or_push, length-append}
 use Rattle.std.proofs.lemmas.Slice.{between_is}
 use Rattle.std.proofs.lemmas.Nat.{div-mul-add, mod-mul-add, div_below, div-add-mod', mul-add-lt}
-use Rattle.ghost_model.specs.Runs.{Run, Stores, per_page, cell_in, record_at, records_in}
+use Rattle.ghost_model.specs.forms.Runs.{Run, Stores, per_page, cell_in, record_at, records_in}
 use Rattle.flash_pages.specs.Writing.{IsWriting}
 
 -- a part below a place is the same where all below it is

@@ -1,6 +1,6 @@
 -- What a cursor has left of its list, and what its next call gives.
 use Rattle.std.specs.Prelude.{◌≡◌, ℕ, ◌+◌, ◌-◌, ◌/◌, ◌^◌, ◌<◌, ◌≤◌, ◌&&◌, Bool, ⊤, List, [], ◌∷◌, nat_lt, Option, Some, None, Result, Ok, Err, IfSome}
-use Rattle.ghost_model.specs.Runs as runs
+use Rattle.ghost_model.specs.forms.Runs as runs
 use Rattle.edge_traits.specs.Devices.{Device}
 use Rattle.flash_pages.specs.declared.cursor.RunCursor.{RunCursor}
 use Rattle.flash_pages.specs.declared.fault.PageFault.{PageFault}

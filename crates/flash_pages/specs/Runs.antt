@@ -1,6 +1,6 @@
 -- Runs on a device: which may be read, and what a reader has of their pages.
 use Rattle.std.specs.Prelude.{◌≡◌, ℕ, ◌^◌, ◌<◌, ◌≤◌, Bool, true, List, IfSome}
-use Rattle.ghost_model.specs.Runs as runs
+use Rattle.ghost_model.specs.forms.Runs as runs
 use Rattle.edge_traits.specs.Devices.{Device}
 use Rattle.flash_pages.specs.declared.run.Run.{Run}
 use Rattle.flash_pages.specs.declared.held.Held.{Held}

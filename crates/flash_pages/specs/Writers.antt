@@ -1,6 +1,6 @@
 -- A writer's next page, and what its calls do.
 use Rattle.std.specs.Prelude.{◌≡◌, ℕ, ◌+◌, ◌^◌, ◌<◌, Bool, if◌then◌else◌, List, nat_eq, nat_lt}
-use Rattle.ghost_model.specs.Runs as runs
+use Rattle.ghost_model.specs.forms.Runs as runs
 use Rattle.edge_traits.specs.Devices.{Device}
 use Rattle.flash_pages.specs.declared.run.Run.{Run}
 use Rattle.flash_pages.specs.declared.writer.RunWriter.{RunWriter}

@@ -1,6 +1,6 @@
 -- A run that is being written: so many whole pages, and some records in a buffer for the next one.
 use Rattle.std.specs.Prelude.{◌≡◌, ℕ, ◌+◌, ◌-◌, ◌*◌, ◌/◌, ◌%◌, ◌<◌, ◌≤◌, ◌&&◌, Bool, true, false, if◌then◌else◌, List, [], length, drop, replicate, get_or, nat_eq}
-use Rattle.ghost_model.specs.Runs as runs
+use Rattle.ghost_model.specs.forms.Runs as runs
 use Rattle.edge_traits.specs.Devices.{Device}
 
 -- a page is erased with its block before it is written: it is the first one of its block, and that is asked for

@@ -1,7 +1,7 @@
 //! Records in a page, and numbers in a record.
 
 ghost use Rattle.std.specs.Prelude.{◌≡◌, ◌<◌, ◌≤◌, ◌+◌, ◌*◌, ◌/◌, ◌^◌, length};
-ghost use Rattle.ghost_model.specs.Runs.{cell_in, number_in, found_in};
+ghost use Rattle.ghost_model.specs.forms.Runs.{cell_in, number_in, found_in};
 
 /// The record in a slot of a page.
 pub fn cell_of(bytes: &[u8; 2048], width: u32, slot: u32) -> &[u8]

@@ -1,8 +1,8 @@
 //! A run that is written whole.
 
 ghost use Rattle.std.specs.Prelude.{◌≡◌, ◌<◌, ◌≤◌, ◌+◌, ◌^◌, [], true, ℕ, List, length, map, get_or, IfOk, OnOk, OnErr};
-ghost use Rattle.ghost_model.specs.Causes.{HasCause};
-ghost use Rattle.ghost_model.specs.Runs.{Stores, pages_of, number_cell};
+ghost use Rattle.ghost_model.specs.core.Causes.{HasCause};
+ghost use Rattle.ghost_model.specs.forms.Runs.{Stores, pages_of, number_cell};
 ghost use Rattle.edge_traits.specs.Devices.{Counts, ChangesOnly};
 ghost use Rattle.flash_pages.specs.Filling.{CanFill};
 ghost use Rattle.flash_pages.specs.Runs.{run_of};

@@ -1,7 +1,7 @@
 //! One record of a run.
 
 ghost use Rattle.std.specs.Prelude.{◌≡◌, ◌<◌, ◌≤◌, ◌+◌, ◌&&◌, true, Some, None, length, nat_le, OnOk, OnErr};
-ghost use Rattle.ghost_model.specs.Runs.{record_at, page_of};
+ghost use Rattle.ghost_model.specs.forms.Runs.{record_at, page_of};
 ghost use Rattle.edge_traits.specs.Devices.{next_if, KeepsPages};
 ghost use Rattle.flash_pages.specs.Faults.{PageCause, BlamesNoSlot, EndsAtFault};
 ghost use Rattle.flash_pages.specs.Holding.{reads};

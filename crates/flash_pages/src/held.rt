@@ -1,7 +1,7 @@
 //! Which page stands in a buffer.
 
 ghost use Rattle.std.specs.Prelude.{◌≡◌, ◌<◌, ◌≤◌, ◌+◌, ◌&&◌, Bool, true, Some, None, not, nat_le, OnOk, OnErr};
-ghost use Rattle.ghost_model.specs.Causes.{HasCause};
+ghost use Rattle.ghost_model.specs.core.Causes.{HasCause};
 ghost use Rattle.edge_traits.specs.Devices.{next_if, KeepsPages};
 ghost use Rattle.flash_pages.specs.Runs.{IsHeld};
 ghost use Rattle.flash_pages.specs.Holding.{reads};

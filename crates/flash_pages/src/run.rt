@@ -1,7 +1,7 @@
 //! Runs and lists, by their places.
 
 ghost use Rattle.std.specs.Prelude.{◌≡◌, ◌+◌, ◌*◌, ◌/◌, ◌%◌, ◌<◌, ◌≤◌};
-ghost use Rattle.ghost_model.specs.Runs.{per_page, page_of, slot_of};
+ghost use Rattle.ghost_model.specs.forms.Runs.{per_page, page_of, slot_of};
 ghost use Rattle.edge_traits.specs.Devices.{Device};
 ghost use Rattle.flash_pages.specs.Runs.{run_of};
 

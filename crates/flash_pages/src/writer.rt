@@ -1,9 +1,9 @@
 //! A run that is written, record by record.
 
 ghost use Rattle.std.specs.Prelude.{◌≡◌, ◌<◌, ◌≤◌, ◌+◌, ◌-◌, ◌*◌, ◌/◌, ◌^◌, ◌++◌, ◌∷◌, [], true, false, Bool, List, ℕ, length, take, drop, replicate, if◌then◌else◌, IfOk, OnOk, OnErr};
-ghost use Rattle.ghost_model.specs.Causes.{HasCause};
+ghost use Rattle.ghost_model.specs.core.Causes.{HasCause};
 ghost use Rattle.std.specs.List.{slice_range};
-ghost use Rattle.ghost_model.specs.Runs.{Stores};
+ghost use Rattle.ghost_model.specs.forms.Runs.{Stores};
 ghost use Rattle.edge_traits.specs.Devices.{Counts, KeepsPages, ChangesOnly};
 ghost use Rattle.flash_pages.specs.Writing.{CanWritePage, IsEntered, reach, page_calls};
 

@@ -8,11 +8,11 @@ use Rattle.std.specs.Cmp.{nat_cmp_is, first_so, second_so}
 use Rattle.std.specs.Cmp.Lexicographic.{slice_cmp}
 use Rattle.std.specs.List.{list_all}
 use Rattle.std.specs.Int.{bytes_high_first, byte_at, to_be_bytes}
-use Rattle.ghost_model.specs.Schema.{Kind, Integer, Chars}
-use Rattle.ghost_model.specs.Values.{Value, Number, Text}
-use Rattle.ghost_model.specs.Tokens.{is_printable}
-use Rattle.ghost_model.specs.Cells.{encode_cell, above_lowest}
-use Rattle.ghost_model.specs.Database.{is_of_kind, fits_integer, order_of}
+use Rattle.ghost_model.specs.core.Schema.{Kind, Integer, Chars}
+use Rattle.ghost_model.specs.core.Values.{Value, Number, Text}
+use Rattle.ghost_model.specs.refusals.Tokens.{is_printable}
+use Rattle.ghost_model.specs.forms.Cells.{encode_cell, above_lowest}
+use Rattle.ghost_model.specs.core.Database.{is_of_kind, fits_integer, order_of}
 use Rattle.ghost_base.specs.CellLaws.{byte_order}
 use Rattle.ghost_base.proofs.IntegerCells.{above_fits}
 

@@ -3,11 +3,12 @@ use Rattle.std.proofs.Common.{◌≡◌, ℕ, ◌-◌, ◌≤◌, Bool, true, fa
 use Rattle.std.specs.List.{list_all}
 use Rattle.std.specs.Cmp.{first_so, second_so}
 use Rattle.std.proofs.lemmas.List.{length-replicate}
-use Rattle.ghost_model.specs.Schema.{Kind, Integer, Chars}
-use Rattle.ghost_model.specs.Values.{Value, Number, Text}
-use Rattle.ghost_model.specs.Tokens.{is_printable}
-use Rattle.ghost_model.specs.Cells.{cell_width, encode_cell, decode_cell, padded, text_in, is_text_cell, from_lowest}
-use Rattle.ghost_model.specs.Database.{is_of_kind}
+use Rattle.ghost_model.specs.core.Schema.{Kind, Integer, Chars}
+use Rattle.ghost_model.specs.core.Values.{Value, Number, Text}
+use Rattle.ghost_model.specs.refusals.Tokens.{is_printable}
+use Rattle.ghost_model.specs.forms.Cells.{cell_width, encode_cell, padded}
+use Rattle.ghost_model.specs.readings.CellReading.{decode_cell, text_in, is_text_cell, from_lowest}
+use Rattle.ghost_model.specs.core.Database.{is_of_kind}
 use Rattle.ghost_base.specs.CellLaws.{IsCellOf}
 use Rattle.ghost_base.proofs.IntegerCells.{integer_read_back, integer_spelled, from_above, above_fits, from_fits, spelled_fits}
 use Rattle.ghost_base.proofs.TextCells.{text_of_padded, padded_is_text_cell, text_spelled, text_is_short}

@@ -4,8 +4,9 @@ use Rattle.std.specs.List.{list_all}
 use Rattle.std.specs.Int.{to_be_bytes, from_be_bytes}
 use Rattle.std.proofs.lemmas.Nat.{from_be_bytes-to_be_bytes_8, be_bytes_8}
 use Rattle.std.specs.Cmp.{first_so, second_so}
-use Rattle.ghost_model.specs.Cells.{above_lowest, from_lowest}
-use Rattle.ghost_model.specs.Database.{fits_integer}
+use Rattle.ghost_model.specs.forms.Cells.{above_lowest}
+use Rattle.ghost_model.specs.readings.CellReading.{from_lowest}
+use Rattle.ghost_model.specs.core.Database.{fits_integer}
 
 pub above_fits : (z : ℤ) → IsTrue (fits_integer z) → above_lowest z < 2 ^ 64
 above_fits (pos n) h = let f : n < 2 ^ 63 = ltb-true n (2 ^ 63) h in omega arith

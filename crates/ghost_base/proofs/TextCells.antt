@@ -5,8 +5,9 @@ use Rattle.std.specs.Cmp.{first_so, second_so}
 use Rattle.std.proofs.lemmas.List.Sums.{take_while-cons}
 use Rattle.std.proofs.lemmas.List.Folds.{length-prefix_len}
 use Rattle.std.proofs.lemmas.Bool.Decides.{nat_tests}
-use Rattle.ghost_model.specs.Tokens.{is_printable}
-use Rattle.ghost_model.specs.Cells.{is_not_zero, padded, text_in, is_text_cell}
+use Rattle.ghost_model.specs.refusals.Tokens.{is_printable}
+use Rattle.ghost_model.specs.forms.Cells.{padded}
+use Rattle.ghost_model.specs.readings.CellReading.{is_not_zero, text_in, is_text_cell}
 
 printable_is_not_zero : (x : ℕ) → is_printable x ≡ true → is_not_zero x ≡ true
 printable_is_not_zero x h = grind (arith, nat_tests)

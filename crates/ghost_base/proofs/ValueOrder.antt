@@ -4,8 +4,8 @@ use Rattle.std.proofs.lemmas.Cmp.{nat_list_cmp_total, int_cmp_total}
 use Rattle.std.proofs.lemmas.Map.Lookups.{exact_bytes, exact_signed}
 use Rattle.std.specs.Ordering.{ordering_reverse}
 use Rattle.std.specs.Cmp.{IsTotalOrder}
-use Rattle.ghost_model.specs.Values.{Value, Number, Text}
-use Rattle.ghost_model.specs.Database.{order_of}
+use Rattle.ghost_model.specs.core.Values.{Value, Number, Text}
+use Rattle.ghost_model.specs.core.Database.{order_of}
 
 reversed : (a b : Value) → order_of a b ≡ ordering_reverse (order_of b a)
 reversed (Number a) (Number b) = int_cmp_total.antisymm a b

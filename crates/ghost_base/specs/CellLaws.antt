@@ -7,10 +7,11 @@ use Rattle.std.specs.declared.cmp.Ordering.{Ordering}
 use Rattle.std.specs.declared.cmp.Ordering.TheVariants.{Equal}
 use Rattle.std.specs.Cmp.{IsTotalOrder}
 use Rattle.std.specs.Cmp.Lexicographic.{slice_cmp}
-use Rattle.ghost_model.specs.Schema.{Kind}
-use Rattle.ghost_model.specs.Values.{Value}
-use Rattle.ghost_model.specs.Cells.{encode_cell, decode_cell}
-use Rattle.ghost_model.specs.Database.{is_of_kind, order_of}
+use Rattle.ghost_model.specs.core.Schema.{Kind}
+use Rattle.ghost_model.specs.core.Values.{Value}
+use Rattle.ghost_model.specs.forms.Cells.{encode_cell}
+use Rattle.ghost_model.specs.readings.CellReading.{decode_cell}
+use Rattle.ghost_model.specs.core.Database.{is_of_kind, order_of}
 
 -- a value, and bytes that spell it in a column of a kind
 pub record IsCellOf (kind : Kind) (value : Value) (bytes : List ℕ) : Type 0 where

@@ -1,7 +1,7 @@
 -- What the kinds, values and operators of the code stand for, in the words of the definitions.
-use Rattle.ghost_model.specs.Schema as schema
-use Rattle.ghost_model.specs.Values as values
-use Rattle.ghost_model.specs.Query as query
+use Rattle.ghost_model.specs.core.Schema as schema
+use Rattle.ghost_model.specs.core.Values as values
+use Rattle.ghost_model.specs.core.Query as query
 use Rattle.ghost_base.specs.declared.kind.Kind.{Kind}
 use Rattle.ghost_base.specs.declared.kind.Kind.TheVariants as kind
 use Rattle.ghost_base.specs.declared.operator.Operator.{Operator}

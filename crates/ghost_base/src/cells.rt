@@ -3,10 +3,11 @@
 ghost use Rattle.std.specs.Prelude.{◌≡◌, ◌≤◌, ◌++◌, ◌-◌, ◌==◌, length, replicate, IsTrue, IfSome, Some, option_map};
 ghost use Rattle.std.specs.Int.{from_be_bytes, w64};
 ghost use Rattle.std.specs.List.{list_all};
-ghost use Rattle.ghost_model.specs.Cells as cells;
-ghost use Rattle.ghost_model.specs.Tokens.{is_printable};
+ghost use Rattle.ghost_model.specs.forms.Cells as cells;
+ghost use Rattle.ghost_model.specs.readings.CellReading as reading;
+ghost use Rattle.ghost_model.specs.refusals.Tokens.{is_printable};
 ghost use Rattle.ghost_base.specs.Views.{kind_of, value_of};
-ghost use Rattle.ghost_model.specs.Database as database;
+ghost use Rattle.ghost_model.specs.core.Database as database;
 
 use crate::limits::MAX_CHARS;
 use crate::text::put_padded;
@@ -45,7 +46,7 @@ pub fn encode_cell(kind: Kind, value: &Value, out: &mut [u8])
     requires kind { IsTrue (database.is_of_kind (kind_of kind) (value_of value.now)) }
     requires width { length out.old ≡ cells.cell_width (kind_of kind) }
     ensures cell { out.new ≡ cells.encode_cell (kind_of kind) (value_of value.now) }
-    ensures spells { cells.decode_cell (kind_of kind) out.new ≡ Some (value_of value.now) }
+    ensures spells { reading.decode_cell (kind_of kind) out.new ≡ Some (value_of value.now) }
 {
     match (kind, value) {
         (Kind::Integer, Value::Int(number)) => {
@@ -60,7 +61,7 @@ pub fn encode_cell(kind: Kind, value: &Value, out: &mut [u8])
 #[tactic(auto, using(crate::proofs::CellSpelling::spells_a_cell))]
 pub fn decode_cell(kind: Kind, bytes: &[u8]) -> Option<Value>
     requires { cells.cell_width (kind_of kind) ≤ MAX_CHARS }
-    ensures value { option_map value_of result ≡ cells.decode_cell (kind_of kind) bytes.now }
+    ensures value { option_map value_of result ≡ reading.decode_cell (kind_of kind) bytes.now }
     ensures kind { IfSome result (λ value. IsTrue (database.is_of_kind (kind_of kind) (value_of value))) }
     ensures cell { IfSome result (λ value. cells.encode_cell (kind_of kind) (value_of value) ≡ bytes.now) }
 {
@@ -92,7 +93,7 @@ fn above_lowest(number: i64) -> u64
 
 /// The integer that is so far above the lowest.
 fn from_lowest(distance: u64) -> i64
-    ensures { result ≡ cells.from_lowest distance }
+    ensures { result ≡ reading.from_lowest distance }
 {
     if distance >= 1u64 << 63 {
         (distance - (1u64 << 63)) as i64
@@ -113,14 +114,14 @@ fn distance_of(cell: &[u8]) -> u64
 
 /// The bytes before the first zero byte.
 fn text_in(cell: &[u8]) -> &[u8]
-    ensures { result.now ≡ cells.text_in cell.now }
+    ensures { result.now ≡ reading.text_in cell.now }
 {
     &cell[..text_len(cell)]
 }
 
 /// How many bytes stand before the first zero byte.
 fn text_len(cell: &[u8]) -> usize
-    ensures { result ≡ length (cells.text_in cell.now) }
+    ensures { result ≡ length (reading.text_in cell.now) }
 {
     cell.iter().take_while(|byte| **byte != 0).count()
 }

@@ -1,7 +1,7 @@
 //! The operators between a column and a literal.
 
 ghost use Rattle.std.specs.Prelude.{◌≡◌};
-ghost use Rattle.ghost_model.specs.Database as database;
+ghost use Rattle.ghost_model.specs.core.Database as database;
 ghost use Rattle.ghost_base.specs.Views.{operator_of, value_of};
 
 use crate::value::{Value, compare};

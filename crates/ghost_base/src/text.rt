@@ -6,7 +6,7 @@ ghost use Rattle.std.specs.Cmp.{nat_eq_equiv, partial_equiv_from_equiv, unsigned
 ghost use Rattle.std.specs.Ordering.{as_partial_cmp, nat_cmp};
 ghost use Rattle.std.proofs.Common.{refl};
 ghost use Rattle.std.proofs.lemmas.Cmp.{nat_list_cmp_total};
-ghost use Rattle.ghost_model.specs.Cells.{padded};
+ghost use Rattle.ghost_model.specs.forms.Cells.{padded};
 ghost use Rattle.ghost_base.specs.CellLaws.{byte_order};
 
 use std::cmp::Ordering;

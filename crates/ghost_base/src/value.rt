@@ -1,7 +1,7 @@
 //! Values, and their order.
 
 ghost use Rattle.std.specs.Prelude.{◌≡◌, pos};
-ghost use Rattle.ghost_model.specs.Database.{order_of};
+ghost use Rattle.ghost_model.specs.core.Database.{order_of};
 ghost use Rattle.ghost_base.specs.Views.{value_of};
 
 use crate::Text64;

@@ -2,14 +2,13 @@
 -- tables below it, each with its parent in FROM too; its columns are columns of FROM tables; a join is of a foreign key and
 -- the identifier that it names. And the rows of an answer come row by row of the top table.
 use Rattle.std.specs.Prelude.{◌≡◌, ◌≢◌, ℕ, suc, ◌≤◌, Bool, false, ◌&&◌, ◌||◌, List, [], ◌++◌, length, flat_map, Some, is_some, IsTrue}
-use Rattle.std.specs.List.{list_all}
-use Rattle.ghost_model.specs.Schema.{Schema, column_at, parent}
-use Rattle.ghost_model.specs.SchemaTrees.{IsTree}
-use Rattle.ghost_model.specs.Values.{Row}
-use Rattle.ghost_model.specs.Database.{IsAtOrBelow}
-use Rattle.ghost_model.specs.Query.{Query, Field, Condition, Compare, Join}
-use Rattle.ghost_model.specs.QueryMeaning.{is_among, has_repeat, is_key_to, top_of, Means}
-use Rattle.ghost_model.specs.Replies.{identifiers_from}
+use Rattle.std.specs.List.{list_all, range_with_len}
+use Rattle.ghost_model.specs.core.Schema.{Schema, column_at, parent}
+use Rattle.ghost_model.specs.laws.SchemaTrees.{IsTree}
+use Rattle.ghost_model.specs.core.Values.{Row}
+use Rattle.ghost_model.specs.laws.MeaningLaws.{IsAtOrBelow}
+use Rattle.ghost_model.specs.core.Query.{Query, Field, Condition, Compare, Join, is_among, top_of}
+use Rattle.ghost_model.specs.refusals.QueryMeaning.{has_repeat, is_reference_to, Means}
 
 -- whether a column is one of a FROM table
 abbrev pub is_column_from : Schema → (from : List ℕ) → Field → Bool
@@ -19,7 +18,7 @@ abbrev pub is_condition_from : Schema → (from : List ℕ) → Condition → Bo
 is_condition_from schema from (Compare column operator literal) = is_column_from schema from column
 is_condition_from schema from (Join one other) =
     is_column_from schema from one && is_column_from schema from other
-    && (is_key_to schema one other || is_key_to schema other one)
+    && (is_reference_to schema one other || is_reference_to schema other one)
 
 pub record HasParentFrom (schema : Schema) (from : List ℕ) (table : ℕ) : Type 0 where
   pub above : ℕ
@@ -42,6 +41,6 @@ AcceptedQueriesAreFollowed =
 
 -- the rows for the first identifiers, and those for one more
 pub record RowsComeOneByOne : Type 0 where
-  pub none : (rows : ℕ → List Row) → flat_map rows (identifiers_from 1 0) ≡ []
+  pub none : (rows : ℕ → List Row) → flat_map rows (range_with_len 1 0) ≡ []
   pub more : (rows : ℕ → List Row) (count : ℕ)
-      → flat_map rows (identifiers_from 1 (suc count)) ≡ flat_map rows (identifiers_from 1 count) ++ rows (suc count)
+      → flat_map rows (range_with_len 1 (suc count)) ≡ flat_map rows (range_with_len 1 count) ++ rows (suc count)

@@ -1,23 +1,23 @@
 -- What a row of an answer holds: one value for each selected column, of that column's kind. So a row has at most 32 values,
 -- and its line is short. The same holds of what the key answers by replies to all asks whose cells spelled values.
-use Rattle.std.specs.Prelude.{◌≡◌, ℕ, suc, ◌≤◌, Bool, true, nat_le, List, map, length, Some, slice_get, IsTrue, Ok}
+use Rattle.std.specs.Prelude.{◌≡◌, ℕ, suc, ◌≤◌, Bool, true, nat_le, List, map, length, Some, is_some, slice_get, IsTrue, Ok}
 use Rattle.std.specs.List.{list_all}
-use Rattle.ghost_model.specs.Schema.{Schema, Kind}
-use Rattle.ghost_model.specs.SchemaTrees.{IsTree}
-use Rattle.ghost_model.specs.Values.{Row, Database}
-use Rattle.ghost_model.specs.Database.{IsDatabase, row_count}
-use Rattle.ghost_model.specs.Query.{Query}
-use Rattle.ghost_model.specs.QueryMeaning.{top_of, Means}
-use Rattle.ghost_model.specs.Asks.{kind_at, kinds_of, asks_of, asked_of}
-use Rattle.ghost_model.specs.Split.{are_of_kinds}
-use Rattle.ghost_model.specs.Replies.{Reply, replies}
-use Rattle.ghost_model.specs.QueryReading.{reading}
-use Rattle.ghost_model.specs.Channel.{Catalog, Journal}
-use Rattle.ghost_model.specs.Frames.{AreBytes}
-use Rattle.ghost_model.specs.Moves.{taken}
-use Rattle.ghost_model.specs.Lines.{ended_of, all_done}
-use Rattle.ghost_model.specs.Printed.{field_text, row_line}
-use Rattle.ghost_laws.specs.Scans.{led_value, row_along, answer_along, known_row, known_answer}
+use Rattle.ghost_model.specs.core.Schema.{Schema, Kind}
+use Rattle.ghost_model.specs.laws.SchemaTrees.{IsTree}
+use Rattle.ghost_model.specs.core.Values.{Row, Database}
+use Rattle.ghost_model.specs.core.Database.{IsDatabase, row_count}
+use Rattle.ghost_model.specs.core.Query.{Query, top_of}
+use Rattle.ghost_model.specs.refusals.QueryMeaning.{Means}
+use Rattle.ghost_model.specs.core.Asks.{kind_at, kinds_of, asks_of, asked_of}
+use Rattle.ghost_model.specs.core.Split.{are_of_kinds}
+use Rattle.ghost_model.specs.core.Replies.{Reply, replies}
+use Rattle.ghost_model.specs.readings.QueryReading.{reading}
+use Rattle.ghost_model.specs.core.Channel.{Catalog, Journal}
+use Rattle.ghost_model.specs.forms.Frames.{AreBytes}
+use Rattle.ghost_model.specs.core.Moves.{taken}
+use Rattle.ghost_model.specs.core.Lines.{ended_of, all_done}
+use Rattle.ghost_model.specs.core.Printed.{field_text, row_line}
+use Rattle.ghost_laws.specs.Scans.{led_value, row_along, answer_along, known_along, stands_along, known_row, known_answer}
 
 -- the kinds of the selected columns
 abbrev pub kinds_selected : Schema → Query → List Kind
@@ -54,12 +54,16 @@ RepliesAreWhole =
     (catalog : Catalog) (texts : List (List ℕ)) (journal : Journal) (place : ℕ) (written : List ℕ) (asked : Query)
     → AreBytes (taken journal)
     → slice_get texts place ≡ Some written → reading catalog.schema written ≡ Ok asked
-    → all_done catalog.schema asked (ended_of catalog texts journal (suc place)) ≡ true
+    → all_done catalog.schema asked (ended_of catalog (asked_of catalog.schema texts) journal (suc place)) ≡ true
     → AreWholeReplies catalog.schema asked (replies catalog (asked_of catalog.schema texts) journal (suc place))
 
+-- no selected value is missing in a row that stands in the replies
 pub record AreKnown (schema : Schema) (database : Database) (asked : Query) (given : List Reply) (top : ℕ) : Type 0 where
   pub row : (identifier : ℕ) → 1 ≤ identifier → identifier ≤ row_count database top
       → IsTrue (list_all (has_selected schema asked) (known_row schema database asked given top identifier))
+  pub none_missing : (identifier : ℕ) → 1 ≤ identifier → identifier ≤ row_count database top
+      → IsTrue (list_all (stands_along schema database given top identifier) asked.from)
+      → IsTrue (list_all (λ one. is_some (known_along schema database given top identifier one)) asked.select)
   pub answer : IsTrue (list_all (has_selected schema asked) (known_answer schema database asked given top))
 
 abbrev pub KnownAnswersHaveSelected : Type 0

@@ -3,6 +3,7 @@
 use Rattle.std.proofs.Common.{◌≡◌, ℕ, suc, ◌+◌, ◌-◌, ◌*◌, ◌<◌, ◌≤◌, ◌^◌, nat_lt, Bool, true, false, not, ◌&&◌, ◌||◌, ◌==◌, cond, if◌then◌else◌, List, [], ◌∷◌, ◌++◌, length, map, flat_map, find, position, Option, Some, None, is_none, option_map, Ok, slice_get, bytes_eq, codes, refl, sym, ap, ◌∙◌, subst, append_assoc, arith, rules}
 use Rattle.std.specs.Prelude.{fold, decimal}
 use Rattle.std.specs.List.{list_any, list_all, position_from}
+use Rattle.std.specs.Option.{option_or, option_map_or}
 use Rattle.std.proofs.lemmas.Bool.{and_parts, or_from, not-true}
 use Rattle.std.proofs.lemmas.Bool.Decides.{nat_tests}
 use Rattle.std.proofs.lemmas.Iterator.Adapters.{position_from-zero}
@@ -11,21 +12,23 @@ use Rattle.std.proofs.lemmas.Fmt.{digits_decimal, digits_value-decimal}
 use Rattle.std.proofs.lemmas.List.{length-map}
 use Rattle.std.proofs.lemmas.Option.{slice_get-map}
 use Rattle.std.proofs.lemmas.Slice.Eq.{bytes_eq-Decides}
-use Rattle.ghost_model.specs.Schema as schema
-use Rattle.ghost_model.specs.Schema.{Schema, Column, Chars, places_from}
-use Rattle.ghost_model.specs.Query.{Field}
-use Rattle.ghost_model.specs.Tokens.{number_of, is_between, Keyword, Symbol, Word, Reserved, Name, Digits, Open, Closing, Comma, Semicolon, End, Char, Create, Hidden, Integer, Key, Primary, References, Table, Read, read, symbol_of, symbols, tokens_from, token_at, word_at, digits_at, symbol_of_word, keyword_of, keyword_or, other_reserved, in_lower_case, begins_name, is_space, is_digit, is_name_byte}
-use Rattle.ghost_model.specs.Spelled.{is_spelled, is_reserved, is_name}
-use Rattle.ghost_model.specs.SchemaGrammar.{To, ColumnText, CharColumn, IntegerColumn, TableText, SchemaText, spell_hidden, spell_id, spell_column, spell_heading, spell_table}
-use Rattle.ghost_model.specs.SchemaPlaces.{syntax_of}
-use Rattle.ghost_model.specs.SchemaMeaning.{table_named, columns_written, column_of, table_of, schema_of}
-use Rattle.ghost_model.specs.SchemaFaults.{SchemaFault, Limit, DuplicateName, NoId, TwoParents, Cycle, UnknownTable, is_long, is_over, is_table_over, is_column_over, column_name, columns_at, repeats, table_repeats, column_repeats, is_duplicate, fields_from, fields, is_identifier, is_primary, table_lacks_id, lacks_id, refers_nowhere, is_unknown, keys_naming, is_shared, returns, places_of, roots_of, duplicate_in, unknown_in, wrong_roots, or_else, schema_fault, schema_or, judged, schema_reading, Breaks, MeansSchema}
-use Rattle.ghost_model.specs.Catalog.{name_or_none, reference_text, hidden_text, column_text, table_text, canonical_text}
-use Rattle.ghost_model.specs.CatalogLaws.{CanonicalTextMeansItsSchema, ACatalogOfEachText}
+use Rattle.ghost_model.specs.core.Schema as schema
+use Rattle.ghost_model.specs.core.Schema.{Schema, Column, Chars, places_from, places_of}
+use Rattle.ghost_model.specs.core.Query.{Field}
+use Rattle.ghost_model.specs.refusals.Tokens.{number_of, is_between, Keyword, Symbol, Word, Reserved, Name, Digits, Open, Closing, Comma, Semicolon, EndOfText, CharWord, CreateWord, HiddenWord, IntegerWord, PrimaryKeyWord, PrimaryWord, ReferencesWord, TableWord, Read, read, symbol_of, symbols, tokens_from, token_at, word_at, digits_at, symbol_of_word, keyword_of, other_reserved, in_lower_case, begins_name, is_space, is_digit, is_name_byte}
+use Rattle.ghost_model.specs.laws.Spelled.{is_spelled, is_reserved, is_name}
+use Rattle.ghost_model.specs.refusals.SchemaGrammar.{To, ColumnDeclaration, CharColumn, IntegerColumn, TableText, SchemaText, spell_hidden, spell_id, spell_column, spell_heading, spell_table}
+use Rattle.ghost_model.specs.readings.SchemaPlaces.{syntax_of}
+use Rattle.ghost_model.specs.refusals.SchemaMeaning.{declared_table, columns_written, column_of, table_of, schema_of}
+use Rattle.ghost_model.specs.refusals.SchemaFaults.{Limit, NoId, TwoParents, Cycle, is_long, is_over, is_table_over, is_column_over, declared_name, columns_at, repeats, table_repeats, column_repeats, is_duplicate, fields_from, fields, is_identifier, is_primary, table_lacks_id, lacks_id, refers_nowhere, is_unknown, references_naming, is_shared, returns, roots_of, duplicate_at, unknown_at, wrong_roots, rules_of_schemas as schema_rules, MeansSchema}
+use Rattle.ghost_model.specs.readings.SchemaReading.{schema_or, judged, schema_reading}
+use Rattle.ghost_model.specs.refusals.Rules.{broken_if, first_broken, MeetsAll}
+use Rattle.ghost_model.specs.forms.Catalog.{name_or_none, reference_text, hidden_text, column_text, table_text, canonical_text}
+use Rattle.ghost_model.specs.laws.CatalogLaws.{CanonicalTextMeansItsSchema, ACatalogOfEachText}
 use Rattle.ghost_model.proofs.TokenLemmas.{kinds_anywhere, kinds_after, take_while_all, one_token}
 use Rattle.ghost_model.proofs.SchemaLemmas.{schema_places}
-use Rattle.ghost_model.proofs.SchemaRuleLemmas.{all_rules, one_schema}
-use Rattle.ghost_model.proofs.SchemaTreeLemmas.{never_true, neither, no_first, none_at, column_spelled, column_named, length_within, column_kept, table_spelled, table_named_well, identified, known, tables_spelled}
+use Rattle.ghost_model.proofs.SchemaRuleLemmas.{kept_rules, one_schema}
+use Rattle.ghost_model.proofs.SchemaTreeLemmas.{neither, none_at, column_spelled, column_named, length_within, column_kept, table_spelled, table_named_well, identified, known, tables_spelled}
 
 -- the decimal digits of a length
 
@@ -69,7 +72,7 @@ digit_begins_no_name : (b : ℕ) → is_digit b ≡ true → begins_name b ≡ f
 digit_begins_no_name b h = grind (arith, nat_tests)
 
 free_word : (word : List ℕ) (keyword : Option Keyword) (among : Bool) → (not (is_none keyword) || among) ≡ false
-    → keyword_or (if among then Reserved else Name word) keyword ≡ Name word
+    → option_map_or Word keyword (if among then Reserved else Name word) ≡ Name word
 free_word word None false e = refl
 free_word word None true e = cc
 free_word word (Some keyword) among e = cc
@@ -103,17 +106,17 @@ data AfterColumn : List ℕ → Type 0 where
   comma : (later : List ℕ) → AfterColumn (44 ∷ later)
   closing : (later : List ℕ) → AfterColumn (41 ∷ later)
 
-create_first : (rest : List ℕ) → symbols (codes "CREATE TABLE " ++ rest) ≡ Word Create ∷ Word Table ∷ symbols rest
+create_first : (rest : List ℕ) → symbols (codes "CREATE TABLE " ++ rest) ≡ Word CreateWord ∷ Word TableWord ∷ symbols rest
 unfolding tokens_from
-create_first rest = ap (λ (xs : List Symbol). Word Create ∷ Word Table ∷ xs) (kinds_anywhere 0 13 0 rest)
+create_first rest = ap (λ (xs : List Symbol). Word CreateWord ∷ Word TableWord ∷ xs) (kinds_anywhere 0 13 0 rest)
 
 id_first : (rest : List ℕ) → AfterColumn rest
-    → symbols (codes " (id INTEGER PRIMARY KEY" ++ rest) ≡ Open ∷ Name (codes "id") ∷ Word Integer ∷ Word Primary ∷ Word Key ∷ symbols rest
+    → symbols (codes " (id INTEGER PRIMARY KEY" ++ rest) ≡ Open ∷ Name (codes "id") ∷ Word IntegerWord ∷ Word PrimaryWord ∷ Word PrimaryKeyWord ∷ symbols rest
 unfolding tokens_from
 id_first rest (comma later) =
-    ap (λ (xs : List Symbol). Open ∷ Name (codes "id") ∷ Word Integer ∷ Word Primary ∷ Word Key ∷ Comma ∷ xs) (kinds_anywhere 0 25 1 later)
+    ap (λ (xs : List Symbol). Open ∷ Name (codes "id") ∷ Word IntegerWord ∷ Word PrimaryWord ∷ Word PrimaryKeyWord ∷ Comma ∷ xs) (kinds_anywhere 0 25 1 later)
 id_first rest (closing later) =
-    ap (λ (xs : List Symbol). Open ∷ Name (codes "id") ∷ Word Integer ∷ Word Primary ∷ Word Key ∷ Closing ∷ xs) (kinds_anywhere 0 25 1 later)
+    ap (λ (xs : List Symbol). Open ∷ Name (codes "id") ∷ Word IntegerWord ∷ Word PrimaryWord ∷ Word PrimaryKeyWord ∷ Closing ∷ xs) (kinds_anywhere 0 25 1 later)
 
 end_first : (rest : List ℕ) → symbols (codes ");" ++ 10 ∷ rest) ≡ Closing ∷ Semicolon ∷ symbols rest
 unfolding tokens_from
@@ -123,39 +126,39 @@ comma_first : (rest : List ℕ) → symbols (codes ", " ++ rest) ≡ Comma ∷ s
 unfolding tokens_from
 comma_first rest = ap (λ (xs : List Symbol). Comma ∷ xs) (kinds_anywhere 0 2 0 rest)
 
-char_first : (rest : List ℕ) → symbols (codes " CHAR(" ++ rest) ≡ Word Char ∷ Open ∷ symbols rest
+char_first : (rest : List ℕ) → symbols (codes " CHAR(" ++ rest) ≡ Word CharWord ∷ Open ∷ symbols rest
 unfolding tokens_from
-char_first rest = ap (λ (xs : List Symbol). Word Char ∷ Open ∷ xs) (kinds_anywhere 0 6 0 rest)
+char_first rest = ap (λ (xs : List Symbol). Word CharWord ∷ Open ∷ xs) (kinds_anywhere 0 6 0 rest)
 
 char_last : (hidden : Bool) (rest : List ℕ) → AfterColumn rest
     → symbols (41 ∷ (hidden_text hidden ++ rest)) ≡ Closing ∷ (spell_hidden hidden ++ symbols rest)
 unfolding tokens_from
-char_last true rest (comma later) = ap (λ (xs : List Symbol). Closing ∷ Word Hidden ∷ Comma ∷ xs) (kinds_anywhere 0 9 1 later)
-char_last true rest (closing later) = ap (λ (xs : List Symbol). Closing ∷ Word Hidden ∷ Closing ∷ xs) (kinds_anywhere 0 9 1 later)
+char_last true rest (comma later) = ap (λ (xs : List Symbol). Closing ∷ Word HiddenWord ∷ Comma ∷ xs) (kinds_anywhere 0 9 1 later)
+char_last true rest (closing later) = ap (λ (xs : List Symbol). Closing ∷ Word HiddenWord ∷ Closing ∷ xs) (kinds_anywhere 0 9 1 later)
 char_last false rest (comma later) = ap (λ (xs : List Symbol). Closing ∷ Comma ∷ xs) (kinds_anywhere 0 2 1 later)
 char_last false rest (closing later) = ap (λ (xs : List Symbol). Closing ∷ Closing ∷ xs) (kinds_anywhere 0 2 1 later)
 
 integer_last : (hidden : Bool) (rest : List ℕ) → AfterColumn rest
-    → symbols (codes " INTEGER" ++ (hidden_text hidden ++ rest)) ≡ Word Integer ∷ (spell_hidden hidden ++ symbols rest)
+    → symbols (codes " INTEGER" ++ (hidden_text hidden ++ rest)) ≡ Word IntegerWord ∷ (spell_hidden hidden ++ symbols rest)
 unfolding tokens_from
-integer_last true rest (comma later) = ap (λ (xs : List Symbol). Word Integer ∷ Word Hidden ∷ Comma ∷ xs) (kinds_anywhere 0 16 1 later)
-integer_last true rest (closing later) = ap (λ (xs : List Symbol). Word Integer ∷ Word Hidden ∷ Closing ∷ xs) (kinds_anywhere 0 16 1 later)
-integer_last false rest (comma later) = ap (λ (xs : List Symbol). Word Integer ∷ Comma ∷ xs) (kinds_anywhere 0 9 1 later)
-integer_last false rest (closing later) = ap (λ (xs : List Symbol). Word Integer ∷ Closing ∷ xs) (kinds_anywhere 0 9 1 later)
+integer_last true rest (comma later) = ap (λ (xs : List Symbol). Word IntegerWord ∷ Word HiddenWord ∷ Comma ∷ xs) (kinds_anywhere 0 16 1 later)
+integer_last true rest (closing later) = ap (λ (xs : List Symbol). Word IntegerWord ∷ Word HiddenWord ∷ Closing ∷ xs) (kinds_anywhere 0 16 1 later)
+integer_last false rest (comma later) = ap (λ (xs : List Symbol). Word IntegerWord ∷ Comma ∷ xs) (kinds_anywhere 0 9 1 later)
+integer_last false rest (closing later) = ap (λ (xs : List Symbol). Word IntegerWord ∷ Closing ∷ xs) (kinds_anywhere 0 9 1 later)
 
-reference_first : (rest : List ℕ) → symbols (codes " INTEGER REFERENCES " ++ rest) ≡ Word Integer ∷ Word References ∷ symbols rest
+reference_first : (rest : List ℕ) → symbols (codes " INTEGER REFERENCES " ++ rest) ≡ Word IntegerWord ∷ Word ReferencesWord ∷ symbols rest
 unfolding tokens_from
-reference_first rest = ap (λ (xs : List Symbol). Word Integer ∷ Word References ∷ xs) (kinds_anywhere 0 20 0 rest)
+reference_first rest = ap (λ (xs : List Symbol). Word IntegerWord ∷ Word ReferencesWord ∷ xs) (kinds_anywhere 0 20 0 rest)
 
 reference_last : (rest : List ℕ) → AfterColumn rest
-    → symbols (codes "(id) HIDDEN" ++ rest) ≡ Open ∷ Name (codes "id") ∷ Closing ∷ Word Hidden ∷ symbols rest
+    → symbols (codes "(id) HIDDEN" ++ rest) ≡ Open ∷ Name (codes "id") ∷ Closing ∷ Word HiddenWord ∷ symbols rest
 unfolding tokens_from
-reference_last rest (comma later) = ap (λ (xs : List Symbol). Open ∷ Name (codes "id") ∷ Closing ∷ Word Hidden ∷ Comma ∷ xs) (kinds_anywhere 0 12 1 later)
-reference_last rest (closing later) = ap (λ (xs : List Symbol). Open ∷ Name (codes "id") ∷ Closing ∷ Word Hidden ∷ Closing ∷ xs) (kinds_anywhere 0 12 1 later)
+reference_last rest (comma later) = ap (λ (xs : List Symbol). Open ∷ Name (codes "id") ∷ Closing ∷ Word HiddenWord ∷ Comma ∷ xs) (kinds_anywhere 0 12 1 later)
+reference_last rest (closing later) = ap (λ (xs : List Symbol). Open ∷ Name (codes "id") ∷ Closing ∷ Word HiddenWord ∷ Closing ∷ xs) (kinds_anywhere 0 12 1 later)
 
 -- the tree with each part written out
 
-abbrev canonical_column : ColumnText → ColumnText
+abbrev canonical_column : ColumnDeclaration → ColumnDeclaration
 canonical_column (CharColumn name digits hidden) = CharColumn name (decimal (number_of digits)) hidden
 canonical_column (IntegerColumn name primary None hidden) = IntegerColumn name primary None hidden
 canonical_column (IntegerColumn name primary (Some (To table says_id)) hidden) = IntegerColumn name primary (Some (To table true)) true
@@ -184,23 +187,23 @@ table_shape : (heading columns others tail more : List Symbol) → (heading ++ (
 table_shape heading columns others tail more = simp append_assoc
 
 -- a first column that is the identifier
-the_identifier : (column : ColumnText) → is_identifier column ≡ true → column ≡ IntegerColumn (codes "id") true None false
+the_identifier : (column : ColumnDeclaration) → is_identifier column ≡ true → column ≡ IntegerColumn (codes "id") true None false
 the_identifier (IntegerColumn name true None false) e =
     ap (λ (given : List ℕ). IntegerColumn given true None false) ((bytes_eq-Decides name (codes "id")).0 e)
 the_identifier _ e = absurd (cc)
 
 module _ (tables : SchemaText) where
   -- what the rules leave of a column that is no identifier
-  abbrev IsProper : ColumnText → Type 0
+  abbrev IsProper : ColumnDeclaration → Type 0
   IsProper (CharColumn name digits hidden) = (is_name name ≡ true) × (1 ≤ number_of digits) × (number_of digits ≤ 64)
   IsProper (IntegerColumn name primary None hidden) = (is_name name ≡ true) × (primary ≡ false)
   IsProper (IntegerColumn name primary (Some (To table says_id)) hidden) =
       (is_name name ≡ true) × (primary ≡ false) × (is_name table ≡ true)
-      × (reference_text (schema_of tables) (table_named tables table) ≡ codes " REFERENCES " ++ (table ++ codes "(id)"))
+      × (reference_text (schema_of tables) (declared_table tables table) ≡ codes " REFERENCES " ++ (table ++ codes "(id)"))
 
   -- the text of a column is read as the column, whatever follows it
 
-  column_reads : (column : ColumnText) (rest : List ℕ) → IsProper column → AfterColumn rest
+  column_reads : (column : ColumnDeclaration) (rest : List ℕ) → IsProper column → AfterColumn rest
       → symbols (column_text (schema_of tables) (column_of tables column) ++ rest) ≡ Comma ∷ (spell_column (canonical_column column) ++ symbols rest)
   column_reads (CharColumn name digits hidden) rest p after =
       let number = decimal (number_of digits) in
@@ -212,7 +215,7 @@ module _ (tables : SchemaText) where
       (first_name name 32 (codes "CHAR(" ++ (number ++ tail)) p.0 refl
       ∙ ap (λ (xs : List Symbol). Name name ∷ xs)
       (char_first (number ++ tail)
-      ∙ ap (λ (xs : List Symbol). Word Char ∷ Open ∷ xs)
+      ∙ ap (λ (xs : List Symbol). Word CharWord ∷ Open ∷ xs)
       (first_digits number 41 (hidden_text hidden ++ rest) (all_digits (number_of digits) p.2) some refl
       ∙ ap (λ (xs : List Symbol). Digits number ∷ xs) (char_last hidden rest after)))))
   column_reads (IntegerColumn name true None hidden) rest p after = let clash : true ≡ false = p.1 in absurd (cc)
@@ -232,19 +235,19 @@ module _ (tables : SchemaText) where
       (first_name name 32 (codes "INTEGER REFERENCES " ++ (table ++ tail)) p.0 refl
       ∙ ap (λ (xs : List Symbol). Name name ∷ xs)
       (reference_first (table ++ tail)
-      ∙ ap (λ (xs : List Symbol). Word Integer ∷ Word References ∷ xs)
+      ∙ ap (λ (xs : List Symbol). Word IntegerWord ∷ Word ReferencesWord ∷ xs)
       (first_name table 40 (codes "id) HIDDEN" ++ rest) p.2 refl
       ∙ ap (λ (xs : List Symbol). Name table ∷ xs) (reference_last rest after))))))
 
-  columns_text : List ColumnText → List ℕ
+  columns_text : List ColumnDeclaration → List ℕ
   columns_text columns = flat_map (column_text (schema_of tables)) (map (column_of tables) columns)
 
-  columns_after : (columns : List ColumnText) (rest : List ℕ) → AfterColumn rest → AfterColumn (columns_text columns ++ rest)
+  columns_after : (columns : List ColumnDeclaration) (rest : List ℕ) → AfterColumn rest → AfterColumn (columns_text columns ++ rest)
   unfolding columns_text
   columns_after [] rest after = after
   columns_after (column ∷ columns) rest after = comma _
 
-  columns_read : (columns : List ColumnText) (rest : List ℕ) → ((j : ℕ) (column : ColumnText) → slice_get columns j ≡ Some column → IsProper column)
+  columns_read : (columns : List ColumnDeclaration) (rest : List ℕ) → ((j : ℕ) (column : ColumnDeclaration) → slice_get columns j ≡ Some column → IsProper column)
       → AfterColumn rest → symbols (columns_text columns ++ rest) ≡ flat_map (λ other. Comma ∷ spell_column other) (map canonical_column columns) ++ symbols rest
   unfolding columns_text
   columns_read [] rest proper after = refl
@@ -257,7 +260,7 @@ module _ (tables : SchemaText) where
   record IsProperTable (table : TableText) : Type 0 where
     named : is_name table.name ≡ true
     begins : is_identifier table.first ≡ true
-    proper : (j : ℕ) (column : ColumnText) → slice_get table.others j ≡ Some column → IsProper column
+    proper : (j : ℕ) (column : ColumnDeclaration) → slice_get table.others j ≡ Some column → IsProper column
 
   line_shape : (name columns rest : List ℕ)
       → (codes "CREATE TABLE " ++ (name ++ (codes " (id INTEGER PRIMARY KEY" ++ (columns ++ (codes ");" ++ 10 ∷ []))))) ++ rest
@@ -273,24 +276,24 @@ module _ (tables : SchemaText) where
       let others = flat_map (λ other. Comma ∷ spell_column other) (map canonical_column table.others) in
       ap symbols (line_shape table.name columns rest)
       ∙ (create_first (table.name ++ (codes " (id INTEGER PRIMARY KEY" ++ (columns ++ tail)))
-      ∙ (ap (λ (xs : List Symbol). Word Create ∷ Word Table ∷ xs)
+      ∙ (ap (λ (xs : List Symbol). Word CreateWord ∷ Word TableWord ∷ xs)
       (first_name table.name 32 (codes "(id INTEGER PRIMARY KEY" ++ (columns ++ tail)) p.named refl
       ∙ ap (λ (xs : List Symbol). Name table.name ∷ xs)
       (id_first (columns ++ tail) (columns_after table.others tail (closing _))
-      ∙ ap (λ (xs : List Symbol). Open ∷ Name (codes "id") ∷ Word Integer ∷ Word Primary ∷ Word Key ∷ xs)
+      ∙ ap (λ (xs : List Symbol). Open ∷ Name (codes "id") ∷ Word IntegerWord ∷ Word PrimaryWord ∷ Word PrimaryKeyWord ∷ xs)
       (columns_read table.others tail p.proper (closing _) ∙ ap (λ (xs : List Symbol). others ++ xs) (end_first rest))))
       ∙ (sym (table_shape (spell_heading table.name) (spell_column (IntegerColumn (codes "id") true None false)) others (Closing ∷ Semicolon ∷ []) (symbols rest))
       ∙ ap (λ column. (spell_heading table.name ++ ((spell_column (canonical_column column) ++ others) ++ Closing ∷ Semicolon ∷ [])) ++ symbols rest)
       (sym (the_identifier table.first p.begins)))))
 
   tables_read : (some : List TableText) → ((k : ℕ) (table : TableText) → slice_get some k ≡ Some table → IsProperTable table)
-      → symbols (flat_map (table_text (schema_of tables)) (map (table_of tables) some)) ≡ flat_map spell_table (map canonical_table some) ++ End ∷ []
+      → symbols (flat_map (table_text (schema_of tables)) (map (table_of tables) some)) ≡ flat_map spell_table (map canonical_table some) ++ EndOfText ∷ []
   unfolding tokens_from
   tables_read [] proper = refl
   tables_read (table ∷ later) proper =
       table_reads table (flat_map (table_text (schema_of tables)) (map (table_of tables) later)) (proper 0 table refl)
       ∙ (ap (λ (xs : List Symbol). spell_table (canonical_table table) ++ xs) (tables_read later (λ k other e. proper (suc k) other e))
-      ∙ sym (append_assoc (spell_table (canonical_table table)) (flat_map spell_table (map canonical_table later)) (End ∷ [])))
+      ∙ sym (append_assoc (spell_table (canonical_table table)) (flat_map spell_table (map canonical_table later)) (EndOfText ∷ [])))
 
 -- a test of what a map makes is a test of what it is made of
 
@@ -334,16 +337,16 @@ places_mapped f at (x ∷ xs) = ap (λ (places : List ℕ). at ∷ places) (plac
 
 -- what is written out has the names, the places and the tests of what it comes from
 
-same_name : (column : ColumnText) → column_name (canonical_column column) ≡ column_name column
+same_name : (column : ColumnDeclaration) → declared_name (canonical_column column) ≡ declared_name column
 same_name (CharColumn name digits hidden) = refl
 same_name (IntegerColumn name primary None hidden) = refl
 same_name (IntegerColumn name primary (Some (To table says_id)) hidden) = refl
 
-same_names : (columns : List ColumnText) → map column_name (map canonical_column columns) ≡ map column_name columns
+same_names : (columns : List ColumnDeclaration) → map declared_name (map canonical_column columns) ≡ map declared_name columns
 same_names [] = refl
 same_names (column ∷ columns) =
-    ap (λ (name : List ℕ). name ∷ map column_name (map canonical_column columns)) (same_name column)
-    ∙ ap (λ (names : List (List ℕ)). column_name column ∷ names) (same_names columns)
+    ap (λ (name : List ℕ). name ∷ map declared_name (map canonical_column columns)) (same_name column)
+    ∙ ap (λ (names : List (List ℕ)). declared_name column ∷ names) (same_names columns)
 
 same_table_names : (tables : SchemaText) → map (λ (table : TableText). table.name) (map canonical_table tables) ≡ map (λ (table : TableText). table.name) tables
 same_table_names [] = refl
@@ -353,18 +356,18 @@ same_columns : (o : Option TableText) → columns_at (option_map canonical_table
 same_columns None = refl
 same_columns (Some table) = refl
 
-same_identifier : (column : ColumnText) → is_identifier (canonical_column column) ≡ is_identifier column
+same_identifier : (column : ColumnDeclaration) → is_identifier (canonical_column column) ≡ is_identifier column
 same_identifier (CharColumn name digits hidden) = refl
 same_identifier (IntegerColumn name primary None hidden) = refl
 same_identifier (IntegerColumn name true (Some (To table says_id)) hidden) = refl
 same_identifier (IntegerColumn name false (Some (To table says_id)) hidden) = refl
 
-same_primary : (column : ColumnText) → is_primary (canonical_column column) ≡ is_primary column
+same_primary : (column : ColumnDeclaration) → is_primary (canonical_column column) ≡ is_primary column
 same_primary (CharColumn name digits hidden) = refl
 same_primary (IntegerColumn name primary None hidden) = refl
 same_primary (IntegerColumn name primary (Some (To table says_id)) hidden) = refl
 
-any_primary : (columns : List ColumnText) → list_any is_primary (map canonical_column columns) ≡ list_any is_primary columns
+any_primary : (columns : List ColumnDeclaration) → list_any is_primary (map canonical_column columns) ≡ list_any is_primary columns
 any_primary [] = refl
 any_primary (column ∷ columns) =
     ap (λ b. b || list_any is_primary (map canonical_column columns)) (same_primary column) ∙ ap (λ b. is_primary column || b) (any_primary columns)
@@ -375,13 +378,13 @@ same_lack (Some table) =
     ap (λ b. not b || list_any is_primary (map canonical_column table.others)) (same_identifier table.first)
     ∙ ap (λ b. not (is_identifier table.first) || b) (any_primary table.others)
 
-column_within : (column : ColumnText) → is_column_over column ≡ false → is_column_over (canonical_column column) ≡ false
+column_within : (column : ColumnDeclaration) → is_column_over column ≡ false → is_column_over (canonical_column column) ≡ false
 column_within (CharColumn name digits hidden) e =
     ap (λ n. is_long name || not (is_between 1 64 n)) (same_number (number_of digits) (length_within name digits hidden e).1) ∙ e
 column_within (IntegerColumn name primary None hidden) e = e
 column_within (IntegerColumn name primary (Some (To table says_id)) hidden) e = e
 
-columns_within : (columns : List ColumnText) → list_any is_column_over columns ≡ false → list_any is_column_over (map canonical_column columns) ≡ false
+columns_within : (columns : List ColumnDeclaration) → list_any is_column_over columns ≡ false → list_any is_column_over (map canonical_column columns) ≡ false
 columns_within [] e = refl
 columns_within (column ∷ columns) e =
     let both = neither (is_column_over column) (list_any is_column_over columns) e in
@@ -407,14 +410,14 @@ same_fields at (table ∷ later) =
     (places_mapped canonical_column 0 (columns_written table))
     ∙ ap (λ (rest : List Field). map (λ column. record { table = at; column = column }) (places_of (columns_written table)) ++ rest) (same_fields (at + 1) later)
 
-both_same : {X : Type 0} (a b c d : Option X) → a ≡ b → c ≡ d → or_else a c ≡ or_else b d
-both_same a b c d e f = ap (λ x. or_else x c) e ∙ ap (λ x. or_else b x) f
+both_same : {X : Type 0} (a b c d : Option X) → a ≡ b → c ≡ d → option_or a c ≡ option_or b d
+both_same a b c d e f = ap (λ x. option_or x c) e ∙ ap (λ x. option_or b x) f
 
 module _ (tables : SchemaText) where
   abbrev canonical : SchemaText
   canonical = map canonical_table tables
 
-  same_place : (name : List ℕ) → table_named canonical name ≡ table_named tables name
+  same_place : (name : List ℕ) → declared_table canonical name ≡ declared_table tables name
   same_place name =
       place_of (λ (table : TableText). bytes_eq name table.name) canonical
       ∙ (place_mapped (λ (table : TableText). bytes_eq name table.name) canonical_table 0 tables
@@ -422,14 +425,14 @@ module _ (tables : SchemaText) where
 
   -- the same schema
 
-  same_column : (column : ColumnText) → is_column_over column ≡ false → column_of canonical (canonical_column column) ≡ column_of tables column
+  same_column : (column : ColumnDeclaration) → is_column_over column ≡ false → column_of canonical (canonical_column column) ≡ column_of tables column
   same_column (CharColumn name digits hidden) e =
       ap (λ n. record { name = name; kind = Chars n; hidden = hidden; child = None }) (same_number (number_of digits) (length_within name digits hidden e).1)
   same_column (IntegerColumn name primary None hidden) e = refl
   same_column (IntegerColumn name primary (Some (To table says_id)) hidden) e =
       ap (λ child. record { name = name; kind = schema.Integer; hidden = true; child = child }) (same_place table)
 
-  same_meanings : (columns : List ColumnText) → list_any is_column_over columns ≡ false
+  same_meanings : (columns : List ColumnDeclaration) → list_any is_column_over columns ≡ false
       → map (column_of canonical) (map canonical_column columns) ≡ map (column_of tables) columns
   same_meanings [] e = refl
   same_meanings (column ∷ columns) e =
@@ -456,10 +459,10 @@ module _ (tables : SchemaText) where
   same_duplicate field =
       ap (λ (names : List (List ℕ)). (field.column == 0 && repeats names field.table) || column_repeats canonical field) (same_table_names tables)
       ∙ ap (λ (names : List (List ℕ)). (field.column == 0 && table_repeats tables field.table) || repeats names field.column)
-      (ap (map column_name) (ap columns_at (slice_get-map canonical_table tables field.table) ∙ same_columns (slice_get tables field.table))
+      (ap (map declared_name) (ap columns_at (slice_get-map canonical_table tables field.table) ∙ same_columns (slice_get tables field.table))
       ∙ same_names (columns_at (slice_get tables field.table)))
 
-  same_refers : (o : Option ColumnText) → refers_nowhere canonical (option_map canonical_column o) ≡ refers_nowhere tables o
+  same_refers : (o : Option ColumnDeclaration) → refers_nowhere canonical (option_map canonical_column o) ≡ refers_nowhere tables o
   same_refers None = refl
   same_refers (Some (CharColumn name digits hidden)) = refl
   same_refers (Some (IntegerColumn name primary None hidden)) = refl
@@ -484,12 +487,12 @@ module _ (tables : SchemaText) where
     same_places : places_of canonical ≡ places_of tables
     same_places = places_mapped canonical_table 0 tables
 
-    same_limit : (if is_over canonical then Some Limit else None) ≡ (if is_over tables then Some Limit else None)
-    same_limit = ap (λ b. if b then Some Limit else None) (still_within ∙ sym within)
+    same_limit : broken_if (is_over canonical) Limit ≡ broken_if (is_over tables) Limit
+    same_limit = ap (λ b. broken_if b Limit) (still_within ∙ sym within)
 
-    same_duplicates : duplicate_in canonical ≡ duplicate_in tables
+    same_duplicates : option_map duplicate_at (find (is_duplicate canonical) (fields canonical)) ≡ option_map duplicate_at (find (is_duplicate tables) (fields tables))
     same_duplicates =
-        ap (option_map (λ (field : Field). DuplicateName field.table field.column))
+        ap (option_map duplicate_at)
         (ap (find (is_duplicate canonical)) (same_fields 0 tables) ∙ find_same (is_duplicate canonical) (is_duplicate tables) same_duplicate (fields tables))
 
     same_lacks : option_map NoId (find (lacks_id canonical) (places_of canonical)) ≡ option_map NoId (find (lacks_id tables) (places_of tables))
@@ -498,16 +501,16 @@ module _ (tables : SchemaText) where
         (ap (find (lacks_id canonical)) same_places
         ∙ find_same (lacks_id canonical) (lacks_id tables) (λ place. ap table_lacks_id (slice_get-map canonical_table tables place) ∙ same_lack (slice_get tables place)) (places_of tables))
 
-    same_unknowns : unknown_in canonical ≡ unknown_in tables
+    same_unknowns : option_map unknown_at (find (is_unknown canonical) (fields canonical)) ≡ option_map unknown_at (find (is_unknown tables) (fields tables))
     same_unknowns =
-        ap (option_map (λ (field : Field). UnknownTable field.table field.column))
+        ap (option_map unknown_at)
         (ap (find (is_unknown canonical)) (same_fields 0 tables) ∙ find_same (is_unknown canonical) (is_unknown tables) same_unknown (fields tables))
 
     same_shared : option_map TwoParents (find (is_shared canonical) (places_of canonical)) ≡ option_map TwoParents (find (is_shared tables) (places_of tables))
     same_shared =
         ap (option_map TwoParents)
         (ap (find (is_shared canonical)) same_places
-        ∙ find_same (is_shared canonical) (is_shared tables) (λ place. ap (λ (all : Schema). nat_lt 1 (keys_naming all place)) same_schema) (places_of tables))
+        ∙ find_same (is_shared canonical) (is_shared tables) (λ place. ap (λ (all : Schema). nat_lt 1 (references_naming all place)) same_schema) (places_of tables))
 
     same_cycles : option_map Cycle (find (returns (schema_of canonical)) (places_of canonical)) ≡ option_map Cycle (find (returns (schema_of tables)) (places_of tables))
     same_cycles =
@@ -517,15 +520,15 @@ module _ (tables : SchemaText) where
     same_roots : wrong_roots (roots_of (schema_of canonical)) ≡ wrong_roots (roots_of (schema_of tables))
     same_roots = ap (λ (all : Schema). wrong_roots (roots_of all)) same_schema
 
-    same_fault : schema_fault canonical ≡ schema_fault tables
+    same_fault : first_broken (schema_rules canonical) ≡ first_broken (schema_rules tables)
     same_fault =
         both_same _ _ _ _ same_limit
         (both_same _ _ _ _ same_duplicates
-        (both_same _ _ _ _ same_lacks (both_same _ _ _ _ same_unknowns (both_same _ _ _ _ same_shared (both_same _ _ _ _ same_cycles same_roots)))))
+        (both_same _ _ _ _ same_lacks (both_same _ _ _ _ same_unknowns (both_same _ _ _ _ same_shared (both_same _ _ _ _ same_cycles (both_same _ _ _ _ same_roots refl))))))
 
 -- what the rules leave of each column
 
-reference_named : (tables : SchemaText) (table : List ℕ) (o : Option ℕ) → table_named tables table ≡ o → is_none o ≡ false
+reference_named : (tables : SchemaText) (table : List ℕ) (o : Option ℕ) → declared_table tables table ≡ o → is_none o ≡ false
     → reference_text (schema_of tables) o ≡ codes " REFERENCES " ++ (table ++ codes "(id)")
 reference_named tables table None e h = absurd (cc)
 reference_named tables table (Some child) e h =
@@ -538,7 +541,7 @@ reference_named tables table (Some child) e h =
     ap (λ (name : List ℕ). codes " REFERENCES " ++ (name ++ codes "(id)"))
     (ap name_or_none there ∙ sym ((bytes_eq-Decides table f.element.name).0 f.passes))
 
-proper_column : (tables : SchemaText) (column : ColumnText) → is_column_over column ≡ false → list_all is_spelled (spell_column column) ≡ true
+proper_column : (tables : SchemaText) (column : ColumnDeclaration) → is_column_over column ≡ false → list_all is_spelled (spell_column column) ≡ true
     → is_primary column ≡ false → refers_nowhere tables (Some column) ≡ false → IsProper tables column
 proper_column tables (CharColumn name digits hidden) within spelled plain known =
     let length = length_within name digits hidden within in
@@ -547,14 +550,14 @@ proper_column tables (IntegerColumn name primary None hidden) within spelled pla
     (column_named (IntegerColumn name primary None hidden) spelled, plain)
 proper_column tables (IntegerColumn name true (Some (To table says_id)) hidden) within spelled plain known = absurd (cc)
 proper_column tables (IntegerColumn name false (Some (To table says_id)) hidden) within spelled plain known =
-    let names = and_parts (is_name name) (list_all is_spelled (Word References ∷ Name table ∷ (spell_id says_id ++ spell_hidden hidden))) spelled in (
+    let names = and_parts (is_name name) (list_all is_spelled (Word ReferencesWord ∷ Name table ∷ (spell_id says_id ++ spell_hidden hidden))) spelled in (
       names.0,
       plain,
       (and_parts (is_name table) (list_all is_spelled (spell_id says_id ++ spell_hidden hidden)) names.1).0,
-      reference_named tables table (table_named tables table) refl known,
+      reference_named tables table (declared_table tables table) refl known,
     )
 
-module _ (tables : SchemaText) (obeys : (fault : SchemaFault) → Breaks tables fault → ⊥) (spelled : list_all is_spelled (flat_map spell_table tables) ≡ true) where
+module _ (tables : SchemaText) (obeys : MeetsAll (schema_rules tables)) (spelled : list_all is_spelled (flat_map spell_table tables) ≡ true) where
   proper_table : (k : ℕ) (table : TableText) → slice_get tables k ≡ Some table → IsProperTable tables table
   proper_table k table e = record {
     named = table_named_well tables obeys spelled k table e;
@@ -568,12 +571,11 @@ module _ (tables : SchemaText) (obeys : (fault : SchemaFault) → Breaks tables 
 
   canonical_reads : schema_reading (canonical_text (schema_of tables)) ≡ Ok (schema_of tables)
   canonical_reads =
-      let within : is_over tables ≡ false = never_true (is_over tables) (obeys Limit) in
+      let within : is_over tables ≡ false = (kept_rules tables obeys).limits in
       let tree : syntax_of (canonical_text (schema_of tables)) ≡ Ok (map canonical_table tables) =
       (schema_places.tree (canonical_text (schema_of tables)) (map canonical_table tables)).1 (tables_read tables tables proper_table) in
-      let none : schema_fault tables ≡ None = no_first (schema_fault tables) (λ fault e. obeys fault ((all_rules tables).breaks fault e)) in
       ap judged tree
-      ∙ (ap (schema_or (schema_of (map canonical_table tables))) (same_fault tables within ∙ none)
+      ∙ (ap (schema_or (schema_of (map canonical_table tables))) (same_fault tables within ∙ obeys)
       ∙ ap (λ (all : Schema). Ok all) (same_schema tables within))
 
 pub canonical_text_means : CanonicalTextMeansItsSchema

@@ -7,11 +7,11 @@ use Rattle.std.proofs.lemmas.Bool.{cases_order}
 use Rattle.std.proofs.lemmas.Bool.Decides.{Decides-ltb, Decides-eqb}
 use Rattle.std.proofs.lemmas.Fmt.{length-decimal-le}
 use Rattle.std.proofs.lemmas.List.Sums.{sum_by-cons}
-use Rattle.ghost_model.specs.Schema.{Kind, Integer, Chars, Column, Table, Schema, columns_or_none, is_table, keys_to, places_from}
-use Rattle.ghost_model.specs.SchemaFaults.{keys_naming}
-use Rattle.ghost_model.specs.SchemaTrees.{IsTree}
-use Rattle.ghost_model.specs.Catalog.{kind_text, name_or_none, table_name, reference_text, hidden_text, column_text, table_text, canonical_text, catalog_head, counts_bytes}
-use Rattle.ghost_model.specs.CatalogLaws.{NoCatalogIsLong}
+use Rattle.ghost_model.specs.core.Schema.{Kind, Integer, Chars, Column, Table, Schema, columns_or_none, is_table, references_to, places_from}
+use Rattle.ghost_model.specs.refusals.SchemaFaults.{references_naming}
+use Rattle.ghost_model.specs.laws.SchemaTrees.{IsTree}
+use Rattle.ghost_model.specs.forms.Catalog.{kind_text, name_or_none, table_name, reference_text, hidden_text, column_text, table_text, canonical_text, catalog_head, counts_bytes}
+use Rattle.ghost_model.specs.laws.CatalogLaws.{NoCatalogIsLong}
 use Rattle.ghost_model.proofs.SchemaTreeLemmas.{schemas_are_trees}
 
 -- how many elements pass a test
@@ -97,15 +97,15 @@ all_keys_before : ℕ → List Table → ℕ
 all_keys_before place [] = 0
 all_keys_before place (table ∷ tables) = keys_before place table.columns + all_keys_before place tables
 
-all_more_keys : (place : ℕ) (tables : List Table) → all_keys_before (place + 1) tables ≤ all_keys_before place tables + keys_naming tables place
+all_more_keys : (place : ℕ) (tables : List Table) → all_keys_before (place + 1) tables ≤ all_keys_before place tables + references_naming tables place
 unfolding all_keys_before
 all_more_keys place [] = omega arith
 all_more_keys place (table ∷ tables) =
     let this = more_keys place table.columns in
     let rest = all_more_keys place tables in
-    let counted : length (keys_to place table) ≡ tally (λ column. is_table place column.child) table.columns = places_tallied (λ column. is_table place column.child) 0 table.columns in
-    let summed : keys_naming (table ∷ tables) place ≡ length (keys_to place table) + keys_naming tables place =
-    sum_by-cons (λ (other : Table). length (keys_to place other)) table tables in
+    let counted : length (references_to place table) ≡ tally (λ column. is_table place column.child) table.columns = places_tallied (λ column. is_table place column.child) 0 table.columns in
+    let summed : references_naming (table ∷ tables) place ≡ length (references_to place table) + references_naming tables place =
+    sum_by-cons (λ (other : Table). length (references_to place other)) table tables in
     omega (arith, this, rest, counted, summed)
 
 all_none_before : (tables : List Table) → all_keys_before 0 tables ≡ 0
@@ -116,12 +116,12 @@ all_none_before (table ∷ tables) =
     let rest = all_none_before tables in
     omega (arith, this, rest)
 
-few_keys : (schema : Schema) (place : ℕ) → ((table : ℕ) → table < place → keys_naming schema table ≤ 1) → all_keys_before place schema ≤ place
+few_keys : (schema : Schema) (place : ℕ) → ((table : ℕ) → table < place → references_naming schema table ≤ 1) → all_keys_before place schema ≤ place
 few_keys schema zero one = let h = all_none_before schema in omega (arith, h)
 few_keys schema (suc place) one =
     let rest = few_keys schema place (λ table h. one table (omega arith)) in
     let more = all_more_keys place schema in
-    let here : keys_naming schema place ≤ 1 = one place (omega arith) in
+    let here : references_naming schema place ≤ 1 = one place (omega arith) in
     let same : place + 1 ≡ suc place = omega arith in
     subst (λ n. all_keys_before n schema ≤ n) same (omega (arith, rest, more, here))
 
@@ -225,7 +225,7 @@ module _ (schema : Schema) (tree : IsTree schema) where
         record {
           name = tree.short_names k j column there;
           kind = λ most f. (tree.text_lengths k j most column there f).1;
-          child = λ child f. tree.keys_name_tables k j child column there f;
+          child = λ child f. tree.references_name_tables k j child column there f;
         };
   }
 

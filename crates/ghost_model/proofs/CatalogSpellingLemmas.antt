@@ -5,12 +5,12 @@ use Rattle.std.specs.List.{list_all}
 use Rattle.std.specs.Int.{to_be_bytes, from_be_bytes, w32}
 use Rattle.std.proofs.lemmas.Bool.{and_parts, leb-true}
 use Rattle.std.proofs.lemmas.Nat.{from_be_bytes-to_be_bytes_4}
-use Rattle.ghost_model.specs.Schema.{Schema}
-use Rattle.ghost_model.specs.Channel.{Catalog}
-use Rattle.ghost_model.specs.LoadFaults.{most_rows}
-use Rattle.ghost_model.specs.SchemaFaults.{MeansSchema}
-use Rattle.ghost_model.specs.Catalog.{canonical_text, catalog_head, counts_bytes, catalog_bytes, IsCatalog}
-use Rattle.ghost_model.specs.CatalogLaws.{CatalogsHaveOneSpelling}
+use Rattle.ghost_model.specs.core.Schema.{Schema}
+use Rattle.ghost_model.specs.core.Channel.{Catalog}
+use Rattle.ghost_model.specs.refusals.LoadFaults.{most_rows}
+use Rattle.ghost_model.specs.refusals.SchemaFaults.{MeansSchema}
+use Rattle.ghost_model.specs.forms.Catalog.{canonical_text, catalog_head, counts_bytes, catalog_bytes, IsCatalog}
+use Rattle.ghost_model.specs.laws.CatalogLaws.{CatalogsHaveOneSpelling}
 use Rattle.ghost_model.proofs.SchemaTreeLemmas.{schemas_are_trees}
 use Rattle.ghost_model.proofs.SchemaRuleLemmas.{one_schema}
 use Rattle.ghost_model.proofs.CatalogLengthLemmas.{canonical_length, counts_length}

@@ -19,17 +19,19 @@ use Rattle.std.specs.List.{flat_map}
 use Rattle.std.proofs.lemmas.Bool.Decides.{nat_tests, eqb_tells, leb_tells}
 use Rattle.std.proofs.lemmas.Bool.{eqb-true, ltb-false, ltb-true, le-ltb}
 use Rattle.std.proofs.Math.Seq.{take-length, take-append_seam, drop-append_seam}
-use Rattle.ghost_model.specs.NextMove as next
-use Rattle.ghost_model.specs.Asks.{Asked, row_width}
-use Rattle.ghost_model.specs.Channel.{Catalog, Frame, Hello, Asking, More, Bye, Welcome, Replied, Done, Sorry}
-use Rattle.ghost_model.specs.Frames.{Got, Found, Short, Bad, got_of, BeginsWith, size_allowed, serial_allowed, payload_allowed, has_no_serial, header_allowed, IsFrame, AreBytes, frame_bytes, frame_of_parts, frame_in, size_in, serial_in, kind_in, version_in, payload_in, number_in, number_of, kind_of, serial_of, payload_of, frame_version}
+use Rattle.ghost_model.specs.core.NextMove as next
+use Rattle.ghost_model.specs.laws.ChannelLaws as laws
+use Rattle.ghost_model.specs.core.Asks.{NumberedAsk, row_width}
+use Rattle.ghost_model.specs.core.Channel.{Catalog, Frame, HelloFrame, AskFrame, MoreFrame, ByeFrame, WelcomeFrame, RowsFrame, DoneFrame, SorryFrame}
+use Rattle.ghost_model.specs.forms.Frames.{Got, Found, Short, Bad, got_of, size_allowed, serial_allowed, payload_allowed, has_no_serial, header_allowed, IsFrame, AreBytes, frame_bytes, frame_of_parts, frame_in, size_in, serial_in, kind_in, version_in, payload_in, payload_number, frame_number, frame_kind, serial_of, payload_of, frame_version}
+use Rattle.ghost_model.specs.laws.ChannelLaws.{BeginsWith}
 
 pub size_bound : (kind size : ℕ) → size_allowed kind size ≡ true → size ≤ 2040
 size_bound kind size h = grind (arith, nat_tests)
 
 -- a payload of a frame has at most 2,040 bytes
 pub payload_bound : (frame : Frame) → IsFrame frame → length (payload_of frame) ≤ 2040
-payload_bound frame h = size_bound (kind_of frame) (length (payload_of frame)) h.size
+payload_bound frame h = size_bound (frame_kind frame) (length (payload_of frame)) h.size
 
 -- the header of a frame gives the length of its payload
 pub size_is_read : (frame : Frame) (rest : List ℕ) → IsFrame frame → size_in (frame_bytes frame ++ rest) ≡ length (payload_of frame)
@@ -74,19 +76,19 @@ pub data Parts (kind serial : ℕ) (payload : List ℕ) : Type 0 where
 
 -- a frame has these parts
 pub record HasParts (kind serial : ℕ) (payload : List ℕ) (frame : Frame) : Type 0 where
-  pub kind_is : kind_of frame ≡ kind
+  pub kind_is : frame_kind frame ≡ kind
   pub serial_is : serial_of frame ≡ serial
   pub payload_is : payload_of frame ≡ payload
-  pub number_fits : number_of frame < 2 ^ 32
+  pub number_fits : frame_number frame < 2 ^ 32
 
 take_all : (n : ℕ) (xs : List ℕ) → length xs ≡ n → take n xs ≡ xs
 take_all n xs e = rw (← e) (take-length xs)
 
-four_bytes : (payload : List ℕ) → length payload ≡ 4 → AreBytes payload → to_be_bytes w32 (number_in payload) ≡ payload
+four_bytes : (payload : List ℕ) → length payload ≡ 4 → AreBytes payload → to_be_bytes w32 (payload_number payload) ≡ payload
 four_bytes payload e h =
-    be_bytes_4 payload (number_in payload) e h (ap (from_be_bytes w32) (take_all 4 payload e))
+    be_bytes_4 payload (payload_number payload) e h (ap (from_be_bytes w32) (take_all 4 payload e))
 
-number_bound : (payload : List ℕ) → length payload ≡ 4 → AreBytes payload → number_in payload < 2 ^ 32
+number_bound : (payload : List ℕ) → length payload ≡ 4 → AreBytes payload → payload_number payload < 2 ^ 32
 number_bound (a ∷ b ∷ c ∷ d ∷ []) e h = omega (arith, h 0, h 1, h 2, h 3)
 number_bound _ e h = absurd (omega (arith, e))
 
@@ -285,15 +287,15 @@ found_begins bytes frame h e =
     subst (λ (f : Frame). BeginsWith bytes f) way.same
     (record { fits = fits; rest = drop (size_in bytes) (drop 8 bytes); begins = spelled })
 
-remade : (frame : Frame) → IsFrame frame → frame_of_parts (kind_of frame) (serial_of frame) (payload_of frame) ≡ frame
-remade (Hello generation) h = ap (λ (n : ℕ). Hello n) (from_be_bytes-to_be_bytes_4 generation h.number_fits)
-remade (Asking serial payload) h = refl
-remade (More serial) h = refl
-remade Bye h = refl
-remade (Welcome last part) h = refl
-remade (Replied serial payload) h = refl
-remade (Done serial total) h = ap (λ (n : ℕ). Done serial n) (from_be_bytes-to_be_bytes_4 total h.number_fits)
-remade (Sorry serial code) h = refl
+remade : (frame : Frame) → IsFrame frame → frame_of_parts (frame_kind frame) (serial_of frame) (payload_of frame) ≡ frame
+remade (HelloFrame generation) h = ap (λ (n : ℕ). HelloFrame n) (from_be_bytes-to_be_bytes_4 generation h.number_fits)
+remade (AskFrame serial payload) h = refl
+remade (MoreFrame serial) h = refl
+remade ByeFrame h = refl
+remade (WelcomeFrame last part) h = refl
+remade (RowsFrame serial payload) h = refl
+remade (DoneFrame serial total) h = ap (λ (n : ℕ). DoneFrame serial n) (from_be_bytes-to_be_bytes_4 total h.number_fits)
+remade (SorryFrame serial code) h = refl
 
 pub payload_is_read : (frame : Frame) (rest : List ℕ) → IsFrame frame → payload_in (frame_bytes frame ++ rest) ≡ payload_of frame
 payload_is_read frame rest h =
@@ -303,8 +305,8 @@ pub frame_is_read : (frame : Frame) (rest : List ℕ) → IsFrame frame → fram
 frame_is_read frame rest h =
     let bytes : List ℕ = frame_bytes frame ++ rest in
     let serial : serial_in bytes ≡ serial_of frame = from_be_bytes-to_be_bytes_4 (serial_of frame) h.serial_fits in
-    ap (λ (n : ℕ). frame_of_parts (kind_of frame) n (payload_in bytes)) serial
-    ∙ (ap (λ (p : List ℕ). frame_of_parts (kind_of frame) (serial_of frame) p) (payload_is_read frame rest h) ∙ remade frame h)
+    ap (λ (n : ℕ). frame_of_parts (frame_kind frame) n (payload_in bytes)) serial
+    ∙ (ap (λ (p : List ℕ). frame_of_parts (frame_kind frame) (serial_of frame) p) (payload_is_read frame rest h) ∙ remade frame h)
 
 pub spelled_is_found : (frame : Frame) (rest : List ℕ) → IsFrame frame → got_of (frame_bytes frame ++ rest) ≡ Found frame
 spelled_is_found frame rest h =
@@ -315,19 +317,19 @@ spelled_is_found frame rest h =
     let same : frame_in bytes ≡ frame = frame_is_read frame rest h in
     let lengths : length bytes ≡ 8 + (length (payload_of frame) + length rest) = omega (arith, length-append (payload_of frame) rest) in
     let header : header_allowed bytes ≡ true =
-    three_hold _ _ _ refl (ap (λ (n : ℕ). size_allowed (kind_of frame) n) size ∙ h.size) (ap (λ (n : ℕ). serial_allowed (kind_of frame) n) serial ∙ h.serial) in
-    picks _ _ _ _ (8 - length bytes) (8 + size_in bytes - length bytes) (kind_of frame) (frame_in bytes)
+    three_hold _ _ _ refl (ap (λ (n : ℕ). size_allowed (frame_kind frame) n) size ∙ h.size) (ap (λ (n : ℕ). serial_allowed (frame_kind frame) n) serial ∙ h.serial) in
+    picks _ _ _ _ (8 - length bytes) (8 + size_in bytes - length bytes) (frame_kind frame) (frame_in bytes)
     (le-ltb (length bytes) 8 (omega arith)) header (le-ltb (length bytes) (8 + size_in bytes) (omega arith))
-    (ap (λ (p : List ℕ). payload_allowed (kind_of frame) p) payload ∙ h.payload)
+    (ap (λ (p : List ℕ). payload_allowed (frame_kind frame) p) payload ∙ h.payload)
     ∙ ap (λ (f : Frame). Found f) same
 
 -- the tests of a verdict, over plain values
 abbrev judged : (short header part payload : Bool) (missing_header missing_payload : ℕ) → next.Verdict
 judged short header part payload missing_header missing_payload =
-    if short then next.Short missing_header
+    if short then next.Lacking missing_header
     else if not header then next.Invalid
-    else if part then next.Short missing_payload
-    else if payload then next.Whole
+    else if part then next.Lacking missing_payload
+    else if payload then next.Complete
     else next.Invalid
 
 record IsWhole (short header part : Bool) : Type 0 where
@@ -335,27 +337,27 @@ record IsWhole (short header part : Bool) : Type 0 where
   header_holds : header ≡ true
   whole : part ≡ false
 
-short_is_not : (m : ℕ) → next.Short m ≡ next.Whole → ⊥
+short_is_not : (m : ℕ) → next.Lacking m ≡ next.Complete → ⊥
 short_is_not m e = cc
 
-invalid_is_not : next.Invalid ≡ next.Whole → ⊥
+invalid_is_not : next.Invalid ≡ next.Complete → ⊥
 invalid_is_not e = cc
 
-is_whole : (short header part payload : Bool) (m n : ℕ) → judged short header part payload m n ≡ next.Whole → IsWhole short header part
+is_whole : (short header part payload : Bool) (m n : ℕ) → judged short header part payload m n ≡ next.Complete → IsWhole short header part
 is_whole true header part payload m n e = absurd (short_is_not m e)
 is_whole false false part payload m n e = absurd (invalid_is_not e)
 is_whole false true true payload m n e = absurd (short_is_not n e)
 is_whole false true false false m n e = absurd (invalid_is_not e)
 is_whole false true false true m n e = record { long = refl; header_holds = refl; whole = refl }
 
-invalid_is_not_short : (m : ℕ) → next.Invalid ≡ next.Short m → ⊥
+invalid_is_not_short : (m : ℕ) → next.Invalid ≡ next.Lacking m → ⊥
 invalid_is_not_short m e = cc
 
-whole_is_not_short : (m : ℕ) → next.Whole ≡ next.Short m → ⊥
+whole_is_not_short : (m : ℕ) → next.Complete ≡ next.Lacking m → ⊥
 whole_is_not_short m e = cc
 
 -- where bytes are missing, the header is not whole, or the payload that it names
-is_short : (short header part payload : Bool) (m n k : ℕ) → judged short header part payload m n ≡ next.Short k → short ≡ false → part ≡ true
+is_short : (short header part payload : Bool) (m n k : ℕ) → judged short header part payload m n ≡ next.Lacking k → short ≡ false → part ≡ true
 is_short true header part payload m n k e s = absurd (false_is_not (sym s))
 is_short false false part payload m n k e s = absurd (invalid_is_not_short k e)
 is_short false true true payload m n k e s = refl
@@ -391,17 +393,17 @@ record Fits (bytes : List ℕ) : Type 0 where
 
 -- a header that fits its place is one of a frame
 fitting_parts : (catalog : Catalog) (awaits : next.Awaits) (bytes : List ℕ) → length (payload_in bytes) ≡ size_in bytes → next.header_fits catalog awaits bytes ≡ true → Fits bytes
-fitting_parts catalog (next.Missing missing) bytes n t =
+fitting_parts catalog (next.AwaitsCatalog missing) bytes n t =
     let all : Greets (version_in bytes) (kind_in bytes) (serial_in bytes) (size_in bytes) = greets (version_in bytes) (kind_in bytes) (serial_in bytes) (size_in bytes) (length missing) t in
     record { version_is = all.version_is; parts = welcome all.kind_is all.serial_is (omega (arith, n, all.some)) }
-fitting_parts catalog (next.Reply asked serial later count last) bytes n t =
+fitting_parts catalog (next.AwaitsReply asked serial later count last) bytes n t =
     let all : AllThree (version_in bytes == frame_version) (serial_in bytes == serial) (next.reply_size_fits (row_width catalog.schema asked.ask) (kind_in bytes) (size_in bytes)) = all_three _ _ _ t in
     record {
       version_is = eqb-true (version_in bytes) frame_version all.first;
       parts = reply_parts (row_width catalog.schema asked.ask) (kind_in bytes) (serial_in bytes) (payload_in bytes)
           (ap (λ (k : ℕ). next.reply_size_fits (row_width catalog.schema asked.ask) (kind_in bytes) k) n ∙ all.third);
     }
-fitting_parts catalog next.Nothing bytes n t = absurd (false_is_not t)
+fitting_parts catalog next.AwaitsNothing bytes n t = absurd (false_is_not t)
 
 -- one more byte after a header leaves what the header says
 size_kept : (part : List ℕ) (byte : ℕ) → 8 ≤ length part → size_in (part ++ byte ∷ []) ≡ size_in part
@@ -424,7 +426,7 @@ exact_length part byte lacking m =
     ]
 
 -- a frame that is whole and valid is spelled by the bytes at hand
-whole_is_spelled : (catalog : Catalog) (awaits : next.Awaits) (part : List ℕ) (byte : ℕ) → IsLacking part → AreBytes (part ++ byte ∷ []) → next.verdict catalog awaits (part ++ byte ∷ []) ≡ next.Whole → frame_bytes (frame_in (part ++ byte ∷ [])) ≡ part ++ byte ∷ []
+whole_is_spelled : (catalog : Catalog) (awaits : next.Awaits) (part : List ℕ) (byte : ℕ) → IsLacking part → AreBytes (part ++ byte ∷ []) → next.verdict catalog awaits (part ++ byte ∷ []) ≡ next.Complete → frame_bytes (frame_in (part ++ byte ∷ [])) ≡ part ++ byte ∷ []
 whole_is_spelled catalog awaits part byte lacking h e =
     let bytes : List ℕ = part ++ byte ∷ [] in
     let way : IsWhole (nat_lt (length bytes) 8) (next.header_fits catalog awaits bytes) (nat_lt (length bytes) (8 + size_in bytes)) =
@@ -439,7 +441,7 @@ whole_is_spelled catalog awaits part byte lacking h e =
 
 -- what holds of received bytes and of what was heard of them, after each byte
 record Follows (before : List ℕ) (h : next.Heard) : Type 0 where
-  follows : next.IsSpelled before h
+  follows : laws.IsSpelled before h
   bytes : AreBytes h.part
   lacking : h.broken ≡ false → IsLacking h.part
 
@@ -462,12 +464,12 @@ more_frames before part rest frames frame byte e n s =
     ∙ ap (λ (x : List ℕ). x ++ []) (sym (flat_map-append frame_bytes frames (frame ∷ [])
     ∙ ap (λ (x : List ℕ). flat_map frame_bytes frames ++ x) (append-nil (frame_bytes frame))))))
 
-module _ (catalog : Catalog) (asks : List Asked) where
+module _ (catalog : Catalog) (asks : List NumberedAsk) where
   step_judged :
       (before : List ℕ) (h : next.Heard) (byte : ℕ) (v : next.Verdict) → Follows before h → byte < 256 → h.broken ≡ false
       → next.verdict catalog h.awaits (h.part ++ byte ∷ []) ≡ v
       → Follows (before ++ byte ∷ []) (next.heard_as catalog asks h (h.part ++ byte ∷ []) v)
-  step_judged before h byte (next.Short m) f b e j =
+  step_judged before h byte (next.Lacking m) f b e j =
       let none : f.follows.rest ≡ [] = f.follows.nothing_more e in
       record {
         follows = record {
@@ -494,7 +496,7 @@ module _ (catalog : Catalog) (asks : List Asked) where
         bytes = bytes_snoc h.part byte f.bytes b;
         lacking = λ broken. absurd (false_is_not (sym broken));
       }
-  step_judged before h byte next.Whole f b e j =
+  step_judged before h byte next.Complete f b e j =
       let none : f.follows.rest ≡ [] = f.follows.nothing_more e in
       record {
         follows = record {
@@ -530,7 +532,7 @@ module _ (catalog : Catalog) (asks : List Asked) where
       subst (λ (x : List ℕ). Follows x (next.hear_all catalog asks (next.hear catalog asks h byte) bytes)) (append_assoc before (byte ∷ []) bytes)
       (step_all (before ++ byte ∷ []) (next.hear catalog asks h byte) bytes (step_either before h byte h.broken f (b 0) refl) (λ i. b (suc i)))
 
-  pub received_is_spelled : (received : List ℕ) → AreBytes received → next.IsSpelled received (next.heard catalog asks received)
+  pub received_is_spelled : (received : List ℕ) → AreBytes received → laws.IsSpelled received (next.heard catalog asks received)
   received_is_spelled received b =
       let start : Follows [] (next.at_first catalog) = record {
         follows = record { rest = []; spelled = refl; nothing_more = λ _. refl };

@@ -7,9 +7,9 @@ use Rattle.std.proofs.lemmas.Grind.{flat_map-append}
 use Rattle.std.proofs.lemmas.List.{take-append-le}
 use Rattle.std.proofs.Math.Seq.{take-append_seam, take-append-add}
 use Rattle.std.proofs.lemmas.List.Folds.{list_all-append}
-use Rattle.ghost_model.specs.Tokens.{Symbol, End, symbols}
-use Rattle.ghost_model.specs.Spelled.{is_spelled, text_of}
-use Rattle.ghost_model.specs.Grammar.{IsViable, IsFault, Spells, separated, begun}
+use Rattle.ghost_model.specs.refusals.Tokens.{Symbol, EndOfText, symbols}
+use Rattle.ghost_model.specs.laws.Spelled.{is_spelled, text_of}
+use Rattle.ghost_model.specs.refusals.Grammar.{IsViable, IsFault, Spells, separated, begun}
 use Rattle.ghost_model.proofs.TokenLemmas.{spelled_text, before_end}
 
 -- the items of a list before its last, and its last
@@ -83,8 +83,8 @@ spelled_begun by spell (x ∷ xs) b e =
     spelled_both (spell x ++ by ∷ []) (begun by spell xs) (spelled_both (spell x) (by ∷ []) (e x) (and_from _ _ b refl)) (spelled_begun by spell xs b e)
 
 -- the end of a text stands nowhere but at its end
-pub no_end_inside : (xs ys : List Symbol) → list_all is_spelled (xs ++ End ∷ ys) ≡ true → ⊥
-no_end_inside xs ys e = let parts = spelled_parts xs (End ∷ ys) e in let h = parts.1 in cc
+pub no_end_inside : (xs ys : List Symbol) → list_all is_spelled (xs ++ EndOfText ∷ ys) ≡ true → ⊥
+no_end_inside xs ys e = let parts = spelled_parts xs (EndOfText ∷ ys) e in let h = parts.1 in cc
 
 spelled_take : (xs : List Symbol) (k : ℕ) → list_all is_spelled xs ≡ true → list_all is_spelled (take k xs) ≡ true
 spelled_take xs zero e = refl
@@ -97,10 +97,10 @@ spelled_take (x ∷ xs) (suc k) e =
 pub spelled_before : (text : List ℕ) (place : ℕ) → place < length (symbols text) → list_all is_spelled (take place (symbols text)) ≡ true
 spelled_before text place within =
     let found = before_end text in
-    let size : length (symbols text) ≡ length found.0 + 1 = ap length found.1.whole ∙ length-append found.0 (End ∷ []) in
+    let size : length (symbols text) ≡ length found.0 + 1 = ap length found.1.whole ∙ length-append found.0 (EndOfText ∷ []) in
     let inside : place ≤ length found.0 = omega arith in
     ap (λ (xs : List Symbol). list_all is_spelled (take place xs)) found.1.whole
-    ∙ (ap (list_all is_spelled) (take-append-le place found.0 (End ∷ []) inside) ∙ spelled_take found.0 place found.1.spelled)
+    ∙ (ap (list_all is_spelled) (take-append-le place found.0 (EndOfText ∷ []) inside) ∙ spelled_take found.0 place found.1.spelled)
 
 pub spelled_front : (text : List ℕ) (read : List Symbol) (next : Symbol) (later : List Symbol) → symbols text ≡ read ++ next ∷ later → list_all is_spelled read ≡ true
 spelled_front text read next later whole =
@@ -111,18 +111,18 @@ spelled_front text read next later whole =
 
 -- a text of the grammar begins with these symbols, where it goes on with spelled ones to the end
 pub viable_of : {Tree : Type 0} (spelling : Tree → List Symbol) (tree : Tree) (read rest : List Symbol)
-    → list_all is_spelled (read ++ rest) ≡ true → (read ++ rest) ++ End ∷ [] ≡ spelling tree → IsViable spelling read
+    → list_all is_spelled (read ++ rest) ≡ true → (read ++ rest) ++ EndOfText ∷ [] ≡ spelling tree → IsViable spelling read
 viable_of spelling tree read rest spelled whole = record {
   text = text_of (read ++ rest);
   tree = tree;
   spells = spelled_text (read ++ rest) spelled ∙ whole;
-  rest = rest ++ End ∷ [];
-  begins = sym (spelled_text (read ++ rest) spelled ∙ append_assoc read rest (End ∷ []));
+  rest = rest ++ EndOfText ∷ [];
+  begins = sym (spelled_text (read ++ rest) spelled ∙ append_assoc read rest (EndOfText ∷ []));
 }
 
 -- the same for the first symbols of a text
 pub viable_front : {Tree : Type 0} (spelling : Tree → List Symbol) (tree : Tree) (text : List ℕ) (read : List Symbol) (next : Symbol) (later rest : List Symbol)
-    → symbols text ≡ read ++ next ∷ later → list_all is_spelled rest ≡ true → (read ++ rest) ++ End ∷ [] ≡ spelling tree → IsViable spelling read
+    → symbols text ≡ read ++ next ∷ later → list_all is_spelled rest ≡ true → (read ++ rest) ++ EndOfText ∷ [] ≡ spelling tree → IsViable spelling read
 viable_front spelling tree text read next later rest given spelled whole =
     viable_of spelling tree read rest (spelled_both read rest (spelled_front text read next later given) spelled) whole
 

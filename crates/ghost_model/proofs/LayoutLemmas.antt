@@ -1,6 +1,8 @@
 -- Lemmas on the layout of the flash.
+pub mod Columns
 pub mod Numbers
 pub mod Following
+pub mod Places
 pub mod Order
 pub mod Small
 pub mod Levels

@@ -2,10 +2,12 @@ pub mod TokenLemmas
 pub mod TextLemmas
 pub mod GrammarLemmas
 pub mod SchemaLemmas
+pub mod RuleLemmas
 pub mod SchemaRuleLemmas
 pub mod SchemaTreeLemmas
 pub mod CatalogLemmas
 pub mod CatalogLengthLemmas
+pub mod CatalogByteLemmas
 pub mod CatalogSpellingLemmas
 pub mod QueryLemmas
 pub mod QueryReadingLemmas

@@ -3,13 +3,14 @@
 use Rattle.std.proofs.Common.{◌≡◌, ℕ, true, List, [], ◌∷◌, ◌++◌, map, length, slice_get, Option, Some, None, Result, Ok, Err, option_map, option_and_then, IfSome, flat_map, ◌⊎◌, inl, inr, refl, sym, ap, ap₂, subst, ◌∙◌, append_assoc, append-nil}
 use Rattle.std.proofs.lemmas.List.{map-append}
 use Rattle.std.specs.List.{list_all}
-use Rattle.ghost_model.specs.Query as query
-use Rattle.ghost_model.specs.Query.{Operator}
-use Rattle.ghost_model.specs.Tokens.{Token, tokens, symbol_of, symbols, offset_of, Symbol, Word, Name, Digits, Quoted, Comma, Point, Star, Plus, Minus, Equal, Unequal, Less, AtMost, More, AtLeast, End, Select, From, Where, And, Between}
-use Rattle.ghost_model.specs.Grammar.{Spells, IsSyntaxFault, separated, begun}
-use Rattle.ghost_model.specs.Spelled.{is_spelled, is_name, is_number}
-use Rattle.ghost_model.specs.QueryGrammar.{ColumnText, Bare, Qualified, Sign, Positive, Negative, LiteralText, Unsigned, Signed, Written, ConditionText, Compares, LiesBetween, Joins, Selection, All, Columns, QueryText, spell_column, spell_sign, spell_operator, spell_literal, spell_condition, spell_table, spell_selection, spell_where, spelling}
-use Rattle.ghost_model.specs.QueryPlaces.{ColumnPart, WantsColumn, HasTablePoint, HasColumn, ConditionPart, WantsLeft, HasLeftPoint, HasLeft, HasOperator, HasSign, HasRightPoint, WantsLow, HasLowSign, HasLow, WantsHigh, HasHighSign, HasCondition, Place, Start, HasStar, InSelect, WantsTable, HasTable, InWhere, Whole, first_item, other_items, selection_of, query_text, in_column, in_condition, before, step_in_column, step_in_condition, step_in_select, step_in_where, step, whole_text, read_from, syntax_of, IsStuck}
+use Rattle.ghost_model.specs.core.Query as query
+use Rattle.ghost_model.specs.core.Query.{Operator}
+use Rattle.ghost_model.specs.refusals.Tokens.{Token, tokens, symbol_of, symbols, offset_of, Symbol, Word, Name, Digits, Quoted, Comma, Point, Star, PlusSign, MinusSign, EqualSign, UnequalSign, LessSign, AtMostSign, MoreSign, AtLeastSign, EndOfText, SelectWord, FromWord, WhereWord, AndWord, BetweenWord}
+use Rattle.ghost_model.specs.refusals.Grammar.{Spells, IsSyntaxFault, separated, begun}
+use Rattle.ghost_model.specs.laws.Spelled.{is_spelled, is_name}
+use Rattle.ghost_model.specs.refusals.QueryGrammar.{ColumnText, Bare, Qualified, Sign, Positive, Negative, LiteralText, Unsigned, Signed, Written, ConditionText, Compares, LiesBetween, Joins, Selection, All, Columns, QueryText, spell_column, spell_sign, spell_operator, spell_literal, spell_condition, spell_table, spell_selection, spell_where, spelling}
+use Rattle.ghost_model.specs.readings.QueryPlaces.{ColumnPart, WantsColumn, HasTablePoint, HasColumn, ConditionPart, WantsLeft, HasLeftPoint, HasLeft, HasOperator, HasSign, HasRightPoint, WantsLow, HasLowSign, HasLow, WantsHigh, HasHighSign, HasCondition, QueryPlace, Start, HasStar, InSelect, WantsTable, HasTable, InWhere, Whole, first_item, other_items, selection_of, query_text, in_column, in_condition, before, step_in_column, step_in_condition, step_in_select, step_in_where, step, whole_text, read_from, syntax_of}
+use Rattle.ghost_model.specs.laws.QueryLaws.{IsStuck}
 use Rattle.ghost_model.proofs.TokenLemmas.{before_end}
 use Rattle.ghost_model.proofs.GrammarLemmas.{front, final, front_final, begun_before, more_begun, separated_made, spelled_parts, no_end_inside, spelled_front, viable_front, run, run-append, dead_after, fault_after, no_fault, one_fault}
 
@@ -26,29 +27,29 @@ condition_step : (symbol : Symbol) (part : ConditionPart)
 condition_step (Name name) WantsLeft = refl
 condition_step (Name name) (HasLeftPoint table) = refl
 condition_step Point (HasLeft (Bare name)) = refl
-condition_step Equal (HasLeft column) = refl
-condition_step Unequal (HasLeft column) = refl
-condition_step Less (HasLeft column) = refl
-condition_step AtMost (HasLeft column) = refl
-condition_step More (HasLeft column) = refl
-condition_step AtLeast (HasLeft column) = refl
-condition_step (Word Between) (HasLeft column) = refl
-condition_step Plus (HasOperator column operator) = sym (append_assoc (spell_column column) _ _)
-condition_step Minus (HasOperator column operator) = sym (append_assoc (spell_column column) _ _)
+condition_step EqualSign (HasLeft column) = refl
+condition_step UnequalSign (HasLeft column) = refl
+condition_step LessSign (HasLeft column) = refl
+condition_step AtMostSign (HasLeft column) = refl
+condition_step MoreSign (HasLeft column) = refl
+condition_step AtLeastSign (HasLeft column) = refl
+condition_step (Word BetweenWord) (HasLeft column) = refl
+condition_step PlusSign (HasOperator column operator) = sym (append_assoc (spell_column column) _ _)
+condition_step MinusSign (HasOperator column operator) = sym (append_assoc (spell_column column) _ _)
 condition_step (Digits digits) (HasOperator column operator) = sym (append_assoc (spell_column column) _ _)
 condition_step (Quoted text) (HasOperator column operator) = sym (append_assoc (spell_column column) _ _)
 condition_step (Name name) (HasOperator column query.Equal) = sym (append_assoc (spell_column column) _ _)
 condition_step (Digits digits) (HasSign column operator sign) = sym (append_assoc (spell_column column) _ _)
 condition_step Point (HasCondition (Joins left (Bare table))) = sym (append_assoc (spell_column left) _ _)
 condition_step (Name name) (HasRightPoint left table) = sym (append_assoc (spell_column left) _ _)
-condition_step Plus (WantsLow column) = sym (append_assoc (spell_column column) _ _)
-condition_step Minus (WantsLow column) = sym (append_assoc (spell_column column) _ _)
+condition_step PlusSign (WantsLow column) = sym (append_assoc (spell_column column) _ _)
+condition_step MinusSign (WantsLow column) = sym (append_assoc (spell_column column) _ _)
 condition_step (Digits digits) (WantsLow column) = sym (append_assoc (spell_column column) _ _)
 condition_step (Quoted text) (WantsLow column) = sym (append_assoc (spell_column column) _ _)
 condition_step (Digits digits) (HasLowSign column sign) = sym (append_assoc (spell_column column) _ _)
-condition_step (Word And) (HasLow column low) = sym (append_assoc (spell_column column) _ _)
-condition_step Plus (WantsHigh column low) = simp append_assoc
-condition_step Minus (WantsHigh column low) = simp append_assoc
+condition_step (Word AndWord) (HasLow column low) = sym (append_assoc (spell_column column) _ _)
+condition_step PlusSign (WantsHigh column low) = simp append_assoc
+condition_step MinusSign (WantsHigh column low) = simp append_assoc
 condition_step (Digits digits) (WantsHigh column low) = simp append_assoc
 condition_step (Quoted text) (WantsHigh column low) = simp append_assoc
 condition_step (Digits digits) (HasHighSign column low sign) = simp append_assoc
@@ -64,23 +65,23 @@ in_select : (earlier : List ColumnText) (symbol : Symbol) (part : ColumnPart) (o
     → IfSome (option_map (InSelect earlier) o) (λ next. before next ≡ before (InSelect earlier part) ++ symbol ∷ [])
 in_select earlier symbol part None adds = tt
 in_select earlier symbol part (Some next) adds =
-    ap (λ rest. Word Select ∷ (begun Comma spell_column earlier ++ rest)) adds
-    ∙ ap (λ rest. Word Select ∷ rest) (sym (append_assoc (begun Comma spell_column earlier) _ _))
+    ap (λ rest. Word SelectWord ∷ (begun Comma spell_column earlier ++ rest)) adds
+    ∙ ap (λ rest. Word SelectWord ∷ rest) (sym (append_assoc (begun Comma spell_column earlier) _ _))
 
 select_step : (symbol : Symbol) (part : ColumnPart) (earlier : List ColumnText)
     → IfSome (step_in_select symbol part earlier) (λ next. before next ≡ before (InSelect earlier part) ++ symbol ∷ [])
 select_step Star WantsColumn [] = refl
 select_step Comma (HasColumn column) earlier =
-    ap (λ rest. Word Select ∷ rest)
+    ap (λ rest. Word SelectWord ∷ rest)
     (append-nil _ ∙ sym (more_begun Comma spell_column earlier column) ∙ sym (append_assoc (begun Comma spell_column earlier) _ _))
-select_step (Word From) (HasColumn column) earlier =
-    ap (λ rest. Word Select ∷ (rest ++ Word From ∷ [])) (sym (separated_made Comma spell_column earlier column))
+select_step (Word FromWord) (HasColumn column) earlier =
+    ap (λ rest. Word SelectWord ∷ (rest ++ Word FromWord ∷ [])) (sym (separated_made Comma spell_column earlier column))
 select_step symbol part earlier = in_select earlier symbol part (step_in_column symbol part) (column_step symbol part)
 
 -- what stands before the conditions
 with_conditions : Selection → List ℕ → List (List ℕ) → List Symbol → List Symbol
 with_conditions selection table more rest =
-    Word Select ∷ (spell_selection selection ++ (Word From ∷ (separated Comma spell_table table more ++ rest)))
+    Word SelectWord ∷ (spell_selection selection ++ (Word FromWord ∷ (separated Comma spell_table table more ++ rest)))
 
 with_conditions_more : (selection : Selection) (table : List ℕ) (more : List (List ℕ)) (rest last : List Symbol)
     → with_conditions selection table more (rest ++ last) ≡ with_conditions selection table more rest ++ last
@@ -95,64 +96,64 @@ in_where : (selection : Selection) (table : List ℕ) (more : List (List ℕ)) (
 unfolding with_conditions
 in_where selection table more earlier symbol part None adds = tt
 in_where selection table more earlier symbol part (Some next) adds =
-    ap (λ rest. with_conditions selection table more (Word Where ∷ (begun (Word And) spell_condition earlier ++ rest))) adds
-    ∙ ap (λ rest. with_conditions selection table more (Word Where ∷ rest)) (sym (append_assoc (begun (Word And) spell_condition earlier) _ _))
-    ∙ with_conditions_more selection table more (Word Where ∷ (begun (Word And) spell_condition earlier ++ in_condition part)) (symbol ∷ [])
+    ap (λ rest. with_conditions selection table more (Word WhereWord ∷ (begun (Word AndWord) spell_condition earlier ++ rest))) adds
+    ∙ ap (λ rest. with_conditions selection table more (Word WhereWord ∷ rest)) (sym (append_assoc (begun (Word AndWord) spell_condition earlier) _ _))
+    ∙ with_conditions_more selection table more (Word WhereWord ∷ (begun (Word AndWord) spell_condition earlier ++ in_condition part)) (symbol ∷ [])
 
 where_made : (earlier : List ConditionText) (last : ConditionText)
-    → Word Where ∷ (begun (Word And) spell_condition earlier ++ spell_condition last) ≡ spell_where (earlier ++ last ∷ [])
-where_made [] last = ap (λ rest. Word Where ∷ rest) (separated_made (Word And) spell_condition [] last)
-where_made (first ∷ earlier) last = ap (λ rest. Word Where ∷ rest) (separated_made (Word And) spell_condition (first ∷ earlier) last)
+    → Word WhereWord ∷ (begun (Word AndWord) spell_condition earlier ++ spell_condition last) ≡ spell_where (earlier ++ last ∷ [])
+where_made [] last = ap (λ rest. Word WhereWord ∷ rest) (separated_made (Word AndWord) spell_condition [] last)
+where_made (first ∷ earlier) last = ap (λ rest. Word WhereWord ∷ rest) (separated_made (Word AndWord) spell_condition (first ∷ earlier) last)
 
 where_step : (symbol : Symbol) (part : ConditionPart) (selection : Selection) (table : List ℕ) (more : List (List ℕ))
     (earlier : List ConditionText)
     → IfSome (step_in_where symbol part selection table more earlier)
     (λ next. before next ≡ before (InWhere selection table more earlier part) ++ symbol ∷ [])
 unfolding with_conditions
-where_step (Word And) (HasCondition condition) selection table more earlier =
-    ap (λ rest. with_conditions selection table more (Word Where ∷ rest))
-    (append-nil _ ∙ sym (more_begun (Word And) spell_condition earlier condition)
-    ∙ sym (append_assoc (begun (Word And) spell_condition earlier) _ _))
-    ∙ with_conditions_more selection table more (Word Where ∷ (begun (Word And) spell_condition earlier ++ spell_condition condition)) (Word And ∷ [])
-where_step End (HasCondition condition) selection table more earlier =
-    ap (λ rest. with_conditions selection table more (rest ++ End ∷ [])) (sym (where_made earlier condition))
-    ∙ with_conditions_more selection table more (Word Where ∷ (begun (Word And) spell_condition earlier ++ spell_condition condition)) (End ∷ [])
+where_step (Word AndWord) (HasCondition condition) selection table more earlier =
+    ap (λ rest. with_conditions selection table more (Word WhereWord ∷ rest))
+    (append-nil _ ∙ sym (more_begun (Word AndWord) spell_condition earlier condition)
+    ∙ sym (append_assoc (begun (Word AndWord) spell_condition earlier) _ _))
+    ∙ with_conditions_more selection table more (Word WhereWord ∷ (begun (Word AndWord) spell_condition earlier ++ spell_condition condition)) (Word AndWord ∷ [])
+where_step EndOfText (HasCondition condition) selection table more earlier =
+    ap (λ rest. with_conditions selection table more (rest ++ EndOfText ∷ [])) (sym (where_made earlier condition))
+    ∙ with_conditions_more selection table more (Word WhereWord ∷ (begun (Word AndWord) spell_condition earlier ++ spell_condition condition)) (EndOfText ∷ [])
 where_step symbol part selection table more earlier =
     in_where selection table more earlier symbol part (step_in_condition symbol part) (condition_step symbol part)
 
 -- what stands before the tables
 with_tables : Selection → List Symbol → List Symbol
-with_tables selection rest = Word Select ∷ (spell_selection selection ++ (Word From ∷ rest))
+with_tables selection rest = Word SelectWord ∷ (spell_selection selection ++ (Word FromWord ∷ rest))
 
 with_tables_more : (selection : Selection) (rest last : List Symbol)
     → with_tables selection (rest ++ last) ≡ with_tables selection rest ++ last
 unfolding with_tables
 with_tables_more selection rest last = simp append_assoc
 
-place_step : (place : Place) (symbol : Symbol) → IfSome (step place symbol) (λ next. before next ≡ before place ++ symbol ∷ [])
+place_step : (place : QueryPlace) (symbol : Symbol) → IfSome (step place symbol) (λ next. before next ≡ before place ++ symbol ∷ [])
 unfolding with_tables
-place_step Start (Word Select) = refl
-place_step HasStar (Word From) = refl
+place_step Start (Word SelectWord) = refl
+place_step HasStar (Word FromWord) = refl
 place_step (InSelect earlier part) symbol = select_step symbol part earlier
 place_step (WantsTable selection earlier) (Name table) = with_tables_more selection (begun Comma spell_table earlier) (Name table ∷ [])
 place_step (HasTable selection earlier table) Comma =
     ap (with_tables selection) (sym (more_begun Comma spell_table earlier table) ∙ sym (append_assoc (begun Comma spell_table earlier) _ _))
     ∙ with_tables_more selection (begun Comma spell_table earlier ++ spell_table table) (Comma ∷ [])
-place_step (HasTable selection earlier table) (Word Where) =
-    ap (λ rest. with_tables selection (rest ++ Word Where ∷ [])) (sym (separated_made Comma spell_table earlier table))
-    ∙ with_tables_more selection (begun Comma spell_table earlier ++ spell_table table) (Word Where ∷ [])
-place_step (HasTable selection earlier table) End =
-    ap (λ rest. with_tables selection (rest ++ End ∷ [])) (sym (separated_made Comma spell_table earlier table))
-    ∙ with_tables_more selection (begun Comma spell_table earlier ++ spell_table table) (End ∷ [])
+place_step (HasTable selection earlier table) (Word WhereWord) =
+    ap (λ rest. with_tables selection (rest ++ Word WhereWord ∷ [])) (sym (separated_made Comma spell_table earlier table))
+    ∙ with_tables_more selection (begun Comma spell_table earlier ++ spell_table table) (Word WhereWord ∷ [])
+place_step (HasTable selection earlier table) EndOfText =
+    ap (λ rest. with_tables selection (rest ++ EndOfText ∷ [])) (sym (separated_made Comma spell_table earlier table))
+    ∙ with_tables_more selection (begun Comma spell_table earlier ++ spell_table table) (EndOfText ∷ [])
 place_step (InWhere selection table more earlier part) symbol = where_step symbol part selection table more earlier
 place_step _ _ = tt
 
-step_before : (place : Place) (symbol : Symbol) (next : Place) → step place symbol ≡ Some next → before next ≡ before place ++ symbol ∷ []
+step_before : (place : QueryPlace) (symbol : Symbol) (next : QueryPlace) → step place symbol ≡ Some next → before next ≡ before place ++ symbol ∷ []
 step_before place symbol next leads =
     from_some (λ next. before next ≡ before place ++ symbol ∷ []) (step place symbol) next (place_step place symbol) leads
 
 -- following symbols adds them to what was read
-pub run_before : (place : Place) (xs : List Symbol) (last : Place) → run step place xs ≡ Some last → before last ≡ before place ++ xs
+pub run_before : (place : QueryPlace) (xs : List Symbol) (last : QueryPlace) → run step place xs ≡ Some last → before last ≡ before place ++ xs
 run_before place [] last leads = let same : place ≡ last = cc in sym (ap before same) ∙ sym (append-nil (before place))
 run_before place (symbol ∷ xs) last leads = elim (step place symbol) as (λ o. step place symbol ≡ o → option_and_then (λ next. run step next xs) o ≡ Some last → before last ≡ before place ++ (symbol ∷ xs)) [
   | None ↦ (λ is leads. absurd (cc))
@@ -190,9 +191,9 @@ selection_run : (selection : Selection) (rest : List Symbol)
 unfolding with_tables
 selection_run All rest = refl
 selection_run (Columns x xs) rest =
-    ap (run step (InSelect [] WantsColumn)) (append_assoc (spell_column x) _ (Word From ∷ rest))
+    ap (run step (InSelect [] WantsColumn)) (append_assoc (spell_column x) _ (Word FromWord ∷ rest))
     ∙ column_run [] x _
-    ∙ columns_run [] x xs (Word From ∷ rest)
+    ∙ columns_run [] x xs (Word FromWord ∷ rest)
     ∙ ap₂ (λ first others. run step (WantsTable (Columns first others) []) rest) (first_back x xs) (others_back x xs)
 
 tables_run : (selection : Selection) (done : List (List ℕ)) (x : List ℕ) (xs : List (List ℕ)) (rest : List Symbol)
@@ -270,24 +271,24 @@ module _ (selection : Selection) (table : List ℕ) (more : List (List ℕ)) whe
       ∙ right_run done left right rest
 
   conditions_run : (done : List ConditionText) (x : ConditionText) (xs : List ConditionText)
-      → run step (InWhere selection table more done (HasCondition x)) (flat_map (λ other. Word And ∷ spell_condition other) xs ++ End ∷ [])
+      → run step (InWhere selection table more done (HasCondition x)) (flat_map (λ other. Word AndWord ∷ spell_condition other) xs ++ EndOfText ∷ [])
       ≡ Some (Whole (query_text selection table more (done ++ x ∷ xs)))
   conditions_run done x [] = refl
   conditions_run done x (y ∷ ys) =
-      ap (run step (InWhere selection table more (done ++ x ∷ []) WantsLeft)) (append_assoc (spell_condition y) _ (End ∷ []))
+      ap (run step (InWhere selection table more (done ++ x ∷ []) WantsLeft)) (append_assoc (spell_condition y) _ (EndOfText ∷ []))
       ∙ condition_run (done ++ x ∷ []) y _
       ∙ conditions_run (done ++ x ∷ []) y ys
       ∙ ap (λ all. Some (Whole (query_text selection table more all))) (append_assoc done (x ∷ []) _)
 
   where_run : (conditions : List ConditionText)
-      → run step (HasTable selection (front table more) (final table more)) (spell_where conditions ++ End ∷ [])
+      → run step (HasTable selection (front table more) (final table more)) (spell_where conditions ++ EndOfText ∷ [])
       ≡ Some (Whole (query_text selection table more conditions))
   where_run [] =
       ap₂ (λ first others. Some (Whole (query_text selection first others []))) (first_back table more) (others_back table more)
   where_run (x ∷ xs) =
-      ap₂ (λ first others. run step (InWhere selection first others [] WantsLeft) (separated (Word And) spell_condition x xs ++ End ∷ []))
+      ap₂ (λ first others. run step (InWhere selection first others [] WantsLeft) (separated (Word AndWord) spell_condition x xs ++ EndOfText ∷ []))
       (first_back table more) (others_back table more)
-      ∙ ap (run step (InWhere selection table more [] WantsLeft)) (append_assoc (spell_condition x) _ (End ∷ []))
+      ∙ ap (run step (InWhere selection table more [] WantsLeft)) (append_assoc (spell_condition x) _ (EndOfText ∷ []))
       ∙ condition_run [] x _
       ∙ conditions_run [] x xs
 
@@ -296,7 +297,7 @@ pub leads : (tree : QueryText) → run step Start (spelling tree) ≡ Some (Whol
 unfolding with_tables
 leads tree =
     selection_run tree.selection _
-    ∙ tables_run tree.selection [] tree.table tree.more_tables (spell_where tree.conditions ++ End ∷ [])
+    ∙ tables_run tree.selection [] tree.table tree.more_tables (spell_where tree.conditions ++ EndOfText ∷ [])
     ∙ where_run tree.selection tree.table tree.more_tables tree.conditions
 
 -- each place is reached by the symbols before it
@@ -317,12 +318,12 @@ begun_tables_run selection done (x ∷ xs) rest =
     ∙ ap (λ d. run step (WantsTable selection d) rest) (append_assoc done (x ∷ []) xs)
 
 begun_conditions_run : (selection : Selection) (table : List ℕ) (more : List (List ℕ)) (done xs : List ConditionText) (rest : List Symbol)
-    → run step (InWhere selection table more done WantsLeft) (begun (Word And) spell_condition xs ++ rest)
+    → run step (InWhere selection table more done WantsLeft) (begun (Word AndWord) spell_condition xs ++ rest)
     ≡ run step (InWhere selection table more (done ++ xs) WantsLeft) rest
 begun_conditions_run selection table more done [] rest =
     ap (λ d. run step (InWhere selection table more d WantsLeft) rest) (sym (append-nil done))
 begun_conditions_run selection table more done (x ∷ xs) rest =
-    ap (run step (InWhere selection table more done WantsLeft)) (begun_before (Word And) spell_condition x xs rest)
+    ap (run step (InWhere selection table more done WantsLeft)) (begun_before (Word AndWord) spell_condition x xs rest)
     ∙ condition_run selection table more done x _
     ∙ begun_conditions_run selection table more (done ++ x ∷ []) xs rest
     ∙ ap (λ d. run step (InWhere selection table more d WantsLeft) rest) (append_assoc done (x ∷ []) xs)
@@ -383,7 +384,7 @@ condition_reached selection table more done (HasCondition condition) =
     ap (run step (InWhere selection table more done WantsLeft)) (sym (append-nil (spell_condition condition)))
     ∙ condition_run selection table more done condition []
 
-reached : (place : Place) → run step Start (before place) ≡ Some place
+reached : (place : QueryPlace) → run step Start (before place) ≡ Some place
 unfolding with_tables
 reached Start = refl
 reached HasStar = refl
@@ -396,18 +397,18 @@ reached (HasTable selection earlier table) = selection_run selection _ ∙ begun
 reached (InWhere selection table more earlier part) =
     selection_run selection _
     ∙ tables_run selection [] table more _
-    ∙ ap₂ (λ first others. run step (InWhere selection first others [] WantsLeft) (begun (Word And) spell_condition earlier ++ in_condition part))
+    ∙ ap₂ (λ first others. run step (InWhere selection first others [] WantsLeft) (begun (Word AndWord) spell_condition earlier ++ in_condition part))
     (first_back table more) (others_back table more)
     ∙ begun_conditions_run selection table more [] earlier (in_condition part)
     ∙ condition_reached selection table more earlier part
 reached (Whole tree) = leads tree
 
 -- a way to a whole text from a place, by symbols that bytes can spell
-record Completes (place : Place) : Type 0 where
+record Completes (place : QueryPlace) : Type 0 where
   rest : List Symbol
   spelled : list_all is_spelled rest ≡ true
   tree : QueryText
-  ends : run step place (rest ++ End ∷ []) ≡ Some (Whole tree)
+  ends : run step place (rest ++ EndOfText ∷ []) ≡ Some (Whole tree)
 
 a : List ℕ
 a = 97 ∷ []
@@ -417,15 +418,15 @@ nought = 48 ∷ []
 
 -- inside a condition: the symbols that are left, and the condition that they make
 ending : ConditionPart → List Symbol
-ending WantsLeft = Name a ∷ Equal ∷ Name a ∷ []
-ending (HasLeftPoint table) = Name a ∷ Equal ∷ Name a ∷ []
-ending (HasLeft column) = Equal ∷ Name a ∷ []
+ending WantsLeft = Name a ∷ EqualSign ∷ Name a ∷ []
+ending (HasLeftPoint table) = Name a ∷ EqualSign ∷ Name a ∷ []
+ending (HasLeft column) = EqualSign ∷ Name a ∷ []
 ending (HasOperator column operator) = Digits nought ∷ []
 ending (HasSign column operator sign) = Digits nought ∷ []
 ending (HasRightPoint left table) = Name a ∷ []
-ending (WantsLow column) = Digits nought ∷ Word And ∷ Digits nought ∷ []
-ending (HasLowSign column sign) = Digits nought ∷ Word And ∷ Digits nought ∷ []
-ending (HasLow column low) = Word And ∷ Digits nought ∷ []
+ending (WantsLow column) = Digits nought ∷ Word AndWord ∷ Digits nought ∷ []
+ending (HasLowSign column sign) = Digits nought ∷ Word AndWord ∷ Digits nought ∷ []
+ending (HasLow column low) = Word AndWord ∷ Digits nought ∷ []
 ending (WantsHigh column low) = Digits nought ∷ []
 ending (HasHighSign column low sign) = Digits nought ∷ []
 ending (HasCondition condition) = []
@@ -445,7 +446,7 @@ ended (HasHighSign column low sign) = LiesBetween column low (Signed sign nought
 ended (HasCondition condition) = condition
 
 ending_spelled : (part : ConditionPart) → list_all is_spelled (ending part) ≡ true
-unfolding ending a nought is_name is_number
+unfolding ending a nought is_name
 ending_spelled WantsLeft = refl
 ending_spelled (HasLeftPoint table) = refl
 ending_spelled (HasLeft column) = refl
@@ -460,7 +461,7 @@ ending_spelled (HasHighSign column low sign) = refl
 ending_spelled (HasCondition condition) = refl
 
 ending_run : (selection : Selection) (table : List ℕ) (more : List (List ℕ)) (earlier : List ConditionText) (part : ConditionPart)
-    → run step (InWhere selection table more earlier part) (ending part ++ End ∷ [])
+    → run step (InWhere selection table more earlier part) (ending part ++ EndOfText ∷ [])
     ≡ Some (Whole (query_text selection table more (earlier ++ ended part ∷ [])))
 unfolding ending ended
 ending_run selection table more earlier WantsLeft = refl
@@ -476,29 +477,29 @@ ending_run selection table more earlier (WantsHigh column low) = refl
 ending_run selection table more earlier (HasHighSign column low sign) = refl
 ending_run selection table more earlier (HasCondition condition) = refl
 
-completes : (place : Place) → ((tree : QueryText) → place ≡ Whole tree → ⊥) → Completes place
+completes : (place : QueryPlace) → ((tree : QueryText) → place ≡ Whole tree → ⊥) → Completes place
 unfolding a is_name
 completes Start unwhole = record {
-  rest = Word Select ∷ Star ∷ Word From ∷ Name a ∷ [];
+  rest = Word SelectWord ∷ Star ∷ Word FromWord ∷ Name a ∷ [];
   spelled = refl;
   tree = query_text All a [] [];
   ends = refl;
 }
-completes HasStar unwhole = record { rest = Word From ∷ Name a ∷ []; spelled = refl; tree = query_text All a [] []; ends = refl }
+completes HasStar unwhole = record { rest = Word FromWord ∷ Name a ∷ []; spelled = refl; tree = query_text All a [] []; ends = refl }
 completes (InSelect earlier WantsColumn) unwhole = record {
-  rest = Name a ∷ Word From ∷ Name a ∷ [];
+  rest = Name a ∷ Word FromWord ∷ Name a ∷ [];
   spelled = refl;
   tree = query_text (selection_of earlier (Bare a)) a [] [];
   ends = refl;
 }
 completes (InSelect earlier (HasTablePoint table)) unwhole = record {
-  rest = Name a ∷ Word From ∷ Name a ∷ [];
+  rest = Name a ∷ Word FromWord ∷ Name a ∷ [];
   spelled = refl;
   tree = query_text (selection_of earlier (Qualified table a)) a [] [];
   ends = refl;
 }
 completes (InSelect earlier (HasColumn column)) unwhole = record {
-  rest = Word From ∷ Name a ∷ [];
+  rest = Word FromWord ∷ Name a ∷ [];
   spelled = refl;
   tree = query_text (selection_of earlier column) a [] [];
   ends = refl;
@@ -531,11 +532,11 @@ whole_not_spelled tree h =
     no_end_inside (spell_where tree.conditions) [] from.1
 
 -- what the computing reading says, by the places
-after : List Token → ℕ → Option Place → Result QueryText ℕ
+after : List Token → ℕ → Option QueryPlace → Result QueryText ℕ
 after later at None = Err at
 after later at (Some next) = read_from next later
 
-read_run : (place : Place) (given : List Token) (last : Place)
+read_run : (place : QueryPlace) (given : List Token) (last : QueryPlace)
     → run step place (map symbol_of given) ≡ Some last → read_from place given ≡ whole_text last
 unfolding read_from after
 read_run place [] last leads = let same : place ≡ last = cc in ap whole_text same
@@ -545,11 +546,11 @@ read_run place (token ∷ later) last leads =
       | Some next ↦ (λ leads. read_run next later last leads)
     ] leads
 
-whole_back : (place : Place) (tree : QueryText) → whole_text place ≡ Ok tree → place ≡ Whole tree
+whole_back : (place : QueryPlace) (tree : QueryText) → whole_text place ≡ Ok tree → place ≡ Whole tree
 whole_back (Whole other) tree is = let same : other ≡ tree = cc in ap Whole same
 whole_back _ tree is = absurd (cc)
 
-read_ok : (place : Place) (given : List Token) (tree : QueryText)
+read_ok : (place : QueryPlace) (given : List Token) (tree : QueryText)
     → read_from place given ≡ Ok tree → run step place (map symbol_of given) ≡ Some (Whole tree)
 unfolding read_from after
 read_ok place [] tree is = ap Some (whole_back place tree is)
@@ -560,22 +561,22 @@ read_ok place (token ∷ later) tree is =
     ] is
 
 -- a token that leads nowhere from the place that the tokens before it led to
-record Stops (start : Place) (given : List Token) (at : ℕ) : Type 0 where
+record Stops (start : QueryPlace) (given : List Token) (at : ℕ) : Type 0 where
   read : List Token
   token : Token
   later : List Token
   whole : given ≡ read ++ token ∷ later
-  last : Place
+  last : QueryPlace
   reaches : run step start (map symbol_of read) ≡ Some last
   nowhere : step last token.symbol ≡ None
   offset : token.at ≡ at
 
-record RunsOut (start : Place) (given : List Token) (at : ℕ) : Type 0 where
-  last : Place
+record RunsOut (start : QueryPlace) (given : List Token) (at : ℕ) : Type 0 where
+  last : QueryPlace
   reaches : run step start (map symbol_of given) ≡ Some last
   unfinished : whole_text last ≡ Err at
 
-read_stop : (place : Place) (given : List Token) (at : ℕ) → read_from place given ≡ Err at → Stops place given at ⊎ RunsOut place given at
+read_stop : (place : QueryPlace) (given : List Token) (at : ℕ) → read_from place given ≡ Err at → Stops place given at ⊎ RunsOut place given at
 unfolding read_from after
 read_stop place [] at is = inr (record { last = place; reaches = refl; unfinished = is })
 read_stop place (token ∷ later) at is =
@@ -601,7 +602,7 @@ read_stop place (token ∷ later) at is =
     ] refl is
 
 -- the end of a text leads to a whole text, or nowhere
-end_whole : (place : Place) → IfSome (step place End) (λ last. (tree : QueryText) × (last ≡ Whole tree))
+end_whole : (place : QueryPlace) → IfSome (step place EndOfText) (λ last. (tree : QueryText) × (last ≡ Whole tree))
 end_whole Start = tt
 end_whole HasStar = tt
 end_whole (InSelect earlier WantsColumn) = tt
@@ -613,19 +614,19 @@ end_whole (InWhere selection table more earlier (HasCondition condition)) = (que
 end_whole (InWhere selection table more earlier _) = tt
 end_whole (Whole tree) = tt
 
-ends_whole : (o : Option Place) (last : Place) → option_and_then (λ next. run step next (End ∷ [])) o ≡ Some last → (tree : QueryText) × (last ≡ Whole tree)
+ends_whole : (o : Option QueryPlace) (last : QueryPlace) → option_and_then (λ next. run step next (EndOfText ∷ [])) o ≡ Some last → (tree : QueryText) × (last ≡ Whole tree)
 ends_whole None last leads = absurd (cc)
 ends_whole (Some place) last leads =
-    from_some (λ last. (tree : QueryText) × (last ≡ Whole tree)) (step place End) last (end_whole place) (one_step (step place End) last leads)
+    from_some (λ last. (tree : QueryText) × (last ≡ Whole tree)) (step place EndOfText) last (end_whole place) (one_step (step place EndOfText) last leads)
   where
-    one_step : (o : Option Place) (last : Place) → option_and_then (λ next. run step next []) o ≡ Some last → o ≡ Some last
+    one_step : (o : Option QueryPlace) (last : QueryPlace) → option_and_then (λ next. run step next []) o ≡ Some last → o ≡ Some last
     one_step None last leads = absurd (cc)
     one_step (Some next) last leads = leads
 
 never_runs_out : (text : List ℕ) (at : ℕ) → RunsOut Start (tokens text) at → ⊥
 never_runs_out text at out =
     let found = before_end text in
-    let goes = sym (run-append step Start found.0 (End ∷ [])) ∙ ap (run step Start) (sym found.1.whole) ∙ out.reaches in
+    let goes = sym (run-append step Start found.0 (EndOfText ∷ [])) ∙ ap (run step Start) (sym found.1.whole) ∙ out.reaches in
     let whole = ends_whole (run step Start found.0) out.last goes in
     let ok : whole_text out.last ≡ Ok whole.0 = ap whole_text whole.1 in
     let no = out.unfinished in cc
@@ -644,8 +645,8 @@ stop_is_fault text at stop =
     whole_not_spelled tree (ap (list_all is_spelled) (ap before (sym is) ∙ is_read) ∙ spelled_front text read stop.token.symbol (map symbol_of stop.later) given) in
     let way = completes stop.last unwhole in
     let viable = viable_front spelling way.tree text read stop.token.symbol (map symbol_of stop.later) way.rest given way.spelled
-    (append_assoc read way.rest (End ∷ []) ∙ ap (λ front. front ++ (way.rest ++ End ∷ [])) (sym is_read)
-    ∙ sym (run_before stop.last (way.rest ++ End ∷ []) (Whole way.tree) way.ends)) in
+    (append_assoc read way.rest (EndOfText ∷ []) ∙ ap (λ front. front ++ (way.rest ++ EndOfText ∷ [])) (sym is_read)
+    ∙ sym (run_before stop.last (way.rest ++ EndOfText ∷ []) (Whole way.tree) way.ends)) in
     record {
       place = length read;
       fault = fault_after spelling text read stop.token.symbol (map symbol_of stop.later) given viable

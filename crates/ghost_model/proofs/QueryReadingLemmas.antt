@@ -1,159 +1,70 @@
--- That each query text has one meaning or one refusal, and that the reading tells it: the first broken rule of a list
--- in the order of the rules is the one that breaks with none before it.
-use Rattle.std.proofs.Common.{◌≡◌, ℕ, suc, ◌<◌, Bool, true, false, cond, List, [], ◌∷◌, Option, Some, None, find, Result, Ok, Err, ◌⊎◌, inl, inr, refl, sym, ap, subst, ◌∙◌, arith}
-use Rattle.std.proofs.lemmas.Bool.{cases_order}
-use Rattle.ghost_model.specs.Schema.{Schema}
-use Rattle.ghost_model.specs.Query.{Query}
-use Rattle.ghost_model.specs.QueryGrammar.{QueryText}
-use Rattle.ghost_model.specs.QueryPlaces.{syntax_of}
-use Rattle.ghost_model.specs.QueryMeaning.{Refusal, Syntax, Limit, UnknownTable, UnknownColumn, Ambiguous, KindMismatch, BadLiteral, NotLinked, breaks, rank, resolved, Means, BreaksFirst, IsRefused}
-use Rattle.ghost_model.specs.QueryReading.{rules, query_unless, judged, reading, HasOneMeaning, HasOneRefusal}
+-- That each query text has one meaning or one refusal, and that the reading tells it: the first rule that the tree of
+-- the text breaks decides.
+use Rattle.std.proofs.Common.{◌≡◌, ℕ, false, List, Option, Some, None, Result, Ok, Err, ◌⊎◌, inl, inr, refl, sym, ap, subst, ◌∙◌}
+use Rattle.ghost_model.specs.core.Schema.{Schema}
+use Rattle.ghost_model.specs.core.Query.{Query}
+use Rattle.ghost_model.specs.refusals.QueryGrammar.{QueryText}
+use Rattle.ghost_model.specs.readings.QueryPlaces.{syntax_of}
+use Rattle.ghost_model.specs.refusals.Rules.{first_broken, MeetsAll, BreaksFirst}
+use Rattle.ghost_model.specs.refusals.QueryMeaning.{Refusal, Syntax, Limit, UnknownTable, UnknownColumn, Ambiguous, KindMismatch, BadLiteral, NotLinked, is_over_limit, has_unknown_table, has_unknown_column, is_ambiguous, has_kind_mismatch, has_bad_literal, is_unlinked, rules_of_queries, resolved, Means, BreaksRule, IsRefused}
+use Rattle.ghost_model.specs.readings.QueryReading.{query_unless, judged, reading}
+use Rattle.ghost_model.specs.laws.QueryLaws.{HasOneMeaning, HasOneRefusal}
+use Rattle.ghost_model.proofs.RuleLemmas.{kept_and, other_if}
 use Rattle.ghost_model.proofs.QueryLemmas.{tree_spells, spelled_tree, stop_fault, fault_stop}
 
--- one rule stands at each rank
-only_limit : (r : Refusal) → rank r ≡ 2 → r ≡ Limit
-only_limit Limit h = refl
-only_limit _ h = absurd (omega arith)
+-- what each rule leaves
+pub record KeptRules (schema : Schema) (text : List ℕ) (tree : QueryText) : Type 0 where
+  pub limits : is_over_limit schema text tree ≡ false
+  pub tables : has_unknown_table schema tree ≡ false
+  pub columns : has_unknown_column schema tree ≡ false
+  pub one_meaning : is_ambiguous schema tree ≡ false
+  pub kinds : has_kind_mismatch schema tree ≡ false
+  pub literals : has_bad_literal schema tree ≡ false
+  pub linked : is_unlinked schema (resolved schema tree) ≡ false
 
-only_table : (r : Refusal) → rank r ≡ 3 → r ≡ UnknownTable
-only_table UnknownTable h = refl
-only_table _ h = absurd (omega arith)
+pub kept_rules : (schema : Schema) (text : List ℕ) (tree : QueryText) → MeetsAll (rules_of_queries schema text tree) → KeptRules schema text tree
+kept_rules schema text tree e =
+    let a = kept_and (is_over_limit schema text tree) Limit _ e in
+    let b = kept_and (has_unknown_table schema tree) UnknownTable _ a.1 in
+    let c = kept_and (has_unknown_column schema tree) UnknownColumn _ b.1 in
+    let d = kept_and (is_ambiguous schema tree) Ambiguous _ c.1 in
+    let f = kept_and (has_kind_mismatch schema tree) KindMismatch _ d.1 in
+    let g = kept_and (has_bad_literal schema tree) BadLiteral _ f.1 in
+    let h = kept_and (is_unlinked schema (resolved schema tree)) NotLinked _ g.1 in
+    record { limits = a.0; tables = b.0; columns = c.0; one_meaning = d.0; kinds = f.0; literals = g.0; linked = h.0 }
 
-only_column : (r : Refusal) → rank r ≡ 4 → r ≡ UnknownColumn
-only_column UnknownColumn h = refl
-only_column _ h = absurd (omega arith)
-
-only_ambiguous : (r : Refusal) → rank r ≡ 5 → r ≡ Ambiguous
-only_ambiguous Ambiguous h = refl
-only_ambiguous _ h = absurd (omega arith)
-
-only_kind : (r : Refusal) → rank r ≡ 6 → r ≡ KindMismatch
-only_kind KindMismatch h = refl
-only_kind _ h = absurd (omega arith)
-
-only_literal : (r : Refusal) → rank r ≡ 7 → r ≡ BadLiteral
-only_literal BadLiteral h = refl
-only_literal _ h = absurd (omega arith)
-
-only_unlinked : (r : Refusal) → rank r ≡ 8 → r ≡ NotLinked
-only_unlinked NotLinked h = refl
-only_unlinked _ h = absurd (omega arith)
-
-last_rank : (r : Refusal) → rank r < 9
-last_rank (Syntax at) = omega arith
-last_rank Limit = omega arith
-last_rank UnknownTable = omega arith
-last_rank UnknownColumn = omega arith
-last_rank Ambiguous = omega arith
-last_rank KindMismatch = omega arith
-last_rank BadLiteral = omega arith
-last_rank NotLinked = omega arith
-
--- a list of rules, one at each rank from n on
-data IsRun : ℕ → List Refusal → Type 0 where
-  ends : IsRun 9 []
-  goes : {n : ℕ} {x : Refusal} {xs : List Refusal} → rank x ≡ n → ((r : Refusal) → rank r ≡ n → r ≡ x) → IsRun (suc n) xs → IsRun n (x ∷ xs)
-
-rules_run : IsRun 2 rules
-rules_run =
-    goes refl only_limit (goes refl only_table (goes refl only_column (goes refl only_ambiguous
-    (goes refl only_kind (goes refl only_literal (goes refl only_unlinked ends))))))
-
--- a test of rules that no syntax fault passes
-module _ (test : Refusal → Bool) (clean : (at : ℕ) → test (Syntax at) ≡ false) where
-  record IsFirst (rule : Refusal) : Type 0 where
-    broken : test rule ≡ true
-    keeps : (earlier : Refusal) → rank earlier < rank rule → test earlier ≡ false
-
-  Says : Option Refusal → Type 0
-  Says None = (rule : Refusal) → test rule ≡ false
-  Says (Some rule) = IsFirst rule
-
-  kept_more : (n : ℕ) (x : Refusal) → ((r : Refusal) → rank r ≡ n → r ≡ x) → test x ≡ false
-      → ((r : Refusal) → rank r < n → test r ≡ false) → (r : Refusal) → rank r < suc n → test r ≡ false
-  kept_more n x alone not kept r below = elim (cases_order (rank r) n) [
-    | inl same ↦ ap test (alone r same) ∙ not
-    | inr (inl less) ↦ kept r less
-    | inr (inr more) ↦ absurd (omega arith)
-  ]
-
-  found : {n : ℕ} {xs : List Refusal} → IsRun n xs → ((r : Refusal) → rank r < n → test r ≡ false) → Says (find test xs)
-  unfolding Says
-  found ends kept = λ r. kept r (last_rank r)
-  found (goes {n} {x} {xs} here alone later) kept =
-      elim (test x) as (λ b. test x ≡ b → Says (cond b (Some x) (find test xs))) [
-        | true ↦ (λ is. record { broken = is; keeps = λ r below. kept r (let less : rank r < n = omega (arith, here) in less) })
-        | false ↦ (λ is. found later (kept_more n x alone is kept))
-      ] refl
-
-  before_all : (r : Refusal) → rank r < 2 → test r ≡ false
-  before_all (Syntax at) h = clean at
-  before_all _ h = absurd (omega arith)
-
-  says : Says (find test rules)
-  says = found rules_run before_all
-
-  same_rank : (rule other : Refusal) → test other ≡ true → rank rule ≡ rank other → rule ≡ other
-  same_rank rule (Syntax at) broken h = let no = clean at in absurd (cc)
-  same_rank rule Limit broken h = only_limit rule h
-  same_rank rule UnknownTable broken h = only_table rule h
-  same_rank rule UnknownColumn broken h = only_column rule h
-  same_rank rule Ambiguous broken h = only_ambiguous rule h
-  same_rank rule KindMismatch broken h = only_kind rule h
-  same_rank rule BadLiteral broken h = only_literal rule h
-  same_rank rule NotLinked broken h = only_unlinked rule h
-
-  one_first : (rule other : Refusal) → IsFirst rule → IsFirst other → rule ≡ other
-  one_first rule other p q = elim (cases_order (rank rule) (rank other)) [
-    | inl same ↦ same_rank rule other q.broken same
-    | inr (inl less) ↦ let no = q.keeps rule less in let yes = p.broken in absurd (cc)
-    | inr (inr more) ↦ let no = p.keeps other more in let yes = q.broken in absurd (cc)
-  ]
-
-  find_none : ((rule : Refusal) → test rule ≡ false) → find test rules ≡ None
-  unfolding Says
-  find_none kept = elim (find test rules) as (λ o. Says o → o ≡ None) [
-    | None ↦ (λ said. refl)
-    | Some rule ↦ (λ said. let yes = said.broken in let no = kept rule in absurd (cc))
-  ] says
-
-  find_some : (rule : Refusal) → IsFirst rule → find test rules ≡ Some rule
-  unfolding Says
-  find_some rule first = elim (find test rules) as (λ o. Says o → o ≡ Some rule) [
-    | None ↦ (λ said. let yes = first.broken in let no = said rule in absurd (cc))
-    | Some other ↦ (λ said. ap Some (one_first other rule said first))
-  ] says
+-- no rule is the one of the grammar
+no_syntax : (schema : Schema) (text : List ℕ) (tree : QueryText) (at : ℕ) → BreaksFirst (rules_of_queries schema text tree) (Syntax at) → ⊥
+no_syntax schema text tree at =
+    other_if (is_over_limit schema text tree) Limit (Syntax at) _ (λ e. absurd (cc))
+    (other_if (has_unknown_table schema tree) UnknownTable (Syntax at) _ (λ e. absurd (cc))
+    (other_if (has_unknown_column schema tree) UnknownColumn (Syntax at) _ (λ e. absurd (cc))
+    (other_if (is_ambiguous schema tree) Ambiguous (Syntax at) _ (λ e. absurd (cc))
+    (other_if (has_kind_mismatch schema tree) KindMismatch (Syntax at) _ (λ e. absurd (cc))
+    (other_if (has_bad_literal schema tree) BadLiteral (Syntax at) _ (λ e. absurd (cc))
+    (other_if (is_unlinked schema (resolved schema tree)) NotLinked (Syntax at) None (λ e. absurd (cc)) (λ e. absurd (cc))))))))
 
 module _ (schema : Schema) (text : List ℕ) where
-  clean : (tree : QueryText) (at : ℕ) → breaks schema text tree (Syntax at) ≡ false
-  clean tree at = refl
-
-  by_rule : (rule : Refusal) → BreaksFirst schema text rule → IsRefused schema text rule
-  by_rule (Syntax at) b = let no = b.broken in absurd (cc)
-  by_rule Limit b = b
-  by_rule UnknownTable b = b
-  by_rule UnknownColumn b = b
-  by_rule Ambiguous b = b
-  by_rule KindMismatch b = b
-  by_rule BadLiteral b = b
-  by_rule NotLinked b = b
+  by_rule : (refusal : Refusal) → BreaksRule schema text refusal → IsRefused schema text refusal
+  by_rule (Syntax at) b = absurd (no_syntax schema text b.tree at b.breaks)
+  by_rule _ b = b
 
   -- what the reading says is so
   Holds : Result Query Refusal → Type 0
   Holds (Ok query) = Means schema text query
   Holds (Err refusal) = IsRefused schema text refusal
 
-  judged_holds : (tree : QueryText) → syntax_of text ≡ Ok tree → (o : Option Refusal) → Says (breaks schema text tree) (clean tree) o
+  judged_holds : (tree : QueryText) → syntax_of text ≡ Ok tree → (o : Option Refusal) → first_broken (rules_of_queries schema text tree) ≡ o
       → Holds (query_unless (resolved schema tree) o)
-  unfolding Says Holds
-  judged_holds tree is None said = record { tree = tree; spells = tree_spells text tree is; keeps = said; means = refl }
-  judged_holds tree is (Some rule) said =
-      by_rule rule (record { tree = tree; spells = tree_spells text tree is; broken = said.broken; keeps = said.keeps })
+  unfolding Holds
+  judged_holds tree is None found = record { tree = tree; spells = tree_spells text tree is; keeps = found; means = refl }
+  judged_holds tree is (Some rule) found =
+      by_rule rule (record { tree = tree; spells = tree_spells text tree is; breaks = found })
 
   reading_holds : Holds (reading schema text)
   unfolding Holds
   reading_holds = elim (syntax_of text) as (λ r. syntax_of text ≡ r → Holds (judged schema text r)) [
-    | Ok tree ↦ (λ is. judged_holds tree is (find (breaks schema text tree) rules) (says (breaks schema text tree) (clean tree)))
+    | Ok tree ↦ (λ is. judged_holds tree is (first_broken (rules_of_queries schema text tree)) refl)
     | Err at ↦ (λ is. stop_fault text at is)
   ] refl
 
@@ -165,19 +76,15 @@ module _ (schema : Schema) (text : List ℕ) where
   unfolding Holds
   refused_of refusal is = subst Holds is reading_holds
 
-  judged_as : (tree : QueryText) (o : Option Refusal) → syntax_of text ≡ Ok tree → find (breaks schema text tree) rules ≡ o
+  judged_as : (tree : QueryText) (o : Option Refusal) → syntax_of text ≡ Ok tree → first_broken (rules_of_queries schema text tree) ≡ o
       → reading schema text ≡ query_unless (resolved schema tree) o
   judged_as tree o is found = ap (judged schema text) is ∙ ap (query_unless (resolved schema tree)) found
 
   pub reading_of_means : (query : Query) → Means schema text query → reading schema text ≡ Ok query
-  reading_of_means query m =
-      judged_as m.tree None (spelled_tree text m.tree m.spells) (find_none (breaks schema text m.tree) (clean m.tree) m.keeps)
-      ∙ ap Ok (sym m.means)
+  reading_of_means query m = judged_as m.tree None (spelled_tree text m.tree m.spells) m.keeps ∙ ap Ok (sym m.means)
 
-  reading_of_rule : (rule : Refusal) → BreaksFirst schema text rule → reading schema text ≡ Err rule
-  reading_of_rule rule b =
-      judged_as b.tree (Some rule) (spelled_tree text b.tree b.spells)
-      (find_some (breaks schema text b.tree) (clean b.tree) rule (record { broken = b.broken; keeps = b.keeps }))
+  reading_of_rule : (refusal : Refusal) → BreaksRule schema text refusal → reading schema text ≡ Err refusal
+  reading_of_rule refusal b = judged_as b.tree (Some refusal) (spelled_tree text b.tree b.spells) b.breaks
 
   pub reading_of_refused : (refusal : Refusal) → IsRefused schema text refusal → reading schema text ≡ Err refusal
   reading_of_refused (Syntax at) f = ap (judged schema text) (fault_stop text at f)

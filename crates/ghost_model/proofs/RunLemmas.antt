@@ -3,8 +3,8 @@ use Rattle.std.proofs.Common.{◌≡◌, refl, ap, sym, ◌∙◌, ℕ, zero, su
 use Rattle.std.specs.List.{slice_range}
 use Rattle.std.specs.Int.{from_be_bytes, w32}
 use Rattle.std.proofs.lemmas.List.{drop-take, take-take, drop-drop, drop_more}
-use Rattle.ghost_model.specs.Runs.{page_bytes, Run, per_page, run_end, page_of, slot_of, cell_in, record_at, HasRecords, Stores, number_in, ids_from}
-use Rattle.ghost_model.specs.RunLaws.{AgreeOn, PartsOfRecords}
+use Rattle.ghost_model.specs.forms.Runs.{page_bytes, Run, per_page, run_end, page_of, slot_of, cell_in, record_at, HasRecords, Stores, number_in, ids_from}
+use Rattle.ghost_model.specs.laws.RunLaws.{AgreeOn, PartsOfRecords}
 use Rattle.ghost_model.proofs.LayoutLemmas.Numbers.{some_per_page, place_within}
 
 record_kept : (page other : ℕ → List ℕ) (run : Run) → 0 < run.width → run.width ≤ page_bytes → AgreeOn page other run.first (run_end run)

@@ -8,11 +8,12 @@ use Rattle.std.proofs.lemmas.List.{map-append, length-map}
 use Rattle.std.proofs.lemmas.Bool.{and_from}
 use Rattle.ghost_model.proofs.TokenLemmas.{before_end}
 use Rattle.ghost_model.proofs.GrammarLemmas.{more_begun, spelled_both, spelled_front, no_end_inside, viable_of, run, run-append, dead_after, fault_after, no_fault, one_fault}
-use Rattle.ghost_model.specs.Spelled.{is_spelled, is_name, is_number}
-use Rattle.ghost_model.specs.Tokens.{symbol_of, symbols, tokens, offset_of, Symbol, Token, Word, Name, Digits, Open, Closing, Comma, Semicolon, End, Char, Create, Hidden, Integer, Key, Primary, References, Table}
-use Rattle.ghost_model.specs.Grammar.{Spells, IsViable, IsSyntaxFault, separated, begun}
-use Rattle.ghost_model.specs.SchemaGrammar.{Reference, To, ColumnText, CharColumn, IntegerColumn, TableText, SchemaText, spell_column, spell_heading, spell_table, spelling}
-use Rattle.ghost_model.specs.SchemaPlaces.{InColumn, Named, AfterChar, AfterOpen, AfterLength, AfterPrimary, AfterReferences, OpensId, AfterId, Whole, Place, Between, AfterCreate, AfterTable, AfterName, WantsColumn, Within, AfterColumns, Ended, before_in, before, table_from, after_integer, after_column, after_parenthesis, step_in, step_within, step, tree_at, syntax_from, syntax_of, SchemaPlacesAreExact}
+use Rattle.ghost_model.specs.laws.Spelled.{is_spelled, is_name}
+use Rattle.ghost_model.specs.refusals.Tokens.{symbol_of, symbols, tokens, offset_of, Symbol, Token, Word, Name, Digits, Open, Closing, Comma, Semicolon, EndOfText, CharWord, CreateWord, HiddenWord, IntegerWord, PrimaryKeyWord, PrimaryWord, ReferencesWord, TableWord}
+use Rattle.ghost_model.specs.refusals.Grammar.{Spells, IsViable, IsSyntaxFault, separated, begun}
+use Rattle.ghost_model.specs.refusals.SchemaGrammar.{Reference, To, ColumnDeclaration, CharColumn, IntegerColumn, TableText, SchemaText, spell_column, spell_heading, spell_table, spelling}
+use Rattle.ghost_model.specs.readings.SchemaPlaces.{InColumn, Named, AfterChar, AfterOpen, AfterLength, AfterPrimary, AfterReferences, OpensId, AfterId, Whole, SchemaPlace, Between, AfterCreate, AfterTable, AfterName, WantsColumn, Within, AfterColumns, Ended, before_in, before, table_from, after_integer, after_column, after_parenthesis, step_in, step_within, step, tree_at, syntax_from, syntax_of}
+use Rattle.ghost_model.specs.laws.SchemaLaws.{SchemaPlacesAreExact}
 
 unSome : {X : Type 0} {a b : X} → Some a ≡ Some b → a ≡ b
 unSome e = cc
@@ -21,22 +22,22 @@ unSome e = cc
 
 integer_read : (name : List ℕ) (primary : Bool) (reference : Option Reference) (s : Symbol) (q : InColumn)
     → after_integer name primary reference s ≡ Some q → before_in q ≡ spell_column (IntegerColumn name primary reference false) ++ s ∷ []
-integer_read name true None (Word Hidden) q e = ap before_in (unSome (sym e))
-integer_read name false None (Word Hidden) q e = ap before_in (unSome (sym e))
-integer_read name true (Some (To table true)) (Word Hidden) q e = ap before_in (unSome (sym e))
-integer_read name true (Some (To table false)) (Word Hidden) q e = ap before_in (unSome (sym e))
-integer_read name false (Some (To table true)) (Word Hidden) q e = ap before_in (unSome (sym e))
-integer_read name false (Some (To table false)) (Word Hidden) q e = ap before_in (unSome (sym e))
-integer_read name true None (Word References) q e = ap before_in (unSome (sym e))
-integer_read name false None (Word References) q e = ap before_in (unSome (sym e))
-integer_read name false None (Word Primary) q e = ap before_in (unSome (sym e))
+integer_read name true None (Word HiddenWord) q e = ap before_in (unSome (sym e))
+integer_read name false None (Word HiddenWord) q e = ap before_in (unSome (sym e))
+integer_read name true (Some (To table true)) (Word HiddenWord) q e = ap before_in (unSome (sym e))
+integer_read name true (Some (To table false)) (Word HiddenWord) q e = ap before_in (unSome (sym e))
+integer_read name false (Some (To table true)) (Word HiddenWord) q e = ap before_in (unSome (sym e))
+integer_read name false (Some (To table false)) (Word HiddenWord) q e = ap before_in (unSome (sym e))
+integer_read name true None (Word ReferencesWord) q e = ap before_in (unSome (sym e))
+integer_read name false None (Word ReferencesWord) q e = ap before_in (unSome (sym e))
+integer_read name false None (Word PrimaryWord) q e = ap before_in (unSome (sym e))
 integer_read name true (Some (To table false)) Open q e = ap before_in (unSome (sym e))
 integer_read name false (Some (To table false)) Open q e = ap before_in (unSome (sym e))
 integer_read _ _ _ _ q e = absurd (cc)
 
-column_read : (column : ColumnText) (s : Symbol) (q : InColumn)
+column_read : (column : ColumnDeclaration) (s : Symbol) (q : InColumn)
     → after_column column s ≡ Some q → before_in q ≡ spell_column column ++ s ∷ []
-column_read (CharColumn name digits false) (Word Hidden) q e = ap before_in (unSome (sym e))
+column_read (CharColumn name digits false) (Word HiddenWord) q e = ap before_in (unSome (sym e))
 column_read (IntegerColumn name primary reference false) s q e = integer_read name primary reference s q e
 column_read (IntegerColumn name primary reference true) s q e = absurd (cc)
 column_read (CharColumn name digits true) s q e = absurd (cc)
@@ -60,12 +61,12 @@ parenthesis_read name false table inside q e =
     ap before_in (sym h.1) ∙ ap (λ id. before_in (OpensId name false table) ++ Name id ∷ []) (sym (same_bytes _ _ h.0))
 
 in_read : (p : InColumn) (s : Symbol) (q : InColumn) → step_in p s ≡ Some q → before_in q ≡ before_in p ++ s ∷ []
-in_read (Named name) (Word Char) q e = ap before_in (unSome (sym e))
-in_read (Named name) (Word Integer) q e = ap before_in (unSome (sym e))
+in_read (Named name) (Word CharWord) q e = ap before_in (unSome (sym e))
+in_read (Named name) (Word IntegerWord) q e = ap before_in (unSome (sym e))
 in_read (AfterChar name) Open q e = ap before_in (unSome (sym e))
 in_read (AfterOpen name) (Digits digits) q e = ap before_in (unSome (sym e))
 in_read (AfterLength name digits) Closing q e = ap before_in (unSome (sym e))
-in_read (AfterPrimary name) (Word Key) q e = ap before_in (unSome (sym e))
+in_read (AfterPrimary name) (Word PrimaryKeyWord) q e = ap before_in (unSome (sym e))
 in_read (AfterReferences name true) (Name table) q e = ap before_in (unSome (sym e))
 in_read (AfterReferences name false) (Name table) q e = ap before_in (unSome (sym e))
 in_read (OpensId name primary table) (Name inside) q e = parenthesis_read name primary table inside q e
@@ -89,7 +90,7 @@ regroup4 a b c d e = simp append_assoc
 regroup5 : (a b c d e f : List Symbol) → (a ++ (b ++ (c ++ (d ++ e)))) ++ f ≡ a ++ (b ++ (c ++ (d ++ (e ++ f))))
 regroup5 a b c d e f = simp append_assoc
 
-within_goes_on : (tables : SchemaText) (name : List ℕ) (columns : List ColumnText) (last : InColumn) (s : Symbol) (q : Place)
+within_goes_on : (tables : SchemaText) (name : List ℕ) (columns : List ColumnDeclaration) (last : InColumn) (s : Symbol) (q : SchemaPlace)
     → option_map (Within tables name columns) (step_in last s) ≡ Some q → before q ≡ before (Within tables name columns last) ++ s ∷ []
 within_goes_on tables name columns last s q e =
     let h = option_mapped (Within tables name columns) (step_in last s) q e in
@@ -97,7 +98,7 @@ within_goes_on tables name columns last s q e =
     ∙ (ap (λ tail. flat_map spell_table tables ++ (spell_heading name ++ (begun Comma spell_column columns ++ tail))) (in_read last s h.0 h.1)
     ∙ sym (regroup4 (flat_map spell_table tables) (spell_heading name) (begun Comma spell_column columns) (before_in last) (s ∷ [])))
 
-within_read : (tables : SchemaText) (name : List ℕ) (columns : List ColumnText) (last : InColumn) (s : Symbol) (q : Place)
+within_read : (tables : SchemaText) (name : List ℕ) (columns : List ColumnDeclaration) (last : InColumn) (s : Symbol) (q : SchemaPlace)
     → step_within tables name columns last s ≡ Some q → before q ≡ before (Within tables name columns last) ++ s ∷ []
 within_read tables name columns (Whole last) Comma q e =
     ap before (unSome (sym e))
@@ -109,7 +110,7 @@ within_read tables name columns (Whole last) Closing q e =
 within_read tables name columns last s q e = within_goes_on tables name columns last s q e
 
 -- the columns of a table with the last one are its columns in the grammar
-columns_end : (x : ColumnText) (xs : List ColumnText) (last : ColumnText)
+columns_end : (x : ColumnDeclaration) (xs : List ColumnDeclaration) (last : ColumnDeclaration)
     → separated Comma spell_column x (xs ++ last ∷ []) ≡ begun Comma spell_column (x ∷ xs) ++ spell_column last
 columns_end x [] last =
     ap (λ tail. spell_column x ++ Comma ∷ tail) (append-nil (spell_column last))
@@ -119,7 +120,7 @@ columns_end x (y ∷ ys) last =
     ∙ sym (append_assoc (spell_column x ++ Comma ∷ []) (begun Comma spell_column (y ∷ ys)) (spell_column last)
     ∙ append_assoc (spell_column x) (Comma ∷ []) (begun Comma spell_column (y ∷ ys) ++ spell_column last))
 
-table_ends : (name : List ℕ) (columns : List ColumnText) (last : ColumnText)
+table_ends : (name : List ℕ) (columns : List ColumnDeclaration) (last : ColumnDeclaration)
     → spell_table (table_from name columns last)
     ≡ spell_heading name ++ (begun Comma spell_column columns ++ (spell_column last ++ Closing ∷ Semicolon ∷ []))
 table_ends name [] last = ap (λ tail. spell_heading name ++ (tail ++ Closing ∷ Semicolon ∷ [])) (append-nil (spell_column last))
@@ -127,7 +128,7 @@ table_ends name (x ∷ xs) last =
     ap (λ tail. spell_heading name ++ (tail ++ Closing ∷ Semicolon ∷ [])) (columns_end x xs last)
     ∙ ap (λ tail. spell_heading name ++ tail) (append_assoc (begun Comma spell_column (x ∷ xs)) (spell_column last) (Closing ∷ Semicolon ∷ []))
 
-tables_end : (tables : SchemaText) (name : List ℕ) (columns : List ColumnText) (last : ColumnText)
+tables_end : (tables : SchemaText) (name : List ℕ) (columns : List ColumnDeclaration) (last : ColumnDeclaration)
     → flat_map spell_table (tables ++ table_from name columns last ∷ [])
     ≡ before (AfterColumns tables name columns last) ++ Semicolon ∷ []
 tables_end tables name columns last =
@@ -139,10 +140,10 @@ tables_end tables name columns last =
 regroup_table : (a b c xs : List Symbol) → ((a ++ b) ++ c) ++ xs ≡ a ++ (b ++ (c ++ xs))
 regroup_table a b c xs = simp append_assoc
 
-pub step_read : (p : Place) (s : Symbol) (q : Place) → step p s ≡ Some q → before q ≡ before p ++ s ∷ []
-step_read (Between tables) (Word Create) q e = ap before (unSome (sym e))
-step_read (Between tables) End q e = ap before (unSome (sym e))
-step_read (AfterCreate tables) (Word Table) q e = ap before (unSome (sym e)) ∙ sym (append_assoc (flat_map spell_table tables) _ _)
+pub step_read : (p : SchemaPlace) (s : Symbol) (q : SchemaPlace) → step p s ≡ Some q → before q ≡ before p ++ s ∷ []
+step_read (Between tables) (Word CreateWord) q e = ap before (unSome (sym e))
+step_read (Between tables) EndOfText q e = ap before (unSome (sym e))
+step_read (AfterCreate tables) (Word TableWord) q e = ap before (unSome (sym e)) ∙ sym (append_assoc (flat_map spell_table tables) _ _)
 step_read (AfterTable tables) (Name name) q e = ap before (unSome (sym e)) ∙ sym (append_assoc (flat_map spell_table tables) _ _)
 step_read (AfterName tables name) Open q e = ap before (unSome (sym e)) ∙ sym (append_assoc (flat_map spell_table tables) _ _)
 step_read (WantsColumn tables name columns) (Name column) q e =
@@ -154,7 +155,7 @@ step_read _ _ q e = absurd (cc)
 
 -- the symbols of a tree lead from the start to its end
 
-column_leads : (tables : SchemaText) (name : List ℕ) (columns : List ColumnText) (column : ColumnText) (xs : List Symbol)
+column_leads : (tables : SchemaText) (name : List ℕ) (columns : List ColumnDeclaration) (column : ColumnDeclaration) (xs : List Symbol)
     → run step (WantsColumn tables name columns) (spell_column column ++ xs)
     ≡ run step (Within tables name columns (Whole column)) xs
 column_leads tables name columns (CharColumn n digits true) xs = refl
@@ -173,11 +174,11 @@ column_leads tables name columns (IntegerColumn n false (Some (To table false)) 
 column_leads tables name columns (IntegerColumn n false (Some (To table false)) false) xs = refl
 
 -- a table from the columns that have a comma after them, the one that is read, and those that follow
-extended : List ℕ → List ColumnText → ColumnText → List ColumnText → TableText
+extended : List ℕ → List ColumnDeclaration → ColumnDeclaration → List ColumnDeclaration → TableText
 extended name columns last [] = table_from name columns last
 extended name columns last (x ∷ xs) = extended name (columns ++ last ∷ []) x xs
 
-columns_lead : (tables : SchemaText) (name : List ℕ) (columns : List ColumnText) (last : ColumnText) (later : List ColumnText) (xs : List Symbol)
+columns_lead : (tables : SchemaText) (name : List ℕ) (columns : List ColumnDeclaration) (last : ColumnDeclaration) (later : List ColumnDeclaration) (xs : List Symbol)
     → run step (Within tables name columns (Whole last)) (flat_map (λ other. Comma ∷ spell_column other) later ++ Closing ∷ Semicolon ∷ xs)
     ≡ run step (Between (tables ++ extended name columns last later ∷ [])) xs
 unfolding extended
@@ -188,7 +189,7 @@ columns_lead tables name columns last (x ∷ later) xs =
     ∙ (column_leads tables name (columns ++ last ∷ []) x (flat_map (λ other. Comma ∷ spell_column other) later ++ Closing ∷ Semicolon ∷ xs)
     ∙ columns_lead tables name (columns ++ last ∷ []) x later xs)
 
-extended_later : (name : List ℕ) (first : ColumnText) (columns : List ColumnText) (last : ColumnText) (later : List ColumnText)
+extended_later : (name : List ℕ) (first : ColumnDeclaration) (columns : List ColumnDeclaration) (last : ColumnDeclaration) (later : List ColumnDeclaration)
     → extended name (first ∷ columns) last later ≡ record { name = name; first = first; others = columns ++ last ∷ later }
 unfolding extended
 extended_later name first columns last [] = refl
@@ -196,7 +197,7 @@ extended_later name first columns last (x ∷ later) =
     extended_later name first (columns ++ last ∷ []) x later
     ∙ ap (λ others. record { name = name; first = first; others = others }) (append_assoc columns (last ∷ []) (x ∷ later))
 
-extended_first : (name : List ℕ) (first : ColumnText) (later : List ColumnText)
+extended_first : (name : List ℕ) (first : ColumnDeclaration) (later : List ColumnDeclaration)
     → extended name [] first later ≡ record { name = name; first = first; others = later }
 unfolding extended
 extended_first name first [] = refl
@@ -221,37 +222,37 @@ tables_lead tables (table ∷ later) xs =
     ∙ ap (λ all. run step (Between all) xs) (append_assoc tables (table ∷ []) later)))
 
 pub leads : (tables : SchemaText) → run step (Between []) (spelling tables) ≡ Some (Ended tables)
-leads tables = tables_lead [] tables (End ∷ [])
+leads tables = tables_lead [] tables (EndOfText ∷ [])
 
 -- from each place before the end some symbols complete a tree
 
-pub record Completes (p : Place) : Type 0 where
+pub record Completes (p : SchemaPlace) : Type 0 where
   pub rest : List Symbol
   pub tables : SchemaText
   pub spelled : list_all is_spelled rest ≡ true
-  pub whole : (before p ++ rest) ++ End ∷ [] ≡ spelling tables
+  pub whole : (before p ++ rest) ++ EndOfText ∷ [] ≡ spelling tables
 
 -- by one step to a place from which some do
-on_by : (p : Place) (s : Symbol) (q : Place) → step p s ≡ Some q → is_spelled s ≡ true → Completes q → Completes p
+on_by : (p : SchemaPlace) (s : Symbol) (q : SchemaPlace) → step p s ≡ Some q → is_spelled s ≡ true → Completes q → Completes p
 on_by p s q e spelled on = record {
   rest = s ∷ on.rest;
   tables = on.tables;
   spelled = and_from _ _ spelled on.spelled;
   whole =
-      ap (λ front. front ++ End ∷ []) (sym (append_assoc (before p) (s ∷ []) on.rest) ∙ ap (λ front. front ++ on.rest) (sym (step_read p s q e)))
+      ap (λ front. front ++ EndOfText ∷ []) (sym (append_assoc (before p) (s ∷ []) on.rest) ∙ ap (λ front. front ++ on.rest) (sym (step_read p s q e)))
       ∙ on.whole;
 }
 
 from_between : (tables : SchemaText) → Completes (Between tables)
-from_between tables = record { rest = []; tables = tables; spelled = refl; whole = ap (λ front. front ++ End ∷ []) (append-nil (flat_map spell_table tables)) }
+from_between tables = record { rest = []; tables = tables; spelled = refl; whole = ap (λ front. front ++ EndOfText ∷ []) (append-nil (flat_map spell_table tables)) }
 
-from_columns : (tables : SchemaText) (name : List ℕ) (columns : List ColumnText) (last : ColumnText) → Completes (AfterColumns tables name columns last)
+from_columns : (tables : SchemaText) (name : List ℕ) (columns : List ColumnDeclaration) (last : ColumnDeclaration) → Completes (AfterColumns tables name columns last)
 from_columns tables name columns last =
     on_by (AfterColumns tables name columns last) Semicolon (Between (tables ++ table_from name columns last ∷ [])) refl refl
     (from_between (tables ++ table_from name columns last ∷ []))
 
-module _ (tables : SchemaText) (name : List ℕ) (columns : List ColumnText) where
-  from_whole : (last : ColumnText) → Completes (Within tables name columns (Whole last))
+module _ (tables : SchemaText) (name : List ℕ) (columns : List ColumnDeclaration) where
+  from_whole : (last : ColumnDeclaration) → Completes (Within tables name columns (Whole last))
   from_whole last =
       on_by (Within tables name columns (Whole last)) Closing (AfterColumns tables name columns last) refl refl
       (from_columns tables name columns last)
@@ -265,7 +266,6 @@ module _ (tables : SchemaText) (name : List ℕ) (columns : List ColumnText) whe
       on_within (AfterLength column digits) Closing (Whole (CharColumn column digits false)) refl refl (from_whole (CharColumn column digits false))
 
   from_open : (column : List ℕ) → Completes (Within tables name columns (AfterOpen column))
-  unfolding is_number
   from_open column = on_within (AfterOpen column) (Digits (49 ∷ [])) (AfterLength column (49 ∷ [])) refl refl (from_length column (49 ∷ []))
 
   from_id : (column : List ℕ) (primary : Bool) (table : List ℕ) → Completes (Within tables name columns (AfterId column primary table))
@@ -276,12 +276,12 @@ module _ (tables : SchemaText) (name : List ℕ) (columns : List ColumnText) whe
   from_column : (last : InColumn) → Completes (Within tables name columns last)
   unfolding is_name
   from_column (Named column) =
-      on_within (Named column) (Word Integer) (Whole (IntegerColumn column false None false)) refl refl (from_whole (IntegerColumn column false None false))
+      on_within (Named column) (Word IntegerWord) (Whole (IntegerColumn column false None false)) refl refl (from_whole (IntegerColumn column false None false))
   from_column (AfterChar column) = on_within (AfterChar column) Open (AfterOpen column) refl refl (from_open column)
   from_column (AfterOpen column) = from_open column
   from_column (AfterLength column digits) = from_length column digits
   from_column (AfterPrimary column) =
-      on_within (AfterPrimary column) (Word Key) (Whole (IntegerColumn column true None false)) refl refl (from_whole (IntegerColumn column true None false))
+      on_within (AfterPrimary column) (Word PrimaryKeyWord) (Whole (IntegerColumn column true None false)) refl refl (from_whole (IntegerColumn column true None false))
   from_column (AfterReferences column primary) =
       on_within (AfterReferences column primary) (Name (97 ∷ [])) (Whole (IntegerColumn column primary (Some (To (97 ∷ []) false)) false)) refl refl
       (from_whole (IntegerColumn column primary (Some (To (97 ∷ []) false)) false))
@@ -290,7 +290,7 @@ module _ (tables : SchemaText) (name : List ℕ) (columns : List ColumnText) whe
   from_column (AfterId column primary table) = from_id column primary table
   from_column (Whole column) = from_whole column
 
-from_wants : (tables : SchemaText) (name : List ℕ) (columns : List ColumnText) → Completes (WantsColumn tables name columns)
+from_wants : (tables : SchemaText) (name : List ℕ) (columns : List ColumnDeclaration) → Completes (WantsColumn tables name columns)
 unfolding is_name
 from_wants tables name columns =
     on_by (WantsColumn tables name columns) (Name (97 ∷ [])) (Within tables name columns (Named (97 ∷ []))) refl refl
@@ -304,9 +304,9 @@ unfolding is_name
 from_table tables = on_by (AfterTable tables) (Name (97 ∷ [])) (AfterName tables (97 ∷ [])) refl refl (from_name tables (97 ∷ []))
 
 -- the end itself is no symbol that bytes spell
-pub goes_on : (p : Place) → list_all is_spelled (before p) ≡ true → Completes p
+pub goes_on : (p : SchemaPlace) → list_all is_spelled (before p) ≡ true → Completes p
 goes_on (Between tables) e = from_between tables
-goes_on (AfterCreate tables) e = on_by (AfterCreate tables) (Word Table) (AfterTable tables) refl refl (from_table tables)
+goes_on (AfterCreate tables) e = on_by (AfterCreate tables) (Word TableWord) (AfterTable tables) refl refl (from_table tables)
 goes_on (AfterTable tables) e = from_table tables
 goes_on (AfterName tables name) e = from_name tables name
 goes_on (WantsColumn tables name columns) e = from_wants tables name columns
@@ -317,22 +317,22 @@ goes_on (Ended tables) e =
 
 -- what was read is what led to a place
 
-module _ (p : Place) (x : Symbol) (xs : List Symbol) (q : Place) (later : (o : Place) → run step o xs ≡ Some q → before q ≡ before o ++ xs) where
-  read_by : (o : Option Place) → step p x ≡ o → option_and_then (λ next. run step next xs) o ≡ Some q → before q ≡ before p ++ x ∷ xs
+module _ (p : SchemaPlace) (x : Symbol) (xs : List Symbol) (q : SchemaPlace) (later : (o : SchemaPlace) → run step o xs ≡ Some q → before q ≡ before o ++ xs) where
+  read_by : (o : Option SchemaPlace) → step p x ≡ o → option_and_then (λ next. run step next xs) o ≡ Some q → before q ≡ before p ++ x ∷ xs
   read_by None e h = absurd (cc)
   read_by (Some o) e h = later o h ∙ (ap (λ front. front ++ xs) (step_read p x o e) ∙ append_assoc (before p) (x ∷ []) xs)
 
-run_read : (p : Place) (xs : List Symbol) (q : Place) → run step p xs ≡ Some q → before q ≡ before p ++ xs
+run_read : (p : SchemaPlace) (xs : List Symbol) (q : SchemaPlace) → run step p xs ≡ Some q → before q ≡ before p ++ xs
 run_read p [] q e = ap before (unSome (sym e)) ∙ sym (append-nil (before p))
 run_read p (x ∷ xs) q e = read_by p x xs q (λ o h. run_read o xs q h) (step p x) refl e
 
 -- what the reading answers, in terms of where the symbols lead
 
-tree_at_ended : (p : Place) (at : ℕ) (tables : SchemaText) → tree_at p at ≡ Ok tables → p ≡ Ended tables
+tree_at_ended : (p : SchemaPlace) (at : ℕ) (tables : SchemaText) → tree_at p at ≡ Ok tables → p ≡ Ended tables
 tree_at_ended (Ended tables) at other e = let h : tables ≡ other = cc in ap Ended h
 tree_at_ended _ at other e = absurd (cc)
 
-tree_read : (o : Option Place) (at : ℕ) (later : List Token) (tables : SchemaText)
+tree_read : (o : Option SchemaPlace) (at : ℕ) (later : List Token) (tables : SchemaText)
     → syntax_from o at later ≡ Ok tables → option_and_then (λ p. run step p (map symbol_of later)) o ≡ Some (Ended tables)
 unfolding syntax_from
 tree_read None at later tables e = absurd (cc)
@@ -340,31 +340,31 @@ tree_read (Some p) at [] tables e = ap Some (tree_at_ended p at tables e)
 tree_read (Some p) at (token ∷ later) tables e = tree_read (step p token.symbol) token.at later tables e
 
 -- the token at offset `at` led nowhere
-record Stops (p : Place) (given : List Token) (at : ℕ) : Type 0 where
+record Stops (p : SchemaPlace) (given : List Token) (at : ℕ) : Type 0 where
   front : List Token
   token : Token
   later : List Token
   whole : given ≡ front ++ token ∷ later
-  place : Place
+  place : SchemaPlace
   led : run step p (map symbol_of front) ≡ Some place
   refused : step place token.symbol ≡ None
   offset : token.at ≡ at
 
 -- the tokens ended elsewhere than at the end
-record Exhausts (p : Place) (given : List Token) : Type 0 where
-  place : Place
+record Exhausts (p : SchemaPlace) (given : List Token) : Type 0 where
+  place : SchemaPlace
   led : run step p (map symbol_of given) ≡ Some place
   open_end : (tables : SchemaText) → place ≡ Ended tables → ⊥
 
-abbrev Stopped : Option Place → (now : ℕ) → List Token → (at : ℕ) → Type 0
+abbrev Stopped : Option SchemaPlace → (now : ℕ) → List Token → (at : ℕ) → Type 0
 Stopped None now given at = now ≡ at
 Stopped (Some p) now given at = Stops p given at ⊎ Exhausts p given
 
-tree_at_open : (p : Place) (now at : ℕ) (tables : SchemaText) → tree_at p now ≡ Err at → p ≡ Ended tables → ⊥
+tree_at_open : (p : SchemaPlace) (now at : ℕ) (tables : SchemaText) → tree_at p now ≡ Err at → p ≡ Ended tables → ⊥
 tree_at_open (Ended tables) now at other e h = absurd (cc)
 tree_at_open _ now at other e h = absurd (cc)
 
-stopped_after : (p : Place) (token : Token) (later : List Token) (now at : ℕ) (o : Option Place)
+stopped_after : (p : SchemaPlace) (token : Token) (later : List Token) (now at : ℕ) (o : Option SchemaPlace)
     → step p token.symbol ≡ o → Stopped o token.at later at → Stopped (Some p) now (token ∷ later) at
 stopped_after p token later now at None e h =
     inl (record { front = []; token = token; later = later; whole = refl; place = p; led = refl; refused = e; offset = h })
@@ -382,7 +382,7 @@ stopped_after p token later now at (Some q) e (inl h) =
 stopped_after p token later now at (Some q) e (inr h) =
     inr (record { place = h.place; led = ap (option_and_then (λ next. run step next (map symbol_of later))) e ∙ h.led; open_end = h.open_end })
 
-fault_read : (o : Option Place) (now : ℕ) (later : List Token) (at : ℕ) → syntax_from o now later ≡ Err at → Stopped o now later at
+fault_read : (o : Option SchemaPlace) (now : ℕ) (later : List Token) (at : ℕ) → syntax_from o now later ≡ Err at → Stopped o now later at
 unfolding syntax_from
 fault_read None now later at e = let h : now ≡ at = cc in h
 fault_read (Some p) now [] at e = inr (record { place = p; led = refl; open_end = λ tables h. tree_at_open p now at tables e h })
@@ -391,7 +391,7 @@ fault_read (Some p) now (token ∷ later) at e =
 
 -- the end of a text leads to the end or nowhere
 
-end_ends : (p q : Place) → step p End ≡ Some q → (tables : SchemaText) × (q ≡ Ended tables)
+end_ends : (p q : SchemaPlace) → step p EndOfText ≡ Some q → (tables : SchemaText) × (q ≡ Ended tables)
 end_ends (Between tables) q e = (tables, unSome (sym e))
 end_ends (Within tables name columns (Whole (CharColumn _ _ true))) q e = absurd (cc)
 end_ends (Within tables name columns (Whole (CharColumn _ _ false))) q e = absurd (cc)
@@ -404,19 +404,19 @@ end_ends (Within tables name columns (Whole (IntegerColumn _ false (Some (To _ t
 end_ends (Within tables name columns (Whole (IntegerColumn _ false (Some (To _ false)) false))) q e = absurd (cc)
 end_ends _ q e = absurd (cc)
 
-last_by : (p q : Place) (o : Option Place) → step p End ≡ o → option_and_then (λ next. Some next) o ≡ Some q → (tables : SchemaText) × (q ≡ Ended tables)
+last_by : (p q : SchemaPlace) (o : Option SchemaPlace) → step p EndOfText ≡ o → option_and_then (λ next. Some next) o ≡ Some q → (tables : SchemaText) × (q ≡ Ended tables)
 last_by p q None e h = absurd (cc)
 last_by p q (Some r) e h = end_ends p q (e ∙ h)
 
-last_leads : (o : Option Place) (q : Place) → option_and_then (λ p. run step p (End ∷ [])) o ≡ Some q → (tables : SchemaText) × (q ≡ Ended tables)
+last_leads : (o : Option SchemaPlace) (q : SchemaPlace) → option_and_then (λ p. run step p (EndOfText ∷ [])) o ≡ Some q → (tables : SchemaText) × (q ≡ Ended tables)
 last_leads None q e = absurd (cc)
-last_leads (Some p) q e = last_by p q (step p End) refl e
+last_leads (Some p) q e = last_by p q (step p EndOfText) refl e
 
 never_exhausts : (text : List ℕ) → Exhausts (Between []) (tokens text) → ⊥
 never_exhausts text h =
     let b = before_end text in
-    let led : run step (Between []) (b.0 ++ End ∷ []) ≡ Some h.place = ap (run step (Between [])) (sym b.1.whole) ∙ h.led in
-    let last = last_leads (run step (Between []) b.0) h.place (sym (run-append step (Between []) b.0 (End ∷ [])) ∙ led) in
+    let led : run step (Between []) (b.0 ++ EndOfText ∷ []) ≡ Some h.place = ap (run step (Between [])) (sym b.1.whole) ∙ h.led in
+    let last = last_leads (run step (Between []) b.0) h.place (sym (run-append step (Between []) b.0 (EndOfText ∷ [])) ∙ led) in
     h.open_end last.0 last.1
 
 -- the law
@@ -435,7 +435,7 @@ module _ (text : List ℕ) (at : ℕ) (stops : Stops (Between []) (tokens text) 
       let spelled = spelled_front text (map symbol_of stops.front) stops.token.symbol (map symbol_of stops.later) given in
       let on = goes_on stops.place (ap (list_all is_spelled) read ∙ spelled) in
       viable_of spelling on.tables (map symbol_of stops.front) on.rest (spelled_both (map symbol_of stops.front) on.rest spelled on.spelled)
-      (ap (λ front. (front ++ on.rest) ++ End ∷ []) (sym read) ∙ on.whole)
+      (ap (λ front. (front ++ on.rest) ++ EndOfText ∷ []) (sym read) ∙ on.whole)
 
   is_syntax_fault : IsSyntaxFault spelling text at
   is_syntax_fault = record {

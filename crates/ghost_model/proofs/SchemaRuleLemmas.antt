@@ -1,204 +1,72 @@
--- One schema or one fault for each text: the tests of the rules find what the rules say, and the first of them decides.
-use Rattle.std.proofs.Common.{◌≡◌, ◌≢◌, ◌⊎◌, inl, inr, ℕ, zero, suc, ◌+◌, ◌-◌, ◌<◌, ◌≤◌, nat_lt, Bool, true, false, cond, ◌||◌, ◌==◌, List, [], ◌∷◌, ◌++◌, length, find, not, Option, Some, None, option_map, option_and_then, Result, Ok, Err, if◌then◌else◌, Decides, add-zero, zero-add, refl, sym, ap, ◌∙◌, subst, arith}
+-- One schema or one fault for each text: the first rule that its tree breaks decides.
+use Rattle.std.proofs.Common.{◌≡◌, ◌⊎◌, inl, inr, ℕ, zero, suc, ◌+◌, ◌-◌, ◌<◌, ◌≤◌, nat_lt, Bool, true, false, ◌||◌, ◌==◌, List, [], ◌∷◌, length, find, not, Option, Some, None, option_map, option_and_then, Result, Ok, Err, if◌then◌else◌, Decides, add-zero, zero-add, refl, sym, ap, ◌∙◌, subst, arith}
 use Rattle.std.specs.List.{list_any}
 use Rattle.std.proofs.lemmas.Bool.Decides.{Decides-eqb, Decides-ltb}
 use Rattle.std.proofs.lemmas.Bool.{cases_order, cases_lt, or_right}
-use Rattle.ghost_model.specs.Query.{Field}
-use Rattle.ghost_model.specs.Schema.{Schema, Table, places_from, first_of, is_table, parent, keys_to, is_empty}
-use Rattle.ghost_model.specs.Grammar.{Spells}
-use Rattle.ghost_model.specs.SchemaGrammar.{SchemaText, spelling}
-use Rattle.ghost_model.specs.SchemaPlaces.{syntax_of}
-use Rattle.ghost_model.specs.SchemaMeaning.{schema_of}
-use Rattle.ghost_model.specs.SchemaFaults.{SchemaFault, Syntax, Limit, DuplicateName, NoId, UnknownTable, TwoParents, Cycle, NotOneRoot, is_over, is_duplicate, lacks_id, is_unknown, is_shared, ancestor, Returns, places_of, returns, roots_of, fields, NoneOf, IsFirst, Breaks, rank, MeansSchema, BreaksFirst, IsSchemaFault, wrong_roots, or_else, schema_fault, schema_or, judged, schema_reading, OneSchemaReading}
+use Rattle.ghost_model.specs.core.Schema.{Schema, Table, places_from, places_of, first_of, is_table, parent, references_to, is_empty, ancestor}
+use Rattle.ghost_model.specs.refusals.Rules.{broken_if, first_broken, MeetsAll, BreaksFirst}
+use Rattle.ghost_model.specs.refusals.Grammar.{Spells}
+use Rattle.ghost_model.specs.refusals.SchemaGrammar.{SchemaText, spelling}
+use Rattle.ghost_model.specs.readings.SchemaPlaces.{syntax_of}
+use Rattle.ghost_model.specs.refusals.SchemaMeaning.{schema_of}
+use Rattle.ghost_model.specs.refusals.SchemaFaults.{SchemaFault, Syntax, Limit, NoId, TwoParents, Cycle, NotOneRoot, is_over, is_duplicate, lacks_id, is_unknown, is_shared, returns, roots_of, fields, duplicate_at, unknown_at, wrong_roots, rules_of_schemas, MeansSchema, HasFault, IsSchemaFault}
+use Rattle.ghost_model.specs.readings.SchemaReading.{schema_or, judged, schema_reading}
+use Rattle.ghost_model.specs.laws.SchemaTrees.{Returns}
+use Rattle.ghost_model.specs.laws.SchemaLaws.{OneSchemaReading}
+use Rattle.ghost_model.proofs.RuleLemmas.{both_none, not_broken, other_if, other_mapped}
 use Rattle.ghost_model.proofs.SchemaLemmas.{schema_places}
 
 unSome : {X : Type 0} {a b : X} → Some a ≡ Some b → a ≡ b
 unSome e = cc
 
-option_mapped : {X Y : Type 0} (f : X → Y) (o : Option X) (y : Y) → option_map f o ≡ Some y → (x : X) × (o ≡ Some x) × (f x ≡ y)
-option_mapped f None y e = absurd (cc)
-option_mapped f (Some x) y e = (x, refl, unSome e)
+none_mapped : {X Y : Type 0} (f : X → Y) (o : Option X) → option_map f o ≡ None → o ≡ None
+none_mapped f None e = refl
+none_mapped f (Some x) e = absurd (cc)
 
--- the first of a list
+not_false : (b : Bool) → not b ≡ false → b ≡ true
+not_false true e = refl
+not_false false e = absurd (cc)
 
-module _ {X : Type 0} (P : X → Type 0) (test : X → Bool) (yes : (x : X) → test x ≡ true → P x) (no : (x : X) → P x → test x ≡ true) where
-  one_more : (y : X) (ys : List X) (x : X) → (P y → ⊥) → IsFirst P ys x → IsFirst P (y ∷ ys) x
-  one_more y ys x h f = record {
-    front = y ∷ f.front;
-    back = f.back;
-    whole = ap (λ tail. y ∷ tail) f.whole;
-    holds = f.holds;
-    none_before = (h, f.none_before);
-  }
+-- what each rule leaves
+pub record KeptRules (tables : SchemaText) : Type 0 where
+  pub limits : is_over tables ≡ false
+  pub names : find (is_duplicate tables) (fields tables) ≡ None
+  pub identifiers : find (lacks_id tables) (places_of tables) ≡ None
+  pub references : find (is_unknown tables) (fields tables) ≡ None
+  pub parents : find (is_shared tables) (places_of tables) ≡ None
+  pub cycles : find (returns (schema_of tables)) (places_of tables) ≡ None
+  pub root : roots_of (schema_of tables) ≡ 1
 
-  find_by : (y : X) (ys : List X) (x : X) (b : Bool) → test y ≡ b → cond b (Some y) (find test ys) ≡ Some x
-      → (find test ys ≡ Some x → IsFirst P ys x) → IsFirst P (y ∷ ys) x
-  find_by y ys x true e h later =
-      subst (IsFirst P (y ∷ ys)) (unSome h) (record { front = []; back = ys; whole = refl; holds = yes y e; none_before = tt })
-  find_by y ys x false e h later = one_more y ys x (λ p. let c : false ≡ true = sym e ∙ no y p in absurd (cc)) (later h)
+pub kept_rules : (tables : SchemaText) → MeetsAll (rules_of_schemas tables) → KeptRules tables
+kept_rules tables e =
+    let a = both_none (broken_if (is_over tables) Limit) _ e in
+    let b = both_none (option_map duplicate_at (find (is_duplicate tables) (fields tables))) _ a.1 in
+    let c = both_none (option_map NoId (find (lacks_id tables) (places_of tables))) _ b.1 in
+    let d = both_none (option_map unknown_at (find (is_unknown tables) (fields tables))) _ c.1 in
+    let f = both_none (option_map TwoParents (find (is_shared tables) (places_of tables))) _ d.1 in
+    let g = both_none (option_map Cycle (find (returns (schema_of tables)) (places_of tables))) _ f.1 in
+    let h = both_none (wrong_roots (roots_of (schema_of tables))) None g.1 in
+    record {
+      limits = not_broken (is_over tables) Limit a.0;
+      names = none_mapped duplicate_at _ b.0;
+      identifiers = none_mapped NoId _ c.0;
+      references = none_mapped unknown_at _ d.0;
+      parents = none_mapped TwoParents _ f.0;
+      cycles = none_mapped Cycle _ g.0;
+      root = (Decides-eqb (roots_of (schema_of tables)) 1).0 (not_false _ (not_broken (not (roots_of (schema_of tables) == 1)) _ h.0));
+    }
 
-  pub find_first : (xs : List X) (x : X) → find test xs ≡ Some x → IsFirst P xs x
-  find_first [] x e = absurd (cc)
-  find_first (y ∷ ys) x e = find_by y ys x (test y) refl e (find_first ys x)
+-- no rule finds a fault of the grammar
 
-  found_by : (y : X) (rest : Option X) (b : Bool) → test y ≡ b → (P y → ⊥) → cond b (Some y) rest ≡ rest
-  found_by y rest true e h = absurd (h (yes y e))
-  found_by y rest false e h = refl
-
-  found_past : (front : List X) (x : X) (back : List X) → P x → NoneOf P front → find test (front ++ x ∷ back) ≡ Some x
-  found_past [] x back p n = ap (λ b. cond b (Some x) (find test back)) (no x p)
-  found_past (y ∷ ys) x back p n = found_by y (find test (ys ++ x ∷ back)) (test y) refl n.0 ∙ found_past ys x back p n.1
-
-  pub first_found : (xs : List X) (x : X) → IsFirst P xs x → find test xs ≡ Some x
-  first_found xs x f = ap (find test) (sym f.whole) ∙ found_past f.front x f.back f.holds f.none_before
-
--- one rule, and the rules from one on
-
-pub record Rule (tables : SchemaText) (k : ℕ) (found : Option SchemaFault) : Type 0 where
-  pub sound : (f : SchemaFault) → found ≡ Some f → (rank f ≡ k) × Breaks tables f
-  pub complete : (f : SchemaFault) → rank f ≡ k → Breaks tables f → found ≡ Some f
-
--- none of the rules from k on that come before this fault is broken
-abbrev pub NoneBefore : SchemaText → ℕ → SchemaFault → Type 0
-NoneBefore tables k f = (e : SchemaFault) → k ≤ rank e → rank e < rank f → Breaks tables e → ⊥
-
-pub record From (tables : SchemaText) (k : ℕ) (found : Option SchemaFault) : Type 0 where
-  pub above : (f : SchemaFault) → found ≡ Some f → k ≤ rank f
-  pub breaks : (f : SchemaFault) → found ≡ Some f → Breaks tables f
-  pub first : (f : SchemaFault) → found ≡ Some f → NoneBefore tables k f
-  pub none : found ≡ None → (f : SchemaFault) → k ≤ rank f → Breaks tables f → ⊥
-  pub complete : (f : SchemaFault) → k ≤ rank f → Breaks tables f → NoneBefore tables k f → found ≡ Some f
-
-rank_below : (f : SchemaFault) → rank f < 8
-rank_below (Syntax at) = omega arith
-rank_below Limit = omega arith
-rank_below (DuplicateName table column) = omega arith
-rank_below (NoId table) = omega arith
-rank_below (UnknownTable table column) = omega arith
-rank_below (TwoParents child) = omega arith
-rank_below (Cycle table) = omega arith
-rank_below (NotOneRoot roots) = omega arith
-
-pub past_all : (tables : SchemaText) → From tables 8 None
-past_all tables = record {
-  above = λ f e. absurd (cc);
-  breaks = λ f e. absurd (cc);
-  first = λ f e. absurd (cc);
-  none = λ e f h b. let r : rank f < 8 = rank_below f in absurd (omega arith);
-  complete = λ f h b n. let r : rank f < 8 = rank_below f in absurd (omega arith);
-}
-
-not_broken : (tables : SchemaText) (k : ℕ) → Rule tables k None → (f : SchemaFault) → Breaks tables f → rank f ≡ k → ⊥
-not_broken tables k rule f broken e = let h : None ≡ Some f = rule.complete f e broken in absurd (cc)
-
--- a rule that is not broken leaves the rules after it
-skip : (tables : SchemaText) (k : ℕ) (b : Option SchemaFault) → Rule tables k None → From tables (k + 1) b → From tables k b
-skip tables k b rule on = record {
-  above = λ f e. let h : k + 1 ≤ rank f = on.above f e in omega arith;
-  breaks = on.breaks;
-  first = λ f e other low below broken.
-      let n : rank other ≡ k → ⊥ = not_broken tables k rule other broken in
-      on.first f e other (omega arith) below broken;
-  none = λ e f low broken.
-      let n : rank f ≡ k → ⊥ = not_broken tables k rule f broken in
-      on.none e f (omega arith) broken;
-  complete = λ f low broken before.
-      let n : rank f ≡ k → ⊥ = not_broken tables k rule f broken in
-      on.complete f (omega arith) broken (λ other above below. before other (omega arith) below);
-}
-
--- a rule that is broken is the first
-stop : (tables : SchemaText) (k : ℕ) (x : SchemaFault) → Rule tables k (Some x) → From tables k (Some x)
-stop tables k x rule = record {
-  above = λ f e. let h : rank f ≡ k = (rule.sound f e).0 in omega arith;
-  breaks = λ f e. (rule.sound f e).1;
-  first = λ f e other low below broken. let h : rank f ≡ k = (rule.sound f e).0 in absurd (omega arith);
-  none = λ e. absurd (cc);
-  complete = λ f low broken before.
-      let h : rank x ≡ k = (rule.sound x refl).0 in
-      let n : rank x < rank f → ⊥ = λ less. before x (omega arith) less (rule.sound x refl).1 in
-      rule.complete f (omega arith) broken;
-}
-
-or_else_from : (tables : SchemaText) (k : ℕ) (a b : Option SchemaFault) → Rule tables k a → From tables (k + 1) b → From tables k (or_else a b)
-or_else_from tables k None b rule on = skip tables k b rule on
-or_else_from tables k (Some x) b rule on = stop tables k x rule
-
-last_from : (tables : SchemaText) (a : Option SchemaFault) → Rule tables 7 a → From tables 7 a
-last_from tables None rule = skip tables 7 None rule (past_all tables)
-last_from tables (Some x) rule = stop tables 7 x rule
-
--- a rule whose faults are the first of some places
-module _ (tables : SchemaText) (k : ℕ) {X : Type 0} (make : X → SchemaFault) (P : X → Type 0) (test : X → Bool) (places : List X)
-    (yes : (x : X) → test x ≡ true → P x) (no : (x : X) → P x → test x ≡ true) where
-  pub rule_of : ((x : X) → rank (make x) ≡ k) → ((x : X) → IsFirst P places x → Breaks tables (make x))
-      → ((f : SchemaFault) → rank f ≡ k → Breaks tables f → (x : X) × (make x ≡ f) × IsFirst P places x)
-      → Rule tables k (option_map make (find test places))
-  rule_of ranked to from = record {
-    sound = λ f e.
-        let h = option_mapped make (find test places) f e in
-        subst (λ g. (rank g ≡ k) × Breaks tables g) h.2 (ranked h.0, to h.0 (find_first P test yes no places h.0 h.1));
-    complete = λ f e broken.
-        let h = from f e broken in
-        ap (option_map make) (first_found P test yes no places h.0 h.2) ∙ ap Some h.1;
-  }
-
-duplicate_back : (tables : SchemaText) (f : SchemaFault) → rank f ≡ 2 → Breaks tables f
-    → (x : Field) × (DuplicateName x.table x.column ≡ f) × IsFirst (λ field. is_duplicate tables field ≡ true) (fields tables) x
-duplicate_back tables (DuplicateName table column) e broken = (record { table = table; column = column }, refl, broken)
-duplicate_back tables _ e broken = absurd (omega arith)
-
-unknown_back : (tables : SchemaText) (f : SchemaFault) → rank f ≡ 4 → Breaks tables f
-    → (x : Field) × (UnknownTable x.table x.column ≡ f) × IsFirst (λ field. is_unknown tables field ≡ true) (fields tables) x
-unknown_back tables (UnknownTable table column) e broken = (record { table = table; column = column }, refl, broken)
-unknown_back tables _ e broken = absurd (omega arith)
-
-no_id_back : (tables : SchemaText) (f : SchemaFault) → rank f ≡ 3 → Breaks tables f
-    → (x : ℕ) × (NoId x ≡ f) × IsFirst (λ place. lacks_id tables place ≡ true) (places_of tables) x
-no_id_back tables (NoId table) e broken = (table, refl, broken)
-no_id_back tables _ e broken = absurd (omega arith)
-
-shared_back : (tables : SchemaText) (f : SchemaFault) → rank f ≡ 5 → Breaks tables f
-    → (x : ℕ) × (TwoParents x ≡ f) × IsFirst (λ place. is_shared tables place ≡ true) (places_of tables) x
-shared_back tables (TwoParents child) e broken = (child, refl, broken)
-shared_back tables _ e broken = absurd (omega arith)
-
-cycle_back : (tables : SchemaText) (f : SchemaFault) → rank f ≡ 6 → Breaks tables f
-    → (x : ℕ) × (Cycle x ≡ f) × IsFirst (Returns (schema_of tables)) (places_of tables) x
-cycle_back tables (Cycle table) e broken = (table, refl, broken)
-cycle_back tables _ e broken = absurd (omega arith)
-
-limit_back : (tables : SchemaText) (f : SchemaFault) → rank f ≡ 1 → Breaks tables f → (Limit ≡ f) × (is_over tables ≡ true)
-limit_back tables Limit e broken = (refl, broken)
-limit_back tables _ e broken = absurd (omega arith)
-
-roots_back : (tables : SchemaText) (f : SchemaFault) → rank f ≡ 7 → Breaks tables f → (NotOneRoot (roots_of (schema_of tables)) ≡ f) × (roots_of (schema_of tables) ≢ 1)
-roots_back tables (NotOneRoot roots) e broken =
-    (ap NotOneRoot (sym broken.0), λ one. broken.1 (broken.0 ∙ one))
-roots_back tables _ e broken = absurd (omega arith)
-
-limit_by : (tables : SchemaText) (b : Bool) → is_over tables ≡ b → Rule tables 1 (if b then Some Limit else None)
-limit_by tables true e = record {
-  sound = λ f h. subst (λ g. (rank g ≡ 1) × Breaks tables g) (unSome h) (refl, e);
-  complete = λ f r broken. ap Some (limit_back tables f r broken).0;
-}
-limit_by tables false e = record {
-  sound = λ f h. absurd (cc);
-  complete = λ f r broken. let h : is_over tables ≡ true = (limit_back tables f r broken).1 in absurd (cc);
-}
-
-roots_by : (tables : SchemaText) (b : Bool) → (roots_of (schema_of tables) == 1) ≡ b
-    → Rule tables 7 (if b then None else Some (NotOneRoot (roots_of (schema_of tables))))
-roots_by tables true e = record {
-  sound = λ f h. absurd (cc);
-  complete = λ f r broken. absurd ((roots_back tables f r broken).1 ((Decides-eqb (roots_of (schema_of tables)) 1).0 e));
-}
-roots_by tables false e = record {
-  sound = λ f h.
-      subst (λ g. (rank g ≡ 7) × Breaks tables g) (unSome h)
-      (refl, (refl, λ one. let t : false ≡ true = sym e ∙ (Decides-eqb (roots_of (schema_of tables)) 1).1 one in absurd (cc)));
-  complete = λ f r broken. ap Some (roots_back tables f r broken).0;
-}
+no_syntax : (tables : SchemaText) (at : ℕ) → BreaksFirst (rules_of_schemas tables) (Syntax at) → ⊥
+no_syntax tables at =
+    other_if (is_over tables) Limit (Syntax at) _ (λ e. absurd (cc))
+    (other_mapped duplicate_at (find (is_duplicate tables) (fields tables)) (Syntax at) _ (λ x e. absurd (cc))
+    (other_mapped NoId (find (lacks_id tables) (places_of tables)) (Syntax at) _ (λ x e. absurd (cc))
+    (other_mapped unknown_at (find (is_unknown tables) (fields tables)) (Syntax at) _ (λ x e. absurd (cc))
+    (other_mapped TwoParents (find (is_shared tables) (places_of tables)) (Syntax at) _ (λ x e. absurd (cc))
+    (other_mapped Cycle (find (returns (schema_of tables)) (places_of tables)) (Syntax at) _ (λ x e. absurd (cc))
+    (other_if (not (roots_of (schema_of tables) == 1)) (NotOneRoot (roots_of (schema_of tables))) (Syntax at) None (λ e. absurd (cc)) (λ e. absurd (cc))))))))
 
 -- what returns does so in as many steps as there are tables
 
@@ -246,7 +114,7 @@ first_place test (x ∷ xs) at p e = first_by test xs at p (test x) e (first_pla
 
 pub parent_below : (schema : Schema) (table p : ℕ) → parent schema table ≡ Some p → p < length schema
 parent_below schema table p e =
-    let h = first_place (λ (other : Table). not (is_empty (keys_to table other))) schema 0 p e in omega arith
+    let h = first_place (λ (other : Table). not (is_empty (references_to table other))) schema 0 p e in omega arith
 
 -- steps on the way to a table lead to tables
 pub one_less : (o : Option ℕ) (f : ℕ → Option ℕ) (x : ℕ) → option_and_then f o ≡ Some x → (y : ℕ) × (o ≡ Some y) × (f y ≡ Some x)
@@ -418,38 +286,6 @@ returns_no schema table r =
     let s = short_way schema table r.steps r.steps (omega arith) r.moves r.back in
     short_returns schema table s.steps s.moves s.few s.back
 
--- all rules
-
-pub all_rules : (tables : SchemaText) → From tables 1 (schema_fault tables)
-all_rules tables =
-    or_else_from tables 1 _ _ (limit_by tables (is_over tables) refl)
-    (or_else_from tables 2 _ _
-    (rule_of tables 2 (λ (x : Field). DuplicateName x.table x.column) (λ field. is_duplicate tables field ≡ true) (is_duplicate tables) (fields tables)
-    (λ x e. e) (λ x e. e) (λ x. refl) (λ x h. h) (duplicate_back tables))
-    (or_else_from tables 3 _ _
-    (rule_of tables 3 NoId (λ place. lacks_id tables place ≡ true) (lacks_id tables) (places_of tables)
-    (λ x e. e) (λ x e. e) (λ x. refl) (λ x h. h) (no_id_back tables))
-    (or_else_from tables 4 _ _
-    (rule_of tables 4 (λ (x : Field). UnknownTable x.table x.column) (λ field. is_unknown tables field ≡ true) (is_unknown tables) (fields tables)
-    (λ x e. e) (λ x e. e) (λ x. refl) (λ x h. h) (unknown_back tables))
-    (or_else_from tables 5 _ _
-    (rule_of tables 5 TwoParents (λ place. is_shared tables place ≡ true) (is_shared tables) (places_of tables)
-    (λ x e. e) (λ x e. e) (λ x. refl) (λ x h. h) (shared_back tables))
-    (or_else_from tables 6 _ _
-    (rule_of tables 6 Cycle (Returns (schema_of tables)) (returns (schema_of tables)) (places_of tables)
-    (returns_yes (schema_of tables)) (returns_no (schema_of tables)) (λ x. refl) (λ x h. h) (cycle_back tables))
-    (last_from tables (wrong_roots (roots_of (schema_of tables))) (roots_by tables (roots_of (schema_of tables) == 1) refl)))))))
-
--- with the grammar as the first rule
-
-syntax_back : (tables : SchemaText) (f : SchemaFault) → rank f ≡ 0 → Breaks tables f → None ≡ Some f
-syntax_back tables (Syntax at) e broken = absurd broken
-syntax_back tables _ e broken = absurd (omega arith)
-
-every_rule : (tables : SchemaText) → From tables 0 (schema_fault tables)
-every_rule tables =
-    or_else_from tables 0 None (schema_fault tables) (record { sound = λ f e. absurd (cc); complete = syntax_back tables }) (all_rules tables)
-
 one_ok : {T E : Type 0} (r : Result T E) (a b : T) → r ≡ Ok a → r ≡ Ok b → a ≡ b
 one_ok r a b e f = cc
 
@@ -465,55 +301,45 @@ one_tree text a b p q =
 
 -- a tree is read as its schema, or as its first fault
 
-module _ (tables : SchemaText) where
-  reads_schema : (schema : Schema) (found : Option SchemaFault) → From tables 0 found → schema_or (schema_of tables) found ≡ Ok schema
-      → ((f : SchemaFault) → Breaks tables f → ⊥) × (schema_of tables ≡ schema)
-  reads_schema schema None from e = (λ f broken. from.none refl f (omega arith) broken, (let h : schema_of tables ≡ schema = cc in h))
-  reads_schema schema (Some f) from e = absurd (cc)
+reads_schema : (tables : SchemaText) (schema : Schema) (found : Option SchemaFault) → schema_or (schema_of tables) found ≡ Ok schema
+    → (found ≡ None) × (schema_of tables ≡ schema)
+reads_schema tables schema None e = (refl, (let h : schema_of tables ≡ schema = cc in h))
+reads_schema tables schema (Some f) e = absurd (cc)
 
-  reads_fault : (f : SchemaFault) (found : Option SchemaFault) → From tables 0 found → schema_or (schema_of tables) found ≡ Err f
-      → Breaks tables f × NoneBefore tables 0 f
-  reads_fault f None from e = absurd (cc)
-  reads_fault f (Some g) from e = let h : Some g ≡ Some f = cc in (from.breaks f h, from.first f h)
-
-  obeying : (found : Option SchemaFault) → From tables 0 found → ((f : SchemaFault) → Breaks tables f → ⊥)
-      → schema_or (schema_of tables) found ≡ Ok (schema_of tables)
-  obeying None from obeys = refl
-  obeying (Some f) from obeys = absurd (obeys f (from.breaks f refl))
+reads_fault : (tables : SchemaText) (f : SchemaFault) (found : Option SchemaFault) → schema_or (schema_of tables) found ≡ Err f → found ≡ Some f
+reads_fault tables f None e = absurd (cc)
+reads_fault tables f (Some g) e = let h : Some g ≡ Some f = cc in h
 
 means_back : (text : List ℕ) (schema : Schema) → MeansSchema text schema → schema_reading text ≡ Ok schema
 means_back text schema m =
     ap judged ((schema_places.tree text m.tables).1 m.spells)
-    ∙ (obeying m.tables (schema_fault m.tables) (every_rule m.tables) m.obeys ∙ ap Ok m.means)
+    ∙ (ap (schema_or (schema_of m.tables)) m.obeys ∙ ap Ok m.means)
 
-breaks_back : (text : List ℕ) (f : SchemaFault) → BreaksFirst text f → schema_reading text ≡ Err f
+breaks_back : (text : List ℕ) (f : SchemaFault) → HasFault text f → schema_reading text ≡ Err f
 breaks_back text f b =
-    ap judged ((schema_places.tree text b.tables).1 b.spells)
-    ∙ ap (schema_or (schema_of b.tables)) ((every_rule b.tables).complete f (omega arith) b.breaks (λ e low less broken. b.none_earlier e less broken))
+    ap judged ((schema_places.tree text b.tables).1 b.spells) ∙ ap (schema_or (schema_of b.tables)) b.breaks
 
 fault_back : (text : List ℕ) (f : SchemaFault) → IsSchemaFault text f → schema_reading text ≡ Err f
 fault_back text (Syntax at) h = ap judged ((schema_places.fault text at).1 h)
 fault_back text f h = breaks_back text f h
 
-as_fault : (text : List ℕ) (f : SchemaFault) → BreaksFirst text f → IsSchemaFault text f
-as_fault text (Syntax at) b = absurd b.breaks
+as_fault : (text : List ℕ) (f : SchemaFault) → HasFault text f → IsSchemaFault text f
+as_fault text (Syntax at) b = absurd (no_syntax b.tables at b.breaks)
 as_fault text f b = b
 
 means_by : (text : List ℕ) (schema : Schema) (syntax : Result SchemaText ℕ) → syntax_of text ≡ syntax → judged syntax ≡ Ok schema → MeansSchema text schema
 means_by text schema (Err at) e h = absurd (cc)
 means_by text schema (Ok tables) e h =
-    let r = reads_schema tables schema (schema_fault tables) (every_rule tables) h in
+    let r = reads_schema tables schema (first_broken (rules_of_schemas tables)) h in
     record { tables = tables; spells = (schema_places.tree text tables).0 e; obeys = r.0; means = r.1 }
 
 fault_by : (text : List ℕ) (f : SchemaFault) (syntax : Result SchemaText ℕ) → syntax_of text ≡ syntax → judged syntax ≡ Err f → IsSchemaFault text f
 fault_by text f (Err at) e h = let g : Syntax at ≡ f = cc in subst (IsSchemaFault text) g ((schema_places.fault text at).0 e)
 fault_by text f (Ok tables) e h =
-    let r = reads_fault tables f (schema_fault tables) (every_rule tables) h in
     as_fault text f (record {
       tables = tables;
       spells = (schema_places.tree text tables).0 e;
-      breaks = r.0;
-      none_earlier = λ earlier less broken. r.1 earlier (omega arith) less broken;
+      breaks = reads_fault tables f (first_broken (rules_of_schemas tables)) h;
     })
 
 some_answer : (text : List ℕ) (answer : Result Schema SchemaFault) → schema_reading text ≡ answer

@@ -5,18 +5,19 @@ use Rattle.std.proofs.lemmas.Bool.{ltb-true, ltb-false, leb-true, and_parts, or_
 use Rattle.std.proofs.lemmas.List.{length-map}
 use Rattle.std.proofs.lemmas.Option.{slice_get-map}
 use Rattle.std.proofs.lemmas.Slice.Eq.{bytes_eq-Decides}
-use Rattle.ghost_model.specs.Schema.{Integer, Chars, Column, Table, Schema, columns_or_none, columns_of, column_at, parent}
-use Rattle.ghost_model.specs.Query.{Field}
-use Rattle.ghost_model.specs.Tokens.{Symbol, Comma, Closing, Semicolon, End, number_of, is_between}
-use Rattle.ghost_model.specs.Grammar.{separated}
-use Rattle.ghost_model.specs.Spelled.{is_spelled, is_name}
-use Rattle.ghost_model.specs.SchemaGrammar.{To, ColumnText, CharColumn, IntegerColumn, TableText, SchemaText, spell_column, spell_table}
-use Rattle.ghost_model.specs.SchemaMeaning.{columns_written, column_of, table_of, schema_of}
-use Rattle.ghost_model.specs.SchemaFaults as faults
-use Rattle.ghost_model.specs.SchemaFaults.{SchemaFault, Limit, DuplicateName, NoId, UnknownTable, TwoParents, Cycle, NotOneRoot, is_over, is_table_over, is_column_over, column_name, columns_at, repeats, table_repeats, is_duplicate, fields_from, fields, is_identifier, table_lacks_id, lacks_id, is_primary, refers_nowhere, is_unknown, is_shared, ancestor, Returns, places_of, returns, roots_of, IsFirst, Breaks, MeansSchema}
-use Rattle.ghost_model.specs.SchemaTrees.{identifier, IsTree, SchemasAreTrees}
+use Rattle.ghost_model.specs.core.Schema.{Integer, Chars, Column, Table, Schema, columns_or_none, columns_of, column_at, places_of, parent, ancestor}
+use Rattle.ghost_model.specs.core.Query.{Field}
+use Rattle.ghost_model.specs.refusals.Tokens.{Symbol, Comma, Closing, Semicolon, EndOfText, number_of, is_between}
+use Rattle.ghost_model.specs.refusals.Grammar.{separated}
+use Rattle.ghost_model.specs.laws.Spelled.{is_spelled, is_name}
+use Rattle.ghost_model.specs.refusals.SchemaGrammar.{To, ColumnDeclaration, CharColumn, IntegerColumn, TableText, SchemaText, spell_column, spell_table}
+use Rattle.ghost_model.specs.refusals.SchemaMeaning.{columns_written, column_of, table_of, schema_of}
+use Rattle.ghost_model.specs.refusals.SchemaFaults as faults
+use Rattle.ghost_model.specs.refusals.SchemaFaults.{is_over, is_table_over, is_column_over, declared_name, columns_at, repeats, table_repeats, is_duplicate, fields_from, fields, is_identifier, table_lacks_id, lacks_id, is_primary, refers_nowhere, is_unknown, is_shared, returns, rules_of_schemas, MeansSchema}
+use Rattle.ghost_model.specs.refusals.Rules.{MeetsAll}
+use Rattle.ghost_model.specs.laws.SchemaTrees.{identifier, Returns, IsTree, SchemasAreTrees}
 use Rattle.ghost_model.proofs.GrammarLemmas.{spelled_parts, spelled_front}
-use Rattle.ghost_model.proofs.SchemaRuleLemmas.{find_first, place_passes, returns_yes, returns_no, one_less, parent_below, same_or_not}
+use Rattle.ghost_model.proofs.SchemaRuleLemmas.{KeptRules, kept_rules, place_passes, returns_no, one_less, parent_below}
 
 pub never_true : (b : Bool) → (b ≡ true → ⊥) → b ≡ false
 never_true true h = absurd (h refl)
@@ -45,11 +46,9 @@ pub no_first : {X : Type 0} (found : Option X) → ((x : X) → found ≡ Some x
 no_first None h = refl
 no_first (Some x) h = absurd (h x refl)
 
-nowhere : {X : Type 0} (P : ℕ → Type 0) (test : ℕ → Bool) (yes : (x : ℕ) → test x ≡ true → P x) (no : (x : ℕ) → P x → test x ≡ true) (xs : List X)
-    → ((x : ℕ) → IsFirst P (places_of xs) x → ⊥) → (k : ℕ) → k < length xs → test k ≡ false
-nowhere P test holds tests xs h k within =
-    let none : list_any test (places_of xs) ≡ false =
-    none_found test (places_of xs) (no_first (find test (places_of xs)) (λ x e. h x (find_first P test holds tests (places_of xs) x e))) in
+nowhere : {X : Type 0} (test : ℕ → Bool) (xs : List X) → find test (places_of xs) ≡ None → (k : ℕ) → k < length xs → test k ≡ false
+nowhere test xs h k within =
+    let none : list_any test (places_of xs) ≡ false = none_found test (places_of xs) h in
     never_true (test k) (λ e.
     let some : list_any test (places_of xs) ≡ true = place_passes test xs 0 k within (ap test (zero-add k) ∙ e) in
     let clash : false ≡ true = sym none ∙ some in absurd (cc))
@@ -62,7 +61,7 @@ position_by at size false place h e = absurd (cc)
 position_within : {X : Type 0} (test : X → Bool) (xs : List X) (place : ℕ) → position test xs ≡ Some place → place < length xs
 position_within test xs place e = position_by (position_or_len test xs) (length xs) _ place (ltb-true (position_or_len test xs) (length xs)) e
 
-first_is_id : (tables : SchemaText) (column : ColumnText) → is_identifier column ≡ true → column_of tables column ≡ identifier
+first_is_id : (tables : SchemaText) (column : ColumnDeclaration) → is_identifier column ≡ true → column_of tables column ≡ identifier
 first_is_id tables (IntegerColumn name true None false) e =
     ap (λ (given : List ℕ). column_of tables (IntegerColumn given true None false)) ((bytes_eq-Decides name (codes "id")).0 e)
 first_is_id tables _ e = absurd (cc)
@@ -71,7 +70,7 @@ pub not_false : (b : Bool) → not b ≡ false → b ≡ true
 not_false true e = refl
 not_false false e = absurd (cc)
 
-key_of : (tables : SchemaText) (column : ColumnText) (child : ℕ) → (column_of tables column).child ≡ Some child
+key_of : (tables : SchemaText) (column : ColumnDeclaration) (child : ℕ) → (column_of tables column).child ≡ Some child
     → ((column_of tables column).hidden ≡ true) × (child < length tables)
 key_of tables (IntegerColumn name primary (Some (To table says_id)) hidden) child e =
     (refl, position_within (λ (other : TableText). bytes_eq table other.name) tables child e)
@@ -85,7 +84,7 @@ mapped f (Some x) y e = let same : f x ≡ y = cc in (x, refl, same)
 -- each column of the schema is the meaning of a column of the text
 pub record IsWritten (tables : SchemaText) (table column : ℕ) (held : Column) : Type 0 where
   pub holder : TableText
-  pub text : ColumnText
+  pub text : ColumnDeclaration
   pub in_tables : slice_get tables table ≡ Some holder
   pub in_columns : slice_get (columns_written holder) column ≡ Some text
   pub means : column_of tables text ≡ held
@@ -144,11 +143,10 @@ field_passes test (table ∷ later) at (suc k) j holder e h t =
     any_right test (map (field_at at) (places_of (columns_written table))) (fields_from (at + 1) later)
     (field_passes test later (at + 1) k j holder e h (ap (λ n. test (field_at n j)) same ∙ t))
 
-pub nowhere_in : (test : Field → Bool) (tables : SchemaText) → ((x : Field) → IsFirst (λ field. test field ≡ true) (fields tables) x → ⊥)
+pub nowhere_in : (test : Field → Bool) (tables : SchemaText) → find test (fields tables) ≡ None
     → (k j : ℕ) (holder : TableText) → slice_get tables k ≡ Some holder → j < length (columns_written holder) → test (field_at k j) ≡ false
 nowhere_in test tables h k j holder e within =
-    let none : list_any test (fields tables) ≡ false =
-    none_found test (fields tables) (no_first (find test (fields tables)) (λ x f. h x (find_first (λ field. test field ≡ true) test (λ y t. t) (λ y t. t) (fields tables) x f))) in
+    let none : list_any test (fields tables) ≡ false = none_found test (fields tables) h in
     never_true (test (field_at k j)) (λ t.
     let some : list_any test (fields tables) ≡ true = field_passes test tables 0 k j holder e within (ap (λ n. test (field_at n j)) (zero-add k) ∙ t) in
     let clash : false ≡ true = sym none ∙ some in absurd (cc))
@@ -163,7 +161,7 @@ in_front test (y ∷ ys) (suc p) (suc q) x e h t = or_right (test y) _ (in_front
 
 repeated : (names : List (List ℕ)) (p q : ℕ) (name : List ℕ) → slice_get names p ≡ Some name → slice_get names q ≡ Some name → p < q → repeats names q ≡ true
 repeated names p q name e f h =
-    ap (λ o. list_any (faults.is_name o) (take q names)) f ∙ in_front (bytes_eq name) names p q name e h ((bytes_eq-Decides name name).1 refl)
+    ap (λ o. list_any (faults.is_this_name o) (take q names)) f ∙ in_front (bytes_eq name) names p q name e h ((bytes_eq-Decides name name).1 refl)
 
 -- places whose names are never repeated have two names
 distinct : (names : List (List ℕ)) → ((q : ℕ) (name : List ℕ) → slice_get names q ≡ Some name → repeats names q ≡ false)
@@ -193,25 +191,25 @@ inside_table table e =
     let parts = spelled_parts (spell_column table.first) (flat_map (λ other. Comma ∷ spell_column other) table.others) columns.0 in
     (named.0, parts.0, parts.1)
 
-pub column_spelled : (table : TableText) (j : ℕ) (column : ColumnText) → list_all is_spelled (spell_table table) ≡ true
+pub column_spelled : (table : TableText) (j : ℕ) (column : ColumnDeclaration) → list_all is_spelled (spell_table table) ≡ true
     → slice_get (columns_written table) j ≡ Some column → list_all is_spelled (spell_column column) ≡ true
 column_spelled table zero column e h =
     let same : table.first ≡ column = cc in
     ap (λ c. list_all is_spelled (spell_column c)) (sym same) ∙ (inside_table table e).1
 column_spelled table (suc j) column e h = each_spelled (λ other. Comma ∷ spell_column other) table.others j column (inside_table table e).2 h
 
-pub column_named : (column : ColumnText) → list_all is_spelled (spell_column column) ≡ true → is_name (column_name column) ≡ true
+pub column_named : (column : ColumnDeclaration) → list_all is_spelled (spell_column column) ≡ true → is_name (declared_name column) ≡ true
 column_named (CharColumn name digits hidden) e = (and_parts (is_name name) _ e).0
 column_named (IntegerColumn name primary reference hidden) e = (and_parts (is_name name) _ e).0
 
 -- a column's name and kind in the schema
 
-name_kept : (tables : SchemaText) (column : ColumnText) → (column_of tables column).name ≡ column_name column
+name_kept : (tables : SchemaText) (column : ColumnDeclaration) → (column_of tables column).name ≡ declared_name column
 name_kept tables (CharColumn name digits hidden) = refl
 name_kept tables (IntegerColumn name primary None hidden) = refl
 name_kept tables (IntegerColumn name primary (Some (To table says_id)) hidden) = refl
 
-short_column : (column : ColumnText) → is_column_over column ≡ false → length (column_name column) ≤ 32
+short_column : (column : ColumnDeclaration) → is_column_over column ≡ false → length (declared_name column) ≤ 32
 short_column (CharColumn name digits hidden) e = ltb-false 32 (length name) (neither _ _ e).0
 short_column (IntegerColumn name primary None hidden) e = ltb-false 32 (length name) e
 short_column (IntegerColumn name primary (Some (To table says_id)) hidden) e = ltb-false 32 (length name) (neither _ _ e).0
@@ -221,7 +219,7 @@ length_within name digits hidden e =
     let between = and_parts _ _ (not_false (is_between 1 64 (number_of digits)) (neither _ _ e).1) in
     (leb-true 1 (number_of digits) between.0, leb-true (number_of digits) 64 between.1)
 
-lengths_kept : (tables : SchemaText) (column : ColumnText) (most : ℕ) → is_column_over column ≡ false → (column_of tables column).kind ≡ Chars most
+lengths_kept : (tables : SchemaText) (column : ColumnDeclaration) (most : ℕ) → is_column_over column ≡ false → (column_of tables column).kind ≡ Chars most
     → (1 ≤ most) × (most ≤ 64)
 lengths_kept tables (CharColumn name digits hidden) most e k =
     let same : number_of digits ≡ most = cc in
@@ -229,13 +227,16 @@ lengths_kept tables (CharColumn name digits hidden) most e k =
 lengths_kept tables (IntegerColumn name primary None hidden) most e k = absurd (cc)
 lengths_kept tables (IntegerColumn name primary (Some (To table says_id)) hidden) most e k = absurd (cc)
 
-key_is_integer : (tables : SchemaText) (column : ColumnText) (child : ℕ) → (column_of tables column).child ≡ Some child
+key_is_integer : (tables : SchemaText) (column : ColumnDeclaration) (child : ℕ) → (column_of tables column).child ≡ Some child
     → (column_of tables column).kind ≡ Integer
 key_is_integer tables (CharColumn name digits hidden) child e = absurd (cc)
 key_is_integer tables (IntegerColumn name primary None hidden) child e = absurd (cc)
 key_is_integer tables (IntegerColumn name primary (Some (To table says_id)) hidden) child e = refl
 
-module _ (tables : SchemaText) (obeys : (fault : SchemaFault) → Breaks tables fault → ⊥) (spelled : list_all is_spelled (flat_map spell_table tables) ≡ true) where
+module _ (tables : SchemaText) (obeys : MeetsAll (rules_of_schemas tables)) (spelled : list_all is_spelled (flat_map spell_table tables) ≡ true) where
+  kept : KeptRules tables
+  kept = kept_rules tables obeys
+
   size : length (schema_of tables) ≡ length tables
   size = length-map tables (table_of tables)
 
@@ -250,7 +251,7 @@ module _ (tables : SchemaText) (obeys : (fault : SchemaFault) → Breaks tables 
   declared table held e = mapped (table_of tables) (slice_get tables table) held (sym (slice_get-map (table_of tables) tables table) ∙ e)
 
   limits : (is_over tables) ≡ false
-  limits = never_true (is_over tables) (obeys Limit)
+  limits = kept.limits
 
   few_columns_in : (table : ℕ) (o : Option TableText) → slice_get tables table ≡ o → length (columns_or_none (option_map (table_of tables) o)) ≤ 24
   few_columns_in table None e = omega arith
@@ -265,17 +266,16 @@ module _ (tables : SchemaText) (obeys : (fault : SchemaFault) → Breaks tables 
   pub identified : (table : ℕ) (text : TableText) → slice_get tables table ≡ Some text
       → (is_identifier text.first ≡ true) × (list_any is_primary text.others ≡ false)
   identified table text e =
-      let lacks : lacks_id tables table ≡ false =
-      nowhere (λ place. lacks_id tables place ≡ true) (lacks_id tables) (λ x e. e) (λ x e. e) tables (λ x. obeys (NoId x)) table (place_within tables table text e) in
+      let lacks : lacks_id tables table ≡ false = nowhere (lacks_id tables) tables kept.identifiers table (place_within tables table text e) in
       let both = neither _ _ (ap table_lacks_id (sym e) ∙ lacks) in
       (not_false _ both.0, both.1)
 
   -- each reference of the text names a table
-  pub known : (table column : ℕ) (holder : TableText) (text : ColumnText) → slice_get tables table ≡ Some holder
+  pub known : (table column : ℕ) (holder : TableText) (text : ColumnDeclaration) → slice_get tables table ≡ Some holder
       → slice_get (columns_written holder) column ≡ Some text → refers_nowhere tables (Some text) ≡ false
   known table column holder text e h =
       ap (refers_nowhere tables) (sym (ap (λ o. slice_get (columns_at o) column) e ∙ h))
-      ∙ nowhere_in (is_unknown tables) tables (λ x. obeys (UnknownTable x.table x.column)) table column holder e (place_within (columns_written holder) column text h)
+      ∙ nowhere_in (is_unknown tables) tables kept.references table column holder e (place_within (columns_written holder) column text h)
 
   begins : (table : ℕ) → table < length tables → column_at (schema_of tables) table 0 ≡ Some identifier
   begins table h =
@@ -293,9 +293,7 @@ module _ (tables : SchemaText) (obeys : (fault : SchemaFault) → Breaks tables 
   no_return : (table : ℕ) → Returns (schema_of tables) table → ⊥
   no_return table r =
       let within : table < length tables = return_within table r.steps r.moves r.back in
-      let no : returns (schema_of tables) table ≡ false =
-      nowhere (Returns (schema_of tables)) (returns (schema_of tables)) (returns_yes (schema_of tables)) (returns_no (schema_of tables)) tables
-      (λ x. obeys (Cycle x)) table within in
+      let no : returns (schema_of tables) table ≡ false = nowhere (returns (schema_of tables)) tables kept.cycles table within in
       let clash : false ≡ true = sym no ∙ returns_no (schema_of tables) table r in
       absurd (cc)
 
@@ -309,7 +307,7 @@ module _ (tables : SchemaText) (obeys : (fault : SchemaFault) → Breaks tables 
   table_kept : (table : ℕ) (text : TableText) → slice_get tables table ≡ Some text → is_table_over text ≡ false
   table_kept table text e = none_at is_table_over tables table text (neither _ _ limits).1 e
 
-  pub column_kept : (table column : ℕ) (holder : TableText) (text : ColumnText) → slice_get tables table ≡ Some holder
+  pub column_kept : (table column : ℕ) (holder : TableText) (text : ColumnDeclaration) → slice_get tables table ≡ Some holder
       → slice_get (columns_written holder) column ≡ Some text → is_column_over text ≡ false
   column_kept table column holder text e h =
       none_at is_column_over (columns_written holder) column text (neither _ _ (table_kept table holder e)).1 h
@@ -326,7 +324,7 @@ module _ (tables : SchemaText) (obeys : (fault : SchemaFault) → Breaks tables 
   -- no name is repeated
   fresh : (table column : ℕ) (holder : TableText) → slice_get tables table ≡ Some holder → column < length (columns_written holder)
       → is_duplicate tables (field_at table column) ≡ false
-  fresh = nowhere_in (is_duplicate tables) tables (λ x. obeys (DuplicateName x.table x.column))
+  fresh = nowhere_in (is_duplicate tables) tables kept.names
 
   fresh_table : (table : ℕ) (name : List ℕ) → slice_get (map (λ (text : TableText). text.name) tables) table ≡ Some name → table_repeats tables table ≡ false
   fresh_table table name e =
@@ -334,10 +332,10 @@ module _ (tables : SchemaText) (obeys : (fault : SchemaFault) → Breaks tables 
       (neither _ _ (fresh table 0 m.0 m.1 (omega arith))).0
 
   fresh_column : (table : ℕ) (holder : TableText) → slice_get tables table ≡ Some holder → (column : ℕ) (name : List ℕ)
-      → slice_get (map column_name (columns_written holder)) column ≡ Some name → repeats (map column_name (columns_written holder)) column ≡ false
+      → slice_get (map declared_name (columns_written holder)) column ≡ Some name → repeats (map declared_name (columns_written holder)) column ≡ false
   fresh_column table holder there column name e =
-      let m = mapped column_name (slice_get (columns_written holder) column) name (sym (slice_get-map column_name (columns_written holder) column) ∙ e) in
-      ap (λ o. repeats (map column_name (columns_at o)) column) (sym there)
+      let m = mapped declared_name (slice_get (columns_written holder) column) name (sym (slice_get-map declared_name (columns_written holder) column) ∙ e) in
+      ap (λ o. repeats (map declared_name (columns_at o)) column) (sym there)
       ∙ (neither _ _ (fresh table column holder there (place_within (columns_written holder) column m.0 m.1))).1
 
   two_tables : (table other : ℕ) (held same : Table) → slice_get (schema_of tables) table ≡ Some held → slice_get (schema_of tables) other ≡ Some same
@@ -351,11 +349,11 @@ module _ (tables : SchemaText) (obeys : (fault : SchemaFault) → Breaks tables 
       (slice_get-map (λ (text : TableText). text.name) tables other
       ∙ (ap (option_map (λ (text : TableText). text.name)) b.1 ∙ (ap (λ (t : Table). Some t.name) b.2 ∙ ap Some (sym names))))
 
-  column_name_at : (holder : TableText) (column : ℕ) (text : ColumnText) (held : Column) → slice_get (columns_written holder) column ≡ Some text
-      → column_of tables text ≡ held → slice_get (map column_name (columns_written holder)) column ≡ Some held.name
+  column_name_at : (holder : TableText) (column : ℕ) (text : ColumnDeclaration) (held : Column) → slice_get (columns_written holder) column ≡ Some text
+      → column_of tables text ≡ held → slice_get (map declared_name (columns_written holder)) column ≡ Some held.name
   column_name_at holder column text held e means =
-      slice_get-map column_name (columns_written holder) column
-      ∙ (ap (option_map column_name) e ∙ ap Some (sym (name_kept tables text) ∙ ap (λ (c : Column). c.name) means))
+      slice_get-map declared_name (columns_written holder) column
+      ∙ (ap (option_map declared_name) e ∙ ap Some (sym (name_kept tables text) ∙ ap (λ (c : Column). c.name) means))
 
   two_columns : (table column other : ℕ) (held same : Column) → column_at (schema_of tables) table column ≡ Some held
       → column_at (schema_of tables) table other ≡ Some same → held.name ≡ same.name → column ≡ other
@@ -364,9 +362,9 @@ module _ (tables : SchemaText) (obeys : (fault : SchemaFault) → Breaks tables 
       let b = written table other same f in
       let one : Some b.holder ≡ Some d.holder = sym b.in_tables ∙ d.in_tables in
       let one_holder : b.holder ≡ d.holder = cc in
-      distinct (map column_name (columns_written d.holder)) (fresh_column table d.holder d.in_tables) column other held.name
+      distinct (map declared_name (columns_written d.holder)) (fresh_column table d.holder d.in_tables) column other held.name
       (column_name_at d.holder column d.text held d.in_columns d.means)
-      (ap (λ (h : TableText). slice_get (map column_name (columns_written h)) other) (sym one_holder)
+      (ap (λ (h : TableText). slice_get (map declared_name (columns_written h)) other) (sym one_holder)
       ∙ (column_name_at b.holder other b.text same b.in_columns b.means ∙ ap Some (sym names)))
 
   tree_of : IsTree (schema_of tables)
@@ -374,19 +372,16 @@ module _ (tables : SchemaText) (obeys : (fault : SchemaFault) → Breaks tables 
     few_tables = subst (λ n. n ≤ 12) (sym size) (ltb-false 12 (length tables) (neither _ _ limits).0);
     few_columns = λ table. subst (λ columns. length columns ≤ 24) (sym (table_in table)) (few_columns_in table (slice_get tables table) refl);
     begins_with_id = λ table h. begins table (subst (λ n. table < n) size h);
-    keys_are_hidden = λ table column child held e h. (key table column child held e h).0;
-    keys_name_tables = λ table column child held e h. subst (λ n. child < n) (sym size) (key table column child held e h).1;
+    references_are_hidden = λ table column child held e h. (key table column child held e h).0;
+    references_name_tables = λ table column child held e h. subst (λ n. child < n) (sym size) (key table column child held e h).1;
     one_parent = λ table h.
-        ltb-false 1 _ (nowhere (λ place. is_shared tables place ≡ true) (is_shared tables) (λ x e. e) (λ x e. e) tables (λ x. obeys (TwoParents x)) table (subst (λ n. table < n) size h));
+        ltb-false 1 _ (nowhere (is_shared tables) tables kept.parents table (subst (λ n. table < n) size h));
     no_cycle = no_return;
-    one_root = elim (same_or_not (roots_of (schema_of tables)) 1) [
-      | inl e ↦ e
-      | inr d ↦ absurd (obeys (NotOneRoot (roots_of (schema_of tables))) (refl, d))
-    ];
+    one_root = kept.root;
     text_lengths = λ table column most held e k.
         let w = written table column held e in
         lengths_kept tables w.text most (column_kept table column w.holder w.text w.in_tables w.in_columns) (ap (λ (c : Column). c.kind) w.means ∙ k);
-    keys_are_integers = λ table column child held e h.
+    references_are_integers = λ table column child held e h.
         let w = written table column held e in
         ap (λ (c : Column). c.kind) (sym w.means) ∙ key_is_integer tables w.text child (ap (λ (c : Column). c.child) w.means ∙ h);
     short_table_names = λ table held e.
@@ -409,7 +404,7 @@ module _ (tables : SchemaText) (obeys : (fault : SchemaFault) → Breaks tables 
 
 -- the symbols of a text's tree before its end are spelled
 pub tables_spelled : (text : List ℕ) (schema : Schema) → (means : MeansSchema text schema) → list_all is_spelled (flat_map spell_table means.tables) ≡ true
-tables_spelled text schema means = spelled_front text (flat_map spell_table means.tables) End [] means.spells
+tables_spelled text schema means = spelled_front text (flat_map spell_table means.tables) EndOfText [] means.spells
 
 pub schemas_are_trees : SchemasAreTrees
 schemas_are_trees text schema means = subst IsTree means.means (tree_of means.tables means.obeys (tables_spelled text schema means))

@@ -3,6 +3,7 @@ pub mod OneJournal
 pub mod Groups
 pub mod Limits
 pub mod SentFrames
+pub mod Settings
 pub mod ThisHost
 pub mod Values
 pub mod Whole

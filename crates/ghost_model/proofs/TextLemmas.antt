@@ -2,7 +2,8 @@
 use Rattle.std.proofs.Common.{◌≡◌, ℕ, ◌+◌, ◌%◌, Bool, true, false, not, ◌&&◌, ◌==◌, cond, if◌then◌else◌, List, [], ◌∷◌, ◌++◌, refl, sym, ◌∙◌, ap, arith}
 use Rattle.std.proofs.lemmas.Bool.{and_parts, eqb-true}
 use Rattle.std.proofs.lemmas.List.Sums.{sum_by-cons}
-use Rattle.ghost_model.specs.Texts.{before_parts, parts_after, parts_of, quotes}
+use Rattle.ghost_model.specs.readings.TextReading.{before_parts, parts_after, parts_of}
+use Rattle.ghost_model.specs.laws.TextLaws.{quotes}
 
 -- whether the number of `'` is even after some bytes, where it was before them or was not
 abbrev even_after : Bool → List ℕ → Bool

@@ -7,10 +7,11 @@ use Rattle.std.proofs.lemmas.Bool.{and_parts, and_from, eqb-true, not-true}
 use Rattle.std.proofs.lemmas.Str.Ascii.{lowercase-lowercase}
 use Rattle.std.proofs.lemmas.List.Folds.{list_all-append}
 use Rattle.std.proofs.lemmas.Slice.Eq.{bytes_eq-Decides}
+use Rattle.std.specs.Option.{option_map_or}
 use Rattle.std.specs.Char.{to_ascii_lowercase}
 use Rattle.std.proofs.lemmas.Bool.Decides.{nat_tests}
-use Rattle.ghost_model.specs.Tokens.{Keyword, And, Between, Char, Create, From, Hidden, Integer, Key, Primary, References, Select, Table, Where, Symbol, Word, Reserved, Name, Digits, Quoted, Open, Closing, Comma, Point, Semicolon, Star, Plus, Minus, Equal, Unequal, Less, AtMost, More, AtLeast, Bad, End, keyword_of, keyword_or, other_reserved, symbol_of, symbols, tokens_from, quoted_from, token_at, word_at, digits_at, in_lower_case, symbol_of_word, is_space, is_digit, begins_name, is_name_byte, is_printable, sign_of, less_and, more_and, read, Read}
-use Rattle.ghost_model.specs.Spelled.{keyword_text, is_reserved, begins_as_name, is_name, is_number, is_spelled, symbol_text, inside_literal, text_of, IsBeforeEnd}
+use Rattle.ghost_model.specs.refusals.Tokens.{Keyword, AndWord, BetweenWord, CharWord, CreateWord, FromWord, HiddenWord, IntegerWord, PrimaryKeyWord, PrimaryWord, ReferencesWord, SelectWord, TableWord, WhereWord, Symbol, Word, Reserved, Name, Digits, Quoted, Open, Closing, Comma, Point, Semicolon, Star, PlusSign, MinusSign, EqualSign, UnequalSign, LessSign, AtMostSign, MoreSign, AtLeastSign, NoToken, EndOfText, keyword_text, keyword_of, other_reserved, symbol_of, symbols, tokens_from, quoted_from, token_at, word_at, digits_at, in_lower_case, symbol_of_word, is_space, is_digit, begins_name, is_name_byte, is_printable, sign_of, less_and, more_and, read, Read}
+use Rattle.ghost_model.specs.laws.Spelled.{is_reserved, begins_as_name, is_name, is_spelled, symbol_text, inside_literal, text_of, IsBeforeEnd}
 
 -- the symbols of a text whose first `left` bytes belong to a token before; the offset of the text does not matter
 abbrev kinds : (left at : ℕ) → List ℕ → List Symbol
@@ -135,7 +136,7 @@ literal_token value rest all =
 
 -- a word that is not reserved is a name
 symbol_if_free : (word : List ℕ) (keyword : Option Keyword) (among : Bool) → (not (is_none keyword) || among) ≡ false
-    → keyword_or (if among then Reserved else Name word) keyword ≡ Name word
+    → option_map_or Word keyword (if among then Reserved else Name word) ≡ Name word
 symbol_if_free word None false e = refl
 symbol_if_free word None true e = cc
 symbol_if_free word (Some keyword) among e = cc
@@ -157,23 +158,23 @@ number_reads b w rest e =
     token_before_space b w rest (Digits (b ∷ w)) (digit_is_no_space b ((and_parts (is_digit b) (list_all is_digit w) e).0)) (digits_token b w rest e)
 
 keyword_reads : (keyword : Keyword) (rest : List ℕ) → symbols (keyword_text keyword ++ 32 ∷ rest) ≡ Word keyword ∷ symbols rest
-keyword_reads And rest = token_before_space 65 (codes "ND") rest (Word And) refl refl
-keyword_reads Between rest = token_before_space 66 (codes "ETWEEN") rest (Word Between) refl refl
-keyword_reads Char rest = token_before_space 67 (codes "HAR") rest (Word Char) refl refl
-keyword_reads Create rest = token_before_space 67 (codes "REATE") rest (Word Create) refl refl
-keyword_reads From rest = token_before_space 70 (codes "ROM") rest (Word From) refl refl
-keyword_reads Hidden rest = token_before_space 72 (codes "IDDEN") rest (Word Hidden) refl refl
-keyword_reads Integer rest = token_before_space 73 (codes "NTEGER") rest (Word Integer) refl refl
-keyword_reads Key rest = token_before_space 75 (codes "EY") rest (Word Key) refl refl
-keyword_reads Primary rest = token_before_space 80 (codes "RIMARY") rest (Word Primary) refl refl
-keyword_reads References rest = token_before_space 82 (codes "EFERENCES") rest (Word References) refl refl
-keyword_reads Select rest = token_before_space 83 (codes "ELECT") rest (Word Select) refl refl
-keyword_reads Table rest = token_before_space 84 (codes "ABLE") rest (Word Table) refl refl
-keyword_reads Where rest = token_before_space 87 (codes "HERE") rest (Word Where) refl refl
+keyword_reads AndWord rest = token_before_space 97 (codes "nd") rest (Word AndWord) refl refl
+keyword_reads BetweenWord rest = token_before_space 98 (codes "etween") rest (Word BetweenWord) refl refl
+keyword_reads CharWord rest = token_before_space 99 (codes "har") rest (Word CharWord) refl refl
+keyword_reads CreateWord rest = token_before_space 99 (codes "reate") rest (Word CreateWord) refl refl
+keyword_reads FromWord rest = token_before_space 102 (codes "rom") rest (Word FromWord) refl refl
+keyword_reads HiddenWord rest = token_before_space 104 (codes "idden") rest (Word HiddenWord) refl refl
+keyword_reads IntegerWord rest = token_before_space 105 (codes "nteger") rest (Word IntegerWord) refl refl
+keyword_reads PrimaryKeyWord rest = token_before_space 107 (codes "ey") rest (Word PrimaryKeyWord) refl refl
+keyword_reads PrimaryWord rest = token_before_space 112 (codes "rimary") rest (Word PrimaryWord) refl refl
+keyword_reads ReferencesWord rest = token_before_space 114 (codes "eferences") rest (Word ReferencesWord) refl refl
+keyword_reads SelectWord rest = token_before_space 115 (codes "elect") rest (Word SelectWord) refl refl
+keyword_reads TableWord rest = token_before_space 116 (codes "able") rest (Word TableWord) refl refl
+keyword_reads WhereWord rest = token_before_space 119 (codes "here") rest (Word WhereWord) refl refl
 
 -- each spelled symbol is read as itself
 symbol_reads : (symbol : Symbol) (rest : List ℕ) → is_spelled symbol ≡ true → symbols (symbol_text symbol ++ 32 ∷ rest) ≡ symbol ∷ symbols rest
-unfolding is_name is_number
+unfolding is_name
 symbol_reads (Word keyword) rest e = keyword_reads keyword rest
 symbol_reads Reserved rest e = token_before_space 78 (codes "ULL") rest Reserved refl refl
 symbol_reads (Name []) rest e = cc
@@ -187,18 +188,18 @@ symbol_reads Comma rest e = token_before_space 44 [] rest Comma refl refl
 symbol_reads Point rest e = token_before_space 46 [] rest Point refl refl
 symbol_reads Semicolon rest e = token_before_space 59 [] rest Semicolon refl refl
 symbol_reads Star rest e = token_before_space 42 [] rest Star refl refl
-symbol_reads Plus rest e = token_before_space 43 [] rest Plus refl refl
-symbol_reads Minus rest e = token_before_space 45 [] rest Minus refl refl
-symbol_reads Equal rest e = token_before_space 61 [] rest Equal refl refl
-symbol_reads Unequal rest e = token_before_space 60 (codes ">") rest Unequal refl refl
-symbol_reads Less rest e = token_before_space 60 [] rest Less refl refl
-symbol_reads AtMost rest e = token_before_space 60 (codes "=") rest AtMost refl refl
-symbol_reads More rest e = token_before_space 62 [] rest More refl refl
-symbol_reads AtLeast rest e = token_before_space 62 (codes "=") rest AtLeast refl refl
-symbol_reads Bad rest e = token_before_space 63 [] rest Bad refl refl
-symbol_reads End rest e = cc
+symbol_reads PlusSign rest e = token_before_space 43 [] rest PlusSign refl refl
+symbol_reads MinusSign rest e = token_before_space 45 [] rest MinusSign refl refl
+symbol_reads EqualSign rest e = token_before_space 61 [] rest EqualSign refl refl
+symbol_reads UnequalSign rest e = token_before_space 60 (codes ">") rest UnequalSign refl refl
+symbol_reads LessSign rest e = token_before_space 60 [] rest LessSign refl refl
+symbol_reads AtMostSign rest e = token_before_space 60 (codes "=") rest AtMostSign refl refl
+symbol_reads MoreSign rest e = token_before_space 62 [] rest MoreSign refl refl
+symbol_reads AtLeastSign rest e = token_before_space 62 (codes "=") rest AtLeastSign refl refl
+symbol_reads NoToken rest e = token_before_space 63 [] rest NoToken refl refl
+symbol_reads EndOfText rest e = cc
 
-pub spelled_text : (xs : List Symbol) → list_all is_spelled xs ≡ true → symbols (text_of xs) ≡ xs ++ End ∷ []
+pub spelled_text : (xs : List Symbol) → list_all is_spelled xs ≡ true → symbols (text_of xs) ≡ xs ++ EndOfText ∷ []
 unfolding tokens_from
 spelled_text [] e = refl
 spelled_text (x ∷ xs) e =
@@ -212,7 +213,7 @@ sign_spelled b = grind (arith, nat_tests)
 
 word_spelled : (word : List ℕ) (keyword : Option Keyword) (among : Bool) → keyword_of word ≡ keyword → list_any (bytes_eq word) other_reserved ≡ among
     → begins_as_name word ≡ true → list_all is_name_byte word ≡ true → bytes_eq (in_lower_case word) word ≡ true
-    → is_spelled (keyword_or (if among then Reserved else Name word) keyword) ≡ true
+    → is_spelled (option_map_or Word keyword (if among then Reserved else Name word)) ≡ true
 unfolding is_name
 word_spelled word (Some keyword) among k a p q r = refl
 word_spelled word None true k a p q r = refl
@@ -270,7 +271,6 @@ taken_first : (p : ℕ → Bool) (b : ℕ) (bs : List ℕ) → p b ≡ true → 
 taken_first p b bs e = take_while-cons p b bs ∙ ap (λ v. cond v (b ∷ take_while p bs) []) e
 
 token_spelled : (b : ℕ) (bs : List ℕ) → is_spelled (token_at b bs).symbol ≡ true
-unfolding is_number
 token_spelled b bs =
     read_either (begins_name b) _ _
     (λ e. let named : is_name_byte b ≡ true = ap (λ v. v || is_digit b) e in
@@ -284,7 +284,7 @@ token_spelled b bs =
 
 -- spelled symbols and then the end
 record IsEnded (xs before : List Symbol) : Type 0 where
-  whole : xs ≡ before ++ End ∷ []
+  whole : xs ≡ before ++ EndOfText ∷ []
   spelled : list_all is_spelled before ≡ true
 
 ended_from : (left at : ℕ) (text : List ℕ) → (before : List Symbol) × IsEnded (map symbol_of (tokens_from left at text)) before

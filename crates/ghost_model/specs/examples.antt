@@ -10,3 +10,4 @@ pub mod Sessions
 pub mod Catalogs
 pub mod Layout
 pub mod Flash
+pub mod Slots

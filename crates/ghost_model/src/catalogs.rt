@@ -1,6 +1,6 @@
 //! Laws and examples of canonical texts and catalogs.
 
-ghost use Rattle.ghost_model.specs.CatalogLaws.{CanonicalTextMeansItsSchema, ACatalogOfEachText, NoCatalogIsLong, CatalogsHaveOneSpelling};
+ghost use Rattle.ghost_model.specs.laws.CatalogLaws.{CanonicalTextMeansItsSchema, ACatalogOfEachText, NoCatalogIsLong, CatalogsAreBytes, CatalogsHaveOneSpelling};
 ghost use Rattle.ghost_model.specs.examples.Catalogs.{CatalogsOfExamples, BytesOfCatalogs};
 
 /// The canonical text of a schema that a text means is a text that means it too.
@@ -16,6 +16,11 @@ pub fn a_catalog_of_each_text()
 /// The bytes of each catalog are at most 16,640.
 pub fn no_catalog_is_long()
     ensures { NoCatalogIsLong }
+{}
+
+/// The bytes of each catalog are bytes.
+pub fn catalogs_are_bytes()
+    ensures { CatalogsAreBytes }
 {}
 
 /// Bytes spell at most one catalog, and begin with at most one.

@@ -1,10 +1,8 @@
 //! Laws and examples of frames, asks, journals and of what the host sends.
 
-ghost use Rattle.ghost_model.specs.Frames.{FramesArePrefixFree, FramesHaveOneSpelling};
-ghost use Rattle.ghost_model.specs.Asks.{AsksHaveOneSpelling, AsksAreVisible, AsksAreProper, RowsHaveOneSpelling};
-ghost use Rattle.ghost_model.specs.Host.{FramesAreCut, HostIsHonest, NothingIsLost, GreetingsAreHeard, RepliesAreHeard, HonestStreamsAreHeard};
-ghost use Rattle.ghost_model.specs.NextMove.{TwoWorlds, ReceivedIsSpelled, AwaitedIsHeard, SentIsDue};
-ghost use Rattle.ghost_model.specs.examples.Channel.{SpellingsOfFrames, ReadingsOfFrames, JournalOfTheNotes, AsksOfQueries, AsksOfBytes, JournalOfTheClinic, JournalWithoutAsks, InvalidFrames, FramesThatAreDue, AnswersOfTheHost};
+ghost use Rattle.ghost_model.specs.laws.ChannelLaws.{FramesArePrefixFree, FramesHaveOneSpelling, AsksHaveOneSpelling, AsksAreVisible, AsksAreProper, AsksAreFew, RowsHaveOneSpelling, TwoWorlds, ReceivedIsSpelled, AwaitedIsHeard, SentIsDue};
+ghost use Rattle.ghost_model.specs.laws.HostLaws.{FramesAreCut, HostIsHonest, NothingIsLost, GreetingsAreHeard, RepliesAreHeard, HonestStreamsAreHeard};
+ghost use Rattle.ghost_model.specs.examples.Channel.{SpellingsOfFrames, ReadingsOfFrames, JournalOfTheNotes, AsksOfQueries, AsksOfBytes, JournalOfTheClinic, JournalWithoutAsks, JournalsOfAsks, JournalsCutShort, JournalInSingleBytes, InvalidFrames, FramesThatAreDue, AnswersOfTheHost};
 
 /// No frame's spelling is a proper prefix of another's.
 pub fn frames_are_prefix_free()
@@ -37,6 +35,11 @@ pub fn asks_are_proper()
     ensures { AsksAreProper }
 {}
 
+/// The asks of some texts over a schema of at most 12 tables are at most 12 for each text.
+pub fn asks_are_few()
+    ensures { AsksAreFew }
+{}
+
 /// Rows of a reply are the ones that their bytes spell, and bytes of whole rows are those of the rows that they spell.
 pub fn rows_have_one_spelling()
     ensures { RowsHaveOneSpelling }
@@ -57,7 +60,7 @@ pub fn sent_frames_are_due()
     ensures { SentIsDue }
 {}
 
-/// Two proper journals for the same catalog, address and texts whose first answers agree have the same moves up to and
+/// Two proper journals for the same catalog, address and asks, as those of the same texts, whose first answers agree have the same moves up to and
 /// with the one after these.
 pub fn two_worlds()
     ensures { TwoWorlds }
@@ -122,6 +125,21 @@ pub fn journal_of_the_clinic()
 /// The session of a script that asks for nothing.
 pub fn journal_without_asks()
     ensures { JournalWithoutAsks }
+{}
+
+/// Sessions with an ask without a row, and with the asks of two texts.
+pub fn journals_of_asks()
+    ensures { JournalsOfAsks }
+{}
+
+/// Sessions in which a host refuses an ask, or sends an invalid frame.
+pub fn journals_cut_short()
+    ensures { JournalsCutShort }
+{}
+
+/// A session whose reply comes byte by byte.
+pub fn journal_in_single_bytes()
+    ensures { JournalInSingleBytes }
 {}
 
 /// Frames that are invalid in their place, each with its kind and the bytes taken before it.

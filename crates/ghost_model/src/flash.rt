@@ -1,8 +1,9 @@
 //! Examples and laws of what the flash holds.
 
-ghost use Rattle.ghost_model.specs.FlashLaws.{HiddenValuesByPlace, HiddenPartsGoWithCatalogs, HiddenCellsFit, HiddenCellsOfDatabases, RowsLeadByHiddenValues, HiddenValuesOfDatabases, ColumnFilesGiveValues, HoldingsAreKept, RecordsAreAsWide};
-ghost use Rattle.ghost_model.specs.ListLaws.{ListsPartition, IdListsPartition};
-ghost use Rattle.ghost_model.specs.examples.Flash.{CellsOfTheClinic, IndexesOfTheClinic, PagesOfTheClinic};
+ghost use Rattle.ghost_model.specs.laws.FlashLaws.{HiddenValuesByPlace, HiddenPartsGoWithCatalogs, HiddenCellsFit, HiddenCellsOfDatabases, RowsLeadByHiddenValues, HiddenValuesOfDatabases, ColumnFilesGiveValues, HoldingsAreKept, RecordsAreAsWide};
+ghost use Rattle.ghost_model.specs.laws.ListLaws.{ListsPartition, IdListsPartition};
+ghost use Rattle.ghost_model.specs.examples.Slots.{RangesOfSlots, OrderOfSlots, DamagedSlots};
+ghost use Rattle.ghost_model.specs.examples.Flash.{CellsOfTheClinic, IndexesOfTheClinic, HoldingsOfTheClinic, PagesOfTheClinic};
 
 /// Where a row of the hidden part has the value of a hidden column.
 pub fn hidden_values_by_place()
@@ -69,7 +70,27 @@ pub fn indexes_of_the_clinic()
     ensures { IndexesOfTheClinic }
 {}
 
+/// All its pages hold it, and do not with a byte changed.
+pub fn holdings_of_the_clinic()
+    ensures { HoldingsOfTheClinic }
+{}
+
 /// Some of its pages, pages that do not hold it, and how many pages are built.
 pub fn pages_of_the_clinic()
     ensures { PagesOfTheClinic }
+{}
+
+/// What slots may hold by themselves.
+pub fn ranges_of_slots()
+    ensures { RangesOfSlots }
+{}
+
+/// What they may hold after those before them.
+pub fn order_of_slots()
+    ensures { OrderOfSlots }
+{}
+
+/// Slots that are damaged.
+pub fn damaged_slots()
+    ensures { DamagedSlots }
 {}

@@ -1,6 +1,6 @@
 //! Examples and laws of the layout of the flash.
 
-ghost use Rattle.ghost_model.specs.LayoutLaws.{FilesFollow, FollowingRunsStandApart, FilesLieInOrder, AreasAreWholeBlocks, RecordsStandWithin, CatalogsAreLimited, LayoutIsSmall, LevelsAreAncestors, SumsByPlace};
+ghost use Rattle.ghost_model.specs.laws.LayoutLaws.{FilesFollow, FollowingRunsStandApart, FilesLieAsSummed, FilesLieInOrder, AreasAreWholeBlocks, RecordsStandWithin, CatalogsAreLimited, LayoutIsSmall, LevelsAreAncestors, SumsByPlace};
 ghost use Rattle.ghost_model.specs.examples.Layout.{LayoutOfTheClinic, LayoutOfTheNotes, LayoutsOfLargerDatabases};
 
 /// Files and areas follow one another.
@@ -11,6 +11,11 @@ pub fn files_follow()
 /// Runs that follow one another share no page.
 pub fn following_runs_stand_apart()
     ensures { FollowingRunsStandApart }
+{}
+
+/// What a program adds up to find the first page of a file gives its place.
+pub fn files_lie_as_summed()
+    ensures { FilesLieAsSummed }
 {}
 
 /// Where the files of tables and columns lie to one another, and that they lie on the device.

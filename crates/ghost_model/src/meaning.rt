@@ -1,10 +1,8 @@
 //! Laws and examples of databases, of their files, of the two parts of a database and of a query's meaning.
 
-ghost use Rattle.ghost_model.specs.Database.{RowsLeadToRows};
-ghost use Rattle.ghost_model.specs.LoadFaults.{FilesSpellADatabase, FilesKeepTheRowLimit, LongFilesAreToldFirst};
-ghost use Rattle.ghost_model.specs.Split.{SplitIsRejoined, PublicPartsGoWithCatalogs};
-ghost use Rattle.ghost_model.specs.Meaning.{OneRowEach};
-ghost use Rattle.ghost_model.specs.examples.Databases.{ClinicIsSpelled, IntegersOfFields, RecordsOfFiles, HeadersOfFiles, OneRuleBroken, TwoRulesBroken};
+ghost use Rattle.ghost_model.specs.laws.MeaningLaws.{RowsLeadToRows, FilesSpellADatabase, FilesKeepTheRowLimit, LongFilesAreToldFirst, SplitIsRejoined, PublicPartsGoWithCatalogs, ImagesAreAsLong, OneRowEach};
+ghost use Rattle.ghost_model.specs.laws.SplitByFlags.{PartsByFlags};
+ghost use Rattle.ghost_model.specs.examples.Databases.{ClinicIsSpelled, IntegersOfFields, RecordsOfFiles, HeadersOfFiles, OneRuleBroken, TwoRulesBroken, PartsOfRows, NoShorterImage};
 ghost use Rattle.ghost_model.specs.examples.Meaning.{PartsOfTheClinic, AnswersOfTheClinic, RefusedTexts, LinesOfRows};
 
 /// The clinic's files spell its database.
@@ -35,6 +33,26 @@ pub fn one_rule_broken()
 /// Files that break two rules, and which one is told.
 pub fn two_rules_broken()
     ensures { TwoRulesBroken }
+{}
+
+/// The two parts of a database are those that walks along the columns take.
+pub fn parts_by_flags()
+    ensures { PartsByFlags }
+{}
+
+/// The parts of rows whose visible and hidden columns take turns.
+pub fn parts_of_rows()
+    ensures { PartsOfRows }
+{}
+
+/// An image is as long as its catalog tells.
+pub fn images_are_as_long()
+    ensures { ImagesAreAsLong }
+{}
+
+/// The clinic's image without its last byte is no image.
+pub fn no_shorter_image()
+    ensures { NoShorterImage }
 {}
 
 /// A database is its two parts rejoined.

@@ -1,8 +1,7 @@
 //! Laws and examples of query texts.
 
-ghost use Rattle.ghost_model.specs.QueryPlaces.{QueryPlacesAreExact};
-ghost use Rattle.ghost_model.specs.QueryReading.{OneReading};
-ghost use Rattle.ghost_model.specs.examples.Queries.{ClinicQueries, LimitsOfQueries, OneRefusalEach, QueryRulesInOrder, QuerySpellings, QuerySyntaxFaults};
+ghost use Rattle.ghost_model.specs.laws.QueryLaws.{QueryPlacesAreExact, OneReading};
+ghost use Rattle.ghost_model.specs.examples.Queries.{ClinicQueries, LimitsOfQueries, OneRefusalEach, QueryRulesInOrder, QuerySpellings, QuerySyntaxFaults, RelationsOfQueries};
 
 /// Following the places of the grammar tells exactly the trees of texts, and exactly their syntax faults.
 pub fn query_places_are_exact()
@@ -22,6 +21,11 @@ pub fn one_refusal_each()
 /// What telling texts mean over the clinic and the notes.
 pub fn clinic_queries()
     ensures { ClinicQueries }
+{}
+
+/// Texts that stand in the relations of meanings, refusals and syntax faults, and texts that do not.
+pub fn relations_of_queries()
+    ensures { RelationsOfQueries }
 {}
 
 /// The ways in which one query may be written.

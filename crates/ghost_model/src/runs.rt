@@ -1,6 +1,6 @@
 //! Laws of runs of records on pages.
 
-ghost use Rattle.ghost_model.specs.RunLaws.{RunsAreKept, RecordsAreKept, PartsOfRecords, NumbersAreRead, IdentifiersOfRecords};
+ghost use Rattle.ghost_model.specs.laws.RunLaws.{RunsAreKept, RecordsAreKept, PartsOfRecords, NumbersAreRead, IdentifiersOfRecords};
 
 /// A run is kept where its pages are the same.
 pub fn runs_are_kept()

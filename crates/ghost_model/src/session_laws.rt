@@ -1,6 +1,6 @@
 //! Laws of whole sessions, each of the key and its host together.
 
-ghost use Rattle.ghost_model.specs.SessionLaws.{OneLocalJournal, ThisHostIsHonest, WholeRepliesAnswer, HonestRepliesAnswer};
+ghost use Rattle.ghost_model.specs.laws.SessionLaws.{OneLocalJournal, ThisHostIsHonest, WholeRepliesAnswer, HonestRepliesAnswer};
 
 /// Where the host is in the key's own process, one journal is possible: two finished proper journals for the same
 /// catalog, address and texts that the same holding served throughout are equal.

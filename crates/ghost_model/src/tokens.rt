@@ -1,7 +1,7 @@
 //! Laws and examples of the tokens of a text, and of the texts of a script.
 
-ghost use Rattle.ghost_model.specs.Spelled.{TokensAreSpelled};
-ghost use Rattle.ghost_model.specs.Texts.{ScriptsAreCut};
+ghost use Rattle.ghost_model.specs.laws.Spelled.{TokensAreSpelled};
+ghost use Rattle.ghost_model.specs.laws.TextLaws.{ScriptsAreCut};
 ghost use Rattle.ghost_model.specs.examples.Tokens.{TokensOfTexts, OffsetsOfTokens, TextsOfSymbols, TextsOfScripts};
 
 /// Bytes can spell every list of symbols whose names, digits and characters are such, and the tokens of every text are

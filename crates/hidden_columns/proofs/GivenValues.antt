@@ -1,23 +1,24 @@
 -- Pages that hold a database's hidden columns have the value of each row in its slot.
 use Rattle.std.proofs.Common.{◌≡◌, refl, sym, ap, ◌∙◌, ℕ, zero, suc, ◌-◌, ◌<◌, ◌≤◌, Bool, true, false, ◌&&◌, nat_lt, List, [], ◌∷◌, length, Option, Some, None, slice_get, option_and_then, not, get_or, arith}
 use Rattle.std.specs.Prelude.{if◌then◌else◌, option_map}
-use Rattle.ghost_model.specs.Schema.{Column, columns_of, column_at, is_shown}
-use Rattle.ghost_model.specs.Values.{Value, Database}
-use Rattle.ghost_model.specs.Channel.{Catalog}
-use Rattle.ghost_model.specs.SchemaTrees.{IsTree}
-use Rattle.ghost_model.specs.Database.{IsDatabase, rows_of, row_counts, field, is_row_among}
-use Rattle.ghost_model.specs.Split.{hidden_of}
-use Rattle.ghost_model.specs.Replies.{hidden_value, replied_value}
-use Rattle.ghost_model.specs.Runs.{record_at}
-use Rattle.ghost_model.specs.Asks.{kind_at}
-use Rattle.ghost_model.specs.Cells.{decode_cell}
-use Rattle.ghost_model.specs.Layout.{hidden_or_none, is_hidden, count_of, column_file}
-use Rattle.ghost_model.specs.Flash.{HoldsColumns}
-use Rattle.ghost_model.specs.FlashLaws.{HiddenPartsGoWithCatalogs, HiddenValuesOfDatabases, ColumnFilesGiveValues}
+use Rattle.ghost_model.specs.core.Schema.{Column, columns_of, column_at, is_shown}
+use Rattle.ghost_model.specs.core.Values.{Value, Database}
+use Rattle.ghost_model.specs.core.Channel.{Catalog}
+use Rattle.ghost_model.specs.laws.SchemaTrees.{IsTree}
+use Rattle.ghost_model.specs.core.Database.{IsDatabase, rows_of, row_counts, value_at_row, is_row_among}
+use Rattle.ghost_model.specs.core.Split.{hidden_of}
+use Rattle.ghost_model.specs.core.Replies.{hidden_value, replied_value}
+use Rattle.ghost_model.specs.forms.Runs.{record_at}
+use Rattle.ghost_model.specs.core.Asks.{kind_at}
+use Rattle.ghost_model.specs.readings.CellReading.{decode_cell}
+use Rattle.ghost_model.specs.forms.Layout.{is_hidden, count_of, column_file}
+use Rattle.ghost_model.specs.forms.Flash.{HoldsColumns}
+use Rattle.ghost_model.specs.laws.FlashLaws.{HiddenPartsGoWithCatalogs, HiddenValuesOfDatabases, ColumnFilesGiveValues}
+use Rattle.ghost_model.proofs.LayoutLemmas.Columns.{hidden_or_none}
 use Rattle.ghost_model.proofs.MeaningLemmas.Leading.{get_within}
-use Rattle.ghost_model.proofs.LayoutLemmas.Order.{table_there}
+use Rattle.ghost_model.proofs.LayoutLemmas.Places.{table_there}
 use Rattle.ghost_model.proofs.FlashLemmas.Values.{count_there, not_hidden}
-use Rattle.hidden_columns.specs.Slots.{child_or_none, child_rows, is_in_range, only_in_range, spelled}
+use Rattle.ghost_model.specs.forms.Slots.{child_or_none, child_rows, is_in_range, only_in_range, spelled}
 use Rattle.hidden_columns.specs.Laws.{value_on, HasValue, HeldColumnsAreRight, FilesAreOfColumns, FilesStayReadable}
 
 -- a value in range is what its bytes spell, and what bytes spell they spell without a range
@@ -87,7 +88,7 @@ module _ (page : ℕ → List ℕ) (cat : Catalog) (database : Database) (tree :
   count_is : (table : ℕ) → count_of cat table ≡ length (rows_of database table)
   count_is table = sym (ap (λ (ns : List ℕ). get_or ns table 0) counts) ∙ count_there database table
 
-  in_its_range : (table identifier column : ℕ) (value : Value) → field database table identifier column ≡ Some value
+  in_its_range : (table identifier column : ℕ) (value : Value) → value_at_row database table identifier column ≡ Some value
       → is_in_range (child_rows cat table column) value ≡ true
   in_its_range table identifier column value e =
       by_column (count_of cat) (column_at cat.schema table column) value
@@ -105,7 +106,7 @@ module _ (page : ℕ → List ℕ) (cat : Catalog) (database : Database) (tree :
       let wide = is.widths table (suc place) row.0 row.1 in
       let low = hidden_within (columns_of cat.schema table) (suc before) h in
       let held = get_within row.0 (suc before) (omega (arith, wide, low)) in
-      let of_row : field database table (suc place) (suc before) ≡ Some held.0 =
+      let of_row : value_at_row database table (suc place) (suc before) ≡ Some held.0 =
       ap (option_and_then (λ r. slice_get r (suc before))) row.1 ∙ held.1 in
       let of_hidden = values cat.schema database tree is table (suc place) (suc before) h ∙ of_row in
       let same : suc place - 1 ≡ place = omega arith in

@@ -1,19 +1,19 @@
 -- The file of a hidden column, and what a call on it gives.
 use Rattle.std.specs.Prelude.{◌≡◌, ℕ, ◌-◌, ◌≤◌, ⊤, Bool, true, pos, List, length, Option, Some, None, Result, Ok, Err, IsTrue}
-use Rattle.ghost_model.specs.Values.{Value, Number}
-use Rattle.ghost_model.specs.Channel.{Catalog}
-use Rattle.ghost_model.specs.Cells.{cell_width}
-use Rattle.ghost_model.specs.Database.{is_of_kind}
-use Rattle.ghost_model.specs.Asks.{kind_at}
-use Rattle.ghost_model.specs.Runs.{record_at, page_of, slot_of, found_in}
-use Rattle.ghost_model.specs.Layout.{column_file}
+use Rattle.ghost_model.specs.core.Values.{Value, Number}
+use Rattle.ghost_model.specs.core.Channel.{Catalog}
+use Rattle.ghost_model.specs.forms.Cells.{cell_width}
+use Rattle.ghost_model.specs.core.Database.{is_of_kind}
+use Rattle.ghost_model.specs.core.Asks.{kind_at}
+use Rattle.ghost_model.specs.forms.Runs.{record_at, page_of, slot_of, found_in}
+use Rattle.ghost_model.specs.forms.Layout.{column_file}
 use Rattle.ghost_base.specs.Views.{kind_of}
 use Rattle.edge_traits.specs.Devices.{Device}
 use Rattle.flash_pages.specs.declared.fault.PageFault.{PageFault}
 use Rattle.flash_pages.specs.declared.fault.PageFault.TheVariants.{Flash, Damaged}
 use Rattle.flash_pages.specs.Runs.{run_of, HasRun}
 use Rattle.hidden_columns.specs.declared.file.ColumnFile.{ColumnFile}
-use Rattle.hidden_columns.specs.Slots.{child_rows, is_in_range, spelled}
+use Rattle.ghost_model.specs.forms.Slots.{child_rows, is_in_range, spelled}
 
 -- it is the file of that column
 pub record IsFileOf (cat : Catalog) (table column : ℕ) (file : ColumnFile) : Type 0 where

@@ -1,18 +1,18 @@
 -- Laws of column files: where pages hold a database's hidden columns, the slot of each row spells the row's value.
 use Rattle.std.specs.Prelude.{◌≡◌, ℕ, ◌-◌, ◌≤◌, true, List, Option, Some}
-use Rattle.ghost_model.specs.Values.{Value, Database}
-use Rattle.ghost_model.specs.Channel.{Catalog}
-use Rattle.ghost_model.specs.SchemaTrees.{IsTree}
-use Rattle.ghost_model.specs.Database.{IsDatabase, row_counts, field}
-use Rattle.ghost_model.specs.Asks.{kind_at}
-use Rattle.ghost_model.specs.Split.{Hidden, hidden_of}
-use Rattle.ghost_model.specs.Replies.{Reply, hidden_value, known_value}
-use Rattle.ghost_model.specs.Runs.{record_at}
-use Rattle.ghost_model.specs.Layout.{is_hidden, count_of, column_file}
-use Rattle.ghost_model.specs.Flash.{GoesWith, HoldsColumns}
+use Rattle.ghost_model.specs.core.Values.{Value, Database}
+use Rattle.ghost_model.specs.core.Channel.{Catalog}
+use Rattle.ghost_model.specs.laws.SchemaTrees.{IsTree}
+use Rattle.ghost_model.specs.core.Database.{IsDatabase, row_counts, value_at_row}
+use Rattle.ghost_model.specs.core.Asks.{kind_at}
+use Rattle.ghost_model.specs.core.Split.{Hidden, hidden_of}
+use Rattle.ghost_model.specs.core.Replies.{Reply, hidden_value, known_value}
+use Rattle.ghost_model.specs.forms.Runs.{record_at}
+use Rattle.ghost_model.specs.forms.Layout.{is_hidden, count_of, column_file}
+use Rattle.ghost_model.specs.forms.Flash.{GoesWith, HoldsColumns}
 use Rattle.edge_traits.specs.Devices.{Device}
 use Rattle.hidden_columns.specs.declared.file.ColumnFile.{ColumnFile}
-use Rattle.hidden_columns.specs.Slots.{child_rows, spelled}
+use Rattle.ghost_model.specs.forms.Slots.{child_rows, spelled}
 use Rattle.hidden_columns.specs.Files.{IsFileOf, IsReadable, slot_value}
 
 -- the value that pages have for a row in the file of a hidden column
@@ -24,7 +24,7 @@ value_on page cat table column identifier =
 -- a row has a value in a hidden column, and the pages have it, in all words for it
 pub record HasValue (page : ℕ → List ℕ) (cat : Catalog) (database : Database) (table column identifier : ℕ) : Type 0 where
   pub value : Value
-  pub of_row : field database table identifier column ≡ Some value
+  pub of_row : value_at_row database table identifier column ≡ Some value
   pub of_hidden : hidden_value cat.schema (hidden_of cat.schema database) table identifier column ≡ Some value
   pub as_known : (given : List Reply) → known_value cat.schema (hidden_of cat.schema database) given table identifier column ≡ Some value
   pub on_pages : value_on page cat table column identifier ≡ Some value

@@ -1,11 +1,11 @@
 //! What a column may have.
 
 ghost use Rattle.std.specs.Prelude.{◌≡◌, option_map, true, pos};
-ghost use Rattle.ghost_model.specs.Values.{Number};
-ghost use Rattle.ghost_model.specs.Layout as layout;
-ghost use Rattle.ghost_model.specs.Database.{is_row_among};
+ghost use Rattle.ghost_model.specs.core.Values.{Number};
+ghost use Rattle.ghost_model.specs.forms.Layout as layout;
+ghost use Rattle.ghost_model.specs.core.Database.{is_row_among};
 ghost use Rattle.ghost_base.specs.Views.{value_of};
-ghost use Rattle.hidden_columns.specs.Slots.{is_in_range};
+ghost use Rattle.ghost_model.specs.forms.Slots.{is_in_range};
 
 use ghost_base::Value;
 use tree_schema::Catalog;

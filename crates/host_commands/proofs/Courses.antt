@@ -1,11 +1,11 @@
 -- The courses of a call of the host's program.
 use Rattle.std.proofs.Common.{◌≡◌, ◌⊎◌, ℕ, Bool, false, List, Option, None, Some, inl, inr, refl, sym, ◌∙◌, ap, subst}
-use Rattle.ghost_model.specs.Causes.{Rose}
-use Rattle.ghost_model.specs.CatalogLaws.{CatalogsHaveOneSpelling}
-use Rattle.ghost_model.specs.Channel.{Catalog, Journal}
-use Rattle.ghost_model.specs.Host.{Holding, host_of, bad_request}
-use Rattle.ghost_model.specs.Moves.{taken}
-use Rattle.ghost_model.specs.Split.{Public, SpellsImage, cells_of_tables}
+use Rattle.ghost_model.specs.core.Causes.{Rose}
+use Rattle.ghost_model.specs.laws.CatalogLaws.{CatalogsHaveOneSpelling}
+use Rattle.ghost_model.specs.core.Channel.{Catalog, Journal}
+use Rattle.ghost_model.specs.core.Host.{Holding, host_of, bad_request}
+use Rattle.ghost_model.specs.core.Moves.{taken}
+use Rattle.ghost_model.specs.core.Split.{Public, SpellsImage, cells_of_tables}
 use Rattle.edge_traits.specs.Files.{Files, file_of}
 use Rattle.edge_traits.specs.Written.{grown}
 use Rattle.host_exec.specs.Checked.{IsImage}

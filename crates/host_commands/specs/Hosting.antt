@@ -1,10 +1,10 @@
 -- How a call of the host's program went: how far it came, what it printed, and how it ended.
 use Rattle.std.specs.Prelude.{◌≡◌, ◌⊎◌, ℕ, false, List, [], ◌∷◌, ◌++◌, Option, None, codes, decimal}
-use Rattle.ghost_model.specs.Causes.{Rose}
-use Rattle.ghost_model.specs.Channel.{Catalog, Journal, Listen, Accept, Made, Port, Failed}
-use Rattle.ghost_model.specs.Host.{Holding, host_of, bad_request}
-use Rattle.ghost_model.specs.Moves.{taken}
-use Rattle.ghost_model.specs.Split.{Public, SpellsImage}
+use Rattle.ghost_model.specs.core.Causes.{Rose}
+use Rattle.ghost_model.specs.core.Channel.{Catalog, Journal, Listen, Accept, Made, Port, Failed}
+use Rattle.ghost_model.specs.core.Host.{Holding, host_of, bad_request}
+use Rattle.ghost_model.specs.core.Moves.{taken}
+use Rattle.ghost_model.specs.core.Split.{Public, SpellsImage}
 use Rattle.edge_traits.specs.Links.{entry}
 use Rattle.edge_traits.specs.Written.{grown, GrowsByFront}
 use Rattle.host_exec.specs.Sessions.{Serves, closed, has_stopped}
@@ -43,14 +43,11 @@ Prints (Accepted port session) before after = after ≡ grown before (port_line 
 
 -- why a host did not listen, where the depot's count of faults went from one value to another
 abbrev pub EndsEarly : HostStatus → (before now : ℕ) → Type 0
-EndsEarly status.Ok before now = ⊥
 EndsEarly status.Usage before now = now ≡ before
 EndsEarly status.NoMemory before now = now ≡ before
-EndsEarly status.Sink before now = ⊥
 EndsEarly status.Depot before now = Rose before now
-EndsEarly status.Link before now = ⊥
 EndsEarly status.BadVisibleFile before now = now ≡ before
-EndsEarly (status.BadRequest kind at) before now = ⊥
+EndsEarly _ before now = ⊥
 
 -- a key was served by these moves, and the status is that of the session
 pub record EndsSession (session : Journal) (ended : HostStatus) (before now : ℕ) (Stood : Holding → Type 0) : Type 0 where

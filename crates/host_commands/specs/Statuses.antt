@@ -4,6 +4,8 @@ use Rattle.host_exec.specs.declared.serving.BeginFault.{BeginFault}
 use Rattle.host_exec.specs.declared.serving.BeginFault.TheVariants as begin
 use Rattle.host_exec.specs.declared.session.Served.{Served}
 use Rattle.host_exec.specs.declared.session.Served.TheVariants as served
+use Rattle.host_commands.specs.declared.words.WordsFault.{WordsFault}
+use Rattle.host_commands.specs.declared.words.WordsFault.TheVariants as words
 use Rattle.host_commands.specs.declared.status.HostStatus.{HostStatus}
 use Rattle.host_commands.specs.declared.status.HostStatus.TheVariants as status
 
@@ -16,6 +18,11 @@ exit_code status.Depot = 5
 exit_code status.Link = 7
 exit_code status.BadVisibleFile = 14
 exit_code (status.BadRequest kind at) = 15
+
+-- the status of a host whose words were not read
+abbrev pub not_read : WordsFault → HostStatus
+not_read words.NoMemory = status.NoMemory
+not_read words.Usage = status.Usage
 
 -- the status of a host that was not begun
 abbrev pub not_begun : BeginFault → HostStatus
@@ -32,22 +39,14 @@ after_session (served.BadRequest kind at) = status.BadRequest kind at
 
 -- whether a status comes only before the host listens
 abbrev pub is_early : HostStatus → Bool
-is_early status.Ok = false
 is_early status.Usage = true
 is_early status.NoMemory = true
-is_early status.Sink = false
-is_early status.Depot = false
-is_early status.Link = false
 is_early status.BadVisibleFile = true
-is_early (status.BadRequest kind at) = false
+is_early _ = false
 
 -- whether a status tells that the depot failed, or stands before one that would
 abbrev pub may_follow_fault : HostStatus → Bool
-may_follow_fault status.Ok = false
-may_follow_fault status.Usage = false
-may_follow_fault status.NoMemory = false
-may_follow_fault status.Sink = false
 may_follow_fault status.Depot = true
 may_follow_fault status.Link = true
-may_follow_fault status.BadVisibleFile = false
 may_follow_fault (status.BadRequest kind at) = true
+may_follow_fault _ = false

@@ -1,10 +1,10 @@
 //! The whole call of the host's program.
 
 ghost use Rattle.std.specs.Prelude.{◌≡◌, ◌≤◌, ◌⊎◌, ℕ, List, [], Some, None, true, false, map, string_bytes};
-ghost use Rattle.ghost_model.specs.Causes.{Rose};
-ghost use Rattle.ghost_model.specs.Channel.{Catalog};
-ghost use Rattle.ghost_model.specs.Host.{host_of};
-ghost use Rattle.ghost_model.specs.Split.{Public, SpellsImage};
+ghost use Rattle.ghost_model.specs.core.Causes.{Rose};
+ghost use Rattle.ghost_model.specs.core.Channel.{Catalog};
+ghost use Rattle.ghost_model.specs.core.Host.{host_of};
+ghost use Rattle.ghost_model.specs.core.Split.{Public, SpellsImage};
 ghost use Rattle.edge_traits.specs.Files.{file_of};
 ghost use Rattle.host_exec.specs.Checked.{IsNoImage};
 ghost use Rattle.host_exec.specs.Hosts.{name_of};
@@ -15,8 +15,8 @@ ghost use Rattle.host_commands.specs.Statuses.{is_early, may_follow_fault};
 ghost use Rattle.host_commands.specs.Words.{Names, reading};
 
 use crate::port::print_port;
-use crate::status::{HostStatus, after_session, not_begun};
-use crate::words::{WordsFault, read_words};
+use crate::status::{HostStatus, after_session, not_begun, not_read};
+use crate::words::read_words;
 use edge_traits::depot::Depot;
 use edge_traits::link::Link;
 use edge_traits::sink::Sink;
@@ -100,8 +100,7 @@ pub fn host_main<D: Depot, L: Link, O: Sink>(
     catalogs_have_one_spelling();
     images_are_held();
     match read_words(alloc, words) {
-        Err(WordsFault::NoMemory) => HostStatus::NoMemory,
-        Err(WordsFault::Usage) => HostStatus::Usage,
+        Err(fault) => not_read(fault),
         Ok(said) => match Host::begin(alloc, depot, said.visible) {
             Err(fault) => not_begun(&fault),
             Ok(mut host) => host_one(&mut host, said.at, depot, link, out),

@@ -1,7 +1,7 @@
 //! The line that tells the port.
 
 ghost use Rattle.std.specs.Prelude.{◌≡◌, OnOk, OnErr};
-ghost use Rattle.ghost_model.specs.Causes.{HasCause};
+ghost use Rattle.ghost_model.specs.core.Causes.{HasCause};
 ghost use Rattle.edge_traits.specs.Written.{grown, GrowsByFront};
 ghost use Rattle.host_commands.specs.Hosting.{port_line};
 

@@ -3,6 +3,7 @@
 ghost use Rattle.std.specs.Prelude.{◌≡◌};
 ghost use Rattle.host_commands.specs.Statuses as statuses;
 
+use crate::words::WordsFault;
 use host_exec::{BeginFault, Served};
 use thiserror::Error;
 
@@ -62,6 +63,16 @@ impl HostStatus {
             HostStatus::BadVisibleFile => 14,
             HostStatus::BadRequest { .. } => 15,
         }
+    }
+}
+
+/// The status of a host whose words were not read.
+pub(crate) fn not_read(fault: WordsFault) -> HostStatus
+    ensures status { result ≡ statuses.not_read fault }
+{
+    match fault {
+        WordsFault::NoMemory => HostStatus::NoMemory,
+        WordsFault::Usage => HostStatus::Usage,
     }
 }
 

@@ -1,12 +1,13 @@
 //! The words of the program, and their reading.
 
-ghost use Rattle.std.specs.Prelude.{◌≡◌, Some, None, Err, IfOk, IfSome, IfNone, map, option_map, string_bytes};
+ghost use Rattle.std.specs.Prelude.{◌≡◌, ◌≢◌, Some, None, Err, IfOk, OnErr, map, option_map, string_bytes};
 ghost use Rattle.clap.specs.Words.{first_of, found_of, rows_of};
+ghost use Rattle.clap.specs.Values.{kind_of};
 ghost use Rattle.host_commands.specs.Words.{names_in, names_of, reading};
 
 use crate::app::program;
-use clap::ArgMatches;
 use clap::error::ErrorKind;
+use clap::{ArgMatches, Error};
 use std::alloc::Global;
 
 /// What the words of the program say.
@@ -38,31 +39,35 @@ pub fn read_words<'a>(alloc: Global, words: &'a [String]) -> Result<HostWords<'a
         return Err(WordsFault::NoMemory);
     };
     match command.try_get_matches_from(words) {
-        Ok(matches) => match said_by(&matches) {
-            Some(said) => Ok(said),
-            None => Err(WordsFault::Usage),
-        },
-        Err(error) => {
-            if error.kind() == ErrorKind::OutOfMemory {
-                return Err(WordsFault::NoMemory);
-            }
-            Err(WordsFault::Usage)
-        }
+        Ok(matches) => said_by(&matches),
+        Err(error) => Err(told_fault(&error)),
     }
 }
 
+/// What an error of `clap` tells of the words.
+fn told_fault(error: &Error) -> WordsFault
+    ensures memory { result ≡ WordsFault.NoMemory → kind_of error.now ≡ ErrorKind.OutOfMemory }
+    ensures usage { result ≡ WordsFault.Usage → kind_of error.now ≢ ErrorKind.OutOfMemory }
+{
+    if error.kind() == ErrorKind::OutOfMemory {
+        return WordsFault::NoMemory;
+    }
+    WordsFault::Usage
+}
+
 /// The words by the values of their options.
-fn said_by<'a>(options: &ArgMatches<'a>) -> Option<HostWords<'a>>
-    ensures read { IfSome result (λ said. names_in (rows_of (found_of options.now)) ≡ Some (names_of said)) }
-    ensures none { IfNone result (names_in (rows_of (found_of options.now)) ≡ None) }
+fn said_by<'a>(options: &ArgMatches<'a>) -> Result<HostWords<'a>, WordsFault>
+    ensures read { IfOk result (λ said. names_in (rows_of (found_of options.now)) ≡ Some (names_of said)) }
+    ensures none { OnErr result (names_in (rows_of (found_of options.now)) ≡ None) }
+    ensures memory { result ≡ Err WordsFault.NoMemory → ⊥ }
 {
     let Some(visible) = value_of(options, "visible") else {
-        return None;
+        return Err(WordsFault::Usage);
     };
     let Some(at) = value_of(options, "at") else {
-        return None;
+        return Err(WordsFault::Usage);
     };
-    Some(HostWords { visible, at })
+    Ok(HostWords { visible, at })
 }
 
 /// The value of an option.

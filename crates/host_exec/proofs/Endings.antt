@@ -3,18 +3,18 @@ use Rattle.std.proofs.Common.{◌≡◌, ℕ, zero, suc, min, MatchBool, flat_ma
 use Rattle.std.specs.List.{All, concat}
 use Rattle.std.proofs.lemmas.Grind.{flat_map-append}
 use Rattle.std.proofs.lemmas.List.Elements.{All-append, All-nil, All-cons}
-use Rattle.ghost_model.specs.Causes.{Rose, last_count}
-use Rattle.ghost_model.specs.Frames.{IsFrame, frame_bytes}
-use Rattle.ghost_model.specs.Channel.{Frame, Journal, Close, Made}
-use Rattle.ghost_model.specs.Host.{Holding, Stand, frames_of, host_sends, bad_request}
-use Rattle.ghost_model.specs.Host as host
-use Rattle.ghost_model.specs.Moves.{taken, sent}
-use Rattle.ghost_model.specs.NextMove.{is_stop}
+use Rattle.ghost_model.specs.core.Causes.{Rose, last_count}
+use Rattle.ghost_model.specs.forms.Frames.{IsFrame, frame_bytes}
+use Rattle.ghost_model.specs.core.Channel.{Frame, Journal, Close, Made}
+use Rattle.ghost_model.specs.core.Host.{Holding, Stand, frames_of, host_sends, bad_request}
+use Rattle.ghost_model.specs.core.Host as host
+use Rattle.ghost_model.specs.core.Moves.{taken, sent}
+use Rattle.ghost_model.specs.core.NextMove.{is_stop}
 use Rattle.edge_traits.specs.Links.{entry}
 use Rattle.host_exec.specs.Saying.{Source, Stands}
 use Rattle.host_exec.specs.Steps.{steps_left}
 use Rattle.host_exec.specs.Replies.{source_of}
-use Rattle.ghost_model.specs.Catalog.{catalog_bytes}
+use Rattle.ghost_model.specs.forms.Catalog.{catalog_bytes}
 use Rattle.host_exec.specs.Hosts.{StandsAs}
 use Rattle.host_exec.specs.Sessions.{has_stopped, Ends, Turns, Serves, SaidAll, SaidRefusing, AreFramesToBye, IsOneFrame, is_farewell}
 use Rattle.host_exec.specs.Refusals.{AreGiven, times, host_sends_refusing, bad_request_refusing}

@@ -4,16 +4,16 @@ use Rattle.std.specs.List.{concat}
 use Rattle.std.proofs.Math.Seq.{drop-append_seam}
 use Rattle.std.proofs.lemmas.Grind.{flat_map-append}
 use Rattle.std.proofs.lemmas.List.{length-drop, drop-drop, nil_from_length}
-use Rattle.ghost_model.specs.Channel.{Frame, Entry, Journal}
-use Rattle.ghost_model.specs.Frames.{Got, Found, Short, Bad, IsFrame, frame_bytes, got_of, kind_of}
-use Rattle.ghost_model.specs.Host.{Holding, Stand, Response, reply_to, answers_ask, goes_on, after_reply, said_to, said_with, frames_of, frames_within, frame_and, bad_from, bad_rest, unless_over, refused_or, answer_to, host_sends, bad_request}
-use Rattle.ghost_model.specs.Host as host
-use Rattle.ghost_model.specs.Moves.{taken, sent, piece_of, sent_by}
-use Rattle.ghost_model.specs.NextMove.{InvalidFrame, is_stop}
+use Rattle.ghost_model.specs.core.Channel.{Frame, Entry, Journal}
+use Rattle.ghost_model.specs.forms.Frames.{Got, Found, Short, Bad, IsFrame, frame_bytes, got_of, frame_kind}
+use Rattle.ghost_model.specs.core.Host.{Holding, Stand, Response, reply_to, answers_ask, goes_on, after_reply, said_to, said_with, frames_of, frames_within, frame_and, bad_from, bad_rest, unless_over, refused_or, answer_to, host_sends, bad_request, answer_as, bad_with_refusals, said_with_refusals}
+use Rattle.ghost_model.specs.core.Host as host
+use Rattle.ghost_model.specs.core.Moves.{taken, sent, piece_of, sent_by}
+use Rattle.ghost_model.specs.core.NextMove.{InvalidFrame, is_stop}
 use Rattle.ghost_model.proofs.ChannelLemmas.{spelled_is_found}
 use Rattle.host_exec.specs.Saying.{Source, Stands}
 use Rattle.host_exec.specs.Hosts.{StandsAs}
-use Rattle.host_exec.specs.Refusals.{AreGiven, answer_as, times, said_with_refusals, bad_with_refusals, sends_refusing, bad_refusing, host_sends_refusing, bad_request_refusing}
+use Rattle.host_exec.specs.Refusals.{AreGiven, times, sends_refusing, bad_refusing, host_sends_refusing, bad_request_refusing}
 use Rattle.host_exec.specs.Sessions.{has_stopped, sends_from, bad_in, invalid, bad_of, IsRefused, TurnMade, TurnLost, TurnBad, SaidRefusing}
 use Rattle.host_exec.specs.declared.session.Served.{Served}
 use Rattle.host_exec.proofs.Silence.{goes_somewhere}
@@ -73,7 +73,7 @@ refusing_first held stand this later frame more answered fits answer =
 
 -- where no answer is refused, a host says what it says
 said_calm : (held : Holding) (refused : List Bool) (frames : List Frame) (stand : Stand) → times refused ≡ 0 → said_with_refusals held refused frames stand ≡ said_to held frames stand
-unfolding said_with_refusals said_to
+unfolding said_with_refusals
 said_calm held [] frames stand none = refl
 said_calm held (true ∷ later) frames stand none = absurd (omega (arith, none))
 said_calm held (false ∷ later) [] stand none = refl
@@ -90,7 +90,7 @@ sends_calm held refused key none = ap (flat_map frame_bytes) (said_calm held ref
 -- and the same frames are out of their places
 bad_calm : (held : Holding) (rest : List ℕ) (refused : List Bool) (frames : List Frame) (at : ℕ) (stand : Stand) → times refused ≡ 0
     → bad_with_refusals held rest refused frames at stand ≡ bad_from held rest frames at stand
-unfolding bad_with_refusals bad_from
+unfolding bad_with_refusals
 bad_calm held rest [] frames at stand none = refl
 bad_calm held rest (true ∷ later) frames at stand none = absurd (omega (arith, none))
 bad_calm held rest (false ∷ later) [] at stand none = refl
@@ -108,14 +108,14 @@ bad_request_calm held refused key none =
     bad_calm held (drop (length (flat_map frame_bytes (frames_of key))) key) refused (frames_of key) 0 host.Greeting none
 
 sends_none : (held : Holding) (stand : Stand) (frame : Frame) → IsFrame frame → answer_to held stand frame ≡ None → sends_from held stand (frame_bytes frame) ≡ []
-unfolding said_to
+unfolding said_with_refusals
 sends_none held stand frame fits none =
     ap (sends_from held stand) (sym (append-nil (frame_bytes frame)))
     ∙ (ap (λ (fs : List Frame). flat_map frame_bytes (said_to held fs stand)) (frames_first frame [] fits)
     ∙ ap (λ (o : Option Response). flat_map frame_bytes (said_with (said_to held (frames_of [])) o)) none)
 
 sends_nothing : (held : Holding) (stand : Stand) (bytes : List ℕ) → frames_of bytes ≡ [] → sends_from held stand bytes ≡ []
-unfolding said_to
+unfolding said_with_refusals
 sends_nothing held stand bytes none = ap (λ (fs : List Frame). flat_map frame_bytes (said_to held fs stand)) none
 
 further : (front back more : List ℕ) → drop (length (front ++ back)) (front ++ more) ≡ drop (length back) more
@@ -154,8 +154,8 @@ bad_first held stand at this later frame more answered fits answer =
     ∙ over_or held stand this frame answered _ answer))
 
 bad_here : (held : Holding) (stand : Stand) (at : ℕ) (frame : Frame) → IsFrame frame → answer_to held stand frame ≡ None → (stand ≡ host.Over → ⊥)
-    → bad_in held stand at (frame_bytes frame) ≡ Some (invalid (kind_of frame) at)
-unfolding bad_from frames_within
+    → bad_in held stand at (frame_bytes frame) ≡ Some (invalid (frame_kind frame) at)
+unfolding bad_with_refusals frames_within
 bad_here held stand at frame fits none on =
     ap (bad_in held stand at) (sym (append-nil (frame_bytes frame)))
     ∙ (ap (λ (fs : List Frame). bad_from held (drop (length (flat_map frame_bytes fs)) (frame_bytes frame ++ [])) fs at stand) (frames_first frame [] fits)
@@ -163,7 +163,7 @@ bad_here held stand at frame fits none on =
     ∙ going_or stand _ on))
 
 bad_rule : (held : Holding) (stand : Stand) (at : ℕ) (bytes : List ℕ) (kind : ℕ) → got_of bytes ≡ Bad kind → (stand ≡ host.Over → ⊥) → bad_in held stand at bytes ≡ Some (invalid kind at)
-unfolding bad_from
+unfolding bad_with_refusals
 bad_rule held stand at bytes kind bad on =
     ap (λ (fs : List Frame). bad_from held (drop (length (flat_map frame_bytes fs)) bytes) fs at stand) (frames_none bytes kind bad)
     ∙ (ap (λ (g : Got). unless_over stand (bad_rest at g)) bad ∙ going_or stand _ on)
@@ -176,7 +176,7 @@ rule_broken held stand bytes kind bad = record {
 }
 
 -- a frame out of its place
-pub out_of_place : (held : Holding) (stand : Stand) (bytes : List ℕ) (frame : Frame) (kind : ℕ) → IsFrame frame → bytes ≡ frame_bytes frame → kind ≡ kind_of frame
+pub out_of_place : (held : Holding) (stand : Stand) (bytes : List ℕ) (frame : Frame) (kind : ℕ) → IsFrame frame → bytes ≡ frame_bytes frame → kind ≡ frame_kind frame
     → answer_to held stand frame ≡ None → IsRefused held stand bytes kind
 out_of_place held stand bytes frame kind fits spelled is none = record {
   silent = ap (sends_from held stand) spelled ∙ sends_none held stand frame fits none;
@@ -269,7 +269,7 @@ all_given held file refused journal now so more =
 -- the key said farewell
 pub ended_well : (held : Holding) (file : List ℕ) (refused : List Bool) (journal : Journal) (now : Host) (ended : Served) → Going held file refused journal now → bad_of ended ≡ None
     → SaidRefusing held refused journal ended
-unfolding said_to bad_from frames_within said_with_refusals bad_with_refusals
+unfolding said_with_refusals bad_with_refusals frames_within
 ended_well held file refused journal now ended so none = record {
   rest = [];
   sends = nothing_more (host_sends_refusing held) refused (taken journal) ∙ so.sends [] [];

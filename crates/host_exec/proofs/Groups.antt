@@ -5,12 +5,12 @@ use Rattle.std.proofs.lemmas.Bool.Decides.{nat_tests}
 use Rattle.std.proofs.Math.Nat.{div-eq-sub-div, div-eq_of_lt}
 use Rattle.std.proofs.Math.Seq.{take-append_seam, drop-append_seam}
 use Rattle.std.proofs.lemmas.List.{length-drop, drop-drop, nil_from_length, take_all, drop_all}
-use Rattle.ghost_model.specs.Schema.{is_empty}
-use Rattle.ghost_model.specs.Channel.{Frame, Replied, Done, Welcome}
-use Rattle.ghost_model.specs.Frames.{frame_bytes}
-use Rattle.ghost_model.specs.Asks.{ReplyRow}
-use Rattle.ghost_model.specs.Host.{Stand, Response, goes_on, after_reply, rows_frame, grouped, groups_from, welcomes_of, most_part}
-use Rattle.ghost_model.specs.Host as host
+use Rattle.ghost_model.specs.core.Schema.{is_empty}
+use Rattle.ghost_model.specs.core.Channel.{Frame, RowsFrame, DoneFrame, WelcomeFrame}
+use Rattle.ghost_model.specs.forms.Frames.{frame_bytes}
+use Rattle.ghost_model.specs.core.Asks.{RowCells}
+use Rattle.ghost_model.specs.core.Host.{Stand, Response, goes_on, after_reply, rows_frame, grouped, groups_from, welcomes_of, most_part}
+use Rattle.ghost_model.specs.core.Host as host
 use Rattle.host_exec.specs.Gathering.{Gathered}
 use Rattle.host_exec.specs.RowBytes.{replies_at}
 use Rattle.host_exec.specs.Saying.{Source, left_from, most_rows, reply_left, response, Stands, Says}
@@ -52,30 +52,30 @@ no_group {X} most some =
 
 -- ---- a reply
 
-at_done : (most serial sent : ℕ) → 0 < most → reply_left most serial sent [] ≡ Done serial sent ∷ []
+at_done : (most serial sent : ℕ) → 0 < most → reply_left most serial sent [] ≡ DoneFrame serial sent ∷ []
 at_done most serial sent some =
-    ap (λ (groups : List (List ReplyRow)). map (rows_frame serial) groups ++ Done serial (sent + 0) ∷ []) (no_group most some)
-    ∙ ap (λ (n : ℕ). Done serial n ∷ []) (let e : sent + 0 ≡ sent = omega arith in e)
+    ap (λ (groups : List (List RowCells)). map (rows_frame serial) groups ++ DoneFrame serial (sent + 0) ∷ []) (no_group most some)
+    ∙ ap (λ (n : ℕ). DoneFrame serial n ∷ []) (let e : sent + 0 ≡ sent = omega arith in e)
 
-at_rows : (most serial sent : ℕ) (rows found left : List ReplyRow) → 0 < most → 0 < length found → rows ≡ found ++ left → take most rows ≡ found → drop most rows ≡ left
+at_rows : (most serial sent : ℕ) (rows found left : List RowCells) → 0 < most → 0 < length found → rows ≡ found ++ left → take most rows ≡ found → drop most rows ≡ left
     → reply_left most serial sent rows ≡ rows_frame serial found ∷ reply_left most serial (sent + length found) left
 at_rows most serial sent rows found left some more whole front back =
     let long : length rows ≡ length found + length left = ap length whole ∙ length-append found left in
     let total : sent + length rows ≡ sent + length found + length left = omega (arith, long) in
     let groups : grouped most rows ≡ found ∷ grouped most left =
     first_group most rows some (omega (arith, long, more))
-    ∙ (ap (λ (xs : List ReplyRow). xs ∷ grouped most (drop most rows)) front ∙ ap (λ (xs : List ReplyRow). found ∷ grouped most xs) back) in
-    ap (λ (gs : List (List ReplyRow)). map (rows_frame serial) gs ++ Done serial (sent + length rows) ∷ []) groups
-    ∙ ap (λ (n : ℕ). rows_frame serial found ∷ (map (rows_frame serial) (grouped most left) ++ Done serial n ∷ [])) total
+    ∙ (ap (λ (xs : List RowCells). xs ∷ grouped most (drop most rows)) front ∙ ap (λ (xs : List RowCells). found ∷ grouped most xs) back) in
+    ap (λ (gs : List (List RowCells)). map (rows_frame serial) gs ++ DoneFrame serial (sent + length rows) ∷ []) groups
+    ∙ ap (λ (n : ℕ). rows_frame serial found ∷ (map (rows_frame serial) (grouped most left) ++ DoneFrame serial n ∷ [])) total
 
 ends_not : (frames : List Frame) (frame : Frame) → is_empty (frames ++ frame ∷ []) ≡ false
 ends_not [] frame = refl
 ends_not (_ ∷ frames) frame = refl
 
-still_replying : (most serial sent : ℕ) (rows : List ReplyRow) → after_reply serial (reply_left most serial sent rows) ≡ host.Replying serial (reply_left most serial sent rows)
+still_replying : (most serial sent : ℕ) (rows : List RowCells) → after_reply serial (reply_left most serial sent rows) ≡ host.Replying serial (reply_left most serial sent rows)
 still_replying most serial sent rows =
     ap (λ (b : Bool). if b then host.Listening (serial + 1) else host.Replying serial (reply_left most serial sent rows))
-    (ends_not (map (rows_frame serial) (grouped most rows)) (Done serial (sent + length rows)))
+    (ends_not (map (rows_frame serial) (grouped most rows)) (DoneFrame serial (sent + length rows)))
 
 same_response : (a b : Response) → Some a ≡ Some b → a ≡ b
 same_response a b e = cc
@@ -95,19 +95,19 @@ goes_as serial frames owed stand frame rest next goes is after =
     }
 
 -- what one frame takes of the rows that are left
-record Fills (most : ℕ) (rows found left : List ReplyRow) : Type 0 where
+record Fills (most : ℕ) (rows found left : List RowCells) : Type 0 where
   front : take most rows ≡ found
   back : drop most rows ≡ left
 
-fills_full : (most : ℕ) (rows found left : List ReplyRow) → rows ≡ found ++ left → length found ≡ most → Fills most rows found left
+fills_full : (most : ℕ) (rows found left : List RowCells) → rows ≡ found ++ left → length found ≡ most → Fills most rows found left
 fills_full most rows found left whole full = record {
   front = ap (take most) whole ∙ (ap (λ (n : ℕ). take n (found ++ left)) (sym full) ∙ take-append_seam found left);
   back = ap (drop most) whole ∙ (ap (λ (n : ℕ). drop n (found ++ left)) (sym full) ∙ drop-append_seam found left);
 }
 
-fills_end : (most : ℕ) (rows found left : List ReplyRow) → rows ≡ found ++ left → left ≡ [] → length found ≤ most → Fills most rows found left
+fills_end : (most : ℕ) (rows found left : List RowCells) → rows ≡ found ++ left → left ≡ [] → length found ≤ most → Fills most rows found left
 fills_end most rows found left whole none few =
-    let all : rows ≡ found = whole ∙ (ap (λ (xs : List ReplyRow). found ++ xs) none ∙ append-nil found) in
+    let all : rows ≡ found = whole ∙ (ap (λ (xs : List RowCells). found ++ xs) none ∙ append-nil found) in
     record {
       front = ap (take most) all ∙ take_all most found few;
       back = ap (drop most) all ∙ (drop_all most found few ∙ sym none);
@@ -119,7 +119,7 @@ nothing_left source place h =
     let none : source.rows - place ≡ 0 = omega (arith, h) in
     ap (λ (n : ℕ). replies_at source.form source.file source.start place n) none
 
-fills : (source : Source) (place next : ℕ) (found : List ReplyRow) → left_from source place ≡ found ++ left_from source next
+fills : (source : Source) (place next : ℕ) (found : List RowCells) → left_from source place ≡ found ++ left_from source next
     → length found ≤ most_rows source → (next < source.rows → length found ≡ most_rows source) → (next < source.rows) ⊎ (source.rows ≤ next)
     → Fills (most_rows source) (left_from source place) found (left_from source next)
 fills source place next found joined few stops (inl h) = fills_full (most_rows source) _ found _ joined (stops h)
@@ -128,14 +128,14 @@ fills source place next found joined few stops (inr h) = fills_end (most_rows so
 pub said_done : (catalog : List ℕ) (source : Source) (serial place sent next : ℕ) (owed : List Frame) (stand : Stand) (bytes : List ℕ) (rows size : ℕ) (out : List ℕ)
     → Stands catalog source (stage.Answering serial place sent) owed stand → 0 < most_rows source
     → Gathered (left_from source place) rows bytes (left_from source next) → rows ≡ 0 → (next < source.rows → rows ≡ most_rows source)
-    → take size out ≡ frame_bytes (Done serial sent) → Says catalog source owed stand size out (stage.Listening (serial + 1))
+    → take size out ≡ frame_bytes (DoneFrame serial sent) → Says catalog source owed stand size out (stage.Listening (serial + 1))
 said_done catalog source serial place sent next owed stand bytes rows size out stands some gathered none stops spelled =
     let empty : gathered.found ≡ [] = nil_from_length gathered.found (omega (arith, gathered.counted, none)) in
     let end : source.rows ≤ next = not_before next source.rows (most_rows source) (λ h. (let s = stops h in omega (arith, s, none, some))) in
-    let all : left_from source place ≡ [] = gathered.joined ∙ (ap (λ (xs : List ReplyRow). xs ++ left_from source next) empty ∙ nothing_left source next end) in
-    let goes = goes_as serial (reply_left (most_rows source) serial sent (left_from source place)) owed stand (Done serial sent) [] (host.Listening (serial + 1)) stands
+    let all : left_from source place ≡ [] = gathered.joined ∙ (ap (λ (xs : List RowCells). xs ++ left_from source next) empty ∙ nothing_left source next end) in
+    let goes = goes_as serial (reply_left (most_rows source) serial sent (left_from source place)) owed stand (DoneFrame serial sent) [] (host.Listening (serial + 1)) stands
     (ap (reply_left (most_rows source) serial sent) all ∙ at_done (most_rows source) serial sent some) refl in
-    record { frame = Done serial sent; rest = []; owed_are = goes.owed_are; spelled = spelled; stands = (refl, goes.stand_is) }
+    record { frame = DoneFrame serial sent; rest = []; owed_are = goes.owed_are; spelled = spelled; stands = (refl, goes.stand_is) }
   where
     not_before : (next rows most : ℕ) → (next < rows → ⊥) → rows ≤ next
     not_before next rows most h = elim (side next rows) [ inl less ↦ absurd (h less) | inr more ↦ more ]
@@ -143,9 +143,9 @@ said_done catalog source serial place sent next owed stand bytes rows size out s
 pub said_rows : (catalog : List ℕ) (source : Source) (serial place sent next : ℕ) (owed : List Frame) (stand : Stand) (bytes : List ℕ) (rows size : ℕ) (out : List ℕ)
     → Stands catalog source (stage.Answering serial place sent) owed stand → 0 < most_rows source
     → Gathered (left_from source place) rows bytes (left_from source next) → 0 < rows → rows ≤ most_rows source → (next < source.rows → rows ≡ most_rows source)
-    → take size out ≡ frame_bytes (Replied serial bytes) → Says catalog source owed stand size out (stage.Replying serial next (sent + rows))
+    → take size out ≡ frame_bytes (RowsFrame serial bytes) → Says catalog source owed stand size out (stage.Replying serial next (sent + rows))
 said_rows catalog source serial place sent next owed stand bytes rows size out stands some gathered more few stops spelled =
-    let found : List ReplyRow = gathered.found in
+    let found : List RowCells = gathered.found in
     let counted : length found ≡ rows = gathered.counted in
     let filled = fills source place next found gathered.joined (omega (arith, counted, few)) (λ h. counted ∙ stops h) (side next source.rows) in
     let goes = goes_as serial (reply_left (most_rows source) serial sent (left_from source place)) owed stand (rows_frame serial found)
@@ -157,23 +157,23 @@ said_rows catalog source serial place sent next owed stand bytes rows size out s
       frame = rows_frame serial found;
       rest = [];
       owed_are = goes.owed_are;
-      spelled = spelled ∙ ap (λ (bs : List ℕ). frame_bytes (Replied serial bs)) gathered.spelled;
+      spelled = spelled ∙ ap (λ (bs : List ℕ). frame_bytes (RowsFrame serial bs)) gathered.spelled;
       stands = (refl, goes.stand_is ∙ ap (λ (n : ℕ). host.Replying serial (reply_left (most_rows source) serial (sent + n) (left_from source next))) counted);
     }
 
 -- nothing was gathered yet
-pub none_gathered : (all : List ReplyRow) (rows : ℕ) (bytes : List ℕ) → rows ≡ 0 → bytes ≡ [] → Gathered all rows bytes all
+pub none_gathered : (all : List RowCells) (rows : ℕ) (bytes : List ℕ) → rows ≡ 0 → bytes ≡ [] → Gathered all rows bytes all
 none_gathered all rows bytes none nothing = record { found = []; joined = refl; counted = sym none; spelled = nothing }
 
 -- ---- the catalog
 
-welcomes_more : (bytes : List ℕ) → 2039 < length bytes → welcomes_of (grouped most_part bytes) ≡ Welcome 0 (take 2039 bytes) ∷ welcomes_of (grouped most_part (drop 2039 bytes))
+welcomes_more : (bytes : List ℕ) → 2039 < length bytes → welcomes_of (grouped most_part bytes) ≡ WelcomeFrame 0 (take 2039 bytes) ∷ welcomes_of (grouped most_part (drop 2039 bytes))
 welcomes_more bytes h =
     let rest : 0 < length (drop 2039 bytes) = omega (arith, length-drop 2039 bytes, h) in
     ap welcomes_of (first_group 2039 bytes (omega arith) (omega (arith, h)) ∙ ap (λ (gs : List (List ℕ)). take 2039 bytes ∷ gs) (first_group 2039 (drop 2039 bytes) (omega arith) rest))
-    ∙ ap (λ (gs : List (List ℕ)). Welcome 0 (take 2039 bytes) ∷ welcomes_of gs) (sym (first_group 2039 (drop 2039 bytes) (omega arith) rest))
+    ∙ ap (λ (gs : List (List ℕ)). WelcomeFrame 0 (take 2039 bytes) ∷ welcomes_of gs) (sym (first_group 2039 (drop 2039 bytes) (omega arith) rest))
 
-welcomes_last : (bytes : List ℕ) → 0 < length bytes → length bytes ≤ 2039 → welcomes_of (grouped most_part bytes) ≡ Welcome 1 bytes ∷ []
+welcomes_last : (bytes : List ℕ) → 0 < length bytes → length bytes ≤ 2039 → welcomes_of (grouped most_part bytes) ≡ WelcomeFrame 1 bytes ∷ []
 welcomes_last bytes some few =
     ap welcomes_of (first_group 2039 bytes (omega arith) some
     ∙ (ap (λ (xs : List ℕ). xs ∷ grouped 2039 (drop 2039 bytes)) (take_all 2039 bytes few)
@@ -181,32 +181,32 @@ welcomes_last bytes some few =
 
 pub said_part : (catalog : List ℕ) (source : Source) (at count : ℕ) (owed : List Frame) (stand : Stand) (part : List ℕ) (size : ℕ) (out : List ℕ)
     → Stands catalog source (stage.Welcoming at) owed stand → at + count < length catalog → count ≡ min 2039 (length catalog - at) → part ≡ take count (drop at catalog)
-    → take size out ≡ frame_bytes (Welcome 0 part) → Says catalog source owed stand size out (stage.Welcoming (at + count))
+    → take size out ≡ frame_bytes (WelcomeFrame 0 part) → Says catalog source owed stand size out (stage.Welcoming (at + count))
 said_part catalog source at count owed stand part size out stands more c p spelled =
     let full : count ≡ 2039 = omega (arith, c, more) in
     let long : 2039 < length (drop at catalog) = omega (arith, length-drop at catalog, full, more) in
     let further : drop 2039 (drop at catalog) ≡ drop (at + count) catalog = drop-drop 2039 at catalog ∙ ap (λ (n : ℕ). drop n catalog) (let e : at + 2039 ≡ at + count = omega (arith, full) in e) in
     record {
-      frame = Welcome 0 part;
+      frame = WelcomeFrame 0 part;
       rest = welcomes_of (grouped most_part (drop (at + count) catalog));
       owed_are = stands.0 ∙ (welcomes_more (drop at catalog) long
-          ∙ (ap (λ (xs : List ℕ). Welcome 0 xs ∷ welcomes_of (grouped most_part (drop 2039 (drop at catalog)))) (ap (λ (n : ℕ). take n (drop at catalog)) (sym full) ∙ sym p)
-          ∙ ap (λ (xs : List ℕ). Welcome 0 part ∷ welcomes_of (grouped most_part xs)) further));
+          ∙ (ap (λ (xs : List ℕ). WelcomeFrame 0 xs ∷ welcomes_of (grouped most_part (drop 2039 (drop at catalog)))) (ap (λ (n : ℕ). take n (drop at catalog)) (sym full) ∙ sym p)
+          ∙ ap (λ (xs : List ℕ). WelcomeFrame 0 part ∷ welcomes_of (grouped most_part xs)) further));
       spelled = spelled;
       stands = (refl, stands.1);
     }
 
 pub said_last : (catalog : List ℕ) (source : Source) (at count : ℕ) (owed : List Frame) (stand : Stand) (part : List ℕ) (size : ℕ) (out : List ℕ)
     → Stands catalog source (stage.Welcoming at) owed stand → at < length catalog → length catalog ≤ at + count → count ≡ min 2039 (length catalog - at) → part ≡ take count (drop at catalog)
-    → take size out ≡ frame_bytes (Welcome 1 part) → Says catalog source owed stand size out (stage.Listening 1)
+    → take size out ≡ frame_bytes (WelcomeFrame 1 part) → Says catalog source owed stand size out (stage.Listening 1)
 said_last catalog source at count owed stand part size out stands some end c p spelled =
     let few : length (drop at catalog) ≤ 2039 = omega (arith, length-drop at catalog, c, end) in
     let more : 0 < length (drop at catalog) = omega (arith, length-drop at catalog, some) in
     let whole : part ≡ drop at catalog = p ∙ take_all count (drop at catalog) (omega (arith, length-drop at catalog, c, end)) in
     record {
-      frame = Welcome 1 part;
+      frame = WelcomeFrame 1 part;
       rest = [];
-      owed_are = stands.0 ∙ (welcomes_last (drop at catalog) more few ∙ ap (λ (xs : List ℕ). Welcome 1 xs ∷ []) (sym whole));
+      owed_are = stands.0 ∙ (welcomes_last (drop at catalog) more few ∙ ap (λ (xs : List ℕ). WelcomeFrame 1 xs ∷ []) (sym whole));
       spelled = spelled;
       stands = (refl, stands.1);
     }

@@ -6,10 +6,10 @@ use Rattle.std.proofs.lemmas.Bool.{lt-ltb, le-ltb, eqb-true}
 use Rattle.std.proofs.lemmas.Grind.{flat_map-append}
 use Rattle.std.proofs.Math.Seq.{take-append_seam, take-length}
 use Rattle.std.proofs.lemmas.List.{nil_from_length}
-use Rattle.ghost_model.specs.Channel.{Frame, Move, Entry, Journal}
-use Rattle.ghost_model.specs.Frames.{Got, Found, Short, Bad, AreBytes, frame_bytes, got_of, payload_of, size_in, kind_in, header_allowed, payload_allowed, payload_in, frame_in}
-use Rattle.ghost_model.specs.Host.{Holding, Stand, answer_to}
-use Rattle.ghost_model.specs.Moves.{taken, sent, sent_by, piece_of}
+use Rattle.ghost_model.specs.core.Channel.{Frame, Move, Entry, Journal}
+use Rattle.ghost_model.specs.forms.Frames.{Got, Found, Short, Bad, AreBytes, frame_bytes, got_of, payload_of, size_in, kind_in, header_allowed, payload_allowed, payload_in, frame_in}
+use Rattle.ghost_model.specs.core.Host.{Holding, Stand, answer_to}
+use Rattle.ghost_model.specs.core.Moves.{taken, sent, sent_by, piece_of}
 use Rattle.ghost_model.proofs.ChannelLemmas.{found_begins, size_is_read}
 use Rattle.ghost_model.proofs.SessionLemmas.Limits.{append_bytes}
 use Rattle.edge_traits.specs.Filling.{AreTakes, Fills}

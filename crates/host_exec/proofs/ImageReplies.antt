@@ -1,17 +1,17 @@
 -- The replies over the bytes of the visible image are those of its public part.
-use Rattle.std.proofs.Common.{◌≡◌, ℕ, suc, ◌+◌, ◌-◌, ◌*◌, ◌<◌, Bool, true, false, ◌&&◌, nat_lt, List, [], ◌∷◌, ◌++◌, length, map, take, drop, filter_map, flat_map, Option, Some, None, ap, ap₂, sym, refl, ◌∙◌, arith, length-append, append_assoc, ltb-true}
+use Rattle.std.proofs.Common.{◌≡◌, ℕ, suc, ◌+◌, ◌-◌, ◌*◌, ◌<◌, Bool, true, false, ◌&&◌, nat_lt, List, [], ◌∷◌, ◌++◌, length, map, take, drop, flat_map, unwrap_or, Option, Some, None, ap, ap₂, sym, refl, ◌∙◌, arith, length-append, append_assoc, ltb-true}
 use Rattle.std.specs.Prelude.{slice_get, if◌then◌else◌}
 use Rattle.std.specs.List.{list_all}
 use Rattle.std.specs.Cmp.{first_so, second_so}
 use Rattle.std.proofs.lemmas.List.{length-drop, drop-drop}
 use Rattle.std.proofs.Math.Seq.{take-append_seam, drop-append_seam}
-use Rattle.ghost_model.specs.Schema.{Schema, Column, Kind, columns_of, column_at, is_visible, is_shown}
-use Rattle.ghost_model.specs.Values.{Value, Row, Rows}
-use Rattle.ghost_model.specs.Cells.{cell_width, encode_cell}
-use Rattle.ghost_model.specs.Database.{is_of_kind, meets}
-use Rattle.ghost_model.specs.Channel.{Ask, Test}
-use Rattle.ghost_model.specs.Asks.{ReplyRow, kind_at, kind_or_none, is_proper_ask}
-use Rattle.ghost_model.specs.Split.{is_open, kind_of, value_at, cells, are_of_kinds, meets_test, meets_tests, visible_places, replies_from, replied, reply_row}
+use Rattle.ghost_model.specs.core.Schema.{Schema, Column, Kind, columns_of, column_at, is_visible, is_shown}
+use Rattle.ghost_model.specs.core.Values.{Value, Text, Row, Rows}
+use Rattle.ghost_model.specs.forms.Cells.{cell_width, encode_cell}
+use Rattle.ghost_model.specs.core.Database.{is_of_kind, meets}
+use Rattle.ghost_model.specs.core.Channel.{Ask, Test}
+use Rattle.ghost_model.specs.core.Asks.{RowCells, kind_at, kind_or_none, is_proper_ask}
+use Rattle.ghost_model.specs.core.Split.{is_open, kind_of_column, value_at, asked_value, cells, are_of_kinds, meets_test, meets_tests, visible_places, replies_from, replied, reply_row}
 use Rattle.ghost_base.specs.CellLaws.{byte_order}
 use Rattle.ghost_base.proofs.CellOrders.{cell_order}
 use Rattle.host_exec.specs.RowBytes.{Form, Span, ByteTest, cut, passes, width_before, data_columns, row_width, span_of, test_of, form_of, window, row_at, replies_at}
@@ -48,7 +48,7 @@ module _ (schema : Schema) (table : ℕ) where
       let s = shown_of schema table column v in
       let there : slice_get (data_columns schema table) (column - 1) ≡ Some s.declared = sym (behind_first (columns_of schema table) column s.some) ∙ s.there in
       let c = cell_at 1 (data_columns schema table) row s.declared (column - 1) there s.shown k in
-      let kind : kind_of s.declared ≡ kind_at schema table column = sym (ap kind_or_none s.there) in
+      let kind : kind_of_column s.declared ≡ kind_at schema table column = sym (ap kind_or_none s.there) in
       let place : 1 + (column - 1) ≡ column = omega (arith, s.some) in
       record {
         value = c.value;
@@ -76,18 +76,14 @@ module _ (schema : Schema) (table : ℕ) where
       ap₂ (λ (a b : Bool). a && b) (one_test row test k (first_so (is_visible schema table test.column) _ v) (first_so (is_of_kind (kind_at schema table test.column) test.value) _ f))
       (all_tests row tests k (second_so (is_visible schema table test.column) _ v) (second_so (is_of_kind (kind_at schema table test.column) test.value) _ f))
 
-  mapped_one : (row : Row) (column : ℕ) (columns : List ℕ) (o : Option Value) (value : Value) → value_at (visible_places schema table) row column ≡ o → o ≡ Some value
-      → filter_map (value_at (visible_places schema table) row) (column ∷ columns) ≡ value ∷ filter_map (value_at (visible_places schema table) row) columns
-  mapped_one row column columns o value e s = rw (e ∙ s) refl
-
   all_cells : (row : Row) (columns : List ℕ) → are_of_kinds (kinds_in (data_columns schema table)) row ≡ true → list_all (is_visible schema table) columns ≡ true
       → flat_map (cut (cells (kinds_in (data_columns schema table)) row)) (map (span_of schema table) columns)
-      ≡ cells (map (kind_at schema table) columns) (filter_map (value_at (visible_places schema table) row) columns)
+      ≡ cells (map (kind_at schema table) columns) (map (asked_value (visible_places schema table) row) columns)
   all_cells row [] k v = refl
   all_cells row (column ∷ columns) k v =
       let c = cell_of row column (first_so (is_visible schema table column) _ v) k in
       ap₂ (λ (a b : List ℕ). a ++ b) c.spelled (all_cells row columns k (second_so (is_visible schema table column) _ v))
-      ∙ ap (cells (kind_at schema table column ∷ map (kind_at schema table) columns)) (sym (mapped_one row column columns _ c.value refl c.has))
+      ∙ ap (cells (kind_at schema table column ∷ map (kind_at schema table) columns)) (ap (λ (o : Option Value). unwrap_or o (Text []) ∷ map (asked_value (visible_places schema table) row) columns) (sym c.has))
 
 -- ---- the rows of a table
 
@@ -132,9 +128,9 @@ no_reply : (identifier : ℕ) (places : List ℕ) (ask : Ask) → replies_from i
 unfolding replies_from
 no_reply identifier places ask = refl
 
-same_branch : (schema : Schema) (ask : Ask) (one : ReplyRow) (reply : _) (later : List ReplyRow) (replies : List _) (b : Bool) → one ≡ reply_row schema ask reply → later ≡ map (reply_row schema ask) replies
+same_branch : (schema : Schema) (ask : Ask) (one : RowCells) (reply : _) (later : List RowCells) (replies : List _) (b : Bool) → one ≡ reply_row schema ask reply → later ≡ map (reply_row schema ask) replies
     → (if b then one ∷ later else later) ≡ map (reply_row schema ask) (if b then reply ∷ replies else replies)
-same_branch schema ask one reply later replies true p q = ap₂ (λ (x : ReplyRow) (xs : List ReplyRow). x ∷ xs) p q
+same_branch schema ask one reply later replies true p q = ap₂ (λ (x : RowCells) (xs : List RowCells). x ∷ xs) p q
 same_branch schema ask one reply later replies false p q = q
 
 pub image_replies : (schema : Schema) (ask : Ask) (file rest : List ℕ) (start place : ℕ) (all : Rows) → is_proper_ask schema ask ≡ true
@@ -165,5 +161,5 @@ image_replies schema ask file rest start place (row ∷ all) p e k =
     (image_replies schema ask file rest start (place + 1) all p further (λ at r h. k (suc at) r h))
     ∙ ap (map (reply_row schema ask)) (sym (next_reply (place + 1) (visible_places schema ask.table) ask row all)))
   where
-    reply_with : ℕ → List ℕ → ReplyRow
+    reply_with : ℕ → List ℕ → RowCells
     reply_with identifier bytes = record { identifier = identifier; cells = bytes }

@@ -3,13 +3,13 @@ use Rattle.std.proofs.Common.{◌≡◌, ℕ, zero, suc, ◌+◌, ◌-◌, ◌*�
 use Rattle.std.specs.Prelude.{slice_get}
 use Rattle.std.proofs.lemmas.List.{take-append-drop, drop-drop, drop_all, length-map}
 use Rattle.std.proofs.Math.Seq.{take-add, take-append_seam, drop-append-add, drop-append_seam}
-use Rattle.ghost_model.specs.Schema.{Schema, Table, Column, Kind}
-use Rattle.ghost_model.specs.Values.{Row, Rows}
-use Rattle.ghost_model.specs.Catalog.{catalog_bytes, BeginsWithCatalog}
-use Rattle.ghost_model.specs.CatalogLaws.{CatalogsHaveOneSpelling, NoCatalogIsLong}
-use Rattle.ghost_model.specs.Channel.{Catalog}
-use Rattle.ghost_model.specs.Database.{rows_or_none}
-use Rattle.ghost_model.specs.Split.{Public, rows_in, cells, are_of_kinds, visible_kinds, cells_of_tables, SpellsImage}
+use Rattle.ghost_model.specs.core.Schema.{Schema, Table, Column, Kind}
+use Rattle.ghost_model.specs.core.Values.{Row, Rows}
+use Rattle.ghost_model.specs.forms.Catalog.{catalog_bytes, BeginsWithCatalog}
+use Rattle.ghost_model.specs.laws.CatalogLaws.{CatalogsHaveOneSpelling, NoCatalogIsLong}
+use Rattle.ghost_model.specs.core.Channel.{Catalog}
+use Rattle.ghost_model.specs.core.Database.{rows_or_none}
+use Rattle.ghost_model.specs.core.Split.{Public, public_rows, cells, are_of_kinds, visible_kinds, cells_of_tables, SpellsImage}
 use Rattle.host_exec.specs.RowBytes.{window, width_before, data_columns, row_width, table_start}
 use Rattle.host_exec.specs.Checked.{SpellsRow, GoodRows, GoodTable, BadTable, IsImage, IsChecked, IsNoImage}
 use Rattle.host_exec.proofs.Windows.{window_front, window_within}
@@ -193,12 +193,12 @@ is_checked cat public file spells =
           let cut = behind cat.schema public.visible table inside same kinds in
           let start : table_start cat table ≡ length (catalog_bytes cat) + before cat.schema (map length public.visible) table =
           start_is cat table counted (omega (arith, inside)) ∙ ap (λ (ns : List ℕ). length (catalog_bytes cat) + before cat.schema ns table) (sym counts) in
-          let bytes : drop (table_start cat table) file ≡ flat_map (cells (kinds_in (data_columns cat.schema table))) (rows_in public table) ++ cut.rest =
+          let bytes : drop (table_start cat table) file ≡ flat_map (cells (kinds_in (data_columns cat.schema table))) (public_rows public table) ++ cut.rest =
           ap (λ (n : ℕ). drop n file) start
           ∙ (ap (drop (length (catalog_bytes cat) + before cat.schema (map length public.visible) table)) spells.spelled
           ∙ (drop-append-add (catalog_bytes cat) (cells_of_tables cat.schema public.visible) (before cat.schema (map length public.visible) table) ∙ cut.is)) in
-          let count : length (rows_in public table) ≡ slice_index cat.counts table = sym (count_at public.visible table) ∙ ap (λ (ns : List ℕ). slice_index ns table) counts in
-          good_rows (data_columns cat.schema table) (rows_in public table) file cut.rest (table_start cat table) bytes fits row (omega (arith, count, high)));
+          let count : length (public_rows public table) ≡ slice_index cat.counts table = sym (count_at public.visible table) ∙ ap (λ (ns : List ℕ). slice_index ns table) counts in
+          good_rows (data_columns cat.schema table) (public_rows public table) file cut.rest (table_start cat table) bytes fits row (omega (arith, count, high)));
     }
 
 -- the front of a visible image begins with its catalog

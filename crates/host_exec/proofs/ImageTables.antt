@@ -4,14 +4,14 @@ use Rattle.std.specs.Prelude.{slice_get}
 use Rattle.std.specs.Cmp.{first_so}
 use Rattle.std.proofs.lemmas.List.{length-map}
 use Rattle.std.proofs.Math.Seq.{drop-append-add}
-use Rattle.ghost_model.specs.Schema.{Schema, Table, Column, Kind, columns_or_none}
-use Rattle.ghost_model.specs.Values.{Row, Rows}
-use Rattle.ghost_model.specs.Catalog.{catalog_bytes}
-use Rattle.ghost_model.specs.Channel.{Catalog, Ask}
-use Rattle.ghost_model.specs.Asks.{is_proper_ask}
-use Rattle.ghost_model.specs.Database.{rows_or_none}
-use Rattle.ghost_model.specs.Host.{host_of}
-use Rattle.ghost_model.specs.Split.{Public, rows_in, cells, are_of_kinds, visible_kinds, cells_of_tables, SpellsImage, reply_rows}
+use Rattle.ghost_model.specs.core.Schema.{Schema, Table, Column, Kind, columns_or_none}
+use Rattle.ghost_model.specs.core.Values.{Row, Rows}
+use Rattle.ghost_model.specs.forms.Catalog.{catalog_bytes}
+use Rattle.ghost_model.specs.core.Channel.{Catalog, Ask}
+use Rattle.ghost_model.specs.core.Asks.{is_proper_ask}
+use Rattle.ghost_model.specs.core.Database.{rows_or_none}
+use Rattle.ghost_model.specs.core.Host.{host_of}
+use Rattle.ghost_model.specs.core.Split.{Public, public_rows, cells, are_of_kinds, visible_kinds, cells_of_tables, SpellsImage, reply_rows}
 use Rattle.host_exec.specs.RowBytes.{width_before, data_columns, row_width, form_of, replies_at, table_start}
 use Rattle.host_exec.specs.Holdings.{HoldsFile}
 use Rattle.host_exec.proofs.ImageRows.{kinds_in, row_length}
@@ -130,10 +130,10 @@ image_is_held cat public file starts spells at = record {
         at table inside ∙ (start_is cat table spells.catalog.counted (omega (arith, inside)) ∙ ap (λ (ns : List ℕ). length (catalog_bytes cat) + before cat.schema ns table) (sym counts)) in
         let first : slice_index starts table + 0 * row_width cat.schema table ≡ length (catalog_bytes cat) + before cat.schema (map length public.visible) table = omega (arith, start) in
         let bytes : drop (slice_index starts table + 0 * row_width cat.schema table) file
-        ≡ flat_map (cells (kinds_in (data_columns cat.schema table))) (rows_in public table) ++ cut.rest =
+        ≡ flat_map (cells (kinds_in (data_columns cat.schema table))) (public_rows public table) ++ cut.rest =
         ap (λ (n : ℕ). drop n file) first
         ∙ (ap (drop (length (catalog_bytes cat) + before cat.schema (map length public.visible) table)) spells.spelled
         ∙ (drop-append-add (catalog_bytes cat) (cells_of_tables cat.schema public.visible) (before cat.schema (map length public.visible) table) ∙ cut.is)) in
-        let count : length (rows_in public table) ≡ slice_index cat.counts table = sym (count_at public.visible table) ∙ ap (λ (ns : List ℕ). slice_index ns table) counts in
-        let replies = image_replies cat.schema ask file cut.rest (slice_index starts table) 0 (rows_in public table) p bytes fits in
+        let count : length (public_rows public table) ≡ slice_index cat.counts table = sym (count_at public.visible table) ∙ ap (λ (ns : List ℕ). slice_index ns table) counts in
+        let replies = image_replies cat.schema ask file cut.rest (slice_index starts table) 0 (public_rows public table) p bytes fits in
         sym replies ∙ ap (replies_at (form_of cat.schema ask) file (slice_index starts table) 0) count

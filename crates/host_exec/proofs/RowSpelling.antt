@@ -5,16 +5,17 @@ use Rattle.std.specs.Cmp.{first_so, second_so}
 use Rattle.std.specs.List.{list_all}
 use Rattle.std.proofs.lemmas.List.{take-append-drop, map-append, append-nil, drop_all, length-drop}
 use Rattle.std.proofs.Math.Seq.{take-append_seam, drop-append_seam}
-use Rattle.ghost_model.specs.Schema.{Schema, Column, Kind, columns_of, column_at, is_shown}
-use Rattle.ghost_model.specs.Schema as schemas
-use Rattle.ghost_model.specs.Values.{Value, Row}
-use Rattle.ghost_model.specs.Cells.{cell_width, encode_cell, decode_cell}
-use Rattle.ghost_model.specs.Database.{is_of_kind}
-use Rattle.ghost_model.specs.Split.{cells, are_of_kinds, is_open, kind_of}
+use Rattle.ghost_model.specs.core.Schema.{Schema, Column, Kind, columns_of, column_at, is_shown}
+use Rattle.ghost_model.specs.core.Schema as schemas
+use Rattle.ghost_model.specs.core.Values.{Value, Row}
+use Rattle.ghost_model.specs.forms.Cells.{cell_width, encode_cell}
+use Rattle.ghost_model.specs.readings.CellReading.{decode_cell}
+use Rattle.ghost_model.specs.core.Database.{is_of_kind}
+use Rattle.ghost_model.specs.core.Split.{cells, are_of_kinds, is_open, kind_of_column}
 use Rattle.ghost_model.proofs.ChannelLemmas.Asks.{cell_length, cell_is_read}
 use Rattle.ghost_base.specs.Views as base
 use Rattle.ghost_base.specs.declared.kind.Kind as code
-use Rattle.ghost_model.specs.Asks.{kind_at, kind_or_none}
+use Rattle.ghost_model.specs.core.Asks.{kind_at, kind_or_none}
 use Rattle.std.proofs.lemmas.Bool.Decides.{nat_tests}
 use Rattle.std.proofs.lemmas.List.Folds.{list_all-append}
 use Rattle.host_exec.specs.RowBytes.{data_columns}
@@ -111,9 +112,9 @@ columns_on schema table at some column there =
     on_from (first ∷ columns) zero column e = let same : first ≡ column = cc in ap (λ (c : Column). c ∷ columns) same
     on_from (first ∷ columns) (suc place) column e = on_from columns place column e
 
-shown_next : (column : Column) (columns : List Column) (b : Bool) → is_open column ≡ b → shown_kinds (column ∷ columns) ≡ (if b then kind_of column ∷ shown_kinds columns else shown_kinds columns)
-shown_next column columns true e = ap (λ (t : Bool). map kind_of (if t then column ∷ filter is_open columns else filter is_open columns)) e
-shown_next column columns false e = ap (λ (t : Bool). map kind_of (if t then column ∷ filter is_open columns else filter is_open columns)) e
+shown_next : (column : Column) (columns : List Column) (b : Bool) → is_open column ≡ b → shown_kinds (column ∷ columns) ≡ (if b then kind_of_column column ∷ shown_kinds columns else shown_kinds columns)
+shown_next column columns true e = ap (λ (t : Bool). map kind_of_column (if t then column ∷ filter is_open columns else filter is_open columns)) e
+shown_next column columns false e = ap (λ (t : Bool). map kind_of_column (if t then column ∷ filter is_open columns else filter is_open columns)) e
 
 there_is : (xs : List Column) (place : ℕ) → place < length xs → (column : Column) × (slice_get xs place ≡ Some column)
 there_is [] place h = absurd (omega (arith, h))

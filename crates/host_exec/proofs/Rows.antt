@@ -3,7 +3,7 @@ use Rattle.std.proofs.Common.{◌≡◌, ℕ, suc, ◌+◌, ◌-◌, ◌*◌, �
 use Rattle.std.specs.Prelude.{if◌then◌else◌}
 use Rattle.std.specs.List.{list_all}
 use Rattle.std.proofs.lemmas.Grind.{flat_map-append}
-use Rattle.ghost_model.specs.Asks.{ReplyRow, row_bytes}
+use Rattle.ghost_model.specs.core.Asks.{RowCells, row_bytes}
 use Rattle.host_exec.specs.RowBytes.{Form, window, row_at, replies_at, replied, passes}
 use Rattle.host_exec.specs.Gathering.{Gathered}
 use Rattle.host_exec.proofs.Windows.{window_front, window_back}
@@ -14,13 +14,13 @@ use Rattle.std.proofs.lemmas.List.Folds.{list_all-map}
 -- ---- rows
 
 -- so many of some rows were gone through
-pub record PassedIn (form : Form) (file : List ℕ) (start later : ℕ) (all : List ReplyRow) (place count passed : ℕ) (rest : List ℕ) (rows : ℕ) (bytes : List ℕ) : Type 0 where
+pub record PassedIn (form : Form) (file : List ℕ) (start later : ℕ) (all : List RowCells) (place count passed : ℕ) (rest : List ℕ) (rows : ℕ) (bytes : List ℕ) : Type 0 where
   pub ahead : rest ≡ window file (start + (place + passed) * form.width) ((count - passed) * form.width)
   pub gathered : Gathered all rows bytes (replies_at form file start (place + passed) (count - passed + later))
 
 abbrev pub Passed : Form → (place count : ℕ) → (piece : List ℕ) → (rows : ℕ) → (bytes : List ℕ) → (passed : ℕ) → (rest : List ℕ) → (rows_now : ℕ) → (bytes_now : List ℕ) → Type 0
 Passed form place count piece rows bytes passed rest rows_now bytes_now =
-    (file : List ℕ) (start later : ℕ) (all : List ReplyRow) → piece ≡ window file (start + place * form.width) (count * form.width)
+    (file : List ℕ) (start later : ℕ) (all : List RowCells) → piece ≡ window file (start + place * form.width) (count * form.width)
     → Gathered all rows bytes (replies_at form file start place (count + later))
     → PassedIn form file start later all place count passed rest rows_now bytes_now
 
@@ -34,7 +34,7 @@ nothing_passed form place count piece rows bytes file start later all e h =
     }
 
 -- one more row was gathered, or not
-pub found_one : (all left : List ReplyRow) (row : ReplyRow) (rows next : ℕ) (bytes new : List ℕ) → Gathered all rows bytes (row ∷ left)
+pub found_one : (all left : List RowCells) (row : RowCells) (rows next : ℕ) (bytes new : List ℕ) → Gathered all rows bytes (row ∷ left)
     → next ≡ rows + 1 → new ≡ bytes ++ row_bytes row → Gathered all next new left
 found_one all left row rows next bytes new h n b = record {
   found = h.found ++ row ∷ [];
@@ -58,7 +58,7 @@ same_row form file start place count here row r e =
     next_rows form file start place count here (ap (λ (xs : List ℕ). list_all (passes xs) form.tests) (sym r) ∙ e)
     ∙ ap (λ (xs : List ℕ). if here then replied form (place + 1) xs ∷ replies_at form file start (place + 1) count else replies_at form file start (place + 1) count) (sym r)
 
-one_row : (form : Form) (file : List ℕ) (start place count : ℕ) (all : List ReplyRow) (row : List ℕ) (now next : ℕ) (bytes new : List ℕ) (here : Bool)
+one_row : (form : Form) (file : List ℕ) (start place count : ℕ) (all : List RowCells) (row : List ℕ) (now next : ℕ) (bytes new : List ℕ) (here : Bool)
     → row ≡ row_at form file start place → list_all (passes row) form.tests ≡ here
     → Gathered all now bytes (replies_at form file start place (suc count))
     → (here ≡ true → (next ≡ now + 1) × (new ≡ bytes ++ row_bytes (replied form (place + 1) row))) → (here ≡ false → (next ≡ now) × (new ≡ bytes))
@@ -66,11 +66,11 @@ one_row : (form : Form) (file : List ℕ) (start place count : ℕ) (all : List 
 one_row form file start place count all row now next bytes new true r e h found gone =
     let f = found refl in
     found_one all (replies_at form file start (place + 1) count) (replied form (place + 1) row) now next bytes new
-    (subst (λ (xs : List ReplyRow). Gathered all now bytes xs) (same_row form file start place count true row r e) h) f.0 f.1
+    (subst (λ (xs : List RowCells). Gathered all now bytes xs) (same_row form file start place count true row r e) h) f.0 f.1
 one_row form file start place count all row now next bytes new false r e h found gone =
     let g = gone refl in
     let kept : Gathered all now bytes (replies_at form file start (place + 1) count) =
-    subst (λ (xs : List ReplyRow). Gathered all now bytes xs) (same_row form file start place count false row r e) h in
+    subst (λ (xs : List RowCells). Gathered all now bytes xs) (same_row form file start place count false row r e) h in
     subst (λ (n : ℕ). Gathered all n new (replies_at form file start (place + 1) count)) (sym g.0)
     (subst (λ (xs : List ℕ). Gathered all now xs (replies_at form file start (place + 1) count)) (sym g.1) kept)
 

@@ -1,11 +1,11 @@
 -- What a host owes, sent frame by frame.
 use Rattle.std.proofs.Common.{◌≡◌, ◌⊎◌, inl, inr, ℕ, ◌+◌, ◌≤◌, Bool, true, false, ◌||◌, List, [], ◌∷◌, ◌++◌, take, flat_map, MatchBool, Option, Some, is_some, sym, ◌∙◌, ap, subst, arith, append-nil, append_assoc}
 use Rattle.std.specs.List.{concat}
-use Rattle.ghost_model.specs.Causes.{Rose}
-use Rattle.ghost_model.specs.Channel.{Frame, Send, Answer, Made, Failed, Journal}
-use Rattle.ghost_model.specs.Frames.{frame_bytes}
-use Rattle.ghost_model.specs.Host.{Stand}
-use Rattle.ghost_model.specs.Moves.{taken, sent}
+use Rattle.ghost_model.specs.core.Causes.{Rose}
+use Rattle.ghost_model.specs.core.Channel.{Frame, Send, Answer, Made, Failed, Journal}
+use Rattle.ghost_model.specs.forms.Frames.{frame_bytes}
+use Rattle.ghost_model.specs.core.Host.{Stand}
+use Rattle.ghost_model.specs.core.Moves.{taken, sent}
 use Rattle.edge_traits.specs.Links.{entry}
 use Rattle.host_exec.specs.Saying.{owes, rests}
 use Rattle.host_exec.specs.Hosts.{IsSameHost, StandsAs, SaysAs, RefusedAs}

@@ -1,7 +1,7 @@
 -- Each frame that a host takes or says brings the session nearer to its end.
 use Rattle.std.proofs.Common.{◌≡◌, ℕ, ◌+◌, ◌-◌, ◌<◌, ◌≤◌, Bool, true, false, Some, None, ◌==◌, subst, arith, min}
 use Rattle.std.specs.Prelude.{if◌then◌else◌}
-use Rattle.ghost_model.specs.Channel.{Frame, Hello, More, Bye}
+use Rattle.ghost_model.specs.core.Channel.{Frame, HelloFrame, MoreFrame, ByeFrame}
 use Rattle.host_exec.specs.Saying.{turned}
 use Rattle.host_exec.specs.Steps.{steps_left}
 use Rattle.host_exec.specs.declared.stage.Stage.{Stage}
@@ -31,13 +31,13 @@ more_taken catalog serial place sent other next true e = subst (λ (s : Stage). 
 more_taken catalog serial place sent other next false e = cc
 
 pub turned_fewer : (catalog : ℕ) (stage next : Stage) (frame : Frame) → turned stage frame ≡ Some next → steps_left catalog next < steps_left catalog stage
-turned_fewer catalog Greeting next (Hello generation) e = subst (λ (s : Stage). steps_left catalog s < steps_left catalog Greeting) (same _ _ e) (omega arith)
+turned_fewer catalog Greeting next (HelloFrame generation) e = subst (λ (s : Stage). steps_left catalog s < steps_left catalog Greeting) (same _ _ e) (omega arith)
   where
     same : (a b : Stage) → Some a ≡ Some b → a ≡ b
     same a b e = cc
-turned_fewer catalog (Listening serial) next Bye e = subst (λ (s : Stage). steps_left catalog s < steps_left catalog (Listening serial)) (same _ _ e) (omega arith)
+turned_fewer catalog (Listening serial) next ByeFrame e = subst (λ (s : Stage). steps_left catalog s < steps_left catalog (Listening serial)) (same _ _ e) (omega arith)
   where
     same : (a b : Stage) → Some a ≡ Some b → a ≡ b
     same a b e = cc
-turned_fewer catalog (Replying serial place sent) next (More other) e = more_taken catalog serial place sent other next (other == serial) e
+turned_fewer catalog (Replying serial place sent) next (MoreFrame other) e = more_taken catalog serial place sent other next (other == serial) e
 turned_fewer catalog stage next frame e = cc

@@ -1,18 +1,18 @@
 -- One frame of a key and what a host says to it.
 use Rattle.std.proofs.Common.{◌≡◌, ℕ, ◌+◌, MatchBool, Some, Bool, true, false, List, [], ◌∷◌, ◌++◌, length, flat_map, refl, sym, ◌∙◌, ap, subst, append-nil}
 use Rattle.std.specs.List.{concat}
-use Rattle.ghost_model.specs.Channel.{Frame, Journal}
-use Rattle.ghost_model.specs.Frames.{frame_bytes}
-use Rattle.ghost_model.specs.Host.{Holding, Stand, Response, said_to, frames_within}
-use Rattle.ghost_model.specs.Host as host
-use Rattle.ghost_model.specs.Channel as channel
-use Rattle.ghost_model.specs.Moves.{taken, sent}
+use Rattle.ghost_model.specs.core.Channel.{Frame, Journal}
+use Rattle.ghost_model.specs.forms.Frames.{frame_bytes}
+use Rattle.ghost_model.specs.core.Host.{Holding, Stand, Response, said_to, frames_within, answer_as, refusal, said_with_refusals}
+use Rattle.ghost_model.specs.core.Host as host
+use Rattle.ghost_model.specs.core.Channel as channel
+use Rattle.ghost_model.specs.core.Moves.{taken, sent}
 use Rattle.host_exec.specs.Hosts.{StandsAs}
 use Rattle.host_exec.specs.Sessions.{Came, Lost, HeardAs, IsOneFrame, IsRefused, BreaksOff, Says, Speaks, Turns}
-use Rattle.host_exec.specs.Refusals.{refusal, answer_as, said_with_refusals, sends_refusing}
+use Rattle.host_exec.specs.Refusals.{sends_refusing}
 use Rattle.host_exec.specs.Saying.{Stands}
 use Rattle.host_exec.specs.Replies.{source_of}
-use Rattle.ghost_model.specs.Catalog.{catalog_bytes}
+use Rattle.ghost_model.specs.forms.Catalog.{catalog_bytes}
 use Rattle.host_exec.specs.declared.host.Host.{Host}
 use Rattle.host_exec.specs.declared.session.Turn.TheVariants as turn
 use Rattle.host_exec.proofs.Going.{taken_joins, sent_joins, stops_joins, refusing_first}
@@ -61,7 +61,7 @@ sent_all : (one other : Journal) → sent one ≡ [] → concat (sent (one ++ ot
 sent_all one other none = sent_joins one other ∙ ap (λ (xs : List (List ℕ)). concat xs ++ concat (sent other)) none
 
 said_last : (held : Holding) (stand : Stand) → sends_refusing held [] stand [] ≡ []
-unfolding said_with_refusals said_to frames_within
+unfolding said_with_refusals frames_within
 said_last held stand = refl
 
 stands_listening : (file : List ℕ) (serial : ℕ) (after : Host) → after.stage ≡ stage.Listening serial → StandsAs after file [] (host.Listening serial)
@@ -82,7 +82,7 @@ broken_off held file stand bytes mid after journal so breaks =
     record {
       response = refusal breaks.serial;
       answer = refused_reply held (catalog_bytes mid.catalog) (source_of mid.reply file) breaks.serial breaks.place breaks.count stand so.frame so.response stands so.answer;
-      says = breaks.says ∙ sym (append-nil (frame_bytes (channel.Sorry breaks.serial 1)));
+      says = breaks.says ∙ sym (append-nil (frame_bytes (channel.SorryFrame breaks.serial 1)));
       stands = stands_listening file (breaks.serial + 1) after breaks.ended;
     }
 

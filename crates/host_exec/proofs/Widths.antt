@@ -1,11 +1,11 @@
 -- How many bytes stand before a column, column by column.
 use Rattle.std.proofs.Common.{◌≡◌, ℕ, zero, suc, ◌+◌, ◌-◌, ◌<◌, ◌≤◌, List, [], ◌∷◌, drop, map, sum, ap, sym, refl, ◌∙◌, arith}
 use Rattle.std.specs.Prelude.{slice_get}
-use Rattle.ghost_model.specs.Schema.{Schema, Column, columns_of, column_at}
-use Rattle.ghost_model.specs.Cells.{cell_width}
-use Rattle.ghost_model.specs.Channel.{Ask}
-use Rattle.ghost_model.specs.Asks.{kind_at}
-use Rattle.ghost_model.specs.Asks as asks
+use Rattle.ghost_model.specs.core.Schema.{Schema, Column, columns_of, column_at}
+use Rattle.ghost_model.specs.forms.Cells.{cell_width}
+use Rattle.ghost_model.specs.core.Channel.{Ask}
+use Rattle.ghost_model.specs.core.Asks.{kind_at}
+use Rattle.ghost_model.specs.core.Asks as asks
 use Rattle.host_exec.specs.RowBytes.{Span, span_of, reply_width, form_of, width_before, width_or_none, data_columns}
 
 pub none_before : (columns : List Column) → width_before columns 0 ≡ 0

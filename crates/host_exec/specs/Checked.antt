@@ -1,10 +1,10 @@
 -- That the rows of the visible file spell values.
 use Rattle.std.specs.Prelude.{◌≡◌, ◌≤◌, ◌<◌, ◌+◌, ◌*◌, ℕ, Bool, true, List, length, map, filter, nat_le, slice_index}
-use Rattle.ghost_model.specs.Schema.{Kind, Column}
-use Rattle.ghost_model.specs.Values.{Row}
-use Rattle.ghost_model.specs.Cells.{cell_width}
-use Rattle.ghost_model.specs.Channel.{Catalog}
-use Rattle.ghost_model.specs.Split.{Public, SpellsImage, cells, are_of_kinds, is_open, kind_of}
+use Rattle.ghost_model.specs.core.Schema.{Kind, Column}
+use Rattle.ghost_model.specs.core.Values.{Row}
+use Rattle.ghost_model.specs.forms.Cells.{cell_width}
+use Rattle.ghost_model.specs.core.Channel.{Catalog}
+use Rattle.ghost_model.specs.core.Split.{Public, SpellsImage, cells, are_of_kinds, is_open, kind_of_column}
 use Rattle.host_exec.specs.RowBytes.{window, data_columns, row_width, table_start}
 
 -- a row of values whose cells are these bytes
@@ -14,7 +14,7 @@ pub record SpellsRow (kinds : List Kind) (bytes : List ℕ) : Type 0 where
   pub spelled : cells kinds row ≡ bytes
 
 abbrev pub shown_kinds : List Column → List Kind
-shown_kinds columns = map kind_of (filter is_open columns)
+shown_kinds columns = map kind_of_column (filter is_open columns)
 
 abbrev pub is_narrow : Kind → Bool
 is_narrow kind = nat_le (cell_width kind) 64

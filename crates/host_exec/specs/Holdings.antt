@@ -1,9 +1,9 @@
 -- What a host holds: its catalog, and for each ask the rows of its table in the file that meet it.
 use Rattle.std.specs.Prelude.{◌≡◌, ◌<◌, ℕ, true, List, length, slice_index}
-use Rattle.ghost_model.specs.Channel as channel
-use Rattle.ghost_model.specs.Asks.{is_proper_ask}
-use Rattle.ghost_model.specs.Host.{Holding, host_of}
-use Rattle.ghost_model.specs.Split.{Public, SpellsImage}
+use Rattle.ghost_model.specs.core.Channel as channel
+use Rattle.ghost_model.specs.core.Asks.{is_proper_ask}
+use Rattle.ghost_model.specs.core.Host.{Holding, host_of}
+use Rattle.ghost_model.specs.core.Split.{Public, SpellsImage}
 use Rattle.host_exec.specs.RowBytes.{form_of, replies_at, table_start}
 
 -- the rows of the tables begin at these bytes of the file, and the host replies with what they give

@@ -1,9 +1,9 @@
 -- A host of the code in the words of the definition.
 use Rattle.std.specs.Prelude.{◌≡◌, ℕ, List, length, Some}
 use Rattle.std.specs.String.{string_bytes}
-use Rattle.ghost_model.specs.Channel.{Frame}
-use Rattle.ghost_model.specs.Catalog.{catalog_bytes}
-use Rattle.ghost_model.specs.Host.{Holding, Stand, Response, answer_to}
+use Rattle.ghost_model.specs.core.Channel.{Frame}
+use Rattle.ghost_model.specs.forms.Catalog.{catalog_bytes}
+use Rattle.ghost_model.specs.core.Host.{Holding, Stand, Response, answer_to}
 use Rattle.host_exec.specs.Saying.{Stands, Says, Refuses}
 use Rattle.host_exec.specs.Replies.{source_of}
 use Rattle.host_exec.specs.Steps.{steps_left}

@@ -3,14 +3,14 @@
 -- literal's cell stand in an order that meets the operator, and the asked cells are cut out of the row.
 use Rattle.std.specs.Prelude.{ℕ, zero, suc, ◌+◌, ◌-◌, ◌*◌, Bool, List, [], ◌∷◌, length, take, drop, map, flat_map, sum, slice_index, Option, None, Some, if◌then◌else◌}
 use Rattle.std.specs.List.{list_all}
-use Rattle.ghost_model.specs.Schema.{Schema, Column, columns_of}
-use Rattle.ghost_model.specs.Query.{Operator}
-use Rattle.ghost_model.specs.Database.{meets}
-use Rattle.ghost_model.specs.Cells.{cell_width, encode_cell}
-use Rattle.ghost_model.specs.Channel.{Catalog, Ask, Test}
-use Rattle.ghost_model.specs.Catalog.{catalog_bytes}
-use Rattle.ghost_model.specs.Asks.{ReplyRow, kind_at}
-use Rattle.ghost_model.specs.Split.{is_open}
+use Rattle.ghost_model.specs.core.Schema.{Schema, Column, columns_of}
+use Rattle.ghost_model.specs.core.Query.{Operator}
+use Rattle.ghost_model.specs.core.Database.{meets}
+use Rattle.ghost_model.specs.forms.Cells.{cell_width, encode_cell}
+use Rattle.ghost_model.specs.core.Channel.{Catalog, Ask, Test}
+use Rattle.ghost_model.specs.forms.Catalog.{catalog_bytes}
+use Rattle.ghost_model.specs.core.Asks.{RowCells, kind_at}
+use Rattle.ghost_model.specs.core.Split.{is_open}
 use Rattle.ghost_base.specs.CellLaws.{byte_order}
 
 -- where a cell stands in a row
@@ -37,7 +37,7 @@ pub record Form : Type 0 where
   pub tests : List ByteTest
 
 -- the row of the reply that a row of the file gives
-abbrev pub replied : Form → (identifier : ℕ) → List ℕ → ReplyRow
+abbrev pub replied : Form → (identifier : ℕ) → List ℕ → RowCells
 replied form identifier row = record { identifier = identifier; cells = flat_map (cut row) form.columns }
 
 -- so many bytes of a file from a place on, where a byte that is not there counts as 0
@@ -50,7 +50,7 @@ abbrev pub row_at : Form → List ℕ → (start place : ℕ) → List ℕ
 row_at form file start place = window file (start + place * form.width) form.width
 
 -- the rows of the reply that so many rows of the file give, from the one at a place on
-unfoldable pub replies_at : Form → List ℕ → (start place count : ℕ) → List ReplyRow
+unfoldable pub replies_at : Form → List ℕ → (start place count : ℕ) → List RowCells
 replies_at form file start place zero = []
 replies_at form file start place (suc count) =
     if list_all (passes (row_at form file start place)) form.tests

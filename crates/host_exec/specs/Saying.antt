@@ -1,12 +1,12 @@
 -- Where a host stands: what of its frames is still to be said, and where it then stands in the words of the definition.
 -- What of a reply is still to come follows from the row of the table at which it goes on.
 use Rattle.std.specs.Prelude.{◌≡◌, ◌≤◌, ◌<◌, ◌+◌, ◌-◌, ◌/◌, ℕ, List, [], ◌∷◌, ◌++◌, length, take, drop, map, Option, Some, None, Bool, true, false, ◌==◌, if◌then◌else◌}
-use Rattle.ghost_model.specs.Channel.{Frame, Hello, Bye, More, Done, Sorry}
-use Rattle.ghost_model.specs.Causes.{Rose}
-use Rattle.ghost_model.specs.Frames.{frame_bytes}
-use Rattle.ghost_model.specs.Asks.{ReplyRow}
-use Rattle.ghost_model.specs.Host.{Stand, Response, rows_frame, grouped, most_part, welcomes_of, goes_on}
-use Rattle.ghost_model.specs.Host as host
+use Rattle.ghost_model.specs.core.Channel.{Frame, HelloFrame, ByeFrame, MoreFrame, DoneFrame, SorryFrame}
+use Rattle.ghost_model.specs.core.Causes.{Rose}
+use Rattle.ghost_model.specs.forms.Frames.{frame_bytes}
+use Rattle.ghost_model.specs.core.Asks.{RowCells}
+use Rattle.ghost_model.specs.core.Host.{Stand, Response, rows_frame, grouped, most_part, welcomes_of, goes_on}
+use Rattle.ghost_model.specs.core.Host as host
 use Rattle.host_exec.specs.RowBytes.{Form, replies_at, reply_width}
 use Rattle.host_exec.specs.declared.stage.Stage.{Stage}
 use Rattle.host_exec.specs.declared.stage.Stage.TheVariants.{Greeting, Welcoming, Listening, Answering, Replying, Over}
@@ -20,7 +20,7 @@ pub record Source : Type 0 where
   pub rows : ℕ
 
 -- the rows of the reply that the table gives from a place on
-abbrev pub left_from : Source → (place : ℕ) → List ReplyRow
+abbrev pub left_from : Source → (place : ℕ) → List RowCells
 left_from source place = replies_at source.form source.file source.start place (source.rows - place)
 
 -- the rows that one frame has at most
@@ -28,8 +28,8 @@ abbrev pub most_rows : Source → ℕ
 most_rows source = 2040 / reply_width source.form
 
 -- what is still to come of a reply, so many rows having been sent before
-abbrev pub reply_left : (most serial sent : ℕ) → List ReplyRow → List Frame
-reply_left most serial sent rows = map (rows_frame serial) (grouped most rows) ++ Done serial (sent + length rows) ∷ []
+abbrev pub reply_left : (most serial sent : ℕ) → List RowCells → List Frame
+reply_left most serial sent rows = map (rows_frame serial) (grouped most rows) ++ DoneFrame serial (sent + length rows) ∷ []
 
 abbrev pub response : List Frame → Stand → Response
 response owed stand = record { says = owed; stand = stand }
@@ -79,9 +79,9 @@ pub record IsWithin (catalog rows : ℕ) (stage : Stage) : Type 0 where
 
 -- a frame of the key that is no ask leads from one stage to another
 abbrev pub turned : Stage → Frame → Option Stage
-turned Greeting (Hello _) = Some (Welcoming 0)
-turned (Listening _) Bye = Some Over
-turned (Replying serial place sent) (More other) = if other == serial then Some (Answering serial place sent) else None
+turned Greeting (HelloFrame _) = Some (Welcoming 0)
+turned (Listening _) ByeFrame = Some Over
+turned (Replying serial place sent) (MoreFrame other) = if other == serial then Some (Answering serial place sent) else None
 turned _ _ = None
 
 -- whether a host has a frame to say
@@ -94,7 +94,7 @@ owes _ = false
 pub record Refuses (Sure : Type 0) (before after serial size : ℕ) (out : List ℕ) (stage : Stage) : Type 0 where
   pub rose : Rose before after
   pub unsure : Sure → ⊥
-  pub spelled : take size out ≡ frame_bytes (Sorry serial 1)
+  pub spelled : take size out ≡ frame_bytes (SorryFrame serial 1)
   pub ended : stage ≡ Listening (serial + 1)
 
 -- whether a host may stand here after a frame that it said: it says its catalog further, or awaits a frame of the key

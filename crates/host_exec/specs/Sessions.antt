@@ -1,17 +1,17 @@
 -- A whole session of a host over a link: what it took, what it sent, and how it ended.
 use Rattle.std.specs.Prelude.{◌≡◌, ◌≤◌, ◌⊎◌, ℕ, ◌+◌, min, All, MatchBool, Bool, true, false, not, List, [], ◌∷◌, ◌++◌, length, drop, flat_map, Option, Some, None}
 use Rattle.std.specs.List.{list_any, concat}
-use Rattle.ghost_model.specs.Causes.{Rose, last_count}
-use Rattle.ghost_model.specs.Channel as channel
-use Rattle.ghost_model.specs.Channel.{Frame, Close, Made, Journal}
+use Rattle.ghost_model.specs.core.Causes.{Rose, last_count}
+use Rattle.ghost_model.specs.core.Channel as channel
+use Rattle.ghost_model.specs.core.Channel.{Frame, Close, Made, Journal}
 use Rattle.edge_traits.specs.Links.{entry}
-use Rattle.ghost_model.specs.Frames.{IsFrame, Short, Found, got_of, frame_bytes}
-use Rattle.ghost_model.specs.Host.{Holding, Stand, Response, said_to, frames_of, bad_from, bad_request, host_sends, answer_to}
-use Rattle.ghost_model.specs.Host as host
-use Rattle.ghost_model.specs.Moves.{taken, sent, answers}
-use Rattle.ghost_model.specs.NextMove.{InvalidFrame, is_stop}
+use Rattle.ghost_model.specs.forms.Frames.{IsFrame, Short, Found, got_of, frame_bytes}
+use Rattle.ghost_model.specs.core.Host.{Holding, Stand, Response, said_to, frames_of, bad_from, bad_request, host_sends, answer_to, answer_as}
+use Rattle.ghost_model.specs.core.Host as host
+use Rattle.ghost_model.specs.core.Moves.{taken, sent, answers}
+use Rattle.ghost_model.specs.core.NextMove.{InvalidFrame, is_stop}
 use Rattle.host_exec.specs.Hosts.{Holds, StandsAs}
-use Rattle.host_exec.specs.Refusals.{AreGiven, answer_as, times, sends_refusing, host_sends_refusing, bad_request_refusing}
+use Rattle.host_exec.specs.Refusals.{AreGiven, times, sends_refusing, host_sends_refusing, bad_request_refusing}
 use Rattle.host_exec.specs.declared.host.Host.{Host}
 use Rattle.host_exec.specs.declared.session.Served.{Served}
 use Rattle.host_exec.specs.declared.session.Served.TheVariants.{Bye, Depot, Link, BadRequest}
@@ -57,7 +57,7 @@ pub record IsOneFrame (bytes : List ℕ) (after : Host) : Type 0 where
   pub frame : Frame
   pub fits : IsFrame frame
   pub spelled : bytes ≡ frame_bytes frame
-  pub last : after.stage ≡ stage.Over → frame ≡ channel.Bye
+  pub last : after.stage ≡ stage.Over → frame ≡ channel.ByeFrame
 
 -- a frame of a key was answered
 pub record HeardAs (held : Holding) (file : List ℕ) (stand : Stand) (bytes : List ℕ) (after : Host) : Type 0 where
@@ -95,7 +95,7 @@ pub record BreaksOff (before after : Host) (journal : Journal) : Type 0 where
   pub place : ℕ
   pub count : ℕ
   pub owed : before.stage ≡ stage.Answering serial place count
-  pub says : concat (sent journal) ≡ frame_bytes (channel.Sorry serial 1)
+  pub says : concat (sent journal) ≡ frame_bytes (channel.SorryFrame serial 1)
   pub ended : after.stage ≡ stage.Listening (serial + 1)
 
 -- the frames that a host owed were sent by these moves, or a refusal was, where the count of faults rose
@@ -188,7 +188,7 @@ bad_of (BadRequest kind at) = Some (invalid kind at)
 -- the last of what a key sent is its farewell
 pub record EndsInFarewell (bytes : List ℕ) : Type 0 where
   pub front : List ℕ
-  pub last : bytes ≡ front ++ frame_bytes channel.Bye
+  pub last : bytes ≡ front ++ frame_bytes channel.ByeFrame
 
 -- a host that holds this was heard: what was sent is what it sends for what was taken, or a front of that where a move
 -- failed; and a frame out of its place ended the session exactly where there is one
@@ -219,7 +219,7 @@ is_farewell (BadRequest _ _) = false
 pub record AreFramesToBye (bytes : List ℕ) : Type 0 where
   pub front : List Frame
   pub fits : All IsFrame front
-  pub last : bytes ≡ flat_map frame_bytes front ++ frame_bytes channel.Bye
+  pub last : bytes ≡ flat_map frame_bytes front ++ frame_bytes channel.ByeFrame
 
 -- what happened to a link's count of failed calls: it is as before, or the session was lost, since a call failed or
 -- since the stream ended

@@ -1,7 +1,8 @@
 -- What the reply to an ask is made of.
 use Rattle.std.specs.Prelude.{◌≡◌, ℕ, true, List, Some, slice_index}
-use Rattle.ghost_model.specs.Channel as channel
-use Rattle.ghost_model.specs.Asks.{ask_in, is_proper_ask}
+use Rattle.ghost_model.specs.core.Channel as channel
+use Rattle.ghost_model.specs.core.Asks.{is_proper_ask}
+use Rattle.ghost_model.specs.readings.AskReading.{ask_in}
 use Rattle.host_exec.specs.RowBytes.{form_of}
 use Rattle.host_exec.specs.FormViews.{form_view}
 use Rattle.host_exec.specs.declared.reply.Reply.{Reply}

@@ -1,8 +1,8 @@
 //! How a host begins: it reads the visible file through once.
 
 ghost use Rattle.std.specs.Prelude.{◌≡◌, ◌≤◌, ◌<◌, ◌^◌, ℕ, List, Some, Err, length, IfOk, IfSome, MatchBool, MatchOption, All, is_ok, true};
-ghost use Rattle.ghost_model.specs.Causes.{HasCause, Rose};
-ghost use Rattle.ghost_model.specs.Catalog.{BeginsWithCatalog};
+ghost use Rattle.ghost_model.specs.core.Causes.{HasCause, Rose};
+ghost use Rattle.ghost_model.specs.forms.Catalog.{BeginsWithCatalog};
 ghost use Rattle.edge_traits.specs.Files.{file_of};
 ghost use Rattle.host_exec.specs.RowBytes.{table_start};
 ghost use Rattle.host_exec.specs.Holdings.{AreStarts};

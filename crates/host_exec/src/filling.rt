@@ -1,7 +1,7 @@
 //! Bytes of a file from a place on.
 
 ghost use Rattle.std.specs.Prelude.{◌≡◌, ◌≤◌, ◌<◌, ◌+◌, ◌-◌, ◌++◌, ◌^◌, ℕ, List, Some, length, replicate, take, drop, OnOk, IfOk, is_ok, true};
-ghost use Rattle.ghost_model.specs.Causes.{HasCause};
+ghost use Rattle.ghost_model.specs.core.Causes.{HasCause};
 ghost use Rattle.edge_traits.specs.Files.{file_of, ReadsAt};
 ghost use Rattle.host_exec.specs.RowBytes.{window};
 

@@ -2,8 +2,8 @@
 
 ghost use Rattle.std.specs.Prelude.{◌≡◌, ◌≤◌, ◌<◌, ◌+◌, ◌-◌, ◌*◌, true, length, map, take, drop, IsTrue};
 ghost use Rattle.std.specs.List.{list_all};
-ghost use Rattle.ghost_model.specs.Asks as asks;
-ghost use Rattle.ghost_model.specs.Schema as schemas;
+ghost use Rattle.ghost_model.specs.core.Asks as asks;
+ghost use Rattle.ghost_model.specs.core.Schema as schemas;
 ghost use Rattle.ghost_base.specs.Views.{kind_of};
 ghost use Rattle.channel_codec.specs.AskViews.{test_view, ask_view, has_kind};
 ghost use Rattle.host_exec.specs.RowBytes as rows;

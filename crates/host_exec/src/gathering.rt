@@ -3,8 +3,8 @@
 ghost use Rattle.std.specs.Prelude.{◌≡◌, ◌≤◌, ◌<◌, ◌+◌, ◌-◌, ◌*◌, ◌++◌, ◌^◌, ℕ, true, false, List, [], Some, length, map, flat_map, sum, take, drop, OnOk, IfOk, is_ok};
 ghost use Rattle.std.specs.List.{list_all};
 ghost use Rattle.arrayvec.specs.ArrayVec.{array_vec_len};
-ghost use Rattle.ghost_model.specs.Asks.{ReplyRow, row_bytes};
-ghost use Rattle.ghost_model.specs.Causes.{HasCause};
+ghost use Rattle.ghost_model.specs.core.Asks.{RowCells, row_bytes};
+ghost use Rattle.ghost_model.specs.core.Causes.{HasCause};
 ghost use Rattle.edge_traits.specs.Files.{file_of};
 ghost use Rattle.host_exec.specs.RowBytes as rows;
 ghost use Rattle.host_exec.specs.RowBytes.{replies_at};
@@ -112,7 +112,7 @@ fn add_rows(form: &Form, place: u32, count: u32, piece: &[u8], most: u32, batch:
     ensures sparse { batch.new.rows ≤ batch.old.rows + result }
     ensures goes_on { 0 < count → batch.old.rows < most → 0 < result }
     ensures stops { result < count → batch.new.rows ≡ most }
-    ensures gathered { (file : List ℕ) (start later : ℕ) (all : List ReplyRow)
+    ensures gathered { (file : List ℕ) (start later : ℕ) (all : List RowCells)
         → piece.now ≡ rows.window file (start + place * form.now.width) (count * form.now.width)
         → Gathered all batch.old.rows batch.old.bytes.items (replies_at (form_view form.now) file start place (count + later))
         → Gathered all batch.new.rows batch.new.bytes.items (replies_at (form_view form.now) file start (place + result) (count - result + later)) }
@@ -170,7 +170,7 @@ fn gather_piece<D: Depot>(
     ensures goes_on { IfOk result (λ later. next < later) }
     ensures sparse { IfOk result (λ later. batch.new.rows + next ≤ batch.old.rows + later) }
     ensures within { IfOk result (λ later. later ≤ rows) }
-    ensures gathered { IfOk result (λ later. (file : List ℕ) (all : List ReplyRow) → file_of (D.contents depot.old) name.now ≡ Some file
+    ensures gathered { IfOk result (λ later. (file : List ℕ) (all : List RowCells) → file_of (D.contents depot.old) name.now ≡ Some file
         → Gathered all batch.old.rows batch.old.bytes.items (replies_at (form_view form.now) file start next (rows - next))
         → Gathered all batch.new.rows batch.new.bytes.items (replies_at (form_view form.now) file start later (rows - later))) }
 {
@@ -208,7 +208,7 @@ pub fn gather<D: Depot>(
     ensures sparse { IfOk result (λ next. batch.new.rows + place ≤ batch.old.rows + next) }
     ensures within { IfOk result (λ next. next ≤ rows) }
     ensures stops { IfOk result (λ next. next < rows → batch.new.rows ≡ most) }
-    ensures gathered { IfOk result (λ next. (file : List ℕ) (all : List ReplyRow) → file_of (D.contents depot.old) name.now ≡ Some file
+    ensures gathered { IfOk result (λ next. (file : List ℕ) (all : List RowCells) → file_of (D.contents depot.old) name.now ≡ Some file
         → Gathered all batch.old.rows batch.old.bytes.items (replies_at (form_view form.now) file start place (rows - place))
         → Gathered all batch.new.rows batch.new.bytes.items (replies_at (form_view form.now) file start next (rows - next))) }
 {

@@ -1,7 +1,7 @@
 //! A host.
 
 ghost use Rattle.std.specs.Prelude.{◌≡◌, ◌<◌, ◌^◌, length, All};
-ghost use Rattle.ghost_model.specs.Catalog.{catalog_bytes};
+ghost use Rattle.ghost_model.specs.forms.Catalog.{catalog_bytes};
 ghost use Rattle.host_exec.specs.Saying.{IsWithin};
 
 use crate::reply::Reply;

@@ -1,7 +1,7 @@
 //! What a reply is made of.
 
 ghost use Rattle.std.specs.Prelude.{◌≡◌, ◌≤◌, ◌<◌, ◌/◌, ◌^◌, true};
-ghost use Rattle.ghost_model.specs.Asks as asks;
+ghost use Rattle.ghost_model.specs.core.Asks as asks;
 ghost use Rattle.channel_codec.specs.AskViews.{ask_view};
 ghost use Rattle.host_exec.specs.RowBytes.{reply_width, form_of};
 ghost use Rattle.host_exec.specs.FormViews.{form_view};

@@ -1,11 +1,11 @@
 //! The frames that a host says.
 
 ghost use Rattle.std.specs.Prelude.{◌≡◌, ◌≤◌, ◌<◌, ◌+◌, ◌*◌, ◌/◌, ◌^◌, ℕ, List, Some, length, take, drop, IfOk, ◌⊎◌, MatchBool, true, false, is_ok};
-ghost use Rattle.ghost_model.specs.Catalog.{catalog_bytes};
-ghost use Rattle.ghost_model.specs.Causes.{HasCause, Rose};
-ghost use Rattle.ghost_model.specs.Channel as channel;
-ghost use Rattle.ghost_model.specs.Frames.{frame_bytes};
-ghost use Rattle.ghost_model.specs.Host as host;
+ghost use Rattle.ghost_model.specs.forms.Catalog.{catalog_bytes};
+ghost use Rattle.ghost_model.specs.core.Causes.{HasCause, Rose};
+ghost use Rattle.ghost_model.specs.core.Channel as channel;
+ghost use Rattle.ghost_model.specs.forms.Frames.{frame_bytes};
+ghost use Rattle.ghost_model.specs.core.Host as host;
 ghost use Rattle.edge_traits.specs.Files.{file_of};
 ghost use Rattle.host_exec.specs.Saying as saying;
 ghost use Rattle.host_exec.specs.Replies.{source_of};
@@ -132,7 +132,7 @@ fn say_rows<D: Depot>(
 /// Refuses to go on with a reply.
 fn say_sorry(serial: u32, out: &mut [u8]) -> Said
     requires room { 2048 ≤ length out.old }
-    ensures spelled { take result.size out.new ≡ frame_bytes (channel.Sorry serial 1) }
+    ensures spelled { take result.size out.new ≡ frame_bytes (channel.SorryFrame serial 1) }
     ensures ended { result.stage ≡ Stage.Listening (serial + 1) }
     ensures short { result.size ≤ 2048 }
     ensures refused { result.refused ≡ true }

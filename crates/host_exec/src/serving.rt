@@ -1,18 +1,18 @@
 //! How a host takes the frames of a key and answers them.
 
 ghost use Rattle.std.specs.Prelude.{◌≡◌, ◌≤◌, ◌<◌, ◌⊎◌, ℕ, List, [], ◌∷◌, Some, None, true, false, length, take, is_some, MatchBool, IfSome, IfNone, IfOk, Err};
-ghost use Rattle.ghost_model.specs.Channel as channel;
-ghost use Rattle.ghost_model.specs.Host.{Holding, Stand, answer_to};
+ghost use Rattle.ghost_model.specs.core.Channel as channel;
+ghost use Rattle.ghost_model.specs.core.Host.{Holding, Stand, answer_to};
 ghost use Rattle.channel_codec.specs.Views.{frame_view};
 ghost use Rattle.edge_traits.specs.Files.{file_of};
-ghost use Rattle.ghost_model.specs.Causes.{Rose};
+ghost use Rattle.ghost_model.specs.core.Causes.{Rose};
 ghost use Rattle.host_exec.specs.Holdings.{AreStarts};
 ghost use Rattle.host_exec.specs.Checked.{IsImage, IsNoImage};
 ghost use Rattle.host_exec.specs.Saying as saying;
 ghost use Rattle.host_exec.specs.Steps.{steps_left};
 ghost use Rattle.host_exec.specs.Hosts.{Holds, StandsAs, IsSameHost, IsAnswered, Refused, RefusedAs, SaysAs, name_of, steps_of};
 ghost use Rattle.host_exec.specs.Replies.{source_of};
-ghost use Rattle.ghost_model.specs.Catalog.{catalog_bytes};
+ghost use Rattle.ghost_model.specs.forms.Catalog.{catalog_bytes};
 
 use crate::begin::open;
 use crate::host::Host;
@@ -54,6 +54,7 @@ impl Host {
         ensures starts { IfOk result (λ host. AreStarts host.catalog host.starts.items) }
         ensures image { IfOk result (λ host. (file : List ℕ) → file_of (D.contents depot.old) name.now ≡ Some file → IsImage host.catalog file) }
         ensures bad { result ≡ Err BeginFault.BadVisibleFile → (file : List ℕ) → file_of (D.contents depot.old) name.now ≡ Some file → IsNoImage file }
+        ensures memory { result ≡ Err BeginFault.NoMemory → (file : List ℕ) → file_of (D.contents depot.old) name.now ≡ Some file → IsNoImage file → ⊥ }
         ensures never_falls { D.faults depot.old ≤ D.faults depot.new }
         ensures failed { result ≡ Err BeginFault.Depot → Rose (D.faults depot.old) (D.faults depot.new) }
         ensures other { (result ≡ Err BeginFault.Depot → ⊥) → D.faults depot.new ≡ D.faults depot.old }
@@ -115,7 +116,7 @@ impl Host {
     pub fn feed(&mut self, frame: &Frame) -> bool
         ensures same { IsSameHost self.old self.new }
         ensures kept { result ≡ false → self.new ≡ self.old }
-        ensures farewell { result ≡ true → self.new.stage ≡ Stage.Over → frame_view frame.now ≡ channel.Bye }
+        ensures farewell { result ≡ true → self.new.stage ≡ Stage.Over → frame_view frame.now ≡ channel.ByeFrame }
         ensures busy { saying.owes self.old.stage ≡ true → result ≡ false }
         ensures fewer { result ≡ true → steps_of self.new < steps_of self.old }
         ensures silent { (file : List ℕ) (stand : Stand) → StandsAs self.old file [] stand → saying.owes self.old.stage ≡ false }

@@ -1,10 +1,10 @@
 //! A whole session of a host over a link.
 
 ghost use Rattle.std.specs.Prelude.{◌≡◌, ◌≤◌, ◌<◌, ◌+◌, ◌*◌, ◌^◌, ◌⊎◌, ◌||◌, ℕ, List, [], Some, true, false, not, is_ok, is_some, is_none, length, take, IfSome, IfNone, IfOk, MatchBool, MatchOption};
-ghost use Rattle.ghost_model.specs.Causes.{Rose};
-ghost use Rattle.ghost_model.specs.Channel as channel;
-ghost use Rattle.ghost_model.specs.Frames.{AreBytes};
-ghost use Rattle.ghost_model.specs.Host.{Holding, Stand};
+ghost use Rattle.ghost_model.specs.core.Causes.{Rose};
+ghost use Rattle.ghost_model.specs.core.Channel as channel;
+ghost use Rattle.ghost_model.specs.forms.Frames.{AreBytes};
+ghost use Rattle.ghost_model.specs.core.Host.{Holding, Stand};
 ghost use Rattle.edge_traits.specs.Files.{file_of};
 ghost use Rattle.host_exec.specs.Saying.{owes, rests};
 ghost use Rattle.host_exec.specs.Hosts.{Holds, StandsAs, IsSameHost, RefusedAs, SaysAs, name_of, steps_of};

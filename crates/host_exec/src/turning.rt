@@ -1,8 +1,8 @@
 //! How a frame of the key is answered.
 
 ghost use Rattle.std.specs.Prelude.{◌≡◌, ◌≤◌, ◌<◌, ◌^◌, ℕ, List, Some, None, length, slice_index, IfSome, IfNone, All, true};
-ghost use Rattle.ghost_model.specs.Channel as channel;
-ghost use Rattle.ghost_model.specs.Asks as asks;
+ghost use Rattle.ghost_model.specs.core.Channel as channel;
+ghost use Rattle.ghost_model.specs.readings.AskReading as reading;
 ghost use Rattle.channel_codec.specs.Views.{frame_view};
 ghost use Rattle.host_exec.specs.Saying as saying;
 ghost use Rattle.host_exec.specs.RowBytes.{form_of};
@@ -67,7 +67,7 @@ pub(crate) fn start_of(starts: &[u64], table: usize) -> u64
 pub fn take_ask(catalog: &Catalog, starts: &[u64], payload: &[u8]) -> Option<Reply>
     requires { All (λ start. start < 2 ^ 63) starts.now }
     ensures taken { IfSome result (λ reply. TakesAsk catalog.now starts.now payload.now reply) }
-    ensures none { IfNone result (asks.ask_in catalog.now.schema payload.now ≡ None) }
+    ensures none { IfNone result (reading.ask_in catalog.now.schema payload.now ≡ None) }
 {
     let schema = catalog.schema();
     let ask = ask_of(schema, payload)?;

@@ -1,7 +1,7 @@
 -- What each command did, by its words and its outcome: all that it answers for, from what it found to what it left.
 use Rattle.std.specs.Prelude.{◌≡◌, ◌≤◌, ◌⊎◌, ℕ, Bool, true, false, min, List, [], Option, Some, Result, Ok, Err, IfOk, IfErr, OnErr}
-use Rattle.ghost_model.specs.Causes.{Rose, last_count}
-use Rattle.ghost_model.specs.Channel.{Catalog, Journal}
+use Rattle.ghost_model.specs.core.Causes.{Rose, last_count}
+use Rattle.ghost_model.specs.core.Channel.{Catalog, Journal}
 use Rattle.edge_traits.specs.Devices.{Device}
 use Rattle.edge_traits.specs.Files.{Files, SameBut}
 use Rattle.key_words.specs.Words.{Plain, Load, Local, Query}
@@ -17,7 +17,7 @@ use Rattle.key_plain.specs.Views as plains
 use Rattle.key_plain.specs.declared.faults.PlainFault.{PlainFault}
 use Rattle.key_plain.specs.declared.faults.PlainFault.TheVariants as plain_fault
 use Rattle.key_load.specs.Results as loads
-use Rattle.key_load.specs.Results.{world}
+use Rattle.key_load.specs.Results.{load_side}
 use Rattle.key_load.specs.declared.failures.LoadFailure.{LoadFailure}
 use Rattle.key_load.specs.declared.failures.LoadFailure.TheVariants as load_failure
 use Rattle.key_local.specs.Openings.{local_opening}
@@ -31,7 +31,8 @@ use Rattle.key_query.specs.Results as queries
 use Rattle.key_query.specs.declared.failures.QueryFailure.{QueryFailure}
 use Rattle.key_query.specs.declared.failures.QueryFailure.TheVariants as query_failure
 
--- the files as far as they are told, the flash, what a sink that tells it was written, and the counts of faults
+-- what lies outside a call of the program, its link aside: the files as far as they are told, the flash, what a sink that
+-- tells it was written, and the counts of faults
 pub record Outside : Type 0 where
   pub files : Option Files
   pub depot_faults : ℕ
@@ -61,11 +62,11 @@ pub record IsUntouched (before after : Outside) : Type 0 where
 
 pub record PlainDid (outcome : Result (Unit {0}) PlainFault) (before after : Outside) (words : Plain) : Type 0 where
   pub ends : (files : Files) → before.files ≡ Some files
-      → plains.Ends (plain_opening files words) outcome before.written after.written
+      → plains.EndsPlainCall (plain_opening files words) outcome before.written after.written
   pub complete : (files : Files) → (input : PlainInput) → before.files ≡ Some files
       → (Rose before.depot_faults after.depot_faults → ⊥) → (Rose before.sink_faults after.sink_faults → ⊥)
       → plain_opening files words ≡ Spelled input → (outcome ≡ Ok tt) ⊎ (outcome ≡ Err plain_fault.NoMemory)
-  pub prints : plains.PrintsSome outcome before.written after.written
+  pub prints : plains.PrintsSomeRead outcome before.written after.written
   pub nothing_written : plains.writes_nothing outcome ≡ true → after.written ≡ before.written
   pub sink : outcome ≡ Err plain_fault.Sink → Rose before.sink_faults after.sink_faults
   pub no_sink : (outcome ≡ Err plain_fault.Sink → ⊥) → after.sink_faults ≡ before.sink_faults
@@ -75,13 +76,13 @@ pub record PlainDid (outcome : Result (Unit {0}) PlainFault) (before after : Out
   pub files : after.files ≡ before.files
   pub flash : after.device ≡ before.device
 
-abbrev pub world_in : Outside → loads.World
-world_in one = world one.device one.files one.written
+abbrev pub load_side_of : Outside → loads.LoadSide
+load_side_of one = load_side one.device one.files one.written
 
 pub record LoadDid (told : Bool) (outcome : Result (Unit {0}) LoadFailure) (before after : Outside) (words : Load) : Type 0 where
   pub ends : (files : Files) → before.files ≡ Some files
-      → loads.Ends told (tables_opening files words.schema words.tables) words outcome (world_in before) (world_in after)
-  pub loads_some : loads.EndsSome told words outcome (world_in before) (world_in after)
+      → loads.EndsLoadCall told (tables_opening files words.schema words.tables) words outcome (load_side_of before) (load_side_of after)
+  pub loads_some : loads.EndsSomeLoad told words outcome (load_side_of before) (load_side_of after)
   pub complete : (files : Files) → (input : TablesInput) → before.files ≡ Some files
       → (Rose before.depot_faults after.depot_faults → ⊥) → (Rose before.device.faults after.device.faults → ⊥)
       → (Rose before.sink_faults after.sink_faults → ⊥)
@@ -103,14 +104,14 @@ pub record LoadDid (told : Bool) (outcome : Result (Unit {0}) LoadFailure) (befo
   pub no_depot : (outcome ≡ Err load_failure.Depot → ⊥) → after.depot_faults ≡ before.depot_faults
   pub appends : after.append_faults ≡ before.append_faults
 
-abbrev pub local_world_in : Outside → locals.World
-local_world_in one = locals.world one.device one.files one.append_faults one.sink_faults one.written
+abbrev pub local_side_of : Outside → locals.LocalSide
+local_side_of one = locals.local_side one.device one.files one.append_faults one.sink_faults one.written
 
 -- the headline of `local` stands in `ends` and `ran`
 pub record LocalDid (told : Bool) (outcome : Result LocalEnd LocalFailure) (before after : Outside) (words : Local) : Type 0 where
   pub ends : (files : Files) → before.files ≡ Some files
-      → locally.Ends told (local_opening files words) words outcome (local_world_in before) (local_world_in after)
-  pub ran : locally.EndsSome told words outcome (local_world_in before) (local_world_in after)
+      → locally.EndsLocalCall told (local_opening files words) words outcome (local_side_of before) (local_side_of after)
+  pub ran : locally.EndsSomeLocal told words outcome (local_side_of before) (local_side_of after)
   pub complete : (files : Files) → (input : PlainInput) → before.files ≡ Some files
       → (Rose before.depot_faults after.depot_faults → ⊥) → (Rose before.device.faults after.device.faults → ⊥)
       → (Rose before.sink_faults after.sink_faults → ⊥)
@@ -129,13 +130,13 @@ pub record LocalDid (told : Bool) (outcome : Result LocalEnd LocalFailure) (befo
   pub flash : locally.blames_flash outcome ≡ true → Rose before.device.faults after.device.faults
   pub no_flash : locally.clears_flash outcome ≡ true → after.device.faults ≡ before.device.faults
 
-abbrev pub session_side : (failed : Bool) → Outside → telling.Outside
-session_side failed one = telling.outside failed one.sink_faults one.written one.device
+abbrev pub session_side_of : (failed : Bool) → Outside → telling.SessionSide
+session_side_of failed one = telling.session_side failed one.sink_faults one.written one.device
 
 -- the headline of `query` stands in `ran`; `goes` tells by which moves the link went
 pub record QueryDid (goes : Journal → Type 0) (link_before link_after : ℕ) (told : Bool) (outcome : Result Tally QueryFailure) (before after : Outside) (words : Query) : Type 0 where
   pub ran : IfOk outcome (λ tally. queries.Runs goes link_before link_after told words before.files
-      (session_side false before) (session_side (is_sink tally.status) after) tally)
+      (session_side_of false before) (session_side_of (is_sink tally.status) after) tally)
   pub prints : IfOk outcome (λ tally. PrintsSome (handed false before.sink_faults before.written)
       (handed (is_sink tally.status) after.sink_faults after.written))
   pub sink_rose : IfOk outcome (λ tally. is_sink tally.status ≡ true → Rose before.sink_faults after.sink_faults)

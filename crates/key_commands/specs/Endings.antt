@@ -75,72 +75,41 @@ exit_code (ended.Query outcome) = query_code outcome
 abbrev pub is_unbegun : Ended → Bool
 is_unbegun (ended.Usage fault) = true
 is_unbegun ended.NoMemory = true
-is_unbegun (ended.Plain outcome) = false
-is_unbegun (ended.Load outcome) = false
-is_unbegun (ended.Local outcome) = false
-is_unbegun (ended.Query outcome) = false
+is_unbegun _ = false
 
 abbrev pub is_usage : Ended → Bool
 is_usage (ended.Usage fault) = true
-is_usage ended.NoMemory = false
-is_usage (ended.Plain outcome) = false
-is_usage (ended.Load outcome) = false
-is_usage (ended.Local outcome) = false
-is_usage (ended.Query outcome) = false
+is_usage _ = false
 
 -- whether the command is the one that calls on the link
 abbrev pub is_query : Ended → Bool
-is_query (ended.Usage fault) = false
-is_query ended.NoMemory = false
-is_query (ended.Plain outcome) = false
-is_query (ended.Load outcome) = false
-is_query (ended.Local outcome) = false
 is_query (ended.Query outcome) = true
+is_query _ = false
 
 -- what is said of refused words
 abbrev pub OfUsage : Ended → (UsageFault → Type 0) → Type 0
 OfUsage (ended.Usage fault) says = says fault
-OfUsage ended.NoMemory says = ⊤
-OfUsage (ended.Plain outcome) says = ⊤
-OfUsage (ended.Load outcome) says = ⊤
-OfUsage (ended.Local outcome) says = ⊤
-OfUsage (ended.Query outcome) says = ⊤
+OfUsage _ says = ⊤
 
 -- what is said of `plain`
 abbrev pub OfPlain : Ended → (Result (Unit {0}) PlainFault → Type 0) → Type 0
-OfPlain (ended.Usage fault) says = ⊤
-OfPlain ended.NoMemory says = ⊤
 OfPlain (ended.Plain outcome) says = says outcome
-OfPlain (ended.Load outcome) says = ⊤
-OfPlain (ended.Local outcome) says = ⊤
-OfPlain (ended.Query outcome) says = ⊤
+OfPlain _ says = ⊤
 
 -- what is said of `load`
 abbrev pub OfLoad : Ended → (Result (Unit {0}) LoadFailure → Type 0) → Type 0
-OfLoad (ended.Usage fault) says = ⊤
-OfLoad ended.NoMemory says = ⊤
-OfLoad (ended.Plain outcome) says = ⊤
 OfLoad (ended.Load outcome) says = says outcome
-OfLoad (ended.Local outcome) says = ⊤
-OfLoad (ended.Query outcome) says = ⊤
+OfLoad _ says = ⊤
 
 -- what is said of `local`
 abbrev pub OfLocal : Ended → (Result LocalEnd LocalFailure → Type 0) → Type 0
-OfLocal (ended.Usage fault) says = ⊤
-OfLocal ended.NoMemory says = ⊤
-OfLocal (ended.Plain outcome) says = ⊤
-OfLocal (ended.Load outcome) says = ⊤
 OfLocal (ended.Local outcome) says = says outcome
-OfLocal (ended.Query outcome) says = ⊤
+OfLocal _ says = ⊤
 
 -- what is said of `query`
 abbrev pub OfQuery : Ended → (Result Tally QueryFailure → Type 0) → Type 0
-OfQuery (ended.Usage fault) says = ⊤
-OfQuery ended.NoMemory says = ⊤
-OfQuery (ended.Plain outcome) says = ⊤
-OfQuery (ended.Load outcome) says = ⊤
-OfQuery (ended.Local outcome) says = ⊤
 OfQuery (ended.Query outcome) says = says outcome
+OfQuery _ says = ⊤
 
 -- the words say this command, and this was done
 pub record DoesAs {W : Type 0} (command : W → Command) (read : Option Command) (Did : W → Type 0) : Type 0 where

@@ -1,3 +1,4 @@
 pub mod Doing
 pub mod Endings
 pub mod Judging
+pub mod Renaming

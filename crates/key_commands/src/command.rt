@@ -9,7 +9,7 @@ ghost use Rattle.key_commands.specs.Doing.{IsUntouched, PlainDid, LoadDid, Local
 ghost use Rattle.key_commands.specs.Endings.{DoesAs, OfUsage, OfPlain, OfLoad, OfLocal, OfQuery, is_unbegun, is_usage, is_query};
 ghost use Rattle.key_commands.specs.Judging.{Judges, JudgesPlain, JudgesLoad, JudgesLocal, JudgesQuery};
 
-use crate::ending::Ended;
+use crate::ending::{Ended, not_read};
 use edge_traits::depot::Depot;
 use edge_traits::flash::Flash;
 use edge_traits::link::Link;
@@ -19,7 +19,7 @@ use key_local::{LocalEnd, LocalFailure, local};
 use key_plain::{PlainFault, plain};
 use key_query::{QueryFailure, query};
 use key_session::Tally;
-use key_words::{KeyWords, LoadWords, LocalWords, PlainWords, QueryWords, WordsFault, read_words};
+use key_words::{KeyWords, LoadWords, LocalWords, PlainWords, QueryWords, read_words};
 use std::alloc::Global;
 
 /// Does the command that the words say, of which the first is the program's name. The link is called by `query` alone.
@@ -59,8 +59,7 @@ pub fn key_main<D: Depot, F: Flash, L: Link, O: Sink>(
         Ok(KeyWords::Query(words)) => {
             Ended::Query(do_query(alloc, &words, depot, flash, link, out))
         }
-        Err(WordsFault::NoMemory) => Ended::NoMemory,
-        Err(WordsFault::Usage(fault)) => Ended::Usage(fault),
+        Err(fault) => not_read(fault),
     }
 }
 

@@ -2,13 +2,14 @@
 
 ghost use Rattle.std.specs.Prelude.{◌≡◌};
 ghost use Rattle.key_commands.specs.Endings as endings;
+ghost use Rattle.key_commands.specs.Renaming.{ended_by};
 
 use key_load::LoadFailure;
 use key_local::{LocalEnd, LocalFailure};
 use key_plain::PlainFault;
 use key_query::QueryFailure;
 use key_session::{SessionStatus, Tally};
-use key_words::UsageFault;
+use key_words::{UsageFault, WordsFault};
 
 /// How a command ended, or why none was begun.
 #[derive(Clone, Copy, Drop)]
@@ -30,6 +31,16 @@ pub enum Ended {
 
     /// `query` ended so.
     Query(Result<Tally, QueryFailure>),
+}
+
+/// How a call ended whose words were not read: for want of memory where that is what was wanted alone.
+pub(crate) fn not_read(fault: WordsFault) -> Ended
+    ensures { result ≡ ended_by fault }
+{
+    match fault {
+        WordsFault::NoMemory => Ended::NoMemory,
+        WordsFault::Usage(fault) => Ended::Usage(fault),
+    }
 }
 
 impl Ended {

@@ -1,7 +1,7 @@
 -- The field of a file at a place, found record by record.
 use Rattle.std.proofs.Common.{arith, ◌≡◌, ℕ, zero, suc, ◌+◌, ◌-◌, Bool, true, false, List, [], ◌∷◌, drop, slice_get, Option, Some, option_map, option_and_then, sym, ap, ◌∙◌}
 use Rattle.csv.specs.Records as csv
-use Rattle.ghost_model.specs.Database.{records_of}
+use Rattle.ghost_model.specs.core.Database.{records_of}
 use Rattle.csv_split.specs.Records.{Reads}
 use Rattle.csv_split.specs.declared.faults.Place.{Place}
 use Rattle.key_inputs.specs.Naming.{shown, field_at}

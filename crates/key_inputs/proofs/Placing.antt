@@ -1,10 +1,10 @@
 -- Where the faults of files and of foreign keys stand: those of a file in its table, and at no key; the others at keys.
 use Rattle.std.proofs.Common.{◌≡◌, ℕ, ◌+◌, Bool, true, false, List, [], ◌∷◌, ◌++◌, length, ◌==◌, nat_le, is_some, Option, Some, None, refl, subst}
 use Rattle.std.specs.Prelude.{⊤}
-use Rattle.ghost_model.specs.Schema.{Schema, Column, Kind, Integer, Chars}
-use Rattle.ghost_model.specs.Values.{Value, Row, Rows, Database}
-use Rattle.ghost_model.specs.Database.{integer_of, is_text, is_row_among, row_count, records_of}
-use Rattle.ghost_model.specs.LoadFaults.{LoadFault, FileLimit, Header, RowLimit, FieldCount, BadId, BadInt, BadChars, BadReference, Place, place, unless, value_faults, field_faults, is_number, fields_faults, row_faults, rows_faults, is_header, record_faults, file_faults, key_faults, keys_faults, table_references, references_from, reference_faults, most_rows, most_bytes, IsFirst}
+use Rattle.ghost_model.specs.core.Schema.{Schema, Column, Kind, Integer, Chars}
+use Rattle.ghost_model.specs.core.Values.{Value, Row, Rows, Database}
+use Rattle.ghost_model.specs.core.Database.{integer_of, is_text, is_row_among, row_count, records_of}
+use Rattle.ghost_model.specs.refusals.LoadFaults.{LoadFault, FileLimit, Header, RowLimit, FieldCount, BadId, BadInt, BadChars, BadReference, Place, place, unless, value_faults, field_faults, is_number, fields_faults, row_faults, rows_faults, is_header, record_faults, file_faults, reference_fault_in, row_reference_faults, table_references, references_from, reference_faults, most_rows, most_bytes, IsFirst}
 
 -- a fault of the file of a table
 abbrev pub IsOfFile : ℕ → LoadFault → Type 0
@@ -93,24 +93,24 @@ of_file table columns file fault first =
     (of_records table columns (records_of file)))
     first
 
-of_key : (database : Database) (at : Place) (child : Option ℕ) (value : Value) → Each IsOfKey (key_faults database at child value)
+of_key : (database : Database) (at : Place) (child : Option ℕ) (value : Value) → Each IsOfKey (reference_fault_in database at child value)
 unfolding Each
 of_key database at None value = tt
 of_key database at (Some child) value = each_unless IsOfKey (is_row_among (row_count database child) value) (BadReference at) tt
 
-of_row_keys : (database : Database) (table rec column : ℕ) (columns : List Column) (values : Row) → Each IsOfKey (keys_faults database table rec column columns values)
-unfolding keys_faults Each
+of_row_keys : (database : Database) (table rec column : ℕ) (columns : List Column) (values : Row) → Each IsOfKey (row_reference_faults database table rec column columns values)
+unfolding row_reference_faults Each
 of_row_keys database table rec column [] values = tt
 of_row_keys database table rec column (_ ∷ _) [] = tt
 of_row_keys database table rec column (declared ∷ columns) (value ∷ values) =
-    each_of_both IsOfKey (key_faults database (place table rec column) declared.child value) (keys_faults database table rec (column + 1) columns values)
+    each_of_both IsOfKey (reference_fault_in database (place table rec column) declared.child value) (row_reference_faults database table rec (column + 1) columns values)
     (of_key database (place table rec column) declared.child value) (of_row_keys database table rec (column + 1) columns values)
 
 of_table_keys : (database : Database) (table rec : ℕ) (columns : List Column) (rows : Rows) → Each IsOfKey (table_references database table rec columns rows)
 unfolding table_references Each
 of_table_keys database table rec columns [] = tt
 of_table_keys database table rec columns (row ∷ rows) =
-    each_of_both IsOfKey (keys_faults database table rec 0 columns row) (table_references database table (rec + 1) columns rows)
+    each_of_both IsOfKey (row_reference_faults database table rec 0 columns row) (table_references database table (rec + 1) columns rows)
     (of_row_keys database table rec 0 columns row) (of_table_keys database table (rec + 1) columns rows)
 
 of_all_keys : (database : Database) (table : ℕ) (schema : Schema) (later : List Rows) → Each IsOfKey (references_from database table schema later)

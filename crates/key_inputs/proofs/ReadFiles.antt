@@ -2,10 +2,10 @@
 use Rattle.std.proofs.Common.{◌≡◌, ℕ, zero, suc, ◌+◌, ◌<◌, ◌≤◌, List, [], ◌∷◌, ◌++◌, length, map as each, drop, slice_get, Option, Some, refl, sym, ap, ◌∙◌, subst, append_assoc, append-nil, arith}
 use Rattle.std.proofs.lemmas.List.{map-append}
 use Rattle.std.specs.FinMap as map
-use Rattle.ghost_model.specs.Schema.{Schema, Table, columns_or_none, columns_of}
-use Rattle.ghost_model.specs.Values.{Rows, Database}
-use Rattle.ghost_model.specs.LoadFaults.{file_faults, files_faults}
-use Rattle.ghost_model.specs.Database.{database_of, rows_spelled}
+use Rattle.ghost_model.specs.core.Schema.{Schema, Table, columns_or_none, columns_of}
+use Rattle.ghost_model.specs.core.Values.{Rows, Database}
+use Rattle.ghost_model.specs.refusals.LoadFaults.{file_faults, files_faults}
+use Rattle.ghost_model.specs.core.Database.{database_of, rows_spelled}
 use Rattle.edge_traits.specs.Files.{Files, HasFile}
 use Rattle.key_inputs.specs.Openings.{on_table, unless_broken, table_file, tables_from}
 use Rattle.key_inputs.specs.Views.{ReadsTable, ReadsFiles, file_for, name_or_none, name_at, opening_at}

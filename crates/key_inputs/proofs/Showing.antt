@@ -1,11 +1,11 @@
 -- What an error shows of a table's file, by where its fault stands.
 use Rattle.std.proofs.Common.{◌≡◌, ℕ, List, [], ◌∷◌, Option, Some, None, refl, sym, ap, ◌∙◌, subst, map as each}
 use Rattle.std.specs.FinMap as map
-use Rattle.ghost_model.specs.Schema.{Schema, columns_of}
-use Rattle.ghost_model.specs.SchemaFaults.{schema_reading}
-use Rattle.ghost_model.specs.LoadFaults as load
-use Rattle.ghost_model.specs.Values.{Database}
-use Rattle.ghost_model.specs.Database.{database_of}
+use Rattle.ghost_model.specs.core.Schema.{Schema, columns_of}
+use Rattle.ghost_model.specs.readings.SchemaReading.{schema_reading}
+use Rattle.ghost_model.specs.refusals.LoadFaults as load
+use Rattle.ghost_model.specs.core.Values.{Database}
+use Rattle.ghost_model.specs.core.Database.{database_of}
 use Rattle.edge_traits.specs.Files.{Files}
 use Rattle.key_inputs.specs.Openings.{TableRule, table_file}
 use Rattle.key_inputs.specs.Rules.{table_rule}

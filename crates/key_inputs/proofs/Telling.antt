@@ -1,13 +1,13 @@
 -- What faults tell of an opening.
 use Rattle.std.proofs.Common.{◌≡◌, ℕ, true, List, [], Option, Some, None, Result, Ok, Err, ◌&&◌, not, refl, sym, ap, ◌∙◌, subst, bytes_eq}
 use Rattle.std.specs.List.{list_all}
-use Rattle.ghost_model.specs.Schema.{Schema}
-use Rattle.ghost_model.specs.Spelled.{is_name, begins_as_name, is_reserved}
-use Rattle.ghost_model.specs.Tokens.{is_name_byte, in_lower_case}
-use Rattle.ghost_model.specs.LoadFaults as load
+use Rattle.ghost_model.specs.core.Schema.{Schema}
+use Rattle.ghost_model.specs.laws.Spelled.{is_name, begins_as_name, is_reserved}
+use Rattle.ghost_model.specs.refusals.Tokens.{is_name_byte, in_lower_case}
+use Rattle.ghost_model.specs.refusals.LoadFaults as load
 use Rattle.ghost_model.proofs.MeaningLemmas.OneRow.{both_true}
-use Rattle.ghost_model.specs.Values.{Database}
-use Rattle.ghost_model.specs.Database.{database_of}
+use Rattle.ghost_model.specs.core.Values.{Database}
+use Rattle.ghost_model.specs.core.Database.{database_of}
 use Rattle.key_inputs.specs.Openings.{InputFault, Opening, Spelled, Broken, TablesInput, unless_broken, after_tables}
 use Rattle.key_inputs.specs.declared.faults.OpenFault.{OpenFault}
 use Rattle.key_inputs.specs.Views.{TellsRule, IsBroken, rule_or}

@@ -1,5 +1,6 @@
 pub mod Naming
 pub mod Openings
+pub mod OpeningLaws
 pub mod Rules
 pub mod Scripts
 pub mod Views

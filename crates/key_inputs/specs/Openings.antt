@@ -3,10 +3,11 @@
 -- the next one is read, then the foreign keys. Reading stops at the first file that is not there.
 use Rattle.std.specs.Prelude.{ℕ, ◌+◌, nat_le, List, [], ◌∷◌, ◌++◌, length, codes, Option, Some, None, Result, Ok, Err, if◌then◌else◌}
 use Rattle.std.specs.FinMap as map
-use Rattle.ghost_model.specs.Schema.{Schema, Table}
-use Rattle.ghost_model.specs.SchemaFaults.{SchemaFault, schema_reading}
-use Rattle.ghost_model.specs.LoadFaults.{LoadFault, file_faults, reference_faults}
-use Rattle.ghost_model.specs.Database.{database_of}
+use Rattle.ghost_model.specs.core.Schema.{Schema, Table}
+use Rattle.ghost_model.specs.refusals.SchemaFaults.{SchemaFault}
+use Rattle.ghost_model.specs.readings.SchemaReading.{schema_reading}
+use Rattle.ghost_model.specs.refusals.LoadFaults.{LoadFault, file_faults, reference_faults}
+use Rattle.ghost_model.specs.core.Database.{database_of}
 use Rattle.edge_traits.specs.Files.{Files}
 
 -- a broken rule of an input

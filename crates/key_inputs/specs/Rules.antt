@@ -1,6 +1,6 @@
 -- The rule that a fault tells is broken, and where: its numbers alone, whatever names it shows.
-use Rattle.ghost_model.specs.LoadFaults as load
-use Rattle.ghost_model.specs.SchemaFaults as schemas
+use Rattle.ghost_model.specs.refusals.LoadFaults as load
+use Rattle.ghost_model.specs.refusals.SchemaFaults as schemas
 use Rattle.csv_split.specs.Faults.{place_of}
 use Rattle.key_inputs.specs.declared.broken_schema.BrokenSchema.{BrokenSchema}
 use Rattle.key_inputs.specs.declared.broken_schema.BrokenSchema.TheVariants as broken_schema

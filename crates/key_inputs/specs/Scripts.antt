@@ -1,7 +1,7 @@
 -- What the file of a script spells: its bytes, which are not too many, and no more texts than there may be.
 use Rattle.std.specs.Prelude.{ℕ, nat_le, List, length, if◌then◌else◌}
 use Rattle.std.specs.FinMap as map
-use Rattle.ghost_model.specs.Texts.{texts_of}
+use Rattle.ghost_model.specs.core.Texts.{texts_of}
 use Rattle.edge_traits.specs.Files.{Files}
 use Rattle.key_inputs.specs.Openings.{Opening, Spelled, Broken, ScriptBytes, ScriptTexts, on_text}
 

@@ -1,10 +1,10 @@
 -- What the results of an opening tell.
 use Rattle.std.specs.Prelude.{◌≡◌, ℕ, List, [], length, slice_get, map as each, Option, Some, None, Result, Ok, Err, ⊤}
 use Rattle.std.specs.FinMap as map
-use Rattle.ghost_model.specs.LoadFaults as load
-use Rattle.ghost_model.specs.Database.{database_of, rows_spelled}
-use Rattle.ghost_model.specs.Schema.{Schema, Table, Column, columns_of}
-use Rattle.ghost_model.specs.Values.{Rows, Database}
+use Rattle.ghost_model.specs.refusals.LoadFaults as load
+use Rattle.ghost_model.specs.core.Database.{database_of, rows_spelled}
+use Rattle.ghost_model.specs.core.Schema.{Schema, Table, Column, columns_of}
+use Rattle.ghost_model.specs.core.Values.{Rows, Database}
 use Rattle.edge_traits.specs.Files.{Files, HasFile}
 use Rattle.key_inputs.specs.Openings.{InputFault, SchemaBytes, SchemaRule, TableRule, ScriptBytes, ScriptTexts, Opening, Spelled, Broken, TablesInput, on_table, table_file, after_tables, tables_from, tables_opening}
 use Rattle.key_inputs.specs.Rules.{schema_rule, table_rule}
@@ -20,17 +20,16 @@ rule_or None = None
 rule_or (Some rule) = Some (TableRule rule)
 
 -- the broken rule that a fault tells: its numbers, whatever names it shows
-abbrev pub rule_of : Fault → Option InputFault
-rule_of fault.SchemaBytes = Some SchemaBytes
-rule_of (fault.Schema other) = Some (SchemaRule (schema_rule other))
-rule_of (fault.Table other) = Some (TableRule (table_rule other))
-rule_of fault.ScriptBytes = Some ScriptBytes
-rule_of fault.ScriptTexts = Some ScriptTexts
+abbrev pub rule_of : Fault → InputFault
+rule_of fault.SchemaBytes = SchemaBytes
+rule_of (fault.Schema other) = SchemaRule (schema_rule other)
+rule_of (fault.Table other) = TableRule (table_rule other)
+rule_of fault.ScriptBytes = ScriptBytes
+rule_of fault.ScriptTexts = ScriptTexts
 
 abbrev pub rule_in : OpenFault → Option InputFault
-rule_in open_fault.NoMemory = None
-rule_in open_fault.Depot = None
-rule_in (open_fault.Input fault) = rule_of fault
+rule_in (open_fault.Input fault) = Some (rule_of fault)
+rule_in _ = None
 
 -- a rule that is told is that of the first of some faults
 abbrev pub TellsRule : Option InputFault → List load.LoadFault → Type 0

@@ -1,7 +1,7 @@
 //! The values of fields, to be shown.
 
 ghost use Rattle.std.specs.Prelude.{◌≡◌};
-ghost use Rattle.ghost_model.specs.Printed.{field_text};
+ghost use Rattle.ghost_model.specs.core.Printed.{field_text};
 ghost use Rattle.ghost_base.specs.Views.{value_of};
 ghost use Rattle.key_inputs.specs.Naming.{ShowsField, ShowsKey, shown};
 

@@ -8,6 +8,7 @@ pub mod broken_schema;
 pub mod broken_table;
 pub mod faults;
 mod field_values;
+pub mod laws;
 pub mod names;
 mod naming;
 pub mod opening;

@@ -2,7 +2,7 @@
 
 ghost use Rattle.std.specs.Prelude.{◌≡◌, ◌++◌, true, IfOk, OnOk, string_bytes};
 ghost use Rattle.std.specs.List.{list_all};
-ghost use Rattle.ghost_model.specs.Tokens.{is_name_byte};
+ghost use Rattle.ghost_model.specs.refusals.Tokens.{is_name_byte};
 ghost use Rattle.key_inputs.specs.Openings as openings;
 
 use std::alloc::{AllocError, Global};

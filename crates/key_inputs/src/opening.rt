@@ -1,14 +1,14 @@
 //! The reading of inputs.
 
-ghost use Rattle.std.specs.Prelude.{◌≡◌, ◌≤◌, ◌<◌, ◌^◌, ℕ, true, List, [], Some, Err, IfOk, IfErr, MatchResult, is_some, length, string_bytes};
-ghost use Rattle.ghost_model.specs.Causes.{Rose};
-ghost use Rattle.ghost_model.specs.Database as database;
+ghost use Rattle.std.specs.Prelude.{◌≡◌, ◌≤◌, ◌<◌, ◌^◌, ℕ, List, [], Some, Err, IfOk, IfErr, MatchResult, length, string_bytes, is_some};
+ghost use Rattle.ghost_model.specs.core.Causes.{Rose};
+ghost use Rattle.ghost_model.specs.core.Database as database;
 ghost use Rattle.edge_traits.specs.Files.{Files, AreSure};
 ghost use Rattle.key_inputs.specs.Openings.{tables_opening, tables_from};
 ghost use Rattle.key_inputs.specs.Naming.{IsNamedBy, IsNamedIn, IsShownBy, IsSpelledIn, OfKey, OfTable, ShowsKey};
-ghost use Rattle.key_inputs.specs.Views.{OpensTables, OpensSchema, ReadsFiles, ReadsTable, Tells, TellsRule, rule_in, rule_of, name_at, opening_at};
-ghost use Rattle.ghost_model.specs.LoadFaults as load;
-ghost use Rattle.ghost_model.specs.Schema as schemas;
+ghost use Rattle.key_inputs.specs.Views.{OpensTables, OpensSchema, ReadsFiles, ReadsTable, Tells, TellsRule, rule_in, name_at, opening_at};
+ghost use Rattle.ghost_model.specs.refusals.LoadFaults as load;
+ghost use Rattle.ghost_model.specs.core.Schema as schemas;
 ghost use Rattle.key_inputs.specs.Openings as openings;
 ghost use Rattle.key_inputs.specs.Openings.{Opening, Missing, TablesInput};
 
@@ -48,7 +48,6 @@ pub fn open_tables<D: Depot>(
 ) -> Result<Input, OpenFault>
     ensures opened { (files : Files) → D.contents depot.old ≡ Some files → OpensTables (tables_opening files schema.now folder.now) result }
     ensures database { IfOk result (λ input. database.IsDatabase input.schema input.tables) }
-    ensures rule { (fault : InputFault) → result ≡ Err (OpenFault.Input fault) → is_some (rule_of fault) ≡ true }
     ensures names { (files : Files) → D.contents depot.old ≡ Some files → IfErr result (λ fault. IsNamedIn files schema.now folder.now fault) }
     ensures never_falls { D.faults depot.old ≤ D.faults depot.new }
     ensures failed { result ≡ Err OpenFault.Depot → Rose (D.faults depot.old) (D.faults depot.new) }
@@ -72,7 +71,6 @@ fn open_schema<D: Depot>(alloc: Global, name: &str, depot: &mut D) -> Result<Sch
     ensures opened { (files : Files) → D.contents depot.old ≡ Some files → (folder : List ℕ) → OpensSchema files name.now folder result }
     ensures spelled { (files : Files) → D.contents depot.old ≡ Some files → IfOk result (λ schema. IsSpelledIn files name.now schema) }
     ensures no_table { IfErr result (OfTable (λ _. ⊥)) }
-    ensures rule { (fault : InputFault) → result ≡ Err (OpenFault.Input fault) → is_some (rule_of fault) ≡ true }
     ensures never_falls { D.faults depot.old ≤ D.faults depot.new }
     ensures failed { result ≡ Err OpenFault.Depot → Rose (D.faults depot.old) (D.faults depot.new) }
     ensures other { (result ≡ Err OpenFault.Depot → ⊥) → D.faults depot.new ≡ D.faults depot.old }
@@ -103,7 +101,6 @@ fn open_files<D: Depot>(
     ensures read { IfOk result (λ tables. ReadsFiles (D.contents depot.old) folder.now schema.now tables) }
     ensures told { IfErr result (λ fault. (files : Files) → D.contents depot.old ≡ Some files → Tells (tables_from files folder.now schema.now 0 schema.now []) fault) }
     ensures names { (files : Files) → D.contents depot.old ≡ Some files → IfErr result (OfTable (IsShownBy files folder.now schema.now)) }
-    ensures rule { (fault : InputFault) → result ≡ Err (OpenFault.Input fault) → is_some (rule_of fault) ≡ true }
     ensures never_falls { D.faults depot.old ≤ D.faults depot.new }
     ensures failed { result ≡ Err OpenFault.Depot → Rose (D.faults depot.old) (D.faults depot.new) }
     ensures other { (result ≡ Err OpenFault.Depot → ⊥) → D.faults depot.new ≡ D.faults depot.old }
@@ -134,7 +131,6 @@ fn open_table<D: Depot>(
     ensures read { IfOk result (λ rows. ReadsTable (D.contents depot.old) (openings.table_file folder.now (name_at schema.now table)) (schemas.columns_of schema.now table) table rows) }
     ensures told { IfErr result (λ fault. (files : Files) → D.contents depot.old ≡ Some files → (next : List ℕ → Opening TablesInput) → Tells (opening_at files folder.now schema.now table next) fault) }
     ensures names { (files : Files) → D.contents depot.old ≡ Some files → IfErr result (OfTable (IsShownBy files folder.now schema.now)) }
-    ensures rule { (fault : InputFault) → result ≡ Err (OpenFault.Input fault) → is_some (rule_of fault) ≡ true }
     ensures never_falls { D.faults depot.old ≤ D.faults depot.new }
     ensures failed { result ≡ Err OpenFault.Depot → Rose (D.faults depot.old) (D.faults depot.new) }
     ensures other { (result ≡ Err OpenFault.Depot → ⊥) → D.faults depot.new ≡ D.faults depot.old }
@@ -164,7 +160,6 @@ fn too_long(schema: &Schema, table: usize) -> OpenFault
     requires within { table < 2 ^ 8 }
     ensures rule { rule_in result ≡ Some (openings.TableRule (load.FileLimit (load.place table 0 0))) }
     ensures not_depot { result ≡ OpenFault.Depot → ⊥ }
-    ensures broken { (broken : InputFault) → result ≡ OpenFault.Input broken → is_some (rule_of broken) ≡ true }
     ensures names { OfTable (IsNamedBy schema.now) result }
 {
     let at = Place {
@@ -193,7 +188,7 @@ fn file_of(alloc: Global, schema: &Schema, table: usize, folder: &str) -> Result
 fn check_keys(schema: &Schema, tables: &Tables) -> Result<(), OpenFault>
     ensures judged { MatchResult result (λ _. load.reference_faults schema.now tables.now ≡ []) (λ fault. TellsRule (rule_in fault) (load.reference_faults schema.now tables.now)) }
     ensures not_depot { result ≡ Err OpenFault.Depot → ⊥ }
-    ensures rule { (fault : InputFault) → result ≡ Err (OpenFault.Input fault) → is_some (rule_of fault) ≡ true }
+    ensures tells { IfErr result (λ fault. is_some (rule_in fault) ≡ true) }
     ensures names { IfErr result (OfTable (IsNamedBy schema.now)) }
     ensures keys { IfErr result (OfTable (OfKey (ShowsKey tables.now))) }
 {

@@ -1,7 +1,7 @@
 //! The names that a schema's text declares, where it breaks a rule and no schema stands.
 
 ghost use Rattle.std.specs.Prelude.{◌≡◌};
-ghost use Rattle.ghost_model.specs.SchemaFaults as schemas;
+ghost use Rattle.ghost_model.specs.refusals.SchemaFaults as schemas;
 ghost use Rattle.tree_schema.specs.Faults.{fault_of};
 ghost use Rattle.key_inputs.specs.Rules.{schema_rule};
 

@@ -1,12 +1,12 @@
 //! The reading of a script.
 
-ghost use Rattle.std.specs.Prelude.{◌≡◌, ◌≤◌, ℕ, List, true, Some, Err, IfOk, IfErr, is_some, length};
-ghost use Rattle.ghost_model.specs.Causes.{Rose};
-ghost use Rattle.ghost_model.specs.Texts.{texts_of};
+ghost use Rattle.std.specs.Prelude.{◌≡◌, ◌≤◌, ℕ, List, Some, Err, IfOk, IfErr, length};
+ghost use Rattle.ghost_model.specs.core.Causes.{Rose};
+ghost use Rattle.ghost_model.specs.core.Texts.{texts_of};
 ghost use Rattle.edge_traits.specs.Files.{Files, AreSure};
 ghost use Rattle.key_inputs.specs.Openings.{Spelled, Missing, most_text};
 ghost use Rattle.key_inputs.specs.Scripts.{most_texts, script_opening};
-ghost use Rattle.key_inputs.specs.Views.{Tells, rule_of};
+ghost use Rattle.key_inputs.specs.Views.{Tells};
 
 use crate::faults::{InputFault, OpenFault};
 use crate::opening::MAX_TEXT;
@@ -24,7 +24,6 @@ pub fn open_script<D: Depot>(alloc: Global, name: &str, depot: &mut D) -> Result
     ensures told { (files : Files) → D.contents depot.old ≡ Some files → IfErr result (λ fault. Tells (script_opening files name.now) fault) }
     ensures short { IfOk result (λ script. length script.items ≤ most_text) }
     ensures few { IfOk result (λ script. length (texts_of script.items) ≤ most_texts) }
-    ensures rule { (fault : InputFault) → result ≡ Err (OpenFault.Input fault) → is_some (rule_of fault) ≡ true }
     ensures never_falls { D.faults depot.old ≤ D.faults depot.new }
     ensures failed { result ≡ Err OpenFault.Depot → Rose (D.faults depot.old) (D.faults depot.new) }
     ensures other { (result ≡ Err OpenFault.Depot → ⊥) → D.faults depot.new ≡ D.faults depot.old }

@@ -1,7 +1,7 @@
 //! Names and values as a line shows them.
 
 ghost use Rattle.std.specs.Prelude.{◌≡◌, ◌≤◌, length};
-ghost use Rattle.ghost_model.specs.Cells.{padded};
+ghost use Rattle.ghost_model.specs.forms.Cells.{padded};
 ghost use Rattle.key_inputs.specs.Naming.{front_of, shown};
 
 use std::fmt::{Display, Error as FormatError, Formatter, Write};

@@ -1,8 +1,8 @@
 -- The fields of a row while they are put into a line.
 use Rattle.std.proofs.Common.{◌≡◌, ℕ, ◌≤◌, ◌+◌, ◌*◌, List, [], ◌∷◌, ◌++◌, map, flat_map, sym, ap, append-nil}
 use Rattle.std.specs.List.{join_with_byte}
-use Rattle.ghost_model.specs.Values.{Value}
-use Rattle.ghost_model.specs.Printed.{field_text}
+use Rattle.ghost_model.specs.core.Values.{Value}
+use Rattle.ghost_model.specs.core.Printed.{field_text}
 use Rattle.key_lines.specs.Fields.{later_field}
 
 -- so many fields were put behind what the line held

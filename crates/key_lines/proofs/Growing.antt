@@ -1,6 +1,6 @@
 -- Pieces that are handed on one after another.
 use Rattle.std.proofs.Common.{◌≡◌, ℕ, ◌≤◌, true, false, List, [], ◌++◌, Option, None, Some, refl, sym, ◌∙◌, ap, subst, append_assoc, append-nil, arith}
-use Rattle.ghost_model.specs.Causes.{Rose}
+use Rattle.ghost_model.specs.core.Causes.{Rose}
 use Rattle.edge_traits.specs.Written.{grown, GrowsByFront}
 use Rattle.key_lines.specs.Handing.{Handed, TakesWhole, Hands}
 

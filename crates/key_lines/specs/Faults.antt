@@ -1,6 +1,6 @@
 -- Why a text that was accepted has no whole answer.
 use Rattle.std.specs.Prelude.{ℕ, List, codes}
-use Rattle.ghost_model.specs.Printed.{word_line}
+use Rattle.ghost_model.specs.core.Printed.{word_line}
 use Rattle.key_lines.specs.declared.printer.Fault.{Fault}
 use Rattle.key_lines.specs.declared.printer.Fault.TheVariants as fault
 

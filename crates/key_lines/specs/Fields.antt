@@ -1,8 +1,8 @@
 -- The fields of a printed row, with one tab between each two.
 use Rattle.std.specs.Prelude.{ℕ, List, ◌∷◌, map}
 use Rattle.std.specs.List.{join_with_byte}
-use Rattle.ghost_model.specs.Values.{Value, Row}
-use Rattle.ghost_model.specs.Printed.{field_text}
+use Rattle.ghost_model.specs.core.Values.{Value, Row}
+use Rattle.ghost_model.specs.core.Printed.{field_text}
 
 -- a field after the first one
 abbrev pub later_field : Value → List ℕ

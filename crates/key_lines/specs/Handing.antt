@@ -2,7 +2,7 @@
 -- written, and the pieces go on all the same. So the sink has taken a front of them, and all of them where no write
 -- failed.
 use Rattle.std.specs.Prelude.{◌≡◌, ℕ, ◌≤◌, Bool, true, false, List, [], ◌++◌, Option}
-use Rattle.ghost_model.specs.Causes.{Rose}
+use Rattle.ghost_model.specs.core.Causes.{Rose}
 use Rattle.edge_traits.specs.Written.{grown, GrowsByFront}
 
 -- whether a write failed, the sink's count of faults, and what it tells to have taken

@@ -3,7 +3,7 @@
 ghost use Rattle.std.specs.Prelude.{◌≡◌, ◌≤◌, ◌+◌, ◌*◌, ◌++◌, ◌∷◌, length, map, flat_map, decimal};
 ghost use Rattle.arrayvec.specs.ArrayVec.{array_vec_len};
 ghost use Rattle.ghost_base.specs.Views.{value_of};
-ghost use Rattle.ghost_model.specs.Printed.{field_text, refusal_word};
+ghost use Rattle.ghost_model.specs.core.Printed.{field_text, refusal_word};
 ghost use Rattle.spj_parse.specs.Views.{refusal_of};
 ghost use Rattle.key_lines.specs.Fields.{fields_text, later_field};
 

@@ -3,7 +3,7 @@
 ghost use Rattle.std.specs.Prelude.{◌≡◌, ◌≤◌, ◌++◌, ◌∷◌, [], false, length, map, codes, decimal};
 ghost use Rattle.arrayvec.specs.ArrayVec.{array_vec_len};
 ghost use Rattle.ghost_base.specs.Views.{value_of};
-ghost use Rattle.ghost_model.specs.Printed.{row_line, count_line, refusal_line};
+ghost use Rattle.ghost_model.specs.core.Printed.{row_line, count_line, refusal_line};
 ghost use Rattle.spj_parse.specs.Views.{refusal_of};
 ghost use Rattle.key_lines.specs.Faults.{fault_line, fault_word};
 ghost use Rattle.key_lines.specs.Handing.{PiecesJoin, Hands, handed};

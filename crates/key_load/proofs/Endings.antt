@@ -1,12 +1,12 @@
 -- How a loading ended, from what its parts did.
 use Rattle.std.proofs.Common.{◌≡◌, ◌⊎◌, inl, inr, ℕ, ◌≤◌, ◌<◌, ◌*◌, Bool, true, false, List, Some, Result, Ok, Err, OnOk, refl, ap, subst, ◌∙◌}
-use Rattle.ghost_model.specs.Database.{IsDatabase}
-use Rattle.ghost_model.specs.Flash.{HoldsCatalog, HoldsFilesSoFar, HoldsSoFar}
-use Rattle.ghost_model.specs.Layout.{need}
-use Rattle.ghost_model.specs.Schema.{Schema}
-use Rattle.ghost_model.specs.Split.{Hidden, hidden_of}
-use Rattle.ghost_model.specs.Values.{Database}
-use Rattle.ghost_model.specs.Channel.{Catalog}
+use Rattle.ghost_model.specs.core.Database.{IsDatabase}
+use Rattle.ghost_model.specs.forms.Flash.{HoldsCatalog, HoldsFilesSoFar, HoldsSoFar}
+use Rattle.ghost_model.specs.forms.Layout.{need}
+use Rattle.ghost_model.specs.core.Schema.{Schema}
+use Rattle.ghost_model.specs.core.Split.{Hidden, hidden_of}
+use Rattle.ghost_model.specs.core.Values.{Database}
+use Rattle.ghost_model.specs.core.Channel.{Catalog}
 use Rattle.edge_traits.specs.Files.{with_file}
 use Rattle.edge_traits.specs.Written.{grown, GrowsByFront}
 use Rattle.key_inputs.specs.Openings.{Opening, TablesInput}
@@ -15,7 +15,7 @@ use Rattle.key_inputs.specs.declared.opening.Input.{Input}
 use Rattle.key_words.specs.Words.{Load}
 use Rattle.key_load.specs.Loadings.{catalog_for, pages_for, loaded_line}
 use Rattle.key_load.specs.Preparing.{IsPrepared, IsBuilt}
-use Rattle.key_load.specs.Results.{World, Loading, loading, catalog_in, pages_in, HasHostFile, LeavesBoth, Builds, WritesFile, Stands, EndsLoading, Ends, EndsSome, IsOfMaking, TellsPreparing}
+use Rattle.key_load.specs.Results.{LoadSide, Loading, loading, catalog_in, pages_in, HasHostFile, LeavesBoth, Builds, WritesFile, Stands, EndsLoading, EndsLoadCall, EndsSomeLoad, IsOfMaking, TellsPreparing}
 use Rattle.key_load.specs.declared.failures.LoadFailure.{LoadFailure}
 use Rattle.key_load.specs.declared.failures.LoadFailure.TheVariants as failure
 use Rattle.key_load.specs.declared.preparing.Prepared.{Prepared}
@@ -27,7 +27,7 @@ sealed (Ok value) told page cat hidden catalog files = λ t. record { catalog = 
 sealed (Err fault) told page cat hidden catalog files = tt
 
 -- nothing was prepared
-pub unprepared : (T : Type 0) (told : Bool) (one : Loading) (before after : World) (fault : LoadFailure) → LeavesBoth before after
+pub unprepared : (T : Type 0) (told : Bool) (one : Loading) (before after : LoadSide) (fault : LoadFailure) → LeavesBoth before after
     → TellsPreparing (catalog_in one) one.words.blocks fault → EndsLoading {T = T} told one (Err fault) before after
 unprepared T told one before after failure.NoMemory leaves tells = inl leaves
 unprepared T told one before after failure.Depot leaves tells = absurd tells
@@ -37,7 +37,7 @@ unprepared T told one before after failure.Flash leaves tells = absurd tells
 unprepared T told one before after failure.Sink leaves tells = absurd tells
 
 -- the writing failed
-pub failed : {T : Type 0} (result : Result T LoadFailure) (told : Bool) (one : Loading) (before after : World) (fault : LoadFailure) → IsOfMaking {T = T} (Err fault)
+pub failed : {T : Type 0} (result : Result T LoadFailure) (told : Bool) (one : Loading) (before after : LoadSide) (fault : LoadFailure) → IsOfMaking {T = T} (Err fault)
     → need (catalog_in one) ≤ pages_in one
     → (fault ≡ failure.Depot → Builds told one after)
     → (fault ≡ failure.Flash → (after.files ≡ before.files) ⊎ WritesFile told one before after)
@@ -54,9 +54,9 @@ failed result told one before after failure.Sink of enough builds files file hol
 
 module _ {T : Type 0} where
   -- a loading ended so of the tables that the files spell
-  pub ends_spelled : (told : Bool) (opening : Opening TablesInput) (input : Input) (words : Load) (result : Result T LoadFailure) (before after : World)
+  pub ends_spelled : (told : Bool) (opening : Opening TablesInput) (input : Input) (words : Load) (result : Result T LoadFailure) (before after : LoadSide)
       → AreSpelled opening input → EndsLoading told (loading input.schema input.tables words) result before after
-      → Ends told opening words result before after
+      → EndsLoadCall told opening words result before after
   ends_spelled told opening input words (Ok done) before after are ended = record {
     input = record { schema = input.schema; files = are.files };
     spelled = are.spelled;
@@ -90,9 +90,9 @@ module _ {T : Type 0} where
   }
 
   -- a loading ended so of some database
-  pub ends_some : (told : Bool) (schema : Schema) (database : Database) (words : Load) (result : Result T LoadFailure) (before after : World)
+  pub ends_some : (told : Bool) (schema : Schema) (database : Database) (words : Load) (result : Result T LoadFailure) (before after : LoadSide)
       → IsDatabase schema database → EndsLoading told (loading schema database words) result before after
-      → EndsSome told words result before after
+      → EndsSomeLoad told words result before after
   ends_some told schema database words (Ok done) before after are ended =
       record { schema = schema; database = database; are = are; ended = ended }
   ends_some told schema database words (Err failure.NoMemory) before after are ended =
@@ -114,7 +114,7 @@ module _ (schema : Schema) (database : Database) (words : Load) (prepared : Prep
       subst (λ blocks. need (catalog_for schema database) ≤ 64 * blocks) are.blocks
       (subst (λ (cat : Catalog). need cat ≤ 64 * prepared.blocks) are.cat enough)
 
-  pub host_file : IsPrepared schema database words.blocks prepared → (before after : World)
+  pub host_file : IsPrepared schema database words.blocks prepared → (before after : LoadSide)
       → after.files ≡ with_file before.files words.visible prepared.image.items → HasHostFile (loading schema database words) before after
   host_file are before after file = file ∙ ap (λ bytes. with_file before.files words.visible bytes) are.image
 
@@ -130,7 +130,7 @@ module _ (schema : Schema) (database : Database) (words : Load) (prepared : Prep
 
   -- what was prepared was built
   pub built : (told : Bool) → IsPrepared schema database words.blocks prepared → need prepared.cat ≤ 64 * prepared.blocks
-      → (after : World) → IsBuilt told prepared words.flash after.device → Builds told (loading schema database words) after
+      → (after : LoadSide) → IsBuilt told prepared words.flash after.device → Builds told (loading schema database words) after
   built told are enough after is = record {
     enough = large_enough are enough;
     name = is.name;
@@ -139,7 +139,7 @@ module _ (schema : Schema) (database : Database) (words : Load) (prepared : Prep
   }
 
   -- the host's file is as before, or written where it was
-  pub written : (told : Bool) → IsPrepared schema database words.blocks prepared → need prepared.cat ≤ 64 * prepared.blocks → (before after : World)
+  pub written : (told : Bool) → IsPrepared schema database words.blocks prepared → need prepared.cat ≤ 64 * prepared.blocks → (before after : LoadSide)
       → (after.files ≡ before.files) ⊎ IsBuilt told prepared words.flash after.device
       → (after.files ≡ before.files) ⊎ (after.files ≡ with_file before.files words.visible prepared.image.items)
       → (after.files ≡ before.files) ⊎ WritesFile told (loading schema database words) before after
@@ -149,7 +149,7 @@ module _ (schema : Schema) (database : Database) (words : Load) (prepared : Prep
       inr (record { builds = built told are enough after is; file = host_file are before after file })
 
   -- what was prepared stands
-  pub stands : (told : Bool) → IsPrepared schema database words.blocks prepared → (before after : World)
+  pub stands : (told : Bool) → IsPrepared schema database words.blocks prepared → (before after : LoadSide)
       → need prepared.cat ≤ 64 * prepared.blocks
       → after.device.name ≡ Some words.flash
       → (told ≡ true → HoldsSoFar after.device.page prepared.cat prepared.hidden)
@@ -170,12 +170,12 @@ module _ (schema : Schema) (database : Database) (words : Load) (prepared : Prep
       ap (λ (cat : Catalog). loaded_line cat (64 * prepared.blocks)) are.cat
       ∙ ap (λ blocks. loaded_line (catalog_for schema database) (64 * blocks)) are.blocks
 
-  pub printed : IsPrepared schema database words.blocks prepared → (before after : World)
+  pub printed : IsPrepared schema database words.blocks prepared → (before after : LoadSide)
       → after.written ≡ grown before.written (loaded_line prepared.cat (64 * prepared.blocks))
       → after.written ≡ grown before.written (loaded_line (catalog_for schema database) (pages_for (catalog_for schema database) words.blocks))
   printed are before after h = h ∙ ap (λ line. grown before.written line) (same_line are)
 
-  pub front_printed : IsPrepared schema database words.blocks prepared → (before after : World)
+  pub front_printed : IsPrepared schema database words.blocks prepared → (before after : LoadSide)
       → GrowsByFront before.written (loaded_line prepared.cat (64 * prepared.blocks)) after.written
       → GrowsByFront before.written (loaded_line (catalog_for schema database) (pages_for (catalog_for schema database) words.blocks)) after.written
   front_printed are before after h = subst (λ line. GrowsByFront before.written line after.written) (same_line are) h

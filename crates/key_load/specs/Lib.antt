@@ -1,3 +1,4 @@
 pub mod Loadings
 pub mod Preparing
 pub mod Results
+pub mod Renaming

@@ -2,11 +2,11 @@
 -- the line that tells it.
 use Rattle.std.specs.Prelude.{ℕ, ◌*◌, ◌/◌, List, [], ◌∷◌, ◌++◌, length, codes, decimal, Option, Some, None}
 use Rattle.std.specs.List.{sum}
-use Rattle.ghost_model.specs.Channel.{Catalog}
-use Rattle.ghost_model.specs.Database.{row_counts}
-use Rattle.ghost_model.specs.Layout.{need}
-use Rattle.ghost_model.specs.Schema.{Schema}
-use Rattle.ghost_model.specs.Values.{Database}
+use Rattle.ghost_model.specs.core.Channel.{Catalog}
+use Rattle.ghost_model.specs.core.Database.{row_counts}
+use Rattle.ghost_model.specs.forms.Layout.{need}
+use Rattle.ghost_model.specs.core.Schema.{Schema}
+use Rattle.ghost_model.specs.core.Values.{Database}
 
 abbrev pub catalog_for : Schema → Database → Catalog
 catalog_for schema database = record { schema = schema; counts = row_counts database; generation = 1; version = 1 }

@@ -1,9 +1,9 @@
 -- What was prepared of a database, and what stands of it on the flash.
 use Rattle.std.specs.Prelude.{◌≡◌, ℕ, ◌*◌, Bool, true, List, Option, Some}
-use Rattle.ghost_model.specs.Flash.{HoldsFilesSoFar}
-use Rattle.ghost_model.specs.Schema.{Schema}
-use Rattle.ghost_model.specs.Split.{public_of, hidden_of, image}
-use Rattle.ghost_model.specs.Values.{Database}
+use Rattle.ghost_model.specs.forms.Flash.{HoldsFilesSoFar}
+use Rattle.ghost_model.specs.core.Schema.{Schema}
+use Rattle.ghost_model.specs.core.Split.{public_of, hidden_of, image}
+use Rattle.ghost_model.specs.core.Values.{Database}
 use Rattle.edge_traits.specs.Devices.{Device}
 use Rattle.key_load.specs.Loadings.{catalog_for, blocks_for}
 use Rattle.key_load.specs.declared.preparing.Prepared.{Prepared}

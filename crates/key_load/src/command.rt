@@ -1,28 +1,28 @@
 //! The command.
 
 ghost use Rattle.std.specs.Prelude.{◌≡◌, ◌⊎◌, ◌≤◌, ◌*◌, true, false, Some, Err, ℕ, List};
-ghost use Rattle.ghost_model.specs.Causes.{Rose};
-ghost use Rattle.ghost_model.specs.Database.{IsDatabase};
-ghost use Rattle.ghost_model.specs.Layout as layout;
-ghost use Rattle.ghost_model.specs.Schema.{Schema};
-ghost use Rattle.ghost_model.specs.Values.{Database};
+ghost use Rattle.ghost_model.specs.core.Causes.{Rose};
+ghost use Rattle.ghost_model.specs.core.Database.{IsDatabase};
+ghost use Rattle.ghost_model.specs.forms.Layout as layout;
+ghost use Rattle.ghost_model.specs.core.Schema.{Schema};
+ghost use Rattle.ghost_model.specs.core.Values.{Database};
 ghost use Rattle.edge_traits.specs.Files.{Files, AreSure, SameBut};
-ghost use Rattle.ghost_model.specs.Flash.{IsHidden};
+ghost use Rattle.ghost_model.specs.forms.Flash.{IsHidden};
 ghost use Rattle.key_words.specs.Blocks.{most_blocks};
 ghost use Rattle.key_words.specs.Views.{load_view};
 ghost use Rattle.key_inputs.specs.Openings.{InputFault, Spelled, Broken, TablesInput, tables_opening};
-ghost use Rattle.key_load.specs.Results.{Ends, EndsSome, EndsLoading, IsUnsealed, HasBlankPage0, is_faultless, makes_nothing, leaves_file, leaves_page_0, writes_nothing, world, loading};
+ghost use Rattle.key_load.specs.Results.{EndsLoadCall, EndsSomeLoad, EndsLoading, IsUnsealed, HasBlankPage0, is_faultless, makes_nothing, leaves_file, leaves_page_0, writes_nothing, load_side, loading};
 ghost use Rattle.key_load.specs.Preparing.{IsPrepared};
 ghost use Rattle.key_load.specs.declared.failures.LoadFailure.TheVariants as failure;
 
-use crate::failures::LoadFailure;
+use crate::failures::{LoadFailure, failure_of};
 use crate::line::print_line;
 use crate::making::make_both;
 use crate::preparing::{Prepared, prepare};
 use edge_traits::depot::Depot;
 use edge_traits::flash::{BLOCK_PAGES, Flash};
 use edge_traits::sink::Sink;
-use key_inputs::{Input, OpenFault, open_tables};
+use key_inputs::{Input, open_tables};
 use key_words::LoadWords;
 use std::alloc::Global;
 
@@ -41,10 +41,10 @@ pub fn load<D: Depot, F: Flash, O: Sink>(
     out: &mut O,
 ) -> Result<(), LoadFailure>
     ensures ends { (files : Files) → D.contents depot.old ≡ Some files
-        → Ends F.told (tables_opening files words.now.schema.now words.now.tables.now) (load_view words.now) result
-        (world (F.state flash.old) (D.contents depot.old) (O.written out.old)) (world (F.state flash.new) (D.contents depot.new) (O.written out.new)) }
-    ensures loads { EndsSome F.told (load_view words.now) result
-        (world (F.state flash.old) (D.contents depot.old) (O.written out.old)) (world (F.state flash.new) (D.contents depot.new) (O.written out.new)) }
+        → EndsLoadCall F.told (tables_opening files words.now.schema.now words.now.tables.now) (load_view words.now) result
+        (load_side (F.state flash.old) (D.contents depot.old) (O.written out.old)) (load_side (F.state flash.new) (D.contents depot.new) (O.written out.new)) }
+    ensures loads { EndsSomeLoad F.told (load_view words.now) result
+        (load_side (F.state flash.old) (D.contents depot.old) (O.written out.old)) (load_side (F.state flash.new) (D.contents depot.new) (O.written out.new)) }
     ensures complete { (files : Files) → (input : TablesInput) → D.contents depot.old ≡ Some files
         → (Rose (D.faults depot.old) (D.faults depot.new) → ⊥) → (Rose (F.state flash.old).faults (F.state flash.new).faults → ⊥) → (Rose (O.faults out.old) (O.faults out.new) → ⊥)
         → tables_opening files words.now.schema.now words.now.tables.now ≡ Spelled input → is_faultless result ≡ true }
@@ -68,9 +68,7 @@ pub fn load<D: Depot, F: Flash, O: Sink>(
 {
     match open_tables(alloc, words.schema, words.tables, depot) {
         Ok(input) => load_input(alloc, input, words, depot, flash, out),
-        Err(OpenFault::NoMemory) => Err(LoadFailure::NoMemory),
-        Err(OpenFault::Depot) => Err(LoadFailure::Depot),
-        Err(OpenFault::Input(fault)) => Err(LoadFailure::Input(fault)),
+        Err(fault) => Err(failure_of(fault)),
     }
 }
 
@@ -85,7 +83,7 @@ fn load_input<D: Depot, F: Flash, O: Sink>(
 ) -> Result<(), LoadFailure>
     requires database { IsDatabase input.schema input.tables }
     ensures ends { EndsLoading F.told (loading input.schema input.tables (load_view words.now)) result
-        (world (F.state flash.old) (D.contents depot.old) (O.written out.old)) (world (F.state flash.new) (D.contents depot.new) (O.written out.new)) }
+        (load_side (F.state flash.old) (D.contents depot.old) (O.written out.old)) (load_side (F.state flash.new) (D.contents depot.new) (O.written out.new)) }
     ensures nothing_written { writes_nothing result ≡ true → O.written out.new ≡ O.written out.old }
     ensures nothing_made { makes_nothing result ≡ true → F.state flash.new ≡ F.state flash.old }
     ensures file_left { leaves_file result ≡ true → D.contents depot.new ≡ D.contents depot.old }
@@ -122,7 +120,7 @@ fn load_prepared<D: Depot, F: Flash, O: Sink>(
     requires most { prepared.now.blocks ≤ most_blocks }
     ensures ends { (schema : Schema) → (database : Database) → IsPrepared schema database words.now.blocks prepared.now
         → EndsLoading F.told (loading schema database (load_view words.now)) result
-        (world (F.state flash.old) (D.contents depot.old) (O.written out.old)) (world (F.state flash.new) (D.contents depot.new) (O.written out.new)) }
+        (load_side (F.state flash.old) (D.contents depot.old) (O.written out.old)) (load_side (F.state flash.new) (D.contents depot.new) (O.written out.new)) }
     ensures nothing_written { writes_nothing result ≡ true → O.written out.new ≡ O.written out.old }
     ensures made { makes_nothing result ≡ false }
     ensures file_left { leaves_file result ≡ true → D.contents depot.new ≡ D.contents depot.old }

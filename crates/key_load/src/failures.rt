@@ -1,6 +1,9 @@
 //! Why the command ended early.
 
-use key_inputs::InputFault;
+ghost use Rattle.std.specs.Prelude.{◌≡◌};
+ghost use Rattle.key_load.specs.Renaming.{as_failure};
+
+use key_inputs::{InputFault, OpenFault};
 use thiserror::Error;
 
 /// Why the command ended before its line was printed.
@@ -34,4 +37,15 @@ pub enum LoadFailure {
     /// The line could not be printed.
     #[error("the line could not be printed")]
     Sink,
+}
+
+/// What stands for a fault of the inputs: want of memory for want of memory alone.
+pub(crate) fn failure_of(fault: OpenFault) -> LoadFailure
+    ensures { result ≡ as_failure fault }
+{
+    match fault {
+        OpenFault::NoMemory => LoadFailure::NoMemory,
+        OpenFault::Depot => LoadFailure::Depot,
+        OpenFault::Input(fault) => LoadFailure::Input(fault),
+    }
 }

@@ -2,7 +2,7 @@
 
 ghost use Rattle.std.specs.Prelude.{◌≡◌, ◌≤◌, ◌<◌, ◌*◌, OnOk, OnErr, length};
 ghost use Rattle.std.specs.List.{sum};
-ghost use Rattle.ghost_model.specs.Causes.{HasCause};
+ghost use Rattle.ghost_model.specs.core.Causes.{HasCause};
 ghost use Rattle.edge_traits.specs.Written.{grown, GrowsByFront};
 ghost use Rattle.key_load.specs.Loadings.{loaded_line};
 

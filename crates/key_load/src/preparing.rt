@@ -1,10 +1,10 @@
 //! What is to be written, in memory.
 
 ghost use Rattle.std.specs.Prelude.{◌≡◌, ◌≤◌, ◌*◌, Some, MatchResult, IfOk, IfErr};
-ghost use Rattle.ghost_model.specs.Database.{IsDatabase};
-ghost use Rattle.ghost_model.specs.Layout as layout;
-ghost use Rattle.ghost_model.specs.Split as parts;
-ghost use Rattle.ghost_model.specs.Flash.{IsHidden};
+ghost use Rattle.ghost_model.specs.core.Database.{IsDatabase};
+ghost use Rattle.ghost_model.specs.forms.Layout as layout;
+ghost use Rattle.ghost_model.specs.core.Split as parts;
+ghost use Rattle.ghost_model.specs.forms.Flash.{IsHidden};
 ghost use Rattle.key_words.specs.Blocks.{most_blocks, IsFew};
 ghost use Rattle.key_load.specs.Loadings.{catalog_for, blocks_for};
 ghost use Rattle.key_load.specs.Results.{TellsPreparing, TellsBlocks};

@@ -1,9 +1,13 @@
 -- A journal's file that was begun as an empty one.
-use Rattle.std.proofs.Common.{◌≡◌, ℕ, cond, List, [], Option, None, Some, Result, Ok, Err, OnOk, sym, ◌∙◌, ap, subst}
+use Rattle.std.proofs.Common.{◌≡◌, ◌<◌, ◌≤◌, ℕ, cond, inr, length, List, [], Option, None, Some, Result, Ok, Err, OnOk, sym, ◌∙◌, ap, subst}
 use Rattle.std.specs.Cmp.{eq_by_cmp_equiv}
 use Rattle.std.specs.Cmp.Lexicographic.{nat_list_cmp_total}
 use Rattle.std.specs.FinMap as finite
 use Rattle.edge_traits.specs.Files.{Files, HasFile, with_file}
+use Rattle.edge_traits.specs.Rooms.{HasRoomFor, IsEmptyWith}
+use Rattle.edge_traits.specs.Slots.{HasRoom, Stored}
+use Rattle.edge_traits.specs.declared.mem_depot.MemDepot.{MemDepot}
+use Rattle.edge_traits.specs.declared.mem_depot.Room.{Room}
 
 has_put : (old : Option Files) (name bytes : List ℕ) → HasFile (with_file old name bytes) name bytes
 has_put None name bytes = tt
@@ -20,3 +24,9 @@ pub put_there : (old new : Files) (name bytes : List ℕ) → Some new ≡ with_
 put_there old new name bytes is =
     let same : new ≡ finite.insert old name bytes = cc in
     subst (λ (files : Files). finite.get files name ≡ Some bytes) (sym same) (has_put (Some old) name bytes)
+
+-- a depot that was made with room for this one file has room for it
+pub has_just_room : (depot : MemDepot) (room : Room) (name bytes : List ℕ) → IsEmptyWith room depot → 0 < room.files → length name ≤ room.name_bytes → length bytes ≤ room.file_bytes
+    → HasRoomFor depot name bytes
+has_just_room depot room name bytes is some name_fits bytes_fit =
+    subst (λ (stored : Stored). HasRoom stored name bytes) (sym is) (record { place = inr some; name_fits = name_fits; bytes_fit = bytes_fit })

@@ -2,17 +2,17 @@
 use Rattle.std.proofs.Common.{◌≡◌, ◌⊎◌, inl, inr, ◌≤◌, ◌<◌, ◌+◌, min, ℕ, Bool, true, false, List, [], Option, None, Some, Result, Ok, Err, refl, sym, ap, ◌∙◌, subst, arith}
 use Rattle.std.specs.Prelude.{count_by}
 use Rattle.std.proofs.lemmas.Bool.{cases_lt}
-use Rattle.ghost_model.specs.Causes.{Rose, last_count}
-use Rattle.ghost_model.specs.Channel.{Catalog}
-use Rattle.ghost_model.specs.Database.{IsDatabase}
-use Rattle.ghost_model.specs.Flash.{HoldsSoFar}
-use Rattle.ghost_model.specs.Layout.{need}
-use Rattle.ghost_model.specs.Printed.{printed}
-use Rattle.ghost_model.specs.Schema.{Schema}
-use Rattle.ghost_model.specs.Split.{Hidden, hidden_of}
-use Rattle.ghost_model.specs.Texts.{texts_of}
-use Rattle.ghost_model.specs.Values.{Database}
-use Rattle.ghost_model.specs.Work.{pages_built}
+use Rattle.ghost_model.specs.core.Causes.{Rose, last_count}
+use Rattle.ghost_model.specs.core.Channel.{Catalog}
+use Rattle.ghost_model.specs.core.Database.{IsDatabase}
+use Rattle.ghost_model.specs.forms.Flash.{HoldsSoFar}
+use Rattle.ghost_model.specs.forms.Layout.{need}
+use Rattle.ghost_model.specs.core.Printed.{printed}
+use Rattle.ghost_model.specs.core.Schema.{Schema}
+use Rattle.ghost_model.specs.core.Split.{Hidden, hidden_of}
+use Rattle.ghost_model.specs.core.Texts.{texts_of}
+use Rattle.ghost_model.specs.core.Values.{Database}
+use Rattle.ghost_model.specs.forms.Work.{pages_built}
 use Rattle.edge_traits.specs.Devices.{Counts, KeepsPages}
 use Rattle.edge_traits.specs.Written.{grown}
 use Rattle.key_inputs.specs.Openings.{Opening}
@@ -20,8 +20,8 @@ use Rattle.key_words.specs.Words.{Local}
 use Rattle.key_plain.specs.Openings.{PlainInput}
 use Rattle.key_lines.specs.Handing.{Hands, handed}
 use Rattle.local_lines.specs.Lines.{Gives, bytes_given, is_cut}
-use Rattle.key_local.specs.Sessions.{Subject, subject, catalog_for, World, Ran, HasLines, outside_in, is_sink}
-use Rattle.key_local.specs.Results.{EndsLocal, Ends, EndsSome, IsMade, subject_of, blames_depot, blames_flash, is_faultless}
+use Rattle.key_local.specs.Sessions.{Subject, subject, catalog_for, LocalSide, Ran, HasLines, session_side_in, is_sink}
+use Rattle.key_local.specs.Results.{EndsLocal, EndsLocalCall, EndsSomeLocal, IsMade, subject_of, blames_depot, blames_flash, is_faultless}
 use Rattle.key_local.specs.Making.{IsOfMaking}
 use Rattle.key_local.specs.Reading.{AreSpelled}
 use Rattle.key_local.specs.Running.{RanOver}
@@ -33,9 +33,9 @@ use Rattle.key_local.specs.declared.opening.Opened.{Opened}
 use Rattle.key_local.proofs.Keeping.{lines_there}
 
 -- what was given since the flash was made was given since before
-abbrev gives_since : (schema : Schema) (database : Database) (texts : List (List ℕ)) (failed : Bool) (before middle after : World)
+abbrev gives_since : (schema : Schema) (database : Database) (texts : List (List ℕ)) (failed : Bool) (before middle after : LocalSide)
     → middle.device.faults ≡ before.device.faults → middle.sink_faults ≡ before.sink_faults → middle.written ≡ before.written
-    → Gives schema database texts (outside_in false middle) (outside_in failed after) → Gives schema database texts (outside_in false before) (outside_in failed after)
+    → Gives schema database texts (session_side_in false middle) (session_side_in failed after) → Gives schema database texts (session_side_in false before) (session_side_in failed after)
 gives_since schema database texts failed before middle after faults sink written gives = record {
   given = gives.given;
   lines = gives.lines;
@@ -61,7 +61,7 @@ rose_after before more now later counts rose = of_cases (cases_lt now last_count
     of_cases (inr last) = omega (arith, last, rose)
 
 -- the session ran over what was made for it
-pub ran_of : (told : Bool) (schema : Schema) (database : Database) (texts : List (List ℕ)) (words : Local) (end : LocalEnd) (catalog : Catalog) (before middle after : World)
+pub ran_of : (told : Bool) (schema : Schema) (database : Database) (texts : List (List ℕ)) (words : Local) (end : LocalEnd) (catalog : Catalog) (before middle after : LocalSide)
     → catalog ≡ catalog_for schema database → RanOver told catalog database texts words.journal end middle after
     → middle.device.faults ≡ before.device.faults → middle.append_faults ≡ before.append_faults → middle.sink_faults ≡ before.sink_faults → middle.written ≡ before.written
     → HasLines middle.files words.journal []
@@ -96,7 +96,7 @@ ran_of told schema database texts words end catalog before middle after same ran
     }
 
 -- what was made for the session
-pub made_of : (told : Bool) (schema : Schema) (database : Database) (texts : List (List ℕ)) (words : Local) (catalog : Catalog) (hidden : Hidden) (after : World)
+pub made_of : (told : Bool) (schema : Schema) (database : Database) (texts : List (List ℕ)) (words : Local) (catalog : Catalog) (hidden : Hidden) (after : LocalSide)
     → catalog ≡ catalog_for schema database → hidden ≡ hidden_of schema database → after.device.name ≡ Some words.flash
     → (told ≡ true → HoldsSoFar after.device.page catalog hidden)
     → after.device.page_count ≡ need catalog → IsMade told (subject schema database texts words) after
@@ -108,7 +108,7 @@ made_of told schema database texts words catalog hidden after same is named ther
 }
 
 -- the making failed
-pub unmade : (told : Bool) (schema : Schema) (database : Database) (texts : List (List ℕ)) (words : Local) (catalog : Catalog) (hidden : Hidden) (before after : World) (fault : LocalFailure)
+pub unmade : (told : Bool) (schema : Schema) (database : Database) (texts : List (List ℕ)) (words : Local) (catalog : Catalog) (hidden : Hidden) (before after : LocalSide) (fault : LocalFailure)
     → catalog ≡ catalog_for schema database → hidden ≡ hidden_of schema database → IsOfMaking {T = Unit {0}} (Err fault)
     → after.device.calls ≤ before.device.calls + pages_built catalog hidden
     → EndsLocal told (subject schema database texts words) (Err fault) before after
@@ -116,8 +116,10 @@ unmade told schema database texts words catalog hidden before after failure.NoMe
 unmade told schema database texts words catalog hidden before after failure.Depot same is of few = absurd of
 unmade told schema database texts words catalog hidden before after (failure.Input broken) same is of few = of
 unmade told schema database texts words catalog hidden before after failure.Flash same is of few =
-    record { few_calls = subst (λ (part : Hidden). after.device.calls ≤ before.device.calls + pages_built (catalog_for schema database) part) is
-        (subst (λ (c : Catalog). after.device.calls ≤ before.device.calls + pages_built c hidden) same few) }
+    record {
+      few_calls = subst (λ (part : Hidden). after.device.calls ≤ before.device.calls + pages_built (catalog_for schema database) part) is
+          (subst (λ (c : Catalog). after.device.calls ≤ before.device.calls + pages_built c hidden) same few);
+    }
 
 abbrev inputs_of : Opened → (files : List (List ℕ)) → PlainInput
 inputs_of opened files = record { schema = opened.tables.schema; files = files; script = opened.script.items }
@@ -131,8 +133,8 @@ same_subject opened opening words are =
     ap (λ (database : Database). subject opened.tables.schema database (texts_of opened.script.items) words) are.tables
 
 -- the call ended so over what the files spell
-pub ends_spelled : (told : Bool) (opening : Opening PlainInput) (opened : Opened) (words : Local) (result : Result LocalEnd LocalFailure) (before after : World)
-    → AreSpelled opening opened → EndsLocal told (subject_read opened words) result before after → Ends told opening words result before after
+pub ends_spelled : (told : Bool) (opening : Opening PlainInput) (opened : Opened) (words : Local) (result : Result LocalEnd LocalFailure) (before after : LocalSide)
+    → AreSpelled opening opened → EndsLocal told (subject_read opened words) result before after → EndsLocalCall told opening words result before after
 ends_spelled told opening opened words (Ok end) before after are ended = record {
   input = inputs_of opened are.files;
   spelled = are.spelled;
@@ -156,8 +158,8 @@ ends_spelled told opening opened words (Err failure.Flash) before after are ende
 }
 
 -- it ended so over what was read
-pub ends_some : (told : Bool) (opened : Opened) (words : Local) (result : Result LocalEnd LocalFailure) (before after : World)
-    → IsDatabase opened.tables.schema opened.tables.tables → EndsLocal told (subject_read opened words) result before after → EndsSome told words result before after
+pub ends_some : (told : Bool) (opened : Opened) (words : Local) (result : Result LocalEnd LocalFailure) (before after : LocalSide)
+    → IsDatabase opened.tables.schema opened.tables.tables → EndsLocal told (subject_read opened words) result before after → EndsSomeLocal told words result before after
 ends_some told opened words (Ok end) before after are ended = record {
   schema = opened.tables.schema;
   database = opened.tables.tables;
@@ -189,7 +191,7 @@ ends_some told opened words (Err failure.Flash) before after are ended = record 
 }
 
 -- nothing that was to be unbroken ended otherwise
-pub faultless : (told : Bool) (one : Subject) (result : Result LocalEnd LocalFailure) (before after : World) → EndsLocal told one result before after
+pub faultless : (told : Bool) (one : Subject) (result : Result LocalEnd LocalFailure) (before after : LocalSide) → EndsLocal told one result before after
     → (blames_depot result ≡ true → ⊥) → (blames_flash result ≡ true → ⊥) → (result ≡ Ok ends.Sink → ⊥) → is_faultless told result ≡ true
 faultless told one (Ok ends.Ok) before after ended depot flash sink = refl
 faultless told one (Ok ends.Sink) before after ended depot flash sink = absurd (sink refl)

@@ -1,22 +1,22 @@
 -- What a session ran over, from what the key, the link and the journal's file tell.
 use Rattle.std.proofs.Common.{◌≡◌, ℕ, Bool, true, false, List, [], length, Option, None, Some, refl, sym, ap, ◌∙◌, subst}
 use Rattle.std.specs.List.{list_any}
-use Rattle.ghost_model.specs.Asks.{asked_of}
-use Rattle.ghost_model.specs.Causes.{Rose}
-use Rattle.ghost_model.specs.Channel.{Catalog, Journal}
-use Rattle.ghost_model.specs.Moves.{taken}
-use Rattle.ghost_model.specs.NextMove.{Left, left, heard, IsFinished}
-use Rattle.ghost_model.specs.Printed.{printed}
-use Rattle.ghost_model.specs.Schema.{Schema}
-use Rattle.ghost_model.specs.Split.{hidden_of}
-use Rattle.ghost_model.specs.Values.{Database}
+use Rattle.ghost_model.specs.core.Asks.{asked_of}
+use Rattle.ghost_model.specs.core.Causes.{Rose}
+use Rattle.ghost_model.specs.core.Channel.{Catalog, Journal}
+use Rattle.ghost_model.specs.core.Moves.{taken}
+use Rattle.ghost_model.specs.core.NextMove.{Standing, standing_after, heard, IsFinished}
+use Rattle.ghost_model.specs.core.Printed.{printed}
+use Rattle.ghost_model.specs.core.Schema.{Schema}
+use Rattle.ghost_model.specs.core.Split.{hidden_of}
+use Rattle.ghost_model.specs.core.Values.{Database}
 use Rattle.edge_traits.specs.Devices.{Device, KeepsPages}
 use Rattle.edge_traits.specs.Files.{Files}
 use Rattle.edge_traits.specs.Written.{grown}
 use Rattle.session_laws.specs.Local.{IsLocal, IsUnbroken, LocalSessionsAreServed}
 use Rattle.key_session.specs.Refusing.{first_code}
 use Rattle.key_session.specs.Running.{IsTally, status_of, blames_flash, is_sink as wrote_none, is_damaged as is_damage}
-use Rattle.key_session.specs.Telling.{Outside, AreTold}
+use Rattle.key_session.specs.Telling.{SessionSide, AreTold}
 use Rattle.key_exec.specs.Blaming.{IsDamaged}
 use Rattle.key_session.specs.declared.counts.Damage.{Damage}
 use Rattle.key_session.specs.declared.tally.SessionStatus.{SessionStatus}
@@ -25,7 +25,7 @@ use Rattle.key_session.specs.declared.tally.Tally.{Tally}
 use Rattle.key_lines.specs.Handing.{Hands, handed}
 use Rattle.local_lines.specs.Lines.{Gives, GivesByTally, ToldTextsAreGiven, is_cut, bytes_given}
 use Rattle.key_local.specs.Running.{RanOver, KeepsLines, damage_at}
-use Rattle.key_local.specs.Sessions.{World, world, outside_in, is_sink, is_damaged}
+use Rattle.key_local.specs.Sessions.{LocalSide, local_side, session_side_in, is_sink, is_damaged}
 use Rattle.key_local.specs.declared.ends.LocalEnd.{LocalEnd}
 use Rattle.key_local.specs.declared.ends.LocalEnd.TheVariants as ends
 use Rattle.key_local.proofs.Statuses.{none_stops, no_code, whole_status, flash_status, damage_found, no_damage}
@@ -38,8 +38,8 @@ false_is_not : false ≡ true → ⊥
 false_is_not e = cc
 
 module _ (catalog : Catalog) (database : Database) (texts : List (List ℕ)) (journal : Journal) (unbroken : IsUnbroken catalog database texts journal) where
-  abbrev session : Left
-  session = left catalog (asked_of catalog.schema texts) journal
+  abbrev session : Standing
+  session = standing_after catalog (asked_of catalog.schema texts) journal
 
   pub going : session.stopped ≡ false
   going = none_stops journal unbroken.goes_on
@@ -51,8 +51,8 @@ module _ (catalog : Catalog) (database : Database) (texts : List (List ℕ)) (jo
   granted = no_code session.heard.ended unbroken.none_refused
 
 -- what was given while the sink failed so
-abbrev gives_as : (schema : Schema) (database : Database) (texts : List (List ℕ)) (wrote failed : Bool) (before after : World) → wrote ≡ failed
-    → Gives schema database texts (outside_in false before) (outside_in wrote after) → Gives schema database texts (outside_in false before) (outside_in failed after)
+abbrev gives_as : (schema : Schema) (database : Database) (texts : List (List ℕ)) (wrote failed : Bool) (before after : LocalSide) → wrote ≡ failed
+    → Gives schema database texts (session_side_in false before) (session_side_in wrote after) → Gives schema database texts (session_side_in false before) (session_side_in failed after)
 gives_as schema database texts wrote failed before after same gives = record {
   given = gives.given;
   lines = gives.lines;
@@ -62,13 +62,13 @@ gives_as schema database texts wrote failed before after same gives = record {
 }
 
 -- a session was held to its end
-pub ran_over : (told : Bool) (catalog : Catalog) (database : Database) (texts : List (List ℕ)) (name : Option (List ℕ)) (end : LocalEnd) (tally : Tally) (before after : World) (journal : Journal)
+pub ran_over : (told : Bool) (catalog : Catalog) (database : Database) (texts : List (List ℕ)) (name : Option (List ℕ)) (end : LocalEnd) (tally : Tally) (before after : LocalSide) (journal : Journal)
     → LocalSessionsAreServed → ToldTextsAreGiven
     → IsLocal catalog database [] texts journal → IsFinished journal
     → ((Rose before.append_faults after.append_faults → ⊥) → KeepsLines before.files after.files name journal)
     → (end ≡ ends.Ok → KeepsLines before.files after.files name journal)
     → (told ≡ true → AreTold catalog (hidden_of catalog.schema database) texts journal (length texts)
-    (λ reasons. IsTally (wrote_none tally.status) (left catalog (asked_of catalog.schema texts) journal) reasons tally) (outside_in false before) (outside_in (wrote_none tally.status) after))
+    (λ reasons. IsTally (wrote_none tally.status) (standing_after catalog (asked_of catalog.schema texts) journal) reasons tally) (session_side_in false before) (session_side_in (wrote_none tally.status) after))
     → ((damage : Damage) → tally.status ≡ status.Damaged damage → IsDamaged told before.device.page catalog damage.page damage.slot damage.found) → KeepsPages before.device after.device
     → is_sink end ≡ wrote_none tally.status → (end ≡ ends.Ok → tally.status ≡ status.Ok) → (end ≡ ends.Flash → blames_flash tally.status ≡ true)
     → (blames_flash tally.status ≡ true → Rose before.device.calls after.device.calls) → (is_damage tally.status ≡ true → Rose before.device.calls after.device.calls)
@@ -79,8 +79,8 @@ ran_over told catalog database texts name end tally before after journal served 
     let stays = going catalog database texts journal unbroken in
     let right = valid catalog database texts journal unbroken in
     let none = granted catalog database texts journal unbroken in
-    let by_tally : told ≡ true → GivesByTally (wrote_none tally.status) (left catalog (asked_of catalog.schema texts) journal) tally catalog.schema database texts (outside_in false before) (outside_in (wrote_none tally.status) after) =
-    (λ t. given catalog database texts journal (wrote_none tally.status) (left catalog (asked_of catalog.schema texts) journal) tally (outside_in false before) (outside_in (wrote_none tally.status) after) is_local finished (are_told t)) in
+    let by_tally : told ≡ true → GivesByTally (wrote_none tally.status) (standing_after catalog (asked_of catalog.schema texts) journal) tally catalog.schema database texts (session_side_in false before) (session_side_in (wrote_none tally.status) after) =
+    (λ t. given catalog database texts journal (wrote_none tally.status) (standing_after catalog (asked_of catalog.schema texts) journal) tally (session_side_in false before) (session_side_in (wrote_none tally.status) after) is_local finished (are_told t)) in
     record {
       journal = journal;
       is_local = is_local;
@@ -91,18 +91,18 @@ ran_over told catalog database texts name end tally before after journal served 
       printed_all = λ t is.
           let all = by_tally t in
           let fine : tally.status ≡ status.Ok = whole is in
-          let uncut : list_any is_cut all.gives.given ≡ false = whole_status (wrote_none tally.status) (left catalog (asked_of catalog.schema texts) journal) (list_any is_cut all.gives.given) stays right none (sym all.status_is ∙ fine) in
+          let uncut : list_any is_cut all.gives.given ≡ false = whole_status (wrote_none tally.status) (standing_after catalog (asked_of catalog.schema texts) journal) (list_any is_cut all.gives.given) stays right none (sym all.status_is ∙ fine) in
           let took = all.gives.handed_on.whole (ap wrote_none fine) in
           took.written ∙ ap (λ (piece : List ℕ). grown before.written piece) (all.gives.lines.whole uncut);
       cut = λ t is.
           let all = by_tally t in
-          flash_status (wrote_none tally.status) (left catalog (asked_of catalog.schema texts) journal) (list_any is_cut all.gives.given) stays right none
+          flash_status (wrote_none tally.status) (standing_after catalog (asked_of catalog.schema texts) journal) (list_any is_cut all.gives.given) stays right none
           (sym (ap blames_flash all.status_is) ∙ flash is);
       called = λ is. called (flash is);
       damage_called = λ is. read (damage_found end tally.status damaged is);
       undamaged = λ t. not_so (is_damaged end) (λ found.
           let all = by_tally t in
-          let none_found : is_damage tally.status ≡ false = ap is_damage all.status_is ∙ no_damage (wrote_none tally.status) (left catalog (asked_of catalog.schema texts) journal) (list_any is_cut all.gives.given) stays right none in
+          let none_found : is_damage tally.status ≡ false = ap is_damage all.status_is ∙ no_damage (wrote_none tally.status) (standing_after catalog (asked_of catalog.schema texts) journal) (list_any is_cut all.gives.given) stays right none in
           false_is_not (sym none_found ∙ damage_found end tally.status damaged found));
       damaged = λ page slot found is.
           subst (λ (pages : ℕ → List ℕ). IsDamaged told pages catalog page slot found) (sym pages.page) (blamed (damage_at page slot found) (damaged page slot found is));
@@ -112,9 +112,9 @@ ran_over told catalog database texts name end tally before after journal served 
 pub ran_as : {D : Type 0} (contents : D → Option Files) (appends : D → ℕ) (told : Bool) (catalog : Catalog) (database : Database) (texts : List (List ℕ)) (name called : Option (List ℕ)) (end : LocalEnd)
     (device device_now : Device) (before earlier after later : D) (faults faults_now : ℕ) (written written_now : Option (List ℕ))
     → name ≡ called → before ≡ earlier → after ≡ later
-    → RanOver told catalog database texts name end (world device (contents before) (appends before) faults written) (world device_now (contents after) (appends after) faults_now written_now)
-    → RanOver told catalog database texts called end (world device (contents earlier) (appends earlier) faults written) (world device_now (contents later) (appends later) faults_now written_now)
+    → RanOver told catalog database texts name end (local_side device (contents before) (appends before) faults written) (local_side device_now (contents after) (appends after) faults_now written_now)
+    → RanOver told catalog database texts called end (local_side device (contents earlier) (appends earlier) faults written) (local_side device_now (contents later) (appends later) faults_now written_now)
 ran_as {D} contents appends told catalog database texts name called end device device_now before earlier after later faults faults_now written written_now names starts comes ran =
-    subst (λ (one : Option (List ℕ)). RanOver told catalog database texts one end (world device (contents earlier) (appends earlier) faults written) (world device_now (contents later) (appends later) faults_now written_now)) names
-    (subst (λ (d : D). RanOver told catalog database texts name end (world device (contents d) (appends d) faults written) (world device_now (contents later) (appends later) faults_now written_now)) starts
-    (subst (λ (d : D). RanOver told catalog database texts name end (world device (contents before) (appends before) faults written) (world device_now (contents d) (appends d) faults_now written_now)) comes ran))
+    subst (λ (one : Option (List ℕ)). RanOver told catalog database texts one end (local_side device (contents earlier) (appends earlier) faults written) (local_side device_now (contents later) (appends later) faults_now written_now)) names
+    (subst (λ (d : D). RanOver told catalog database texts name end (local_side device (contents d) (appends d) faults written) (local_side device_now (contents later) (appends later) faults_now written_now)) starts
+    (subst (λ (d : D). RanOver told catalog database texts name end (local_side device (contents before) (appends before) faults written) (local_side device_now (contents d) (appends d) faults_now written_now)) comes ran))

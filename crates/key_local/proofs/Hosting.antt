@@ -1,11 +1,11 @@
 -- A host that was begun over the visible image of a public part.
 use Rattle.std.proofs.Common.{◌≡◌, ℕ, List, [], Option, Some, refl, sym, subst, ◌∙◌, ap}
-use Rattle.ghost_model.specs.Catalog.{catalog_bytes}
-use Rattle.ghost_model.specs.CatalogLaws.{CatalogsHaveOneSpelling}
-use Rattle.ghost_model.specs.Channel.{Catalog}
-use Rattle.ghost_model.specs.Host.{Holding, host_of}
-use Rattle.ghost_model.specs.Host as standing
-use Rattle.ghost_model.specs.Split.{Public, SpellsImage, cells_of_tables}
+use Rattle.ghost_model.specs.forms.Catalog.{catalog_bytes}
+use Rattle.ghost_model.specs.laws.CatalogLaws.{CatalogsHaveOneSpelling}
+use Rattle.ghost_model.specs.core.Channel.{Catalog}
+use Rattle.ghost_model.specs.core.Host.{Holding, host_of}
+use Rattle.ghost_model.specs.core.Host as standing
+use Rattle.ghost_model.specs.core.Split.{Public, SpellsImage, cells_of_tables}
 use Rattle.edge_traits.specs.Files.{Files, file_of}
 use Rattle.host_exec.specs.Checked.{IsImage}
 use Rattle.host_exec.specs.Holdings.{HoldsFile, AreStarts, ImagesAreHeld}

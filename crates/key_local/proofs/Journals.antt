@@ -1,8 +1,8 @@
 -- The file of a finished journal.
 use Rattle.std.proofs.Common.{◌≡◌, ℕ, zero, suc, ◌+◌, ◌≤◌, ◌<◌, List, [], ◌∷◌, ◌++◌, length, flat_map, Option, None, Some, refl, sym, ap, ◌∙◌, subst, arith, length-append}
-use Rattle.ghost_model.specs.Channel.{Journal, Entry, Move, Close, Answer}
-use Rattle.ghost_model.specs.Moves.{line, lines, line_of}
-use Rattle.ghost_model.specs.NextMove.{IsFinished}
+use Rattle.ghost_model.specs.core.Channel.{Journal, Entry, Move, Close, Answer}
+use Rattle.ghost_model.specs.core.Moves.{line, lines, line_of}
+use Rattle.ghost_model.specs.core.NextMove.{IsFinished}
 use Rattle.edge_traits.specs.Files.{or_empty}
 
 close_line : (move : Move) (answer : Answer) → move ≡ Close → 0 < length (line_of move answer)

@@ -1,8 +1,8 @@
 -- What is prepared in memory for a session.
 use Rattle.std.specs.Prelude.{ℕ, List, Option}
-use Rattle.ghost_model.specs.Channel.{Catalog}
-use Rattle.ghost_model.specs.Host.{Holding}
-use Rattle.ghost_model.specs.Split.{Public, SpellsImage}
+use Rattle.ghost_model.specs.core.Channel.{Catalog}
+use Rattle.ghost_model.specs.core.Host.{Holding}
+use Rattle.ghost_model.specs.core.Split.{Public, SpellsImage}
 use Rattle.session_laws.specs.Serving.{first_desk}
 use Rattle.edge_traits.specs.Files.{Files}
 use Rattle.local_links.specs.Links.{IsAt, IsSureLink}

@@ -1,6 +1,6 @@
 -- What was read of the files.
 use Rattle.std.specs.Prelude.{◌≡◌, ℕ, List}
-use Rattle.ghost_model.specs.Database.{database_of}
+use Rattle.ghost_model.specs.core.Database.{database_of}
 use Rattle.key_inputs.specs.Openings.{Opening, Spelled}
 use Rattle.key_plain.specs.Openings.{PlainInput}
 use Rattle.key_local.specs.declared.opening.Opened.{Opened}

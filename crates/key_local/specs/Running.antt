@@ -1,14 +1,14 @@
 -- What the session itself does, apart from what was made for it.
 use Rattle.std.specs.Prelude.{◌≡◌, ℕ, Bool, true, false, List, [], Option, None, Some, ⊤}
 use Rattle.std.specs.List.{list_any}
-use Rattle.ghost_model.specs.Causes.{Rose}
-use Rattle.ghost_model.specs.Channel.{Catalog, Journal}
-use Rattle.ghost_model.specs.Host.{Holding}
-use Rattle.ghost_model.specs.Moves.{lines}
-use Rattle.ghost_model.specs.NextMove.{IsFinished}
-use Rattle.ghost_model.specs.Printed.{printed}
-use Rattle.ghost_model.specs.SessionLaws.{IsCatalogOf}
-use Rattle.ghost_model.specs.Values.{Database}
+use Rattle.ghost_model.specs.core.Causes.{Rose}
+use Rattle.ghost_model.specs.core.Channel.{Catalog, Journal}
+use Rattle.ghost_model.specs.core.Host.{Holding}
+use Rattle.ghost_model.specs.core.Moves.{lines}
+use Rattle.ghost_model.specs.core.NextMove.{IsFinished}
+use Rattle.ghost_model.specs.core.Printed.{printed}
+use Rattle.ghost_model.specs.laws.SessionLaws.{IsCatalogOf}
+use Rattle.ghost_model.specs.core.Values.{Database}
 use Rattle.session_laws.specs.Local.{IsLocal, holding_of}
 use Rattle.edge_traits.specs.Files.{Files}
 use Rattle.edge_traits.specs.Written.{grown}
@@ -19,20 +19,17 @@ use Rattle.key_session.specs.declared.counts.Damage.{Damage}
 use Rattle.key_session.specs.declared.tally.SessionStatus.{SessionStatus}
 use Rattle.key_session.specs.declared.tally.SessionStatus.TheVariants as status
 use Rattle.local_lines.specs.Lines.{Gives, is_cut}
-use Rattle.key_local.specs.Sessions.{World, outside_in, is_sink, is_damaged}
+use Rattle.key_local.specs.Sessions.{LocalSide, session_side_in, is_sink, is_damaged}
 use Rattle.key_local.specs.Preparing.{IsHosted}
 use Rattle.key_local.specs.declared.ends.LocalEnd.{LocalEnd}
 use Rattle.key_local.specs.declared.ends.LocalEnd.TheVariants as ends
 
 -- whether a session with a host in the key's own process can end so
 abbrev pub is_of_local : SessionStatus → Bool
-is_of_local status.Ok = true
-is_of_local status.Sink = true
 is_of_local status.Link = false
 is_of_local (status.Protocol kind at) = false
 is_of_local (status.Host code) = false
-is_of_local status.Flash = true
-is_of_local (status.Damaged damage) = true
+is_of_local _ = true
 
 -- a slot of a page, and what was found in it
 abbrev pub damage_at : (page slot found : ℕ) → Damage
@@ -40,19 +37,15 @@ damage_at page slot found = record { page = page; slot = slot; found = found }
 
 -- whether an end comes only where no append failed: behind `Sink`, which is told first, one may have failed too
 abbrev pub clears_journal : LocalEnd → Bool
-clears_journal ends.Ok = true
 clears_journal ends.Sink = false
 clears_journal ends.Depot = false
-clears_journal ends.Flash = true
-clears_journal (ends.Damaged page slot found) = true
+clears_journal _ = true
 
 -- whether an end comes only where the flash failed in no text: behind `Sink` and `Depot` it may have failed too
 abbrev pub clears_flash : LocalEnd → Bool
 clears_flash ends.Ok = true
-clears_flash ends.Sink = false
-clears_flash ends.Depot = false
-clears_flash ends.Flash = false
 clears_flash (ends.Damaged page slot found) = true
+clears_flash _ = false
 
 -- a host that holds the public part of some database of the catalog is linked
 pub record IsSomeHosted {D : Type 0} (contents : D → Option Files) (sure : D → List ℕ → Type 0) (catalog : Catalog) (link : HostLink D) : Type 0 where
@@ -66,13 +59,13 @@ KeepsLines before after None journal = ⊤
 KeepsLines before after (Some name) journal = told_file after name ≡ grown (told_file before name) (lines journal)
 
 -- a session with a host that holds the public part of a database was held to its end
-pub record RanOver (told : Bool) (catalog : Catalog) (database : Database) (texts : List (List ℕ)) (name : Option (List ℕ)) (end : LocalEnd) (before after : World) : Type 0 where
+pub record RanOver (told : Bool) (catalog : Catalog) (database : Database) (texts : List (List ℕ)) (name : Option (List ℕ)) (end : LocalEnd) (before after : LocalSide) : Type 0 where
   pub journal : Journal
   pub is_local : IsLocal catalog database [] texts journal
   pub finished : IsFinished journal
   pub kept : (Rose before.append_faults after.append_faults → ⊥) → KeepsLines before.files after.files name journal
   pub all_kept : end ≡ ends.Ok → KeepsLines before.files after.files name journal
-  pub gives : told ≡ true → Gives catalog.schema database texts (outside_in false before) (outside_in (is_sink end) after)
+  pub gives : told ≡ true → Gives catalog.schema database texts (session_side_in false before) (session_side_in (is_sink end) after)
   pub printed_all : told ≡ true → end ≡ ends.Ok → after.written ≡ grown before.written (printed catalog.schema texts database)
   pub cut : (t : told ≡ true) → end ≡ ends.Flash → list_any is_cut (gives t).given ≡ true
   pub called : end ≡ ends.Flash → Rose before.device.calls after.device.calls

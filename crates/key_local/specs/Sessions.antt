@@ -2,24 +2,24 @@
 -- that journal where a file is named for it, and gives each text's lines.
 use Rattle.std.specs.Prelude.{◌≡◌, ℕ, ◌+◌, Bool, true, false, List, [], ◌∷◌, Option, None, Some, ⊤}
 use Rattle.std.specs.List.{list_any}
-use Rattle.ghost_model.specs.Causes.{Rose}
-use Rattle.ghost_model.specs.Channel.{Catalog, Journal}
-use Rattle.ghost_model.specs.Database.{row_counts}
-use Rattle.ghost_model.specs.Flash.{HoldsSoFar}
-use Rattle.ghost_model.specs.Layout.{need}
-use Rattle.ghost_model.specs.Moves.{lines}
-use Rattle.ghost_model.specs.NextMove.{IsFinished}
-use Rattle.ghost_model.specs.Printed.{printed}
-use Rattle.ghost_model.specs.Schema.{Schema}
-use Rattle.ghost_model.specs.Split.{hidden_of}
-use Rattle.ghost_model.specs.Values.{Database}
-use Rattle.ghost_model.specs.Work.{pages_built}
+use Rattle.ghost_model.specs.core.Causes.{Rose}
+use Rattle.ghost_model.specs.core.Channel.{Catalog, Journal}
+use Rattle.ghost_model.specs.core.Database.{row_counts}
+use Rattle.ghost_model.specs.forms.Flash.{HoldsSoFar}
+use Rattle.ghost_model.specs.forms.Layout.{need}
+use Rattle.ghost_model.specs.core.Moves.{lines}
+use Rattle.ghost_model.specs.core.NextMove.{IsFinished}
+use Rattle.ghost_model.specs.core.Printed.{printed}
+use Rattle.ghost_model.specs.core.Schema.{Schema}
+use Rattle.ghost_model.specs.core.Split.{hidden_of}
+use Rattle.ghost_model.specs.core.Values.{Database}
+use Rattle.ghost_model.specs.forms.Work.{pages_built}
 use Rattle.session_laws.specs.Local.{IsLocal}
 use Rattle.edge_traits.specs.Devices.{Device}
 use Rattle.edge_traits.specs.Files.{Files, HasFile, SameBut}
 use Rattle.edge_traits.specs.Written.{grown}
 use Rattle.key_exec.specs.Blaming.{IsDamaged}
-use Rattle.key_session.specs.Telling.{Outside, outside}
+use Rattle.key_session.specs.Telling.{SessionSide, session_side}
 use Rattle.key_words.specs.Words.{Local}
 use Rattle.local_lines.specs.Lines.{Gives, is_cut}
 use Rattle.key_local.specs.declared.ends.LocalEnd.{LocalEnd}
@@ -43,17 +43,17 @@ catalog_for schema database = record { schema = schema; counts = row_counts data
 abbrev pub catalog_in : Subject → Catalog
 catalog_in one = catalog_for one.schema one.database
 
--- the flash, the depot's files where they are told, the count of failed appends, the sink's count of faults, and what a
--- sink that tells it was written
-pub record World : Type 0 where
+-- the side of the outside that `local` changes: the flash, the depot's files where they are told, the count of failed
+-- appends, the sink's count of faults, and what a sink that tells it was written
+pub record LocalSide : Type 0 where
   pub device : Device
   pub files : Option Files
   pub append_faults : ℕ
   pub sink_faults : ℕ
   pub written : Option (List ℕ)
 
-abbrev pub world : Device → Option Files → (append_faults sink_faults : ℕ) → Option (List ℕ) → World
-world device files append_faults sink_faults written = record {
+abbrev pub local_side : Device → Option Files → (append_faults sink_faults : ℕ) → Option (List ℕ) → LocalSide
+local_side device files append_faults sink_faults written = record {
   device = device;
   files = files;
   append_faults = append_faults;
@@ -62,22 +62,16 @@ world device files append_faults sink_faults written = record {
 }
 
 -- where the lines go, and the flash, after a write failed or before
-abbrev pub outside_in : (failed : Bool) → World → Outside
-outside_in failed now = outside failed now.sink_faults now.written now.device
+abbrev pub session_side_in : (failed : Bool) → LocalSide → SessionSide
+session_side_in failed now = session_side failed now.sink_faults now.written now.device
 
 abbrev pub is_sink : LocalEnd → Bool
-is_sink ends.Ok = false
 is_sink ends.Sink = true
-is_sink ends.Depot = false
-is_sink ends.Flash = false
-is_sink (ends.Damaged page slot found) = false
+is_sink _ = false
 
 abbrev pub is_damaged : LocalEnd → Bool
-is_damaged ends.Ok = false
-is_damaged ends.Sink = false
-is_damaged ends.Depot = false
-is_damaged ends.Flash = false
 is_damaged (ends.Damaged page slot found) = true
+is_damaged _ = false
 
 -- the file that is named for it has the lines of a journal and no more, where the depot tells its files
 abbrev pub HasLines : Option Files → (name : Option (List ℕ)) → Journal → Type 0
@@ -90,7 +84,7 @@ SameBesides None before after = after ≡ before
 SameBesides (Some name) before after = SameBut name before after
 
 -- a session was held to its end
-pub record Ran (told : Bool) (one : Subject) (end : LocalEnd) (before after : World) : Type 0 where
+pub record Ran (told : Bool) (one : Subject) (end : LocalEnd) (before after : LocalSide) : Type 0 where
   pub journal : Journal
   pub is_local : IsLocal (catalog_in one) one.database [] one.texts journal
   pub finished : IsFinished journal
@@ -99,7 +93,7 @@ pub record Ran (told : Bool) (one : Subject) (end : LocalEnd) (before after : Wo
   -- and so it is where all went well
   pub all_kept : end ≡ ends.Ok → HasLines after.files one.words.journal journal
   -- each text has its lines, or a front of them where the flash failed
-  pub gives : told ≡ true → Gives one.schema one.database one.texts (outside_in false before) (outside_in (is_sink end) after)
+  pub gives : told ≡ true → Gives one.schema one.database one.texts (session_side_in false before) (session_side_in (is_sink end) after)
   pub printed_all : told ≡ true → end ≡ ends.Ok → after.written ≡ grown before.written (printed one.schema one.texts one.database)
   -- the flash is blamed only where it failed a text
   pub cut : (t : told ≡ true) → end ≡ ends.Flash → list_any is_cut (gives t).given ≡ true

@@ -1,16 +1,16 @@
 //! The command.
 
 ghost use Rattle.std.specs.Prelude.{◌≡◌, ◌⊎◌, ◌≤◌, ℕ, true, false, Some, Ok, Err, length, option_map, List};
-ghost use Rattle.ghost_model.specs.Causes.{Rose};
-ghost use Rattle.ghost_model.specs.Database.{IsDatabase};
-ghost use Rattle.ghost_model.specs.Schema.{Schema};
-ghost use Rattle.ghost_model.specs.SessionLaws.{IsCatalogOf};
-ghost use Rattle.ghost_model.specs.Split.{hidden_of};
-ghost use Rattle.ghost_model.specs.Texts.{texts_of};
-ghost use Rattle.ghost_model.specs.Values.{Database};
+ghost use Rattle.ghost_model.specs.core.Causes.{Rose};
+ghost use Rattle.ghost_model.specs.core.Database.{IsDatabase};
+ghost use Rattle.ghost_model.specs.core.Schema.{Schema};
+ghost use Rattle.ghost_model.specs.laws.SessionLaws.{IsCatalogOf};
+ghost use Rattle.ghost_model.specs.core.Split.{hidden_of};
+ghost use Rattle.ghost_model.specs.core.Texts.{texts_of};
+ghost use Rattle.ghost_model.specs.core.Values.{Database};
 ghost use Rattle.session_laws.specs.Local.{holding_of};
 ghost use Rattle.edge_traits.specs.Files.{Files, AreSure};
-ghost use Rattle.ghost_model.specs.Flash.{IsHidden};
+ghost use Rattle.ghost_model.specs.forms.Flash.{IsHidden};
 ghost use Rattle.session_replies.specs.Kept.{IsKept, none_heard};
 ghost use Rattle.key_words.specs.Views.{local_view};
 ghost use Rattle.key_inputs.specs.Openings.{InputFault, Spelled, Broken};
@@ -18,8 +18,8 @@ ghost use Rattle.key_plain.specs.Openings.{PlainInput};
 ghost use Rattle.key_local.specs.Openings.{local_opening};
 ghost use Rattle.key_local.specs.Preparing.{IsHosted};
 ghost use Rattle.key_local.specs.Running.{IsSomeHosted};
-ghost use Rattle.key_local.specs.Sessions.{SameBesides, catalog_for, subject, world};
-ghost use Rattle.key_local.specs.Results.{Ends, EndsSome, EndsLocal, is_failure, is_faultless, leaves_files, leaves_flash, blames_depot, clears_depot, blames_append, clears_append, blames_flash, clears_flash};
+ghost use Rattle.key_local.specs.Sessions.{SameBesides, catalog_for, subject, local_side};
+ghost use Rattle.key_local.specs.Results.{EndsLocalCall, EndsSomeLocal, EndsLocal, is_failure, is_faultless, leaves_files, leaves_flash, blames_depot, clears_depot, blames_append, clears_append, blames_flash, clears_flash};
 ghost use Rattle.key_local.specs.declared.ends.LocalEnd.TheVariants as ends;
 ghost use Rattle.key_local.specs.declared.ends.LocalFailure.TheVariants as failure;
 
@@ -51,12 +51,12 @@ pub fn local<D: Depot, F: Flash, O: Sink>(
     out: &mut O,
 ) -> Result<LocalEnd, LocalFailure>
     ensures ends { (files : Files) → D.contents depot.old ≡ Some files
-        → Ends F.told (local_opening files (local_view words.now)) (local_view words.now) result
-        (world (F.state flash.old) (D.contents depot.old) (D.append_faults depot.old) (O.faults out.old) (O.written out.old))
-        (world (F.state flash.new) (D.contents depot.new) (D.append_faults depot.new) (O.faults out.new) (O.written out.new)) }
-    ensures ran { EndsSome F.told (local_view words.now) result
-        (world (F.state flash.old) (D.contents depot.old) (D.append_faults depot.old) (O.faults out.old) (O.written out.old))
-        (world (F.state flash.new) (D.contents depot.new) (D.append_faults depot.new) (O.faults out.new) (O.written out.new)) }
+        → EndsLocalCall F.told (local_opening files (local_view words.now)) (local_view words.now) result
+        (local_side (F.state flash.old) (D.contents depot.old) (D.append_faults depot.old) (O.faults out.old) (O.written out.old))
+        (local_side (F.state flash.new) (D.contents depot.new) (D.append_faults depot.new) (O.faults out.new) (O.written out.new)) }
+    ensures ran { EndsSomeLocal F.told (local_view words.now) result
+        (local_side (F.state flash.old) (D.contents depot.old) (D.append_faults depot.old) (O.faults out.old) (O.written out.old))
+        (local_side (F.state flash.new) (D.contents depot.new) (D.append_faults depot.new) (O.faults out.new) (O.written out.new)) }
     ensures complete { (files : Files) → (input : PlainInput) → D.contents depot.old ≡ Some files
         → (Rose (D.faults depot.old) (D.faults depot.new) → ⊥) → (Rose (F.state flash.old).faults (F.state flash.new).faults → ⊥) → (Rose (O.faults out.old) (O.faults out.new) → ⊥)
         → local_opening files (local_view words.now) ≡ Spelled input → is_faultless F.told result ≡ true }
@@ -96,8 +96,8 @@ fn local_opened<D: Depot, F: Flash, O: Sink>(
     requires database { IsDatabase opened.tables.schema opened.tables.tables }
     requires few { length (texts_of opened.script.items) ≤ 64 }
     ensures ends { EndsLocal F.told (subject opened.tables.schema opened.tables.tables (texts_of opened.script.items) (local_view words.now)) result
-        (world (F.state flash.old) (D.contents depot.old) (D.append_faults depot.old) (O.faults out.old) (O.written out.old))
-        (world (F.state flash.new) (D.contents depot.new) (D.append_faults depot.new) (O.faults out.new) (O.written out.new)) }
+        (local_side (F.state flash.old) (D.contents depot.old) (D.append_faults depot.old) (O.faults out.old) (O.written out.old))
+        (local_side (F.state flash.new) (D.contents depot.new) (D.append_faults depot.new) (O.faults out.new) (O.written out.new)) }
     ensures nothing_written { is_failure result ≡ true → O.written out.new ≡ O.written out.old }
     ensures never_other { (F.state flash.new ≡ F.state flash.old) ⊎ ((other : List ℕ) → (F.state flash.new).name ≡ Some other → other ≡ words.now.flash.now) }
     ensures files_left { leaves_files result ≡ true → D.contents depot.new ≡ D.contents depot.old }
@@ -136,8 +136,8 @@ fn local_prepared<D: Depot, F: Flash, O: Sink>(
         → IsCatalogOf prepared.cat database
         → IsHosted ⟦<MemDepot as Depot>⟧.contents ⟦<MemDepot as Depot>⟧.sure (holding_of prepared.cat database) prepared.link
         → EndsLocal F.told (subject schema database (texts_of script.now) (local_view words.now)) result
-        (world (F.state flash.old) (D.contents depot.old) (D.append_faults depot.old) (O.faults out.old) (O.written out.old))
-        (world (F.state flash.new) (D.contents depot.new) (D.append_faults depot.new) (O.faults out.new) (O.written out.new)) }
+        (local_side (F.state flash.old) (D.contents depot.old) (D.append_faults depot.old) (O.faults out.old) (O.written out.old))
+        (local_side (F.state flash.new) (D.contents depot.new) (D.append_faults depot.new) (O.faults out.new) (O.written out.new)) }
     ensures nothing_written { is_failure result ≡ true → O.written out.new ≡ O.written out.old }
     ensures never_other { (other : List ℕ) → (F.state flash.new).name ≡ Some other → other ≡ words.now.flash.now }
     ensures files_left { leaves_files result ≡ true → D.contents depot.new ≡ D.contents depot.old }

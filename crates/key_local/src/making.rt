@@ -1,11 +1,11 @@
 //! The making of the flash and of the journal's file.
 
 ghost use Rattle.std.specs.Prelude.{◌≡◌, ◌≤◌, ◌<◌, ◌+◌, ◌^◌, [], true, Some, Err, OnOk, option_map, ℕ, List};
-ghost use Rattle.ghost_model.specs.Causes.{HasCause, Rose};
-ghost use Rattle.ghost_model.specs.Flash.{HoldsSoFar};
-ghost use Rattle.ghost_model.specs.Layout as layout;
-ghost use Rattle.ghost_model.specs.Work as work;
-ghost use Rattle.ghost_model.specs.Flash.{IsHidden};
+ghost use Rattle.ghost_model.specs.core.Causes.{HasCause, Rose};
+ghost use Rattle.ghost_model.specs.forms.Flash.{HoldsSoFar};
+ghost use Rattle.ghost_model.specs.forms.Layout as layout;
+ghost use Rattle.ghost_model.specs.forms.Work as work;
+ghost use Rattle.ghost_model.specs.forms.Flash.{IsHidden};
 ghost use Rattle.edge_traits.specs.Devices.{Counts};
 ghost use Rattle.key_local.specs.Making.{IsOfMaking};
 ghost use Rattle.key_local.specs.Sessions.{HasLines, SameBesides};

@@ -1,19 +1,19 @@
 //! The reading of what the command is given.
 
-ghost use Rattle.std.specs.Prelude.{◌≡◌, ◌≤◌, true, Some, Err, IfOk, IfErr, is_some, length};
-ghost use Rattle.ghost_model.specs.Causes.{Rose};
-ghost use Rattle.ghost_model.specs.Database as database;
-ghost use Rattle.ghost_model.specs.Texts.{texts_of};
+ghost use Rattle.std.specs.Prelude.{◌≡◌, ◌≤◌, Some, Err, IfOk, IfErr, length};
+ghost use Rattle.ghost_model.specs.core.Causes.{Rose};
+ghost use Rattle.ghost_model.specs.core.Database as database;
+ghost use Rattle.ghost_model.specs.core.Texts.{texts_of};
 ghost use Rattle.edge_traits.specs.Files.{Files, AreSure};
 ghost use Rattle.key_words.specs.Views.{local_view};
 ghost use Rattle.key_inputs.specs.Openings.{Missing};
 ghost use Rattle.key_inputs.specs.Scripts.{most_texts};
-ghost use Rattle.key_inputs.specs.Views.{Tells, rule_of};
+ghost use Rattle.key_inputs.specs.Views.{Tells};
 ghost use Rattle.key_local.specs.Openings.{local_opening};
 ghost use Rattle.key_local.specs.Reading.{AreSpelled};
 
 use edge_traits::depot::Depot;
-use key_inputs::{Input, InputFault, OpenFault, open_script, open_tables};
+use key_inputs::{Input, OpenFault, open_script, open_tables};
 use key_words::LocalWords;
 use std::alloc::Global;
 
@@ -34,7 +34,6 @@ pub(crate) fn open_inputs<D: Depot>(
     ensures told { (files : Files) → D.contents depot.old ≡ Some files → IfErr result (λ fault. Tells (local_opening files (local_view words.now)) fault) }
     ensures database { IfOk result (λ opened. database.IsDatabase opened.tables.schema opened.tables.tables) }
     ensures few { IfOk result (λ opened. length (texts_of opened.script.items) ≤ most_texts) }
-    ensures rule { (fault : InputFault) → result ≡ Err (OpenFault.Input fault) → is_some (rule_of fault) ≡ true }
     ensures never_falls { D.faults depot.old ≤ D.faults depot.new }
     ensures failed { result ≡ Err OpenFault.Depot → Rose (D.faults depot.old) (D.faults depot.new) }
     ensures other { (result ≡ Err OpenFault.Depot → ⊥) → D.faults depot.new ≡ D.faults depot.old }

@@ -1,14 +1,14 @@
 //! What a session needs in memory: the parts of the tables, the host and its link, and the room for replies.
 
 ghost use Rattle.std.specs.Prelude.{◌≡◌, Some, IfOk};
-ghost use Rattle.ghost_model.specs.Channel as channel;
-ghost use Rattle.ghost_model.specs.Database.{IsDatabase};
-ghost use Rattle.ghost_model.specs.Host.{host_of};
-ghost use Rattle.ghost_model.specs.SessionLaws.{IsCatalogOf};
-ghost use Rattle.ghost_model.specs.Split as divided;
+ghost use Rattle.ghost_model.specs.core.Channel as channel;
+ghost use Rattle.ghost_model.specs.core.Database.{IsDatabase};
+ghost use Rattle.ghost_model.specs.core.Host.{host_of};
+ghost use Rattle.ghost_model.specs.laws.SessionLaws.{IsCatalogOf};
+ghost use Rattle.ghost_model.specs.core.Split as divided;
 ghost use Rattle.session_laws.specs.Local.{holding_of};
 ghost use Rattle.edge_traits.specs.Files.{file_of};
-ghost use Rattle.ghost_model.specs.Flash.{IsHidden};
+ghost use Rattle.ghost_model.specs.forms.Flash.{IsHidden};
 ghost use Rattle.session_replies.specs.Kept.{IsKept, none_heard};
 ghost use Rattle.key_local.specs.Sessions.{catalog_for};
 ghost use Rattle.key_local.specs.Preparing.{IsSomeImage, IsHosted};
@@ -27,7 +27,7 @@ use reply_store::ReplyStore;
 use session_replies::Replies;
 use std::alloc::{AllocError, Global};
 use tree_schema::Catalog;
-use tree_schema::catalog_bytes::{a_catalog_is_short, catalogs_are_bytes};
+use tree_schema::catalog_bytes::a_catalog_is_short;
 
 /// The name of the host's file in its depot.
 const VISIBLE: &str = "visible";
@@ -61,7 +61,6 @@ fn parts_of(alloc: Global, input: Input) -> Result<Parts, AllocError>
     let Input { schema, tables } = input;
     let cat = catalog_of(schema, &tables);
     a_catalog_is_short(&cat);
-    catalogs_are_bytes();
     public_parts_go_with_catalogs();
     let (public, hidden) = split(alloc, cat.schema(), tables)?;
     let image = visible_image(alloc, &cat, &public)?;
@@ -69,6 +68,7 @@ fn parts_of(alloc: Global, input: Input) -> Result<Parts, AllocError>
 }
 
 /// A depot in memory that has one file of this name.
+#[tactic(auto, using(crate::proofs::Begun::has_just_room))]
 fn depot_with(alloc: Global, name: &str, image: Vec<u8>) -> Result<MemDepot, AllocError>
     ensures file { IfOk result (λ depot. file_of (⟦<MemDepot as Depot>⟧.contents depot) name.now ≡ Some image.items) }
     ensures is_sure { IfOk result (λ depot. ⟦<MemDepot as Depot>⟧.sure depot name.now) }
@@ -80,7 +80,7 @@ fn depot_with(alloc: Global, name: &str, image: Vec<u8>) -> Result<MemDepot, All
     };
     let mut depot = MemDepot::new(alloc, room, &[])?;
     if !depot.put(name, &image) {
-        return Err(AllocError);
+        unreachable!()
     }
     Ok(depot)
 }

@@ -1,12 +1,12 @@
 //! The session.
 
 ghost use Rattle.std.specs.Prelude.{◌≡◌, ◌≤◌, ℕ, true, false, length};
-ghost use Rattle.ghost_model.specs.Causes.{Rose};
-ghost use Rattle.ghost_model.specs.Flash.{HoldsFilesSoFar};
-ghost use Rattle.ghost_model.specs.SessionLaws.{IsCatalogOf};
-ghost use Rattle.ghost_model.specs.Split.{hidden_of};
-ghost use Rattle.ghost_model.specs.Texts.{texts_of};
-ghost use Rattle.ghost_model.specs.Values.{Database};
+ghost use Rattle.ghost_model.specs.core.Causes.{Rose};
+ghost use Rattle.ghost_model.specs.forms.Flash.{HoldsFilesSoFar};
+ghost use Rattle.ghost_model.specs.laws.SessionLaws.{IsCatalogOf};
+ghost use Rattle.ghost_model.specs.core.Split.{hidden_of};
+ghost use Rattle.ghost_model.specs.core.Texts.{texts_of};
+ghost use Rattle.ghost_model.specs.core.Values.{Database};
 ghost use Rattle.session_laws.specs.Local.{holding_of};
 ghost use Rattle.edge_traits.specs.Devices.{KeepsPages};
 ghost use Rattle.key_exec.specs.Plans.{Suffices};
@@ -17,7 +17,7 @@ ghost use Rattle.key_session.specs.Running as session;
 ghost use Rattle.key_local.specs.Preparing.{IsHosted};
 ghost use Rattle.key_local.specs.Running.{RanOver, IsSomeHosted, is_of_local, damage_at, clears_journal, clears_flash};
 ghost use Rattle.key_local.specs.declared.ends.LocalEnd.TheVariants as ends;
-ghost use Rattle.key_local.specs.Sessions.{SameBesides, is_sink, world};
+ghost use Rattle.key_local.specs.Sessions.{SameBesides, is_sink, local_side};
 
 use crate::ends::LocalEnd;
 use edge_traits::depot::Depot;
@@ -31,7 +31,6 @@ use local_lines::laws::told_texts_are_given;
 use local_links::host_link::HostLink;
 use local_links::journaled::Journaled;
 use local_links::laws::{proper_journals_are_written, sessions_are_local};
-use script_asks::laws::asks_are_few;
 use session_laws::local::local_sessions_are_served;
 use session_replies::Replies;
 use tree_schema::Catalog;
@@ -88,8 +87,8 @@ fn hold<D: Depot, F: Flash, O: Sink>(
         → IsHosted ⟦<MemDepot as Depot>⟧.contents ⟦<MemDepot as Depot>⟧.sure (holding_of cat.now database) link.old.link.now
         → (F.told ≡ true → HoldsFilesSoFar (F.state flash.old).page cat.now (hidden_of cat.now.schema database))
         → RanOver F.told cat.now database (texts_of script.now) (named link.old) result
-        (world (F.state flash.old) (D.contents link.old.depot.now) (D.append_faults link.old.depot.now) (O.faults out.old) (O.written out.old))
-        (world (F.state flash.new) (D.contents link.new.depot.now) (D.append_faults link.new.depot.now) (O.faults out.new) (O.written out.new)) }
+        (local_side (F.state flash.old) (D.contents link.old.depot.now) (D.append_faults link.old.depot.now) (O.faults out.old) (O.written out.old))
+        (local_side (F.state flash.new) (D.contents link.new.depot.now) (D.append_faults link.new.depot.now) (O.faults out.new) (O.written out.new)) }
     ensures pages { KeepsPages (F.state flash.old) (F.state flash.new) }
     ensures others { SameBesides (named link.old) (D.contents link.old.depot.now) (D.contents link.new.depot.now) }
     ensures sink { is_sink result ≡ true → Rose (O.faults out.old) (O.faults out.new) }
@@ -107,7 +106,6 @@ fn hold<D: Depot, F: Flash, O: Sink>(
     proper_journals_are_written::<HostLink<MemDepot>, D>();
     local_sessions_are_served();
     told_texts_are_given();
-    asks_are_few();
     let options = Options {
         at: "",
         plan: words.plan,
@@ -136,8 +134,8 @@ pub(crate) fn run<D: Depot, F: Flash, O: Sink>(
         → IsHosted ⟦<MemDepot as Depot>⟧.contents ⟦<MemDepot as Depot>⟧.sure (holding_of cat.now database) link.old
         → (F.told ≡ true → HoldsFilesSoFar (F.state flash.old).page cat.now (hidden_of cat.now.schema database))
         → RanOver F.told cat.now database (texts_of script.now) (local_view words.now).journal result
-        (world (F.state flash.old) (D.contents depot.old) (D.append_faults depot.old) (O.faults out.old) (O.written out.old))
-        (world (F.state flash.new) (D.contents depot.new) (D.append_faults depot.new) (O.faults out.new) (O.written out.new)) }
+        (local_side (F.state flash.old) (D.contents depot.old) (D.append_faults depot.old) (O.faults out.old) (O.written out.old))
+        (local_side (F.state flash.new) (D.contents depot.new) (D.append_faults depot.new) (O.faults out.new) (O.written out.new)) }
     ensures pages { KeepsPages (F.state flash.old) (F.state flash.new) }
     ensures others { SameBesides (local_view words.now).journal (D.contents depot.old) (D.contents depot.new) }
     ensures sink { is_sink result ≡ true → Rose (O.faults out.old) (O.faults out.new) }

@@ -1,12 +1,12 @@
 -- Lines that were handed on so far, and those that are left.
 use Rattle.std.proofs.Common.{◌≡◌, ℕ, ◌+◌, ◌≤◌, true, false, List, [], ◌∷◌, ◌++◌, length, map, Option, None, Some, Ok, refl, sym, ap, subst, ◌∙◌, append_assoc, append-nil, arith}
 use Rattle.std.specs.List.{concat}
-use Rattle.ghost_model.specs.Values.{Row, Database}
-use Rattle.ghost_model.specs.Schema.{Schema}
-use Rattle.ghost_model.specs.Query.{Query}
-use Rattle.ghost_model.specs.QueryReading.{reading}
-use Rattle.ghost_model.specs.Meaning.{answer}
-use Rattle.ghost_model.specs.Printed.{row_line, count_line, answer_lines, lines_of_reading, lines_of_text, lines_from, printed}
+use Rattle.ghost_model.specs.core.Values.{Row, Database}
+use Rattle.ghost_model.specs.core.Schema.{Schema}
+use Rattle.ghost_model.specs.core.Query.{Query}
+use Rattle.ghost_model.specs.readings.QueryReading.{reading}
+use Rattle.ghost_model.specs.core.Meaning.{answer}
+use Rattle.ghost_model.specs.core.Printed.{row_line, count_line, answer_lines, lines_of_reading, lines_of_text, lines_from, printed}
 use Rattle.edge_traits.specs.Written.{grown}
 use Rattle.key_lines.specs.Handing.{Handed, Hands, PiecesJoin}
 

@@ -1,9 +1,9 @@
 -- What the result of a printing tells of what was read.
 use Rattle.std.proofs.Common.{◌≡◌, ℕ, ◌≤◌, true, false, List, length, Option, Result, Ok, Err, OnOk, OnErr, ap, subst, ◌∙◌}
 use Rattle.std.specs.Prelude.{is_err}
-use Rattle.ghost_model.specs.Database.{IsDatabase}
-use Rattle.ghost_model.specs.Printed.{printed}
-use Rattle.ghost_model.specs.Texts.{texts_of}
+use Rattle.ghost_model.specs.core.Database.{IsDatabase}
+use Rattle.ghost_model.specs.core.Printed.{printed}
+use Rattle.ghost_model.specs.core.Texts.{texts_of}
 use Rattle.edge_traits.specs.Written.{grown, GrowsByFront}
 use Rattle.key_inputs.specs.Openings.{most_text}
 use Rattle.key_inputs.specs.Scripts.{most_texts}

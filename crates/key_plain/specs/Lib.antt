@@ -1,2 +1,3 @@
 pub mod Openings
 pub mod Views
+pub mod Renaming

@@ -1,10 +1,10 @@
 -- What the files that the words of `plain` name spell: a schema, the files of its tables and a script, or the first rule
 -- that is broken in reading order. The schema's file and the tables' files come before the script's.
 use Rattle.std.specs.Prelude.{ℕ, List}
-use Rattle.ghost_model.specs.Schema.{Schema}
-use Rattle.ghost_model.specs.Database.{database_of}
-use Rattle.ghost_model.specs.Printed.{printed}
-use Rattle.ghost_model.specs.Texts.{texts_of}
+use Rattle.ghost_model.specs.core.Schema.{Schema}
+use Rattle.ghost_model.specs.core.Database.{database_of}
+use Rattle.ghost_model.specs.core.Printed.{printed}
+use Rattle.ghost_model.specs.core.Texts.{texts_of}
 use Rattle.edge_traits.specs.Files.{Files}
 use Rattle.key_words.specs.Words.{Plain}
 use Rattle.key_inputs.specs.Openings.{Opening, Spelled, Broken, Missing, TablesInput, tables_opening}

@@ -1,15 +1,14 @@
 -- What a call of `plain` did, by its result.
-use Rattle.std.specs.Prelude.{◌≡◌, ℕ, ◌≤◌, Bool, true, false, List, length, Option, Some, Result, Ok, Err, ⊤}
-use Rattle.ghost_model.specs.Schema.{Schema}
-use Rattle.ghost_model.specs.Values.{Database}
-use Rattle.ghost_model.specs.Database.{database_of, IsDatabase}
-use Rattle.ghost_model.specs.Printed.{printed}
-use Rattle.ghost_model.specs.Texts.{texts_of}
+use Rattle.std.specs.Prelude.{◌≡◌, ℕ, ◌≤◌, Bool, true, false, List, length, Option, Result, Ok, Err, ⊤}
+use Rattle.ghost_model.specs.core.Schema.{Schema}
+use Rattle.ghost_model.specs.core.Values.{Database}
+use Rattle.ghost_model.specs.core.Database.{database_of, IsDatabase}
+use Rattle.ghost_model.specs.core.Printed.{printed}
+use Rattle.ghost_model.specs.core.Texts.{texts_of}
 use Rattle.edge_traits.specs.Written.{grown, GrowsByFront}
-use Rattle.key_inputs.specs.Openings.{InputFault, Opening, Spelled, Broken, most_text}
+use Rattle.key_inputs.specs.Openings.{Opening, Spelled, Broken, most_text}
 use Rattle.key_inputs.specs.Scripts.{most_texts}
 use Rattle.key_inputs.specs.Views.{rule_of}
-use Rattle.key_inputs.specs.declared.faults.InputFault.{InputFault as Fault}
 use Rattle.key_plain.specs.Openings.{PlainInput, printed_by}
 use Rattle.key_plain.specs.declared.faults.PlainFault.{PlainFault}
 use Rattle.key_plain.specs.declared.faults.PlainFault.TheVariants as fault
@@ -33,19 +32,12 @@ pub record PrintsFront (opening : Opening PlainInput) (before after : Option (Li
   pub spelled : opening ≡ Spelled input
   pub front : GrowsByFront before (printed_by input) after
 
--- a fault tells the rule that is broken first
-pub record IsTold (opening : Opening PlainInput) (broken : Fault) : Type 0 where
-  pub rule : InputFault
-  pub told : rule_of broken ≡ Some rule
-  pub first : opening ≡ Broken rule
-
 -- how a call ended of which the depot tells its files
-abbrev pub Ends : {T : Type 0} → Opening PlainInput → Result T PlainFault → (before after : Option (List ℕ)) → Type 0
-Ends opening (Ok _) before after = Prints opening before after
-Ends opening (Err fault.NoMemory) before after = ⊤
-Ends opening (Err fault.Depot) before after = ⊤
-Ends opening (Err (fault.Input broken)) before after = IsTold opening broken
-Ends opening (Err fault.Sink) before after = PrintsFront opening before after
+abbrev pub EndsPlainCall : {T : Type 0} → Opening PlainInput → Result T PlainFault → (before after : Option (List ℕ)) → Type 0
+EndsPlainCall opening (Ok _) before after = Prints opening before after
+EndsPlainCall opening (Err (fault.Input broken)) before after = opening ≡ Broken (rule_of broken)
+EndsPlainCall opening (Err fault.Sink) before after = PrintsFront opening before after
+EndsPlainCall opening _ before after = ⊤
 
 -- a database of a schema, and a script within its limits
 pub record PlainRead : Type 0 where
@@ -70,17 +62,13 @@ pub record PrintsReadFront (before after : Option (List ℕ)) : Type 0 where
   pub front : GrowsByFront before (printed_of read) after
 
 -- what a call printed, whether or not the depot tells its files
-abbrev pub PrintsSome : {T : Type 0} → Result T PlainFault → (before after : Option (List ℕ)) → Type 0
-PrintsSome (Ok _) before after = PrintsRead before after
-PrintsSome (Err fault.NoMemory) before after = ⊤
-PrintsSome (Err fault.Depot) before after = ⊤
-PrintsSome (Err (fault.Input broken)) before after = ⊤
-PrintsSome (Err fault.Sink) before after = PrintsReadFront before after
+abbrev pub PrintsSomeRead : {T : Type 0} → Result T PlainFault → (before after : Option (List ℕ)) → Type 0
+PrintsSomeRead (Ok _) before after = PrintsRead before after
+PrintsSomeRead (Err fault.Sink) before after = PrintsReadFront before after
+PrintsSomeRead _ before after = ⊤
 
 -- whether a call ends so without a write
 abbrev pub writes_nothing : {T : Type 0} → Result T PlainFault → Bool
 writes_nothing (Ok _) = false
-writes_nothing (Err fault.NoMemory) = true
-writes_nothing (Err fault.Depot) = true
-writes_nothing (Err (fault.Input broken)) = true
 writes_nothing (Err fault.Sink) = false
+writes_nothing _ = true

@@ -1,19 +1,18 @@
 //! The command.
 
 ghost use Rattle.std.specs.Prelude.{◌≡◌, ◌⊎◌, true, Some, Ok, Err};
-ghost use Rattle.ghost_model.specs.Causes.{Rose};
+ghost use Rattle.ghost_model.specs.core.Causes.{Rose};
 ghost use Rattle.edge_traits.specs.Files.{Files, AreSure};
 ghost use Rattle.key_words.specs.Views.{plain_view};
 ghost use Rattle.key_inputs.specs.Openings.{Spelled, Missing};
 ghost use Rattle.key_plain.specs.Openings.{PlainInput, plain_opening};
-ghost use Rattle.key_plain.specs.Views.{Ends, PrintsSome, writes_nothing};
+ghost use Rattle.key_plain.specs.Views.{EndsPlainCall, PrintsSomeRead, writes_nothing};
 
-use crate::faults::PlainFault;
+use crate::faults::{PlainFault, fault_of};
 use crate::opening::open;
 use crate::printing::print_script;
 use edge_traits::depot::Depot;
 use edge_traits::sink::Sink;
-use key_inputs::OpenFault;
 use key_words::PlainWords;
 use std::alloc::Global;
 
@@ -28,11 +27,11 @@ pub fn plain<D: Depot, O: Sink>(
     out: &mut O,
 ) -> Result<(), PlainFault>
     ensures ends { (files : Files) → D.contents depot.old ≡ Some files
-        → Ends (plain_opening files (plain_view words.now)) result (O.written out.old) (O.written out.new) }
+        → EndsPlainCall (plain_opening files (plain_view words.now)) result (O.written out.old) (O.written out.new) }
     ensures complete { (files : Files) → (input : PlainInput) → D.contents depot.old ≡ Some files
         → (Rose (D.faults depot.old) (D.faults depot.new) → ⊥) → (Rose (O.faults out.old) (O.faults out.new) → ⊥)
         → plain_opening files (plain_view words.now) ≡ Spelled input → (result ≡ Ok tt) ⊎ (result ≡ Err PlainFault.NoMemory) }
-    ensures prints { PrintsSome result (O.written out.old) (O.written out.new) }
+    ensures prints { PrintsSomeRead result (O.written out.old) (O.written out.new) }
     ensures nothing_written { writes_nothing result ≡ true → O.written out.new ≡ O.written out.old }
     ensures sink { result ≡ Err PlainFault.Sink → Rose (O.faults out.old) (O.faults out.new) }
     ensures no_sink { (result ≡ Err PlainFault.Sink → ⊥) → O.faults out.new ≡ O.faults out.old }
@@ -51,8 +50,6 @@ pub fn plain<D: Depot, O: Sink>(
             }
             Ok(())
         }
-        Err(OpenFault::NoMemory) => Err(PlainFault::NoMemory),
-        Err(OpenFault::Depot) => Err(PlainFault::Depot),
-        Err(OpenFault::Input(fault)) => Err(PlainFault::Input(fault)),
+        Err(fault) => Err(fault_of(fault)),
     }
 }

@@ -1,6 +1,9 @@
 //! Why the command ended early.
 
-use key_inputs::InputFault;
+ghost use Rattle.std.specs.Prelude.{◌≡◌};
+ghost use Rattle.key_plain.specs.Renaming.{as_fault};
+
+use key_inputs::{InputFault, OpenFault};
 use thiserror::Error;
 
 /// Why the command ended before all lines were printed.
@@ -21,4 +24,15 @@ pub enum PlainFault {
     /// A line could not be printed.
     #[error("the lines could not be printed")]
     Sink,
+}
+
+/// What stands for a fault of the inputs: want of memory for want of memory alone.
+pub(crate) fn fault_of(fault: OpenFault) -> PlainFault
+    ensures { result ≡ as_fault fault }
+{
+    match fault {
+        OpenFault::NoMemory => PlainFault::NoMemory,
+        OpenFault::Depot => PlainFault::Depot,
+        OpenFault::Input(fault) => PlainFault::Input(fault),
+    }
 }

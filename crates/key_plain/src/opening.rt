@@ -1,19 +1,19 @@
 //! The reading of what the command is given.
 
-ghost use Rattle.std.specs.Prelude.{◌≡◌, ◌≤◌, ℕ, List, true, Some, Err, IfOk, IfErr, is_some, length};
-ghost use Rattle.ghost_model.specs.Causes.{Rose};
-ghost use Rattle.ghost_model.specs.Database as database;
-ghost use Rattle.ghost_model.specs.Texts.{texts_of};
+ghost use Rattle.std.specs.Prelude.{◌≡◌, ◌≤◌, ℕ, List, Some, Err, IfOk, IfErr, length};
+ghost use Rattle.ghost_model.specs.core.Causes.{Rose};
+ghost use Rattle.ghost_model.specs.core.Database as database;
+ghost use Rattle.ghost_model.specs.core.Texts.{texts_of};
 ghost use Rattle.edge_traits.specs.Files.{Files, AreSure};
 ghost use Rattle.key_words.specs.Views.{plain_view};
 ghost use Rattle.key_inputs.specs.Openings.{Missing, most_text};
 ghost use Rattle.key_inputs.specs.Scripts.{most_texts};
-ghost use Rattle.key_inputs.specs.Views.{Tells, rule_of};
+ghost use Rattle.key_inputs.specs.Views.{Tells};
 ghost use Rattle.key_plain.specs.Openings.{plain_opening};
 ghost use Rattle.key_plain.specs.Views.{AreSpelled};
 
 use edge_traits::depot::Depot;
-use key_inputs::{Input, InputFault, OpenFault, open_script, open_tables};
+use key_inputs::{Input, OpenFault, open_script, open_tables};
 use key_words::PlainWords;
 use std::alloc::Global;
 
@@ -35,7 +35,6 @@ pub(crate) fn open<D: Depot>(
     ensures database { IfOk result (λ opened. database.IsDatabase opened.tables.schema opened.tables.tables) }
     ensures short { IfOk result (λ opened. length opened.script.items ≤ most_text) }
     ensures few { IfOk result (λ opened. length (texts_of opened.script.items) ≤ most_texts) }
-    ensures rule { (fault : InputFault) → result ≡ Err (OpenFault.Input fault) → is_some (rule_of fault) ≡ true }
     ensures never_falls { D.faults depot.old ≤ D.faults depot.new }
     ensures failed { result ≡ Err OpenFault.Depot → Rose (D.faults depot.old) (D.faults depot.new) }
     ensures other { (result ≡ Err OpenFault.Depot → ⊥) → D.faults depot.new ≡ D.faults depot.old }

@@ -2,11 +2,11 @@
 
 ghost use Rattle.std.specs.Prelude.{◌≡◌, ◌≤◌, ◌<◌, ◌^◌, false, length, map, OnOk, OnErr};
 ghost use Rattle.std.specs.List.{concat};
-ghost use Rattle.ghost_model.specs.Causes.{HasCause};
-ghost use Rattle.ghost_model.specs.Database.{IsDatabase};
-ghost use Rattle.ghost_model.specs.LoadFaults.{most_rows};
-ghost use Rattle.ghost_model.specs.Printed.{row_line, lines_of_text, printed};
-ghost use Rattle.ghost_model.specs.Texts.{texts_of};
+ghost use Rattle.ghost_model.specs.core.Causes.{HasCause};
+ghost use Rattle.ghost_model.specs.core.Database.{IsDatabase};
+ghost use Rattle.ghost_model.specs.refusals.LoadFaults.{most_rows};
+ghost use Rattle.ghost_model.specs.core.Printed.{row_line, lines_of_text, printed};
+ghost use Rattle.ghost_model.specs.core.Texts.{texts_of};
 ghost use Rattle.edge_traits.specs.Written.{grown, GrowsByFront};
 ghost use Rattle.key_lines.specs.Handing.{Hands, handed};
 ghost use Rattle.key_inputs.specs.Scripts.{most_texts};

@@ -1,10 +1,10 @@
 -- How an opening ended.
 use Rattle.std.proofs.Common.{◌≡◌, ℕ, Bool, true, List, Result, Ok, Err, refl, subst}
-use Rattle.std.specs.Prelude.{IfErr, is_some, Option, Some, None}
-use Rattle.ghost_model.specs.Channel.{Catalog}
+use Rattle.std.specs.Prelude.{IfErr}
+use Rattle.ghost_model.specs.core.Channel.{Catalog}
 use Rattle.edge_traits.specs.Devices.{Device}
-use Rattle.key_inputs.specs.Openings.{Opening, Spelled, InputFault}
-use Rattle.key_inputs.specs.Views.{IsBroken, Tells, rule_of}
+use Rattle.key_inputs.specs.Openings.{Opening, Spelled, Broken, InputFault}
+use Rattle.key_inputs.specs.Views.{Tells, rule_of}
 use Rattle.key_inputs.specs.declared.faults.InputFault.{InputFault as Fault}
 use Rattle.key_inputs.specs.declared.faults.OpenFault.{OpenFault}
 use Rattle.key_inputs.specs.declared.faults.OpenFault.TheVariants as open_fault
@@ -27,11 +27,10 @@ module _ {T : Type 0} where
   faultless (Err (failure.TooSmall needed had)) told flash device cat is has of tells fine = refl
 
 -- the script's file cannot both keep every rule and break one
-spelled_unbroken : (rule : Option InputFault) (opening : Opening (List ℕ)) (script : List ℕ) → is_some rule ≡ true → IsBroken opening rule → opening ≡ Spelled script → ⊥
-spelled_unbroken None opening script some broken spelled = cc
-spelled_unbroken (Some rule) opening script some broken spelled = cc
+spelled_unbroken : (rule : InputFault) (opening : Opening (List ℕ)) (script : List ℕ) → opening ≡ Broken rule → opening ≡ Spelled script → ⊥
+spelled_unbroken rule opening script broken spelled = cc
 
 pub unbroken : (fault : OpenFault) (inner : Fault) (opening : Opening (List ℕ)) (script : List ℕ) → fault ≡ open_fault.Input inner
-    → is_some (rule_of inner) ≡ true → Tells opening fault → opening ≡ Spelled script → ⊥
-unbroken fault inner opening script is some tells spelled =
-    spelled_unbroken (rule_of inner) opening script some (subst (λ (one : OpenFault). Tells opening one) is tells) spelled
+    → Tells opening fault → opening ≡ Spelled script → ⊥
+unbroken fault inner opening script is tells spelled =
+    spelled_unbroken (rule_of inner) opening script (subst (λ (one : OpenFault). Tells opening one) is tells) spelled

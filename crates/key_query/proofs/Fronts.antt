@@ -5,10 +5,10 @@ use Rattle.std.specs.Prelude.{IfSome, IfNone}
 use Rattle.std.proofs.lemmas.List.{length-append, length-take-le}
 use Rattle.std.proofs.lemmas.List.Concat.{flat_map-append}
 use Rattle.std.proofs.Math.Seq.{take-append_seam, take-append-add}
-use Rattle.ghost_model.specs.Channel.{Catalog}
-use Rattle.ghost_model.specs.Catalog.{BeginsWithCatalog, catalog_bytes}
-use Rattle.ghost_model.specs.CatalogLaws.{NoCatalogIsLong}
-use Rattle.ghost_model.specs.Layout.{below, public_pages}
+use Rattle.ghost_model.specs.core.Channel.{Catalog}
+use Rattle.ghost_model.specs.forms.Catalog.{BeginsWithCatalog, catalog_bytes}
+use Rattle.ghost_model.specs.laws.CatalogLaws.{NoCatalogIsLong}
+use Rattle.ghost_model.specs.forms.Layout.{below, public_pages}
 use Rattle.edge_traits.specs.Devices.{Device}
 use Rattle.flash_build.specs.Sealing.{public_bytes}
 use Rattle.key_query.specs.PublicPages.{HasCatalog, HasNoCatalog, bytes_before, front_bytes}

@@ -1,9 +1,9 @@
 -- The catalog with which the public pages of a device begin. A device without pages has none. What follows the catalog's
 -- bytes there is left alone.
 use Rattle.std.specs.Prelude.{ℕ, ◌≤◌, List, flat_map}
-use Rattle.ghost_model.specs.Channel.{Catalog}
-use Rattle.ghost_model.specs.Catalog.{BeginsWithCatalog}
-use Rattle.ghost_model.specs.Layout.{below, public_pages}
+use Rattle.ghost_model.specs.core.Channel.{Catalog}
+use Rattle.ghost_model.specs.forms.Catalog.{BeginsWithCatalog}
+use Rattle.ghost_model.specs.forms.Layout.{below, public_pages}
 use Rattle.edge_traits.specs.Devices.{Device}
 use Rattle.flash_build.specs.Sealing.{public_bytes}
 

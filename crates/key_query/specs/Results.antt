@@ -1,20 +1,19 @@
 -- What a call of `query` did, by its result.
 use Rattle.std.specs.Prelude.{◌≡◌, ℕ, ◌≤◌, ◌<◌, Bool, true, false, List, length, Option, Some, Result, Ok, Err, ⊤}
-use Rattle.ghost_model.specs.Causes.{Rose}
-use Rattle.ghost_model.specs.Channel.{Catalog, Journal}
-use Rattle.ghost_model.specs.Catalog.{IsCatalog}
-use Rattle.ghost_model.specs.Layout.{need}
-use Rattle.ghost_model.specs.Texts.{texts_of}
+use Rattle.ghost_model.specs.core.Causes.{Rose}
+use Rattle.ghost_model.specs.core.Channel.{Catalog, Journal}
+use Rattle.ghost_model.specs.forms.Catalog.{IsCatalog}
+use Rattle.ghost_model.specs.forms.Layout.{need}
+use Rattle.ghost_model.specs.core.Texts.{texts_of}
 use Rattle.edge_traits.specs.Devices.{Device, KeepsPages}
 use Rattle.edge_traits.specs.Files.{Files}
 use Rattle.key_words.specs.Words.{Query}
-use Rattle.key_inputs.specs.Openings.{InputFault, Opening, Spelled, Broken}
+use Rattle.key_inputs.specs.Openings.{Spelled, Broken}
 use Rattle.key_inputs.specs.Scripts.{script_opening}
 use Rattle.key_inputs.specs.Views.{rule_of}
-use Rattle.key_inputs.specs.declared.faults.InputFault.{InputFault as Fault}
 use Rattle.key_session.specs.Answering.{AnswersWhereSound}
 use Rattle.key_session.specs.Running.{HasRun, blames_flash, is_damaged}
-use Rattle.key_session.specs.Telling.{Outside}
+use Rattle.key_session.specs.Telling.{SessionSide}
 use Rattle.key_session.specs.declared.tally.Tally.{Tally}
 use Rattle.key_query.specs.Openings.{IsScript}
 use Rattle.key_query.specs.PublicPages.{HasCatalog, HasNoCatalog}
@@ -31,7 +30,7 @@ pub record Opens (told : Bool) (flash : List ℕ) (before opened : Device) : Typ
 
 -- a session ran, over the script and over the catalog of the flash; the link counted so many failed calls before it and
 -- after it
-pub record Runs (goes : Journal → Type 0) (link_before link_now : ℕ) (told : Bool) (words : Query) (contents : Option Files) (before now : Outside) (tally : Tally) : Type 0 where
+pub record Runs (goes : Journal → Type 0) (link_before link_now : ℕ) (told : Bool) (words : Query) (contents : Option Files) (before now : SessionSide) (tally : Tally) : Type 0 where
   pub opened : Device
   pub opens : Opens told words.flash before.flash opened
   pub cat : Catalog
@@ -48,12 +47,6 @@ pub record Runs (goes : Journal → Type 0) (link_before link_now : ℕ) (told :
   pub called : blames_flash tally.status ≡ true → Rose opened.calls now.flash.calls
   pub damage_called : is_damaged tally.status ≡ true → Rose opened.calls now.flash.calls
 
--- a fault tells the rule that is broken first
-pub record IsTold (opening : Opening (List ℕ)) (broken : Fault) : Type 0 where
-  pub rule : InputFault
-  pub told : rule_of broken ≡ Some rule
-  pub first : opening ≡ Broken rule
-
 -- the script's file keeps every rule
 abbrev pub HasScript : Option Files → (name : List ℕ) → Type 0
 HasScript contents name =
@@ -64,7 +57,7 @@ abbrev pub TellsScript : Option Files → (name : List ℕ) → QueryFailure →
 TellsScript contents name failure.NoMemory = ⊤
 TellsScript contents name failure.Depot = ⊤
 TellsScript contents name (failure.Input broken) =
-    (files : Files) → contents ≡ Some files → IsTold (script_opening files name) broken
+    (files : Files) → contents ≡ Some files → script_opening files name ≡ Broken (rule_of broken)
 TellsScript contents name failure.Flash = HasScript contents name
 TellsScript contents name failure.NotAKey = HasScript contents name
 TellsScript contents name (failure.TooSmall needed had) = HasScript contents name
@@ -86,46 +79,32 @@ pub record IsTooSmall (told : Bool) (flash : List ℕ) (device : Device) (needed
 
 -- what a failure tells of the flash, which was to be opened under that name
 abbrev pub TellsFlash : (told : Bool) → (flash : List ℕ) → Device → QueryFailure → Type 0
-TellsFlash told flash device failure.NoMemory = ⊤
-TellsFlash told flash device failure.Depot = ⊤
-TellsFlash told flash device (failure.Input broken) = ⊤
-TellsFlash told flash device failure.Flash = ⊤
 TellsFlash told flash device failure.NotAKey = IsNoKey told flash device
 TellsFlash told flash device (failure.TooSmall needed had) = IsTooSmall told flash device needed had
+TellsFlash told flash device _ = ⊤
 
 -- whether words that are accepted, a script that keeps every rule, pages that begin with a catalog and no fault can end so
 abbrev pub is_faultless : {T : Type 0} → Result T QueryFailure → Bool
 is_faultless (Ok _) = true
 is_faultless (Err failure.NoMemory) = true
-is_faultless (Err failure.Depot) = false
-is_faultless (Err (failure.Input broken)) = false
-is_faultless (Err failure.Flash) = false
-is_faultless (Err failure.NotAKey) = false
 is_faultless (Err (failure.TooSmall needed had)) = true
+is_faultless _ = false
 
 -- the failures of the flash's part of an opening
 abbrev pub IsOfFlash : QueryFailure → Type 0
-IsOfFlash failure.NoMemory = ⊤
 IsOfFlash failure.Depot = ⊥
 IsOfFlash (failure.Input broken) = ⊥
-IsOfFlash failure.Flash = ⊤
-IsOfFlash failure.NotAKey = ⊤
-IsOfFlash (failure.TooSmall needed had) = ⊤
+IsOfFlash _ = ⊤
 
 -- whether a failure is of a flash that was opened, and so comes only once it was called
 abbrev pub is_of_opened_flash : QueryFailure → Bool
-is_of_opened_flash failure.NoMemory = false
-is_of_opened_flash failure.Depot = false
-is_of_opened_flash (failure.Input broken) = false
 is_of_opened_flash failure.Flash = true
 is_of_opened_flash failure.NotAKey = true
 is_of_opened_flash (failure.TooSmall needed had) = true
+is_of_opened_flash _ = false
 
 -- whether a failure is of the script, which comes before the flash
 abbrev pub is_of_script : QueryFailure → Bool
-is_of_script failure.NoMemory = false
 is_of_script failure.Depot = true
 is_of_script (failure.Input broken) = true
-is_of_script failure.Flash = false
-is_of_script failure.NotAKey = false
-is_of_script (failure.TooSmall needed had) = false
+is_of_script _ = false

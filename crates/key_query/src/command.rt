@@ -1,8 +1,8 @@
 //! The command.
 
 ghost use Rattle.std.specs.Prelude.{◌≡◌, ◌≤◌, ℕ, [], List, true, false, min, Some, Err, IfOk, IfErr, OnErr};
-ghost use Rattle.ghost_model.specs.Causes.{Rose, last_count};
-ghost use Rattle.ghost_model.specs.Channel as channel;
+ghost use Rattle.ghost_model.specs.core.Causes.{Rose, last_count};
+ghost use Rattle.ghost_model.specs.core.Channel as channel;
 ghost use Rattle.edge_traits.specs.Files.{Files, AreSure};
 ghost use Rattle.key_words.specs.Views.{query_view};
 ghost use Rattle.key_inputs.specs.Openings.{Spelled, Missing};
@@ -10,7 +10,7 @@ ghost use Rattle.key_inputs.specs.Scripts.{script_opening};
 ghost use Rattle.key_lines.specs.Handing.{handed};
 ghost use Rattle.text_lines.specs.Rows.{PrintsSome};
 ghost use Rattle.key_session.specs.Running.{is_sink, blames_flash, spares_flash};
-ghost use Rattle.key_session.specs.Telling.{outside};
+ghost use Rattle.key_session.specs.Telling.{session_side};
 ghost use Rattle.key_query.specs.PublicPages.{HasCatalog};
 ghost use Rattle.key_query.specs.Results.{Runs, TellsScript, TellsFlash, is_faultless, is_of_opened_flash, is_of_script};
 ghost use Rattle.key_query.specs.declared.failures.QueryFailure.TheVariants as failure;
@@ -41,7 +41,7 @@ pub fn query<D: Depot, F: Flash, L: Link, O: Sink>(
     out: &mut O,
 ) -> Result<Tally, QueryFailure>
     ensures ran { IfOk result (λ tally. Runs (λ journal. L.went link.old journal link.new) (L.faults link.old) (L.faults link.new) F.told (query_view words.now) (D.contents depot.old)
-        (outside false (O.faults out.old) (O.written out.old) (F.state flash.old)) (outside (is_sink tally.status) (O.faults out.new) (O.written out.new) (F.state flash.new)) tally) }
+        (session_side false (O.faults out.old) (O.written out.old) (F.state flash.old)) (session_side (is_sink tally.status) (O.faults out.new) (O.written out.new) (F.state flash.new)) tally) }
     ensures prints { IfOk result (λ tally. PrintsSome (handed false (O.faults out.old) (O.written out.old)) (handed (is_sink tally.status) (O.faults out.new) (O.written out.new))) }
     ensures sink_rose { IfOk result (λ tally. is_sink tally.status ≡ true → Rose (O.faults out.old) (O.faults out.new)) }
     ensures sink_same { IfOk result (λ tally. is_sink tally.status ≡ false → O.faults out.new ≡ O.faults out.old) }

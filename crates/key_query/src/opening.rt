@@ -1,8 +1,8 @@
 //! The opening of a session.
 
 ghost use Rattle.std.specs.Prelude.{◌≡◌, ◌≤◌, ℕ, List, true, min, Some, Err, IfOk, IfErr};
-ghost use Rattle.ghost_model.specs.Causes.{Rose, last_count};
-ghost use Rattle.ghost_model.specs.Channel as channel;
+ghost use Rattle.ghost_model.specs.core.Causes.{Rose, last_count};
+ghost use Rattle.ghost_model.specs.core.Channel as channel;
 ghost use Rattle.edge_traits.specs.Files.{Files, AreSure};
 ghost use Rattle.key_words.specs.Views.{query_view};
 ghost use Rattle.key_inputs.specs.Openings.{Spelled, Missing};
@@ -51,6 +51,7 @@ fn catalog_of<F: Flash>(flash: &mut F) -> Result<Catalog, QueryFailure>
     ensures no_flash { (result ≡ Err failure.Flash → ⊥) → (F.state flash.new).faults ≡ (F.state flash.old).faults }
     ensures never_falls { (F.state flash.old).faults ≤ (F.state flash.new).faults }
     ensures calls_stay { min (F.state flash.old).calls last_count ≤ (F.state flash.new).calls }
+    ensures memory { result ≡ Err failure.NoMemory → ⊥ }
 {
     match read_public_pages(flash) {
         Ok(Some(cat)) => {

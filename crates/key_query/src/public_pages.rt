@@ -1,7 +1,7 @@
 //! The catalog on the public pages.
 
 ghost use Rattle.std.specs.Prelude.{◌≡◌, ◌<◌, ◌≤◌, ◌+◌, ◌*◌, ◌++◌, true, min, take, drop, IfOk, IfSome, IfNone, OnOk};
-ghost use Rattle.ghost_model.specs.Causes.{HasCause, last_count};
+ghost use Rattle.ghost_model.specs.core.Causes.{HasCause, last_count};
 ghost use Rattle.edge_traits.specs.Devices.{KeepsPages};
 ghost use Rattle.key_query.specs.PublicPages.{HasCatalog, HasNoCatalog, front_bytes};
 

@@ -5,10 +5,10 @@ use Rattle.std.specs.List.{list_any, concat}
 use Rattle.std.proofs.lemmas.Grind.{flat_map-append}
 use Rattle.std.proofs.lemmas.List.Folds.{list_any-append}
 use Rattle.std.proofs.lemmas.List.Sums.{sum_by-append}
-use Rattle.ghost_model.specs.Causes.{Rose, last_count}
-use Rattle.ghost_model.specs.Channel.{Catalog, Journal}
-use Rattle.ghost_model.specs.Split.{Hidden}
-use Rattle.ghost_model.specs.Lines.{Reason}
+use Rattle.ghost_model.specs.core.Causes.{Rose, last_count}
+use Rattle.ghost_model.specs.core.Channel.{Catalog, Journal}
+use Rattle.ghost_model.specs.core.Split.{Hidden}
+use Rattle.ghost_model.specs.core.Lines.{Reason}
 use Rattle.key_lines.specs.Handing.{Handed, Hands, PiecesJoin}
 use Rattle.text_lines.specs.Rows.{PrintsSome}
 use Rattle.text_lines.specs.Texts.{ToldTells, ToldCalls, ToldBlames}
@@ -17,7 +17,7 @@ use Rattle.text_lines.specs.declared.text.Told.TheVariants as told
 use Rattle.key_session.specs.Counting.{damage_in, first_damage, first_of, reason_of, is_refusal, is_fault, is_flash, is_damage, one_if, IsCounted, AreCounted, AreUndamaged}
 use Rattle.key_session.specs.Damages.{IsSlot, MeetsFirst, AreKept}
 use Rattle.key_session.specs.Reasons.{HasReason, HaveReasons}
-use Rattle.key_session.specs.Telling.{Outside, TextTold, reasons_of, bytes_of, bytes_told, IsTold, AreTold, AreLeft}
+use Rattle.key_session.specs.Telling.{SessionSide, TextTold, reasons_of, bytes_of, bytes_told, IsTold, AreTold, AreLeft}
 use Rattle.key_session.specs.declared.counts.Counts.{Counts}
 use Rattle.key_session.specs.declared.counts.Damage.{Damage}
 
@@ -238,7 +238,7 @@ module _ (pages_told : Bool) (page : ℕ → List ℕ) (catalog : Catalog) where
         };
       }
 
-pub one_told : PiecesJoin → (catalog : Catalog) (kept : Hidden) (texts : List (List ℕ)) (journal : Journal) (count : ℕ) (old new : Counts) (since between now : Outside) (result : Told) (lines : List (List ℕ))
+pub one_told : PiecesJoin → (catalog : Catalog) (kept : Hidden) (texts : List (List ℕ)) (journal : Journal) (count : ℕ) (old new : Counts) (since between now : SessionSide) (result : Told) (lines : List (List ℕ))
     → AreTold catalog kept texts journal count (λ reasons. AreUndamaged reasons old) since between
     → IsTold catalog kept texts journal count (record { reason = reason_of result; lines = lines })
     → Hands (concat lines) between.sink now.sink → ToldTells between.flash.faults now.flash.faults result → IsCounted (reason_of result) old new

@@ -4,11 +4,11 @@ use Rattle.std.proofs.lemmas.Bool.{eq-eqb}
 use Rattle.std.proofs.lemmas.Bool.Decides.{nat_tests}
 use Rattle.std.specs.Prelude.{not, nat_lt, ◌&&◌, if◌then◌else◌, codes}
 use Rattle.std.specs.List.{list_any}
-use Rattle.ghost_model.specs.Query.{Query}
-use Rattle.ghost_model.specs.Channel.{Catalog, Journal}
-use Rattle.ghost_model.specs.Asks.{Asked, asked_of}
-use Rattle.ghost_model.specs.Moves.{taken, answers}
-use Rattle.ghost_model.specs.NextMove.{Awaits, Missing, Reply, Nothing, is_stop}
+use Rattle.ghost_model.specs.core.Query.{Query}
+use Rattle.ghost_model.specs.core.Channel.{Catalog, Journal}
+use Rattle.ghost_model.specs.core.Asks.{NumberedAsk, asked_of}
+use Rattle.ghost_model.specs.core.Moves.{taken, answers}
+use Rattle.ghost_model.specs.core.NextMove.{Awaits, AwaitsCatalog, AwaitsReply, AwaitsNothing, is_stop}
 use Rattle.channel_pump.specs.Marks.{asked_at}
 use Rattle.channel_pump.specs.State.{IsAfter}
 use Rattle.channel_pump.specs.declared.state.Pump.{Pump}
@@ -18,32 +18,32 @@ use Rattle.session_laws.specs.TextCases.{is_refused_in, IsDecided, TextsAreDecid
 use Rattle.reply_laws.specs.Order.{TextsComeInOrder, IsInOrder}
 use Rattle.session_replies.specs.Kept.{IsKept}
 use Rattle.session_replies.specs.declared.replies.Replies.{Replies}
-use Rattle.key_session.specs.Telling.{Outside, CameOut, IsTelling, TellsOn}
+use Rattle.key_session.specs.Telling.{SessionSide, CameOut, IsTelling, TellsOn}
 use Rattle.key_session.specs.Going.{IsGoing, IsAttended}
 use Rattle.key_session.specs.declared.teller.Teller.{Teller}
 
 pub same_asked : (awaits : Awaits) → asked_at awaits ≡ asked_in awaits
-same_asked (Missing _) = refl
-same_asked (Reply asked serial later count last) = refl
-same_asked Nothing = refl
+same_asked (AwaitsCatalog _) = refl
+same_asked (AwaitsReply asked serial later count last) = refl
+same_asked AwaitsNothing = refl
 
 -- the text whose ask is awaited is not settled, and earlier ones are over
-own_unsettled : (asks : List Asked) (awaits : Awaits) (asked : Asked) → asked_in awaits ≡ Some asked → is_settled asks asked.text awaits ≡ false
-own_unsettled asks (Missing _) asked e = cc
-own_unsettled asks (Reply one serial later count last) asked e =
+own_unsettled : (asks : List NumberedAsk) (awaits : Awaits) (asked : NumberedAsk) → asked_in awaits ≡ Some asked → is_settled asks asked.text awaits ≡ false
+own_unsettled asks (AwaitsCatalog _) asked e = cc
+own_unsettled asks (AwaitsReply one serial later count last) asked e =
     let same : one ≡ asked = cc in
-    ap (λ (b : Bool). not (b || list_any (λ (x : Asked). x.text == asked.text) later)) (eq-eqb one.text asked.text (ap (λ (x : Asked). x.text) same))
-own_unsettled asks Nothing asked e = cc
+    ap (λ (b : Bool). not (b || list_any (λ (x : NumberedAsk). x.text == asked.text) later)) (eq-eqb one.text asked.text (ap (λ (x : NumberedAsk). x.text) same))
+own_unsettled asks AwaitsNothing asked e = cc
 
 below : (a b : ℕ) → a < b → nat_lt a b ≡ true
 below a b e = grind (arith, nat_tests)
 
-earlier_over : (awaits : Awaits) (asked : Asked) (text : ℕ) → asked_in awaits ≡ Some asked → text < asked.text → is_over text awaits ≡ true
-earlier_over (Missing _) asked text e less = cc
-earlier_over (Reply one serial later count last) asked text e less =
+earlier_over : (awaits : Awaits) (asked : NumberedAsk) (text : ℕ) → asked_in awaits ≡ Some asked → text < asked.text → is_over text awaits ≡ true
+earlier_over (AwaitsCatalog _) asked text e less = cc
+earlier_over (AwaitsReply one serial later count last) asked text e less =
     let same : asked ≡ one = cc in
-    below text one.text (subst (λ (x : Asked). text < x.text) same less)
-earlier_over Nothing asked text e less = cc
+    below text one.text (subst (λ (x : NumberedAsk). text < x.text) same less)
+earlier_over AwaitsNothing asked text e less = cc
 
 pub true_is_not_false : true ≡ false → ⊥
 true_is_not_false e = cc
@@ -78,7 +78,7 @@ not_below : (a b : ℕ) → (a < b → ⊥) → b ≤ a
 not_below a b e = omega (arith, e)
 
 -- a session in which an ask is awaited
-module _ (over : OverTextsAreSettled) (order : TextsComeInOrder) (decided : TextsAreDecided) (catalog : Catalog) (texts : List (List ℕ)) (journal : Journal) (asked : Asked) (awaited : asked_in (heard_in catalog texts journal).awaits ≡ Some asked) where
+module _ (over : OverTextsAreSettled) (order : TextsComeInOrder) (decided : TextsAreDecided) (catalog : Catalog) (texts : List (List ℕ)) (journal : Journal) (asked : NumberedAsk) (awaited : asked_in (heard_in catalog texts journal).awaits ≡ Some asked) where
   in_order : IsInOrder catalog texts (heard_in catalog texts journal) asked
   in_order = order catalog texts (taken journal) asked awaited
 
@@ -93,7 +93,7 @@ module _ (over : OverTextsAreSettled) (order : TextsComeInOrder) (decided : Text
   unsettled : is_settled_in catalog texts journal asked.text ≡ false
   unsettled = own_unsettled (asked_of catalog.schema texts) (heard_in catalog texts journal).awaits asked awaited
 
-  pub attended : (pages_told : Bool) (pump : Pump) (since before between : Outside) (old teller : Teller) (replies middle new : Replies)
+  pub attended : (pages_told : Bool) (pump : Pump) (since before between : SessionSide) (old teller : Teller) (replies middle new : Replies)
       → IsAfter catalog (asked_of catalog.schema texts) journal pump
       → IsGoing pages_told catalog texts journal since before old replies
       → TellsOn pages_told catalog pump (λ ts j. (number : ℕ) → number < asked.text → CameOut catalog ts j number) before old replies between teller middle
@@ -122,10 +122,10 @@ module _ (over : OverTextsAreSettled) (order : TextsComeInOrder) (decided : Text
       settled = λ text from upto. before_settled text (omega (arith, upto, low));
       onward = λ text un. not_below text asked.text (λ less. true_is_not_false (sym (before_settled text less) ∙ un));
     };
-    begun = λ one e. (is_begun, subst (λ (x : Asked). teller.count + 1 ≤ x.text) (same_one asked one (sym awaited ∙ e)) low);
+    begun = λ one e. (is_begun, subst (λ (x : NumberedAsk). teller.count + 1 ≤ x.text) (same_one asked one (sym awaited ∙ e)) low);
   }
     where
-      same_one : (x y : Asked) → Some x ≡ Some y → x ≡ y
+      same_one : (x y : NumberedAsk) → Some x ≡ Some y → x ≡ y
       same_one x y e = cc
 
       telling : IsTelling pages_told catalog texts journal going.top since between teller middle
@@ -141,12 +141,12 @@ module _ (over : OverTextsAreSettled) (order : TextsComeInOrder) (decided : Text
           let lows = low in omega (arith, all, place, lows))
 
 -- nothing is awaited
-pub unattended : (pages_told : Bool) (catalog : Catalog) (texts : List (List ℕ)) (journal : Journal) (since now : Outside) (teller : Teller) (replies : Replies)
+pub unattended : (pages_told : Bool) (catalog : Catalog) (texts : List (List ℕ)) (journal : Journal) (since now : SessionSide) (teller : Teller) (replies : Replies)
     → asked_in (heard_in catalog texts journal).awaits ≡ None → IsGoing pages_told catalog texts journal since now teller replies → IsAttended pages_told catalog texts journal since now teller replies
 unattended pages_told catalog texts journal since now teller replies none going = record {
   going = going;
   begun = λ asked e. absurd (none_some asked (sym none ∙ e));
 }
   where
-    none_some : (asked : Asked) → None ≡ Some asked → ⊥
+    none_some : (asked : NumberedAsk) → None ≡ Some asked → ⊥
     none_some asked e = cc

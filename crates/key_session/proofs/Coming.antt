@@ -2,18 +2,18 @@
 use Rattle.std.proofs.Common.{◌≡◌, ℕ, suc, Bool, true, false, ◌||◌, ◌==◌, List, [], ◌∷◌, ◌++◌, refl, sym, ap, ◌∙◌, subst, append-nil, Some, Ok, slice_get}
 use Rattle.std.specs.Prelude.{if◌then◌else◌, not, codes, ◌&&◌}
 use Rattle.std.specs.List.{list_any}
-use Rattle.ghost_model.specs.Schema.{Schema}
-use Rattle.ghost_model.specs.Query.{Query}
-use Rattle.ghost_model.specs.QueryReading.{reading}
-use Rattle.ghost_model.specs.Channel.{Catalog, Entry, Journal}
-use Rattle.ghost_model.specs.Asks.{Asked, asked_of}
-use Rattle.ghost_model.specs.Moves.{answers}
-use Rattle.ghost_model.specs.NextMove.{Awaits, Missing, Reply, Nothing, Ending, Answered, Refused, Ended, Heard, Left, left, is_stop}
-use Rattle.ghost_model.specs.Split.{Hidden}
-use Rattle.ghost_model.specs.Replies as given
-use Rattle.ghost_model.specs.Replies.{replies, answer_from}
-use Rattle.ghost_model.specs.Lines.{AreLinesFor, BrokenLines, ended_of, all_done, broken_word, is_refused_by}
-use Rattle.ghost_model.specs.Printed.{word_line}
+use Rattle.ghost_model.specs.core.Schema.{Schema}
+use Rattle.ghost_model.specs.core.Query.{Query}
+use Rattle.ghost_model.specs.readings.QueryReading.{reading}
+use Rattle.ghost_model.specs.core.Channel.{Catalog, Entry, Journal}
+use Rattle.ghost_model.specs.core.Asks.{NumberedAsk, asked_of}
+use Rattle.ghost_model.specs.core.Moves.{answers}
+use Rattle.ghost_model.specs.core.NextMove.{Awaits, AwaitsCatalog, AwaitsReply, AwaitsNothing, Ending, Answered, Refused, EndedAsk, Heard, Standing, standing_after, is_stop}
+use Rattle.ghost_model.specs.core.Split.{Hidden}
+use Rattle.ghost_model.specs.core.Replies as given
+use Rattle.ghost_model.specs.core.Replies.{replies, answer_from}
+use Rattle.ghost_model.specs.core.Lines.{AreLinesFor, BrokenLines, ended_of, all_done, broken_word, is_refused_by, session_text}
+use Rattle.ghost_model.specs.core.Printed.{word_line}
 use Rattle.channel_pump.specs.Marks as marks
 use Rattle.channel_pump.specs.Marks.{is_refusal, awaited, state_of}
 use Rattle.channel_pump.specs.declared.state.ReplyState.{ReplyState}
@@ -33,16 +33,16 @@ same_ending : (ending : Ending) → marks.is_refused ending ≡ is_refused_by en
 same_ending (Answered _) = refl
 same_ending (Refused _) = refl
 
-same_refusals : (text : ℕ) (ends : List Ended) → list_any (is_refusal text) ends ≡ is_refused text ends
+same_refusals : (text : ℕ) (ends : List EndedAsk) → list_any (is_refusal text) ends ≡ is_refused text ends
 same_refusals text [] = refl
 same_refusals text (end ∷ ends) =
     ap (λ (b : Bool). (b && end.asked.text == text) || list_any (is_refusal text) ends) (same_ending end.ending)
     ∙ ap (λ (b : Bool). (is_refused_by end.ending && end.asked.text == text) || b) (same_refusals text ends)
 
-same_awaited : (asks : List Asked) (awaits : Awaits) → awaited asks awaits ≡ not_ended asks awaits
-same_awaited asks (Missing _) = refl
-same_awaited asks (Reply asked serial later count last) = refl
-same_awaited asks Nothing = refl
+same_awaited : (asks : List NumberedAsk) (awaits : Awaits) → awaited asks awaits ≡ not_ended asks awaits
+same_awaited asks (AwaitsCatalog _) = refl
+same_awaited asks (AwaitsReply asked serial later count last) = refl
+same_awaited asks AwaitsNothing = refl
 
 any_answer : (journal : Journal) → list_any (λ (e : Entry). is_stop e.answer) journal ≡ list_any is_stop (answers journal)
 any_answer [] = refl
@@ -54,11 +54,11 @@ state_by refused settled stopped broken =
     if refused then state_is.Host else if settled then state_is.Done else if stopped then state_is.Link
     else if broken then state_is.Protocol else state_is.Awaited
 
-same_state : (asks : List Asked) (text : ℕ) (l : Left)
+same_state : (asks : List NumberedAsk) (text : ℕ) (l : Standing)
     → state_of asks text l ≡ state_by (is_refused text l.heard.ended) (is_settled asks text l.heard.awaits) l.stopped l.heard.broken
 same_state asks text l =
-    ap (λ (b : Bool). state_by b (not (list_any (λ (one : Asked). one.text == text) (awaited asks l.heard.awaits))) l.stopped l.heard.broken) (same_refusals text l.heard.ended)
-    ∙ ap (λ (xs : List Asked). state_by (is_refused text l.heard.ended) (not (list_any (λ (one : Asked). one.text == text) xs)) l.stopped l.heard.broken) (same_awaited asks l.heard.awaits)
+    ap (λ (b : Bool). state_by b (not (list_any (λ (one : NumberedAsk). one.text == text) (awaited asks l.heard.awaits))) l.stopped l.heard.broken) (same_refusals text l.heard.ended)
+    ∙ ap (λ (xs : List NumberedAsk). state_by (is_refused text l.heard.ended) (not (list_any (λ (one : NumberedAsk). one.text == text) xs)) l.stopped l.heard.broken) (same_awaited asks l.heard.awaits)
 
 by_host : (r s t b : Bool) → r ≡ true → state_by r s t b ≡ state_is.Host
 by_host true s t b e = refl
@@ -95,8 +95,8 @@ not_so true s e f = cc
 not_so false s e f = e
 
 module _ (catalog : Catalog) (texts : List (List ℕ)) (journal : Journal) (place : ℕ) (written : List ℕ) (query : Query) where
-  abbrev pub ends : List Ended
-  ends = ended_of catalog texts journal (suc place)
+  abbrev pub ends : List EndedAsk
+  ends = ended_of catalog (asked_of catalog.schema texts) journal (suc place)
 
   abbrev pub refused : Bool
   refused = is_refused_in catalog texts journal (suc place)
@@ -105,7 +105,7 @@ module _ (catalog : Catalog) (texts : List (List ℕ)) (journal : Journal) (plac
   settled = is_settled_in catalog texts journal (suc place)
 
   abbrev pub here : ReplyState
-  here = state_of (asked_of catalog.schema texts) (suc place) (left catalog (asked_of catalog.schema texts) journal)
+  here = state_of (asked_of catalog.schema texts) (suc place) (standing_after catalog (asked_of catalog.schema texts) journal)
 
   pub record AllDone : Type 0 where
     pub done : all_done catalog.schema query ends ≡ true
@@ -124,7 +124,7 @@ module _ (catalog : Catalog) (texts : List (List ℕ)) (journal : Journal) (plac
   Came state_is.Awaited = ⊥
 
   abbrev stops : Bool
-  stops = (left catalog (asked_of catalog.schema texts) journal).stopped
+  stops = (standing_after catalog (asked_of catalog.schema texts) journal).stopped
 
   abbrev invalid : Bool
   invalid = (heard_in catalog texts journal).broken
@@ -145,11 +145,11 @@ module _ (catalog : Catalog) (texts : List (List ℕ)) (journal : Journal) (plac
 
   pub came : IsDecided catalog texts journal (suc place) query → Outcome catalog texts journal (suc place) query → (state : ReplyState) → state ≡ here → Came state
   came decided outcome state e =
-      subst Came (sym (e ∙ same_state (asked_of catalog.schema texts) (suc place) (left catalog (asked_of catalog.schema texts) journal))) (came_by decided outcome)
+      subst Came (sym (e ∙ same_state (asked_of catalog.schema texts) (suc place) (standing_after catalog (asked_of catalog.schema texts) journal))) (came_by decided outcome)
 
   -- the line of what ended the asks
-  broken_lines : (lines : List (List ℕ)) (word : List ℕ) → reading catalog.schema written ≡ Ok query → IsBrokenBy word → lines ≡ word_line (suc place) word ∷ [] → BrokenLines catalog texts journal (suc place) written lines
-  broken_lines lines word accepted b are = record {
+  broken_lines : (kept : Hidden) (lines : List (List ℕ)) (word : List ℕ) → reading catalog.schema written ≡ Ok query → IsBrokenBy word → lines ≡ word_line (suc place) word ∷ [] → BrokenLines (session_text catalog kept texts journal (suc place) written) lines
+  broken_lines kept lines word accepted b are = record {
     query = query;
     accepted = accepted;
     broken = b.0;
@@ -157,14 +157,14 @@ module _ (catalog : Catalog) (texts : List (List ℕ)) (journal : Journal) (plac
   }
 
   pub broken_so : (kept : Hidden) (lines : List (List ℕ)) → reading catalog.schema written ≡ Ok query → (state : ReplyState) → Came state → (state ≡ state_is.Done → ⊥)
-      → (result : Told) → AreBrokenLines (suc place) state lines result → AreLinesFor (reason_of result) catalog kept texts journal (suc place) written lines
+      → (result : Told) → AreBrokenLines (suc place) state lines result → AreLinesFor (reason_of result) (session_text catalog kept texts journal (suc place) written) lines
   broken_so kept lines accepted state c unended told.Refused are = absurd are
   broken_so kept lines accepted state c unended told.Answered are = absurd are
   broken_so kept lines accepted state c unended told.Flash are = absurd are
   broken_so kept lines accepted state c unended (told.Damaged page slot found) are = absurd are
-  broken_so kept lines accepted state c unended told.Host are = broken_lines lines _ accepted (subst Came are.0 c) are.1
-  broken_so kept lines accepted state c unended told.Protocol are = broken_lines lines _ accepted (subst Came are.0 c) are.1
-  broken_so kept lines accepted state_is.Link c unended told.Link are = broken_lines lines _ accepted c are.1
+  broken_so kept lines accepted state c unended told.Host are = broken_lines kept lines _ accepted (subst Came are.0 c) are.1
+  broken_so kept lines accepted state c unended told.Protocol are = broken_lines kept lines _ accepted (subst Came are.0 c) are.1
+  broken_so kept lines accepted state_is.Link c unended told.Link are = broken_lines kept lines _ accepted c are.1
   broken_so kept lines accepted state_is.Done c unended told.Link are = absurd (unended refl)
   broken_so kept lines accepted state_is.Host c unended told.Link are = absurd (are.0.1 refl)
   broken_so kept lines accepted state_is.Protocol c unended told.Link are = absurd (are.0.0 refl)
@@ -172,7 +172,7 @@ module _ (catalog : Catalog) (texts : List (List ℕ)) (journal : Journal) (plac
 
   pub answered_so : (kept : Hidden) (lines : List (List ℕ)) → reading catalog.schema written ≡ Ok query → AllDone
       → (result : Told) → AreAnswerLines (suc place) (answer_from catalog.schema kept query (replies catalog (asked_of catalog.schema texts) journal (suc place))) lines result
-      → AreLinesFor (reason_of result) catalog kept texts journal (suc place) written lines
+      → AreLinesFor (reason_of result) (session_text catalog kept texts journal (suc place) written) lines
   answered_so kept lines accepted d told.Refused are = absurd are
   answered_so kept lines accepted d told.Answered are = record { query = query; accepted = accepted; done = d.done; answer = are }
   answered_so kept lines accepted d told.Host are = absurd are
@@ -203,14 +203,14 @@ module _ (catalog : Catalog) (texts : List (List ℕ)) (journal : Journal) (plac
 pub told_so : (catalog : Catalog) (kept : Hidden) (texts : List (List ℕ)) (journal : Journal) (place : ℕ) (written : List ℕ) → slice_get texts place ≡ Some written
     → ((query : Query) → reading catalog.schema written ≡ Ok query → IsDecided catalog texts journal (suc place) query)
     → ((query : Query) → reading catalog.schema written ≡ Ok query → Outcome catalog texts journal (suc place) query)
-    → (replied : List given.Reply) (state : ReplyState) → state ≡ state_of (asked_of catalog.schema texts) (suc place) (left catalog (asked_of catalog.schema texts) journal)
+    → (replied : List given.Reply) (state : ReplyState) → state ≡ state_of (asked_of catalog.schema texts) (suc place) (standing_after catalog (asked_of catalog.schema texts) journal)
     → (state ≡ state_is.Done → replied ≡ replies catalog (asked_of catalog.schema texts) journal (suc place))
     → (lines : List (List ℕ)) (result : Told) → Why catalog.schema kept replied (suc place) written state lines result
     → IsTold catalog kept texts journal place (record { reason = reason_of result; lines = lines })
 told_so catalog kept texts journal place written stands decided outcome replied state is_state same lines result (why_refused w) = record {
   written = written;
   stands = stands;
-  lines_are = subst (λ (r : Told). AreLinesFor (reason_of r) catalog kept texts journal (suc place) written lines) (sym w.is_told)
+  lines_are = subst (λ (r : Told). AreLinesFor (reason_of r) (session_text catalog kept texts journal (suc place) written) lines) (sym w.is_told)
       (record { refusal = w.refusal; refused = w.refused; line = w.are });
   undamaged = ap (λ (r : Told). is_damage (reason_of r)) w.is_told;
 }
@@ -249,7 +249,7 @@ module _ (catalog : Catalog) (texts : List (List ℕ)) (journal : Journal) (plac
   protocol_undone : (state : ReplyState) → state ≡ state_is.Protocol → state ≡ state_is.Done → ⊥
   protocol_undone state e f = cc
 
-  pub reason_so : (state : ReplyState) → state ≡ state_of (asked_of catalog.schema texts) (suc place) (left catalog (asked_of catalog.schema texts) journal)
+  pub reason_so : (state : ReplyState) → state ≡ state_of (asked_of catalog.schema texts) (suc place) (standing_after catalog (asked_of catalog.schema texts) journal)
       → ((query : Query) → reading catalog.schema written ≡ Ok query → IsDecided catalog texts journal (suc place) query)
       → ((query : Query) → reading catalog.schema written ≡ Ok query → Outcome catalog texts journal (suc place) query)
       → (result : Told) → IsToldBy catalog.schema written state result → IsReason (reason_of result) catalog texts journal (suc place) written
@@ -268,15 +268,15 @@ module _ (catalog : Catalog) (texts : List (List ℕ)) (journal : Journal) (plac
       of (told.Damaged page slot found) is = came_done is.query is.accepted state is.came (cames is.query is.accepted)
 
 -- no ask of a settled text is at hand
-none_at_hand : (asks : List Asked) (schema : Schema) (text : ℕ) (rows : List ℕ) (awaits : Awaits) → is_settled asks text awaits ≡ true → at_hand schema text rows (asked_in awaits) ≡ []
-none_at_hand asks schema text rows (Missing _) e = refl
-none_at_hand asks schema text rows (Reply asked serial later count last) e =
-    other (asked.text == text) (list_any (λ (one : Asked). one.text == text) later) e
+none_at_hand : (asks : List NumberedAsk) (schema : Schema) (text : ℕ) (rows : List ℕ) (awaits : Awaits) → is_settled asks text awaits ≡ true → at_hand schema text rows (asked_in awaits) ≡ []
+none_at_hand asks schema text rows (AwaitsCatalog _) e = refl
+none_at_hand asks schema text rows (AwaitsReply asked serial later count last) e =
+    other (asked.text == text) (list_any (λ (one : NumberedAsk). one.text == text) later) e
   where
     other : (b more : Bool) → not (b || more) ≡ true → (if b then stored_as schema asked rows ∷ [] else []) ≡ []
     other true more h = cc
     other false more h = refl
-none_at_hand asks schema text rows Nothing e = refl
+none_at_hand asks schema text rows AwaitsNothing e = refl
 
 -- so all that came of its asks came of those that were ended
 pub all_is_done : (catalog : Catalog) (texts : List (List ℕ)) (journal : Journal) (text : ℕ) → is_settled_in catalog texts journal text ≡ true
@@ -294,8 +294,8 @@ done_by false false false true e = cc
 done_by false false false false e = cc
 
 -- where the replies are done, no ask was refused and none is awaited or still to come
-pub done_so : (catalog : Catalog) (texts : List (List ℕ)) (journal : Journal) (text : ℕ) → state_of (asked_of catalog.schema texts) text (left catalog (asked_of catalog.schema texts) journal) ≡ state_is.Done
+pub done_so : (catalog : Catalog) (texts : List (List ℕ)) (journal : Journal) (text : ℕ) → state_of (asked_of catalog.schema texts) text (standing_after catalog (asked_of catalog.schema texts) journal) ≡ state_is.Done
     → (is_refused_in catalog texts journal text ≡ false) × (is_settled_in catalog texts journal text ≡ true)
 done_so catalog texts journal text e =
-    done_by (is_refused_in catalog texts journal text) (is_settled_in catalog texts journal text) (left catalog (asked_of catalog.schema texts) journal).stopped (heard_in catalog texts journal).broken
-    (sym (same_state (asked_of catalog.schema texts) text (left catalog (asked_of catalog.schema texts) journal)) ∙ e)
+    done_by (is_refused_in catalog texts journal text) (is_settled_in catalog texts journal text) (standing_after catalog (asked_of catalog.schema texts) journal).stopped (heard_in catalog texts journal).broken
+    (sym (same_state (asked_of catalog.schema texts) text (standing_after catalog (asked_of catalog.schema texts) journal)) ∙ e)

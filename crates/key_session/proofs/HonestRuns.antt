@@ -3,16 +3,16 @@ use Rattle.std.proofs.Common.{◌≡◌, ℕ, suc, zero, ◌+◌, ◌≤◌, min
 use Rattle.std.specs.List.{list_any, concat}
 use Rattle.std.specs.Prelude.{cond}
 use Rattle.std.proofs.lemmas.List.Sums.{sum_by-cons}
-use Rattle.ghost_model.specs.Causes.{Rose, last_count}
-use Rattle.ghost_model.specs.Values.{Database}
-use Rattle.ghost_model.specs.Catalog.{IsCatalog}
-use Rattle.ghost_model.specs.Channel.{Catalog, Journal, Entry}
-use Rattle.ghost_model.specs.Asks.{asked_of}
-use Rattle.ghost_model.specs.Moves.{answers}
-use Rattle.ghost_model.specs.NextMove.{Left, left, Ended, Ending, Answered, Refused, is_stop, IsProper, IsFinished}
-use Rattle.ghost_model.specs.Split.{hidden_of}
-use Rattle.ghost_model.specs.Lines.{Reason, IsRefused, WasBroken, WasAnswered, MetFault, OnFlash, OnDamage, was_refused}
-use Rattle.ghost_model.specs.Printed.{printed}
+use Rattle.ghost_model.specs.core.Causes.{Rose, last_count}
+use Rattle.ghost_model.specs.core.Values.{Database}
+use Rattle.ghost_model.specs.forms.Catalog.{IsCatalog}
+use Rattle.ghost_model.specs.core.Channel.{Catalog, Journal, Entry}
+use Rattle.ghost_model.specs.core.Asks.{asked_of}
+use Rattle.ghost_model.specs.core.Moves.{answers}
+use Rattle.ghost_model.specs.core.NextMove.{Standing, standing_after, EndedAsk, Ending, Answered, Refused, is_stop, IsProper, IsFinished}
+use Rattle.ghost_model.specs.core.Split.{hidden_of}
+use Rattle.ghost_model.specs.core.Lines.{Reason, WasRefused, WasBroken, WasAnswered, MetFault, OnFlash, OnDamage, was_refused}
+use Rattle.ghost_model.specs.core.Printed.{printed}
 use Rattle.edge_traits.specs.Written.{grown}
 use Rattle.session_laws.specs.TextEnds.{heard_in}
 use Rattle.session_laws.specs.HonestSessions.{IsHonestSession, HonestSessionsAreSmooth, HonestLinesArePrinted, AreSoundLines, AreAllLines, is_own_fault}
@@ -21,12 +21,10 @@ use Rattle.key_session.specs.Answering.{AnswersWhereSound}
 use Rattle.key_session.specs.Counting.{is_flash, is_damage}
 use Rattle.key_session.specs.Refusing.{first_code}
 use Rattle.key_session.specs.Running.{IsTally, status_of}
-use Rattle.key_session.specs.Telling.{Outside, AreTold, TextTold, IsTold, reasons_of, bytes_told, bytes_of}
+use Rattle.key_session.specs.Telling.{SessionSide, AreTold, TextTold, IsTold, reasons_of, bytes_told, bytes_of}
 use Rattle.key_session.specs.declared.tally.Tally.{Tally}
 use Rattle.key_session.specs.declared.tally.SessionStatus.TheVariants as status
 use Rattle.flash_layout.specs.Limits.{HasLayout}
-use Rattle.script_asks.specs.Laws.{AsksAreFew}
-use Rattle.tree_schema.specs.CatalogParts.{CatalogsAreBytes}
 use Rattle.key_session.proofs.Settings.{setting, stored}
 
 abbrev lines_in : List TextTold → List (List (List ℕ))
@@ -74,7 +72,7 @@ no_flash before zero now blamed rose = refl
 no_flash before (suc count) now blamed rose = absurd (rose (omega (arith, blamed)))
 
 not_own : (reason : Reason) → is_flash reason ≡ false → is_damage reason ≡ false → is_own_fault reason ≡ false
-not_own IsRefused flash damage = refl
+not_own WasRefused flash damage = refl
 not_own WasBroken flash damage = refl
 not_own WasAnswered flash damage = refl
 not_own (MetFault OnFlash) flash damage = cc
@@ -89,7 +87,7 @@ bytes_in [] = refl
 bytes_in (one ∷ told) =
     ap (λ xs. bytes_of one ++ xs) (bytes_in told) ∙ sym (concat_two one.lines (flat_map (λ lines. lines) (lines_in told)))
 
-no_code : (ended : List Ended) → was_refused ended ≡ false → first_code ended ≡ None
+no_code : (ended : List EndedAsk) → was_refused ended ≡ false → first_code ended ≡ None
 no_code [] none = refl
 no_code (end ∷ ended) none = code_of_end end.ending none (λ h. no_code ended h)
   where
@@ -104,7 +102,7 @@ no_stop (entry ∷ journal) none =
     let later : list_any is_stop (answers journal) ≡ false = grind arith in
     grind (arith, no_stop journal later)
 
-all_well : (session : Left) → session.stopped ≡ false → session.heard.broken ≡ false → first_code session.heard.ended ≡ None
+all_well : (session : Standing) → session.stopped ≡ false → session.heard.broken ≡ false → first_code session.heard.ended ≡ None
     → status_of false session false ≡ status.Ok
 all_well session stopped broken code = rw (stopped, broken, code) refl
 
@@ -132,16 +130,16 @@ module _ (catalog : Catalog) (at : List ℕ) (texts : List (List ℕ)) (database
         });
   }
 
-pub answers_all : HonestSessionsAreSmooth → HonestLinesArePrinted → CatalogsAreBytes → AsksAreFew → (told : Bool) (cat : Catalog) (at : List ℕ) (texts : List (List ℕ)) (journal : Journal) (since now : Outside) (tally : Tally)
-    → IsCatalog cat → HasLayout cat → length texts ≤ 64 → IsProper cat at texts journal → IsFinished journal
+pub answers_all : HonestSessionsAreSmooth → HonestLinesArePrinted → (told : Bool) (cat : Catalog) (at : List ℕ) (texts : List (List ℕ)) (journal : Journal) (since now : SessionSide) (tally : Tally)
+    → IsCatalog cat → length texts ≤ 64 → IsProper cat at texts journal → IsFinished journal
     → ((database : Database) → Knows told since.flash.page cat database
-    → AreTold cat (hidden_of cat.schema database) texts journal (length texts) (λ reasons. IsTally now.sink.failed (left cat (asked_of cat.schema texts) journal) reasons tally) since now)
+    → AreTold cat (hidden_of cat.schema database) texts journal (length texts) (λ reasons. IsTally now.sink.failed (standing_after cat (asked_of cat.schema texts) journal) reasons tally) since now)
     → AnswersWhereSound told cat texts journal since now tally
-answers_all smooth prints bytes asks_few told cat at texts journal since now tally proper layout few is_proper finished tells = λ database sound.
+answers_all smooth prints told cat at texts journal since now tally proper few is_proper finished tells = λ database sound.
     let session_is : IsHonestSession cat database at texts journal =
     record {
-      setting = setting asks_few cat texts proper layout.tree few;
-      stored = stored bytes told since.flash.page cat database proper layout.few sound.pages;
+      setting = setting cat texts proper few;
+      stored = stored told since.flash.page cat database proper sound.pages;
       proper = is_proper;
       honest = sound.host;
     } in
@@ -149,7 +147,7 @@ answers_all smooth prints bytes asks_few told cat at texts journal since now tal
     let none : count_by is_flash (reasons_of are.told) ≡ 0 =
     no_flash since.flash.faults (count_by is_flash (reasons_of are.told)) now.flash.faults are.blamed sound.flash in
     let went = smooth cat database at texts journal session_is in
-    let session = left cat (asked_of cat.schema texts) journal in
+    let session = standing_after cat (asked_of cat.schema texts) journal in
     let ok : status_of false session false ≡ status.Ok =
     all_well session (no_stop journal sound.host.nothing_breaks_off) went.valid
     (no_code (heard_in cat texts journal).ended went.none_refused) in

@@ -2,13 +2,13 @@
 use Rattle.std.proofs.Common.{◌≡◌, ◌≤◌, ◌<◌, ℕ, suc, ◌+◌, arith, Bool, true, false, List, [], ◌∷◌, ◌++◌, length, refl, sym, ap, ◌∙◌, Option, Some, None}
 use Rattle.std.proofs.lemmas.Option.{slice_get_within}
 use Rattle.std.specs.Prelude.{is_some, option_map}
-use Rattle.ghost_model.specs.Channel.{Catalog, Journal}
-use Rattle.ghost_model.specs.SchemaFaults.{MeansSchema}
-use Rattle.ghost_model.specs.Asks.{Asked, asked_of}
-use Rattle.ghost_model.specs.Moves.{taken}
-use Rattle.ghost_model.specs.NextMove.{Awaits, Missing, Reply, Nothing, Ended, Heard, hear_all}
-use Rattle.ghost_model.specs.Lines.{Reason, IsRefused, WasBroken, WasAnswered, MetFault, ended_of, all_done}
-use Rattle.ghost_model.specs.Split.{hidden_of}
+use Rattle.ghost_model.specs.core.Channel.{Catalog, Journal}
+use Rattle.ghost_model.specs.refusals.SchemaFaults.{MeansSchema}
+use Rattle.ghost_model.specs.core.Asks.{NumberedAsk, asked_of}
+use Rattle.ghost_model.specs.core.Moves.{taken}
+use Rattle.ghost_model.specs.core.NextMove.{Awaits, AwaitsCatalog, AwaitsReply, AwaitsNothing, EndedAsk, Heard, hear_all}
+use Rattle.ghost_model.specs.core.Lines.{Reason, WasRefused, WasBroken, WasAnswered, MetFault, ended_of, all_done}
+use Rattle.ghost_model.specs.core.Split.{hidden_of}
 use Rattle.channel_pump.specs.Progress.{Tells, ended_on}
 use Rattle.channel_pump.specs.declared.state.Event.{Event}
 use Rattle.channel_pump.specs.declared.state.Event.TheVariants as event_is
@@ -18,39 +18,40 @@ use Rattle.session_laws.specs.TextEnds.{heard_in, is_settled_in, EndedTextsStay,
 use Rattle.reply_laws.specs.Stores.{RepliesFit}
 use Rattle.session_replies.specs.Kept.{IsKept, Fits, none_heard}
 use Rattle.session_replies.specs.declared.replies.Replies.{Replies}
-use Rattle.key_session.specs.Refusing.{or_else, code_of, first_code, code_on}
+use Rattle.std.specs.Option.{option_or}
+use Rattle.key_session.specs.Refusing.{code_of, first_code, code_on}
 use Rattle.key_session.specs.Reasons.{CameTo, IsReason}
-use Rattle.key_session.specs.Telling.{Outside}
+use Rattle.key_session.specs.Telling.{SessionSide}
 use Rattle.key_session.specs.Going.{IsGoing, IsAttended, HasGone}
 use Rattle.key_session.specs.declared.teller.Teller.{Teller}
 
-or_else_twice : (a b c : Option ℕ) → or_else (or_else a b) c ≡ or_else a (or_else b c)
+or_else_twice : (a b c : Option ℕ) → option_or (option_or a b) c ≡ option_or a (option_or b c)
 or_else_twice None b c = refl
 or_else_twice (Some a) b c = refl
 
-first_more : (ends more : List Ended) → first_code (ends ++ more) ≡ or_else (first_code ends) (first_code more)
+first_more : (ends more : List EndedAsk) → first_code (ends ++ more) ≡ option_or (first_code ends) (first_code more)
 first_more [] more = refl
-first_more (end ∷ ends) more = ap (or_else (code_of end.ending)) (first_more ends more) ∙ sym (or_else_twice (code_of end.ending) (first_code ends) (first_code more))
+first_more (end ∷ ends) more = ap (option_or (code_of end.ending)) (first_more ends more) ∙ sym (or_else_twice (code_of end.ending) (first_code ends) (first_code more))
 
 code_heard : (event : Event) (awaits : Awaits) (rows : List ℕ) → first_code (ended_on event awaits rows) ≡ code_on (is_some (asked_in awaits)) event
 code_heard event_is.Part awaits rows = refl
 code_heard event_is.Welcome awaits rows = refl
 code_heard (event_is.Rows _) awaits rows = refl
-code_heard event_is.Done (Missing _) rows = refl
-code_heard event_is.Done (Reply asked serial later count last) rows = refl
-code_heard event_is.Done Nothing rows = refl
-code_heard (event_is.Sorry code) (Missing _) rows = refl
-code_heard (event_is.Sorry code) (Reply asked serial later count last) rows = refl
-code_heard (event_is.Sorry code) Nothing rows = refl
+code_heard event_is.Done (AwaitsCatalog _) rows = refl
+code_heard event_is.Done (AwaitsReply asked serial later count last) rows = refl
+code_heard event_is.Done AwaitsNothing rows = refl
+code_heard (event_is.Sorry code) (AwaitsCatalog _) rows = refl
+code_heard (event_is.Sorry code) (AwaitsReply asked serial later count last) rows = refl
+code_heard (event_is.Sorry code) AwaitsNothing rows = refl
 code_heard (event_is.Invalid _ _) awaits rows = refl
 
 -- the first refusal after an event
 refusal_more : (catalog : Catalog) (page : List ℕ) (event : Event) (before after : Heard) (refusal new : Option ℕ) (is_awaited : Bool) → Tells catalog page event before after → refusal ≡ first_code before.ended
-    → is_awaited ≡ is_some (asked_in before.awaits) → new ≡ or_else refusal (code_on is_awaited event) → new ≡ first_code after.ended
+    → is_awaited ≡ is_some (asked_in before.awaits) → new ≡ option_or refusal (code_on is_awaited event) → new ≡ first_code after.ended
 refusal_more catalog page event before after refusal new is_awaited tells was awaited is =
-    is ∙ ap (λ (b : Bool). or_else refusal (code_on b event)) awaited
-    ∙ ap (λ (r : Option ℕ). or_else r (code_on (is_some (asked_in before.awaits)) event)) was
-    ∙ ap (or_else (first_code before.ended)) (sym (code_heard event before.awaits before.rows))
+    is ∙ ap (λ (b : Bool). option_or refusal (code_on b event)) awaited
+    ∙ ap (λ (r : Option ℕ). option_or r (code_on (is_some (asked_in before.awaits)) event)) was
+    ∙ ap (option_or (first_code before.ended)) (sym (code_heard event before.awaits before.rows))
     ∙ sym (ap first_code tells.ended ∙ first_more before.ended (ended_on event before.awaits before.rows))
 
 true_is_not_false : true ≡ false → ⊥
@@ -66,21 +67,21 @@ unsettled_before stay catalog texts journal more text e = by (is_settled_in cata
 
 -- the reason of a text stays as long as what its asks came to
 came_still : (all : Bool) (catalog : Catalog) (texts : List (List ℕ)) (journal later : Journal) (number : ℕ) (written : List ℕ)
-    → ended_of catalog texts later number ≡ ended_of catalog texts journal number → CameTo all catalog texts journal number written → CameTo all catalog texts later number written
+    → ended_of catalog (asked_of catalog.schema texts) later number ≡ ended_of catalog (asked_of catalog.schema texts) journal number → CameTo all catalog texts journal number written → CameTo all catalog texts later number written
 came_still all catalog texts journal later number written same came = record {
   query = came.query;
   accepted = came.accepted;
   done = ap (all_done catalog.schema came.query) same ∙ came.done;
 }
 
-reason_still : (catalog : Catalog) (texts : List (List ℕ)) (journal later : Journal) (number : ℕ) (written : List ℕ) → ended_of catalog texts later number ≡ ended_of catalog texts journal number
+reason_still : (catalog : Catalog) (texts : List (List ℕ)) (journal later : Journal) (number : ℕ) (written : List ℕ) → ended_of catalog (asked_of catalog.schema texts) later number ≡ ended_of catalog (asked_of catalog.schema texts) journal number
     → (reason : Reason) → IsReason reason catalog texts journal number written → IsReason reason catalog texts later number written
-reason_still catalog texts journal later number written same IsRefused is = is
+reason_still catalog texts journal later number written same WasRefused is = is
 reason_still catalog texts journal later number written same WasBroken is = came_still false catalog texts journal later number written same is
 reason_still catalog texts journal later number written same WasAnswered is = came_still true catalog texts journal later number written same is
 reason_still catalog texts journal later number written same (MetFault fault) is = came_still true catalog texts journal later number written same is
 
-pub going_on : EndedTextsStay → ReasonsStay → (pages_told : Bool) (catalog : Catalog) (texts : List (List ℕ)) (journal more : Journal) (since now : Outside) (teller : Teller) (replies new : Replies)
+pub going_on : EndedTextsStay → ReasonsStay → (pages_told : Bool) (catalog : Catalog) (texts : List (List ℕ)) (journal more : Journal) (since now : SessionSide) (teller : Teller) (replies new : Replies)
     → (going : IsGoing pages_told catalog texts journal since now teller replies)
     → IsKept catalog (heard_in catalog texts (journal ++ more)) (teller.count + 1) going.top new
     → IsGoing pages_told catalog texts (journal ++ more) since now teller new
@@ -141,7 +142,7 @@ going_on stay reasons pages_told catalog texts journal more since now teller rep
 }
 
 pub gone_on : EndedTextsStay → ReasonsStay → RepliesFit → (schema_text : List ℕ) (catalog : Catalog) → MeansSchema schema_text catalog.schema
-    → (goes moves later : Journal → Type 0) (pages_told : Bool) (at : List ℕ) (texts : List (List ℕ)) (since before now : Outside) (exchange new_exchange : Exchange) (old teller : Teller) (replies middle new : Replies)
+    → (goes moves later : Journal → Type 0) (pages_told : Bool) (at : List ℕ) (texts : List (List ℕ)) (since before now : SessionSide) (exchange new_exchange : Exchange) (old teller : Teller) (replies middle new : Replies)
     (refusal new_refusal : Option ℕ) (event : Event) (is_awaited : Bool)
     → (gone : HasGone goes pages_told catalog at texts since before exchange old replies refusal)
     → ((made : Journal) → goes gone.journal → moves made → later (gone.journal ++ made))
@@ -150,10 +151,10 @@ pub gone_on : EndedTextsStay → ReasonsStay → RepliesFit → (schema_text : L
     → ((after : Heard) (top : ℕ) → Tells catalog new_exchange.page event (heard_in catalog texts gone.journal) after
     → (leads_on event ≡ false → asked_in after.awaits ≡ asked_in (heard_in catalog texts gone.journal).awaits)
     → (event ≡ event_is.Welcome → asked_in (heard_in catalog texts gone.journal).awaits ≡ None)
-    → ((asked : Asked) → asked_in (heard_in catalog texts gone.journal).awaits ≡ Some asked → (middle.is_open ≡ true) × (teller.count + 1 ≤ asked.text))
+    → ((asked : NumberedAsk) → asked_in (heard_in catalog texts gone.journal).awaits ≡ Some asked → (middle.is_open ≡ true) × (teller.count + 1 ≤ asked.text))
     → ((text : ℕ) → Fits catalog after text) → IsKept catalog (heard_in catalog texts gone.journal) (teller.count + 1) top middle → IsKept catalog after (teller.count + 1) top new)
     → is_awaited ≡ is_some (asked_in (heard_in catalog texts gone.journal).awaits)
-    → new_refusal ≡ or_else refusal (code_on is_awaited event)
+    → new_refusal ≡ option_or refusal (code_on is_awaited event)
     → HasGone later pages_told catalog at texts since now new_exchange teller new new_refusal
 gone_on stay reasons fit schema_text catalog meant goes moves later pages_told at texts since before now exchange new_exchange old teller replies middle new refusal new_refusal event is_awaited gone joins attended moved hears awaited refusal_is =
     let more : Journal = moved.made ∷ [] in
@@ -175,7 +176,7 @@ pub heard_none : (catalog : Catalog) (texts : List (List ℕ)) → heard_in cata
 unfolding hear_all
 heard_none catalog texts = refl
 
-pub none_gone : (goes : Journal → Type 0) (pages_told : Bool) (catalog : Catalog) (at : List ℕ) (texts : List (List ℕ)) (since now : Outside) (exchange : Exchange) (teller : Teller) (replies : Replies)
+pub none_gone : (goes : Journal → Type 0) (pages_told : Bool) (catalog : Catalog) (at : List ℕ) (texts : List (List ℕ)) (since now : SessionSide) (exchange : Exchange) (teller : Teller) (replies : Replies)
     → goes [] → IsLive catalog at (asked_of catalog.schema texts) [] exchange → IsGoing pages_told catalog texts [] since now teller replies
     → HasGone goes pages_told catalog at texts since now exchange teller replies None
 none_gone goes pages_told catalog at texts since now exchange teller replies stays live going = record {
@@ -186,7 +187,7 @@ none_gone goes pages_told catalog at texts since now exchange teller replies sta
   refusal_is = sym (ap (λ (h : Heard). first_code h.ended) (heard_none catalog texts));
 }
 
-pub attended_gone : (goes : Journal → Type 0) (pages_told : Bool) (catalog : Catalog) (at : List ℕ) (texts : List (List ℕ)) (since before now : Outside) (exchange : Exchange) (old teller : Teller) (replies new : Replies) (refusal : Option ℕ)
+pub attended_gone : (goes : Journal → Type 0) (pages_told : Bool) (catalog : Catalog) (at : List ℕ) (texts : List (List ℕ)) (since before now : SessionSide) (exchange : Exchange) (old teller : Teller) (replies new : Replies) (refusal : Option ℕ)
     → (gone : HasGone goes pages_told catalog at texts since before exchange old replies refusal) → IsAttended pages_told catalog texts gone.journal since now teller new
     → HasGone goes pages_told catalog at texts since now exchange teller new refusal
 attended_gone goes pages_told catalog at texts since before now exchange old teller replies new refusal gone attended = record {

@@ -1,14 +1,14 @@
 -- A teller after one more text.
 use Rattle.std.proofs.Common.{◌≡◌, ◌≤◌, ℕ, suc, ◌+◌, arith, Bool, true, false, List, ◌∷◌, refl, sym, ap, ◌∙◌, subst, Some, slice_get}
 use Rattle.std.specs.Prelude.{min}
-use Rattle.ghost_model.specs.Causes.{last_count}
-use Rattle.ghost_model.specs.Values.{Database}
-use Rattle.ghost_model.specs.Channel.{Catalog, Journal}
-use Rattle.ghost_model.specs.Asks.{asked_of}
-use Rattle.ghost_model.specs.Moves.{taken}
-use Rattle.ghost_model.specs.NextMove.{left}
-use Rattle.ghost_model.specs.Split.{hidden_of}
-use Rattle.ghost_model.specs.Replies.{replies}
+use Rattle.ghost_model.specs.core.Causes.{last_count}
+use Rattle.ghost_model.specs.core.Values.{Database}
+use Rattle.ghost_model.specs.core.Channel.{Catalog, Journal}
+use Rattle.ghost_model.specs.core.Asks.{asked_of}
+use Rattle.ghost_model.specs.core.Moves.{taken}
+use Rattle.ghost_model.specs.core.NextMove.{standing_after}
+use Rattle.ghost_model.specs.core.Split.{hidden_of}
+use Rattle.ghost_model.specs.core.Replies.{replies}
 use Rattle.edge_traits.specs.Devices.{Device, KeepsPages}
 use Rattle.channel_pump.specs.Marks.{state_of}
 use Rattle.channel_pump.specs.declared.state.ReplyState.{ReplyState}
@@ -29,7 +29,7 @@ use Rattle.text_lines.specs.declared.text.Told.TheVariants as told
 use Rattle.key_session.specs.Counting.{damage_in, first_damage, reason_of, IsCounted, AreUndamaged}
 use Rattle.key_session.specs.Damages.{AreKept}
 use Rattle.key_session.specs.Reasons.{HaveReasons, HasReason}
-use Rattle.key_session.specs.Telling.{Outside, IsTold, AreTold, AreLeft, CameOut, IsTelling}
+use Rattle.key_session.specs.Telling.{SessionSide, IsTold, AreTold, AreLeft, CameOut, IsTelling}
 use Rattle.key_session.specs.declared.teller.Teller.{Teller}
 use Rattle.key_session.proofs.Coming.{told_so, done_so, all_is_done, reason_so}
 use Rattle.key_session.proofs.Adding.{one_told, one_reason, one_damage, called_more, damage_called_more, still_no_fall, next_of, next_number, left_more, some_more}
@@ -68,13 +68,13 @@ kept_is_done catalog texts journal low top text replies k from valid settled = k
     by true = all_is_done catalog texts journal text settled
     by false = refl
 
-pub tell_one : PiecesJoin → TextsAreDecided → StoredAreGiven → RepliesAscend → (pages_told : Bool) (catalog : Catalog) (texts : List (List ℕ)) (journal : Journal) (top : ℕ) (since between now : Outside)
+pub tell_one : PiecesJoin → TextsAreDecided → StoredAreGiven → RepliesAscend → (pages_told : Bool) (catalog : Catalog) (texts : List (List ℕ)) (journal : Journal) (top : ℕ) (since between now : SessionSide)
     (old new : Teller) (before after : Replies) (written : List ℕ) (state : ReplyState) (stored : List Stored) (result : Told)
     → IsTelling pages_told catalog texts journal top since between old before
     → old.texts ≡ written ∷ new.texts → new.count ≡ old.count + 1
     → CameOut catalog texts journal (old.count + 1)
     → IsKept catalog (heard_in catalog texts journal) (old.count + 1 + 1) top after
-    → state ≡ state_of (asked_of catalog.schema texts) (old.count + 1) (left catalog (asked_of catalog.schema texts) journal)
+    → state ≡ state_of (asked_of catalog.schema texts) (old.count + 1) (standing_after catalog (asked_of catalog.schema texts) journal)
     → stored ≡ kept before (old.count + 1)
     → ((database : Database) → Knows pages_told between.flash.page catalog database → (state ≡ state_is.Done → are_ascending (replies_in stored) ≡ true)
     → TellsText catalog.schema (hidden_of catalog.schema database) (replies_in stored) (old.count + 1) written state between.sink now.sink result)
@@ -127,8 +127,8 @@ tell_one join decided same ascend pages_told catalog texts journal top since bet
         ap (λ (xs : List Stored). are_ascending (replies_in xs)) (is_done e ∙ sym (all_is_done catalog texts journal (old.count + 1) (settled e)))
         ∙ ascend catalog texts (taken journal) (old.count + 1)
 
-    here_is : state ≡ state_of (asked_of catalog.schema texts) (suc old.count) (left catalog (asked_of catalog.schema texts) journal)
-    here_is = subst (λ (n : ℕ). state ≡ state_of (asked_of catalog.schema texts) n (left catalog (asked_of catalog.schema texts) journal)) (sym number) is_state
+    here_is : state ≡ state_of (asked_of catalog.schema texts) (suc old.count) (standing_after catalog (asked_of catalog.schema texts) journal)
+    here_is = subst (λ (n : ℕ). state ≡ state_of (asked_of catalog.schema texts) n (standing_after catalog (asked_of catalog.schema texts) journal)) (sym number) is_state
 
     has_reason : HasReason catalog texts journal old.count (reason_of result)
     has_reason = record {

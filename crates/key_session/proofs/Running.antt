@@ -3,13 +3,13 @@ use Rattle.std.proofs.Common.{◌≡◌, ◌≤◌, ℕ, suc, ◌+◌, arith, Bo
 use Rattle.std.specs.Prelude.{min, if◌then◌else◌, count_by, is_err, is_some}
 use Rattle.std.specs.List.{list_any}
 use Rattle.std.proofs.lemmas.List.Sums.{sum_by-cons}
-use Rattle.ghost_model.specs.Causes.{Rose, last_count}
-use Rattle.ghost_model.specs.Values.{Database}
-use Rattle.ghost_model.specs.Channel.{Catalog, Journal}
-use Rattle.ghost_model.specs.Asks.{asked_of}
-use Rattle.ghost_model.specs.Lines.{Reason, IsRefused, WasBroken, WasAnswered, MetFault}
-use Rattle.ghost_model.specs.NextMove.{Left, Heard, left, IsProper, IsFinished}
-use Rattle.ghost_model.specs.Split.{hidden_of}
+use Rattle.ghost_model.specs.core.Causes.{Rose, last_count}
+use Rattle.ghost_model.specs.core.Values.{Database}
+use Rattle.ghost_model.specs.core.Channel.{Catalog, Journal}
+use Rattle.ghost_model.specs.core.Asks.{asked_of}
+use Rattle.ghost_model.specs.core.Lines.{Reason, WasRefused, WasBroken, WasAnswered, MetFault}
+use Rattle.ghost_model.specs.core.NextMove.{Standing, Heard, standing_after, IsProper, IsFinished}
+use Rattle.ghost_model.specs.core.Split.{hidden_of}
 use Rattle.edge_traits.specs.Devices.{KeepsPages}
 use Rattle.channel_pump.specs.Progress.{EndsAs}
 use Rattle.channel_pump.specs.State.{IsAfter}
@@ -28,9 +28,9 @@ use Rattle.key_session.specs.Answering.{AnswersWhereSound}
 use Rattle.key_session.specs.Counting.{AreCounted, is_refusal, is_flash}
 use Rattle.key_session.specs.Reasons.{IsReason, HasReason, is_refused_text}
 use Rattle.key_session.specs.Refusing.{first_code}
-use Rattle.key_session.specs.Telling.{Outside, AreTold, AreLeft, CameOut, IsTelling, TellsOn}
+use Rattle.key_session.specs.Telling.{SessionSide, AreTold, AreLeft, CameOut, IsTelling, TellsOn}
 use Rattle.key_session.specs.Going.{IsGoing, HasGone}
-use Rattle.key_session.specs.Running.{HasRun, IsTally, status_with, host_or, blames_flash, is_damaged, spares_flash}
+use Rattle.key_session.specs.Running.{HasRun, IsTally, status_with, protocol_or, host_or, blames_flash, is_damaged, spares_flash}
 use Rattle.key_session.specs.declared.teller.Teller.{Teller}
 use Rattle.key_session.specs.declared.counts.Counts.{Counts}
 use Rattle.key_session.specs.declared.counts.Damage.{Damage}
@@ -44,7 +44,7 @@ abbrev no_counts : Counts
 no_counts = record { refused = 0; faulted = 0; by_flash = false; damage = None }
 
 -- before the first move
-pub at_first : PiecesJoin → (pages_told : Bool) (catalog : Catalog) (texts : List (List ℕ)) (since : Outside) (teller : Teller) (replies : Replies)
+pub at_first : PiecesJoin → (pages_told : Bool) (catalog : Catalog) (texts : List (List ℕ)) (since : SessionSide) (teller : Teller) (replies : Replies)
     → teller.texts ≡ texts → teller.count ≡ 0 → teller.counts ≡ record { refused = 0; faulted = 0; by_flash = false; damage = None }
     → IsKept catalog (none_heard catalog) 1 0 replies → IsGoing pages_told catalog texts [] since since teller replies
 at_first join pages_told catalog texts since teller replies all none counts kept = record {
@@ -119,7 +119,7 @@ same_text x y o e f = cc
 
 refusal_read : (catalog : Catalog) (texts : List (List ℕ)) (journal : Journal) (number : ℕ) (written : List ℕ) (reason : Reason) → IsReason reason catalog texts journal number written
     → is_refusal reason ≡ is_refused_text catalog.schema written
-refusal_read catalog texts journal number written IsRefused is = sym (ap is_err is.refused)
+refusal_read catalog texts journal number written WasRefused is = sym (ap is_err is.refused)
 refusal_read catalog texts journal number written WasBroken is = sym (ap is_err is.accepted)
 refusal_read catalog texts journal number written WasAnswered is = sym (ap is_err is.accepted)
 refusal_read catalog texts journal number written (MetFault fault) is = sym (ap is_err is.accepted)
@@ -136,7 +136,7 @@ refusals_read catalog texts journal reasons long each =
 -- a status by all that it goes by
 abbrev status_by : (failed stopped broken : Bool) (kind at : ℕ) (code : Option ℕ) (by_flash : Bool) (damage : Option Damage) → SessionStatus
 status_by failed stopped broken kind at code by_flash damage =
-    if failed then way.Sink else if stopped then way.Link else if broken then way.Protocol kind at else host_or code by_flash damage
+    if failed then way.Sink else if stopped then way.Link else protocol_or (if broken then Some (record { kind = kind; at = at }) else None) (host_or code by_flash damage)
 
 blamed_so : (failed stopped broken : Bool) (kind at : ℕ) (code : Option ℕ) (by_flash : Bool) (damage : Option Damage) → blames_flash (status_by failed stopped broken kind at code by_flash damage) ≡ true → by_flash ≡ true
 blamed_so true stopped broken kind at code by_flash damage e = cc
@@ -187,7 +187,7 @@ some_met p (reason ∷ reasons) e =
 rose_once : (most before count now : ℕ) → 1 ≤ count → min (before + count) most ≤ now → min (before + 1) most ≤ now
 rose_once most before count now some e = omega (arith, some, e)
 
-pub record IsLast (went : Journal → Type 0) (link_before link_now : ℕ) (pages_told : Bool) (catalog : Catalog) (at : List ℕ) (texts : List (List ℕ)) (since now : Outside) (tally : Tally) : Type 0 where
+pub record IsLast (went : Journal → Type 0) (link_before link_now : ℕ) (pages_told : Bool) (catalog : Catalog) (at : List ℕ) (texts : List (List ℕ)) (since now : SessionSide) (tally : Tally) : Type 0 where
   pub ran : HasRun went link_before link_now pages_told catalog at texts since now tally
   pub many : tally.texts ≡ length texts
   pub prints : PrintsSome since.sink now.sink
@@ -198,10 +198,10 @@ pub record IsLast (went : Journal → Type 0) (link_before link_now : ℕ) (page
   pub faults : min since.flash.faults last_count ≤ now.flash.faults
 
 -- what the status says of the flash
-module _ {went : Journal → Type 0} {link_before link_now : ℕ} {pages_told : Bool} {catalog : Catalog} {at : List ℕ} {texts : List (List ℕ)} {since now : Outside} {tally : Tally}
+module _ {went : Journal → Type 0} {link_before link_now : ℕ} {pages_told : Bool} {catalog : Catalog} {at : List ℕ} {texts : List (List ℕ)} {since now : SessionSide} {tally : Tally}
     (ran : HasRun went link_before link_now pages_told catalog at texts since now tally) where
-  abbrev session : Left
-  session = left catalog (asked_of catalog.schema texts) ran.journal
+  abbrev session : Standing
+  session = standing_after catalog (asked_of catalog.schema texts) ran.journal
 
   pub flash_rose : blames_flash tally.status ≡ true → Rose since.flash.faults now.flash.faults
   flash_rose e =
@@ -215,18 +215,18 @@ module _ {went : Journal → Type 0} {link_before link_now : ℕ} {pages_told : 
       ran.reasons.unblamed (spared_so now.sink.failed session.stopped session.heard.broken _ _ _ (list_any is_flash ran.reasons.reasons) ran.reasons.counted.damage
       (ap spares_flash (sym ran.reasons.counted.status_is) ∙ e))
 
-pub has_run : TextsHaveOutcomes → (went : Journal → Type 0) (link_before link_now : ℕ) (pages_told : Bool) (catalog : Catalog) (at : List ℕ) (texts : List (List ℕ)) (since middle now : Outside) (exchange : Exchange) (old teller : Teller) (replies new : Replies)
+pub has_run : TextsHaveOutcomes → (went : Journal → Type 0) (link_before link_now : ℕ) (pages_told : Bool) (catalog : Catalog) (at : List ℕ) (texts : List (List ℕ)) (since middle now : SessionSide) (exchange : Exchange) (old teller : Teller) (replies new : Replies)
     (refusal : Option ℕ) (cause : Option Cause) (tally : Tally)
     → HasGone (WentBy went link_before link_now) pages_told catalog at texts since middle exchange old replies refusal
     → ((journal : Journal) → IsLive catalog at (asked_of catalog.schema texts) journal exchange → IsFinished journal)
     → TellsOn pages_told catalog exchange.pump (λ ts j. (number : ℕ) → CameOut catalog ts j number) middle old replies now teller new
     → teller.texts ≡ []
-    → ((journal : Journal) → IsAfter catalog (asked_of catalog.schema texts) journal exchange.pump → EndsAs (left catalog (asked_of catalog.schema texts) journal) cause)
+    → ((journal : Journal) → IsAfter catalog (asked_of catalog.schema texts) journal exchange.pump → EndsAs (standing_after catalog (asked_of catalog.schema texts) journal) cause)
     → tally.texts ≡ teller.count → tally.refused ≡ teller.counts.refused → tally.faulted ≡ teller.counts.faulted
-    → ((session : Left) → EndsAs session cause → refusal ≡ first_code session.heard.ended → tally.status ≡ status_with now.sink.failed session teller.counts.by_flash teller.counts.damage)
+    → ((session : Standing) → EndsAs session cause → refusal ≡ first_code session.heard.ended → tally.status ≡ status_with now.sink.failed session teller.counts.by_flash teller.counts.damage)
     → ((journal : Journal) → IsProper catalog at texts journal → IsFinished journal
     → ((database : Database) → Knows pages_told since.flash.page catalog database
-    → AreTold catalog (hidden_of catalog.schema database) texts journal (length texts) (λ reasons. IsTally now.sink.failed (left catalog (asked_of catalog.schema texts) journal) reasons tally) since now)
+    → AreTold catalog (hidden_of catalog.schema database) texts journal (length texts) (λ reasons. IsTally now.sink.failed (standing_after catalog (asked_of catalog.schema texts) journal) reasons tally) since now)
     → AnswersWhereSound pages_told catalog texts journal since now tally)
     → IsLast went link_before link_now pages_told catalog at texts since now tally
 has_run outcomes went link_before link_now pages_told catalog at texts since middle now exchange old teller replies new refusal cause tally gone finished tells none ends many refused faulted status answers = record {
@@ -250,12 +250,12 @@ has_run outcomes went link_before link_now pages_told catalog at texts since mid
         damage = teller.counts.damage;
         found = last.reasons.counted.counted.found;
         first = last.reasons.counted.met;
-        status_is = status_is ∙ ap (λ (b : Bool). status_with now.sink.failed (left catalog (asked_of catalog.schema texts) gone.journal) b teller.counts.damage) last.reasons.counted.counted.by_flash;
+        status_is = status_is ∙ ap (λ (b : Bool). status_with now.sink.failed (standing_after catalog (asked_of catalog.schema texts) gone.journal) b teller.counts.damage) last.reasons.counted.counted.by_flash;
       };
     };
     damaged = λ damage e.
         last.damaged damage
-        (damaged_so now.sink.failed (left catalog (asked_of catalog.schema texts) gone.journal).stopped (left catalog (asked_of catalog.schema texts) gone.journal).heard.broken _ _ _ teller.counts.by_flash teller.counts.damage damage
+        (damaged_so now.sink.failed (standing_after catalog (asked_of catalog.schema texts) gone.journal).stopped (standing_after catalog (asked_of catalog.schema texts) gone.journal).heard.broken _ _ _ teller.counts.by_flash teller.counts.damage damage
         (sym status_is ∙ e));
     told = told;
     answered = answers gone.journal gone.live.proper is_finished told;
@@ -266,11 +266,11 @@ has_run outcomes went link_before link_now pages_told catalog at texts since mid
   calls = last.calls;
   called = λ e.
       last.called
-      (blamed_so now.sink.failed (left catalog (asked_of catalog.schema texts) gone.journal).stopped (left catalog (asked_of catalog.schema texts) gone.journal).heard.broken _ _ _ teller.counts.by_flash teller.counts.damage
+      (blamed_so now.sink.failed (standing_after catalog (asked_of catalog.schema texts) gone.journal).stopped (standing_after catalog (asked_of catalog.schema texts) gone.journal).heard.broken _ _ _ teller.counts.by_flash teller.counts.damage
       (ap blames_flash (sym status_is) ∙ e));
   damage_called = λ e.
       last.damage_called
-      (met_so now.sink.failed (left catalog (asked_of catalog.schema texts) gone.journal).stopped (left catalog (asked_of catalog.schema texts) gone.journal).heard.broken _ _ _ teller.counts.by_flash teller.counts.damage
+      (met_so now.sink.failed (standing_after catalog (asked_of catalog.schema texts) gone.journal).stopped (standing_after catalog (asked_of catalog.schema texts) gone.journal).heard.broken _ _ _ teller.counts.by_flash teller.counts.damage
       (ap is_damaged (sym status_is) ∙ e));
   faults = last.faults;
 }
@@ -283,14 +283,14 @@ has_run outcomes went link_before link_now pages_told catalog at texts since mid
         (λ number place written query e stands accepted. outcomes catalog at texts gone.journal place written query gone.live.proper is_finished stands accepted)
         gone.going.telling
 
-    status_is : tally.status ≡ status_with now.sink.failed (left catalog (asked_of catalog.schema texts) gone.journal) teller.counts.by_flash teller.counts.damage
-    status_is = status (left catalog (asked_of catalog.schema texts) gone.journal) (ends gone.journal gone.live.after) gone.refusal_is
+    status_is : tally.status ≡ status_with now.sink.failed (standing_after catalog (asked_of catalog.schema texts) gone.journal) teller.counts.by_flash teller.counts.damage
+    status_is = status (standing_after catalog (asked_of catalog.schema texts) gone.journal) (ends gone.journal gone.live.after) gone.refusal_is
 
     count : teller.count ≡ length texts
     count = all_told texts teller.texts teller.count last.left none
 
     told : (database : Database) → Knows pages_told since.flash.page catalog database
-        → AreTold catalog (hidden_of catalog.schema database) texts gone.journal (length texts) (λ reasons. IsTally now.sink.failed (left catalog (asked_of catalog.schema texts) gone.journal) reasons tally) since now
+        → AreTold catalog (hidden_of catalog.schema database) texts gone.journal (length texts) (λ reasons. IsTally now.sink.failed (standing_after catalog (asked_of catalog.schema texts) gone.journal) reasons tally) since now
     told database knows =
         let are = last.told database knows in
         record {
@@ -304,8 +304,8 @@ has_run outcomes went link_before link_now pages_told catalog at texts since mid
             refused = refused ∙ are.counted.counted.refused;
             faulted = faulted ∙ are.counted.counted.faulted;
             status_is = status_is
-                ∙ ap (λ (d : Option Damage). status_with now.sink.failed (left catalog (asked_of catalog.schema texts) gone.journal) teller.counts.by_flash d) are.counted.undamaged
-                ∙ ap (λ (b : Bool). status_with now.sink.failed (left catalog (asked_of catalog.schema texts) gone.journal) b None) are.counted.counted.by_flash;
+                ∙ ap (λ (d : Option Damage). status_with now.sink.failed (standing_after catalog (asked_of catalog.schema texts) gone.journal) teller.counts.by_flash d) are.counted.undamaged
+                ∙ ap (λ (b : Bool). status_with now.sink.failed (standing_after catalog (asked_of catalog.schema texts) gone.journal) b None) are.counted.counted.by_flash;
           };
         }
 

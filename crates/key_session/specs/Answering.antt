@@ -1,31 +1,31 @@
 -- A session that answers all its texts: the host is honest and holds the public part of a database, the flash holds its
 -- hidden part, and neither the flash nor the sink failed.
 use Rattle.std.specs.Prelude.{◌≡◌, ℕ, Bool, false, List}
-use Rattle.ghost_model.specs.Causes.{Rose}
-use Rattle.ghost_model.specs.Values.{Database}
-use Rattle.ghost_model.specs.Channel.{Catalog, Journal}
-use Rattle.ghost_model.specs.Honest.{IsHonest}
-use Rattle.ghost_model.specs.Printed.{printed}
-use Rattle.ghost_model.specs.Split.{public_of}
+use Rattle.ghost_model.specs.core.Causes.{Rose}
+use Rattle.ghost_model.specs.core.Values.{Database}
+use Rattle.ghost_model.specs.core.Channel.{Catalog, Journal}
+use Rattle.ghost_model.specs.core.Honest.{IsHonest}
+use Rattle.ghost_model.specs.core.Printed.{printed}
+use Rattle.ghost_model.specs.core.Split.{public_of}
 use Rattle.edge_traits.specs.Written.{grown}
 use Rattle.key_exec.specs.Reading.{Knows}
-use Rattle.key_session.specs.Telling.{Outside}
+use Rattle.key_session.specs.Telling.{SessionSide}
 use Rattle.key_session.specs.declared.tally.Tally.{Tally}
 use Rattle.key_session.specs.declared.tally.SessionStatus.TheVariants as status
 
-pub record IsSound (told : Bool) (cat : Catalog) (database : Database) (journal : Journal) (since now : Outside) : Type 0 where
+pub record IsSound (told : Bool) (cat : Catalog) (database : Database) (journal : Journal) (since now : SessionSide) : Type 0 where
   pub host : IsHonest cat (public_of cat.schema database) journal
   pub pages : Knows told since.flash.page cat database
   pub flash : Rose since.flash.faults now.flash.faults → ⊥
   pub sink : now.sink.failed ≡ false
 
 -- the sink took all that the texts print over the database
-pub record AnswersAll (cat : Catalog) (texts : List (List ℕ)) (database : Database) (since now : Outside) (tally : Tally) : Type 0 where
+pub record AnswersAll (cat : Catalog) (texts : List (List ℕ)) (database : Database) (since now : SessionSide) (tally : Tally) : Type 0 where
   pub printed_all : now.sink.written ≡ grown since.sink.written (printed cat.schema texts database)
   pub status_is : tally.status ≡ status.Ok
 
 -- whichever database it is
-abbrev pub AnswersWhereSound : (told : Bool) → Catalog → (texts : List (List ℕ)) → Journal → (since now : Outside) → Tally → Type 0
+abbrev pub AnswersWhereSound : (told : Bool) → Catalog → (texts : List (List ℕ)) → Journal → (since now : SessionSide) → Tally → Type 0
 AnswersWhereSound told cat texts journal since now tally =
     (database : Database) → IsSound told cat database journal since now
     → AnswersAll cat texts database since now tally

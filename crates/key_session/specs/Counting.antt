@@ -1,14 +1,14 @@
 -- What is counted of the texts that were told, by the reasons for their lines.
 use Rattle.std.specs.Prelude.{◌≡◌, ℕ, ◌+◌, Bool, true, false, ◌||◌, List, [], ◌∷◌, count_by, if◌then◌else◌, Option, None, Some, is_some}
 use Rattle.std.specs.List.{list_any}
-use Rattle.ghost_model.specs.Lines.{Reason, IsRefused, WasBroken, WasAnswered, MetFault, Fault, OnFlash, OnDamage}
+use Rattle.ghost_model.specs.core.Lines.{Reason, WasRefused, WasBroken, WasAnswered, MetFault, Fault, OnFlash, OnDamage}
 use Rattle.text_lines.specs.declared.text.Told.{Told}
 use Rattle.text_lines.specs.declared.text.Told.TheVariants as told
 use Rattle.key_session.specs.declared.counts.Counts.{Counts}
 use Rattle.key_session.specs.declared.counts.Damage.{Damage}
 
 abbrev pub reason_of : Told → Reason
-reason_of told.Refused = IsRefused
+reason_of told.Refused = WasRefused
 reason_of told.Answered = WasAnswered
 reason_of told.Host = WasBroken
 reason_of told.Link = WasBroken
@@ -17,50 +17,38 @@ reason_of told.Flash = MetFault OnFlash
 reason_of (told.Damaged page slot found) = MetFault OnDamage
 
 abbrev pub is_refusal : Reason → Bool
-is_refusal IsRefused = true
-is_refusal WasBroken = false
-is_refusal WasAnswered = false
-is_refusal (MetFault _) = false
+is_refusal WasRefused = true
+is_refusal _ = false
 
 -- whether a fault ended the text: of the host, the link, the protocol or the flash
 abbrev pub is_fault : Reason → Bool
-is_fault IsRefused = false
 is_fault WasBroken = true
-is_fault WasAnswered = false
 is_fault (MetFault _) = true
+is_fault _ = false
 
 abbrev pub is_on_flash : Fault → Bool
 is_on_flash OnFlash = true
 is_on_flash OnDamage = false
 
 abbrev pub is_flash : Reason → Bool
-is_flash IsRefused = false
-is_flash WasBroken = false
-is_flash WasAnswered = false
 is_flash (MetFault fault) = is_on_flash fault
+is_flash _ = false
 
 abbrev pub is_on_damage : Fault → Bool
 is_on_damage OnFlash = false
 is_on_damage OnDamage = true
 
 abbrev pub is_damage : Reason → Bool
-is_damage IsRefused = false
-is_damage WasBroken = false
-is_damage WasAnswered = false
 is_damage (MetFault fault) = is_on_damage fault
+is_damage _ = false
 
 abbrev pub one_if : Bool → ℕ
 one_if test = if test then 1 else 0
 
 -- the damage that is told of a text, and the first of two that may have been met
 abbrev pub damage_in : Told → Option Damage
-damage_in told.Refused = None
-damage_in told.Answered = None
-damage_in told.Host = None
-damage_in told.Link = None
-damage_in told.Protocol = None
-damage_in told.Flash = None
 damage_in (told.Damaged page slot found) = Some (record { page = page; slot = slot; found = found })
+damage_in _ = None
 
 abbrev pub first_damage : Option Damage → Option Damage → Option Damage
 first_damage None later = later

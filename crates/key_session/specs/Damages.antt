@@ -1,8 +1,8 @@
 -- The damage that texts met: each text that it ended names a slot that is damaged, and the first of them in the order of the
 -- texts is the one that is told.
 use Rattle.std.specs.Prelude.{◌≡◌, ℕ, Bool, List, map, slice_get, Option, Some, is_some}
-use Rattle.ghost_model.specs.Channel.{Catalog}
-use Rattle.ghost_model.specs.Lines.{Reason}
+use Rattle.ghost_model.specs.core.Channel.{Catalog}
+use Rattle.ghost_model.specs.core.Lines.{Reason}
 use Rattle.key_exec.specs.Blaming.{IsDamaged}
 use Rattle.key_session.specs.Counting.{first_of, is_damage, AreCounted}
 use Rattle.key_session.specs.declared.counts.Counts.{Counts}

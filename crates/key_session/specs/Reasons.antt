@@ -3,14 +3,15 @@
 -- texts that it ended: it rose at least as often, and where it ended none it is as it was.
 use Rattle.std.specs.Prelude.{◌≡◌, ℕ, suc, ◌+◌, ◌≤◌, min, Bool, true, false, List, length, count_by, slice_get, Some, Ok, is_err}
 use Rattle.std.specs.List.{list_any}
-use Rattle.ghost_model.specs.Causes.{last_count}
-use Rattle.ghost_model.specs.Schema.{Schema}
-use Rattle.ghost_model.specs.Query.{Query}
-use Rattle.ghost_model.specs.QueryReading.{reading}
-use Rattle.ghost_model.specs.Channel.{Catalog, Journal}
-use Rattle.ghost_model.specs.Lines.{Reason, IsRefused, WasBroken, WasAnswered, MetFault, ended_of, all_done}
+use Rattle.ghost_model.specs.core.Causes.{last_count}
+use Rattle.ghost_model.specs.core.Schema.{Schema}
+use Rattle.ghost_model.specs.core.Query.{Query}
+use Rattle.ghost_model.specs.readings.QueryReading.{reading}
+use Rattle.ghost_model.specs.core.Channel.{Catalog, Journal}
+use Rattle.ghost_model.specs.core.Lines.{Reason, WasRefused, WasBroken, WasAnswered, MetFault, ended_of, all_done}
 use Rattle.text_lines.specs.Texts.{IsRefusedText}
 use Rattle.key_session.specs.Counting.{is_flash}
+use Rattle.ghost_model.specs.core.Asks.{asked_of}
 
 abbrev pub is_refused_text : Schema → (written : List ℕ) → Bool
 is_refused_text schema written = is_err (reading schema written)
@@ -19,10 +20,10 @@ is_refused_text schema written = is_err (reading schema written)
 pub record CameTo (all : Bool) (catalog : Catalog) (texts : List (List ℕ)) (journal : Journal) (number : ℕ) (written : List ℕ) : Type 0 where
   pub query : Query
   pub accepted : reading catalog.schema written ≡ Ok query
-  pub done : all_done catalog.schema query (ended_of catalog texts journal number) ≡ all
+  pub done : all_done catalog.schema query (ended_of catalog (asked_of catalog.schema texts) journal number) ≡ all
 
 abbrev pub IsReason : Reason → Catalog → (texts : List (List ℕ)) → Journal → (number : ℕ) → (written : List ℕ) → Type 0
-IsReason IsRefused catalog texts journal number written = IsRefusedText catalog.schema written
+IsReason WasRefused catalog texts journal number written = IsRefusedText catalog.schema written
 IsReason WasBroken catalog texts journal number written = CameTo false catalog texts journal number written
 IsReason WasAnswered catalog texts journal number written = CameTo true catalog texts journal number written
 IsReason (MetFault fault) catalog texts journal number written = CameTo true catalog texts journal number written

@@ -1,27 +1,20 @@
 -- The first ask that the host refused.
 use Rattle.std.specs.Prelude.{ℕ, Bool, List, [], ◌∷◌, Option, None, Some, if◌then◌else◌}
-use Rattle.ghost_model.specs.NextMove.{Ended, Ending, Answered, Refused}
+use Rattle.std.specs.Option.{option_or}
+use Rattle.ghost_model.specs.core.NextMove.{EndedAsk, Ending, Answered, Refused}
 use Rattle.channel_pump.specs.declared.state.Event.{Event}
 use Rattle.channel_pump.specs.declared.state.Event.TheVariants as event_is
-
-abbrev pub or_else : Option ℕ → Option ℕ → Option ℕ
-or_else None other = other
-or_else (Some code) other = Some code
 
 abbrev pub code_of : Ending → Option ℕ
 code_of (Answered _) = None
 code_of (Refused code) = Some code
 
 -- the code of the first ask that was refused
-abbrev pub first_code : List Ended → Option ℕ
+abbrev pub first_code : List EndedAsk → Option ℕ
 first_code [] = None
-first_code (end ∷ ends) = or_else (code_of end.ending) (first_code ends)
+first_code (end ∷ ends) = option_or (code_of end.ending) (first_code ends)
 
 -- the code of an event that refuses an ask, where one is awaited
 abbrev pub code_on : (is_awaited : Bool) → Event → Option ℕ
-code_on is_awaited event_is.Part = None
-code_on is_awaited event_is.Welcome = None
-code_on is_awaited (event_is.Rows _) = None
-code_on is_awaited event_is.Done = None
 code_on is_awaited (event_is.Sorry code) = if is_awaited then Some code else None
-code_on is_awaited (event_is.Invalid _ _) = None
+code_on is_awaited _ = None

@@ -2,14 +2,13 @@
 -- text of its script.
 use Rattle.std.specs.Prelude.{◌≡◌, ℕ, Bool, true, false, List, length, count_by, Option, None, Some, is_some, if◌then◌else◌}
 use Rattle.std.specs.List.{list_any, list_all}
-use Rattle.ghost_model.specs.Values.{Database}
-use Rattle.ghost_model.specs.Channel.{Catalog, Journal}
-use Rattle.ghost_model.specs.Frames.{kind_in}
-use Rattle.ghost_model.specs.Asks.{asked_of}
-use Rattle.ghost_model.specs.NextMove.{Left, left, IsProper, IsFinished}
-use Rattle.ghost_model.specs.Split.{hidden_of}
-use Rattle.ghost_model.specs.Lines.{Reason}
-use Rattle.channel_pump.specs.State.{counted, bytes_before}
+use Rattle.ghost_model.specs.core.Values.{Database}
+use Rattle.ghost_model.specs.core.Channel.{Catalog, Journal}
+use Rattle.ghost_model.specs.core.Asks.{asked_of}
+use Rattle.ghost_model.specs.core.NextMove.{InvalidFrame, invalid_frame, Standing, standing_after, IsProper, IsFinished}
+use Rattle.ghost_model.specs.core.Split.{hidden_of}
+use Rattle.ghost_model.specs.core.Lines.{Reason}
+use Rattle.channel_pump.specs.State.{counted}
 use Rattle.channel_session.specs.Entries.{is_short_entry, FaultsTell}
 use Rattle.key_exec.specs.Reading.{Knows}
 use Rattle.key_session.specs.Answering.{AnswersWhereSound}
@@ -17,48 +16,29 @@ use Rattle.key_session.specs.Counting.{is_refusal, is_fault, is_flash, is_damage
 use Rattle.key_session.specs.Damages.{IsSlot, MeetsFirst}
 use Rattle.key_session.specs.Reasons.{HaveReasons, is_refused_text}
 use Rattle.key_session.specs.Refusing.{first_code}
-use Rattle.key_session.specs.Telling.{Outside, AreTold}
+use Rattle.key_session.specs.Telling.{SessionSide, AreTold}
 use Rattle.key_session.specs.declared.counts.Damage.{Damage}
 use Rattle.key_session.specs.declared.tally.Tally.{Tally}
 use Rattle.key_session.specs.declared.tally.SessionStatus.{SessionStatus}
 use Rattle.key_session.specs.declared.tally.SessionStatus.TheVariants as status
 
 abbrev pub is_sink : SessionStatus → Bool
-is_sink status.Ok = false
 is_sink status.Sink = true
-is_sink status.Link = false
-is_sink (status.Protocol _ _) = false
-is_sink (status.Host _) = false
-is_sink status.Flash = false
-is_sink (status.Damaged _) = false
+is_sink _ = false
 
 abbrev pub blames_flash : SessionStatus → Bool
-blames_flash status.Ok = false
-blames_flash status.Sink = false
-blames_flash status.Link = false
-blames_flash (status.Protocol _ _) = false
-blames_flash (status.Host _) = false
 blames_flash status.Flash = true
-blames_flash (status.Damaged _) = false
+blames_flash _ = false
 
 abbrev pub is_damaged : SessionStatus → Bool
-is_damaged status.Ok = false
-is_damaged status.Sink = false
-is_damaged status.Link = false
-is_damaged (status.Protocol _ _) = false
-is_damaged (status.Host _) = false
-is_damaged status.Flash = false
 is_damaged (status.Damaged _) = true
+is_damaged _ = false
 
 -- whether a session went well, but for damage that it may have met
 abbrev pub spares_flash : SessionStatus → Bool
 spares_flash status.Ok = true
-spares_flash status.Sink = false
-spares_flash status.Link = false
-spares_flash (status.Protocol _ _) = false
-spares_flash (status.Host _) = false
-spares_flash status.Flash = false
 spares_flash (status.Damaged _) = true
+spares_flash _ = false
 
 -- where the flash did not fail: damage was met, or all is well
 abbrev pub damaged_or : Option Damage → SessionStatus
@@ -70,22 +50,27 @@ abbrev pub host_or : Option ℕ → (by_flash : Bool) → Option Damage → Sess
 host_or (Some code) by_flash damage = status.Host code
 host_or None by_flash damage = if by_flash then status.Flash else damaged_or damage
 
+-- where the link did not fail or end: a frame was invalid, by its first byte and the bytes before it, as far as 64 bits
+-- count these; else the status is another
+abbrev pub protocol_or : Option InvalidFrame → SessionStatus → SessionStatus
+protocol_or (Some invalid) other = status.Protocol invalid.kind (counted invalid.at)
+protocol_or None other = other
+
 -- the first of these that is so: a write failed, the link failed or ended, a frame was invalid, the host refused an ask,
 -- the flash failed, damage was met
-abbrev pub status_with : (failed : Bool) → Left → (by_flash : Bool) → Option Damage → SessionStatus
-status_with failed left by_flash damage =
+abbrev pub status_with : (failed : Bool) → Standing → (by_flash : Bool) → Option Damage → SessionStatus
+status_with failed session by_flash damage =
     if failed then status.Sink
-    else if left.stopped then status.Link
-    else if left.heard.broken then status.Protocol (kind_in left.heard.part) (counted (bytes_before left.heard))
-    else host_or (first_code left.heard.ended) by_flash damage
+    else if session.stopped then status.Link
+    else protocol_or (invalid_frame session.heard) (host_or (first_code session.heard.ended) by_flash damage)
 
 -- and where no damage was met
-abbrev pub status_of : (failed : Bool) → Left → (by_flash : Bool) → SessionStatus
-status_of failed left by_flash = status_with failed left by_flash None
+abbrev pub status_of : (failed : Bool) → Standing → (by_flash : Bool) → SessionStatus
+status_of failed session by_flash = status_with failed session by_flash None
 
 -- a tally of texts with these reasons, whatever the pages hold: a status that names damage names that of the first text
 -- that it ended
-pub record IsTallied (pages_told : Bool) (page : ℕ → List ℕ) (catalog : Catalog) (failed : Bool) (session : Left) (reasons : List Reason) (tally : Tally) : Type 0 where
+pub record IsTallied (pages_told : Bool) (page : ℕ → List ℕ) (catalog : Catalog) (failed : Bool) (session : Standing) (reasons : List Reason) (tally : Tally) : Type 0 where
   pub refused : tally.refused ≡ count_by is_refusal reasons
   pub faulted : tally.faulted ≡ count_by is_fault reasons
   pub damage : Option Damage
@@ -94,13 +79,13 @@ pub record IsTallied (pages_told : Bool) (page : ℕ → List ℕ) (catalog : Ca
   pub status_is : tally.status ≡ status_with failed session (list_any is_flash reasons) damage
 
 -- a tally of the texts that have their lines for these reasons
-pub record IsTally (failed : Bool) (session : Left) (reasons : List Reason) (tally : Tally) : Type 0 where
+pub record IsTally (failed : Bool) (session : Standing) (reasons : List Reason) (tally : Tally) : Type 0 where
   pub refused : tally.refused ≡ count_by is_refusal reasons
   pub faulted : tally.faulted ≡ count_by is_fault reasons
   pub status_is : tally.status ≡ status_of failed session (list_any is_flash reasons)
 
 -- the link counted so many failed calls before the session and after it
-pub record HasRun (goes : Journal → Type 0) (link_before link_now : ℕ) (pages_told : Bool) (catalog : Catalog) (at : List ℕ) (texts : List (List ℕ)) (since now : Outside) (tally : Tally) : Type 0 where
+pub record HasRun (goes : Journal → Type 0) (link_before link_now : ℕ) (pages_told : Bool) (catalog : Catalog) (at : List ℕ) (texts : List (List ℕ)) (since now : SessionSide) (tally : Tally) : Type 0 where
   pub journal : Journal
   pub went : goes journal
   pub counts : FaultsTell link_before link_now journal
@@ -109,10 +94,10 @@ pub record HasRun (goes : Journal → Type 0) (link_before link_now : ℕ) (page
   pub finished : IsFinished journal
   pub refused : tally.refused ≡ count_by (is_refused_text catalog.schema) texts
   pub reasons : HaveReasons catalog texts journal (length texts)
-      (λ reasons. IsTallied pages_told since.flash.page catalog now.sink.failed (left catalog (asked_of catalog.schema texts) journal) reasons tally) since.flash.faults now.flash.faults
+      (λ reasons. IsTallied pages_told since.flash.page catalog now.sink.failed (standing_after catalog (asked_of catalog.schema texts) journal) reasons tally) since.flash.faults now.flash.faults
   pub damaged : (damage : Damage) → tally.status ≡ status.Damaged damage → IsSlot pages_told since.flash.page catalog damage
   pub told : (database : Database) → Knows pages_told since.flash.page catalog database
       → AreTold catalog (hidden_of catalog.schema database) texts journal (length texts)
-      (λ reasons. IsTally now.sink.failed (left catalog (asked_of catalog.schema texts) journal) reasons tally) since now
+      (λ reasons. IsTally now.sink.failed (standing_after catalog (asked_of catalog.schema texts) journal) reasons tally) since now
   -- an honest host, pages that hold and no fault: all is printed, and the status is Ok
   pub answered : AnswersWhereSound pages_told catalog texts journal since now tally

@@ -3,14 +3,14 @@
 -- are those of a database.
 use Rattle.std.specs.Prelude.{◌≡◌, ℕ, suc, ◌+◌, ◌≤◌, min, Bool, true, false, List, length, drop, map, flat_map, count_by, slice_get, Option, Some, Ok, is_some}
 use Rattle.std.specs.List.{concat, list_any}
-use Rattle.ghost_model.specs.Causes.{Rose, last_count}
-use Rattle.ghost_model.specs.Values.{Database}
-use Rattle.ghost_model.specs.Query.{Query}
-use Rattle.ghost_model.specs.QueryReading.{reading}
-use Rattle.ghost_model.specs.Channel.{Catalog, Journal}
-use Rattle.ghost_model.specs.Asks.{asked_of}
-use Rattle.ghost_model.specs.Split.{Hidden, hidden_of}
-use Rattle.ghost_model.specs.Lines.{Reason, AreLinesFor}
+use Rattle.ghost_model.specs.core.Causes.{Rose, last_count}
+use Rattle.ghost_model.specs.core.Values.{Database}
+use Rattle.ghost_model.specs.core.Query.{Query}
+use Rattle.ghost_model.specs.readings.QueryReading.{reading}
+use Rattle.ghost_model.specs.core.Channel.{Catalog, Journal}
+use Rattle.ghost_model.specs.core.Asks.{asked_of}
+use Rattle.ghost_model.specs.core.Split.{Hidden, hidden_of}
+use Rattle.ghost_model.specs.core.Lines.{Reason, AreLinesFor, session_text}
 use Rattle.edge_traits.specs.Devices.{Device, KeepsPages}
 use Rattle.channel_pump.specs.State.{IsAfter}
 use Rattle.channel_pump.specs.declared.state.Pump.{Pump}
@@ -27,13 +27,13 @@ use Rattle.key_session.specs.Reasons.{HaveReasons}
 use Rattle.key_session.specs.declared.counts.Damage.{Damage}
 use Rattle.key_session.specs.declared.teller.Teller.{Teller}
 
--- where the lines go, and the flash
-pub record Outside : Type 0 where
+-- the side of the outside that a session changes, its link aside: where the lines go, and the flash
+pub record SessionSide : Type 0 where
   pub sink : Handed
   pub flash : Device
 
-abbrev pub outside : (failed : Bool) → (faults : ℕ) → (written : Option (List ℕ)) → Device → Outside
-outside failed faults written device = record { sink = handed failed faults written; flash = device }
+abbrev pub session_side : (failed : Bool) → (faults : ℕ) → (written : Option (List ℕ)) → Device → SessionSide
+session_side failed faults written device = record { sink = handed failed faults written; flash = device }
 
 -- the lines of one text, and the reason for them
 pub record TextTold : Type 0 where
@@ -54,11 +54,11 @@ bytes_told told = flat_map bytes_of told
 pub record IsTold (catalog : Catalog) (kept : Hidden) (texts : List (List ℕ)) (journal : Journal) (place : ℕ) (one : TextTold) : Type 0 where
   pub written : List ℕ
   pub stands : slice_get texts place ≡ Some written
-  pub lines_are : AreLinesFor one.reason catalog kept texts journal (suc place) written one.lines
+  pub lines_are : AreLinesFor one.reason (session_text catalog kept texts journal (suc place) written) one.lines
   pub undamaged : is_damage one.reason ≡ false
 
 -- so many texts from the front were told, each by its lines, and counted by their reasons
-pub record AreTold (catalog : Catalog) (kept : Hidden) (texts : List (List ℕ)) (journal : Journal) (count : ℕ) (Counted : List Reason → Type 0) (since now : Outside) : Type 0 where
+pub record AreTold (catalog : Catalog) (kept : Hidden) (texts : List (List ℕ)) (journal : Journal) (count : ℕ) (Counted : List Reason → Type 0) (since now : SessionSide) : Type 0 where
   pub told : List TextTold
   pub as_many : length told ≡ count
   pub each : (place : ℕ) (one : TextTold) → slice_get told place ≡ Some one → IsTold catalog kept texts journal place one
@@ -80,7 +80,7 @@ CameOut catalog texts journal number =
 
 -- a teller has told some texts of a session that went by a journal, and the replies for the others are kept, none of them
 -- for a text behind `top`
-pub record IsTelling (pages_told : Bool) (catalog : Catalog) (texts : List (List ℕ)) (journal : Journal) (top : ℕ) (since now : Outside) (teller : Teller) (replies : Replies) : Type 0 where
+pub record IsTelling (pages_told : Bool) (catalog : Catalog) (texts : List (List ℕ)) (journal : Journal) (top : ℕ) (since now : SessionSide) (teller : Teller) (replies : Replies) : Type 0 where
   pub left : AreLeft texts teller.texts teller.count
   pub kept : IsKept catalog (heard_in catalog texts journal) (teller.count + 1) top replies
   pub near : top ≤ teller.count + 2
@@ -97,9 +97,9 @@ pub record IsTelling (pages_told : Bool) (catalog : Catalog) (texts : List (List
       → AreTold catalog (hidden_of catalog.schema database) texts journal teller.count (λ reasons. AreUndamaged reasons teller.counts) since now
 
 -- a teller goes on telling, of any session in which the pump stands and of which what it needs is shown
-abbrev pub TellsOn : (pages_told : Bool) → Catalog → Pump → (Shown : List (List ℕ) → Journal → Type 0) → (before : Outside) → Teller → Replies → (now : Outside) → Teller → Replies → Type 0
+abbrev pub TellsOn : (pages_told : Bool) → Catalog → Pump → (Shown : List (List ℕ) → Journal → Type 0) → (before : SessionSide) → Teller → Replies → (now : SessionSide) → Teller → Replies → Type 0
 TellsOn pages_told catalog pump Shown before teller replies now new_teller new_replies =
-    (texts : List (List ℕ)) (journal : Journal) (top : ℕ) (since : Outside)
+    (texts : List (List ℕ)) (journal : Journal) (top : ℕ) (since : SessionSide)
     → IsAfter catalog (asked_of catalog.schema texts) journal pump → Shown texts journal
     → IsTelling pages_told catalog texts journal top since before teller replies
     → IsTelling pages_told catalog texts journal top since now new_teller new_replies

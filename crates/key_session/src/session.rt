@@ -1,8 +1,8 @@
 //! A session from its first move to its last line.
 
 ghost use Rattle.std.specs.Prelude.{◌≡◌, ◌≤◌, true, false, min, length};
-ghost use Rattle.ghost_model.specs.Causes.{Rose, last_count};
-ghost use Rattle.ghost_model.specs.Texts.{texts_of};
+ghost use Rattle.ghost_model.specs.core.Causes.{Rose, last_count};
+ghost use Rattle.ghost_model.specs.core.Texts.{texts_of};
 ghost use Rattle.edge_traits.specs.Devices.{KeepsPages};
 ghost use Rattle.channel_pump.specs.State.{want_of};
 ghost use Rattle.channel_session.specs.Entries.{WentBy};
@@ -12,7 +12,7 @@ ghost use Rattle.key_exec.specs.Plans.{Suffices};
 ghost use Rattle.text_lines.specs.Rows.{PrintsSome};
 ghost use Rattle.key_session.specs.Going.{GoesFrom};
 ghost use Rattle.key_session.specs.Running.{HasRun, is_sink, blames_flash, is_damaged, spares_flash};
-ghost use Rattle.key_session.specs.Telling.{outside};
+ghost use Rattle.key_session.specs.Telling.{session_side};
 
 use crate::options::Options;
 use crate::refusing::first_refusal;
@@ -27,13 +27,12 @@ use edge_traits::sink::Sink;
 use flash_layout::limits::a_catalog_has_a_layout;
 use key_lines::printer::pieces_join;
 use reply_laws::stores::replies_fit;
-use script_asks::laws::asks_are_few;
 use session_laws::honest_sessions::{honest_lines_are_printed, honest_sessions_are_smooth};
 use session_laws::text_cases::texts_have_outcomes;
 use session_laws::text_ends::{ended_texts_stay, reasons_stay};
 use session_replies::Replies;
 use tree_schema::Catalog;
-use tree_schema::catalog_bytes::{a_catalog_is_short, catalogs_are_bytes};
+use tree_schema::catalog_bytes::a_catalog_is_short;
 
 /// Makes the moves of a session to the host at the address `at`, up to its close, and tells the texts that it can tell in
 /// between. Answers the code of the first ask that the host refused.
@@ -51,8 +50,8 @@ fn converse<F: Flash, L: Link, O: Sink>(
     ensures suffices { Suffices cat.now (F.state flash.new) }
     ensures closed { want_of exchange.new.pump ≡ Want.Closed }
     ensures gone { GoesFrom (WentBy (λ journal. L.went link.old journal link.new) (L.faults link.old) (L.faults link.new)) F.told cat.now at.now
-        (outside teller.old.printer.failed (O.faults out.old) (O.written out.old) (F.state flash.old)) exchange.old teller.old replies.old
-        (outside teller.new.printer.failed (O.faults out.new) (O.written out.new) (F.state flash.new)) exchange.new teller.new replies.new result }
+        (session_side teller.old.printer.failed (O.faults out.old) (O.written out.old) (F.state flash.old)) exchange.old teller.old replies.old
+        (session_side teller.new.printer.failed (O.faults out.new) (O.written out.new) (F.state flash.new)) exchange.new teller.new replies.new result }
     ensures faults { L.faults link.old ≤ L.faults link.new }
 {
     a_catalog_is_short(cat);
@@ -92,7 +91,7 @@ pub fn run_session<F: Flash, L: Link, O: Sink>(
     requires suffices { Suffices cat.now (F.state flash.old) }
     requires replies { IsKept cat.now (none_heard cat.now) 1 0 replies.old }
     ensures ran { HasRun (λ journal. L.went link.old journal link.new) (L.faults link.old) (L.faults link.new) F.told cat.now options.now.at.now (texts_of script.now)
-        (outside false (O.faults out.old) (O.written out.old) (F.state flash.old)) (outside (is_sink result.status) (O.faults out.new) (O.written out.new) (F.state flash.new)) result }
+        (session_side false (O.faults out.old) (O.written out.old) (F.state flash.old)) (session_side (is_sink result.status) (O.faults out.new) (O.written out.new) (F.state flash.new)) result }
     ensures texts { result.texts ≡ length (texts_of script.now) }
     ensures prints { PrintsSome (handed false (O.faults out.old) (O.written out.old)) (handed (is_sink result.status) (O.faults out.new) (O.written out.new)) }
     ensures sink_rose { is_sink result.status ≡ true → Rose (O.faults out.old) (O.faults out.new) }
@@ -111,8 +110,6 @@ pub fn run_session<F: Flash, L: Link, O: Sink>(
     texts_have_outcomes();
     a_catalog_is_short(cat);
     a_catalog_has_a_layout(cat);
-    catalogs_are_bytes();
-    asks_are_few();
     honest_sessions_are_smooth();
     honest_lines_are_printed();
     let mut exchange = Exchange::begin(Pump::begin(cat, script));

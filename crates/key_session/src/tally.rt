@@ -1,7 +1,7 @@
 //! What a session counts, and how it ended.
 
 ghost use Rattle.std.specs.Prelude.{◌≡◌, false};
-ghost use Rattle.ghost_model.specs.NextMove.{Left};
+ghost use Rattle.ghost_model.specs.core.NextMove.{Standing};
 ghost use Rattle.channel_pump.specs.Progress.{EndsAs};
 ghost use Rattle.key_session.specs.Refusing.{first_code};
 ghost use Rattle.key_session.specs.Running as running;
@@ -78,7 +78,7 @@ pub(crate) fn status(
     refusal: Option<u8>,
     counts: &Counts,
 ) -> SessionStatus
-    ensures status { (session : Left) → EndsAs session cause → refusal ≡ first_code session.heard.ended
+    ensures status { (session : Standing) → EndsAs session cause → refusal ≡ first_code session.heard.ended
         → result ≡ status_with failed session counts.now.by_flash counts.now.damage }
     ensures sink { is_sink result ≡ failed }
 {

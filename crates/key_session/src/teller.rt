@@ -1,7 +1,7 @@
 //! A teller of the texts of a session.
 
 ghost use Rattle.std.specs.Prelude.{◌≡◌, ◌≤◌, ◌+◌, false, None, length};
-ghost use Rattle.ghost_model.specs.Texts.{texts_of};
+ghost use Rattle.ghost_model.specs.core.Texts.{texts_of};
 
 use crate::counts::Counts;
 use key_lines::Printer;

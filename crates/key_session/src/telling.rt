@@ -1,12 +1,12 @@
 //! The texts of a session, told one after another.
 
 ghost use Rattle.std.specs.Prelude.{◌≡◌, ◌<◌, ◌≤◌, ◌+◌, ℕ, List, [], true, false, length};
-ghost use Rattle.ghost_model.specs.Channel.{Journal};
-ghost use Rattle.ghost_model.specs.Asks.{asked_of};
+ghost use Rattle.ghost_model.specs.core.Channel.{Journal};
+ghost use Rattle.ghost_model.specs.core.Asks.{asked_of};
 ghost use Rattle.channel_pump.specs.State.{IsAfter};
 ghost use Rattle.key_exec.specs.Plans.{Suffices};
 ghost use Rattle.key_session.specs.Going.{IsGoing, IsAttended};
-ghost use Rattle.key_session.specs.Telling.{Outside, outside, CameOut, TellsOn};
+ghost use Rattle.key_session.specs.Telling.{SessionSide, session_side, CameOut, TellsOn};
 
 use crate::teller::Teller;
 use channel_pump::state::Pump;
@@ -35,8 +35,8 @@ impl<'a> Teller<'a> {
         requires suffices { Suffices cat.now (F.state flash.old) }
         ensures suffices { Suffices cat.now (F.state flash.new) }
         ensures told { TellsOn F.told cat.now pump.now (λ texts journal. CameOut cat.now texts journal (self.old.count + 1))
-            (outside self.old.printer.failed (O.faults out.old) (O.written out.old) (F.state flash.old)) self.old replies.old
-            (outside self.new.printer.failed (O.faults out.new) (O.written out.new) (F.state flash.new)) self.new replies.new }
+            (session_side self.old.printer.failed (O.faults out.old) (O.written out.old) (F.state flash.old)) self.old replies.old
+            (session_side self.new.printer.failed (O.faults out.new) (O.written out.new) (F.state flash.new)) self.new replies.new }
         ensures next { result ≡ true → self.new.count ≡ self.old.count + 1 }
         ensures fewer { result ≡ true → length self.new.texts < length self.old.texts }
         ensures none { result ≡ false → self.new.texts ≡ [] }
@@ -80,8 +80,8 @@ impl<'a> Teller<'a> {
         requires suffices { Suffices cat.now (F.state flash.old) }
         ensures suffices { Suffices cat.now (F.state flash.new) }
         ensures told { TellsOn F.told cat.now pump.now (λ texts journal. (number : ℕ) → number < text → CameOut cat.now texts journal number)
-            (outside self.old.printer.failed (O.faults out.old) (O.written out.old) (F.state flash.old)) self.old replies.old
-            (outside self.new.printer.failed (O.faults out.new) (O.written out.new) (F.state flash.new)) self.new replies.new }
+            (session_side self.old.printer.failed (O.faults out.old) (O.written out.old) (F.state flash.old)) self.old replies.old
+            (session_side self.new.printer.failed (O.faults out.new) (O.written out.new) (F.state flash.new)) self.new replies.new }
         ensures within { self.old.count + 1 ≤ text → self.new.count + 1 ≤ text }
         ensures near { (self.new.texts ≡ [] → ⊥) → text ≤ self.new.count + 2 }
     {
@@ -103,8 +103,8 @@ impl<'a> Teller<'a> {
     )
         requires suffices { Suffices cat.now (F.state flash.old) }
         ensures told { TellsOn F.told cat.now pump.now (λ texts journal. (number : ℕ) → CameOut cat.now texts journal number)
-            (outside self.old.printer.failed (O.faults out.old) (O.written out.old) (F.state flash.old)) self.old replies.old
-            (outside self.new.printer.failed (O.faults out.new) (O.written out.new) (F.state flash.new)) self.new replies.new }
+            (session_side self.old.printer.failed (O.faults out.old) (O.written out.old) (F.state flash.old)) self.old replies.old
+            (session_side self.new.printer.failed (O.faults out.new) (O.written out.new) (F.state flash.new)) self.new replies.new }
         ensures all { self.new.texts ≡ [] }
     {
         'texts: while self.tell_next(cat, pump, replies, flash, out) {}
@@ -122,10 +122,10 @@ impl<'a> Teller<'a> {
     )
         requires suffices { Suffices cat.now (F.state flash.old) }
         ensures suffices { Suffices cat.now (F.state flash.new) }
-        ensures attended { (texts : List (List ℕ)) (journal : Journal) (since : Outside)
+        ensures attended { (texts : List (List ℕ)) (journal : Journal) (since : SessionSide)
             → IsAfter cat.now (asked_of cat.now.schema texts) journal pump.now
-            → IsGoing F.told cat.now texts journal since (outside self.old.printer.failed (O.faults out.old) (O.written out.old) (F.state flash.old)) self.old replies.old
-            → IsAttended F.told cat.now texts journal since (outside self.new.printer.failed (O.faults out.new) (O.written out.new) (F.state flash.new)) self.new replies.new }
+            → IsGoing F.told cat.now texts journal since (session_side self.old.printer.failed (O.faults out.old) (O.written out.old) (F.state flash.old)) self.old replies.old
+            → IsAttended F.told cat.now texts journal since (session_side self.new.printer.failed (O.faults out.new) (O.written out.new) (F.state flash.new)) self.new replies.new }
     {
         a_catalog_is_short(cat);
         texts_are_decided();

@@ -6,7 +6,7 @@ use Rattle.std.specs.Str.Parse.{ParsesUnsigned}
 use Rattle.std.proofs.lemmas.Bool.{le-leb}
 use Rattle.std.proofs.lemmas.Result.{OkIff-at_ok, OkIff-at_err}
 use Rattle.std.proofs.lemmas.Str.Parse.{IsNumeralModel, numerals_by_fold, parse_digits}
-use Rattle.ghost_model.specs.Tokens.{is_digit, is_between, number_of}
+use Rattle.ghost_model.specs.refusals.Tokens.{is_digit, is_between, number_of}
 use Rattle.key_words.specs.Words.{blocks_of}
 
 numerals : IsNumeralModel (λ ds. list_all is_digit ds ≡ true) number_of

@@ -6,7 +6,7 @@ use Rattle.std.specs.List.{list_all}
 use Rattle.leakless_plan.specs.declared.plan.Plan.{Plan}
 use Rattle.leakless_plan.specs.declared.plan.Plan.TheVariants as plan
 use Rattle.leakless_plan.specs.Names.{plan_named}
-use Rattle.ghost_model.specs.Tokens.{is_digit, is_between, number_of}
+use Rattle.ghost_model.specs.refusals.Tokens.{is_digit, is_between, number_of}
 use Rattle.clap.specs.Walk.{Row, Text, is_empty, first_of}
 use Rattle.clap.specs.Simple.{subcommand_of}
 use Rattle.clap.specs.Faults.{fault_of}

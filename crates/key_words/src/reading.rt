@@ -56,6 +56,7 @@ fn command_of<'a>(matches: &ArgMatches<'a>) -> Result<KeyWords<'a>, WordsFault>
     ensures usage { (fault : UsageFault) → result ≡ Err (WordsFault.Usage fault) → said (subcommand_rows_of matches.now) ≡ None }
     ensures rule { (fault : UsageFault) → result ≡ Err (WordsFault.Usage fault) → BreaksRuleIn (subcommand_rows_of matches.now) fault }
     ensures value { (fault : UsageFault) → result ≡ Err (WordsFault.Usage fault) → told_kind fault ≡ None }
+    ensures memory { result ≡ Err WordsFault.NoMemory → ⊥ }
 {
     let Some((name, options)) = matches.subcommand() else {
         return Err(WordsFault::Usage(UsageFault::Words));

@@ -2,7 +2,7 @@
 
 ghost use Rattle.std.specs.Prelude.{◌≡◌, option_map, IfSome};
 ghost use Rattle.std.specs.List.{list_all};
-ghost use Rattle.ghost_model.specs.Tokens.{is_digit};
+ghost use Rattle.ghost_model.specs.refusals.Tokens.{is_digit};
 ghost use Rattle.key_words.specs.Blocks.{IsFew};
 ghost use Rattle.key_words.specs.Words as words;
 

@@ -3,23 +3,24 @@ use Rattle.std.proofs.Common.{◌≡◌, ℕ, zero, suc, ◌+◌, Bool, true, fa
 use Rattle.std.specs.Prelude.{fold, cond, count_by, Result}
 use Rattle.std.specs.List.{concat, list_any}
 use Rattle.std.proofs.lemmas.List.Folds.{concat-append}
-use Rattle.ghost_model.specs.Schema.{Schema}
-use Rattle.ghost_model.specs.Values.{Database}
-use Rattle.ghost_model.specs.Query.{Query}
-use Rattle.ghost_model.specs.QueryMeaning.{Refusal}
-use Rattle.ghost_model.specs.QueryReading.{reading}
-use Rattle.ghost_model.specs.Meaning.{answer}
-use Rattle.ghost_model.specs.Printed.{answer_lines, lines_of_reading, lines_of_text, lines_from, printed}
-use Rattle.ghost_model.specs.Channel.{Catalog, Journal}
-use Rattle.ghost_model.specs.NextMove.{Left}
-use Rattle.ghost_model.specs.Split.{hidden_of}
-use Rattle.ghost_model.specs.Lines.{Reason, IsRefused, WasBroken, WasAnswered, MetFault, OnFlash, OnDamage, AreLinesFor, ended_of, all_done, rows_from_replies}
+use Rattle.ghost_model.specs.core.Schema.{Schema}
+use Rattle.ghost_model.specs.core.Values.{Database}
+use Rattle.ghost_model.specs.core.Query.{Query}
+use Rattle.ghost_model.specs.refusals.QueryMeaning.{Refusal}
+use Rattle.ghost_model.specs.readings.QueryReading.{reading}
+use Rattle.ghost_model.specs.core.Meaning.{answer}
+use Rattle.ghost_model.specs.core.Printed.{answer_lines, lines_of_reading, lines_of_text, lines_from, printed}
+use Rattle.ghost_model.specs.core.Channel.{Catalog, Journal}
+use Rattle.ghost_model.specs.core.NextMove.{Standing}
+use Rattle.ghost_model.specs.core.Split.{hidden_of}
+use Rattle.ghost_model.specs.core.Lines.{Reason, WasRefused, WasBroken, WasAnswered, MetFault, OnFlash, OnDamage, AreLinesFor, ended_of, all_done, rows_from_replies, session_text}
 use Rattle.key_session.specs.Counting.{is_flash, is_damage}
 use Rattle.key_lines.specs.Handing.{Hands}
-use Rattle.key_session.specs.Telling.{Outside, TextTold, IsTold, AreTold, reasons_of, bytes_of, bytes_told}
+use Rattle.key_session.specs.Telling.{SessionSide, TextTold, IsTold, AreTold, reasons_of, bytes_of, bytes_told}
 use Rattle.key_session.specs.Running.{IsTally, status_of}
 use Rattle.key_session.specs.declared.tally.Tally.{Tally}
 use Rattle.local_lines.specs.Lines.{TextLines, AreLinesBy, AreTextLines, GivesByTally, is_cut, bytes_given}
+use Rattle.ghost_model.specs.core.Asks.{asked_of}
 
 -- the lines that were told of a text, cut where the flash is their reason
 abbrev lines_told : TextTold → TextLines
@@ -115,14 +116,14 @@ module _ (schema : Schema) (database : Database) where
 -- every accepted text's asks are done, and its rows from the replies are its answer
 module _ (catalog : Catalog) (database : Database) (texts : List (List ℕ)) (journal : Journal)
     (done : (place : ℕ) (written : List ℕ) (asked : Query) → slice_get texts place ≡ Some written → reading catalog.schema written ≡ Ok asked
-    → all_done catalog.schema asked (ended_of catalog texts journal (suc place)) ≡ true)
+    → all_done catalog.schema asked (ended_of catalog (asked_of catalog.schema texts) journal (suc place)) ≡ true)
     (answers : (place : ℕ) (written : List ℕ) (asked : Query) → slice_get texts place ≡ Some written → reading catalog.schema written ≡ Ok asked
-    → rows_from_replies catalog (hidden_of catalog.schema database) texts journal (suc place) asked ≡ answer catalog.schema database asked) where
+    → rows_from_replies catalog (hidden_of catalog.schema database) (asked_of catalog.schema texts) journal (suc place) asked ≡ answer catalog.schema database asked) where
   lines_by :
       (place : ℕ) (written : List ℕ) (lines : List (List ℕ)) (reason : Reason) → slice_get texts place ≡ Some written → is_damage reason ≡ false
-      → AreLinesFor reason catalog (hidden_of catalog.schema database) texts journal (suc place) written lines
+      → AreLinesFor reason (session_text catalog (hidden_of catalog.schema database) texts journal (suc place) written) lines
       → AreLinesBy (is_flash reason) catalog.schema database (suc place) written lines
-  lines_by place written lines IsRefused here sound are =
+  lines_by place written lines WasRefused here sound are =
       are.line ∙ ap (λ (r : Result Query Refusal). lines_of_reading catalog.schema database (suc place) r) (sym are.refused)
   lines_by place written lines WasBroken here sound are =
       absurd (false_is_not (sym are.broken ∙ done place written are.query here are.accepted))
@@ -168,7 +169,7 @@ module _ (catalog : Catalog) (database : Database) (texts : List (List ℕ)) (jo
       }
 
   pub gives :
-      (failed : Bool) (session : Left) (tally : Tally) (since now : Outside)
+      (failed : Bool) (session : Standing) (tally : Tally) (since now : SessionSide)
       → AreTold catalog (hidden_of catalog.schema database) texts journal (length texts) (λ reasons. IsTally failed session reasons tally) since now
       → GivesByTally failed session tally catalog.schema database texts since now
   gives failed session tally since now are =

@@ -3,19 +3,19 @@
 -- for that.
 use Rattle.std.specs.Prelude.{◌≡◌, ℕ, suc, ◌+◌, ◌≤◌, min, Bool, true, false, List, [], ◌∷◌, ◌++◌, length, map, flat_map, count_by, codes, slice_get, Some, Ok}
 use Rattle.std.specs.List.{concat, list_any}
-use Rattle.ghost_model.specs.Causes.{last_count}
-use Rattle.ghost_model.specs.Schema.{Schema}
-use Rattle.ghost_model.specs.Values.{Database, Row}
-use Rattle.ghost_model.specs.Query.{Query}
-use Rattle.ghost_model.specs.QueryReading.{reading}
-use Rattle.ghost_model.specs.Meaning.{answer}
-use Rattle.ghost_model.specs.Printed.{row_line, word_line, lines_of_text, printed}
-use Rattle.ghost_model.specs.Channel.{Catalog, Journal}
-use Rattle.ghost_model.specs.NextMove.{Left, IsFinished}
-use Rattle.ghost_model.specs.Split.{hidden_of}
+use Rattle.ghost_model.specs.core.Causes.{last_count}
+use Rattle.ghost_model.specs.core.Schema.{Schema}
+use Rattle.ghost_model.specs.core.Values.{Database, Row}
+use Rattle.ghost_model.specs.core.Query.{Query}
+use Rattle.ghost_model.specs.readings.QueryReading.{reading}
+use Rattle.ghost_model.specs.core.Meaning.{answer}
+use Rattle.ghost_model.specs.core.Printed.{row_line, word_line, lines_of_text, printed}
+use Rattle.ghost_model.specs.core.Channel.{Catalog, Journal}
+use Rattle.ghost_model.specs.core.NextMove.{Standing, IsFinished}
+use Rattle.ghost_model.specs.core.Split.{hidden_of}
 use Rattle.session_laws.specs.Local.{IsLocal}
 use Rattle.key_lines.specs.Handing.{Hands}
-use Rattle.key_session.specs.Telling.{Outside, AreTold}
+use Rattle.key_session.specs.Telling.{SessionSide, AreTold}
 use Rattle.key_session.specs.Running.{IsTally, status_of}
 use Rattle.key_session.specs.declared.tally.Tally.{Tally}
 
@@ -57,7 +57,7 @@ pub record AreTextLines (schema : Schema) (database : Database) (texts : List (L
 
 -- what a session gave: lines of each text were handed to the sink, and the flash failed as often as it is blamed, or more
 -- often; where it is not blamed, its count is the same
-pub record Gives (schema : Schema) (database : Database) (texts : List (List ℕ)) (since now : Outside) : Type 0 where
+pub record Gives (schema : Schema) (database : Database) (texts : List (List ℕ)) (since now : SessionSide) : Type 0 where
   pub given : List TextLines
   pub lines : AreTextLines schema database texts given
   pub handed_on : Hands (bytes_given given) since.sink now.sink
@@ -65,7 +65,7 @@ pub record Gives (schema : Schema) (database : Database) (texts : List (List ℕ
   pub unblamed : list_any is_cut given ≡ false → now.flash.faults ≡ since.flash.faults
 
 -- the session's tally has the status of such lines: that of the flash, where it failed a text and no other cause comes first
-pub record GivesByTally (failed : Bool) (session : Left) (tally : Tally) (schema : Schema) (database : Database) (texts : List (List ℕ)) (since now : Outside) : Type 0 where
+pub record GivesByTally (failed : Bool) (session : Standing) (tally : Tally) (schema : Schema) (database : Database) (texts : List (List ℕ)) (since now : SessionSide) : Type 0 where
   pub gives : Gives schema database texts since now
   pub status_is : tally.status ≡ status_of failed session (list_any is_cut gives.given)
 
@@ -73,7 +73,7 @@ pub record GivesByTally (failed : Bool) (session : Left) (tally : Tally) (schema
 abbrev pub ToldTextsAreGiven : Type 0
 ToldTextsAreGiven =
     (catalog : Catalog) (database : Database) (texts : List (List ℕ)) (journal : Journal)
-    (failed : Bool) (session : Left) (tally : Tally) (since now : Outside)
+    (failed : Bool) (session : Standing) (tally : Tally) (since now : SessionSide)
     → IsLocal catalog database [] texts journal → IsFinished journal
     → AreTold catalog (hidden_of catalog.schema database) texts journal (length texts) (λ reasons. IsTally failed session reasons tally) since now
     → GivesByTally failed session tally catalog.schema database texts since now

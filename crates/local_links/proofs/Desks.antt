@@ -3,9 +3,9 @@ use Rattle.std.proofs.Common.{◌≡◌, ℕ, ◌+◌, ◌-◌, ◌≤◌, Bool,
 use Rattle.std.proofs.Math.Seq.{take-add}
 use Rattle.std.proofs.lemmas.List.{drop-drop}
 use Rattle.ghost_model.proofs.ChannelLemmas.Tests.{take_front}
-use Rattle.ghost_model.specs.Channel.{Frame, Made}
-use Rattle.ghost_model.specs.Frames.{Found, Short, Bad, IsFrame, frame_bytes, got_of}
-use Rattle.ghost_model.specs.Host.{Holding, Stand, Response, answer_to}
+use Rattle.ghost_model.specs.core.Channel.{Frame, Made}
+use Rattle.ghost_model.specs.forms.Frames.{Found, Short, Bad, IsFrame, frame_bytes, got_of}
+use Rattle.ghost_model.specs.core.Host.{Holding, Stand, Response, answer_to}
 use Rattle.ghost_model.proofs.ChannelLemmas.{spelled_is_found}
 use Rattle.edge_traits.specs.Files.{Files, file_of}
 use Rattle.host_exec.specs.Hosts.{Holds, StandsAs, SaysAs, IsAnswered, IsSameHost, name_of}

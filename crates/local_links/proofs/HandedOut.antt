@@ -2,9 +2,9 @@
 use Rattle.std.proofs.Common.{◌≡◌, inl, inr, ℕ, zero, suc, ◌+◌, ◌*◌, ◌<◌, ◌≤◌, min, true, false, List, [], ◌∷◌, ◌++◌, length, take, drop, Option, Ok, refl, sym, ◌∙◌, ap, subst, arith, append-nil, append_assoc}
 use Rattle.std.proofs.Math.Seq.{take-add, take-append_seam, drop-append_seam}
 use Rattle.std.proofs.lemmas.List.{take_all, drop_all, length-take-le, length-append}
-use Rattle.ghost_model.specs.Causes.{Rose, last_count}
-use Rattle.ghost_model.specs.Channel.{Made, Piece, Failed, Dial, Listen, Accept, Take, Close}
-use Rattle.ghost_model.specs.Host.{Holding, Stand}
+use Rattle.ghost_model.specs.core.Causes.{Rose, last_count}
+use Rattle.ghost_model.specs.core.Channel.{Made, Piece, Failed, Dial, Listen, Accept, Take, Close}
+use Rattle.ghost_model.specs.core.Host.{Holding, Stand}
 use Rattle.edge_traits.specs.Files.{Files}
 use Rattle.host_exec.specs.Hosts.{name_of}
 use Rattle.edge_traits.specs.Links.{entry, gave, faults_after}

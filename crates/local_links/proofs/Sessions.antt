@@ -1,12 +1,12 @@
 -- A journal that was served, move by move.
 use Rattle.std.proofs.Common.{◌≡◌, ◌≤◌, inl, ℕ, true, false, not, Bool, List, [], ◌∷◌, ◌++◌, Option, Some, refl, sym, ◌∙◌, ap, subst, arith, append-nil, append_assoc}
 use Rattle.std.specs.Prelude.{if◌then◌else◌, None, ◌||◌, slice_get}
-use Rattle.ghost_model.specs.Values.{Database}
-use Rattle.ghost_model.specs.Channel.{Catalog, Frame, Move, Dial, Listen, Accept, Send, Take, Close, Entry, Journal}
-use Rattle.ghost_model.specs.Asks.{Asked, asked_of}
-use Rattle.ghost_model.specs.NextMove.{Awaits, Missing, Reply, Nothing, Left, left, next_of, next_with, send_or, rest_of, GoesOn, IsProper}
-use Rattle.ghost_model.specs.Host.{Holding}
-use Rattle.ghost_model.specs.SessionLaws.{IsSetting, IsCatalogOf}
+use Rattle.ghost_model.specs.core.Values.{Database}
+use Rattle.ghost_model.specs.core.Channel.{Catalog, Frame, Move, Dial, Listen, Accept, Send, Take, Close, Entry, Journal}
+use Rattle.ghost_model.specs.core.Asks.{NumberedAsk, asked_of}
+use Rattle.ghost_model.specs.core.NextMove.{Awaits, AwaitsCatalog, AwaitsReply, AwaitsNothing, Standing, standing_after, move_from, next_with, send_or, take_or_close, GoesOn, IsProper}
+use Rattle.ghost_model.specs.core.Host.{Holding}
+use Rattle.ghost_model.specs.laws.SessionLaws.{IsSetting, IsCatalogOf}
 use Rattle.edge_traits.specs.Files.{Files}
 use Rattle.edge_traits.specs.Links.{Steps}
 use Rattle.session_laws.specs.Serving.{Desk, first_desk}
@@ -73,24 +73,24 @@ key_moves true false true at f rest move quiet e = ap listens (sym (one_move Clo
 key_moves true false false at None rest move quiet e = ap listens (sym (one_move rest move e)) ∙ quiet
 key_moves true false false at (Some frame) rest move quiet e = ap listens (sym (one_move (send_or rest (Some frame)) move e))
 
-rest_is_quiet : (catalog : Catalog) (l : Left) (awaits : Awaits) → listens (rest_of catalog l.heard awaits) ≡ false
-rest_is_quiet catalog l (Missing bytes) = refl
-rest_is_quiet catalog l (Reply asked serial later count last) = refl
-rest_is_quiet catalog l Nothing = refl
+rest_is_quiet : (catalog : Catalog) (l : Standing) (awaits : Awaits) → listens (take_or_close catalog l.heard awaits) ≡ false
+rest_is_quiet catalog l (AwaitsCatalog bytes) = refl
+rest_is_quiet catalog l (AwaitsReply asked serial later count last) = refl
+rest_is_quiet catalog l AwaitsNothing = refl
 
-pub next_is_quiet : (catalog : Catalog) (at : List ℕ) (l : Left) (move : Move) → next_of catalog at l ≡ Some move → listens move ≡ false
+pub next_is_quiet : (catalog : Catalog) (at : List ℕ) (l : Standing) (move : Move) → move_from catalog at l ≡ Some move → listens move ≡ false
 next_is_quiet catalog at l move e =
-    key_moves l.opened l.closed (l.stopped || l.heard.broken) at (slice_get l.heard.due l.sent) (rest_of catalog l.heard l.heard.awaits) move (rest_is_quiet catalog l l.heard.awaits) e
+    key_moves l.opened l.closed (l.stopped || l.heard.broken) at (slice_get l.heard.due l.sent) (take_or_close catalog l.heard l.heard.awaits) move (rest_is_quiet catalog l l.heard.awaits) e
 
 -- so no move of a key fails
-pub never_failed : {D : Type 0} (contents : D → Option Files) (faults : D → ℕ) (sure : D → List ℕ → Type 0) (catalog : Catalog) (at : List ℕ) (asks : List Asked) (gone journal : Journal) (before after : HostLink D)
+pub never_failed : {D : Type 0} (contents : D → Option Files) (faults : D → ℕ) (sure : D → List ℕ → Type 0) (catalog : Catalog) (at : List ℕ) (asks : List NumberedAsk) (gone journal : Journal) (before after : HostLink D)
     → GoesOn catalog at asks gone journal → Steps (Moves contents faults sure) before journal after → faults_of after ≡ faults_of before
 never_failed contents faults sure catalog at asks gone [] before after goes steps = ap (λ link. faults_of link) (sym steps)
 never_failed contents faults sure catalog at asks gone (made ∷ later) before after goes steps =
     never_failed contents faults sure catalog at asks (gone ++ made ∷ []) later steps.between after goes.1 steps.later
-    ∙ steps.moved.quiet (next_is_quiet catalog at (left catalog asks gone) made.move goes.0)
+    ∙ steps.moved.quiet (next_is_quiet catalog at (standing_after catalog asks gone) made.move goes.0)
 
-goes_more : (catalog : Catalog) (at : List ℕ) (asks : List Asked) (before journal : Journal) (entry : Entry) → GoesOn catalog at asks before journal → next_with catalog at asks (before ++ journal) ≡ Some entry.move
+goes_more : (catalog : Catalog) (at : List ℕ) (asks : List NumberedAsk) (before journal : Journal) (entry : Entry) → GoesOn catalog at asks before journal → next_with catalog at asks (before ++ journal) ≡ Some entry.move
     → GoesOn catalog at asks before (journal ++ entry ∷ [])
 goes_more catalog at asks before [] entry goes e = (ap (λ (j : Journal). next_with catalog at asks j) (sym (append-nil before)) ∙ e, tt)
 goes_more catalog at asks before (first ∷ journal) entry goes e =

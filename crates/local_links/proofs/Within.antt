@@ -4,8 +4,8 @@ use Rattle.std.specs.Prelude.{IfOk}
 use Rattle.std.specs.List.{list_all}
 use Rattle.std.proofs.lemmas.Bool.{le-leb}
 use Rattle.std.proofs.lemmas.List.{length-take}
-use Rattle.ghost_model.specs.Channel.{Move, Take, Answer}
-use Rattle.ghost_model.specs.Moves.{piece_of}
+use Rattle.ghost_model.specs.core.Channel.{Move, Take, Answer}
+use Rattle.ghost_model.specs.core.Moves.{piece_of}
 use Rattle.ghost_model.proofs.ChannelLemmas.Tests.{hold_both}
 use Rattle.edge_traits.specs.Links.{entry, done, gave, listening}
 use Rattle.local_links.specs.Keeping.{is_within, asks_for}

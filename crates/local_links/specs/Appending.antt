@@ -6,7 +6,7 @@ use Rattle.std.specs.Cmp.Lexicographic.{nat_list_cmp_total}
 use Rattle.std.specs.FinMap as map
 use Rattle.edge_traits.specs.Files.{Files, file_of, with_file, or_empty, SameBut}
 use Rattle.edge_traits.specs.Written.{grown}
-use Rattle.ghost_model.specs.Causes.{Rose, HasCause}
+use Rattle.ghost_model.specs.core.Causes.{Rose, HasCause}
 use Rattle.local_links.specs.Journaling.{Log, log, told_file, Extends}
 
 -- a test is not both

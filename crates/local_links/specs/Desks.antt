@@ -1,9 +1,9 @@
 -- A host of the code, with what it said and the key did not take yet, as a desk.
 use Rattle.std.specs.Prelude.{◌≡◌, ◌<◌, ◌⊎◌, ℕ, ◌-◌, Option, Some, List, ◌++◌, take, drop, flat_map}
-use Rattle.ghost_model.specs.Causes.{Rose}
-use Rattle.ghost_model.specs.Channel.{Frame}
-use Rattle.ghost_model.specs.Frames.{frame_bytes}
-use Rattle.ghost_model.specs.Host.{Holding, Stand}
+use Rattle.ghost_model.specs.core.Causes.{Rose}
+use Rattle.ghost_model.specs.core.Channel.{Frame}
+use Rattle.ghost_model.specs.forms.Frames.{frame_bytes}
+use Rattle.ghost_model.specs.core.Host.{Holding, Stand}
 use Rattle.edge_traits.specs.Files.{Files, file_of}
 use Rattle.host_exec.specs.Hosts.{Holds, StandsAs, name_of}
 use Rattle.host_exec.specs.declared.host.Host.{Host}

@@ -3,8 +3,8 @@
 -- an append fails.
 use Rattle.std.specs.Prelude.{◌≡◌, ◌≤◌, ℕ, Bool, true, false, List, [], Option, None, Some}
 use Rattle.std.specs.FinMap as map
-use Rattle.ghost_model.specs.Causes.{Rose}
-use Rattle.ghost_model.specs.Channel as channel
+use Rattle.ghost_model.specs.core.Causes.{Rose}
+use Rattle.ghost_model.specs.core.Channel as channel
 use Rattle.edge_traits.specs.Files.{Files, or_empty, SameBut}
 use Rattle.edge_traits.specs.Written.{grown}
 use Rattle.local_links.specs.declared.journal.Move.{Move}

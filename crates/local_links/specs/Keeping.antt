@@ -1,8 +1,8 @@
 -- A link that keeps a journal of another: each move is made on that one, and its line goes to the end of a file.
 use Rattle.std.specs.Prelude.{◌≡◌, ℕ, Bool, true, ◌+◌, nat_le, List, [], length, Option, None, Some, if◌then◌else◌}
 use Rattle.std.specs.List.{list_all}
-use Rattle.ghost_model.specs.Channel.{Move, Dial, Listen, Accept, Send, Take, Close, Entry, Journal}
-use Rattle.ghost_model.specs.Moves.{lines, piece_of}
+use Rattle.ghost_model.specs.core.Channel.{Move, Dial, Listen, Accept, Send, Take, Close, Entry, Journal}
+use Rattle.ghost_model.specs.core.Moves.{lines, piece_of}
 use Rattle.edge_traits.specs.Files.{Files}
 use Rattle.local_links.specs.Journaling.{Log, log, Extends}
 use Rattle.local_links.specs.declared.journaled.Journaled.{Journaled}

@@ -2,8 +2,8 @@
 use Rattle.std.proofs.Common.{◌≡◌, ℕ, Bool, true, false, ◌&&◌, List, [], ◌∷◌, ◌++◌, Option, None, Some, refl, sym, ◌∙◌, subst}
 use Rattle.std.specs.List.{list_all}
 use Rattle.std.proofs.lemmas.Grind.{flat_map-append}
-use Rattle.ghost_model.specs.Channel.{Journal}
-use Rattle.ghost_model.specs.Moves.{line, lines}
+use Rattle.ghost_model.specs.core.Channel.{Journal}
+use Rattle.ghost_model.specs.core.Moves.{line, lines}
 use Rattle.edge_traits.specs.Files.{Files}
 use Rattle.local_links.specs.Journaling.{Log}
 use Rattle.local_links.specs.Keeping.{is_short, is_within, log_of, named, Writes, Kept}

@@ -2,9 +2,9 @@
 -- holds, as long as no reading of the host's file fails, and each frame is sent when nothing is owed: so a key sends
 -- them that makes its next moves alone. Over a depot that is sure of the host's file no reading fails.
 use Rattle.std.specs.Prelude.{◌≡◌, ◌≤◌, ℕ, ◌+◌, ◌*◌, Bool, true, false, List, [], ◌∷◌, ◌++◌, Option, None, Some}
-use Rattle.ghost_model.specs.Causes.{Rose}
-use Rattle.ghost_model.specs.Channel.{Move, Dial, Listen, Accept, Send, Take, Close, Entry, Journal}
-use Rattle.ghost_model.specs.Host.{Holding}
+use Rattle.ghost_model.specs.core.Causes.{Rose}
+use Rattle.ghost_model.specs.core.Channel.{Move, Dial, Listen, Accept, Send, Take, Close, Entry, Journal}
+use Rattle.ghost_model.specs.core.Host.{Holding}
 use Rattle.edge_traits.specs.Files.{Files}
 use Rattle.edge_traits.specs.Links.{Steps, faults_after}
 use Rattle.host_exec.specs.Hosts.{name_of, steps_of}

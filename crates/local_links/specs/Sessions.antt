@@ -1,11 +1,11 @@
 -- Whole sessions of a key over a link to a host in its own process that holds the public part of a database.
 use Rattle.std.specs.Prelude.{◌≡◌, ℕ, true, List, Option}
 use Rattle.std.specs.List.{list_all}
-use Rattle.ghost_model.specs.Values.{Database}
-use Rattle.ghost_model.specs.Channel.{Catalog, Journal}
-use Rattle.ghost_model.specs.Moves.{lines}
-use Rattle.ghost_model.specs.NextMove.{IsProper}
-use Rattle.ghost_model.specs.SessionLaws.{IsSetting, IsCatalogOf}
+use Rattle.ghost_model.specs.core.Values.{Database}
+use Rattle.ghost_model.specs.core.Channel.{Catalog, Journal}
+use Rattle.ghost_model.specs.core.Moves.{lines}
+use Rattle.ghost_model.specs.core.NextMove.{IsProper}
+use Rattle.ghost_model.specs.laws.SessionLaws.{IsSetting, IsCatalogOf}
 use Rattle.edge_traits.specs.Files.{Files}
 use Rattle.edge_traits.specs.Links.{Steps}
 use Rattle.session_laws.specs.Serving.{first_desk}

@@ -1,7 +1,7 @@
 //! How what a host says is handed out.
 
 ghost use Rattle.std.specs.Prelude.{◌≡◌, ◌≤◌, ◌<◌, ◌+◌, ◌++◌, ◌⊎◌, ℕ, List, [], true, false, length, take, min};
-ghost use Rattle.ghost_model.specs.Host.{Holding, Stand};
+ghost use Rattle.ghost_model.specs.core.Host.{Holding, Stand};
 ghost use Rattle.host_exec.specs.Hosts.{IsSameHost, name_of, steps_of};
 ghost use Rattle.local_links.specs.Desks.{kept, size_of, Owes, ReadsWell, Nearer};
 

@@ -1,11 +1,11 @@
 //! A link to a host in the key's own process.
 
 ghost use Rattle.std.specs.Prelude.{◌≡◌, ◌≤◌, ◌<◌, ◌+◌, ◌++◌, ℕ, List, [], Some, length, take, drop, min, IfSome, MatchOption};
-ghost use Rattle.ghost_model.specs.Causes.{Rose, last_count};
-ghost use Rattle.ghost_model.specs.Channel as channel;
-ghost use Rattle.ghost_model.specs.Frames.{IsFrame, frame_bytes};
-ghost use Rattle.ghost_model.specs.Host as standing;
-ghost use Rattle.ghost_model.specs.Host.{Holding, Stand, Response, answer_to};
+ghost use Rattle.ghost_model.specs.core.Causes.{Rose, last_count};
+ghost use Rattle.ghost_model.specs.core.Channel as channel;
+ghost use Rattle.ghost_model.specs.forms.Frames.{IsFrame, frame_bytes};
+ghost use Rattle.ghost_model.specs.core.Host as standing;
+ghost use Rattle.ghost_model.specs.core.Host.{Holding, Stand, Response, answer_to};
 ghost use Rattle.edge_traits.specs.Files.{file_of};
 ghost use Rattle.edge_traits.specs.Links.{entry, Steps, steps_stay, steps_join};
 ghost use Rattle.host_exec.specs.Hosts.{Holds, StandsAs, name_of};

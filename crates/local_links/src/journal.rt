@@ -3,7 +3,7 @@
 ghost use Rattle.std.specs.Prelude.{◌≡◌, ◌≤◌, ◌<◌, ◌+◌, ◌*◌, ◌++◌, length};
 ghost use Rattle.hex.specs.Hex.{encode_lower};
 ghost use Rattle.arrayvec.specs.ArrayVec.{array_vec_len};
-ghost use Rattle.ghost_model.specs.Moves as moves;
+ghost use Rattle.ghost_model.specs.core.Moves as moves;
 ghost use Rattle.local_links.specs.Journaling.{move_view, answer_view, entry_of, move_bytes, answer_bytes, log, Extends};
 
 use arrayvec::ArrayVec;

@@ -1,7 +1,7 @@
 //! A link that keeps a journal of another.
 
 ghost use Rattle.std.specs.Prelude.{◌≡◌, ◌≤◌, ◌∷◌, [], true, false, length, option_map, IfOk};
-ghost use Rattle.ghost_model.specs.Moves.{line};
+ghost use Rattle.ghost_model.specs.core.Moves.{line};
 ghost use Rattle.edge_traits.specs.Links.{done, gave};
 ghost use Rattle.local_links.specs.Journaling.{answer_view, entry_of, move_bytes, answer_bytes, log, Extends};
 ghost use Rattle.local_links.specs.Keeping.{Kept, Writes, is_short, named, log_of};

@@ -5,15 +5,15 @@ use Rattle.std.proofs.Math.Nat.{mul-le-mul_left}
 use Rattle.std.proofs.lemmas.List.{length-map}
 use Rattle.std.proofs.lemmas.List.FromFn.{length-range_with_len}
 use Rattle.std.proofs.lemmas.List.Sums.{sum_by-append}
-use Rattle.ghost_model.specs.Schema.{Schema, Column, Kind, columns_of, column_at, is_visible}
-use Rattle.ghost_model.specs.Query.{Query}
-use Rattle.ghost_model.specs.QueryReading.{reading}
-use Rattle.ghost_model.specs.Cells.{cell_width}
-use Rattle.ghost_model.specs.Channel.{Catalog, Ask}
-use Rattle.ghost_model.specs.Asks.{Asked, asked, asked_from, asked_of, asks_of, asks_of_reading, ask_for, is_from, is_needed, is_wanted, places, kind_or_none, kind_at, row_width}
-use Rattle.ghost_model.specs.NextMove.{rows_of, count_or_zero}
-use Rattle.ghost_model.specs.Layout.{below, count_of, width_or_none, width_at, spool_width}
-use Rattle.ghost_model.specs.SchemaTrees.{IsTree}
+use Rattle.ghost_model.specs.core.Schema.{Schema, Column, Kind, columns_of, column_at, is_visible}
+use Rattle.ghost_model.specs.core.Query.{Query}
+use Rattle.ghost_model.specs.readings.QueryReading.{reading}
+use Rattle.ghost_model.specs.forms.Cells.{cell_width}
+use Rattle.ghost_model.specs.core.Channel.{Catalog, Ask, row_count_in}
+use Rattle.ghost_model.specs.core.Asks.{NumberedAsk, asked, asked_from, asked_of, asks_of, asks_of_reading, ask_for, is_from, is_needed, is_wanted, places, kind_or_none, kind_at, row_width}
+use Rattle.ghost_model.specs.forms.Layout.{below, count_of, width_at, spool_width}
+use Rattle.ghost_model.specs.laws.SchemaTrees.{IsTree}
+use Rattle.ghost_model.proofs.LayoutLemmas.Columns.{width_or_none}
 use Rattle.ghost_model.proofs.ChannelLemmas.Tests.{both_hold}
 use Rattle.ghost_model.proofs.SessionLemmas.Accepted.{Each}
 use Rattle.reply_store.specs.Stored.{room_for}
@@ -22,7 +22,7 @@ use Rattle.reply_laws.proofs.Hearing.{Rises, rises_lower, each_joined}
 
 -- the order of the texts
 module _ (schema : Schema) where
-  rises_here : (number : ℕ) (asks : List Ask) (rest : List Asked) → Rises number rest → Rises number (map (asked number) asks ++ rest)
+  rises_here : (number : ℕ) (asks : List Ask) (rest : List NumberedAsk) → Rises number rest → Rises number (map (asked number) asks ++ rest)
   rises_here number [] rest r = r
   rises_here number (ask ∷ asks) rest r = (omega arith, rises_here number asks rest r)
 
@@ -32,20 +32,20 @@ module _ (schema : Schema) where
       rises_here number (asks_of_reading schema one) (asked_from schema (number + 1) later)
       (rises_lower number (number + 1) (asked_from schema (number + 1) later) (omega arith) (rises_from (number + 1) later))
 
-  within_here : (number top : ℕ) (asks : List Ask) → number ≤ top → Each (λ (one : Asked). one.text ≤ top) (map (asked number) asks)
+  within_here : (number top : ℕ) (asks : List Ask) → number ≤ top → Each (λ (one : NumberedAsk). one.text ≤ top) (map (asked number) asks)
   within_here number top [] h = tt
   within_here number top (ask ∷ asks) h = (h, within_here number top asks h)
 
   pub within_from : {Refusal : Type 0} (number top : ℕ) (readings : List (Result Query Refusal)) → number + length readings ≤ top + 1
-      → Each (λ (one : Asked). one.text ≤ top) (asked_from schema number readings)
+      → Each (λ (one : NumberedAsk). one.text ≤ top) (asked_from schema number readings)
   within_from number top [] h = tt
   within_from number top (one ∷ later) h =
-      each_joined (λ (one : Asked). one.text ≤ top) (map (asked number) (asks_of_reading schema one)) (asked_from schema (number + 1) later)
+      each_joined (λ (one : NumberedAsk). one.text ≤ top) (map (asked number) (asks_of_reading schema one)) (asked_from schema (number + 1) later)
       (within_here number top (asks_of_reading schema one) (omega (arith, h)))
       (within_from (number + 1) top later (omega (arith, h)))
 
 -- what the asks of one text weigh
-abbrev pub weight : (text : ℕ) → (Ask → ℕ) → Asked → ℕ
+abbrev pub weight : (text : ℕ) → (Ask → ℕ) → NumberedAsk → ℕ
 weight text f one = if one.text == text then f one.ask else 0
 
 module _ (schema : Schema) (text : ℕ) (f : Ask → ℕ) where
@@ -76,7 +76,7 @@ module _ (schema : Schema) (text : ℕ) (f : Ask → ℕ) where
   text_weighs most each number [] = omega arith
   text_weighs {Refusal} most each number (one ∷ later) = go (text_weighs most each (number + 1) later) (number == text) refl
     where
-      first : List Asked
+      first : List NumberedAsk
       first = map (asked number) (asks_of_reading schema one)
 
       joined : sum_by (weight text f) (asked_from schema number (one ∷ later)) ≡ sum_by (weight text f) first + sum_by (weight text f) (asked_from schema (number + 1) later)
@@ -127,23 +127,16 @@ narrow schema query table =
     as_wide None = omega arith
     as_wide (Some column) = omega arith
 
-rows_counted : (counts : List ℕ) (table : ℕ) → count_or_zero (slice_get counts table) ≡ slice_index counts table
-rows_counted [] table = refl
-rows_counted (count ∷ counts) zero = refl
-rows_counted (count ∷ counts) (suc table) = rows_counted counts table
-
 -- the bytes that the rows of a reply may have
 abbrev pub reply_room : Catalog → Ask → ℕ
-reply_room catalog ask = rows_of catalog ask.table * row_width catalog.schema ask
+reply_room catalog ask = row_count_in catalog ask.table * row_width catalog.schema ask
 
 pub texts_have_room : (catalog : Catalog) (texts : List (List ℕ)) (text : ℕ)
     → sum_by (weight text (reply_room catalog)) (asked_of catalog.schema texts) ≤ room_for catalog
 texts_have_room catalog texts text =
     text_weighs catalog.schema text (reply_room catalog) (room_for catalog)
     (λ query. asks_weigh catalog.schema query (reply_room catalog) (λ (table : ℕ). count_of catalog table * spool_width catalog.schema table)
-    (λ table. subst (λ (n : ℕ). n * row_width catalog.schema (ask_for catalog.schema query table) ≤ count_of catalog table * spool_width catalog.schema table)
-    (sym (rows_counted catalog.counts table))
-    (mul-le-mul_left (count_of catalog table) (narrow catalog.schema query table))))
+    (λ table. mul-le-mul_left (count_of catalog table) (narrow catalog.schema query table)))
     1 (map (reading catalog.schema) texts)
 
 pub texts_have_places : (catalog : Catalog) (texts : List (List ℕ)) (text : ℕ) → IsTree catalog.schema
@@ -160,7 +153,7 @@ texts_have_places catalog texts text tree =
 pub texts_rise : (schema : Schema) (texts : List (List ℕ)) → Rises 1 (asked_of schema texts)
 texts_rise schema texts = rises_from schema 1 (map (reading schema) texts)
 
-pub texts_end : (schema : Schema) (texts : List (List ℕ)) → Each (λ (one : Asked). one.text ≤ length texts) (asked_of schema texts)
+pub texts_end : (schema : Schema) (texts : List (List ℕ)) → Each (λ (one : NumberedAsk). one.text ≤ length texts) (asked_of schema texts)
 texts_end schema texts =
     let size = length-map texts (reading schema) in
     within_from schema 1 (length texts) (map (reading schema) texts) (omega (arith, size))

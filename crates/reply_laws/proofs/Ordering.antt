@@ -1,9 +1,9 @@
 -- The order in which asks are awaited.
 use Rattle.std.proofs.Common.{◌≡◌, ℕ, ◌≤◌, true, List, [], ◌∷◌, length, subst, refl, arith, nat_le, le-leb, Some}
 use Rattle.std.specs.List.{list_all}
-use Rattle.ghost_model.specs.Channel.{Catalog}
-use Rattle.ghost_model.specs.Asks.{Asked, asked_of}
-use Rattle.ghost_model.specs.NextMove.{Awaits, Missing, Reply, Nothing, Ended, Heard, heard, hear_all}
+use Rattle.ghost_model.specs.core.Channel.{Catalog}
+use Rattle.ghost_model.specs.core.Asks.{NumberedAsk, asked_of}
+use Rattle.ghost_model.specs.core.NextMove.{Awaits, AwaitsCatalog, AwaitsReply, AwaitsNothing, EndedAsk, Heard, heard, hear_all}
 use Rattle.ghost_model.proofs.ChannelLemmas.Tests.{hold_both}
 use Rattle.ghost_model.proofs.SessionLemmas.Accepted.{Each}
 use Rattle.channel_session.specs.Sessions.{asked_in}
@@ -11,36 +11,36 @@ use Rattle.reply_laws.specs.Order.{TextsComeInOrder}
 use Rattle.reply_laws.proofs.Hearing.{each_so, Rises, remaining, Orderly, IsHeard, by_bytes}
 use Rattle.reply_laws.proofs.Storing.{all_heard}
 
-all_behind : (at : ℕ) (ends : List Ended) → Each (λ (end : Ended). end.asked.text ≤ at) ends → list_all (λ (end : Ended). nat_le end.asked.text at) ends ≡ true
+all_behind : (at : ℕ) (ends : List EndedAsk) → Each (λ (end : EndedAsk). end.asked.text ≤ at) ends → list_all (λ (end : EndedAsk). nat_le end.asked.text at) ends ≡ true
 all_behind at [] each = refl
 all_behind at (end ∷ ends) each = hold_both _ _ (le-leb end.asked.text at each.0) (all_behind at ends each.1)
 
-module _ (catalog : Catalog) (asks : List Asked) (low top : ℕ) where
+module _ (catalog : Catalog) (asks : List NumberedAsk) (low top : ℕ) where
   -- where an ask is awaited
-  record IsReached (awaits : Awaits) (ends : List Ended) (one : Asked) : Type 0 where
+  record IsReached (awaits : Awaits) (ends : List EndedAsk) (one : NumberedAsk) : Type 0 where
     low_so : low ≤ one.text
     top_so : one.text ≤ top
-    behind : Each (λ (end : Ended). end.asked.text ≤ one.text) ends
+    behind : Each (λ (end : EndedAsk). end.asked.text ≤ one.text) ends
     ahead : Rises one.text (remaining catalog asks low top awaits)
 
-  reached : (awaits : Awaits) (rows : List ℕ) (ends : List Ended) (one : Asked) → asked_in awaits ≡ Some one → Orderly catalog asks low top awaits rows ends
+  reached : (awaits : Awaits) (rows : List ℕ) (ends : List EndedAsk) (one : NumberedAsk) → asked_in awaits ≡ Some one → Orderly catalog asks low top awaits rows ends
       → IsReached awaits ends one
-  reached (Missing bytes) rows ends one e o = let bad : ⊥ = cc in absurd bad
-  reached Nothing rows ends one e o = let bad : ⊥ = cc in absurd bad
-  reached (Reply other serial later count last) rows ends one e o =
+  reached (AwaitsCatalog bytes) rows ends one e o = let bad : ⊥ = cc in absurd bad
+  reached AwaitsNothing rows ends one e o = let bad : ⊥ = cc in absurd bad
+  reached (AwaitsReply other serial later count last) rows ends one e o =
       let same : other ≡ one = cc in
       let from = o.reached in
       let first = o.ahead.0 in
-      subst (λ (it : Asked). IsReached (Reply other serial later count last) ends it) same
+      subst (λ (it : NumberedAsk). IsReached (AwaitsReply other serial later count last) ends it) same
       (record {
         low_so = omega (arith, from, first);
         top_so = o.within.0;
-        behind = each_so (λ (end : Ended). end.asked.text ≤ o.at) (λ (end : Ended). end.asked.text ≤ other.text) (λ end h. omega (arith, h, first)) ends o.behind;
+        behind = each_so (λ (end : EndedAsk). end.asked.text ≤ o.at) (λ (end : EndedAsk). end.asked.text ≤ other.text) (λ end h. omega (arith, h, first)) ends o.behind;
         ahead = (omega arith, o.ahead.1);
       })
 
 -- the same, from the text of the ask at hand on
-from_here : (catalog : Catalog) (asks : List Asked) (top : ℕ) (now : Heard) (one : Asked) → IsHeard catalog asks 1 top now
+from_here : (catalog : Catalog) (asks : List NumberedAsk) (top : ℕ) (now : Heard) (one : NumberedAsk) → IsHeard catalog asks 1 top now
     → IsReached catalog asks 1 top now.awaits now.ended one → IsHeard catalog asks one.text top now
 from_here catalog asks top now one o is = record {
   rows_so = o.rows_so;
@@ -55,7 +55,7 @@ from_here catalog asks top now one o is = record {
 
 pub texts_come_in_order : TextsComeInOrder
 texts_come_in_order catalog texts received one awaited =
-    let asks : List Asked = asked_of catalog.schema texts in
+    let asks : List NumberedAsk = asked_of catalog.schema texts in
     let top : ℕ = length texts in
     let now : Heard = heard catalog asks received in
     let o : IsHeard catalog asks 1 top now = all_heard catalog texts received in

@@ -2,28 +2,28 @@
 use Rattle.std.proofs.Common.{◌≡◌, ℕ, zero, suc, ◌+◌, ◌*◌, ◌/◌, ◌%◌, ◌<◌, ◌≤◌, true, ◌&&◌, List, [], ◌∷◌, ◌++◌, length, map, take, drop, sym, ◌∙◌, ap, refl, arith, nat_lt, nat_le, ltb-true, leb-true, length-append}
 use Rattle.std.proofs.Math.Nat.{mul-div_cancel, mod-add-div', mul-le-mul_right, suc-mul}
 use Rattle.std.proofs.lemmas.List.{length-drop, take-append-le, drop-append-le}
-use Rattle.ghost_model.specs.Schema.{Kind}
-use Rattle.ghost_model.specs.Channel.{Catalog, Ask}
-use Rattle.ghost_model.specs.Asks.{kinds_of, row_width, ReplyRow, row_in, rows_from, rows_in, ascend_from}
-use Rattle.ghost_model.specs.NextMove.{are_cells, rows_fit, rows_of, last_identifier}
+use Rattle.ghost_model.specs.core.Schema.{Kind}
+use Rattle.ghost_model.specs.core.Channel.{Catalog, Ask, row_count_in}
+use Rattle.ghost_model.specs.core.Asks.{kinds_of, row_width, RowCells, row_in, rows_from, rows_in, ascend_from}
+use Rattle.ghost_model.specs.core.NextMove.{are_cells, rows_fit, last_identifier}
 use Rattle.ghost_model.proofs.ChannelLemmas.Tests.{both_hold, hold_both}
 
-abbrev pub identifiers : List ReplyRow → List ℕ
-identifiers rows = map (λ (row : ReplyRow). row.identifier) rows
+abbrev pub identifiers : List RowCells → List ℕ
+identifiers rows = map (λ (row : RowCells). row.identifier) rows
 
 rows_counted : (width count : ℕ) (bytes : List ℕ) → length (rows_from width count bytes) ≡ count
 unfolding rows_from
 rows_counted width zero bytes = refl
 rows_counted width (suc count) bytes = ap suc (rows_counted width count (drop width bytes))
 
-ascend_joined : (before : ℕ) (xs ys : List ReplyRow) → ascend_from before (identifiers xs) ≡ true
+ascend_joined : (before : ℕ) (xs ys : List RowCells) → ascend_from before (identifiers xs) ≡ true
     → ascend_from (last_identifier before xs) (identifiers ys) ≡ true → ascend_from before (identifiers (xs ++ ys)) ≡ true
 ascend_joined before [] ys a b = b
 ascend_joined before (x ∷ xs) ys a b =
     let both = both_hold (nat_lt before x.identifier) (ascend_from x.identifier (identifiers xs)) a in
     hold_both _ _ both.one (ascend_joined x.identifier xs ys both.other b)
 
-last_joined : (before : ℕ) (xs ys : List ReplyRow) → last_identifier before (xs ++ ys) ≡ last_identifier (last_identifier before xs) ys
+last_joined : (before : ℕ) (xs ys : List RowCells) → last_identifier before (xs ++ ys) ≡ last_identifier (last_identifier before xs) ys
 last_joined before [] ys = refl
 last_joined before (x ∷ xs) ys = last_joined x.identifier xs ys
 
@@ -41,7 +41,7 @@ module _ (catalog : Catalog) (ask : Ask) where
     pub ascend : ascend_from 0 (identifiers (rows_from width count bytes)) ≡ true
     pub final : last_identifier 0 (rows_from width count bytes) ≡ last
     pub few : count ≤ last
-    pub most : last ≤ rows_of catalog ask.table
+    pub most : last ≤ row_count_in catalog ask.table
 
   pub none_came : Came [] 0
   unfolding rows_from
@@ -49,7 +49,7 @@ module _ (catalog : Catalog) (ask : Ask) where
 
   pub record IsOrderly (bytes : List ℕ) : Type 0 where
     pub ascend : ascend_from 0 (identifiers (rows_in catalog.schema ask bytes)) ≡ true
-    pub most : length bytes ≤ rows_of catalog ask.table * width
+    pub most : length bytes ≤ row_count_in catalog ask.table * width
 
   some_width : 0 < width
   some_width = omega arith
@@ -60,7 +60,7 @@ module _ (catalog : Catalog) (ask : Ask) where
       let few = came.few in
       let most = came.most in
       let size = came.size in
-      let less : came.count * width ≤ rows_of catalog ask.table * width = mul-le-mul_right width (omega (arith, few, most)) in
+      let less : came.count * width ≤ row_count_in catalog ask.table * width = mul-le-mul_right width (omega (arith, few, most)) in
       record {
         ascend = ap (λ n. ascend_from 0 (identifiers (rows_from width n bytes))) many ∙ came.ascend;
         most = omega (arith, size, less);
@@ -81,19 +81,19 @@ module _ (catalog : Catalog) (ask : Ask) where
       ap (λ n. rows_from width n (bytes ++ others)) next
       ∙ ap (λ (taken : List ℕ). row_in taken ∷ rows_from width (count + more) (drop width (bytes ++ others))) (take-append-le width bytes others enough)
       ∙ ap (λ (left : List ℕ). row_in (take width bytes) ∷ rows_from width (count + more) left) (drop-append-le width bytes others enough)
-      ∙ ap (λ (rows : List ReplyRow). row_in (take width bytes) ∷ rows) (rows_joined count more (drop width bytes) others rest)
+      ∙ ap (λ (rows : List RowCells). row_in (take width bytes) ∷ rows) (rows_joined count more (drop width bytes) others rest)
 
   -- rows that fit after one with an identifier
-  record Climb (last : ℕ) (rows : List ReplyRow) : Type 0 where
+  record Climb (last : ℕ) (rows : List RowCells) : Type 0 where
     ascend : ascend_from last (identifiers rows) ≡ true
     few : last + length rows ≤ last_identifier last rows
-    most : last ≤ rows_of catalog ask.table → last_identifier last rows ≤ rows_of catalog ask.table
+    most : last ≤ row_count_in catalog ask.table → last_identifier last rows ≤ row_count_in catalog ask.table
 
-  climbs : (last : ℕ) (rows : List ReplyRow) → rows_fit (rows_of catalog ask.table) last kinds rows ≡ true → Climb last rows
+  climbs : (last : ℕ) (rows : List RowCells) → rows_fit (row_count_in catalog ask.table) last kinds rows ≡ true → Climb last rows
   unfolding rows_fit
   climbs last [] fit = record { ascend = refl; few = omega arith; most = λ h. h }
   climbs last (row ∷ later) fit =
-      let all = rows_of catalog ask.table in
+      let all = row_count_in catalog ask.table in
       let both = both_hold (nat_lt last row.identifier && nat_le row.identifier all && are_cells kinds row.cells) (rows_fit all row.identifier kinds later) fit in
       let front = both_hold (nat_lt last row.identifier && nat_le row.identifier all) (are_cells kinds row.cells) both.one in
       let bounds = both_hold (nat_lt last row.identifier) (nat_le row.identifier all) front.one in
@@ -109,12 +109,12 @@ module _ (catalog : Catalog) (ask : Ask) where
 
   -- the rows of a frame that fits, after rows that came
   pub more_came : (bytes payload : List ℕ) (last : ℕ) → Came bytes last → length payload % width ≡ 0
-      → rows_fit (rows_of catalog ask.table) last kinds (rows_in catalog.schema ask payload) ≡ true
+      → rows_fit (row_count_in catalog ask.table) last kinds (rows_in catalog.schema ask payload) ≡ true
       → Came (bytes ++ payload) (last_identifier last (rows_in catalog.schema ask payload))
   more_came bytes payload last came whole fit =
       let more = length payload / width in
-      let rows : List ReplyRow = rows_from width more payload in
-      let before : List ReplyRow = rows_from width came.count bytes in
+      let rows : List RowCells = rows_from width more payload in
+      let before : List RowCells = rows_from width came.count bytes in
       let divided = mod-add-div' (length payload) width in
       let size : length payload ≡ more * width = omega (arith, divided, whole) in
       let joined : rows_from width (came.count + more) (bytes ++ payload) ≡ before ++ rows = rows_joined came.count more bytes payload came.size in
@@ -126,7 +126,7 @@ module _ (catalog : Catalog) (ask : Ask) where
         count = came.count + more;
         size = length-append bytes payload ∙ ap (λ n. n + length payload) came.size ∙ ap (λ n. came.count * width + n) size ∙ sym (spread came.count more width);
         ascend =
-            ap (λ (all : List ReplyRow). ascend_from 0 (identifiers all)) joined
+            ap (λ (all : List RowCells). ascend_from 0 (identifiers all)) joined
             ∙ ascend_joined 0 before rows came.ascend (ap (λ n. ascend_from n (identifiers rows)) came.final ∙ climb.ascend);
         final =
             ap (last_identifier 0) joined ∙ last_joined 0 before rows ∙ ap (λ n. last_identifier n rows) came.final;

@@ -4,14 +4,14 @@ use Rattle.std.specs.Prelude.{◌==◌, None}
 use Rattle.std.specs.List.{list_all, cons_option}
 use Rattle.std.proofs.lemmas.List.Folds.{list_all-append, list_all-map}
 use Rattle.std.proofs.lemmas.List.Sums.{sum_by-cons, sum_by-append}
-use Rattle.ghost_model.specs.Schema.{Schema, Kind}
-use Rattle.ghost_model.specs.Channel.{Catalog, Ask}
-use Rattle.ghost_model.specs.Asks.{Asked, asked_of, kinds_of, ReplyRow, rows_in, ascend_from}
-use Rattle.ghost_model.specs.Moves.{taken}
-use Rattle.ghost_model.specs.NextMove.{Awaits, Missing, Reply, Nothing, Ending, Answered, Refused, Ended, Heard, at_first, heard}
-use Rattle.ghost_model.specs.Split.{Replied}
-use Rattle.ghost_model.specs.Replies as replied
-use Rattle.ghost_model.specs.Replies.{reply_of, reply_for}
+use Rattle.ghost_model.specs.core.Schema.{Schema, Kind}
+use Rattle.ghost_model.specs.core.Channel.{Catalog, Ask}
+use Rattle.ghost_model.specs.core.Asks.{NumberedAsk, asked_of, kinds_of, RowCells, rows_in, ascend_from}
+use Rattle.ghost_model.specs.core.Moves.{taken}
+use Rattle.ghost_model.specs.core.NextMove.{Awaits, AwaitsCatalog, AwaitsReply, AwaitsNothing, Ending, Answered, Refused, EndedAsk, Heard, at_first, heard}
+use Rattle.ghost_model.specs.core.Split.{RowValues}
+use Rattle.ghost_model.specs.core.Replies as replied
+use Rattle.ghost_model.specs.core.Replies.{reply_of, reply_for}
 use Rattle.ghost_model.proofs.ChannelLemmas.Tests.{hold_both}
 use Rattle.ghost_model.proofs.SchemaTreeLemmas.{schemas_are_trees}
 use Rattle.ghost_model.proofs.SessionLemmas.Accepted.{Each}
@@ -46,21 +46,21 @@ bytes_summed [] = refl
 bytes_summed (one ∷ later) =
     ap (λ n. length one.bytes + n) (bytes_summed later) ∙ sym (sum_by-cons (λ (one : Stored). length one.bytes) one later)
 
-same_identifiers : (kinds : List Kind) (rows : List ReplyRow) → map (λ (row : Replied). row.identifier) (map (replied_by kinds) rows) ≡ identifiers rows
+same_identifiers : (kinds : List Kind) (rows : List RowCells) → map (λ (row : RowValues). row.identifier) (map (replied_by kinds) rows) ≡ identifiers rows
 same_identifiers kinds [] = refl
 same_identifiers kinds (row ∷ rows) = ap (λ (xs : List ℕ). row.identifier ∷ xs) (same_identifiers kinds rows)
 
-module _ (catalog : Catalog) (asks : List Asked) (low top text : ℕ) where
+module _ (catalog : Catalog) (asks : List NumberedAsk) (low top text : ℕ) where
   abbrev schema : Schema
   schema = catalog.schema
 
   -- how much of something is stored, where a reply has no more of it than its ask weighs
-  module _ (m : Stored → ℕ) (f : Ask → ℕ) (so : (one : Asked) (rows : List ℕ) → IsOrderly catalog one.ask rows → m (stored_as schema one rows) ≤ f one.ask) where
-    by_ending : (one : Asked) (ending : Ending) → EndingSo catalog asks low top one.ask ending → sum_by m (stored_by schema one ending) ≤ f one.ask
+  module _ (m : Stored → ℕ) (f : Ask → ℕ) (so : (one : NumberedAsk) (rows : List ℕ) → IsOrderly catalog one.ask rows → m (stored_as schema one rows) ≤ f one.ask) where
+    by_ending : (one : NumberedAsk) (ending : Ending) → EndingSo catalog asks low top one.ask ending → sum_by m (stored_by schema one ending) ≤ f one.ask
     by_ending one (Answered rows) is = let less = so one rows is in omega (arith, less)
     by_ending one (Refused code) is = omega arith
 
-    done_weighs : (ends : List Ended) → Each (EndedSo catalog asks low top) ends → sum_by m (done_of schema text ends) ≤ sum_by (weight text f) (map who ends)
+    done_weighs : (ends : List EndedAsk) → Each (EndedSo catalog asks low top) ends → sum_by m (done_of schema text ends) ≤ sum_by (weight text f) (map who ends)
     done_weighs [] each = omega arith
     done_weighs (end ∷ ends) each =
         let joined = sum_by-append m (stored_of schema text end) (done_of schema text ends) in
@@ -75,9 +75,9 @@ module _ (catalog : Catalog) (asks : List Asked) (low top text : ℕ) where
 
     hand_weighs : (awaits : Awaits) (rows : List ℕ) → RowsSo catalog asks low top awaits rows
         → sum_by m (at_hand schema text rows (asked_in awaits)) ≤ sum_by (weight text f) (remaining catalog asks low top awaits)
-    hand_weighs (Missing bytes) rows is = omega arith
-    hand_weighs Nothing rows is = omega arith
-    hand_weighs (Reply one serial later count last) rows is =
+    hand_weighs (AwaitsCatalog bytes) rows is = omega arith
+    hand_weighs AwaitsNothing rows is = omega arith
+    hand_weighs (AwaitsReply one serial later count last) rows is =
         let split = sum_by-cons (weight text f) one later in
         let first = go (one.text == text) in
         omega (arith, split, first)
@@ -86,7 +86,7 @@ module _ (catalog : Catalog) (asks : List Asked) (low top text : ℕ) where
         go true = let less = so one rows (orderly catalog one.ask rows last is) in omega (arith, less)
         go false = omega arith
 
-    all_weigh : (awaits : Awaits) (rows : List ℕ) (ends : List Ended) → Orderly catalog asks low top awaits rows ends
+    all_weigh : (awaits : Awaits) (rows : List ℕ) (ends : List EndedAsk) → Orderly catalog asks low top awaits rows ends
         → sum_by m (done_of schema text ends ++ at_hand schema text rows (asked_in awaits)) ≤ sum_by (weight text f) asks
     all_weigh awaits rows ends o =
         let joined = sum_by-append m (done_of schema text ends) (at_hand schema text rows (asked_in awaits)) in
@@ -99,13 +99,13 @@ module _ (catalog : Catalog) (asks : List Asked) (low top text : ℕ) where
   abbrev ascends : Stored → Bool
   ascends one = is_ascending (reply_in one)
 
-  ascends_as : (one : Asked) (rows : List ℕ) → IsOrderly catalog one.ask rows → ascends (stored_as schema one rows) ≡ true
+  ascends_as : (one : NumberedAsk) (rows : List ℕ) → IsOrderly catalog one.ask rows → ascends (stored_as schema one rows) ≡ true
   ascends_as one rows is = ap (ascend_from 0) (same_identifiers (kinds_of schema one.ask) (rows_in schema one.ask rows)) ∙ is.ascend
 
-  ascends_alone : (one : Asked) (rows : List ℕ) → IsOrderly catalog one.ask rows → list_all ascends (stored_as schema one rows ∷ []) ≡ true
+  ascends_alone : (one : NumberedAsk) (rows : List ℕ) → IsOrderly catalog one.ask rows → list_all ascends (stored_as schema one rows ∷ []) ≡ true
   ascends_alone one rows is = hold_both _ _ (ascends_as one rows is) refl
 
-  done_ascend : (ends : List Ended) → Each (EndedSo catalog asks low top) ends → list_all ascends (done_of schema text ends) ≡ true
+  done_ascend : (ends : List EndedAsk) → Each (EndedSo catalog asks low top) ends → list_all ascends (done_of schema text ends) ≡ true
   done_ascend [] each = refl
   done_ascend (end ∷ ends) each =
       list_all-append ascends (stored_of schema text end) (done_of schema text ends)
@@ -120,15 +120,15 @@ module _ (catalog : Catalog) (asks : List Asked) (low top text : ℕ) where
       go false = refl
 
   hand_ascends : (awaits : Awaits) (rows : List ℕ) → RowsSo catalog asks low top awaits rows → list_all ascends (at_hand schema text rows (asked_in awaits)) ≡ true
-  hand_ascends (Missing bytes) rows is = refl
-  hand_ascends Nothing rows is = refl
-  hand_ascends (Reply one serial later count last) rows is = go (one.text == text)
+  hand_ascends (AwaitsCatalog bytes) rows is = refl
+  hand_ascends AwaitsNothing rows is = refl
+  hand_ascends (AwaitsReply one serial later count last) rows is = go (one.text == text)
     where
       go : (b : Bool) → list_all ascends (if b then stored_as schema one rows ∷ [] else []) ≡ true
       go true = ascends_alone one rows (orderly catalog one.ask rows last is)
       go false = refl
 
-  all_ascend : (awaits : Awaits) (rows : List ℕ) (ends : List Ended) → Orderly catalog asks low top awaits rows ends
+  all_ascend : (awaits : Awaits) (rows : List ℕ) (ends : List EndedAsk) → Orderly catalog asks low top awaits rows ends
       → are_ascending (replies_in (done_of schema text ends ++ at_hand schema text rows (asked_in awaits))) ≡ true
   all_ascend awaits rows ends o =
       list_all-map is_ascending reply_in (done_of schema text ends ++ at_hand schema text rows (asked_in awaits))
@@ -137,7 +137,7 @@ module _ (catalog : Catalog) (asks : List Asked) (low top text : ℕ) where
 
 pub replies_fit : RepliesFit
 replies_fit catalog schema_text texts received text means =
-    let asks : List Asked = asked_of catalog.schema texts in
+    let asks : List NumberedAsk = asked_of catalog.schema texts in
     let now : Heard = heard catalog asks received in
     let o = all_heard catalog texts received in
     let places = all_weigh catalog asks 1 (length texts) text (λ (one : Stored). 1) (λ (ask : Ask). 1) (λ one rows is. omega arith) now.awaits now.rows now.ended o in
@@ -150,11 +150,11 @@ replies_fit catalog schema_text texts received text means =
 
 pub replies_ascend : RepliesAscend
 replies_ascend catalog texts received text =
-    let asks : List Asked = asked_of catalog.schema texts in
+    let asks : List NumberedAsk = asked_of catalog.schema texts in
     let now : Heard = heard catalog asks received in
     all_ascend catalog asks 1 (length texts) text now.awaits now.rows now.ended (all_heard catalog texts received)
 
-given_of : (declared : Schema) (text : ℕ) (ends : List Ended) → replies_in (done_of declared text ends) ≡ filter_map (reply_for declared text) ends
+given_of : (declared : Schema) (text : ℕ) (ends : List EndedAsk) → replies_in (done_of declared text ends) ≡ filter_map (reply_for declared text) ends
 given_of declared text [] = refl
 given_of declared text (end ∷ ends) = go (given_of declared text ends) (end.asked.text == text)
   where

@@ -2,12 +2,12 @@
 -- the rows of a reply are at most as many as those of its table, and a row has visible cells alone. Its rows ascend. And
 -- what is stored of the asks that were ended is the replies to them.
 use Rattle.std.specs.Prelude.{◌≡◌, ℕ, true, List}
-use Rattle.ghost_model.specs.Channel.{Catalog, Journal}
-use Rattle.ghost_model.specs.SchemaFaults.{MeansSchema}
-use Rattle.ghost_model.specs.Asks.{Asked, asked_of}
-use Rattle.ghost_model.specs.Moves.{taken}
-use Rattle.ghost_model.specs.NextMove.{heard}
-use Rattle.ghost_model.specs.Replies.{replies}
+use Rattle.ghost_model.specs.core.Channel.{Catalog, Journal}
+use Rattle.ghost_model.specs.refusals.SchemaFaults.{MeansSchema}
+use Rattle.ghost_model.specs.core.Asks.{NumberedAsk, asked_of}
+use Rattle.ghost_model.specs.core.Moves.{taken}
+use Rattle.ghost_model.specs.core.NextMove.{heard}
+use Rattle.ghost_model.specs.core.Replies.{replies}
 use Rattle.reply_store.specs.Stored.{replies_in, are_ascending}
 use Rattle.session_replies.specs.Kept.{Fits, done_of, all_of}
 
@@ -26,5 +26,5 @@ RepliesAscend =
 -- for any asks
 abbrev pub StoredAreGiven : Type 0
 StoredAreGiven =
-    (catalog : Catalog) (asks : List Asked) (journal : Journal) (text : ℕ)
+    (catalog : Catalog) (asks : List NumberedAsk) (journal : Journal) (text : ℕ)
     → replies_in (done_of catalog.schema text (heard catalog asks (taken journal)).ended) ≡ replies catalog asks journal text

@@ -3,8 +3,8 @@ use Rattle.std.proofs.Common.{◌≡◌, ℕ, zero, suc, ◌+◌, ◌-◌, ◌*�
 use Rattle.std.proofs.lemmas.List.{take-take, length-take-le, length-drop, drop-drop}
 use Rattle.std.proofs.lemmas.Nat.{div-add-mod', mod_below, div-mul-add}
 use Rattle.std.proofs.lemmas.Bool.Decides.{nat_tests}
-use Rattle.ghost_model.specs.Asks.{ReplyRow, row_in, rows_from, ascend_from}
-use Rattle.ghost_model.specs.Frames.{number_in}
+use Rattle.ghost_model.specs.core.Asks.{RowCells, row_in, rows_from, ascend_from}
+use Rattle.ghost_model.specs.forms.Frames.{payload_number}
 use Rattle.reply_store.specs.Stored.{rows_of, row_with, ascend}
 
 -- ---- cutting
@@ -117,7 +117,7 @@ cut w rest before after row later middle some long m b a r l =
     record { rows = rw (front, first, last) (cut_at w half (length rest / w - half - 1) rest some (middle_of w (length rest) some long)) }
 
 -- the number in the first four bytes of a row
-pub number_taken : (row : List ℕ) → number_in row ≡ (row_in row).identifier
+pub number_taken : (row : List ℕ) → payload_number row ≡ (row_in row).identifier
 number_taken [] = refl
 number_taken (a ∷ []) = refl
 number_taken (a ∷ b ∷ []) = refl
@@ -134,12 +134,12 @@ and_right : (a b : Bool) → (a && b) ≡ true → b ≡ true
 and_right true b e = e
 and_right false b e = cc
 
-pub record Parts (low : ℕ) (xs : List ReplyRow) (x : ReplyRow) (ys : List ReplyRow) : Type 0 where
+pub record Parts (low : ℕ) (xs : List RowCells) (x : RowCells) (ys : List RowCells) : Type 0 where
   pub front : ascend_from low (map (λ row. row.identifier) xs) ≡ true
   pub above : low < x.identifier
   pub back : ascend_from x.identifier (map (λ row. row.identifier) ys) ≡ true
 
-pub parts : (low : ℕ) (xs : List ReplyRow) (x : ReplyRow) (ys : List ReplyRow) → ascend_from low (map (λ row. row.identifier) (xs ++ x ∷ ys)) ≡ true → Parts low xs x ys
+pub parts : (low : ℕ) (xs : List RowCells) (x : RowCells) (ys : List RowCells) → ascend_from low (map (λ row. row.identifier) (xs ++ x ∷ ys)) ≡ true → Parts low xs x ys
 parts low [] x ys e = record {
   front = refl;
   above = let t = and_left (nat_lt low x.identifier) (ascend_from x.identifier (map (λ row. row.identifier) ys)) e in grind (arith, nat_tests, t);
@@ -156,18 +156,18 @@ parts low (y ∷ xs) x ys e =
     }
 
 -- identifiers above one are above a lower one
-lower : (low high : ℕ) (rows : List ReplyRow) → low ≤ high → ascend_from high (map (λ row. row.identifier) rows) ≡ true → ascend_from low (map (λ row. row.identifier) rows) ≡ true
+lower : (low high : ℕ) (rows : List RowCells) → low ≤ high → ascend_from high (map (λ row. row.identifier) rows) ≡ true → ascend_from low (map (λ row. row.identifier) rows) ≡ true
 lower low high [] h e = refl
 lower low high (x ∷ rows) h e =
     let t = and_left (nat_lt high x.identifier) (ascend_from x.identifier (map (λ row. row.identifier) rows)) e in
     let up : nat_lt low x.identifier ≡ true = grind (arith, nat_tests, t, h) in
     ap₂ (λ a b. a && b) up (and_right (nat_lt high x.identifier) (ascend_from x.identifier (map (λ row. row.identifier) rows)) e)
 
-not_it : (i : ℕ) (row : ReplyRow) (here there : Option ReplyRow) → (row.identifier == i) ≡ false → (if row.identifier == i then here else there) ≡ there
+not_it : (i : ℕ) (row : RowCells) (here there : Option RowCells) → (row.identifier == i) ≡ false → (if row.identifier == i then here else there) ≡ there
 not_it i row here there e = ap (λ b. if b then here else there) e
 
 -- a row above those of the front is not among them
-pub behind_front : (low i : ℕ) (xs : List ReplyRow) (x : ReplyRow) (ys : List ReplyRow) → ascend_from low (map (λ row. row.identifier) (xs ++ x ∷ ys)) ≡ true
+pub behind_front : (low i : ℕ) (xs : List RowCells) (x : RowCells) (ys : List RowCells) → ascend_from low (map (λ row. row.identifier) (xs ++ x ∷ ys)) ≡ true
     → x.identifier ≤ i → row_with i (xs ++ x ∷ ys) ≡ row_with i (x ∷ ys)
 behind_front low i [] x ys e h = refl
 behind_front low i (y ∷ xs) x ys e h =
@@ -176,7 +176,7 @@ behind_front low i (y ∷ xs) x ys e h =
     let other : (y.identifier == i) ≡ false = grind (arith, nat_tests, later.above, h) in
     not_it i y (Some y) (row_with i (xs ++ x ∷ ys)) other ∙ behind_front y.identifier i xs x ys rest h
 
-none_above : (low i : ℕ) (rows : List ReplyRow) → ascend_from low (map (λ row. row.identifier) rows) ≡ true → i ≤ low → row_with i rows ≡ None
+none_above : (low i : ℕ) (rows : List RowCells) → ascend_from low (map (λ row. row.identifier) rows) ≡ true → i ≤ low → row_with i rows ≡ None
 none_above low i [] e h = refl
 none_above low i (x ∷ rows) e h =
     let t = and_left (nat_lt low x.identifier) (ascend_from x.identifier (map (λ row. row.identifier) rows)) e in
@@ -187,7 +187,7 @@ none_above low i (x ∷ rows) e h =
     ∙ none_above x.identifier i rows (and_right (nat_lt low x.identifier) (ascend_from x.identifier (map (λ row. row.identifier) rows)) e) further
 
 -- a row below one of the rows is in front of it
-pub in_front : (low i : ℕ) (xs : List ReplyRow) (x : ReplyRow) (ys : List ReplyRow) → ascend_from low (map (λ row. row.identifier) (xs ++ x ∷ ys)) ≡ true
+pub in_front : (low i : ℕ) (xs : List RowCells) (x : RowCells) (ys : List RowCells) → ascend_from low (map (λ row. row.identifier) (xs ++ x ∷ ys)) ≡ true
     → i < x.identifier → row_with i (xs ++ x ∷ ys) ≡ row_with i xs
 in_front low i [] x ys e h =
     let p = parts low [] x ys e in

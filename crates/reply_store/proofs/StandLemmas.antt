@@ -1,10 +1,10 @@
 -- What a row found among the stored ones says of the replies.
 use Rattle.std.proofs.Common.{◌≡◌, ℕ, Bool, true, false, ◌&&◌, ◌==◌, List, [], ◌∷◌, map, Option, None, Some, is_some, option_map, option_and_then, if◌then◌else◌, refl, ap, sym, subst, ◌∙◌}
-use Rattle.ghost_model.specs.Schema.{Kind}
-use Rattle.ghost_model.specs.Channel.{Ask}
-use Rattle.ghost_model.specs.Asks.{ReplyRow, ascend_from}
-use Rattle.ghost_model.specs.Split.{Replied, value_at}
-use Rattle.ghost_model.specs.Replies.{Reply, values_in, reply_about, row_replied, stands_in, replied_value}
+use Rattle.ghost_model.specs.core.Schema.{Kind}
+use Rattle.ghost_model.specs.core.Channel.{Ask}
+use Rattle.ghost_model.specs.core.Asks.{RowCells, ascend_from}
+use Rattle.ghost_model.specs.core.Split.{RowValues, value_at}
+use Rattle.ghost_model.specs.core.Replies.{Reply, values_in, reply_about, row_replied, stands_in, replied_value}
 use Rattle.reply_store.specs.Stored.{Stored, width_of, rows_of, row_with, replied_by, reply_in, ascend, is_ascending, are_ascending}
 
 and_left : (a b : Bool) → (a && b) ≡ true → a ≡ true
@@ -30,11 +30,11 @@ about_ascends table (first ∷ later) all =
       | false ↦ about_ascends table later (and_right (is_ascending first) (are_ascending later) all)
     ]
 
-same_identifiers : (kinds : List Kind) (rows : List ReplyRow) → map (λ row. row.identifier) (map (replied_by kinds) rows) ≡ map (λ row. row.identifier) rows
+same_identifiers : (kinds : List Kind) (rows : List RowCells) → map (λ row. row.identifier) (map (replied_by kinds) rows) ≡ map (λ row. row.identifier) rows
 same_identifiers kinds [] = refl
 same_identifiers kinds (row ∷ rows) = ap (λ ids. row.identifier ∷ ids) (same_identifiers kinds rows)
 
-row_among : (i : ℕ) (kinds : List Kind) (rows : List ReplyRow) → row_replied i (map (replied_by kinds) rows) ≡ option_map (replied_by kinds) (row_with i rows)
+row_among : (i : ℕ) (kinds : List Kind) (rows : List RowCells) → row_replied i (map (replied_by kinds) rows) ≡ option_map (replied_by kinds) (row_with i rows)
 row_among i kinds [] = refl
 row_among i kinds (row ∷ rows) =
     elim (row.identifier == i) as (λ b. (if b then Some (replied_by kinds row) else row_replied i (map (replied_by kinds) rows)) ≡ option_map (replied_by kinds) (if b then Some row else row_with i rows)) [
@@ -46,7 +46,7 @@ abbrev one_of : Ask → List Kind → List ℕ → Stored
 one_of ask kinds bytes = record { ask = ask; kinds = kinds; bytes = bytes }
 
 -- the row that was found, where the search is right for ascending rows
-found_among : {A : Type 0} (view : A → ReplyRow) (i table width : ℕ) (given : List Reply) (ask : Ask) (kinds : List Kind) (bytes : List ℕ) (found : Option A)
+found_among : {A : Type 0} (view : A → RowCells) (i table width : ℕ) (given : List Reply) (ask : Ask) (kinds : List Kind) (bytes : List ℕ) (found : Option A)
     → width ≡ width_of kinds
     → (ascend (rows_of width bytes) ≡ true → option_map view found ≡ row_with i (rows_of width bytes))
     → reply_about table given ≡ Some (reply_in (one_of ask kinds bytes)) → are_ascending given ≡ true
@@ -63,7 +63,7 @@ some_mapped : {A B : Type 0} (f : A → B) (o : Option A) → is_some (option_ma
 some_mapped f None = refl
 some_mapped f (Some a) = refl
 
-pub stands_by : {A : Type 0} (view : A → ReplyRow) (i table width : ℕ) (given : List Reply) (ask : Ask) (kinds : List Kind) (bytes : List ℕ) (found : Option A)
+pub stands_by : {A : Type 0} (view : A → RowCells) (i table width : ℕ) (given : List Reply) (ask : Ask) (kinds : List Kind) (bytes : List ℕ) (found : Option A)
     → width ≡ width_of kinds
     → (ascend (rows_of width bytes) ≡ true → option_map view found ≡ row_with i (rows_of width bytes))
     → reply_about table given ≡ Some (reply_in (one_of ask kinds bytes)) → are_ascending given ≡ true
@@ -73,18 +73,18 @@ stands_by view i table width given ask kinds bytes found w search about all =
     ∙ ap is_some (sym (found_among view i table width given ask kinds bytes found w search about all))
     ∙ ap (stands_in i) (sym about)
 
-values_mapped : {A : Type 0} (view : A → ReplyRow) (kinds : List Kind) (columns : List ℕ) (column : ℕ) (found : Option A)
-    → option_and_then (λ (row : Replied). value_at columns row.values column) (option_map (replied_by kinds) (option_map view found))
+values_mapped : {A : Type 0} (view : A → RowCells) (kinds : List Kind) (columns : List ℕ) (column : ℕ) (found : Option A)
+    → option_and_then (λ (row : RowValues). value_at columns row.values column) (option_map (replied_by kinds) (option_map view found))
     ≡ option_and_then (λ a. value_at columns (values_in kinds (view a).cells) column) found
 values_mapped view kinds columns column None = refl
 values_mapped view kinds columns column (Some a) = refl
 
-pub value_by : {A : Type 0} (view : A → ReplyRow) (i table width : ℕ) (given : List Reply) (ask : Ask) (kinds : List Kind) (bytes : List ℕ) (found : Option A) (column : ℕ)
+pub value_by : {A : Type 0} (view : A → RowCells) (i table width : ℕ) (given : List Reply) (ask : Ask) (kinds : List Kind) (bytes : List ℕ) (found : Option A) (column : ℕ)
     → width ≡ width_of kinds
     → (ascend (rows_of width bytes) ≡ true → option_map view found ≡ row_with i (rows_of width bytes))
     → reply_about table given ≡ Some (reply_in (one_of ask kinds bytes)) → are_ascending given ≡ true
     → option_and_then (λ a. value_at ask.columns (values_in kinds (view a).cells) column) found ≡ replied_value given table i column
 value_by view i table width given ask kinds bytes found column w search about all =
     sym (values_mapped view kinds ask.columns column found)
-    ∙ ap (option_and_then (λ (row : Replied). value_at ask.columns row.values column)) (sym (found_among view i table width given ask kinds bytes found w search about all))
-    ∙ ap (option_and_then (λ (reply : Reply). option_and_then (λ (row : Replied). value_at reply.ask.columns row.values column) (row_replied i reply.rows))) (sym about)
+    ∙ ap (option_and_then (λ (row : RowValues). value_at ask.columns row.values column)) (sym (found_among view i table width given ask kinds bytes found w search about all))
+    ∙ ap (option_and_then (λ (reply : Reply). option_and_then (λ (row : RowValues). value_at reply.ask.columns row.values column) (row_replied i reply.rows))) (sym about)

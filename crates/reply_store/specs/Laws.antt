@@ -1,17 +1,17 @@
 -- Laws of stored replies.
 use Rattle.std.specs.Prelude.{◌≡◌, ℕ, ◌+◌, ◌*◌, ◌<◌, ◌≤◌, ⊤, Some, List, [], ◌∷◌, length}
-use Rattle.ghost_model.specs.Schema.{Schema}
-use Rattle.ghost_model.specs.Asks.{Asked, kinds_of}
-use Rattle.ghost_model.specs.NextMove.{Answered}
-use Rattle.ghost_model.specs.Replies.{reply_of}
-use Rattle.ghost_model.specs.Channel.{Catalog}
-use Rattle.ghost_model.specs.Layout.{count_of, spool_width}
+use Rattle.ghost_model.specs.core.Schema.{Schema}
+use Rattle.ghost_model.specs.core.Asks.{NumberedAsk, kinds_of}
+use Rattle.ghost_model.specs.core.NextMove.{Answered}
+use Rattle.ghost_model.specs.core.Replies.{reply_of}
+use Rattle.ghost_model.specs.core.Channel.{Catalog}
+use Rattle.ghost_model.specs.forms.Layout.{count_of, spool_width}
 use Rattle.reply_store.specs.Stored.{Stored, reply_in, bytes_in, room_for}
 
 -- what is stored of an ask, with the kinds of its columns, is the reply to it
 abbrev pub StoredAreReplies : Type 0
 StoredAreReplies =
-    (schema : Schema) (asked : Asked) (stored : Stored) → stored.ask ≡ asked.ask → stored.kinds ≡ kinds_of schema asked.ask
+    (schema : Schema) (asked : NumberedAsk) (stored : Stored) → stored.ask ≡ asked.ask → stored.kinds ≡ kinds_of schema asked.ask
     → reply_of schema asked (Answered stored.bytes) ≡ Some (reply_in stored)
 
 -- an ask for a table from this one on has at most as many bytes of rows as the table has with all its visible columns

@@ -2,13 +2,13 @@
 -- rows, and the room that there is for such bytes.
 use Rattle.std.specs.Prelude.{ℕ, ◌+◌, ◌*◌, ◌/◌, Bool, ◌==◌, nat_le, List, [], ◌∷◌, ◌++◌, length, map, sum, sum_by, Option, Some, None, if◌then◌else◌}
 use Rattle.std.specs.List.{list_all}
-use Rattle.ghost_model.specs.Schema.{Schema, Kind}
-use Rattle.ghost_model.specs.Channel.{Ask, Catalog}
-use Rattle.ghost_model.specs.Cells.{cell_width}
-use Rattle.ghost_model.specs.Asks.{ReplyRow, rows_from, kinds_of, ascend_from}
-use Rattle.ghost_model.specs.Split.{Replied}
-use Rattle.ghost_model.specs.Replies.{Reply, values_in}
-use Rattle.ghost_model.specs.Layout.{below, count_of, spool_width}
+use Rattle.ghost_model.specs.core.Schema.{Schema, Kind}
+use Rattle.ghost_model.specs.core.Channel.{Ask, Catalog}
+use Rattle.ghost_model.specs.forms.Cells.{cell_width}
+use Rattle.ghost_model.specs.core.Asks.{RowCells, rows_from, kinds_of, ascend_from}
+use Rattle.ghost_model.specs.core.Split.{RowValues}
+use Rattle.ghost_model.specs.core.Replies.{Reply, values_in}
+use Rattle.ghost_model.specs.forms.Layout.{below, count_of, spool_width}
 
 pub record Stored : Type 0 where
   pub ask : Ask
@@ -24,15 +24,15 @@ abbrev pub width_of : List Kind → ℕ
 width_of kinds = 4 + sum (map cell_width kinds)
 
 -- the whole rows of a width at the front of some bytes
-abbrev pub rows_of : (width : ℕ) → List ℕ → List ReplyRow
+abbrev pub rows_of : (width : ℕ) → List ℕ → List RowCells
 rows_of width bytes = rows_from width (length bytes / width) bytes
 
 -- the row that has an identifier
-abbrev pub row_with : (identifier : ℕ) → List ReplyRow → Option ReplyRow
+abbrev pub row_with : (identifier : ℕ) → List RowCells → Option RowCells
 row_with identifier [] = None
 row_with identifier (row ∷ later) = if row.identifier == identifier then Some row else row_with identifier later
 
-abbrev pub replied_by : List Kind → ReplyRow → Replied
+abbrev pub replied_by : List Kind → RowCells → RowValues
 replied_by kinds row = record { identifier = row.identifier; values = values_in kinds row.cells }
 
 abbrev pub reply_in : Stored → Reply
@@ -44,7 +44,7 @@ abbrev pub replies_in : List Stored → List Reply
 replies_in stored = map reply_in stored
 
 -- whether identifiers ascend from 1 on
-abbrev pub ascend : List ReplyRow → Bool
+abbrev pub ascend : List RowCells → Bool
 ascend rows = ascend_from 0 (map (λ row. row.identifier) rows)
 
 abbrev pub is_ascending : Reply → Bool

@@ -1,7 +1,7 @@
 //! Rows by their identifiers.
 
 ghost use Rattle.std.specs.Prelude.{◌≡◌, ◌≤◌, true, length, option_map};
-ghost use Rattle.ghost_model.specs.Asks.{row_in};
+ghost use Rattle.ghost_model.specs.core.Asks.{row_in};
 ghost use Rattle.reply_store.specs.Stored.{rows_of, row_with, ascend};
 
 use channel_codec::reading::number_in;

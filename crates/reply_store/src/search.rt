@@ -1,7 +1,7 @@
 //! The stored rows of a table.
 
 ghost use Rattle.std.specs.Prelude.{◌≡◌, Some, None, IfSome, IfNone};
-ghost use Rattle.ghost_model.specs.Replies.{reply_about};
+ghost use Rattle.ghost_model.specs.core.Replies.{reply_about};
 ghost use Rattle.reply_store.specs.Stored.{reply_in, replies_in};
 ghost use Rattle.reply_store.specs.Segments.{end_of, stored_of, stored_from};
 

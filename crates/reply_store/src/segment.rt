@@ -2,7 +2,7 @@
 
 ghost use Rattle.std.specs.Prelude.{◌≡◌, ◌≤◌, length, map, IsTrue};
 ghost use Rattle.std.specs.List.{list_all};
-ghost use Rattle.ghost_model.specs.Asks.{kinds_of};
+ghost use Rattle.ghost_model.specs.core.Asks.{kinds_of};
 ghost use Rattle.ghost_base.specs.Views.{kind_of};
 ghost use Rattle.channel_codec.specs.AskViews.{ask_view};
 ghost use Rattle.reply_store.specs.Stored.{width_of, is_narrow};

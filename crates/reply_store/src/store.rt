@@ -2,9 +2,9 @@
 
 ghost use Rattle.std.specs.Prelude.{◌≡◌, ◌≤◌, ◌<◌, ◌+◌, ◌*◌, ◌++◌, ◌∷◌, [], true, length, option_map, IfOk, IsTrue};
 ghost use Rattle.ghost_base.specs.Views.{value_of};
-ghost use Rattle.ghost_model.specs.Layout as layout;
-ghost use Rattle.ghost_model.specs.Layout.{count_of};
-ghost use Rattle.ghost_model.specs.Replies.{reply_about, stands_in, replied_value};
+ghost use Rattle.ghost_model.specs.forms.Layout as layout;
+ghost use Rattle.ghost_model.specs.forms.Layout.{count_of};
+ghost use Rattle.ghost_model.specs.core.Replies.{reply_about, stands_in, replied_value};
 ghost use Rattle.channel_codec.specs.AskViews.{ask_view};
 ghost use Rattle.reply_store.specs.Stored.{room_for, opened, with_rows, bytes_in, replies_in, are_ascending};
 

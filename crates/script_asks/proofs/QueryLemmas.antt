@@ -3,11 +3,11 @@ use Rattle.std.proofs.Common.{◌≡◌, ◌<◌, ◌≤◌, ◌+◌, ◌||◌, 
 use Rattle.std.specs.List.{list_any}
 use Rattle.std.proofs.lemmas.List.{length-map}
 use Rattle.std.proofs.lemmas.Bool.Decides.{nat_tests}
-use Rattle.ghost_model.specs.Schema.{Schema, places_from, columns_of, is_empty}
-use Rattle.ghost_model.specs.Query.{Query, Field, Condition, Compare, Join}
-use Rattle.ghost_model.specs.Channel.{Ask, Test}
-use Rattle.ghost_model.specs.Asks as asks
-use Rattle.ghost_model.specs.Asks.{test_of, tests_of, is_wanted, places, is_needed, is_from}
+use Rattle.ghost_model.specs.core.Schema.{Schema, places_from, columns_of, is_empty}
+use Rattle.ghost_model.specs.core.Query.{Query, Field, Condition, Compare, Join}
+use Rattle.ghost_model.specs.core.Channel.{Ask, Test}
+use Rattle.ghost_model.specs.core.Asks as asks
+use Rattle.ghost_model.specs.core.Asks.{test_of, tests_of, is_wanted, places, is_needed, is_from}
 use Rattle.spj_parse.specs.Resolved.{is_comparison}
 use Rattle.tree_schema.proofs.RuleSteps.{place_next, places_end}
 use Rattle.std.specs.Prelude.{Option, Some, None, is_some, option_to_list, option_map, IfSome}

@@ -4,13 +4,13 @@ use Rattle.std.specs.List.{list_all, list_any}
 use Rattle.std.specs.Cmp.{first_so}
 use Rattle.std.proofs.lemmas.List.{length-map}
 use Rattle.std.proofs.lemmas.List.Folds.{list_all-append, list_all-map}
-use Rattle.ghost_model.specs.Schema.{Schema, places_from}
-use Rattle.ghost_model.specs.Query.{Query}
-use Rattle.ghost_model.specs.Channel.{Ask}
-use Rattle.ghost_model.specs.Asks.{AsksAreProper, Asked, asked, asked_from, ask_for, asks_of, asks_of_reading, is_from, is_needed, is_proper_ask, places}
-use Rattle.ghost_model.proofs.MeaningLemmas.OneRow.{length-filter_le}
-use Rattle.ghost_model.specs.QueryReading.{reading}
-use Rattle.ghost_model.specs.NextMove.{of_later_texts}
+use Rattle.ghost_model.specs.core.Schema.{Schema, places_from}
+use Rattle.ghost_model.specs.core.Query.{Query}
+use Rattle.ghost_model.specs.core.Channel.{Ask}
+use Rattle.ghost_model.specs.core.Asks.{NumberedAsk, asked, asked_from, ask_for, asks_of, asks_of_reading, is_from, is_needed, is_proper_ask, places}
+use Rattle.ghost_model.specs.laws.ChannelLaws.{AsksAreProper}
+use Rattle.ghost_model.specs.readings.QueryReading.{reading}
+use Rattle.ghost_model.specs.core.NextMove.{of_later_texts}
 use Rattle.std.proofs.lemmas.Bool.Decides.{nat_tests}
 use Rattle.spj_parse.specs.Laws.{JoinsCountOnce}
 use Rattle.spj_parse.specs.Resolved.{IsMeant}
@@ -37,7 +37,7 @@ is_above : (k n : ℕ) → k < n → (n == k) ≡ false
 is_above k n h = grind (arith, nat_tests)
 
 -- the asks of a text are given up
-pub dropped_all : (n : ℕ) (found : List Ask) (later : List Asked) → of_later_texts n (map (asked n) found ++ later) ≡ of_later_texts n later
+pub dropped_all : (n : ℕ) (found : List Ask) (later : List NumberedAsk) → of_later_texts n (map (asked n) found ++ later) ≡ of_later_texts n later
 dropped_all n [] later = refl
 dropped_all n (ask ∷ found) later =
     ap (λ (k : Bool). cond k (of_later_texts n (map (asked n) found ++ later)) (asked n ask ∷ (map (asked n) found ++ later))) (is_same n)
@@ -79,14 +79,14 @@ next_of_text schema number hand later texts same h =
 
 -- whether a text is asked anything
 
-any_other : (n k : ℕ) (found : List Ask) (later : List Asked) → (n == k) ≡ false
-    → list_any (λ (a : Asked). a.text == k) (map (asked n) found ++ later) ≡ list_any (λ (a : Asked). a.text == k) later
+any_other : (n k : ℕ) (found : List Ask) (later : List NumberedAsk) → (n == k) ≡ false
+    → list_any (λ (a : NumberedAsk). a.text == k) (map (asked n) found ++ later) ≡ list_any (λ (a : NumberedAsk). a.text == k) later
 any_other n k [] later e = refl
 any_other n k (ask ∷ found) later e =
-    ap (λ (b : Bool). b || list_any (λ (a : Asked). a.text == k) (map (asked n) found ++ later)) e ∙ any_other n k found later e
+    ap (λ (b : Bool). b || list_any (λ (a : NumberedAsk). a.text == k) (map (asked n) found ++ later)) e ∙ any_other n k found later e
 
 any_past : {Refusal : Type 0} (schema : Schema) (k n : ℕ) (readings : List (Result Query Refusal)) → k < n
-    → list_any (λ (a : Asked). a.text == k) (asked_from schema n readings) ≡ false
+    → list_any (λ (a : NumberedAsk). a.text == k) (asked_from schema n readings) ≡ false
 any_past schema k n [] h = refl
 any_past schema k n (reading ∷ later) h =
     any_other n k (asks_of_reading schema reading) (asked_from schema (n + 1) later) (is_above k n h) ∙ any_past schema k (n + 1) later (omega (arith, h))
@@ -95,36 +95,36 @@ is_other : (n k : ℕ) → (n ≡ k → ⊥) → (n == k) ≡ false
 is_other n k h = grind (arith, nat_tests)
 
 pub another_text : (schema : Schema) (n k : ℕ) (texts later : List (List ℕ)) (text : List ℕ) → texts ≡ text ∷ later → (n ≡ k → ⊥)
-    → list_any (λ (a : Asked). a.text == k) (asked_from schema (n + 1) (map (reading schema) later))
-    ≡ list_any (λ (a : Asked). a.text == k) (asked_from schema n (map (reading schema) texts))
+    → list_any (λ (a : NumberedAsk). a.text == k) (asked_from schema (n + 1) (map (reading schema) later))
+    ≡ list_any (λ (a : NumberedAsk). a.text == k) (asked_from schema n (map (reading schema) texts))
 another_text schema n k texts later text e h =
-    sym (ap (λ (ts : List (List ℕ)). list_any (λ (a : Asked). a.text == k) (asked_from schema n (map (reading schema) ts))) e
+    sym (ap (λ (ts : List (List ℕ)). list_any (λ (a : NumberedAsk). a.text == k) (asked_from schema n (map (reading schema) ts))) e
     ∙ any_other n k (asks_of_reading schema (reading schema text)) (asked_from schema (n + 1) (map (reading schema) later)) (is_other n k h))
 
 any_of_hand : (schema : Schema) (n : ℕ) (found : Option Hand) (later : List (List ℕ))
-    → is_some found ≡ list_any (λ (a : Asked). a.text == n) (map (asked n) (hand_asks schema found) ++ asked_from schema (n + 1) (map (reading schema) later))
+    → is_some found ≡ list_any (λ (a : NumberedAsk). a.text == n) (map (asked n) (hand_asks schema found) ++ asked_from schema (n + 1) (map (reading schema) later))
 any_of_hand schema n None later = sym (any_past schema n (n + 1) (map (reading schema) later) (omega arith))
 any_of_hand schema n (Some hand) later =
-    sym (ap (λ (b : Bool). b || list_any (λ (a : Asked). a.text == n) (map (asked n) (asks_after schema hand.query (hand.ask.table + 1)) ++ asked_from schema (n + 1) (map (reading schema) later)))
+    sym (ap (λ (b : Bool). b || list_any (λ (a : NumberedAsk). a.text == n) (map (asked n) (asks_after schema hand.query (hand.ask.table + 1)) ++ asked_from schema (n + 1) (map (reading schema) later)))
     (is_same n))
 
 pub this_text : (schema : Schema) (n k : ℕ) (texts later : List (List ℕ)) (text : List ℕ) (found : Option Hand) → texts ≡ text ∷ later → n ≡ k
     → hand_asks schema found ≡ asks_of_reading schema (reading schema text)
-    → is_some found ≡ list_any (λ (a : Asked). a.text == k) (asked_from schema n (map (reading schema) texts))
+    → is_some found ≡ list_any (λ (a : NumberedAsk). a.text == k) (asked_from schema n (map (reading schema) texts))
 this_text schema n k texts later text found e same h =
     any_of_hand schema n found later
-    ∙ (ap (λ (asks : List Ask). list_any (λ (a : Asked). a.text == n) (map (asked n) asks ++ asked_from schema (n + 1) (map (reading schema) later))) h
-    ∙ (ap (λ (ts : List (List ℕ)). list_any (λ (a : Asked). a.text == n) (asked_from schema n (map (reading schema) ts))) (sym e)
-    ∙ ap (λ (m : ℕ). list_any (λ (a : Asked). a.text == m) (asked_from schema n (map (reading schema) texts))) same))
+    ∙ (ap (λ (asks : List Ask). list_any (λ (a : NumberedAsk). a.text == n) (map (asked n) asks ++ asked_from schema (n + 1) (map (reading schema) later))) h
+    ∙ (ap (λ (ts : List (List ℕ)). list_any (λ (a : NumberedAsk). a.text == n) (asked_from schema n (map (reading schema) ts))) (sym e)
+    ∙ ap (λ (m : ℕ). list_any (λ (a : NumberedAsk). a.text == m) (asked_from schema n (map (reading schema) texts))) same))
 
 pub text_at_hand : (schema : Schema) (n k : ℕ) (hand : Hand) (texts : List (List ℕ)) → n ≡ k
-    → true ≡ list_any (λ (a : Asked). a.text == k) (asked_left schema n (Some hand) texts)
+    → true ≡ list_any (λ (a : NumberedAsk). a.text == k) (asked_left schema n (Some hand) texts)
 text_at_hand schema n k hand texts same =
-    any_of_hand schema n (Some hand) texts ∙ ap (λ (m : ℕ). list_any (λ (a : Asked). a.text == m) (asked_left schema n (Some hand) texts)) same
+    any_of_hand schema n (Some hand) texts ∙ ap (λ (m : ℕ). list_any (λ (a : NumberedAsk). a.text == m) (asked_left schema n (Some hand) texts)) same
 
 pub text_behind : (schema : Schema) (n k : ℕ) (hand : Hand) (texts : List (List ℕ)) → (n ≡ k → ⊥)
-    → list_any (λ (a : Asked). a.text == k) (asked_from schema (n + 1) (map (reading schema) texts))
-    ≡ list_any (λ (a : Asked). a.text == k) (asked_left schema n (Some hand) texts)
+    → list_any (λ (a : NumberedAsk). a.text == k) (asked_from schema (n + 1) (map (reading schema) texts))
+    ≡ list_any (λ (a : NumberedAsk). a.text == k) (asked_left schema n (Some hand) texts)
 text_behind schema n k hand texts h =
     sym (any_other n k (hand_asks schema (Some hand)) (asked_from schema (n + 1) (map (reading schema) texts)) (is_other n k h))
 
@@ -139,12 +139,12 @@ proper_reading schema text proper = by_reading (reading schema text) refl
 pub proper_from : (schema : Schema) (n : ℕ) (texts : List (List ℕ)) → AsksAreProper → are_proper schema (asked_from schema n (map (reading schema) texts)) ≡ true
 proper_from schema n [] proper = refl
 proper_from schema n (text ∷ texts) proper =
-    list_all-append (λ (a : Asked). is_proper_ask schema a.ask) (map (asked n) (asks_of_reading schema (reading schema text))) (asked_from schema (n + 1) (map (reading schema) texts))
+    list_all-append (λ (a : NumberedAsk). is_proper_ask schema a.ask) (map (asked n) (asks_of_reading schema (reading schema text))) (asked_from schema (n + 1) (map (reading schema) texts))
     ∙ ap₂ (λ (b c : Bool). b && c)
-    (list_all-map (λ (a : Asked). is_proper_ask schema a.ask) (asked n) (asks_of_reading schema (reading schema text)) ∙ proper_reading schema text proper)
+    (list_all-map (λ (a : NumberedAsk). is_proper_ask schema a.ask) (asked n) (asks_of_reading schema (reading schema text)) ∙ proper_reading schema text proper)
     (proper_from schema (n + 1) texts proper)
 
-pub first_is_proper : (schema : Schema) (ask : Ask) (n : ℕ) (later : List Asked) → are_proper schema (asked n ask ∷ later) ≡ true → is_proper_ask schema ask ≡ true
+pub first_is_proper : (schema : Schema) (ask : Ask) (n : ℕ) (later : List NumberedAsk) → are_proper schema (asked n ask ∷ later) ≡ true → is_proper_ask schema ask ≡ true
 first_is_proper schema ask n later h = first_so (is_proper_ask schema ask) (are_proper schema later) h
 
 -- their texts have numbers from 1 to 64
@@ -160,35 +160,7 @@ pub numbered_from : (schema : Schema) (n : ℕ) (texts : List (List ℕ)) → 0 
     → are_numbered (asked_from schema n (map (reading schema) texts)) ≡ true
 numbered_from schema n [] some few = refl
 numbered_from schema n (text ∷ texts) some few =
-    list_all-append (λ (a : Asked). nat_lt 0 a.text && nat_le a.text 64) (map (asked n) (asks_of_reading schema (reading schema text))) (asked_from schema (n + 1) (map (reading schema) texts))
+    list_all-append (λ (a : NumberedAsk). nat_lt 0 a.text && nat_le a.text 64) (map (asked n) (asks_of_reading schema (reading schema text))) (asked_from schema (n + 1) (map (reading schema) texts))
     ∙ ap₂ (λ (b c : Bool). b && c)
     (all_numbered n (asks_of_reading schema (reading schema text)) (is_number n some (omega (arith, few))))
     (numbered_from schema (n + 1) texts (omega (arith, some)) (omega (arith, few)))
-
--- they are at most as many as tables for each text
-places_length : {X : Type 0} (at : ℕ) (xs : List X) → length (places_from (λ (_ : X). true) at xs) ≡ length xs
-unfolding places_from
-places_length at [] = refl
-places_length at (x ∷ xs) = ap suc (places_length (at + 1) xs)
-
-few_of_query : (schema : Schema) (query : Query) → length (asks_of schema query) ≤ length schema
-few_of_query schema query =
-    let a = length-filter_le is_needed (map (ask_for schema query) (filter (is_from query) (places schema))) in
-    let b = length-map (filter (is_from query) (places schema)) (ask_for schema query) in
-    let c = length-filter_le (is_from query) (places schema) in
-    let d = places_length 0 schema in
-    omega (arith, a, b, c, d)
-
-few_of_reading : {Refusal : Type 0} (schema : Schema) (r : Result Query Refusal) → length (asks_of_reading schema r) ≤ length schema
-few_of_reading schema (Ok query) = few_of_query schema query
-few_of_reading schema (Err refusal) = omega arith
-
-pub few_from : {Refusal : Type 0} (schema : Schema) (n : ℕ) (readings : List (Result Query Refusal)) → length schema ≤ 12
-    → length (asked_from schema n readings) ≤ 12 * length readings
-few_from schema n [] h = omega arith
-few_from schema n (reading ∷ later) h =
-    let a = length-append (map (asked n) (asks_of_reading schema reading)) (asked_from schema (n + 1) later) in
-    let b = length-map (asks_of_reading schema reading) (asked n) in
-    let c = few_of_reading schema reading in
-    let d = few_from schema (n + 1) later h in
-    omega (arith, a, b, c, d, h)

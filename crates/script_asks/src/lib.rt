@@ -4,6 +4,5 @@
 //! in the schema's order. Texts are read as their asks come due. None of the calls here takes memory.
 #![tactic(auto)]
 
-pub mod laws;
 pub mod queries;
 pub mod scripts;

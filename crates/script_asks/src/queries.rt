@@ -2,8 +2,8 @@
 
 ghost use Rattle.std.specs.Prelude.{◌≡◌, ℕ, ◌+◌, ◌<◌, ◌≤◌, ◌&&◌, ◌==◌, List, [], ◌∷◌, length, filter, flat_map, map, option_map, option_to_list, IfSome, IfNone};
 ghost use Rattle.std.specs.List.{list_any};
-ghost use Rattle.ghost_model.specs.Asks as asks;
-ghost use Rattle.ghost_model.specs.Schema as schemas;
+ghost use Rattle.ghost_model.specs.core.Asks as asks;
+ghost use Rattle.ghost_model.specs.core.Schema as schemas;
 ghost use Rattle.spj_parse.specs.Views.{comparison_of, field_of};
 ghost use Rattle.channel_codec.specs.AskViews.{ask_view, test_view};
 ghost use Rattle.script_asks.specs.Left.{asks_for, asks_after};

@@ -2,19 +2,19 @@
 
 ghost use Rattle.std.specs.Prelude.{◌≡◌, ℕ, ◌+◌, ◌*◌, ◌<◌, ◌≤◌, ◌==◌, true, List, [], ◌∷◌, length, drop, map, IfSome, IfNone};
 ghost use Rattle.std.specs.List.{list_any};
-ghost use Rattle.ghost_model.specs.Schema.{Schema as Tables};
-ghost use Rattle.ghost_model.specs.Asks as asks;
-ghost use Rattle.ghost_model.specs.Asks.{Asked};
-ghost use Rattle.ghost_model.specs.NextMove as next;
-ghost use Rattle.ghost_model.specs.QueryReading.{reading};
-ghost use Rattle.ghost_model.specs.Texts as texts;
+ghost use Rattle.ghost_model.specs.core.Schema.{Schema as Tables};
+ghost use Rattle.ghost_model.specs.core.Asks as asks;
+ghost use Rattle.ghost_model.specs.core.Asks.{NumberedAsk};
+ghost use Rattle.ghost_model.specs.core.NextMove as next;
+ghost use Rattle.ghost_model.specs.readings.QueryReading.{reading};
+ghost use Rattle.ghost_model.specs.core.Texts as texts;
 ghost use Rattle.channel_codec.specs.AskViews.{ask_view};
 ghost use Rattle.script_asks.specs.Left.{are_numbered, are_proper, asked_left, hand_asks};
 
 use crate::queries::next_ask;
 use channel_codec::ask::Ask;
 use ghost_base::limits::{MAX_TABLES, MAX_TEXTS};
-use ghost_model::channel::asks_are_proper;
+use ghost_model::channel::{asks_are_few, asks_are_proper};
 use spj_parse::laws::joins_count_once;
 use spj_parse::{Query, Texts, read_query};
 use std::marker::Model;
@@ -39,9 +39,9 @@ pub struct ScriptAsks<'a> {
 
 impl<'a> Model for ScriptAsks<'a> {
     ghost use Rattle.std.specs.Prelude.{List, length, ◌+◌, ◌≤◌};
-    ghost use Rattle.ghost_model.specs.Asks.{Asked};
+    ghost use Rattle.ghost_model.specs.core.Asks.{NumberedAsk};
 
-    ghost Value = { List Asked };
+    ghost Value = { List NumberedAsk };
 
     ghost use Rattle.script_asks.specs.Left.{asked_left};
 
@@ -127,6 +127,7 @@ impl<'a> ScriptAsks<'a> {
         ensures numbered { are_numbered result ≡ true }
         ensures count { length result ≤ MAX_TABLES * MAX_TEXTS }
     {
+        asks_are_few();
         asks_are_proper();
         let _tables = schema.tables();
         let mut texts = Texts::new(script);
@@ -142,7 +143,7 @@ impl<'a> ScriptAsks<'a> {
 
     /// The first ask, and the number of its text.
     pub fn first(&self) -> Option<(u32, &Ask)>
-        ensures some { IfSome result (λ first. (later : List Asked) × (self.now ≡ asks.asked first.0 (ask_view first.1.now) ∷ later)) }
+        ensures some { IfSome result (λ first. (later : List NumberedAsk) × (self.now ≡ asks.asked first.0 (ask_view first.1.now) ∷ later)) }
         ensures few { IfSome result (λ first. first.0 ≤ 64) }
         ensures proper { (schema : Tables) → are_proper schema self.now ≡ true
             → IfSome result (λ first. asks.is_proper_ask schema (ask_view first.1.now) ≡ true) }

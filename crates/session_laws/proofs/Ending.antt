@@ -2,12 +2,12 @@
 use Rattle.std.proofs.Common.{◌≡◌, ℕ, zero, suc, ◌⊎◌, inl, inr, true, List, [], ◌∷◌, ◌++◌, length, length-append, take, drop, sym, ◌∙◌, ap, subst, refl, arith, append-nil, append_assoc, Option, Some}
 use Rattle.std.proofs.lemmas.List.{take-append-drop}
 use Rattle.std.specs.Prelude.{flat_map}
-use Rattle.ghost_model.specs.Values.{Database}
-use Rattle.ghost_model.specs.Channel.{Catalog, Frame, Move, Dial, Listen, Accept, Send, Take, Close, Made, Piece, Entry, Journal}
-use Rattle.ghost_model.specs.Frames.{IsFrame, frame_bytes, frame_in}
-use Rattle.ghost_model.specs.Asks.{Asked, asked_of}
-use Rattle.ghost_model.specs.NextMove.{Left, left, next_with, GoesOn, IsFinished}
-use Rattle.ghost_model.specs.Host.{Holding, Response, answer_to}
+use Rattle.ghost_model.specs.core.Values.{Database}
+use Rattle.ghost_model.specs.core.Channel.{Catalog, Frame, Move, Dial, Listen, Accept, Send, Take, Close, Made, Piece, Entry, Journal}
+use Rattle.ghost_model.specs.forms.Frames.{IsFrame, frame_bytes, frame_in}
+use Rattle.ghost_model.specs.core.Asks.{NumberedAsk, asked_of}
+use Rattle.ghost_model.specs.core.NextMove.{Standing, standing_after, next_with, GoesOn, IsFinished}
+use Rattle.ghost_model.specs.core.Host.{Holding, Response, answer_to}
 use Rattle.ghost_model.proofs.ChannelLemmas.{frame_is_read}
 use Rattle.session_laws.specs.Serving.{Desk, first_desk, serves, ServedFrom}
 use Rattle.session_laws.specs.Local.{holding_of, IsLocal, finds_desk, EndsBy}
@@ -22,7 +22,7 @@ served_join held first second third [] more e served = subst (λ (d : Desk). Ser
 served_join held first second third (entry ∷ journal) more e served =
     (e.0, e.1, served_join held e.0 second third journal more e.2 served)
 
-goes_more : (catalog : Catalog) (at : List ℕ) (asks : List Asked) (before journal : Journal) (entry : Entry) → GoesOn catalog at asks before journal → next_with catalog at asks (before ++ journal) ≡ Some entry.move → GoesOn catalog at asks before (journal ++ entry ∷ [])
+goes_more : (catalog : Catalog) (at : List ℕ) (asks : List NumberedAsk) (before journal : Journal) (entry : Entry) → GoesOn catalog at asks before journal → next_with catalog at asks (before ++ journal) ≡ Some entry.move → GoesOn catalog at asks before (journal ++ entry ∷ [])
 goes_more catalog at asks before [] entry goes e = (ap (λ (j : Journal). next_with catalog at asks j) (sym (append-nil before)) ∙ e, tt)
 goes_more catalog at asks before (first ∷ journal) entry goes e =
     (goes.0, goes_more catalog at asks (before ++ first ∷ []) journal entry goes.1 (ap (λ (j : Journal). next_with catalog at asks j) (append_assoc before (first ∷ []) journal) ∙ e))
@@ -36,18 +36,18 @@ one_response : (o : Option Response) (one other : Response) → o ≡ Some one �
 one_response o one other e f = cc
 
 -- a move, its answer, and where the host then stands, less being to be done
-record IsMade (held : Holding) (address : List ℕ) (asks : List Asked) (can : CanServe held asks) (journal : Journal) (desk : Desk) (much : ℕ) : Type 0 where
+record IsMade (held : Holding) (address : List ℕ) (asks : List NumberedAsk) (can : CanServe held asks) (journal : Journal) (desk : Desk) (much : ℕ) : Type 0 where
   entry : Entry
   after : Desk
   next : next_with held.catalog address asks journal ≡ Some entry.move
   served : serves held desk entry after
-  lower : Lower held address asks can (goes held.catalog asks (left held.catalog asks journal) entry) after.stand after.owed much
+  lower : Lower held address asks can (goes held.catalog asks (standing_after held.catalog asks journal) entry) after.stand after.owed much
 
-module _ (held : Holding) (address : List ℕ) (asks : List Asked) (can : CanServe held asks) where
-  send_so : (journal : Journal) (desk : Desk) (much : ℕ) (bytes : List ℕ) → next_with held.catalog address asks journal ≡ Some (Send bytes) → Sends held address asks can (left held.catalog asks journal) desk.stand desk.owed much bytes → IsMade held address asks can journal desk much
+module _ (held : Holding) (address : List ℕ) (asks : List NumberedAsk) (can : CanServe held asks) where
+  send_so : (journal : Journal) (desk : Desk) (much : ℕ) (bytes : List ℕ) → next_with held.catalog address asks journal ≡ Some (Send bytes) → Sends held address asks can (standing_after held.catalog asks journal) desk.stand desk.owed much bytes → IsMade held address asks can journal desk much
   send_so journal desk much bytes next s =
-      let a = answers_at held address asks can (left held.catalog asks journal) desk.stand desk.owed much bytes s in
-      let is : IsFrame s.frame = due_is_frame held asks can (left held.catalog asks journal).heard s.frame desk.stand s.what in
+      let a = answers_at held address asks can (standing_after held.catalog asks journal) desk.stand desk.owed much bytes s in
+      let is : IsFrame s.frame = due_is_frame held asks can (standing_after held.catalog asks journal).heard s.frame desk.stand s.what in
       record {
         entry = record { move = Send bytes; answer = Made };
         after = record { stand = a.response.stand; owed = flat_map frame_bytes a.response.says };
@@ -63,7 +63,7 @@ module _ (held : Holding) (address : List ℕ) (asks : List Asked) (can : CanSer
         lower = a.stands;
       }
 
-  take_so : (journal : Journal) (desk : Desk) (much most : ℕ) → next_with held.catalog address asks journal ≡ Some (Take most) → Piecing held address asks can (left held.catalog asks journal) desk.stand desk.owed much most → IsMade held address asks can journal desk much
+  take_so : (journal : Journal) (desk : Desk) (much most : ℕ) → next_with held.catalog address asks journal ≡ Some (Take most) → Piecing held address asks can (standing_after held.catalog asks journal) desk.stand desk.owed much most → IsMade held address asks can journal desk much
   take_so journal desk much most next t =
       let on = hands_on held address asks can journal desk much most t in
       record {
@@ -71,20 +71,20 @@ module _ (held : Holding) (address : List ℕ) (asks : List Asked) (can : CanSer
         after = record { stand = desk.stand; owed = drop most t.rest ++ flat_map frame_bytes t.after };
         next = next;
         served = record { given = sym on.given; rest = ap (λ (bs : List ℕ). record { stand = desk.stand; owed = bs }) (sym on.rest_owed) };
-        lower = took_at held address asks can (left held.catalog asks journal) desk.stand desk.owed much most (take most t.rest) (drop most t.rest) t (sym (take-append-drop most t.rest)) on.some;
+        lower = took_at held address asks can (standing_after held.catalog asks journal) desk.stand desk.owed much most (take most t.rest) (drop most t.rest) t (sym (take-append-drop most t.rest)) on.some;
       }
 
   -- the next move of a session that stands there
-  makes : (journal : Journal) (desk : Desk) → (a : At held address asks can (left held.catalog asks journal) desk.stand desk.owed) → Nexts held address asks can (left held.catalog asks journal)
-      → ((left held.catalog asks journal).closed ≡ true) ⊎ IsMade held address asks can journal desk (rank held address asks can (left held.catalog asks journal) desk.stand desk.owed a)
-  makes journal desk a (dials e) = inr (record { entry = record { move = Dial address; answer = Made }; after = desk; next = e; served = record { made = refl; same = refl }; lower = (moves_at held address asks can (left held.catalog asks journal) desk.stand desk.owed (Dial address) a e).lower })
-  makes journal desk a (sends_one bytes e) = inr (send_so journal desk _ bytes e (moves_at held address asks can (left held.catalog asks journal) desk.stand desk.owed (Send bytes) a e))
-  makes journal desk a (takes most e) = inr (take_so journal desk _ most e (moves_at held address asks can (left held.catalog asks journal) desk.stand desk.owed (Take most) a e))
-  makes journal desk a (closes e) = inr (record { entry = record { move = Close; answer = Made }; after = desk; next = e; served = record { made = refl; same = refl }; lower = (moves_at held address asks can (left held.catalog asks journal) desk.stand desk.owed Close a e).lower })
+  makes : (journal : Journal) (desk : Desk) → (a : At held address asks can (standing_after held.catalog asks journal) desk.stand desk.owed) → Nexts held address asks can (standing_after held.catalog asks journal)
+      → ((standing_after held.catalog asks journal).closed ≡ true) ⊎ IsMade held address asks can journal desk (rank held address asks can (standing_after held.catalog asks journal) desk.stand desk.owed a)
+  makes journal desk a (dials e) = inr (record { entry = record { move = Dial address; answer = Made }; after = desk; next = e; served = record { made = refl; same = refl }; lower = (moves_at held address asks can (standing_after held.catalog asks journal) desk.stand desk.owed (Dial address) a e).lower })
+  makes journal desk a (sends_one bytes e) = inr (send_so journal desk _ bytes e (moves_at held address asks can (standing_after held.catalog asks journal) desk.stand desk.owed (Send bytes) a e))
+  makes journal desk a (takes most e) = inr (take_so journal desk _ most e (moves_at held address asks can (standing_after held.catalog asks journal) desk.stand desk.owed (Take most) a e))
+  makes journal desk a (closes e) = inr (record { entry = record { move = Close; answer = Made }; after = desk; next = e; served = record { made = refl; same = refl }; lower = (moves_at held address asks can (standing_after held.catalog asks journal) desk.stand desk.owed Close a e).lower })
   makes journal desk a (is_closed e) = inl e
 
   -- what a move finds at the desk
-  found : (journal : Journal) (desk : Desk) (much : ℕ) (move : Move) → MovesBy held address asks can (left held.catalog asks journal) desk.stand desk.owed much move → finds_desk desk move
+  found : (journal : Journal) (desk : Desk) (much : ℕ) (move : Move) → MovesBy held address asks can (standing_after held.catalog asks journal) desk.stand desk.owed much move → finds_desk desk move
   found journal desk much (Dial to) m = m.none_owed
   found journal desk much (Listen _) m = m
   found journal desk much Accept m = m
@@ -123,25 +123,25 @@ module _ (held : Holding) (address : List ℕ) (asks : List Asked) (can : CanSer
         finished = subst (λ (j : Journal). IsFinished j) same end.finished;
       }
 
-  pub ends_from : (most : ℕ) (journal : Journal) (desk : Desk) → GoesOn held.catalog address asks [] journal → ServedFrom held first_desk journal desk → Lower held address asks can (left held.catalog asks journal) desk.stand desk.owed most → Ended journal
+  pub ends_from : (most : ℕ) (journal : Journal) (desk : Desk) → GoesOn held.catalog address asks [] journal → ServedFrom held first_desk journal desk → Lower held address asks can (standing_after held.catalog asks journal) desk.stand desk.owed most → Ended journal
   ends_from zero journal desk goes_so served low = let less = low.less in absurd (omega (arith, less))
   ends_from (suc most) journal desk goes_so served low =
-      elim (makes journal desk low.there (nexts_at held address asks can (left held.catalog asks journal) desk.stand desk.owed low.there)) [
+      elim (makes journal desk low.there (nexts_at held address asks can (standing_after held.catalog asks journal) desk.stand desk.owed low.there)) [
         | inl e ↦ now_ended journal desk goes_so served (shut_is_finished held.catalog asks address journal goes_so e)
         | inr m ↦ sooner journal m.entry
             (ends_from most (journal ++ m.entry ∷ []) m.after (goes_more held.catalog address asks [] journal m.entry goes_so m.next)
             (served_join held first_desk desk m.after journal (m.entry ∷ []) served (m.after, m.served, refl))
-            (subst (λ (l : Left). Lower held address asks can l m.after.stand m.after.owed most) (sym (left_more held.catalog asks journal m.entry))
+            (subst (λ (l : Standing). Lower held address asks can l m.after.stand m.after.owed most) (sym (left_more held.catalog asks journal m.entry))
             (record { there = m.lower.there; less = (let less = m.lower.less in let before = low.less in omega (arith, less, before)) })))
       ]
 
 pub ends : (catalog : Catalog) (database : Database) (at : List ℕ) (texts : List (List ℕ)) (journal : Journal) → IsLocal catalog database at texts journal → EndsBy catalog database at texts journal
 ends catalog database at texts journal is =
     let held : Holding = holding_of catalog database in
-    let asks : List Asked = asked_of catalog.schema texts in
+    let asks : List NumberedAsk = asked_of catalog.schema texts in
     let can : CanServe (holding_of catalog database) (asked_of catalog.schema texts) = can_serve catalog database texts is.setting is.stored in
     let w : Walked (holding_of catalog database) at (asked_of catalog.schema texts) can journal is.desk = walked (holding_of catalog database) at asks can journal is.desk is.proper is.served in
-    let much : ℕ = rank held at asks can (left catalog asks journal) is.desk.stand is.desk.owed w.there in
+    let much : ℕ = rank held at asks can (standing_after catalog asks journal) is.desk.stand is.desk.owed w.there in
     let end : Ended (holding_of catalog database) at (asked_of catalog.schema texts) can journal = ends_from held at asks can (suc much) journal is.desk is.proper is.served (record { there = w.there; less = omega arith }) in
     record {
       more = end.more;
@@ -153,7 +153,7 @@ ends catalog database at texts journal is =
 pub finds : (catalog : Catalog) (database : Database) (at : List ℕ) (texts : List (List ℕ)) (journal : Journal) (move : Move) → (is : IsLocal catalog database at texts journal) → next_with catalog at (asked_of catalog.schema texts) journal ≡ Some move → finds_desk is.desk move
 finds catalog database at texts journal move is next =
     let held : Holding = holding_of catalog database in
-    let asks : List Asked = asked_of catalog.schema texts in
+    let asks : List NumberedAsk = asked_of catalog.schema texts in
     let can : CanServe (holding_of catalog database) (asked_of catalog.schema texts) = can_serve catalog database texts is.setting is.stored in
     let w : Walked (holding_of catalog database) at (asked_of catalog.schema texts) can journal is.desk = walked (holding_of catalog database) at asks can journal is.desk is.proper is.served in
-    found held at asks can journal is.desk _ move (moves_at held at asks can (left catalog asks journal) is.desk.stand is.desk.owed move w.there next)
+    found held at asks can journal is.desk _ move (moves_at held at asks can (standing_after catalog asks journal) is.desk.stand is.desk.owed move w.there next)

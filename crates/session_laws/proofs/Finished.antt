@@ -1,13 +1,13 @@
 -- That a session with a host in the process is served throughout, and that its host is honest.
 use Rattle.std.proofs.Common.{◌≡◌, ℕ, List, [], length, ◌∙◌, subst}
 use Rattle.std.proofs.Math.Seq.{take-length}
-use Rattle.ghost_model.specs.Values.{Database}
-use Rattle.ghost_model.specs.Channel.{Catalog, Journal}
-use Rattle.ghost_model.specs.Asks.{Asked, asked_of}
-use Rattle.ghost_model.specs.NextMove.{IsFinished, left}
-use Rattle.ghost_model.specs.Local.{IsServedBy}
+use Rattle.ghost_model.specs.core.Values.{Database}
+use Rattle.ghost_model.specs.core.Channel.{Catalog, Journal}
+use Rattle.ghost_model.specs.core.Asks.{NumberedAsk, asked_of}
+use Rattle.ghost_model.specs.core.NextMove.{IsFinished, standing_after}
+use Rattle.ghost_model.specs.core.Local.{IsServedBy}
 use Rattle.ghost_model.proofs.SessionLemmas.ThisHost.{this_host_is_honest}
-use Rattle.ghost_model.specs.Split.{public_of}
+use Rattle.ghost_model.specs.core.Split.{public_of}
 use Rattle.ghost_model.proofs.SessionLemmas.OneJournal.{same_journal}
 use Rattle.session_laws.specs.HonestSessions.{IsHonestSession}
 use Rattle.session_laws.specs.Local.{holding_of, IsLocal, IsUnbroken}
@@ -18,7 +18,7 @@ use Rattle.session_laws.proofs.Walking.{Walked, walked}
 use Rattle.session_laws.proofs.Stored.{can_serve}
 
 module _ (catalog : Catalog) (database : Database) (at : List ℕ) (texts : List (List ℕ)) (journal : Journal) (is : IsLocal catalog database at texts journal) where
-  abbrev asks : List Asked
+  abbrev asks : List NumberedAsk
   asks = asked_of catalog.schema texts
 
   can : CanServe (holding_of catalog database) (asked_of catalog.schema texts)
@@ -31,10 +31,10 @@ module _ (catalog : Catalog) (database : Database) (at : List ℕ) (texts : List
   unbroken =
       let w = all_walked in
       record {
-        goes_on = any_answer journal ∙ not_stopped (holding_of catalog database) at asks can (left catalog asks journal) is.desk.stand is.desk.owed w.there;
+        goes_on = any_answer journal ∙ not_stopped (holding_of catalog database) at asks can (standing_after catalog asks journal) is.desk.stand is.desk.owed w.there;
         throughout = w.throughout;
-        valid = not_broken (holding_of catalog database) at asks can (left catalog asks journal) is.desk.stand is.desk.owed w.there;
-        none_refused = none_refused (holding_of catalog database) at asks can (left catalog asks journal) is.desk.stand is.desk.owed w.there;
+        valid = not_broken (holding_of catalog database) at asks can (standing_after catalog asks journal) is.desk.stand is.desk.owed w.there;
+        none_refused = none_refused (holding_of catalog database) at asks can (standing_after catalog asks journal) is.desk.stand is.desk.owed w.there;
       }
 
   pub honest : IsHonestSession catalog database at texts journal

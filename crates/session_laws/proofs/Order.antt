@@ -3,14 +3,14 @@ use Rattle.std.proofs.Common.{◌≡◌, ℕ, suc, ◌+◌, ◌⊎◌, inl, inr,
 use Rattle.std.specs.Prelude.{◌==◌, if◌then◌else◌, Result}
 use Rattle.std.specs.List.{list_any}
 use Rattle.std.proofs.lemmas.List.{map-append, length-map}
-use Rattle.ghost_model.specs.Query.{Query}
-use Rattle.ghost_model.specs.QueryMeaning.{Refusal}
-use Rattle.ghost_model.specs.QueryReading.{reading}
-use Rattle.ghost_model.specs.Channel.{Catalog, Frame, Hello, Asking, More, Bye, Welcome, Replied, Done, Sorry}
-use Rattle.ghost_model.specs.Frames.{frame_in}
-use Rattle.ghost_model.specs.Asks.{Asked, asked, asks_of, asks_of_reading, asked_of}
-use Rattle.ghost_model.specs.NextMove.{Awaits, Missing, Reply, Nothing, Ending, Answered, Refused, Ended, ended, Heard, Verdict, Short, Whole, Invalid, verdict, turn, on_with, still, of_later_texts, ended_by, heard_as, hear, hear_all, at_first, heard}
-use Rattle.ghost_model.specs.Lines.{is_refused_by, was_refused}
+use Rattle.ghost_model.specs.core.Query.{Query}
+use Rattle.ghost_model.specs.refusals.QueryMeaning.{Refusal}
+use Rattle.ghost_model.specs.readings.QueryReading.{reading}
+use Rattle.ghost_model.specs.core.Channel.{Catalog, Frame, HelloFrame, AskFrame, MoreFrame, ByeFrame, WelcomeFrame, RowsFrame, DoneFrame, SorryFrame}
+use Rattle.ghost_model.specs.forms.Frames.{frame_in}
+use Rattle.ghost_model.specs.core.Asks.{NumberedAsk, asked, asks_of, asks_of_reading, asked_of}
+use Rattle.ghost_model.specs.core.NextMove.{Awaits, AwaitsCatalog, AwaitsReply, AwaitsNothing, Ending, Answered, Refused, EndedAsk, ended, Heard, Verdict, Lacking, Complete, Invalid, verdict, after_frame, ask_next, still, of_later_texts, ended_by, heard_as, hear, hear_all, at_first, heard}
+use Rattle.ghost_model.specs.core.Lines.{is_refused_by, was_refused}
 use Rattle.ghost_model.proofs.ChannelLemmas.Tests.{false_is_not}
 use Rattle.ghost_model.proofs.SessionLemmas.Answered.{filter_joined, of_text}
 use Rattle.session_laws.specs.TextEnds.{not_ended}
@@ -25,49 +25,49 @@ any_right p [] ys h = h
 any_right p (x ∷ xs) ys h =
     (elim (p x) as (λ v. (v || list_any p (xs ++ ys)) ≡ true) [ true ↦ refl | false ↦ any_right p xs ys h ])
 
-abbrev who : Ended → Asked
+abbrev who : EndedAsk → NumberedAsk
 who end = end.asked
 
-module _ (catalog : Catalog) (asks : List Asked) (number : ℕ) where
-  abbrev is_this : Asked → Bool
+module _ (catalog : Catalog) (asks : List NumberedAsk) (number : ℕ) where
+  abbrev is_this : NumberedAsk → Bool
   is_this one = one.text == number
 
-  abbrev ends_this : Ended → Bool
+  abbrev ends_this : EndedAsk → Bool
   ends_this end = end.asked.text == number
 
-  abbrev InOrder : List Asked → List Ended → Type 0
+  abbrev InOrder : List NumberedAsk → List EndedAsk → Type 0
   InOrder rest ends =
       (was_refused (filter ends_this ends) ≡ true) ⊎ (filter is_this (map who ends) ++ filter is_this rest ≡ filter is_this asks)
 
   -- nothing was ended
-  same_order : (rest other : List Asked) (ends : List Ended) → rest ≡ other → InOrder other ends → InOrder rest (ends ++ [])
+  same_order : (rest other : List NumberedAsk) (ends : List EndedAsk) → rest ≡ other → InOrder other ends → InOrder rest (ends ++ [])
   same_order rest other ends same o =
-      subst (λ (es : List Ended). InOrder rest es) (sym (append-nil ends)) (subst (λ (xs : List Asked). InOrder xs ends) (sym same) o)
+      subst (λ (es : List EndedAsk). InOrder rest es) (sym (append-nil ends)) (subst (λ (xs : List NumberedAsk). InOrder xs ends) (sym same) o)
 
   -- an ask was ended
-  order_on : (one : Asked) (later rest : List Asked) (ends : List Ended) (ending : Ending) → filter is_this rest ≡ filter is_this later
+  order_on : (one : NumberedAsk) (later rest : List NumberedAsk) (ends : List EndedAsk) (ending : Ending) → filter is_this rest ≡ filter is_this later
       → InOrder (one ∷ later) ends → InOrder rest (ends ++ ended one ending ∷ [])
   order_on one later rest ends ending same (inl refused) =
-      inl (ap (list_any (λ (end : Ended). is_refused_by end.ending)) (filter_joined ends_this ends (ended one ending ∷ []))
-      ∙ any_left (λ (end : Ended). is_refused_by end.ending) (filter ends_this ends) (filter ends_this (ended one ending ∷ [])) refused)
+      inl (ap (list_any (λ (end : EndedAsk). is_refused_by end.ending)) (filter_joined ends_this ends (ended one ending ∷ []))
+      ∙ any_left (λ (end : EndedAsk). is_refused_by end.ending) (filter ends_this ends) (filter ends_this (ended one ending ∷ [])) refused)
   order_on one later rest ends ending same (inr e) =
-      inr (ap (λ (xs : List Asked). filter is_this xs ++ filter is_this rest) (map-append who ends (ended one ending ∷ []))
-      ∙ ap (λ (xs : List Asked). xs ++ filter is_this rest) (filter_joined is_this (map who ends) (one ∷ []))
+      inr (ap (λ (xs : List NumberedAsk). filter is_this xs ++ filter is_this rest) (map-append who ends (ended one ending ∷ []))
+      ∙ ap (λ (xs : List NumberedAsk). xs ++ filter is_this rest) (filter_joined is_this (map who ends) (one ∷ []))
       ∙ append_assoc (filter is_this (map who ends)) (filter is_this (one ∷ [])) (filter is_this rest)
-      ∙ ap (λ (xs : List Asked). filter is_this (map who ends) ++ (filter is_this (one ∷ []) ++ xs)) same
-      ∙ ap (λ (xs : List Asked). filter is_this (map who ends) ++ xs) (sym (filter_joined is_this (one ∷ []) later))
+      ∙ ap (λ (xs : List NumberedAsk). filter is_this (map who ends) ++ (filter is_this (one ∷ []) ++ xs)) same
+      ∙ ap (λ (xs : List NumberedAsk). filter is_this (map who ends) ++ xs) (sym (filter_joined is_this (one ∷ []) later))
       ∙ e)
 
   -- a refused ask of this text
-  order_refused : (one : Asked) (code : ℕ) (rest : List Asked) (ends : List Ended) → is_this one ≡ true
+  order_refused : (one : NumberedAsk) (code : ℕ) (rest : List NumberedAsk) (ends : List EndedAsk) → is_this one ≡ true
       → InOrder rest (ends ++ ended one (Refused code) ∷ [])
   order_refused one code rest ends this =
-      inl (ap (list_any (λ (end : Ended). is_refused_by end.ending)) (filter_joined ends_this ends (ended one (Refused code) ∷ []))
-      ∙ any_right (λ (end : Ended). is_refused_by end.ending) (filter ends_this ends) (filter ends_this (ended one (Refused code) ∷ []))
-      (ap (λ v. list_any (λ (end : Ended). is_refused_by end.ending) (if v then ended one (Refused code) ∷ [] else [])) this))
+      inl (ap (list_any (λ (end : EndedAsk). is_refused_by end.ending)) (filter_joined ends_this ends (ended one (Refused code) ∷ []))
+      ∙ any_right (λ (end : EndedAsk). is_refused_by end.ending) (filter ends_this ends) (filter ends_this (ended one (Refused code) ∷ []))
+      (ap (λ v. list_any (λ (end : EndedAsk). is_refused_by end.ending) (if v then ended one (Refused code) ∷ [] else [])) this))
 
   -- asks of another text that are left out
-  left_out : (text : ℕ) → (text == number) ≡ false → (later : List Asked) → filter is_this (of_later_texts text later) ≡ filter is_this later
+  left_out : (text : ℕ) → (text == number) ≡ false → (later : List NumberedAsk) → filter is_this (of_later_texts text later) ≡ filter is_this later
   left_out text other [] = refl
   left_out text other (one ∷ later) =
       (elim (one.text == text) as (λ v. (one.text == text) ≡ v → filter is_this (if v then of_later_texts text later else one ∷ later) ≡ filter is_this (one ∷ later)) [
@@ -77,46 +77,46 @@ module _ (catalog : Catalog) (asks : List Asked) (number : ℕ) where
         | false ↦ λ e. refl
       ]) refl
 
-  on_with_rest : (serial : ℕ) (later : List Asked) → not_ended asks (on_with catalog.schema serial later).awaits ≡ later
+  on_with_rest : (serial : ℕ) (later : List NumberedAsk) → not_ended asks (ask_next catalog.schema serial later).awaits ≡ later
   on_with_rest serial [] = refl
   on_with_rest serial (one ∷ later) = refl
 
-  by_frame : (awaits : Awaits) (rows : List ℕ) (ends : List Ended) (frame : Frame) → InOrder (not_ended asks awaits) ends
-      → InOrder (not_ended asks (turn catalog asks awaits frame).awaits) (ends ++ ended_by awaits rows frame)
-  by_frame (Missing bytes) rows ends (Welcome last piece) o =
-      (elim (length piece == length bytes) as (λ v. InOrder (not_ended asks (if v then on_with catalog.schema 1 asks else still (Missing (drop (length piece) bytes))).awaits) (ends ++ [])) [
-        | true ↦ same_order (not_ended asks (on_with catalog.schema 1 asks).awaits) asks ends (on_with_rest 1 asks) o
+  by_frame : (awaits : Awaits) (rows : List ℕ) (ends : List EndedAsk) (frame : Frame) → InOrder (not_ended asks awaits) ends
+      → InOrder (not_ended asks (after_frame catalog asks awaits frame).awaits) (ends ++ ended_by awaits rows frame)
+  by_frame (AwaitsCatalog bytes) rows ends (WelcomeFrame last piece) o =
+      (elim (length piece == length bytes) as (λ v. InOrder (not_ended asks (if v then ask_next catalog.schema 1 asks else still (AwaitsCatalog (drop (length piece) bytes))).awaits) (ends ++ [])) [
+        | true ↦ same_order (not_ended asks (ask_next catalog.schema 1 asks).awaits) asks ends (on_with_rest 1 asks) o
         | false ↦ same_order asks asks ends refl o
       ])
-  by_frame (Missing bytes) rows ends (Hello generation) o = same_order asks asks ends refl o
-  by_frame (Missing bytes) rows ends (Asking serial payload) o = same_order asks asks ends refl o
-  by_frame (Missing bytes) rows ends (More serial) o = same_order asks asks ends refl o
-  by_frame (Missing bytes) rows ends Bye o = same_order asks asks ends refl o
-  by_frame (Missing bytes) rows ends (Replied serial payload) o = same_order asks asks ends refl o
-  by_frame (Missing bytes) rows ends (Done serial total) o = same_order asks asks ends refl o
-  by_frame (Missing bytes) rows ends (Sorry serial code) o = same_order asks asks ends refl o
-  by_frame (Reply one serial later count last) rows ends (Done _ total) o =
-      order_on one later (not_ended asks (on_with catalog.schema (serial + 1) later).awaits) ends (Answered rows) (ap (filter is_this) (on_with_rest (serial + 1) later)) o
-  by_frame (Reply one serial later count last) rows ends (Sorry _ code) o =
-      (elim (is_this one) as (λ v. is_this one ≡ v → InOrder (not_ended asks (on_with catalog.schema (serial + 1) (of_later_texts one.text later)).awaits) (ends ++ ended one (Refused code) ∷ [])) [
+  by_frame (AwaitsCatalog bytes) rows ends (HelloFrame generation) o = same_order asks asks ends refl o
+  by_frame (AwaitsCatalog bytes) rows ends (AskFrame serial payload) o = same_order asks asks ends refl o
+  by_frame (AwaitsCatalog bytes) rows ends (MoreFrame serial) o = same_order asks asks ends refl o
+  by_frame (AwaitsCatalog bytes) rows ends ByeFrame o = same_order asks asks ends refl o
+  by_frame (AwaitsCatalog bytes) rows ends (RowsFrame serial payload) o = same_order asks asks ends refl o
+  by_frame (AwaitsCatalog bytes) rows ends (DoneFrame serial total) o = same_order asks asks ends refl o
+  by_frame (AwaitsCatalog bytes) rows ends (SorryFrame serial code) o = same_order asks asks ends refl o
+  by_frame (AwaitsReply one serial later count last) rows ends (DoneFrame _ total) o =
+      order_on one later (not_ended asks (ask_next catalog.schema (serial + 1) later).awaits) ends (Answered rows) (ap (filter is_this) (on_with_rest (serial + 1) later)) o
+  by_frame (AwaitsReply one serial later count last) rows ends (SorryFrame _ code) o =
+      (elim (is_this one) as (λ v. is_this one ≡ v → InOrder (not_ended asks (ask_next catalog.schema (serial + 1) (of_later_texts one.text later)).awaits) (ends ++ ended one (Refused code) ∷ [])) [
         | true ↦ λ e. order_refused one code _ ends e
         | false ↦ λ e. order_on one later _ ends (Refused code) (ap (filter is_this) (on_with_rest (serial + 1) (of_later_texts one.text later)) ∙ left_out one.text e later) o
       ]) refl
-  by_frame (Reply one serial later count last) rows ends (Replied _ payload) o = same_order (one ∷ later) (one ∷ later) ends refl o
-  by_frame (Reply one serial later count last) rows ends (Hello generation) o = same_order (one ∷ later) (one ∷ later) ends refl o
-  by_frame (Reply one serial later count last) rows ends (Asking _ payload) o = same_order (one ∷ later) (one ∷ later) ends refl o
-  by_frame (Reply one serial later count last) rows ends (More _) o = same_order (one ∷ later) (one ∷ later) ends refl o
-  by_frame (Reply one serial later count last) rows ends Bye o = same_order (one ∷ later) (one ∷ later) ends refl o
-  by_frame (Reply one serial later count last) rows ends (Welcome _ piece) o = same_order (one ∷ later) (one ∷ later) ends refl o
-  by_frame Nothing rows ends frame o = same_order [] [] ends refl o
+  by_frame (AwaitsReply one serial later count last) rows ends (RowsFrame _ payload) o = same_order (one ∷ later) (one ∷ later) ends refl o
+  by_frame (AwaitsReply one serial later count last) rows ends (HelloFrame generation) o = same_order (one ∷ later) (one ∷ later) ends refl o
+  by_frame (AwaitsReply one serial later count last) rows ends (AskFrame _ payload) o = same_order (one ∷ later) (one ∷ later) ends refl o
+  by_frame (AwaitsReply one serial later count last) rows ends (MoreFrame _) o = same_order (one ∷ later) (one ∷ later) ends refl o
+  by_frame (AwaitsReply one serial later count last) rows ends ByeFrame o = same_order (one ∷ later) (one ∷ later) ends refl o
+  by_frame (AwaitsReply one serial later count last) rows ends (WelcomeFrame _ piece) o = same_order (one ∷ later) (one ∷ later) ends refl o
+  by_frame AwaitsNothing rows ends frame o = same_order [] [] ends refl o
 
   abbrev IsOrdered : Heard → Type 0
   IsOrdered h = InOrder (not_ended asks h.awaits) h.ended
 
   by_verdict : (h : Heard) (part : List ℕ) (v : Verdict) → IsOrdered h → IsOrdered (heard_as catalog asks h part v)
-  by_verdict h part (Short missing) o = o
+  by_verdict h part (Lacking missing) o = o
   by_verdict h part Invalid o = o
-  by_verdict h part Whole o = by_frame h.awaits h.rows h.ended (frame_in part) o
+  by_verdict h part Complete o = by_frame h.awaits h.rows h.ended (frame_in part) o
 
   by_byte : (h : Heard) (byte : ℕ) → IsOrdered h → IsOrdered (hear catalog asks h byte)
   by_byte h byte o =
@@ -134,7 +134,7 @@ module _ (catalog : Catalog) (asks : List Asked) (number : ℕ) where
   in_order received = by_bytes (at_first catalog) received (inr refl)
 
   -- as many asks of a text were ended as it has, where none of them is awaited
-  filtered_length : (ends : List Ended) → length (filter ends_this ends) ≡ length (filter is_this (map who ends))
+  filtered_length : (ends : List EndedAsk) → length (filter ends_this ends) ≡ length (filter is_this (map who ends))
   filtered_length [] = refl
   filtered_length (end ∷ ends) =
       let later = filtered_length ends in
@@ -144,7 +144,7 @@ module _ (catalog : Catalog) (asks : List Asked) (number : ℕ) where
       ])
 
   -- some of the asks of a text are ended, and the others remain
-  pub parts_of_text : (rest : List Asked) (ends : List Ended) → InOrder rest ends → was_refused (filter ends_this ends) ≡ false → length (filter ends_this ends) + length (filter is_this rest) ≡ length (filter is_this asks)
+  pub parts_of_text : (rest : List NumberedAsk) (ends : List EndedAsk) → InOrder rest ends → was_refused (filter ends_this ends) ≡ false → length (filter ends_this ends) + length (filter is_this rest) ≡ length (filter is_this asks)
   parts_of_text rest ends (inl refused) none = absurd (false_is_not (sym none ∙ refused))
   parts_of_text rest ends (inr e) none =
       let size = length-append (filter is_this (map who ends)) (filter is_this rest) in
@@ -154,15 +154,15 @@ module _ (catalog : Catalog) (asks : List Asked) (number : ℕ) where
 
 -- the asks of an accepted text
 pub asks_of_text : (catalog : Catalog) (texts : List (List ℕ)) (place : ℕ) (written : List ℕ) (query : Query) → slice_get texts place ≡ Some written → reading catalog.schema written ≡ Ok query
-    → length (filter (λ (one : Asked). one.text == suc place) (asked_of catalog.schema texts)) ≡ length (asks_of catalog.schema query)
+    → length (filter (λ (one : NumberedAsk). one.text == suc place) (asked_of catalog.schema texts)) ≡ length (asks_of catalog.schema query)
 asks_of_text catalog texts place written query here read =
     let next : 1 + place ≡ suc place = omega arith in
-    ap length (subst (λ (n : ℕ). filter (λ (one : Asked). one.text == n) (asked_of catalog.schema texts) ≡ map (asked n) (asks_of_reading catalog.schema (reading catalog.schema written))) next (of_text catalog.schema 1 place texts written here)
+    ap length (subst (λ (n : ℕ). filter (λ (one : NumberedAsk). one.text == n) (asked_of catalog.schema texts) ≡ map (asked n) (asks_of_reading catalog.schema (reading catalog.schema written))) next (of_text catalog.schema 1 place texts written here)
     ∙ ap (λ (r : Result Query Refusal). map (asked (suc place)) (asks_of_reading catalog.schema r)) read)
     ∙ length-map (asks_of catalog.schema query) (asked (suc place))
 
 -- none of some ends was a refusal, and so none of a part of them
-pub none_of_part : (p : Ended → Bool) (ends : List Ended) → was_refused ends ≡ false → was_refused (filter p ends) ≡ false
+pub none_of_part : (p : EndedAsk → Bool) (ends : List EndedAsk) → was_refused ends ≡ false → was_refused (filter p ends) ≡ false
 none_of_part p [] e = refl
 none_of_part p (end ∷ ends) e =
     (elim (is_refused_by end.ending) as (λ v. is_refused_by end.ending ≡ v → (v || was_refused ends) ≡ false → was_refused (filter p (end ∷ ends)) ≡ false) [

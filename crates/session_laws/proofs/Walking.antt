@@ -5,15 +5,15 @@ use Rattle.std.specs.List.{list_all, concat}
 use Rattle.std.proofs.lemmas.Grind.{flat_map-append}
 use Rattle.std.proofs.lemmas.List.{take-append-le, drop-append-le, length-take-le, take-append-drop}
 use Rattle.std.proofs.lemmas.Bool.{eq-eqb}
-use Rattle.ghost_model.specs.Channel.{Frame, Move, Dial, Listen, Accept, Send, Take, Close, Answer, Made, Piece, Entry, Journal}
-use Rattle.ghost_model.specs.Frames.{IsFrame, frame_bytes}
-use Rattle.ghost_model.specs.Asks.{Asked}
-use Rattle.ghost_model.specs.Moves.{taken, sent, sent_by, piece_of}
-use Rattle.ghost_model.specs.NextMove.{Left, left, next_with, GoesOn, hear_all}
-use Rattle.ghost_model.specs.Host.{Holding, Stand, Response, said_to, said_with, answer_to, frames_of}
-use Rattle.ghost_model.specs.Host as host
-use Rattle.ghost_model.specs.Local.{IsServedBy, is_full}
-use Rattle.ghost_model.specs.SessionLaws.{IsServedThroughout}
+use Rattle.ghost_model.specs.core.Channel.{Frame, Move, Dial, Listen, Accept, Send, Take, Close, Answer, Made, Piece, Entry, Journal}
+use Rattle.ghost_model.specs.forms.Frames.{IsFrame, frame_bytes}
+use Rattle.ghost_model.specs.core.Asks.{NumberedAsk}
+use Rattle.ghost_model.specs.core.Moves.{taken, sent, sent_by, piece_of}
+use Rattle.ghost_model.specs.core.NextMove.{Standing, standing_after, next_with, GoesOn, hear_all}
+use Rattle.ghost_model.specs.core.Host.{Holding, Stand, Response, said_to, said_with, answer_to, frames_of, said_with_refusals}
+use Rattle.ghost_model.specs.core.Host as host
+use Rattle.ghost_model.specs.core.Local.{IsServedBy, is_full}
+use Rattle.ghost_model.specs.laws.SessionLaws.{IsServedThroughout}
 use Rattle.ghost_model.proofs.ChannelLemmas.Hosts.{frames_are_cut}
 use Rattle.ghost_model.proofs.ChannelLemmas.Tests.{both_hold, hold_both}
 use Rattle.session_laws.specs.Serving.{Desk, first_desk, Hears, Hands, Stays, handed, serves_move, serves, ServedFrom}
@@ -26,7 +26,7 @@ served_so :
     → list_all is_full journal ≡ true → sent journal ≡ map frame_bytes key → All IsFrame key
     → ((later : List Frame) → said_to held (key ++ later) host.Greeting ≡ said ++ said_to held later stand)
     → flat_map frame_bytes said ≡ taken journal ++ rest → IsServedBy held journal
-unfolding said_to
+unfolding said_with_refusals
 served_so held journal key said stand rest full sent_are frames leads said_are =
     let cut : frames_of (concat (sent journal)) ≡ key =
     ap (λ (xs : List (List ℕ)). frames_of (concat xs)) sent_are ∙ (ap frames_of (joined_frames key) ∙ frames_are_cut key frames) in
@@ -81,7 +81,7 @@ map_more [] frame = refl
 map_more (first ∷ key) frame = ap (λ (xs : List (List ℕ)). frame_bytes first ∷ xs) (map_more key frame)
 
 said_more : (held : Holding) (frame : Frame) (stand : Stand) (response : Response) (later : List Frame) → answer_to held stand frame ≡ Some response → said_to held (frame ∷ later) stand ≡ response.says ++ said_to held later response.stand
-unfolding said_to
+unfolding said_with_refusals
 said_more held frame stand response later is = ap (λ (o : Option Response). said_with (said_to held later) o) is
 
 leads_more :
@@ -105,10 +105,10 @@ entry_of move answer = record { move = move; answer = answer }
 abbrev desk_of : Stand → List ℕ → Desk
 desk_of stand owed = record { stand = stand; owed = owed }
 
-module _ (held : Holding) (address : List ℕ) (asks : List Asked) (can : CanServe held asks) where
+module _ (held : Holding) (address : List ℕ) (asks : List NumberedAsk) (can : CanServe held asks) where
   -- so far the key made its moves, and the host served them
   pub record Walked (journal : Journal) (desk : Desk) : Type 0 where
-    pub there : At held address asks can (left held.catalog asks journal) desk.stand desk.owed
+    pub there : At held address asks can (standing_after held.catalog asks journal) desk.stand desk.owed
     pub full : list_all is_full journal ≡ true
     pub throughout : IsServedThroughout held journal
     -- the key's frames, and what the host said to them
@@ -122,7 +122,7 @@ module _ (held : Holding) (address : List ℕ) (asks : List Asked) (can : CanSer
   -- one more entry
   one_more :
       (journal : Journal) (entry : Entry) (desk : Desk) → list_all is_full journal ≡ true → IsServedThroughout held journal
-      → At held address asks can (goes held.catalog asks (left held.catalog asks journal) entry) desk.stand desk.owed → is_full entry ≡ true
+      → At held address asks can (goes held.catalog asks (standing_after held.catalog asks journal) entry) desk.stand desk.owed → is_full entry ≡ true
       → (key said : List Frame) → sent journal ++ sent_by entry.move ≡ map frame_bytes key → All IsFrame key
       → ((later : List Frame) → said_to held (key ++ later) host.Greeting ≡ said ++ said_to held later desk.stand)
       → flat_map frame_bytes said ≡ (taken journal ++ piece_of entry.answer) ++ desk.owed
@@ -132,7 +132,7 @@ module _ (held : Holding) (address : List ℕ) (asks : List Asked) (can : CanSer
       let all_sent : sent (journal ++ entry ∷ []) ≡ map frame_bytes key = sent_more journal entry ∙ sent_are in
       let all_said : flat_map frame_bytes said ≡ taken (journal ++ entry ∷ []) ++ desk.owed = said_are ∙ ap (λ (bs : List ℕ). bs ++ desk.owed) (sym (taken_more journal entry)) in
       record {
-        there = subst (λ (l : Left). At held address asks can l desk.stand desk.owed) (sym (left_more held.catalog asks journal entry)) there;
+        there = subst (λ (l : Standing). At held address asks can l desk.stand desk.owed) (sym (left_more held.catalog asks journal entry)) there;
         full = all_full;
         throughout = throughout_more held journal entry throughout (served_so held (journal ++ entry ∷ []) key said desk.stand desk.owed all_full all_sent frames leads all_said);
         key = key;
@@ -145,7 +145,7 @@ module _ (held : Holding) (address : List ℕ) (asks : List Asked) (can : CanSer
 
   -- the dial and the close: the host is not in it
   quiet_move : (journal : Journal) (move : Move) (answer : Answer) (before after : Desk) → Walked journal before → Stays before answer after → sent_by move ≡ [] → is_full (entry_of move Made) ≡ true
-      → At held address asks can (goes held.catalog asks (left held.catalog asks journal) (entry_of move Made)) before.stand before.owed
+      → At held address asks can (goes held.catalog asks (standing_after held.catalog asks journal) (entry_of move Made)) before.stand before.owed
       → Walked (journal ++ entry_of move answer ∷ []) after
   quiet_move journal move answer before after w stays quiet full there =
       subst (λ (a : Answer). Walked (journal ++ entry_of move a ∷ []) after) (sym stays.made)
@@ -156,11 +156,11 @@ module _ (held : Holding) (address : List ℕ) (asks : List Asked) (can : CanSer
 
   -- a frame is sent
   sent_move : (journal : Journal) (bytes : List ℕ) (answer : Answer) (before after : Desk) → Walked journal before → Hears held before bytes answer after
-      → (much : ℕ) → (s : Sends held address asks can (left held.catalog asks journal) before.stand before.owed much bytes)
+      → (much : ℕ) → (s : Sends held address asks can (standing_after held.catalog asks journal) before.stand before.owed much bytes)
       → Walked (journal ++ entry_of (Send bytes) answer ∷ []) after
   sent_move journal bytes answer before after w hears much s =
-      let a = answers_at held address asks can (left held.catalog asks journal) before.stand before.owed much bytes s in
-      let is : IsFrame s.frame = due_is_frame held asks can (left held.catalog asks journal).heard s.frame before.stand s.what in
+      let a = answers_at held address asks can (standing_after held.catalog asks journal) before.stand before.owed much bytes s in
+      let is : IsFrame s.frame = due_is_frame held asks can (standing_after held.catalog asks journal).heard s.frame before.stand s.what in
       let owes : before.owed ++ flat_map frame_bytes a.response.says ≡ flat_map frame_bytes a.response.says = ap (λ (bs : List ℕ). bs ++ flat_map frame_bytes a.response.says) s.none_owed in
       let then : after ≡ desk_of a.response.stand (flat_map frame_bytes a.response.says) =
       hears.answers s.frame a.response is s.spelled a.is ∙ ap (desk_of a.response.stand) owes in
@@ -182,7 +182,7 @@ module _ (held : Holding) (address : List ℕ) (asks : List Asked) (can : CanSer
     pub some : 0 < length (take most rest)
     pub full : is_full (entry_of (Take most) (Piece (take most rest))) ≡ true
 
-  pub hands_on : (journal : Journal) (desk : Desk) (much most : ℕ) → (t : Piecing held address asks can (left held.catalog asks journal) desk.stand desk.owed much most) → HandsOn desk.owed most t.rest (flat_map frame_bytes t.after)
+  pub hands_on : (journal : Journal) (desk : Desk) (much most : ℕ) → (t : Piecing held address asks can (standing_after held.catalog asks journal) desk.stand desk.owed much most) → HandsOn desk.owed most t.rest (flat_map frame_bytes t.after)
   hands_on journal desk much most t =
       let others : List ℕ = flat_map frame_bytes t.after in
       let some : 0 < length desk.owed = (let long = ap length t.owed_is in let sum = length-append t.rest (flat_map frame_bytes t.after) in let more = t.some in omega (arith, long, sum, more)) in
@@ -197,31 +197,31 @@ module _ (held : Holding) (address : List ℕ) (asks : List Asked) (can : CanSer
 
   -- a piece is taken
   took_move : (journal : Journal) (most : ℕ) (answer : Answer) (before after : Desk) → Walked journal before → Hands before most answer after
-      → (much : ℕ) → (t : Piecing held address asks can (left held.catalog asks journal) before.stand before.owed much most)
+      → (much : ℕ) → (t : Piecing held address asks can (standing_after held.catalog asks journal) before.stand before.owed much most)
       → Walked (journal ++ entry_of (Take most) answer ∷ []) after
   took_move journal most answer before after w hands much t =
       let on : HandsOn before.owed most t.rest (flat_map frame_bytes t.after) = hands_on journal before much most t in
       subst (λ (x : Answer). Walked (journal ++ entry_of (Take most) x ∷ []) after) (sym (hands.given ∙ on.given))
       (subst (λ (d : Desk). Walked (journal ++ entry_of (Take most) (Piece (take most t.rest)) ∷ []) d) (sym (hands.rest ∙ ap (desk_of before.stand) on.rest_owed))
       (one_more journal (entry_of (Take most) (Piece (take most t.rest))) (desk_of before.stand (drop most t.rest ++ flat_map frame_bytes t.after)) w.full w.throughout
-      (took_at held address asks can (left held.catalog asks journal) before.stand before.owed much most (take most t.rest) (drop most t.rest) t (sym (take-append-drop most t.rest)) on.some).there
+      (took_at held address asks can (standing_after held.catalog asks journal) before.stand before.owed much most (take most t.rest) (drop most t.rest) t (sym (take-append-drop most t.rest)) on.some).there
       on.full w.key w.said (append-nil (sent journal) ∙ w.sent_are) w.are_frames w.leads
       (w.said_are ∙ (ap (λ (bs : List ℕ). taken journal ++ bs) on.split ∙ sym (append_assoc (taken journal) (take most t.rest) (drop most t.rest ++ flat_map frame_bytes t.after))))))
 
   next_walked : (journal : Journal) (move : Move) (answer : Answer) (before after : Desk) → Walked journal before → next_with held.catalog address asks journal ≡ Some move → serves_move held before move answer after
       → Walked (journal ++ entry_of move answer ∷ []) after
   next_walked journal (Dial to) answer before after w next serves =
-      quiet_move journal (Dial to) answer before after w serves refl refl (moves_at held address asks can (left held.catalog asks journal) before.stand before.owed (Dial to) w.there next).lower.there
+      quiet_move journal (Dial to) answer before after w serves refl refl (moves_at held address asks can (standing_after held.catalog asks journal) before.stand before.owed (Dial to) w.there next).lower.there
   next_walked journal (Listen to) answer before after w next serves =
-      absurd (moves_at held address asks can (left held.catalog asks journal) before.stand before.owed (Listen to) w.there next)
+      absurd (moves_at held address asks can (standing_after held.catalog asks journal) before.stand before.owed (Listen to) w.there next)
   next_walked journal Accept answer before after w next serves =
-      absurd (moves_at held address asks can (left held.catalog asks journal) before.stand before.owed Accept w.there next)
+      absurd (moves_at held address asks can (standing_after held.catalog asks journal) before.stand before.owed Accept w.there next)
   next_walked journal (Send bytes) answer before after w next serves =
-      sent_move journal bytes answer before after w serves _ (moves_at held address asks can (left held.catalog asks journal) before.stand before.owed (Send bytes) w.there next)
+      sent_move journal bytes answer before after w serves _ (moves_at held address asks can (standing_after held.catalog asks journal) before.stand before.owed (Send bytes) w.there next)
   next_walked journal (Take most) answer before after w next serves =
-      took_move journal most answer before after w serves _ (moves_at held address asks can (left held.catalog asks journal) before.stand before.owed (Take most) w.there next)
+      took_move journal most answer before after w serves _ (moves_at held address asks can (standing_after held.catalog asks journal) before.stand before.owed (Take most) w.there next)
   next_walked journal Close answer before after w next serves =
-      quiet_move journal Close answer before after w serves refl refl (moves_at held address asks can (left held.catalog asks journal) before.stand before.owed Close w.there next).lower.there
+      quiet_move journal Close answer before after w serves refl refl (moves_at held address asks can (standing_after held.catalog asks journal) before.stand before.owed Close w.there next).lower.there
 
   walked_on : (before journal : Journal) (desk after : Desk) → Walked before desk → GoesOn held.catalog address asks before journal → ServedFrom held desk journal after → Walked (before ++ journal) after
   walked_on before [] desk after w goes served =

@@ -1,17 +1,18 @@
 -- A session of the key with an honest host that holds the public part of a database, over any link. No frame that comes is
 -- invalid and no ask is refused; once it is finished, its lines are those that its texts print over the database.
 use Rattle.std.specs.Prelude.{◌≡◌, ℕ, suc, Bool, true, false, List, length, slice_get, Some, Ok, flat_map}
-use Rattle.ghost_model.specs.Values.{Database}
-use Rattle.ghost_model.specs.Query.{Query}
-use Rattle.ghost_model.specs.QueryReading.{reading}
-use Rattle.ghost_model.specs.Channel.{Catalog, Journal}
-use Rattle.ghost_model.specs.NextMove.{IsProper, IsFinished}
-use Rattle.ghost_model.specs.Split.{Hidden, public_of, hidden_of}
-use Rattle.ghost_model.specs.Honest.{IsHonest}
-use Rattle.ghost_model.specs.Lines.{Reason, IsRefused, WasBroken, WasAnswered, MetFault, AreLines, ended_of, was_refused, all_done}
-use Rattle.ghost_model.specs.Printed.{printed_lines}
-use Rattle.ghost_model.specs.SessionLaws.{IsSetting, IsCatalogOf}
+use Rattle.ghost_model.specs.core.Values.{Database}
+use Rattle.ghost_model.specs.core.Query.{Query}
+use Rattle.ghost_model.specs.readings.QueryReading.{reading}
+use Rattle.ghost_model.specs.core.Channel.{Catalog, Journal}
+use Rattle.ghost_model.specs.core.NextMove.{IsProper, IsFinished}
+use Rattle.ghost_model.specs.core.Split.{Hidden, public_of, hidden_of}
+use Rattle.ghost_model.specs.core.Honest.{IsHonest}
+use Rattle.ghost_model.specs.core.Lines.{Reason, WasRefused, WasBroken, WasAnswered, MetFault, AreLines, ended_of, was_refused, all_done}
+use Rattle.ghost_model.specs.core.Printed.{printed_lines}
+use Rattle.ghost_model.specs.laws.SessionLaws.{IsSetting, IsCatalogOf}
 use Rattle.session_laws.specs.TextEnds.{heard_in}
+use Rattle.ghost_model.specs.core.Asks.{asked_of}
 
 pub record IsHonestSession (catalog : Catalog) (database : Database) (at : List ℕ) (texts : List (List ℕ)) (journal : Journal) : Type 0 where
   pub setting : IsSetting catalog texts
@@ -36,11 +37,11 @@ HonestAsksAreDone =
     (place : ℕ) (written : List ℕ) (asked : Query)
     → IsHonestSession catalog database at texts journal → IsFinished journal
     → slice_get texts place ≡ Some written → reading catalog.schema written ≡ Ok asked
-    → all_done catalog.schema asked (ended_of catalog texts journal (suc place)) ≡ true
+    → all_done catalog.schema asked (ended_of catalog (asked_of catalog.schema texts) journal (suc place)) ≡ true
 
 -- whether the key's own flash is the reason for some lines
 abbrev pub is_own_fault : Reason → Bool
-is_own_fault IsRefused = false
+is_own_fault WasRefused = false
 is_own_fault WasBroken = false
 is_own_fault WasAnswered = false
 is_own_fault (MetFault _) = true

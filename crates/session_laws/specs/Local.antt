@@ -2,19 +2,19 @@
 -- what it answers is the meaning of its texts.
 use Rattle.std.specs.Prelude.{◌≡◌, ◌<◌, ◌≤◌, ℕ, suc, true, false, List, [], ◌++◌, length, slice_get, Some, Ok, flat_map}
 use Rattle.std.specs.List.{list_any}
-use Rattle.ghost_model.specs.Values.{Database}
-use Rattle.ghost_model.specs.Query.{Query}
-use Rattle.ghost_model.specs.QueryReading.{reading}
-use Rattle.ghost_model.specs.Meaning.{answer}
-use Rattle.ghost_model.specs.Channel.{Catalog, Move, Dial, Listen, Accept, Send, Take, Close, Journal}
-use Rattle.ghost_model.specs.Asks.{asked_of}
-use Rattle.ghost_model.specs.Moves.{taken, answers}
-use Rattle.ghost_model.specs.NextMove.{IsProper, IsFinished, next_move, heard, is_stop}
-use Rattle.ghost_model.specs.Split.{public_of, hidden_of}
-use Rattle.ghost_model.specs.Host.{Holding, host_of}
-use Rattle.ghost_model.specs.Lines.{ended_of, was_refused, all_done, rows_from_replies}
-use Rattle.ghost_model.specs.Printed.{printed_lines}
-use Rattle.ghost_model.specs.SessionLaws.{IsSetting, IsCatalogOf, IsServedThroughout}
+use Rattle.ghost_model.specs.core.Values.{Database}
+use Rattle.ghost_model.specs.core.Query.{Query}
+use Rattle.ghost_model.specs.readings.QueryReading.{reading}
+use Rattle.ghost_model.specs.core.Meaning.{answer}
+use Rattle.ghost_model.specs.core.Channel.{Catalog, Move, Dial, Listen, Accept, Send, Take, Close, Journal}
+use Rattle.ghost_model.specs.core.Asks.{asked_of}
+use Rattle.ghost_model.specs.core.Moves.{taken, answers}
+use Rattle.ghost_model.specs.core.NextMove.{IsProper, IsFinished, next_move, heard, is_stop}
+use Rattle.ghost_model.specs.core.Split.{public_of, hidden_of}
+use Rattle.ghost_model.specs.core.Host.{Holding, host_of}
+use Rattle.ghost_model.specs.core.Lines.{ended_of, was_refused, all_done, rows_from_replies}
+use Rattle.ghost_model.specs.core.Printed.{printed_lines}
+use Rattle.ghost_model.specs.laws.SessionLaws.{IsSetting, IsCatalogOf, IsServedThroughout}
 use Rattle.session_laws.specs.HonestSessions.{AreAllLines}
 use Rattle.session_laws.specs.Serving.{Desk, first_desk, ServedFrom}
 
@@ -93,7 +93,7 @@ LocalAsksAreDone =
     (place : ℕ) (written : List ℕ) (asked : Query)
     → IsLocal catalog database at texts journal → IsFinished journal
     → slice_get texts place ≡ Some written → reading catalog.schema written ≡ Ok asked
-    → all_done catalog.schema asked (ended_of catalog texts journal (suc place)) ≡ true
+    → all_done catalog.schema asked (ended_of catalog (asked_of catalog.schema texts) journal (suc place)) ≡ true
 
 abbrev pub LocalSessionsAnswer : Type 0
 LocalSessionsAnswer =
@@ -101,7 +101,7 @@ LocalSessionsAnswer =
     (place : ℕ) (written : List ℕ) (asked : Query)
     → IsLocal catalog database at texts journal → IsFinished journal
     → slice_get texts place ≡ Some written → reading catalog.schema written ≡ Ok asked
-    → rows_from_replies catalog (hidden_of catalog.schema database) texts journal (suc place) asked
+    → rows_from_replies catalog (hidden_of catalog.schema database) (asked_of catalog.schema texts) journal (suc place) asked
     ≡ answer catalog.schema database asked
 
 abbrev pub LocalLinesArePrinted : Type 0

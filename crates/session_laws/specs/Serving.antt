@@ -2,9 +2,9 @@
 -- key on the link to it is made at once: a frame that is sent is answered by frames that are then owed, and a take gets
 -- the next owed bytes, as many as it asks for or as there are.
 use Rattle.std.specs.Prelude.{◌≡◌, ℕ, List, [], ◌∷◌, ◌++◌, take, drop, flat_map, Some}
-use Rattle.ghost_model.specs.Channel.{Frame, Move, Dial, Listen, Accept, Send, Take, Close, Answer, Made, Piece, End, Entry, Journal}
-use Rattle.ghost_model.specs.Frames.{IsFrame, frame_bytes}
-use Rattle.ghost_model.specs.Host.{Holding, Stand, Greeting, Response, answer_to}
+use Rattle.ghost_model.specs.core.Channel.{Frame, Move, Dial, Listen, Accept, Send, Take, Close, Answer, Made, Piece, End, Entry, Journal}
+use Rattle.ghost_model.specs.forms.Frames.{IsFrame, frame_bytes}
+use Rattle.ghost_model.specs.core.Host.{Holding, Stand, Greeting, Response, answer_to}
 
 pub record Desk : Type 0 where
   pub stand : Stand

@@ -3,11 +3,11 @@ use Rattle.std.proofs.Common.{◌≡◌, ◌≤◌, ◌<◌, ◌+◌, ℕ, zero,
 use Rattle.std.proofs.lemmas.Bool.{eq-eqb, eqb-true}
 use Rattle.std.proofs.lemmas.Grind.{flat_map-append}
 use Rattle.std.specs.Prelude.{if◌then◌else◌, flat_map}
-use Rattle.ghost_model.specs.Schema.{Schema}
-use Rattle.ghost_model.specs.Channel.{Ask, Catalog}
-use Rattle.ghost_model.specs.Frames.{payload_in}
-use Rattle.ghost_model.specs.Asks.{Asked, kinds_of}
-use Rattle.ghost_model.specs.NextMove.{Heard, Ended, Awaits, Missing, Reply, Nothing}
+use Rattle.ghost_model.specs.core.Schema.{Schema}
+use Rattle.ghost_model.specs.core.Channel.{Ask, Catalog}
+use Rattle.ghost_model.specs.forms.Frames.{payload_in}
+use Rattle.ghost_model.specs.core.Asks.{NumberedAsk, kinds_of}
+use Rattle.ghost_model.specs.core.NextMove.{Heard, EndedAsk, Awaits, AwaitsCatalog, AwaitsReply, AwaitsNothing}
 use Rattle.channel_pump.specs.Progress.{Tells, RowsOf, MayCome}
 use Rattle.channel_pump.specs.declared.state.Event.{Event}
 use Rattle.channel_pump.specs.declared.state.Event.TheVariants as event
@@ -39,10 +39,10 @@ same_bool false false = holds refl
 same_bool true false = fails (λ e. cc)
 same_bool false true = fails (λ e. cc)
 
-at_own : (schema : Schema) (text : ℕ) (rows : List ℕ) (asked : Asked) → asked.text ≡ text → at_hand schema text rows (Some asked) ≡ stored_as schema asked rows ∷ []
+at_own : (schema : Schema) (text : ℕ) (rows : List ℕ) (asked : NumberedAsk) → asked.text ≡ text → at_hand schema text rows (Some asked) ≡ stored_as schema asked rows ∷ []
 at_own schema text rows asked e = ap (λ (b : Bool). if b then stored_as schema asked rows ∷ [] else []) (eq-eqb asked.text text e)
 
-at_other : (schema : Schema) (text : ℕ) (rows : List ℕ) (asked : Asked) → (asked.text ≡ text → ⊥) → at_hand schema text rows (Some asked) ≡ []
+at_other : (schema : Schema) (text : ℕ) (rows : List ℕ) (asked : NumberedAsk) → (asked.text ≡ text → ⊥) → at_hand schema text rows (Some asked) ≡ []
 at_other schema text rows asked other = go (asked.text == text) refl
   where
     go : (b : Bool) → (asked.text == text) ≡ b → (if b then stored_as schema asked rows ∷ [] else []) ≡ []
@@ -98,7 +98,7 @@ still_open catalog heard low top text replies e k = record {
 }
 
 -- a reply is begun
-pub begun : (catalog : Catalog) (heard : Heard) (asked : Asked) (low top text : ℕ) (schema : Schema) (ask : Ask) (old new : Replies)
+pub begun : (catalog : Catalog) (heard : Heard) (asked : NumberedAsk) (low top text : ℕ) (schema : Schema) (ask : Ask) (old new : Replies)
     → Begins schema ask text old new → old.is_open ≡ false → catalog.schema ≡ schema → asked_in heard.awaits ≡ Some asked → asked.text ≡ text → asked.ask ≡ ask
     → top ≤ text → low ≤ text → text ≤ low + 1 → Fits catalog heard text → IsKept catalog heard low top old → IsKept catalog heard low text new
 begun catalog heard asked low top text schema ask old new begins was_closed is_schema awaited its_text its_ask least from near fits k = record {
@@ -118,7 +118,7 @@ begun catalog heard asked low top text schema ask old new begins was_closed is_s
     whole : (other : ℕ) → all_of catalog.schema heard other ≡ done_of catalog.schema other heard.ended ++ at_hand catalog.schema other [] (Some asked)
     whole other =
         ap (λ (r : List ℕ). done_of catalog.schema other heard.ended ++ at_hand catalog.schema other r (asked_in heard.awaits)) no_rows
-        ∙ ap (λ (a : Option Asked). done_of catalog.schema other heard.ended ++ at_hand catalog.schema other [] a) awaited
+        ∙ ap (λ (a : Option NumberedAsk). done_of catalog.schema other heard.ended ++ at_hand catalog.schema other [] a) awaited
 
     is_opened : stored_as catalog.schema asked [] ≡ opened schema ask
     is_opened = rw (is_schema, its_ask) refl
@@ -176,25 +176,25 @@ room_of_half catalog text replies rooms = go (is_even text)
     go false = rooms.odd_room
 
 -- the ask at hand where rows came
-pub rows_asked : (catalog : Catalog) (awaits : Awaits) (payload : List ℕ) (n : ℕ) → MayCome catalog awaits payload n → (asked : Asked) × (asked_in awaits ≡ Some asked)
-rows_asked catalog (Missing bytes) payload n came = absurd came
-rows_asked catalog (Reply asked serial later count last) payload n came = (asked, refl)
-rows_asked catalog Nothing payload n came = absurd came
+pub rows_asked : (catalog : Catalog) (awaits : Awaits) (payload : List ℕ) (n : ℕ) → MayCome catalog awaits payload n → (asked : NumberedAsk) × (asked_in awaits ≡ Some asked)
+rows_asked catalog (AwaitsCatalog bytes) payload n came = absurd came
+rows_asked catalog (AwaitsReply asked serial later count last) payload n came = (asked, refl)
+rows_asked catalog AwaitsNothing payload n came = absurd came
 
 -- rows came for the ask at hand
-pub pushed : (catalog : Catalog) (before after : Heard) (asked : Asked) (low top : ℕ) (payload : List ℕ) (old new : Replies)
+pub pushed : (catalog : Catalog) (before after : Heard) (asked : NumberedAsk) (low top : ℕ) (payload : List ℕ) (old new : Replies)
     → Pushes payload old new → old.is_open ≡ true → low ≤ asked.text → asked_in before.awaits ≡ Some asked → asked_in after.awaits ≡ Some asked
     → after.rows ≡ before.rows ++ payload → after.ended ≡ before.ended → ((text : ℕ) → Fits catalog after text)
     → IsKept catalog before low top old → IsKept catalog after low top new
 pushed catalog before after asked low top payload old new pushes was_open from_low awaited still rows ended fits k =
     let at = k.at was_open in
     let one : at.asked ≡ asked = (let both : Some at.asked ≡ Some asked = sym at.awaited ∙ awaited in cc) in
-    let text_is : old.text ≡ asked.text = at.text ∙ ap (λ (a : Asked). a.text) one in
+    let text_is : old.text ≡ asked.text = at.text ∙ ap (λ (a : NumberedAsk). a.text) one in
     let holder : (half_of old old.text).text ≡ old.text = at.holder (subst (λ (n : ℕ). low ≤ n) (sym text_is) from_low) in
     let open_now : new.is_open ≡ true = pushes.is_open ∙ was_open in
     let done : (text : ℕ) → List Stored = λ text. done_of catalog.schema text before.ended in
     let whole_before : (text : ℕ) → all_of catalog.schema before text ≡ done text ++ at_hand catalog.schema text before.rows (Some asked) =
-    λ text. ap (λ (a : Option Asked). done text ++ at_hand catalog.schema text before.rows a) awaited in
+    λ text. ap (λ (a : Option NumberedAsk). done text ++ at_hand catalog.schema text before.rows a) awaited in
     let whole_after : (text : ℕ) → all_of catalog.schema after text ≡ done text ++ at_hand catalog.schema text (before.rows ++ payload) (Some asked) =
     λ text. rw (ended, rows, still) refl in
     record {
@@ -212,7 +212,7 @@ pushed catalog before after asked low top payload old new pushes was_open from_l
           subst (λ (b : Bool). kept new other ≡ expected catalog.schema after b other) (sym open_now)
           (each_pushed catalog before after asked payload old new pushes.changes pushes.holder holder text_is pushes.stored
           (room_of_half catalog old.text old k.rooms) (fits old.text).room (done) whole_before whole_after other
-          (k.texts other low_other (ap (λ (e : List Ended). is_refused other e) (sym ended) ∙ valid) ∙ ap (λ (b : Bool). expected catalog.schema before b other) was_open)
+          (k.texts other low_other (ap (λ (e : List EndedAsk). is_refused other e) (sym ended) ∙ valid) ∙ ap (λ (b : Bool). expected catalog.schema before b other) was_open)
           (λ same. same_bool (is_even other) (is_even old.text)) (same_text other old.text));
     }
   where
@@ -223,7 +223,7 @@ pushed catalog before after asked low top payload old new pushes was_open from_l
         go true = bound.even
         go false = bound.odd
 
-    each_pushed : (catalog : Catalog) (before after : Heard) (asked : Asked) (payload : List ℕ) (old new : Replies) → Changes old.text old new
+    each_pushed : (catalog : Catalog) (before after : Heard) (asked : NumberedAsk) (payload : List ℕ) (old new : Replies) → Changes old.text old new
         → (half_of new old.text).text ≡ (half_of old old.text).text → (half_of old old.text).text ≡ old.text → old.text ≡ asked.text
         → (bytes_in (half_of old old.text).store.stored + length payload ≤ (half_of old old.text).store.room → (half_of new old.text).store.stored ≡ with_rows (half_of old old.text).store.stored payload)
         → (half_of old old.text).store.room ≡ room_for catalog → bytes_in (all_of catalog.schema after old.text) ≤ room_for catalog
@@ -263,7 +263,7 @@ pushed catalog before after asked low top payload old new pushes was_open from_l
 pub rows_heard : (catalog : Catalog) (before after : Heard) (low top n : ℕ) (page payload : List ℕ) (old new : Replies) → payload ≡ payload_in page
     → Pushes payload old new → Tells catalog page (event.Rows n) before after
     → (leads_on (event.Rows n) ≡ false → asked_in after.awaits ≡ asked_in before.awaits)
-    → ((asked : Asked) → asked_in before.awaits ≡ Some asked → (old.is_open ≡ true) × (low ≤ asked.text))
+    → ((asked : NumberedAsk) → asked_in before.awaits ≡ Some asked → (old.is_open ≡ true) × (low ≤ asked.text))
     → ((text : ℕ) → Fits catalog after text) → IsKept catalog before low top old → IsKept catalog after low top new
 rows_heard catalog before after low top n page payload old new is pushes tells same begun fits k =
     let asked = rows_asked catalog before.awaits (payload_in page) n tells.came in

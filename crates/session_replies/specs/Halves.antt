@@ -1,8 +1,8 @@
 -- Two stores of replies. A text has the one of its number's parity, and what stands there is its own only where the store
 -- is of this text.
 use Rattle.std.specs.Prelude.{◌≡◌, ◌≢◌, ℕ, ◌+◌, ◌%◌, ◌≤◌, ◌<◌, Bool, true, ◌==◌, List, [], ◌∷◌, ◌++◌, length, if◌then◌else◌}
-use Rattle.ghost_model.specs.Schema.{Schema}
-use Rattle.ghost_model.specs.Channel.{Ask, Catalog}
+use Rattle.ghost_model.specs.core.Schema.{Schema}
+use Rattle.ghost_model.specs.core.Channel.{Ask, Catalog}
 use Rattle.reply_store.specs.Stored.{Store, Stored, opened, with_rows, bytes_in, room_for}
 use Rattle.session_replies.specs.declared.half.Half.{Half}
 use Rattle.session_replies.specs.declared.replies.Replies.{Replies}

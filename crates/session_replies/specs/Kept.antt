@@ -2,32 +2,32 @@
 -- replies to its asks so far, that to the ask at hand with the rows that came.
 use Rattle.std.specs.Prelude.{◌≡◌, ℕ, ◌+◌, ◌≤◌, ◌<◌, Bool, true, false, ◌==◌, ◌&&◌, List, [], ◌∷◌, ◌++◌, length, flat_map, Option, Some, None, if◌then◌else◌}
 use Rattle.std.specs.List.{list_any}
-use Rattle.ghost_model.specs.Schema.{Schema}
-use Rattle.ghost_model.specs.Channel.{Catalog}
-use Rattle.ghost_model.specs.Asks.{Asked, kinds_of}
-use Rattle.ghost_model.specs.NextMove.{Heard, Ended, Ending, Answered, Refused, at_first}
-use Rattle.ghost_model.specs.Lines.{is_refused_by}
+use Rattle.ghost_model.specs.core.Schema.{Schema}
+use Rattle.ghost_model.specs.core.Channel.{Catalog}
+use Rattle.ghost_model.specs.core.Asks.{NumberedAsk, kinds_of}
+use Rattle.ghost_model.specs.core.NextMove.{Heard, EndedAsk, Ending, Answered, Refused, at_first}
+use Rattle.ghost_model.specs.core.Lines.{is_refused_by}
 use Rattle.channel_session.specs.Sessions.{asked_in}
 use Rattle.reply_store.specs.Stored.{Stored, bytes_in, room_for}
 use Rattle.session_replies.specs.Halves.{kept, half_of, IsBy, HaveRoom}
 use Rattle.session_replies.specs.declared.replies.Replies.{Replies}
 
-abbrev pub stored_as : Schema → Asked → (rows : List ℕ) → Stored
+abbrev pub stored_as : Schema → NumberedAsk → (rows : List ℕ) → Stored
 stored_as schema asked rows = record { ask = asked.ask; kinds = kinds_of schema asked.ask; bytes = rows }
 
-abbrev pub stored_by : Schema → Asked → Ending → List Stored
+abbrev pub stored_by : Schema → NumberedAsk → Ending → List Stored
 stored_by schema asked (Answered rows) = stored_as schema asked rows ∷ []
 stored_by schema asked (Refused _) = []
 
-abbrev pub stored_of : Schema → (text : ℕ) → Ended → List Stored
+abbrev pub stored_of : Schema → (text : ℕ) → EndedAsk → List Stored
 stored_of schema text end = if end.asked.text == text then stored_by schema end.asked end.ending else []
 
 -- the replies to a text's asks that were ended
-abbrev pub done_of : Schema → (text : ℕ) → List Ended → List Stored
+abbrev pub done_of : Schema → (text : ℕ) → List EndedAsk → List Stored
 done_of schema text ended = flat_map (stored_of schema text) ended
 
 -- the reply to the ask at hand, where it is one of the text's
-abbrev pub at_hand : Schema → (text : ℕ) → (rows : List ℕ) → Option Asked → List Stored
+abbrev pub at_hand : Schema → (text : ℕ) → (rows : List ℕ) → Option NumberedAsk → List Stored
 at_hand schema text rows None = []
 at_hand schema text rows (Some asked) = if asked.text == text then stored_as schema asked rows ∷ [] else []
 
@@ -39,12 +39,12 @@ abbrev pub expected : Schema → Heard → (is_open : Bool) → (text : ℕ) →
 expected schema heard is_open text = if is_open then all_of schema heard text else done_of schema text heard.ended
 
 -- whether the host refused an ask of a text
-abbrev pub is_refused : (text : ℕ) → List Ended → Bool
+abbrev pub is_refused : (text : ℕ) → List EndedAsk → Bool
 is_refused text ended = list_any (λ end. is_refused_by end.ending && end.asked.text == text) ended
 
 -- the reply at hand is that to the ask that is awaited, and its text has its store unless it was answered
 pub record IsAt (heard : Heard) (low : ℕ) (replies : Replies) : Type 0 where
-  pub asked : Asked
+  pub asked : NumberedAsk
   pub awaited : asked_in heard.awaits ≡ Some asked
   pub text : replies.text ≡ asked.text
   pub holder : low ≤ replies.text → (half_of replies replies.text).text ≡ replies.text

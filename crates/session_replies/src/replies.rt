@@ -1,10 +1,10 @@
 //! The replies of two texts.
 
 ghost use Rattle.std.specs.Prelude.{◌≡◌, ◌≤◌, ◌+◌, [], ℕ, Some, None, true, false};
-ghost use Rattle.ghost_model.specs.Channel.{Catalog};
-ghost use Rattle.ghost_model.specs.Frames.{payload_in};
-ghost use Rattle.ghost_model.specs.Asks.{Asked};
-ghost use Rattle.ghost_model.specs.NextMove.{Heard};
+ghost use Rattle.ghost_model.specs.core.Channel.{Catalog};
+ghost use Rattle.ghost_model.specs.forms.Frames.{payload_in};
+ghost use Rattle.ghost_model.specs.core.Asks.{NumberedAsk};
+ghost use Rattle.ghost_model.specs.core.NextMove.{Heard};
 ghost use Rattle.channel_codec.specs.AskViews.{ask_view};
 ghost use Rattle.channel_pump.specs.Progress.{Tells};
 ghost use Rattle.channel_session.specs.Sessions.{asked_in, leads_on};
@@ -63,7 +63,7 @@ impl Replies {
 
     /// Begins the reply to an ask of a text, unless the reply at hand was begun.
     pub fn open(&mut self, schema: &Schema, text: u32, ask: &Ask)
-        ensures kept { (catalog : Catalog) (heard : Heard) (asked : Asked) (low top : ℕ) → catalog.schema ≡ schema.now
+        ensures kept { (catalog : Catalog) (heard : Heard) (asked : NumberedAsk) (low top : ℕ) → catalog.schema ≡ schema.now
             → asked_in heard.awaits ≡ Some asked → asked.text ≡ text → asked.ask ≡ ask_view ask.now
             → 1 ≤ text → top ≤ text → low ≤ text → text ≤ low + 1 → Fits catalog heard text → IsKept catalog heard low top self.old → IsKept catalog heard low text self.new }
         ensures open { self.new.is_open ≡ true }
@@ -102,7 +102,7 @@ impl Replies {
         ensures kept { (catalog : Catalog) (before after : Heard) (low top : ℕ) → Tells catalog page.now event before after
             → (leads_on event ≡ false → asked_in after.awaits ≡ asked_in before.awaits)
             → (event ≡ Event.Welcome → asked_in before.awaits ≡ None)
-            → ((asked : Asked) → asked_in before.awaits ≡ Some asked → (self.old.is_open ≡ true) × (low ≤ asked.text))
+            → ((asked : NumberedAsk) → asked_in before.awaits ≡ Some asked → (self.old.is_open ≡ true) × (low ≤ asked.text))
             → ((text : ℕ) → Fits catalog after text) → IsKept catalog before low top self.old → IsKept catalog after low top self.new }
     {
         match event {

@@ -1,23 +1,38 @@
 -- The answer of a query with each of its joins once.
 use Rattle.std.proofs.Common.{◌≡◌, ℕ, Bool, true, false, not, ◌&&◌, ◌||◌, ◌==◌, cond, ◌⊎◌, inl, inr, List, [], ◌∷◌, ◌++◌, map, filter, flat_map, Option, Some, None, append_assoc, refl, ap, ap₂, sym, subst, ◌∙◌}
 use Rattle.std.specs.Prelude.{option_map, option_to_list}
-use Rattle.std.specs.List.{list_any, list_all}
+use Rattle.std.specs.List.{list_any, list_all, range_with_len}
 use Rattle.std.specs.declared.cmp.Ordering.{Ordering}
 use Rattle.std.specs.declared.cmp.Ordering.TheVariants as order
 use Rattle.std.proofs.lemmas.Bool.{and_parts, eqb-true, eq-eqb}
 use Rattle.std.proofs.lemmas.List.Folds.{list_any-append, list_all-append}
 use Rattle.ghost_base.specs.CellLaws.{ValuesAreOrdered}
-use Rattle.ghost_model.specs.Schema.{Schema, parent, is_table, first_of}
-use Rattle.ghost_model.specs.SchemaTrees.{IsTree}
-use Rattle.ghost_model.specs.Values.{Value, Database}
-use Rattle.ghost_model.specs.Database.{order_of, meets, holds, rows_of}
-use Rattle.ghost_model.specs.Query as query
-use Rattle.ghost_model.specs.Query.{Query, Field, Condition, Compare, Join}
-use Rattle.ghost_model.specs.QueryGrammar.{ColumnText, Bare, Qualified, ConditionText, Compares, LiesBetween, Joins, QueryText}
-use Rattle.ghost_model.specs.QueryMeaning.{field, table_named, column_named, fields_named, meanings, conditions_of, resolved, from_tables, is_among, is_some_among, is_key_to, is_proper, is_join_of, lacks_join, is_unlinked, top_of, value_of}
-use Rattle.ghost_model.specs.Meaning.{Combination, is_true_in, value_in, compares, passes, projection, combinations_of, answer_of_row, answer_or_none, answer}
+use Rattle.ghost_model.specs.core.Schema.{Schema, parent, is_table, first_of}
+use Rattle.ghost_model.specs.laws.SchemaTrees.{IsTree}
+use Rattle.ghost_model.specs.core.Values.{Value, Database}
+use Rattle.ghost_model.specs.core.Database.{order_of, meets, holds}
+use Rattle.ghost_model.specs.core.Query as query
+use Rattle.ghost_model.specs.core.Query.{Query, Field, Condition, Compare, Join, is_among, is_some_among, top_of}
+use Rattle.ghost_model.specs.refusals.QueryGrammar.{ColumnText, Bare, Qualified, ConditionText, Compares, LiesBetween, Joins, QueryText}
+use Rattle.ghost_model.specs.refusals.QueryMeaning.{field, table_named, column_named, fields_named, meanings, conditions_of, resolved, from_tables, is_reference_to, is_proper, is_join_of, lacks_join, is_unlinked, value_of_literal}
+use Rattle.ghost_model.specs.core.Meaning as meaning
+use Rattle.ghost_model.specs.core.Meaning.{Source, pick, compares, is_kept, answer_of_row, answer_by_top, all_of, answer}
 use Rattle.spj_parse.specs.Resolved.{is_comparison, keys_between, join_by, join_with, join_to, joins_of, linked}
 use Rattle.spj_parse.proofs.KeyLemmas.{join_is}
+
+-- a combination with the source of its values
+record Combination : Type 0 where
+  source : Source
+  rows : meaning.Combination
+
+abbrev value_in : Combination → Field → Option Value
+value_in row wanted = meaning.value_in row.source row.rows wanted
+
+abbrev is_true_in : Combination → Condition → Bool
+is_true_in row condition = meaning.is_true_in row.source row.rows condition
+
+abbrev passes : List Condition → Combination → Bool
+passes conditions row = list_all (is_true_in row) conditions
 
 -- equality of values is symmetric
 
@@ -55,13 +70,13 @@ or_parts false b h = inr h
 join_true : ValuesAreOrdered → (schema : Schema) → IsTree schema → (from : List ℕ) (row : Combination) (table : ℕ) (left right : Field) → is_join_of schema table (Join left right) ≡ true
     → is_among from left.table ≡ true → is_among from right.table ≡ true → list_all (is_true_in row) (join_to schema from table) ≡ is_true_in row (Join left right)
 join_true laws schema tree from row table left right h l r =
-    elim (or_parts (is_key_to schema left right && right.table == table) (is_key_to schema right left && left.table == table) h) [
+    elim (or_parts (is_reference_to schema left right && right.table == table) (is_reference_to schema right left && left.table == table) h) [
       | inl e ↦
-          let both = and_parts (is_key_to schema left right) (right.table == table) e in
+          let both = and_parts (is_reference_to schema left right) (right.table == table) e in
           ap (λ (t : ℕ). list_all (is_true_in row) (join_to schema from t)) (sym (eqb-true right.table table both.1))
           ∙ ap (list_all (is_true_in row)) (join_is schema tree from left right both.0 l) ∙ and_one (is_true_in row (Join left right))
       | inr e ↦
-          let both = and_parts (is_key_to schema right left) (left.table == table) e in
+          let both = and_parts (is_reference_to schema right left) (left.table == table) e in
           ap (λ (t : ℕ). list_all (is_true_in row) (join_to schema from t)) (sym (eqb-true left.table table both.1))
           ∙ ap (list_all (is_true_in row)) (join_is schema tree from right left both.0 r) ∙ and_one (is_true_in row (Join right left))
           ∙ swapped laws (value_in row right) (value_in row left)
@@ -139,8 +154,8 @@ joins_within from (left ∷ lefts) rights h g =
     (rights_within from left rights parts.0 g) (joins_within from lefts rights parts.1 g)
 
 condition_within : (schema : Schema) (from : List ℕ) (condition : ConditionText) → list_all (within from) (conditions_of schema from condition) ≡ true
-condition_within schema from (Compares column operator literal) = compared_within from (λ place. Compare place operator (value_of literal)) (λ place. refl) (meanings schema from column)
-condition_within schema from (LiesBetween column low high) = bounds_within from (value_of low) (value_of high) (meanings schema from column)
+condition_within schema from (Compares column operator literal) = compared_within from (λ place. Compare place operator (value_of_literal literal)) (λ place. refl) (meanings schema from column)
+condition_within schema from (LiesBetween column low high) = bounds_within from (value_of_literal low) (value_of_literal high) (meanings schema from column)
 condition_within schema from (Joins left right) = joins_within from (meanings schema from left) (meanings schema from right) (meanings_from schema from left) (meanings_from schema from right)
 
 pub all_within : (schema : Schema) (from : List ℕ) (conditions : List ConditionText) → list_all (within from) (flat_map (conditions_of schema from) conditions) ≡ true
@@ -227,9 +242,9 @@ second false b h = h
 
 side_by : (schema : Schema) (left right : Field) → is_proper schema (Join left right) ≡ true → (table : ℕ) × ((table ≡ right.table) ⊎ (table ≡ left.table)) × (is_join_of schema table (Join left right) ≡ true)
 side_by schema left right h =
-    elim (or_parts (is_key_to schema left right) (is_key_to schema right left) h) [
-      | inl e ↦ (right.table, inl refl, ap (λ b. b || (is_key_to schema right left && left.table == right.table)) (both_true (is_key_to schema left right) (right.table == right.table) e (eq-eqb right.table right.table refl)))
-      | inr e ↦ (left.table, inr refl, second (is_key_to schema left right && right.table == left.table) (is_key_to schema right left && left.table == left.table) (both_true (is_key_to schema right left) (left.table == left.table) e (eq-eqb left.table left.table refl)))
+    elim (or_parts (is_reference_to schema left right) (is_reference_to schema right left) h) [
+      | inl e ↦ (right.table, inl refl, ap (λ b. b || (is_reference_to schema right left && left.table == right.table)) (both_true (is_reference_to schema left right) (right.table == right.table) e (eq-eqb right.table right.table refl)))
+      | inr e ↦ (left.table, inr refl, second (is_reference_to schema left right && right.table == left.table) (is_reference_to schema right left && left.table == left.table) (both_true (is_reference_to schema right left) (left.table == left.table) e (eq-eqb left.table left.table refl)))
     ]
 
 among_side : (from : List ℕ) (table left right : ℕ) → (table ≡ right) ⊎ (table ≡ left) → is_among from left ≡ true → is_among from right ≡ true → is_among from table ≡ true
@@ -277,12 +292,16 @@ rows_same : {X Y : Type 0} (f g : X → List Y) → ((x : X) → f x ≡ g x) �
 rows_same f g same [] = refl
 rows_same f g same (x ∷ xs) = ap₂ (λ xs ys. xs ++ ys) (same x) (rows_same f g same xs)
 
-answer_by : ValuesAreOrdered → (schema : Schema) → IsTree schema → (asked : Query) → IsLinked schema asked → (database : Database) (top : Option ℕ) → answer_or_none top database (linked schema asked) ≡ answer_or_none top database asked
-answer_by laws schema tree asked h database None = refl
-answer_by laws schema tree asked h database (Some top) =
-    rows_same (answer_of_row top database (linked schema asked)) (answer_of_row top database asked)
-    (λ row. ap (map (projection asked.select)) (filter_same (passes (linked schema asked).conditions) (passes asked.conditions) (same_passes laws schema tree asked h) (combinations_of top database asked.from row)))
-    (rows_of database top)
+same_answer : ValuesAreOrdered → (schema : Schema) → IsTree schema → (asked : Query) → IsLinked schema asked → (source : Source) (top : Option ℕ) → answer_by_top source (linked schema asked) top ≡ answer_by_top source asked top
+same_answer laws schema tree asked h source None = refl
+same_answer laws schema tree asked h source (Some top) =
+    rows_same (answer_of_row source (linked schema asked) top) (answer_of_row source asked top)
+    (λ identifier.
+    ap (map (meaning.selected source asked.select))
+    (filter_same (is_kept source (linked schema asked).conditions) (is_kept source asked.conditions)
+    (λ rows. ap (λ b. list_all source.admits rows && b) (same_passes laws schema tree asked h (record { source = source; rows = rows })))
+    (map (λ others. pick top identifier ∷ others) (meaning.combinations source.count (meaning.others_of top asked.from)))))
+    (range_with_len 1 (source.count top))
 
 linked_by : (a b c : Bool) → (not a || b || c) ≡ false → (a ≡ true) × (c ≡ false)
 linked_by true true c h = absurd (let no : true ≡ false = h in cc)
@@ -293,5 +312,5 @@ pub answer_once : ValuesAreOrdered → (schema : Schema) → IsTree schema → (
     → answer schema database (linked schema (resolved schema tree)) ≡ answer schema database (resolved schema tree)
 answer_once laws schema schema_tree tree h database =
     let parts = linked_by (list_all (is_proper schema) (resolved schema tree).conditions) _ (list_any (lacks_join schema (resolved schema tree)) (resolved schema tree).from) h in
-    answer_by laws schema schema_tree (resolved schema tree)
-    (record { proper = parts.0; inside = all_within schema (from_tables schema tree) tree.conditions; none_lacks = parts.1 }) database (top_of schema (resolved schema tree))
+    same_answer laws schema schema_tree (resolved schema tree)
+    (record { proper = parts.0; inside = all_within schema (from_tables schema tree) tree.conditions; none_lacks = parts.1 }) (all_of database) (top_of schema (resolved schema tree))

@@ -6,14 +6,14 @@ use Rattle.std.proofs.lemmas.Bool.{ltb-false}
 use Rattle.std.proofs.lemmas.List.Elements.{filter-append}
 use Rattle.std.proofs.lemmas.List.Folds.{list_any-append}
 use Rattle.std.proofs.lemmas.Grind.{flat_map-append}
-use Rattle.ghost_model.specs.Schema.{Schema, Column, Kind, Integer, Chars}
-use Rattle.ghost_model.specs.SchemaTrees.{IsTree}
-use Rattle.ghost_model.specs.Tokens.{number_of}
-use Rattle.ghost_model.specs.Values.{Number, Text}
-use Rattle.ghost_model.specs.Query.{Field, Operator, AtLeast, AtMost, Condition, Compare, Join}
-use Rattle.ghost_model.specs.QueryGrammar.{ColumnText, LiteralText, Unsigned, Signed, Written, Positive, ConditionText, Compares, LiesBetween, Joins, Selection, All, Columns, QueryText}
-use Rattle.ghost_model.specs.QueryPlaces.{syntax_of}
-use Rattle.ghost_model.specs.QueryMeaning.{from_names, from_tables, resolved, literal_conditions, is_over_limit, is_other_kind, is_too_large, literal_fails, kind_at, value_of, with_sign, has_kind_mismatch, has_bad_literal}
+use Rattle.ghost_model.specs.core.Schema.{column_kind, Schema, Column, Kind, Integer, Chars}
+use Rattle.ghost_model.specs.laws.SchemaTrees.{IsTree}
+use Rattle.ghost_model.specs.refusals.Tokens.{number_of}
+use Rattle.ghost_model.specs.core.Values.{Number, Text}
+use Rattle.ghost_model.specs.core.Query.{Field, Operator, AtLeast, AtMost, Condition, Compare, Join}
+use Rattle.ghost_model.specs.refusals.QueryGrammar.{ColumnText, LiteralText, Unsigned, Signed, Written, Positive, ConditionText, Compares, LiesBetween, Joins, Selection, All, Columns, QueryText}
+use Rattle.ghost_model.specs.readings.QueryPlaces.{syntax_of}
+use Rattle.ghost_model.specs.refusals.QueryMeaning.{from_names, from_tables, resolved, literal_conditions, is_over_limit, is_other_kind, is_too_large, literal_fails, value_of_literal, with_sign, has_kind_mismatch, has_bad_literal}
 use Rattle.spj_parse.specs.Conditions.{IsClear, conditions_meant, first_alone}
 use Rattle.spj_parse.specs.Items.{Item, Selected, From, Where, selection_items, items_of, items_in}
 use Rattle.spj_parse.specs.Literals.{is_out}
@@ -33,16 +33,16 @@ fits_kind schema tree place h text (Chars most) e other large =
     let few : most ≤ 64 = (tree.text_lengths place.table place.column most h.column h.held e).1 in
     omega (arith, short, few)
 
-text_fits : (schema : Schema) → IsTree schema → (place : Field) (h : IsHeld schema place) (text : List ℕ) → is_other_kind (kind_at schema place) (Text text) ≡ false → is_too_large (kind_at schema place) (Text text) ≡ false → length text ≤ 64
+text_fits : (schema : Schema) → IsTree schema → (place : Field) (h : IsHeld schema place) (text : List ℕ) → is_other_kind (column_kind schema place.table place.column) (Text text) ≡ false → is_too_large (column_kind schema place.table place.column) (Text text) ≡ false → length text ≤ 64
 text_fits schema tree place h text other large =
-    let kind : kind_at schema place ≡ Some h.column.kind = ap (option_map (λ (column : Column). column.kind)) h.held in
+    let kind : column_kind schema place.table place.column ≡ Some h.column.kind = ap (option_map (λ (column : Column). column.kind)) h.held in
     fits_kind schema tree place h text h.column.kind refl (ap (λ k. is_other_kind k (Text text)) (sym kind) ∙ other) (ap (λ k. is_too_large k (Text text)) (sym kind) ∙ large)
 
 number_fits : (number : ℤ) → is_out number ≡ false → number_kept number ≡ Number number
 number_fits number h = ap (λ b. cond b (Number (pos 0)) (Number number)) h
 
-kept_value : (schema : Schema) → IsTree schema → (place : Field) → IsHeld schema place → (literal : LiteralText) → is_other_kind (kind_at schema place) (value_of literal) ≡ false → is_too_large (kind_at schema place) (value_of literal) ≡ false
-    → literal_kept literal ≡ value_of literal
+kept_value : (schema : Schema) → IsTree schema → (place : Field) → IsHeld schema place → (literal : LiteralText) → is_other_kind (column_kind schema place.table place.column) (value_of_literal literal) ≡ false → is_too_large (column_kind schema place.table place.column) (value_of_literal literal) ≡ false
+    → literal_kept literal ≡ value_of_literal literal
 kept_value schema tree place h (Unsigned digits) other large = number_fits (with_sign Positive (number_of digits)) large
 kept_value schema tree place h (Signed sign digits) other large = number_fits (with_sign sign (number_of digits)) large
 kept_value schema tree place h (Written text) other large = ap Text (take_all 64 text (text_fits schema tree place h text other large))
@@ -54,25 +54,25 @@ abbrev larges : Schema → List Condition → Bool
 larges schema conditions = list_any (literal_fails schema is_too_large) conditions
 
 compared_by : (schema : Schema) → IsTree schema → (operator : Operator) (literal : LiteralText) (found : Option Field) → ((place : Field) → found ≡ Some place → IsHeld schema place)
-    → others schema (map (λ field. Compare field operator (value_of literal)) (option_to_list found)) ≡ false → larges schema (map (λ field. Compare field operator (value_of literal)) (option_to_list found)) ≡ false
-    → map (λ field. Compare field operator (literal_kept literal)) (option_to_list found) ≡ filter is_comparison (map (λ field. Compare field operator (value_of literal)) (option_to_list found))
+    → others schema (map (λ field. Compare field operator (value_of_literal literal)) (option_to_list found)) ≡ false → larges schema (map (λ field. Compare field operator (value_of_literal literal)) (option_to_list found)) ≡ false
+    → map (λ field. Compare field operator (literal_kept literal)) (option_to_list found) ≡ filter is_comparison (map (λ field. Compare field operator (value_of_literal literal)) (option_to_list found))
 compared_by schema tree operator literal None held o l = refl
 compared_by schema tree operator literal (Some place) held o l =
     ap (λ value. Compare place operator value ∷ [])
-    (kept_value schema tree place (held place refl) literal (left_of (is_other_kind (kind_at schema place) (value_of literal)) false o) (left_of (is_too_large (kind_at schema place) (value_of literal)) false l))
+    (kept_value schema tree place (held place refl) literal (left_of (is_other_kind (column_kind schema place.table place.column) (value_of_literal literal)) false o) (left_of (is_too_large (column_kind schema place.table place.column) (value_of_literal literal)) false l))
 
 bounds_by : (schema : Schema) → IsTree schema → (low high : LiteralText) (found : Option Field) → ((place : Field) → found ≡ Some place → IsHeld schema place)
-    → others schema (flat_map (λ field. Compare field AtLeast (value_of low) ∷ Compare field AtMost (value_of high) ∷ []) (option_to_list found)) ≡ false
-    → larges schema (flat_map (λ field. Compare field AtLeast (value_of low) ∷ Compare field AtMost (value_of high) ∷ []) (option_to_list found)) ≡ false
+    → others schema (flat_map (λ field. Compare field AtLeast (value_of_literal low) ∷ Compare field AtMost (value_of_literal high) ∷ []) (option_to_list found)) ≡ false
+    → larges schema (flat_map (λ field. Compare field AtLeast (value_of_literal low) ∷ Compare field AtMost (value_of_literal high) ∷ []) (option_to_list found)) ≡ false
     → flat_map (λ field. Compare field AtLeast (literal_kept low) ∷ Compare field AtMost (literal_kept high) ∷ []) (option_to_list found)
-    ≡ filter is_comparison (flat_map (λ field. Compare field AtLeast (value_of low) ∷ Compare field AtMost (value_of high) ∷ []) (option_to_list found))
+    ≡ filter is_comparison (flat_map (λ field. Compare field AtLeast (value_of_literal low) ∷ Compare field AtMost (value_of_literal high) ∷ []) (option_to_list found))
 bounds_by schema tree low high None held o l = refl
 bounds_by schema tree low high (Some place) held o l =
-    let o2 = right_of (is_other_kind (kind_at schema place) (value_of low)) (is_other_kind (kind_at schema place) (value_of high) || false) o in
-    let l2 = right_of (is_too_large (kind_at schema place) (value_of low)) (is_too_large (kind_at schema place) (value_of high) || false) l in
+    let o2 = right_of (is_other_kind (column_kind schema place.table place.column) (value_of_literal low)) (is_other_kind (column_kind schema place.table place.column) (value_of_literal high) || false) o in
+    let l2 = right_of (is_too_large (column_kind schema place.table place.column) (value_of_literal low)) (is_too_large (column_kind schema place.table place.column) (value_of_literal high) || false) l in
     ap₂ (λ a b. Compare place AtLeast a ∷ Compare place AtMost b ∷ [])
-    (kept_value schema tree place (held place refl) low (left_of (is_other_kind (kind_at schema place) (value_of low)) (is_other_kind (kind_at schema place) (value_of high) || false) o) (left_of (is_too_large (kind_at schema place) (value_of low)) (is_too_large (kind_at schema place) (value_of high) || false) l))
-    (kept_value schema tree place (held place refl) high (left_of (is_other_kind (kind_at schema place) (value_of high)) false o2) (left_of (is_too_large (kind_at schema place) (value_of high)) false l2))
+    (kept_value schema tree place (held place refl) low (left_of (is_other_kind (column_kind schema place.table place.column) (value_of_literal low)) (is_other_kind (column_kind schema place.table place.column) (value_of_literal high) || false) o) (left_of (is_too_large (column_kind schema place.table place.column) (value_of_literal low)) (is_too_large (column_kind schema place.table place.column) (value_of_literal high) || false) l))
+    (kept_value schema tree place (held place refl) high (left_of (is_other_kind (column_kind schema place.table place.column) (value_of_literal high)) false o2) (left_of (is_too_large (column_kind schema place.table place.column) (value_of_literal high)) false l2))
 
 joins_by : (left right : Option Field) → [] ≡ filter is_comparison (flat_map (λ field. map (Join field) (option_to_list right)) (option_to_list left))
 joins_by None right = refl

@@ -4,12 +4,12 @@ use Rattle.std.specs.Prelude.{option_to_list}
 use Rattle.std.specs.List.{list_any, list_all}
 use Rattle.std.proofs.lemmas.Bool.{lt-ltb}
 use Rattle.std.proofs.lemmas.List.Folds.{list_any-append}
-use Rattle.ghost_model.specs.Schema.{Schema, is_empty, first_of, parent}
-use Rattle.ghost_model.specs.Query as query
-use Rattle.ghost_model.specs.Query.{Field, Condition}
-use Rattle.ghost_model.specs.QueryGrammar.{ColumnText, ConditionText, Compares, LiesBetween, Joins, Selection, All, Columns, QueryText}
-use Rattle.ghost_model.specs.QueryPlaces.{syntax_of}
-use Rattle.ghost_model.specs.QueryMeaning.{meanings, conditions_of, resolved, from_names, from_tables, selection_columns, condition_columns, columns_in, has_repeat, is_proper, is_unlinked, is_some_among, lacks_join, top_of}
+use Rattle.ghost_model.specs.core.Schema.{Schema, is_empty, first_of, parent}
+use Rattle.ghost_model.specs.core.Query as query
+use Rattle.ghost_model.specs.core.Query.{Field, Condition, is_some_among, top_of}
+use Rattle.ghost_model.specs.refusals.QueryGrammar.{ColumnText, ConditionText, Compares, LiesBetween, Joins, Selection, All, Columns, QueryText}
+use Rattle.ghost_model.specs.readings.QueryPlaces.{syntax_of}
+use Rattle.ghost_model.specs.refusals.QueryMeaning.{meanings, conditions_of, resolved, from_names, from_tables, selection_columns, condition_columns, columns_in, has_repeat, is_proper, is_unlinked, lacks_join}
 use Rattle.spj_parse.specs.Links.{lacks_join_in, top_among}
 use Rattle.spj_parse.specs.declared.conditions.ConditionTest.{ConditionTest}
 use Rattle.spj_parse.specs.declared.conditions.ConditionTest.TheVariants as test

@@ -4,11 +4,11 @@ use Rattle.std.specs.Prelude.{option_to_list}
 use Rattle.std.specs.List.{list_any}
 use Rattle.std.proofs.lemmas.List.Folds.{list_any-append}
 use Rattle.std.proofs.lemmas.Grind.{flat_map-append}
-use Rattle.ghost_model.specs.Schema.{Schema, Column, column_at, columns_of, first_of, is_table, parent}
-use Rattle.ghost_model.specs.Query.{Query, Field, Condition, Join}
-use Rattle.ghost_model.specs.QueryGrammar.{ColumnText, Bare, Qualified, ConditionText, Selection, All, Columns, QueryText}
-use Rattle.ghost_model.specs.QueryPlaces.{syntax_of}
-use Rattle.ghost_model.specs.QueryMeaning.{field, table_named, column_named, fields_named, fields_of, meanings, from_names, from_tables, selected, selected_count, selection_columns, condition_columns, resolved, is_over_limit, is_among}
+use Rattle.ghost_model.specs.core.Schema.{Schema, Column, column_at, columns_of, first_of, is_table, parent}
+use Rattle.ghost_model.specs.core.Query.{Query, Field, Condition, Join, is_among}
+use Rattle.ghost_model.specs.refusals.QueryGrammar.{ColumnText, Bare, Qualified, ConditionText, Selection, All, Columns, QueryText}
+use Rattle.ghost_model.specs.readings.QueryPlaces.{syntax_of}
+use Rattle.ghost_model.specs.refusals.QueryMeaning.{field, table_named, column_named, fields_named, fields_of, meanings, from_names, from_tables, selected_fields, selected_count, selection_columns, condition_columns, resolved, is_over_limit}
 use Rattle.spj_parse.specs.Conditions.{IsClear, first_alone}
 use Rattle.spj_parse.specs.Items.{Item, Selected, From, Where, selection_items, items_of, items_in}
 use Rattle.spj_parse.specs.Names.{first_meaning, fields_in}
@@ -35,17 +35,17 @@ meanings_alone schema from (column ∷ columns) h =
     ap₂ (λ xs ys. xs ++ ys) (clear schema from column (left_of (is_unclear schema from column) (list_any (is_unclear schema from) columns) h))
     (meanings_alone schema from columns (right_of (is_unclear schema from column) (list_any (is_unclear schema from) columns) h))
 
-selection_fields : (schema : Schema) (from : List ℕ) (selection : Selection) → list_any (is_unclear schema from) (selection_columns selection) ≡ false → flat_map (item_fields schema from) (selection_items selection) ≡ selected schema from selection
+selection_fields : (schema : Schema) (from : List ℕ) (selection : Selection) → list_any (is_unclear schema from) (selection_columns selection) ≡ false → flat_map (item_fields schema from) (selection_items selection) ≡ selected_fields schema from selection
 selection_fields schema from All h = append-nil (flat_map (fields_of schema) from)
 selection_fields schema from (Columns column more) h = meanings_alone schema from (column ∷ more) h
 
-fields_of_items : (schema : Schema) (from : List ℕ) (tree : QueryText) → list_any (is_unclear schema from) (selection_columns tree.selection) ≡ false → flat_map (item_fields schema from) (items_of tree) ≡ selected schema from tree.selection
+fields_of_items : (schema : Schema) (from : List ℕ) (tree : QueryText) → list_any (is_unclear schema from) (selection_columns tree.selection) ≡ false → flat_map (item_fields schema from) (items_of tree) ≡ selected_fields schema from tree.selection
 fields_of_items schema from tree h =
     flat_map-append (item_fields schema from) (selection_items tree.selection) (map From (from_names tree) ++ map Where tree.conditions)
     ∙ ap₂ (λ xs ys. xs ++ ys) (selection_fields schema from tree.selection h)
     (flat_map-append (item_fields schema from) (map From (from_names tree)) (map Where tree.conditions)
     ∙ ap₂ (λ xs ys. xs ++ ys) (none_from (item_fields schema from) (λ name. refl) (from_names tree)) (none_where (item_fields schema from) (λ condition. refl) tree.conditions))
-    ∙ append-nil (selected schema from tree.selection)
+    ∙ append-nil (selected_fields schema from tree.selection)
 
 one_or_less : {X : Type 0} (found : Option X) → length (option_to_list found) ≤ 1
 one_or_less None = omega arith
@@ -61,22 +61,22 @@ few_meanings schema from (column ∷ columns) =
     omega (arith, here, rest, whole)
 
 selected_fits : (schema : Schema) (tree : QueryText) (selection : Selection) → list_any (is_unclear schema (from_tables schema tree)) (selection_columns selection) ≡ false
-    → selected_count schema tree selection ≤ 32 → length (selected schema (from_tables schema tree) selection) ≤ 32
+    → selected_count schema tree selection ≤ 32 → length (selected_fields schema (from_tables schema tree) selection) ≤ 32
 selected_fits schema tree All h few = few
 selected_fits schema tree (Columns column more) h few =
     let count : length (flat_map (item_fields schema (from_tables schema tree)) (map Selected (column ∷ more))) ≤ length (column ∷ more) = few_meanings schema (from_tables schema tree) (column ∷ more) in
-    let same : length (flat_map (item_fields schema (from_tables schema tree)) (map Selected (column ∷ more))) ≡ length (selected schema (from_tables schema tree) (Columns column more)) =
+    let same : length (flat_map (item_fields schema (from_tables schema tree)) (map Selected (column ∷ more))) ≡ length (selected_fields schema (from_tables schema tree) (Columns column more)) =
     ap length (meanings_alone schema (from_tables schema tree) (column ∷ more) h) in
     omega (arith, count, same, few)
 
 pub selected_are : (schema : Schema) (text : List ℕ) (tree : QueryText) (from : List ℕ) (fields : List Field) → syntax_of text ≡ Ok tree → is_over_limit schema text tree ≡ false → from ≡ from_tables schema tree → IsClear schema tree
-    → fields ≡ take 32 (flat_map (item_fields schema from) (items_in text)) → fields ≡ selected schema (from_tables schema tree) tree.selection
+    → fields ≡ take 32 (flat_map (item_fields schema from) (items_in text)) → fields ≡ selected_fields schema (from_tables schema tree) tree.selection
 selected_are schema text tree from fields h k f c e =
     let plain : list_any (is_unclear schema (from_tables schema tree)) (selection_columns tree.selection) ≡ false =
     left_of (list_any (is_unclear schema (from_tables schema tree)) (selection_columns tree.selection)) (list_any (is_unclear schema (from_tables schema tree)) (flat_map condition_columns tree.conditions))
     (sym (list_any-append (is_unclear schema (from_tables schema tree)) (selection_columns tree.selection) (flat_map condition_columns tree.conditions)) ∙ all_clear schema tree c) in
     e ∙ ap (take 32) (ap₂ (λ (tables : List ℕ) (items : List Item). flat_map (item_fields schema tables) items) f (items_are text tree h) ∙ fields_of_items schema (from_tables schema tree) tree plain)
-    ∙ take_all 32 (selected schema (from_tables schema tree) tree.selection) (selected_fits schema tree tree.selection plain (few_selected schema text tree k))
+    ∙ take_all 32 (selected_fields schema (from_tables schema tree) tree.selection) (selected_fits schema tree tree.selection plain (few_selected schema text tree k))
 
 -- the joins
 
@@ -153,10 +153,10 @@ meaning_held schema from column place f = fields_held schema column from place (
 abbrev pub built : List ℕ → List Field → List Condition → List Condition → Query
 built tables fields joins comparisons = record { from = tables; select = fields; conditions = joins ++ comparisons }
 
-pub gathered : (schema : Schema) (tree : QueryText) (tables : List ℕ) (fields : List Field) (joins comparisons : List Condition) → tables ≡ from_tables schema tree → fields ≡ selected schema (from_tables schema tree) tree.selection
+pub gathered : (schema : Schema) (tree : QueryText) (tables : List ℕ) (fields : List Field) (joins comparisons : List Condition) → tables ≡ from_tables schema tree → fields ≡ selected_fields schema (from_tables schema tree) tree.selection
     → joins ≡ joins_of schema (from_tables schema tree) → comparisons ≡ filter is_comparison (resolved schema tree).conditions → built tables fields joins comparisons ≡ linked schema (resolved schema tree)
 gathered schema tree tables fields joins comparisons t s j k =
     ap (λ x. built x fields joins comparisons) t
     ∙ ap (λ x. built (from_tables schema tree) x joins comparisons) s
-    ∙ ap (λ x. built (from_tables schema tree) (selected schema (from_tables schema tree) tree.selection) x comparisons) j
-    ∙ ap (λ x. built (from_tables schema tree) (selected schema (from_tables schema tree) tree.selection) (joins_of schema (from_tables schema tree)) x) k
+    ∙ ap (λ x. built (from_tables schema tree) (selected_fields schema (from_tables schema tree) tree.selection) x comparisons) j
+    ∙ ap (λ x. built (from_tables schema tree) (selected_fields schema (from_tables schema tree) tree.selection) (joins_of schema (from_tables schema tree)) x) k

@@ -2,11 +2,11 @@
 use Rattle.std.proofs.Common.{◌≡◌, ℕ, zero, suc, ◌+◌, ◌<◌, ◌≤◌, Bool, true, false, not, ◌==◌, cond, List, [], ◌∷◌, length, sum_by, Option, Some, None, slice_get, refl, ap, sym, ◌∙◌, add-zero, zero-add, arith}
 use Rattle.std.specs.Prelude.{option_and_then}
 use Rattle.std.proofs.lemmas.Bool.{and_parts, eqb-true, eq-eqb}
-use Rattle.ghost_model.specs.Schema.{Schema, Table, Column, column_at, columns_of, columns_or_none, places_from, places_where, first_of, is_empty, is_table, keys_to, parent}
-use Rattle.ghost_model.specs.SchemaFaults.{keys_naming}
-use Rattle.ghost_model.specs.SchemaTrees.{IsTree}
-use Rattle.ghost_model.specs.Query.{Field, Join}
-use Rattle.ghost_model.specs.QueryMeaning.{field, is_key_to, is_among}
+use Rattle.ghost_model.specs.core.Schema.{Schema, Table, Column, column_at, columns_of, columns_or_none, places_from, places_where, first_of, is_empty, is_table, references_to, parent}
+use Rattle.ghost_model.specs.refusals.SchemaFaults.{references_naming}
+use Rattle.ghost_model.specs.laws.SchemaTrees.{IsTree}
+use Rattle.ghost_model.specs.core.Query.{Field, Join, is_among}
+use Rattle.ghost_model.specs.refusals.QueryMeaning.{field, is_reference_to}
 use Rattle.spj_parse.specs.Resolved.{keys_between, join_by, join_with, join_to}
 use Rattle.spj_parse.proofs.TreeLemmas.{sum_cons}
 
@@ -94,26 +94,26 @@ pub record IsOnly (schema : Schema) (key : Field) (child : ℕ) : Type 0 where
 
 pub only_key : (schema : Schema) → IsTree schema → (key : Field) (child : ℕ) → NamesChild schema key child → IsOnly schema key child
 only_key schema tree key child h =
-    let below : child < length schema = tree.keys_name_tables key.table key.column child h.column h.held h.names in
-    let few : keys_naming schema child ≤ 1 = tree.one_parent child below in
+    let below : child < length schema = tree.references_name_tables key.table key.column child h.column h.held h.names in
+    let few : references_naming schema child ≤ 1 = tree.one_parent child below in
     let test : Column → Bool = λ column. is_table child column.child in
-    let weigh : Table → ℕ = λ table. length (keys_to child table) in
+    let weigh : Table → ℕ = λ table. length (references_to child table) in
     let found = table_by schema key.table key.column h.column (slice_get schema key.table) refl h.held in
     let names : is_table child h.column.child ≡ true = ap (is_table child) h.names ∙ eq-eqb child child refl in
     let one : 1 ≤ one_if test h.column = heavy_if test h.column names in
     let some : one_if test h.column ≤ sum_by (one_if test) found.0.columns = at_least (one_if test) found.0.columns key.column h.column found.2 in
-    let count : sum_by (one_if test) found.0.columns ≡ length (keys_to child found.0) = counted test 0 found.0.columns in
-    let holds : not (is_empty (keys_to child found.0)) ≡ true = some_key (is_empty (keys_to child found.0)) (length (keys_to child found.0)) (keys_to child found.0) refl refl (omega (arith, one, some, count)) in
-    let here : length (keys_to child found.0) ≤ keys_naming schema child = at_least weigh schema key.table found.0 found.1 in
+    let count : sum_by (one_if test) found.0.columns ≡ length (references_to child found.0) = counted test 0 found.0.columns in
+    let holds : not (is_empty (references_to child found.0)) ≡ true = some_key (is_empty (references_to child found.0)) (length (references_to child found.0)) (references_to child found.0) refl refl (omega (arith, one, some, count)) in
+    let here : length (references_to child found.0) ≤ references_naming schema child = at_least weigh schema key.table found.0 found.1 in
     let columns : columns_of schema key.table ≡ found.0.columns = ap columns_or_none found.1 in
     record {
-      parent_is = first_only (λ (table : Table). not (is_empty (keys_to child table))) weigh (λ table e. more_keys (keys_to child table) e) schema 0 key.table found.0 few found.1 holds ∙ ap (λ n. Some n) (zero-add key.table);
+      parent_is = first_only (λ (table : Table). not (is_empty (references_to child table))) weigh (λ table e. more_keys (references_to child table) e) schema 0 key.table found.0 few found.1 holds ∙ ap (λ n. Some n) (zero-add key.table);
       key_is = ap (λ (xs : List Column). first_of (places_where test xs)) columns
           ∙ first_only test (one_if test) (heavy_if test) found.0.columns 0 key.column h.column (omega (arith, count, here, few)) found.2 names ∙ ap (λ n. Some n) (zero-add key.column);
     }
 
 -- the join that a foreign key and its identifier are
-pub join_is : (schema : Schema) → IsTree schema → (from : List ℕ) (key identifier : Field) → is_key_to schema key identifier ≡ true → is_among from key.table ≡ true → join_to schema from identifier.table ≡ Join key identifier ∷ []
+pub join_is : (schema : Schema) → IsTree schema → (from : List ℕ) (key identifier : Field) → is_reference_to schema key identifier ≡ true → is_among from key.table ≡ true → join_to schema from identifier.table ≡ Join key identifier ∷ []
 join_is schema tree from key identifier h among =
     let both = and_parts (is_table identifier.table (option_and_then (λ (column : Column). column.child) (column_at schema key.table key.column))) (identifier.column == 0) h in
     let only = only_key schema tree key identifier.table (names_by schema key identifier.table (column_at schema key.table key.column) refl both.0) in

@@ -1,11 +1,10 @@
 -- The asks of a query with each of its joins once.
 use Rattle.std.proofs.Common.{◌≡◌, ℕ, Bool, true, false, cond, List, [], ◌∷◌, ◌++◌, map, filter, flat_map, Option, Some, None, refl, ap, ap₂, ◌∙◌}
 use Rattle.std.proofs.lemmas.Grind.{flat_map-append}
-use Rattle.ghost_model.specs.Schema.{Schema, first_of, parent, columns_of}
-use Rattle.ghost_model.specs.Query.{Query, Condition, Compare, Join}
-use Rattle.ghost_model.specs.QueryMeaning.{is_among}
-use Rattle.ghost_model.specs.Channel.{Ask, Test}
-use Rattle.ghost_model.specs.Asks.{test_of, tests_of, ask_for, asks_of, is_wanted, is_needed, is_from, places}
+use Rattle.ghost_model.specs.core.Schema.{Schema, first_of, parent, columns_of}
+use Rattle.ghost_model.specs.core.Query.{Query, Condition, Compare, Join, is_among}
+use Rattle.ghost_model.specs.core.Channel.{Ask, Test}
+use Rattle.ghost_model.specs.core.Asks.{test_of, tests_of, ask_for, asks_of, is_wanted, is_needed, is_from, places}
 use Rattle.spj_parse.specs.Resolved.{keys_between, join_by, join_with, join_to, joins_of, is_comparison, linked}
 
 key_tests : (schema : Schema) (asked table holder : ℕ) (key : Option ℕ) → flat_map (test_of schema asked) (join_by table holder key) ≡ []

@@ -2,7 +2,7 @@
 use Rattle.std.proofs.Common.{◌≡◌, ℕ, suc, ◌+◌, ◌-◌, ◌*◌, ◌<◌, ◌≤◌, ◌^◌, Bool, true, false, cond, List, [], ◌∷◌, ◌++◌, length, take, drop, fold, get_or, drop-cons, take-append-drop, length-append, length-take, take_all, min, refl, ap, sym, subst, ◌∙◌, arith}
 use Rattle.std.proofs.lemmas.Grind.{fold-append}
 use Rattle.std.proofs.lemmas.List.{drop_all, take-append-le}
-use Rattle.ghost_model.specs.Tokens.{number_of, Read, read, Quoted, Bad, quoted_from}
+use Rattle.ghost_model.specs.refusals.Tokens.{number_of, Read, read, Quoted, NoToken, quoted_from}
 use Rattle.tree_schema.specs.Marks.{value_in, literal_of}
 use Rattle.spj_parse.specs.declared.literals.InText.{InText}
 use Rattle.spj_parse.specs.declared.literals.InText.TheVariants as in_text
@@ -70,21 +70,21 @@ gives inside ended text new i h within steps pushed =
     let more : length (h.value ++ get_or inside i 0 ∷ []) ≡ length h.value + 1 = length-append h.value (get_or inside i 0 ∷ []) in
     record { value = h.value ++ get_or inside i 0 ∷ []; keeps = pushed h.value h.keeps; few = omega (arith, h.few, more); reads = advance inside ended text i in_text.Gives h within steps }
 
-out_of : (ended : Bool) (value : List ℕ) (count : ℕ) → quoted_from ended value count [] ≡ cond ended (read (Quoted value) count) (read Bad 1)
+out_of : (ended : Bool) (value : List ℕ) (count : ℕ) → quoted_from ended value count [] ≡ cond ended (read (Quoted value) count) (read NoToken 1)
 unfolding quoted_from
 out_of true value count = refl
 out_of false value count = refl
 
-at_end : (inside : List ℕ) (ended : Bool) (text : TextDraft) (i : ℕ) (h : Stands inside ended text i) → length inside ≤ i → quoted_from false [] 1 inside ≡ cond ended (read (Quoted h.value) (i + 1)) (read Bad 1)
+at_end : (inside : List ℕ) (ended : Bool) (text : TextDraft) (i : ℕ) (h : Stands inside ended text i) → length inside ≤ i → quoted_from false [] 1 inside ≡ cond ended (read (Quoted h.value) (i + 1)) (read NoToken 1)
 at_end inside ended text i h past = h.reads ∙ ap (quoted_from ended h.value (i + 1)) (drop_all i inside past) ∙ out_of ended h.value (i + 1)
 
 pub whole : (inside : List ℕ) (ended : Bool) (text : TextDraft) (i : ℕ) → Stands inside ended text i → length inside ≤ i → ended ≡ true → Keeps text (value_in (quoted_from false [] 1 inside).symbol)
 whole inside ended text i h past e =
-    subst (λ (r : Read). Keeps text (value_in r.symbol)) (sym (at_end inside ended text i h past ∙ ap (λ b. cond b (read (Quoted h.value) (i + 1)) (read Bad 1)) e)) h.keeps
+    subst (λ (r : Read). Keeps text (value_in r.symbol)) (sym (at_end inside ended text i h past ∙ ap (λ b. cond b (read (Quoted h.value) (i + 1)) (read NoToken 1)) e)) h.keeps
 
 pub open_ended : (inside : List ℕ) (ended : Bool) (text none : TextDraft) (i : ℕ) → Stands inside ended text i → length inside ≤ i → ended ≡ false → Keeps none [] → Keeps none (value_in (quoted_from false [] 1 inside).symbol)
 open_ended inside ended text none i h past e k =
-    subst (λ (r : Read). Keeps none (value_in r.symbol)) (sym (at_end inside ended text i h past ∙ ap (λ b. cond b (read (Quoted h.value) (i + 1)) (read Bad 1)) e)) k
+    subst (λ (r : Read). Keeps none (value_in r.symbol)) (sym (at_end inside ended text i h past ∙ ap (λ b. cond b (read (Quoted h.value) (i + 1)) (read NoToken 1)) e)) k
 
 pub room : (inside : List ℕ) (ended : Bool) (text : TextDraft) (i : ℕ) → Stands inside ended text i → i < length inside → length inside < 2 ^ 64 → text.len + 1 < 2 ^ 64
 room inside ended text i h within fits = omega (arith, h.keeps.len, h.few, within, fits)

@@ -8,14 +8,14 @@ use Rattle.spj_parse.specs.Views.{field_of}
 use Rattle.std.specs.Prelude.{option_to_list}
 use Rattle.std.proofs.lemmas.Bool.{and_parts}
 use Rattle.std.proofs.lemmas.Slice.Eq.{bytes_eq-Decides}
-use Rattle.ghost_model.specs.Schema.{Schema, Table, Column, column_at, is_table, first_of}
-use Rattle.ghost_model.specs.SchemaTrees.{IsTree}
-use Rattle.ghost_model.specs.Spelled.{is_name, begins_as_name, is_reserved}
-use Rattle.ghost_model.specs.Tokens.{in_lower_case, is_name_byte}
+use Rattle.ghost_model.specs.core.Schema.{Schema, Table, Column, column_at, is_table, first_of}
+use Rattle.ghost_model.specs.laws.SchemaTrees.{IsTree}
+use Rattle.ghost_model.specs.laws.Spelled.{is_name, begins_as_name, is_reserved}
+use Rattle.ghost_model.specs.refusals.Tokens.{in_lower_case, is_name_byte}
 use Rattle.std.specs.List.{list_all}
-use Rattle.ghost_model.specs.Query.{Field}
-use Rattle.ghost_model.specs.QueryGrammar.{ColumnText, Bare, Qualified}
-use Rattle.ghost_model.specs.QueryMeaning.{fields_named, meanings, table_named, only}
+use Rattle.ghost_model.specs.core.Query.{Field, only}
+use Rattle.ghost_model.specs.refusals.QueryGrammar.{ColumnText, Bare, Qualified}
+use Rattle.ghost_model.specs.refusals.QueryMeaning.{fields_named, meanings, table_named}
 use Rattle.spj_parse.specs.Names.{fields_in}
 
 lower : (name : List ℕ) → is_name name ≡ true → in_lower_case name ≡ name

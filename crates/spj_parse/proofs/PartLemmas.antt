@@ -2,7 +2,8 @@
 use Rattle.std.proofs.Common.{◌≡◌, ℕ, zero, suc, ◌+◌, ◌<◌, ◌≤◌, Bool, true, false, not, ◌&&◌, ◌==◌, cond, if◌then◌else◌, List, [], ◌∷◌, ◌++◌, length, take, drop, filter, get_or, drop-cons, take_all, append-nil, refl, ap, sym, ◌∙◌, arith}
 use Rattle.std.proofs.lemmas.Bool.{and_parts}
 use Rattle.std.proofs.lemmas.List.{drop_all}
-use Rattle.ghost_model.specs.Texts.{before_parts, parts_after, parts_of, is_blank}
+use Rattle.ghost_model.specs.readings.TextReading.{before_parts, parts_after, parts_of}
+use Rattle.ghost_model.specs.core.Texts.{is_blank}
 use Rattle.spj_parse.specs.Parts.{CutsAt, even_after, parts_or_none}
 
 -- bytes before the first of some parts

@@ -1,7 +1,7 @@
 -- The first place of a list at which a test passes, one place after another.
 use Rattle.std.proofs.Common.{◌≡◌, ℕ, zero, suc, ◌+◌, ◌<◌, ◌≤◌, Bool, true, false, cond, List, [], ◌∷◌, length, drop, Option, Some, None, slice_get, refl, ap, ◌∙◌, arith}
 use Rattle.std.proofs.lemmas.List.{at_drop_all}
-use Rattle.ghost_model.specs.Schema.{places_from, first_of}
+use Rattle.ghost_model.specs.core.Schema.{places_from, first_of}
 use Rattle.spj_parse.specs.Names.{passes}
 
 -- the first place from `at` on

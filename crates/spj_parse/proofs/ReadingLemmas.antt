@@ -1,15 +1,16 @@
 -- The rules in their order, and the query that is gathered where none is broken.
-use Rattle.std.proofs.Common.{◌≡◌, ℕ, ◌+◌, ◌≤◌, Bool, true, false, cond, ◌||◌, nat_lt, List, [], ◌∷◌, ◌++◌, length, map, take, filter_map, flat_map, sum_by, Option, Some, None, Ok, Err, take_all, append-nil, refl, ap, ap₂, sym, ◌∙◌, arith}
+use Rattle.std.proofs.Common.{◌≡◌, ℕ, ◌+◌, ◌≤◌, Bool, true, false, ◌||◌, nat_lt, List, [], ◌∷◌, ◌++◌, length, map, take, filter_map, flat_map, sum_by, Option, Some, None, Ok, Err, take_all, append-nil, refl, ap, ap₂, sym, ◌∙◌, arith}
 use Rattle.std.specs.Prelude.{option_to_list}
 use Rattle.std.specs.List.{list_any, cons_option}
 use Rattle.std.proofs.lemmas.Bool.{ltb-false}
 use Rattle.std.proofs.lemmas.Grind.{flat_map-append}
-use Rattle.ghost_model.specs.Schema.{Schema}
-use Rattle.ghost_model.specs.QueryGrammar.{ColumnText, ConditionText, Selection, All, Columns, QueryText}
-use Rattle.ghost_model.specs.QueryPlaces.{syntax_of}
-use Rattle.ghost_model.specs.QueryMeaning as meaning
-use Rattle.ghost_model.specs.QueryMeaning.{Refusal, literal_conditions, selected_count, table_named, from_names, from_tables, resolved, is_over_limit, has_unknown_table, has_unknown_column, is_ambiguous, has_kind_mismatch, has_bad_literal, is_unlinked}
-use Rattle.ghost_model.specs.QueryReading.{reading, judged, query_unless}
+use Rattle.ghost_model.specs.core.Schema.{Schema}
+use Rattle.ghost_model.specs.refusals.QueryGrammar.{ColumnText, ConditionText, Selection, All, Columns, QueryText}
+use Rattle.ghost_model.specs.readings.QueryPlaces.{syntax_of}
+use Rattle.ghost_model.specs.refusals.Rules.{broken_if, first_broken}
+use Rattle.ghost_model.specs.refusals.QueryMeaning as meaning
+use Rattle.ghost_model.specs.refusals.QueryMeaning.{Refusal, literal_conditions, selected_count, table_named, from_names, from_tables, resolved, is_over_limit, has_unknown_table, has_unknown_column, is_ambiguous, has_kind_mismatch, has_bad_literal, is_unlinked}
+use Rattle.ghost_model.specs.readings.QueryReading.{reading, judged, query_unless}
 use Rattle.spj_parse.specs.declared.conditions.ConditionTest.TheVariants as test
 use Rattle.spj_parse.specs.Conditions.{IsClear, item_passes}
 use Rattle.spj_parse.proofs.ConditionLemmas.{test_of_tree}
@@ -20,13 +21,15 @@ use Rattle.spj_parse.proofs.TreeLemmas.{items_are}
 -- the first rule that is broken
 abbrev pub verdict : (over table column ambiguous kind literal link : Bool) → Option Refusal
 verdict over table column ambiguous kind literal link =
-    cond over (Some meaning.Limit)
-    (cond table (Some meaning.UnknownTable)
-    (cond column (Some meaning.UnknownColumn)
-    (cond ambiguous (Some meaning.Ambiguous)
-    (cond kind (Some meaning.KindMismatch)
-    (cond literal (Some meaning.BadLiteral)
-    (cond link (Some meaning.NotLinked) None))))))
+    first_broken
+    (broken_if over meaning.Limit
+    ∷ broken_if table meaning.UnknownTable
+    ∷ broken_if column meaning.UnknownColumn
+    ∷ broken_if ambiguous meaning.Ambiguous
+    ∷ broken_if kind meaning.KindMismatch
+    ∷ broken_if literal meaning.BadLiteral
+    ∷ broken_if link meaning.NotLinked
+    ∷ [])
 
 pub judged_by : (schema : Schema) (text : List ℕ) (tree : QueryText) → syntax_of text ≡ Ok tree → (over table column ambiguous kind literal link : Bool)
     → over ≡ is_over_limit schema text tree → table ≡ has_unknown_table schema tree → column ≡ has_unknown_column schema tree → ambiguous ≡ is_ambiguous schema tree

@@ -2,9 +2,9 @@
 use Rattle.std.proofs.Common.{◌≡◌, ℕ, zero, suc, ◌+◌, ◌<◌, ◌≤◌, min, Bool, true, false, nat_lt, List, [], ◌∷◌, ◌++◌, length, map, take, flat_map, length-append, length-take, get_or, take_all, append_assoc, append-nil, refl, ap, sym, ◌∙◌, arith}
 use Rattle.std.proofs.lemmas.Bool.{ltb-true, ltb-false}
 use Rattle.std.proofs.lemmas.List.{length-map, map-append, take-append-le}
-use Rattle.ghost_model.specs.Query.{Field}
-use Rattle.ghost_model.specs.Schema.{Schema, Column, columns_of, places_from}
-use Rattle.ghost_model.specs.QueryMeaning.{field, fields_of}
+use Rattle.ghost_model.specs.core.Query.{Field}
+use Rattle.ghost_model.specs.core.Schema.{Schema, Column, columns_of, places_from}
+use Rattle.ghost_model.specs.refusals.QueryMeaning.{field, fields_of}
 use Rattle.spj_parse.specs.Adding.{Adds}
 use Rattle.spj_parse.specs.Items.{Item}
 

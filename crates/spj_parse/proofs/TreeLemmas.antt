@@ -4,12 +4,12 @@ use Rattle.std.specs.List.{list_any, cons_option}
 use Rattle.std.proofs.lemmas.List.{length-map}
 use Rattle.std.proofs.lemmas.List.Folds.{list_any-append, fold-map}
 use Rattle.std.proofs.lemmas.List.Sums.{sum_by-append}
-use Rattle.ghost_model.specs.Schema.{Schema, columns_of, places_from, is_empty}
-use Rattle.ghost_model.specs.Tokens.{tokens}
-use Rattle.ghost_model.specs.QueryGrammar.{ColumnText, ConditionText, Selection, All, Columns, QueryText}
-use Rattle.ghost_model.specs.QueryPlaces.{syntax_of}
-use Rattle.ghost_model.specs.QueryPlaces as places
-use Rattle.ghost_model.specs.QueryMeaning.{table_named, meanings, fields_of, from_names, selected_count, selection_columns, condition_columns, columns_in, qualifier_of, column_name, table_names, names_in, literal_conditions, is_over_limit, has_unknown_table}
+use Rattle.ghost_model.specs.core.Schema.{Schema, columns_of, places_from, is_empty}
+use Rattle.ghost_model.specs.refusals.Tokens.{tokens}
+use Rattle.ghost_model.specs.refusals.QueryGrammar.{ColumnText, ConditionText, Selection, All, Columns, QueryText}
+use Rattle.ghost_model.specs.readings.QueryPlaces.{syntax_of}
+use Rattle.ghost_model.specs.readings.QueryPlaces as places
+use Rattle.ghost_model.specs.refusals.QueryMeaning.{table_named, meanings, fields_of, from_names, selected_count, selection_columns, condition_columns, columns_in, qualifier_of, column_name, table_names, names_in, literal_conditions, is_over_limit, has_unknown_table}
 use Rattle.spj_parse.specs.declared.rules.NameRule.{NameRule}
 use Rattle.spj_parse.specs.declared.rules.NameRule.TheVariants as rule
 use Rattle.spj_parse.specs.declared.limits.Count.{Count}

@@ -2,12 +2,12 @@
 -- and each token leads from both alike.
 use Rattle.std.proofs.Common.{◌≡◌, ℕ, false, List, [], ◌∷◌, ◌++◌, map, Option, Some, None, option_map, Result, Ok, Err, append_assoc, append-nil, ◌⊎◌, inl, inr, refl, ap, sym, subst, ◌∙◌}
 use Rattle.std.proofs.lemmas.List.{map-append}
-use Rattle.ghost_model.specs.Schema.{is_empty}
-use Rattle.ghost_model.specs.Tokens as tokens
-use Rattle.ghost_model.specs.Tokens.{Symbol, Token, Word, Name, Comma, Star, End}
-use Rattle.ghost_model.specs.QueryGrammar.{ColumnText, ConditionText, Selection, QueryText}
-use Rattle.ghost_model.specs.QueryPlaces as places
-use Rattle.ghost_model.specs.QueryPlaces.{Place, ColumnPart, WantsColumn, HasColumn, ConditionPart, HasCondition, first_item, other_items, selection_of, step, step_in_column, step_in_condition, step_in_select, step_in_where, read_from, whole_text, syntax_of}
+use Rattle.ghost_model.specs.core.Schema.{is_empty}
+use Rattle.ghost_model.specs.refusals.Tokens as tokens
+use Rattle.ghost_model.specs.refusals.Tokens.{Symbol, Token, Word, Name, Comma, Star, EndOfText}
+use Rattle.ghost_model.specs.refusals.QueryGrammar.{ColumnText, ConditionText, Selection, QueryText}
+use Rattle.ghost_model.specs.readings.QueryPlaces as places
+use Rattle.ghost_model.specs.readings.QueryPlaces.{QueryPlace, ColumnPart, WantsColumn, HasColumn, ConditionPart, HasCondition, first_item, other_items, selection_of, step, step_in_column, step_in_condition, step_in_select, step_in_where, read_from, whole_text, syntax_of}
 use Rattle.tree_schema.specs.declared.tokens.Mark.{Mark}
 use Rattle.tree_schema.specs.declared.tokens.Mark.TheVariants as mark
 use Rattle.tree_schema.specs.Marks.{symbol_of as marked}
@@ -21,7 +21,7 @@ use Rattle.spj_parse.specs.Walks.{HasTree}
 use Rattle.spj_parse.specs.Items.{Item, Selected, From, Where, selection_items, items_of, Spot, Start, HasStar, InSelect, WantsTable, HasTable, InWhere, Whole, Turn, Goes, Gives, Stops, turn, in_select, in_where, turn_in_select, turn_in_where, items_from}
 
 -- the spot of a place
-abbrev pub forget : Place → Spot
+abbrev pub forget : QueryPlace → Spot
 forget places.Start = Start
 forget places.HasStar = HasStar
 forget (places.InSelect earlier part) = InSelect (is_empty earlier) part
@@ -31,7 +31,7 @@ forget (places.InWhere selection table more earlier part) = InWhere part
 forget (places.Whole tree) = Whole
 
 -- the things that end before a place
-abbrev pub items_before : Place → List Item
+abbrev pub items_before : QueryPlace → List Item
 items_before places.Start = []
 items_before places.HasStar = []
 items_before (places.InSelect earlier part) = map Selected earlier
@@ -42,7 +42,7 @@ items_before (places.InWhere selection table more earlier part) =
 items_before (places.Whole tree) = items_of tree
 
 -- a token leads alike from a place and from its spot
-abbrev pub Alike : Place → Option Place → Turn → Type 0
+abbrev pub Alike : QueryPlace → Option QueryPlace → Turn → Type 0
 Alike place None Stops = Unit {0}
 Alike place (Some next) (Goes spot) = (forget next ≡ spot) × (items_before next ≡ items_before place)
 Alike place (Some next) (Gives item spot) = (forget next ≡ spot) × (items_before next ≡ items_before place ++ item ∷ [])
@@ -69,7 +69,7 @@ selects : (symbol : Symbol) (part : ColumnPart) (earlier : List ColumnText)
 selects Star WantsColumn [] = (refl, refl)
 selects Star WantsColumn (_ ∷ _) = tt
 selects Comma (HasColumn column) earlier = (ap (λ first. InSelect first WantsColumn) (not_first earlier column), one_more Selected earlier column)
-selects (Word tokens.From) (HasColumn column) earlier = (refl, append-nil (map Selected (first_item earlier column ∷ other_items earlier column)) ∙ whole_list Selected earlier column)
+selects (Word tokens.FromWord) (HasColumn column) earlier = (refl, append-nil (map Selected (first_item earlier column ∷ other_items earlier column)) ∙ whole_list Selected earlier column)
 selects symbol part earlier = on_in_select earlier part (step_in_column symbol part)
 
 on_in_where : (selection : Selection) (table : List ℕ) (more : List (List ℕ)) (earlier : List ConditionText) (part : ConditionPart) (next : Option ConditionPart)
@@ -86,8 +86,8 @@ another_condition before tables earlier last =
 
 wheres : (symbol : Symbol) (part : ConditionPart) (selection : Selection) (table : List ℕ) (more : List (List ℕ)) (earlier : List ConditionText)
     → Alike (places.InWhere selection table more earlier part) (step_in_where symbol part selection table more earlier) (turn_in_where symbol part)
-wheres (Word tokens.And) (HasCondition condition) selection table more earlier = (refl, another_condition (selection_items selection) (map From (table ∷ more)) earlier condition)
-wheres End (HasCondition condition) selection table more earlier = (refl, another_condition (selection_items selection) (map From (table ∷ more)) earlier condition)
+wheres (Word tokens.AndWord) (HasCondition condition) selection table more earlier = (refl, another_condition (selection_items selection) (map From (table ∷ more)) earlier condition)
+wheres EndOfText (HasCondition condition) selection table more earlier = (refl, another_condition (selection_items selection) (map From (table ∷ more)) earlier condition)
 wheres symbol part selection table more earlier = on_in_where selection table more earlier part (step_in_condition symbol part)
 
 another_table : (before : List Item) (earlier : List (List ℕ)) (last : List ℕ) → before ++ map From (earlier ++ last ∷ []) ≡ (before ++ map From earlier) ++ From last ∷ []
@@ -99,23 +99,23 @@ all_tables before earlier last =
     ap (λ xs. before ++ xs) (append-nil (map From (first_item earlier last ∷ other_items earlier last)) ∙ whole_list From earlier last)
     ∙ sym (append_assoc before (map From earlier) (From last ∷ []))
 
-pub alike : (place : Place) (symbol : Symbol) → Alike place (step place symbol) (turn (forget place) symbol)
-alike places.Start (Word tokens.Select) = (refl, refl)
+pub alike : (place : QueryPlace) (symbol : Symbol) → Alike place (step place symbol) (turn (forget place) symbol)
+alike places.Start (Word tokens.SelectWord) = (refl, refl)
 alike places.Start _ = tt
-alike places.HasStar (Word tokens.From) = (refl, refl)
+alike places.HasStar (Word tokens.FromWord) = (refl, refl)
 alike places.HasStar _ = tt
 alike (places.InSelect earlier part) symbol = selects symbol part earlier
 alike (places.WantsTable selection earlier) (Name table) = (refl, refl)
 alike (places.WantsTable selection earlier) _ = tt
 alike (places.HasTable selection earlier table) Comma = (refl, another_table (selection_items selection) earlier table)
-alike (places.HasTable selection earlier table) (Word tokens.Where) = (refl, all_tables (selection_items selection) earlier table)
-alike (places.HasTable selection earlier table) End = (refl, all_tables (selection_items selection) earlier table)
+alike (places.HasTable selection earlier table) (Word tokens.WhereWord) = (refl, all_tables (selection_items selection) earlier table)
+alike (places.HasTable selection earlier table) EndOfText = (refl, all_tables (selection_items selection) earlier table)
 alike (places.HasTable selection earlier table) _ = tt
 alike (places.InWhere selection table more earlier part) symbol = wheres symbol part selection table more earlier
 alike (places.Whole tree) _ = tt
 
 -- a text that has a tree names its things
-whole_items : (place : Place) (tree : QueryText) → whole_text place ≡ Ok tree → items_before place ++ [] ≡ items_of tree
+whole_items : (place : QueryPlace) (tree : QueryText) → whole_text place ≡ Ok tree → items_before place ++ [] ≡ items_of tree
 whole_items (places.Whole found) tree h = append-nil (items_of found) ∙ ap items_of (let e : found ≡ tree = cc in e)
 whole_items places.Start tree h = absurd (let e : Err 0 ≡ Ok tree = h in cc)
 whole_items places.HasStar tree h = absurd (let e : Err 0 ≡ Ok tree = h in cc)
@@ -124,15 +124,15 @@ whole_items (places.WantsTable _ _) tree h = absurd (let e : Err 0 ≡ Ok tree =
 whole_items (places.HasTable _ _ _) tree h = absurd (let e : Err 0 ≡ Ok tree = h in cc)
 whole_items (places.InWhere _ _ _ _ _) tree h = absurd (let e : Err 0 ≡ Ok tree = h in cc)
 
-abbrev read_on : (at : ℕ) (later : List Token) → Option Place → Result QueryText ℕ
+abbrev read_on : (at : ℕ) (later : List Token) → Option QueryPlace → Result QueryText ℕ
 read_on at later next = elim next [ None ↦ Err at | Some there ↦ read_from there later ]
 
 abbrev items_on : (later : List Token) → Turn → List Item
 items_on later given = elim given [ Goes there ↦ items_from there later | Gives item there ↦ item ∷ items_from there later | Stops ↦ [] ]
 
-onward : (at : ℕ) (later : List Token) (place : Place) (tree : QueryText)
-    → ((there : Place) → read_from there later ≡ Ok tree → items_before there ++ items_from (forget there) later ≡ items_of tree)
-    → (next : Option Place) (given : Turn) → Alike place next given → read_on at later next ≡ Ok tree → items_before place ++ items_on later given ≡ items_of tree
+onward : (at : ℕ) (later : List Token) (place : QueryPlace) (tree : QueryText)
+    → ((there : QueryPlace) → read_from there later ≡ Ok tree → items_before there ++ items_from (forget there) later ≡ items_of tree)
+    → (next : Option QueryPlace) (given : Turn) → Alike place next given → read_on at later next ≡ Ok tree → items_before place ++ items_on later given ≡ items_of tree
 onward at later place tree lead None (Goes _) a e = absurd a
 onward at later place tree lead None (Gives _ _) a e = absurd a
 onward at later place tree lead None Stops a e = absurd (let no : Err at ≡ Ok tree = e in cc)
@@ -143,7 +143,7 @@ onward at later place tree lead (Some there) (Gives item spot) a e =
     ∙ ap (λ xs. xs ++ items_from spot later) (sym a.1) ∙ ap (λ s. items_before there ++ items_from s later) (sym a.0) ∙ lead there e
 onward at later place tree lead (Some there) Stops a e = absurd a
 
-pub items_lead : (later : List Token) (place : Place) (tree : QueryText) → read_from place later ≡ Ok tree → items_before place ++ items_from (forget place) later ≡ items_of tree
+pub items_lead : (later : List Token) (place : QueryPlace) (tree : QueryText) → read_from place later ≡ Ok tree → items_before place ++ items_from (forget place) later ≡ items_of tree
 unfolding read_from items_from
 items_lead [] place tree h = whole_items place tree h
 items_lead (token ∷ later) place tree h =
@@ -175,18 +175,18 @@ none_behind (token ∷ later) = refl
 
 -- how far the grammar was followed
 pub record IsAt (text : List ℕ) (spot : Spot) (left : List Token) : Type 0 where
-  pub place : Place
+  pub place : QueryPlace
   pub here : forget place ≡ spot
   pub reads : syntax_of text ≡ read_from place left
 
 pub at_start : (text : List ℕ) → IsAt text Start (tokens.tokens text)
 at_start text = record { place = places.Start; here = refl; reads = refl }
 
-led : (at : ℕ) (later : List Token) (place : Place) (token : Token) → read_from place (token ∷ later) ≡ read_on token.at later (step place token.symbol)
+led : (at : ℕ) (later : List Token) (place : QueryPlace) (token : Token) → read_from place (token ∷ later) ≡ read_on token.at later (step place token.symbol)
 unfolding read_from
 led at later place token = refl
 
-follow : (text : List ℕ) (at : ℕ) (later : List Token) (place : Place) (spot : Spot) (next : Option Place) (given : Turn) → Alike place next given → syntax_of text ≡ read_on at later next
+follow : (text : List ℕ) (at : ℕ) (later : List Token) (place : QueryPlace) (spot : Spot) (next : Option QueryPlace) (given : Turn) → Alike place next given → syntax_of text ≡ read_on at later next
     → (given ≡ Goes spot) ⊎ ((item : Item) × (given ≡ Gives item spot)) → IsAt text spot later
 follow text at later place spot None (Goes _) a r e = absurd a
 follow text at later place spot None (Gives _ _) a r e = absurd a
@@ -205,7 +205,7 @@ next_place text spot next token now later h e given =
     (subst (λ s. Alike h.place (step h.place token.symbol) (turn s token.symbol)) h.here (alike h.place token.symbol))
     (h.reads ∙ ap (read_from h.place) e ∙ led token.at later h.place token) given
 
-stuck : (text : List ℕ) (at : ℕ) (later : List Token) (place : Place) (next : Option Place) (given : Turn) → Alike place next given → syntax_of text ≡ read_on at later next → given ≡ Stops → syntax_of text ≡ Err at
+stuck : (text : List ℕ) (at : ℕ) (later : List Token) (place : QueryPlace) (next : Option QueryPlace) (given : Turn) → Alike place next given → syntax_of text ≡ read_on at later next → given ≡ Stops → syntax_of text ≡ Err at
 stuck text at later place None (Goes _) a r e = absurd a
 stuck text at later place None (Gives _ _) a r e = absurd a
 stuck text at later place None Stops a r e = r
@@ -219,11 +219,11 @@ fault text spot token now later h e s =
     (subst (λ s. Alike h.place (step h.place token.symbol) (turn s token.symbol)) h.here (alike h.place token.symbol))
     (h.reads ∙ ap (read_from h.place) e ∙ led token.at later h.place token) s
 
-out : (text : List ℕ) (place : Place) → syntax_of text ≡ read_from place [] → syntax_of text ≡ whole_text place
+out : (text : List ℕ) (place : QueryPlace) → syntax_of text ≡ read_from place [] → syntax_of text ≡ whole_text place
 unfolding read_from
 out text place h = h
 
-whole_tree : (text : List ℕ) (place : Place) → forget place ≡ Whole → syntax_of text ≡ whole_text place → HasTree text
+whole_tree : (text : List ℕ) (place : QueryPlace) → forget place ≡ Whole → syntax_of text ≡ whole_text place → HasTree text
 whole_tree text (places.Whole tree) h e = record { tree = tree; read = e }
 whole_tree text places.Start h e = absurd (let no : Start ≡ Whole = h in cc)
 whole_tree text places.HasStar h e = absurd (let no : HasStar ≡ Whole = h in cc)
@@ -235,7 +235,7 @@ whole_tree text (places.InWhere _ _ _ _ part) h e = absurd (let no : InWhere par
 pub ended : (text : List ℕ) (spot : Spot) (now : List Token) → IsAt text spot now → now ≡ [] → spot ≡ Whole → HasTree text
 ended text spot now h e w = whole_tree text h.place (h.here ∙ w) (out text h.place (h.reads ∙ ap (read_from h.place) e))
 
-no_tree : (text : List ℕ) (place : Place) → (forget place ≡ Whole → ⊥) → syntax_of text ≡ whole_text place → syntax_of text ≡ Err 0
+no_tree : (text : List ℕ) (place : QueryPlace) → (forget place ≡ Whole → ⊥) → syntax_of text ≡ whole_text place → syntax_of text ≡ Err 0
 no_tree text (places.Whole tree) h e = absurd (h refl)
 no_tree text places.Start h e = e
 no_tree text places.HasStar h e = e

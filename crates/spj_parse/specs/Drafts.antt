@@ -1,7 +1,7 @@
 -- What the parts of a query text that the code keeps stand for, in the words of the definitions.
-use Rattle.ghost_model.specs.Tokens.{in_lower_case}
-use Rattle.ghost_model.specs.QueryGrammar as grammar
-use Rattle.ghost_model.specs.QueryPlaces as places
+use Rattle.ghost_model.specs.refusals.Tokens.{in_lower_case}
+use Rattle.ghost_model.specs.refusals.QueryGrammar as grammar
+use Rattle.ghost_model.specs.readings.QueryPlaces as places
 use Rattle.ghost_base.specs.Views.{operator_of}
 use Rattle.tree_schema.specs.Marks as marks
 use Rattle.spj_parse.specs.declared.drafts.ColumnDraft.{ColumnDraft}

@@ -2,10 +2,10 @@
 -- read one after another, with no memory of those before: where a text was read to is a spot, and a token leads from
 -- there to another spot, perhaps past the end of a thing, or nowhere.
 use Rattle.std.specs.Prelude.{ℕ, Bool, true, false, List, [], ◌∷◌, ◌++◌, map, Option, Some, None}
-use Rattle.ghost_model.specs.Tokens as tokens
-use Rattle.ghost_model.specs.Tokens.{Symbol, Token, Word, Name, Comma, Star, End}
-use Rattle.ghost_model.specs.QueryGrammar.{ColumnText, ConditionText, Selection, All, Columns, QueryText}
-use Rattle.ghost_model.specs.QueryPlaces.{ColumnPart, WantsColumn, HasColumn, ConditionPart, WantsLeft, HasCondition, step_in_column, step_in_condition}
+use Rattle.ghost_model.specs.refusals.Tokens as tokens
+use Rattle.ghost_model.specs.refusals.Tokens.{Symbol, Token, Word, Name, Comma, Star, EndOfText}
+use Rattle.ghost_model.specs.refusals.QueryGrammar.{ColumnText, ConditionText, Selection, All, Columns, QueryText}
+use Rattle.ghost_model.specs.readings.QueryPlaces.{ColumnPart, WantsColumn, HasColumn, ConditionPart, WantsLeft, HasCondition, step_in_column, step_in_condition}
 
 pub data Item : Type 0 where
   AllColumns : Item
@@ -48,22 +48,22 @@ in_where (Some part) = Goes (InWhere part)
 abbrev pub turn_in_select : Symbol → ColumnPart → (first : Bool) → Turn
 turn_in_select Star WantsColumn true = Goes HasStar
 turn_in_select Comma (HasColumn column) first = Gives (Selected column) (InSelect false WantsColumn)
-turn_in_select (Word tokens.From) (HasColumn column) first = Gives (Selected column) WantsTable
+turn_in_select (Word tokens.FromWord) (HasColumn column) first = Gives (Selected column) WantsTable
 turn_in_select symbol part first = in_select first (step_in_column symbol part)
 
 abbrev pub turn_in_where : Symbol → ConditionPart → Turn
-turn_in_where (Word tokens.And) (HasCondition condition) = Gives (Where condition) (InWhere WantsLeft)
-turn_in_where End (HasCondition condition) = Gives (Where condition) Whole
+turn_in_where (Word tokens.AndWord) (HasCondition condition) = Gives (Where condition) (InWhere WantsLeft)
+turn_in_where EndOfText (HasCondition condition) = Gives (Where condition) Whole
 turn_in_where symbol part = in_where (step_in_condition symbol part)
 
 abbrev pub turn : Spot → Symbol → Turn
-turn Start (Word tokens.Select) = Goes (InSelect true WantsColumn)
-turn HasStar (Word tokens.From) = Gives AllColumns WantsTable
+turn Start (Word tokens.SelectWord) = Goes (InSelect true WantsColumn)
+turn HasStar (Word tokens.FromWord) = Gives AllColumns WantsTable
 turn (InSelect first part) symbol = turn_in_select symbol part first
 turn WantsTable (Name table) = Goes (HasTable table)
 turn (HasTable table) Comma = Gives (From table) WantsTable
-turn (HasTable table) (Word tokens.Where) = Gives (From table) (InWhere WantsLeft)
-turn (HasTable table) End = Gives (From table) Whole
+turn (HasTable table) (Word tokens.WhereWord) = Gives (From table) (InWhere WantsLeft)
+turn (HasTable table) EndOfText = Gives (From table) Whole
 turn (InWhere part) symbol = turn_in_where symbol part
 turn _ _ = Stops
 

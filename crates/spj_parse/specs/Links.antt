@@ -1,8 +1,8 @@
 -- The top one of some tables, and the joins between them, over the things that a text names.
 use Rattle.std.specs.Prelude.{ℕ, Bool, not, ◌&&◌, List, Option, filter}
 use Rattle.std.specs.List.{list_any}
-use Rattle.ghost_model.specs.Schema.{Schema, parent}
-use Rattle.ghost_model.specs.QueryMeaning.{only, is_some_among}
+use Rattle.ghost_model.specs.core.Schema.{Schema, parent}
+use Rattle.ghost_model.specs.core.Query.{only, is_some_among}
 use Rattle.spj_parse.specs.declared.conditions.ConditionTest.TheVariants as test
 use Rattle.spj_parse.specs.Items.{Item}
 use Rattle.spj_parse.specs.Conditions.{item_passes}

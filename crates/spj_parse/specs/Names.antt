@@ -1,9 +1,9 @@
 -- What the names of a text stand for, one table or column after another.
 use Rattle.std.specs.Prelude.{◌≡◌, ℕ, ◌<◌, Bool, false, List, [], ◌∷◌, length, Option, None, Some, bytes_eq, if◌then◌else◌}
-use Rattle.ghost_model.specs.Schema.{Schema, Table, Column, is_table, first_of}
-use Rattle.ghost_model.specs.Query.{Field}
-use Rattle.ghost_model.specs.QueryGrammar.{ColumnText, Bare, Qualified}
-use Rattle.ghost_model.specs.QueryMeaning.{table_named, fields_named, meanings}
+use Rattle.ghost_model.specs.core.Schema.{Schema, Table, Column, is_table, first_of}
+use Rattle.ghost_model.specs.core.Query.{Field}
+use Rattle.ghost_model.specs.refusals.QueryGrammar.{ColumnText, Bare, Qualified}
+use Rattle.ghost_model.specs.refusals.QueryMeaning.{table_named, fields_named, meanings}
 use Rattle.spj_parse.specs.declared.names.Meaning.{Meaning}
 use Rattle.spj_parse.specs.declared.names.Meaning.TheVariants as meaning
 use Rattle.spj_parse.specs.Views.{field_of}

@@ -1,6 +1,7 @@
 -- The parts of a script that are left, and those of them that are texts.
 use Rattle.std.specs.Prelude.{◌≡◌, ℕ, ◌+◌, ◌<◌, ◌≤◌, Bool, true, false, not, ◌==◌, List, [], ◌∷◌, length, take, drop, filter, if◌then◌else◌}
-use Rattle.ghost_model.specs.Texts.{parts_of, is_blank}
+use Rattle.ghost_model.specs.readings.TextReading.{parts_of}
+use Rattle.ghost_model.specs.core.Texts.{is_blank}
 use Rattle.spj_parse.specs.declared.texts.Parts.{Parts}
 
 -- whether the number of `'` is even after a byte, where it was before or was not

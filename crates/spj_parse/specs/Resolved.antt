@@ -1,12 +1,12 @@
 -- The query that a text means, thing after thing, and with each of its joins once.
 use Rattle.std.specs.Prelude.{◌≡◌, Ok, ℕ, ℤ, pos, Bool, true, false, List, [], ◌∷◌, ◌++◌, map, filter, flat_map, take, Option, None, Some, option_to_list, option_map, if◌then◌else◌}
-use Rattle.ghost_model.specs.Schema.{Schema, columns_of, places_where, first_of, is_table, parent}
-use Rattle.ghost_model.specs.Tokens.{number_of}
-use Rattle.ghost_model.specs.Values.{Value, Number, Text}
-use Rattle.ghost_model.specs.Query.{Field, AtMost, AtLeast, Condition, Compare, Join, Query}
-use Rattle.ghost_model.specs.QueryGrammar.{ColumnText, LiteralText, Unsigned, Signed, Written, Positive, ConditionText, Compares, LiesBetween, Joins}
-use Rattle.ghost_model.specs.QueryMeaning.{field, table_named, fields_of, is_among, with_sign}
-use Rattle.ghost_model.specs.QueryReading.{reading}
+use Rattle.ghost_model.specs.core.Schema.{Schema, columns_of, places_where, first_of, is_table, parent}
+use Rattle.ghost_model.specs.refusals.Tokens.{number_of}
+use Rattle.ghost_model.specs.core.Values.{Value, Number, Text}
+use Rattle.ghost_model.specs.core.Query.{Field, AtMost, AtLeast, Condition, Compare, Join, Query, is_among}
+use Rattle.ghost_model.specs.refusals.QueryGrammar.{ColumnText, LiteralText, Unsigned, Signed, Written, Positive, ConditionText, Compares, LiesBetween, Joins}
+use Rattle.ghost_model.specs.refusals.QueryMeaning.{field, table_named, fields_of, with_sign}
+use Rattle.ghost_model.specs.readings.QueryReading.{reading}
 use Rattle.tree_schema.specs.Schemas.{IsDeclared}
 use Rattle.spj_parse.specs.Items.{Item, AllColumns, Selected, From, Where}
 use Rattle.spj_parse.specs.Literals.{is_out}

@@ -1,9 +1,9 @@
 -- The rules of a query, of each thing that a text names: those of names, and the limits, which count.
 use Rattle.std.specs.Prelude.{ℕ, Bool, true, false, ◌||◌, nat_lt, List, [], ◌∷◌, length, Option, None, Some, is_none}
 use Rattle.std.specs.List.{list_any}
-use Rattle.ghost_model.specs.Schema.{Schema, columns_of, is_empty}
-use Rattle.ghost_model.specs.QueryGrammar.{ColumnText}
-use Rattle.ghost_model.specs.QueryMeaning.{table_named, meanings, condition_columns, qualifier_of, column_name, literal_conditions}
+use Rattle.ghost_model.specs.core.Schema.{Schema, columns_of, is_empty}
+use Rattle.ghost_model.specs.refusals.QueryGrammar.{ColumnText}
+use Rattle.ghost_model.specs.refusals.QueryMeaning.{table_named, meanings, condition_columns, qualifier_of, column_name, literal_conditions}
 use Rattle.spj_parse.specs.Items.{Item, AllColumns, Selected, From, Where}
 use Rattle.spj_parse.specs.declared.rules.NameRule.{NameRule}
 use Rattle.spj_parse.specs.declared.rules.NameRule.TheVariants as rule

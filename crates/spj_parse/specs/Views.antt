@@ -1,7 +1,7 @@
 -- What the queries and refusals of the code stand for, in the words of the definitions.
 use Rattle.std.specs.Prelude.{ℕ, List, ◌++◌, map}
-use Rattle.ghost_model.specs.Query as query
-use Rattle.ghost_model.specs.QueryMeaning as refusal
+use Rattle.ghost_model.specs.core.Query as query
+use Rattle.ghost_model.specs.refusals.QueryMeaning as refusal
 use Rattle.ghost_base.specs.Views.{operator_of, value_of}
 use Rattle.spj_parse.specs.declared.query.Comparison.{Comparison}
 use Rattle.spj_parse.specs.declared.query.Field.{Field}

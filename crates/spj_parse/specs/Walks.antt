@@ -1,7 +1,7 @@
 -- What is left of a walk over a text, and that a text has a tree.
 use Rattle.std.specs.Prelude.{◌≡◌, ℕ, List, Ok}
-use Rattle.ghost_model.specs.QueryGrammar.{QueryText}
-use Rattle.ghost_model.specs.QueryPlaces.{syntax_of}
+use Rattle.ghost_model.specs.refusals.QueryGrammar.{QueryText}
+use Rattle.ghost_model.specs.readings.QueryPlaces.{syntax_of}
 use Rattle.spj_parse.specs.declared.walk.Walk.{Walk}
 use Rattle.spj_parse.specs.Items.{Item, items_from}
 use Rattle.spj_parse.specs.Drafts.{spot_of}

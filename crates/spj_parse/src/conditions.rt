@@ -3,10 +3,10 @@
 ghost use Rattle.std.specs.Prelude.{◌≡◌, option_and_then, option_map};
 ghost use Rattle.std.specs.List.{list_any};
 ghost use Rattle.ghost_base.specs.Views.{kind_of};
-ghost use Rattle.ghost_model.specs.QueryMeaning as meaning;
-ghost use Rattle.ghost_model.specs.Query as query;
-ghost use Rattle.ghost_model.specs.Schema as model;
-ghost use Rattle.ghost_model.specs.Values as values;
+ghost use Rattle.ghost_model.specs.refusals.QueryMeaning as meaning;
+ghost use Rattle.ghost_model.specs.core.Query as query;
+ghost use Rattle.ghost_model.specs.core.Schema as model;
+ghost use Rattle.ghost_model.specs.core.Values as values;
 ghost use Rattle.tree_schema.specs.Marks as marks;
 ghost use Rattle.spj_parse.specs.Conditions.{conditions_meant, item_passes, passes_test};
 ghost use Rattle.spj_parse.specs.Drafts.{condition_of, item_of, literal_of};
@@ -33,7 +33,7 @@ pub(crate) enum ConditionTest {
 
 /// The kind of a column.
 fn kind_at(schema: &Schema, field: Field) -> Option<Kind>
-    ensures kind { option_map kind_of result ≡ meaning.kind_at schema.now (field_of field) }
+    ensures kind { option_map kind_of result ≡ model.column_kind schema.now field.table field.column }
 {
     match schema.column(field.table as usize, field.column as usize) {
         None => None,
@@ -43,7 +43,7 @@ fn kind_at(schema: &Schema, field: Field) -> Option<Kind>
 
 /// Whether a literal is of another kind than a column's.
 fn is_other_kind(kind: Option<Kind>, literal: LiteralDraft) -> bool
-    ensures other { result ≡ meaning.is_other_kind (option_map kind_of kind) (meaning.value_of (literal_of literal.entry)) }
+    ensures other { result ≡ meaning.is_other_kind (option_map kind_of kind) (meaning.value_of_literal (literal_of literal.entry)) }
 {
     match kind {
         None => false,
@@ -73,7 +73,7 @@ fn is_too_long(kind: Option<Kind>, literal: &[u8]) -> bool
 
 /// Whether a literal does not fit into a column of a kind.
 fn is_too_large(kind: Option<Kind>, literal: LiteralDraft) -> bool
-    ensures large { result ≡ meaning.is_too_large (option_map kind_of kind) (meaning.value_of (literal_of literal.entry)) }
+    ensures large { result ≡ meaning.is_too_large (option_map kind_of kind) (meaning.value_of_literal (literal_of literal.entry)) }
 {
     match literal {
         LiteralDraft::Unsigned(digits) => integer_in(Sign::Positive, digits).is_none(),
@@ -104,7 +104,7 @@ pub(crate) fn is_table(place: Option<u8>, table: u8) -> bool
 
 /// Whether the first column is a foreign key and the second the identifier of its child.
 fn is_key_to(schema: &Schema, key: Field, identifier: Field) -> bool
-    ensures key { result ≡ meaning.is_key_to schema.now (field_of key) (field_of identifier) }
+    ensures key { result ≡ meaning.is_reference_to schema.now (field_of key) (field_of identifier) }
 {
     is_table(child_at(schema, key), identifier.table) && identifier.column == 0
 }
@@ -131,7 +131,7 @@ fn comparison_passes(
     field: Field,
     literal: LiteralDraft,
 ) -> bool
-    ensures passes { (operator : query.Operator) → result ≡ passes_test test schema.now (query.Compare (field_of field) operator (meaning.value_of (literal_of literal.entry))) }
+    ensures passes { (operator : query.Operator) → result ≡ passes_test test schema.now (query.Compare (field_of field) operator (meaning.value_of_literal (literal_of literal.entry))) }
 {
     match test {
         ConditionTest::OtherKind => is_other_kind(kind_at(schema, field), literal),

@@ -1,12 +1,12 @@
 //! The limits of a text.
 
 ghost use Rattle.std.specs.Prelude.{◌≡◌, Ok, length, nat_lt, sum_by};
-ghost use Rattle.ghost_model.specs.QueryMeaning as meaning;
-ghost use Rattle.ghost_model.specs.Tokens.{in_lower_case};
+ghost use Rattle.ghost_model.specs.refusals.QueryMeaning as meaning;
+ghost use Rattle.ghost_model.specs.refusals.Tokens.{in_lower_case};
 ghost use Rattle.spj_parse.specs.Drafts.{condition_of, item_of};
 ghost use Rattle.spj_parse.specs.Items.{items_in};
-ghost use Rattle.ghost_model.specs.QueryGrammar as grammar;
-ghost use Rattle.ghost_model.specs.QueryPlaces as places;
+ghost use Rattle.ghost_model.specs.refusals.QueryGrammar as grammar;
+ghost use Rattle.ghost_model.specs.readings.QueryPlaces as places;
 ghost use Rattle.spj_parse.specs.Rules.{columns_or, is_star, selects_all, weight_of, width_of};
 
 use crate::drafts::{ConditionDraft, Item};

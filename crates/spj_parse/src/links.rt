@@ -2,10 +2,11 @@
 
 ghost use Rattle.std.specs.Prelude.{◌≡◌, Ok, not};
 ghost use Rattle.std.specs.List.{list_any};
-ghost use Rattle.ghost_model.specs.QueryGrammar as grammar;
-ghost use Rattle.ghost_model.specs.QueryMeaning as meaning;
-ghost use Rattle.ghost_model.specs.QueryPlaces as places;
-ghost use Rattle.ghost_model.specs.Schema as model;
+ghost use Rattle.ghost_model.specs.refusals.QueryGrammar as grammar;
+ghost use Rattle.ghost_model.specs.core.Query as query;
+ghost use Rattle.ghost_model.specs.refusals.QueryMeaning as meaning;
+ghost use Rattle.ghost_model.specs.readings.QueryPlaces as places;
+ghost use Rattle.ghost_model.specs.core.Schema as model;
 ghost use Rattle.spj_parse.specs.Conditions.{IsClear};
 ghost use Rattle.spj_parse.specs.Items.{items_in};
 ghost use Rattle.spj_parse.specs.Links.{lacks_join_in, top_among};
@@ -15,14 +16,14 @@ use tree_schema::Schema;
 
 /// Whether a table is among these.
 pub(crate) fn is_among(tables: &[u8], table: usize) -> bool
-    ensures among { result ≡ meaning.is_among tables.now table }
+    ensures among { result ≡ query.is_among tables.now table }
 {
     tables.iter().any(|other| *other as usize == table)
 }
 
 /// Whether the parent of a table is among these.
 fn has_parent_among(schema: &Schema, tables: &[u8], table: u8) -> bool
-    ensures among { result ≡ meaning.is_some_among tables.now (model.parent schema.now table) }
+    ensures among { result ≡ query.is_some_among tables.now (model.parent schema.now table) }
 {
     match schema.parent(table as usize) {
         None => false,

@@ -1,9 +1,9 @@
 //! The values of literals.
 
 ghost use Rattle.std.specs.Prelude.{◌≡◌, ℕ, ◌+◌, ◌<◌, ◌^◌, ◌≤◌, ◌∷◌, ◌++◌, [], IfNone, IfSome, List, MatchOption, false, take, true};
-ghost use Rattle.ghost_model.specs.QueryMeaning as meaning;
-ghost use Rattle.ghost_model.specs.Tokens as tokens;
-ghost use Rattle.ghost_model.specs.Tokens.{number_of};
+ghost use Rattle.ghost_model.specs.refusals.QueryMeaning as meaning;
+ghost use Rattle.ghost_model.specs.refusals.Tokens as tokens;
+ghost use Rattle.ghost_model.specs.refusals.Tokens.{number_of};
 ghost use Rattle.tree_schema.specs.Marks as marks;
 ghost use Rattle.spj_parse.specs.Drafts.{sign_of};
 ghost use Rattle.spj_parse.specs.Literals.{Keeps, is_out, read_on};
@@ -75,7 +75,7 @@ enum InText {
 }
 
 /// What a byte does in a text literal, where the byte before closed it or not.
-#[tactic(auto, unfolding(ghost_model::specs::Tokens::quoted_from))]
+#[tactic(auto, unfolding(ghost_model::specs::refusals::Tokens::quoted_from))]
 fn step_in_text(ended: bool, byte: u8) -> InText
     ensures step { (value : List ℕ) (count : ℕ) (rest : List ℕ) → tokens.quoted_from ended value count (byte ∷ rest) ≡ read_on result byte value count rest }
 {

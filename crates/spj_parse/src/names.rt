@@ -1,9 +1,9 @@
 //! What the names of a text stand for.
 
 ghost use Rattle.std.specs.Prelude.{◌≡◌, ℕ, ◌<◌, List, IfSome, bytes_eq, option_map, option_to_list, slice_get};
-ghost use Rattle.ghost_model.specs.Schema as model;
-ghost use Rattle.ghost_model.specs.Tokens.{in_lower_case};
-ghost use Rattle.ghost_model.specs.QueryMeaning as meaning;
+ghost use Rattle.ghost_model.specs.core.Schema as model;
+ghost use Rattle.ghost_model.specs.refusals.Tokens.{in_lower_case};
+ghost use Rattle.ghost_model.specs.refusals.QueryMeaning as meaning;
 ghost use Rattle.spj_parse.specs.Drafts.{column_of};
 ghost use Rattle.spj_parse.specs.Names.{IsMeaning, fields_in, first_meaning, has_name, is_called, passes};
 ghost use Rattle.spj_parse.specs.Views.{field_of};

@@ -1,7 +1,7 @@
 //! Queries as values of a fixed size.
 
 ghost use Rattle.std.specs.Prelude.{◌≡◌, ℕ, ◌≤◌, List, false, filter, is_none, length, map};
-ghost use Rattle.ghost_model.specs.QueryMeaning as meaning;
+ghost use Rattle.ghost_model.specs.core.Query.{top_of};
 ghost use Rattle.spj_parse.specs.Resolved.{IsMeant, IsRead, is_comparison, is_join};
 ghost use Rattle.spj_parse.specs.Views.{comparison_of, field_of, join_of, query_of};
 
@@ -44,7 +44,7 @@ pub struct Query {
 }
 
 impl Model for Query {
-    ghost use Rattle.ghost_model.specs.Query as query;
+    ghost use Rattle.ghost_model.specs.core.Query as query;
 
     ghost Value = { query.Query };
 
@@ -111,7 +111,7 @@ impl Query {
     /// The top table over the schema: the one FROM table whose parent is not in FROM. Over the schema that its text was
     /// read over, there is one.
     pub fn top(&self, schema: &Schema) -> Option<u8>
-        ensures top { result ≡ meaning.top_of schema.now self.now }
+        ensures top { result ≡ top_of schema.now self.now }
         ensures some { (text : List ℕ) → IsMeant schema.now text self.now → is_none result ≡ false }
     {
         ghost_model::query::one_reading();

@@ -1,7 +1,7 @@
 //! The reading of a query text over a schema.
 
 ghost use Rattle.std.specs.Prelude.{◌≡◌, Err, IfErr, IfOk};
-ghost use Rattle.ghost_model.specs.QueryReading.{reading};
+ghost use Rattle.ghost_model.specs.readings.QueryReading.{reading};
 ghost use Rattle.spj_parse.specs.Resolved.{IsMeant};
 ghost use Rattle.spj_parse.specs.Views.{refusal_of};
 

@@ -2,11 +2,11 @@
 
 ghost use Rattle.std.specs.Prelude.{◌≡◌, ℕ, ◌<◌, ◌≤◌, IfSome, ◌++◌, ◌∷◌, [], List, flat_map, length, map, option_map, option_to_list, take};
 ghost use Rattle.ghost_base.specs.Views.{operator_of, value_of};
-ghost use Rattle.ghost_model.specs.Schema as model;
-ghost use Rattle.ghost_model.specs.Query as query;
-ghost use Rattle.ghost_model.specs.QueryMeaning as meaning;
-ghost use Rattle.ghost_model.specs.Tokens.{number_of};
-ghost use Rattle.ghost_model.specs.Values as values;
+ghost use Rattle.ghost_model.specs.core.Schema as model;
+ghost use Rattle.ghost_model.specs.core.Query as query;
+ghost use Rattle.ghost_model.specs.refusals.QueryMeaning as meaning;
+ghost use Rattle.ghost_model.specs.refusals.Tokens.{number_of};
+ghost use Rattle.ghost_model.specs.core.Values as values;
 ghost use Rattle.tree_schema.specs.Marks as marks;
 ghost use Rattle.spj_parse.specs.Drafts.{column_of, condition_of, item_of, literal_of, sign_of};
 ghost use Rattle.spj_parse.specs.Conditions.{first_alone};

@@ -2,11 +2,11 @@
 
 ghost use Rattle.std.specs.Prelude.{◌≡◌, ◌||◌, Ok, length, nat_lt};
 ghost use Rattle.std.specs.List.{list_any};
-ghost use Rattle.ghost_model.specs.QueryGrammar as grammar;
-ghost use Rattle.ghost_model.specs.QueryMeaning as meaning;
-ghost use Rattle.ghost_model.specs.QueryPlaces as places;
-ghost use Rattle.ghost_model.specs.Schema as model;
-ghost use Rattle.ghost_model.specs.Tokens.{in_lower_case};
+ghost use Rattle.ghost_model.specs.refusals.QueryGrammar as grammar;
+ghost use Rattle.ghost_model.specs.refusals.QueryMeaning as meaning;
+ghost use Rattle.ghost_model.specs.readings.QueryPlaces as places;
+ghost use Rattle.ghost_model.specs.core.Schema as model;
+ghost use Rattle.ghost_model.specs.refusals.Tokens.{in_lower_case};
 ghost use Rattle.spj_parse.specs.Drafts.{column_of, condition_of, item_of};
 ghost use Rattle.spj_parse.specs.Items.{items_in};
 ghost use Rattle.spj_parse.specs.Rules.{breaks_rule, column_breaks, is_long, is_unknown, name_breaks};

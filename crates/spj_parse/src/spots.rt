@@ -1,7 +1,7 @@
 //! Where a text was read to, and where a token leads from there.
 
 ghost use Rattle.std.specs.Prelude.{◌≡◌, option_map};
-ghost use Rattle.ghost_model.specs.QueryPlaces as places;
+ghost use Rattle.ghost_model.specs.readings.QueryPlaces as places;
 ghost use Rattle.tree_schema.specs.Marks.{symbol_of};
 ghost use Rattle.ghost_base.specs.Views.{operator_of};
 ghost use Rattle.spj_parse.specs.Items as items;

@@ -1,7 +1,7 @@
 //! Whether a text is in the grammar.
 
 ghost use Rattle.std.specs.Prelude.{◌≡◌, Err, OnOk, IfErr};
-ghost use Rattle.ghost_model.specs.QueryPlaces as places;
+ghost use Rattle.ghost_model.specs.readings.QueryPlaces as places;
 ghost use Rattle.spj_parse.specs.Walks.{HasTree};
 
 use crate::spots::{Spot, Turn, follow};

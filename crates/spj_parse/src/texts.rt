@@ -1,8 +1,8 @@
 //! The texts of a script, one after another.
 
 ghost use Rattle.std.specs.Prelude.{◌≡◌, ◌&&◌, ◌==◌, ◌∷◌, [], IfNone, IfSome, length};
-ghost use Rattle.ghost_model.specs.Texts as texts;
-ghost use Rattle.ghost_model.specs.Tokens as tokens;
+ghost use Rattle.ghost_model.specs.core.Texts as texts;
+ghost use Rattle.ghost_model.specs.refusals.Tokens as tokens;
 ghost use Rattle.spj_parse.specs.Parts.{CutsAt, even_after, parts_left, texts_left};
 
 use std::marker::Model;

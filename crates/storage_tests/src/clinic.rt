@@ -1,8 +1,8 @@
 //! The clinic's flash: what stands on which page, and what the files of its hidden columns read.
 
 ghost use Rattle.std.specs.Prelude.{IfSome};
-ghost use Rattle.ghost_model.specs.Database.{IsDatabase};
-ghost use Rattle.ghost_model.specs.Flash.{IsHidden};
+ghost use Rattle.ghost_model.specs.core.Database.{IsDatabase};
+ghost use Rattle.ghost_model.specs.forms.Flash.{IsHidden};
 ghost use Rattle.hidden_columns.specs.Files.{IsReadable};
 
 use crate::places::{CLINIC, catalog_bytes};

@@ -1,7 +1,7 @@
 //! Where the files and areas of worked catalogs lie.
 
 ghost use Rattle.std.specs.Prelude.{◌≡◌, ◌<◌, length, true};
-ghost use Rattle.ghost_model.specs.Layout as layout;
+ghost use Rattle.ghost_model.specs.forms.Layout as layout;
 
 use arrayvec::ArrayVec;
 use flash_layout::{

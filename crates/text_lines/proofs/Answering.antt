@@ -1,14 +1,14 @@
 -- Lines behind the rows of a text.
 use Rattle.std.proofs.Common.{◌≡◌, ◌+◌, ℕ, arith, true, List, [], ◌∷◌, ◌++◌, length, map, codes, Ok, Err, refl, sym, ◌∙◌, ap, subst, append-nil}
 use Rattle.std.specs.List.{concat}
-use Rattle.ghost_model.specs.Values.{Row}
-use Rattle.ghost_model.specs.Schema.{Schema}
-use Rattle.ghost_model.specs.Query.{Query}
-use Rattle.ghost_model.specs.QueryMeaning.{Refusal}
-use Rattle.ghost_model.specs.QueryReading.{reading}
-use Rattle.ghost_model.specs.Split.{Hidden}
-use Rattle.ghost_model.specs.Replies.{Reply, answer_from}
-use Rattle.ghost_model.specs.Printed.{row_line, count_line, word_line, answer_lines, refusal_line}
+use Rattle.ghost_model.specs.core.Values.{Row}
+use Rattle.ghost_model.specs.core.Schema.{Schema}
+use Rattle.ghost_model.specs.core.Query.{Query}
+use Rattle.ghost_model.specs.refusals.QueryMeaning.{Refusal}
+use Rattle.ghost_model.specs.readings.QueryReading.{reading}
+use Rattle.ghost_model.specs.core.Split.{Hidden}
+use Rattle.ghost_model.specs.core.Replies.{Reply, answer_from}
+use Rattle.ghost_model.specs.core.Printed.{row_line, count_line, word_line, answer_lines, refusal_line}
 use Rattle.channel_pump.specs.declared.state.ReplyState.{ReplyState}
 use Rattle.channel_pump.specs.declared.state.ReplyState.TheVariants as state_is
 use Rattle.text_lines.specs.Texts.{TellsAnswer, TellsText, is_refused, is_answered, IsToldBy, is_begun}

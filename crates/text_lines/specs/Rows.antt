@@ -1,10 +1,10 @@
 -- How the rows of a text end: all were printed, or some from the front of them and then the flash failed.
 use Rattle.std.specs.Prelude.{◌≡◌, ℕ, ◌+◌, ⊤, Bool, List, [], ◌++◌, length, map}
 use Rattle.std.specs.List.{concat}
-use Rattle.ghost_model.specs.Causes.{Rose}
-use Rattle.ghost_model.specs.Values.{Row}
-use Rattle.ghost_model.specs.Channel.{Catalog}
-use Rattle.ghost_model.specs.Printed.{row_line}
+use Rattle.ghost_model.specs.core.Causes.{Rose}
+use Rattle.ghost_model.specs.core.Values.{Row}
+use Rattle.ghost_model.specs.core.Channel.{Catalog}
+use Rattle.ghost_model.specs.core.Printed.{row_line}
 use Rattle.key_exec.specs.Blaming.{IsDamaged}
 use Rattle.key_lines.specs.Handing.{Handed, Hands}
 use Rattle.text_lines.specs.declared.rows.End.{End}

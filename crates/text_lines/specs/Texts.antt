@@ -1,16 +1,16 @@
 -- What the lines of a text tell, by the state of its replies.
 use Rattle.std.specs.Prelude.{◌≡◌, ℕ, ⊤, Bool, true, false, List, [], ◌∷◌, ◌++◌, map, codes, Ok, Err}
 use Rattle.std.specs.List.{concat}
-use Rattle.ghost_model.specs.Causes.{Rose}
-use Rattle.ghost_model.specs.Schema.{Schema}
-use Rattle.ghost_model.specs.Values.{Row}
-use Rattle.ghost_model.specs.Channel.{Catalog}
-use Rattle.ghost_model.specs.Query.{Query}
-use Rattle.ghost_model.specs.QueryMeaning.{Refusal}
-use Rattle.ghost_model.specs.QueryReading.{reading}
-use Rattle.ghost_model.specs.Split.{Hidden}
-use Rattle.ghost_model.specs.Replies.{Reply, answer_from}
-use Rattle.ghost_model.specs.Printed.{row_line, answer_lines, word_line, refusal_line}
+use Rattle.ghost_model.specs.core.Causes.{Rose}
+use Rattle.ghost_model.specs.core.Schema.{Schema}
+use Rattle.ghost_model.specs.core.Values.{Row}
+use Rattle.ghost_model.specs.core.Channel.{Catalog}
+use Rattle.ghost_model.specs.core.Query.{Query}
+use Rattle.ghost_model.specs.refusals.QueryMeaning.{Refusal}
+use Rattle.ghost_model.specs.readings.QueryReading.{reading}
+use Rattle.ghost_model.specs.core.Split.{Hidden}
+use Rattle.ghost_model.specs.core.Replies.{Reply, answer_from}
+use Rattle.ghost_model.specs.core.Printed.{row_line, answer_lines, word_line, refusal_line}
 use Rattle.key_exec.specs.Blaming.{IsDamaged}
 use Rattle.key_lines.specs.Handing.{Handed, Hands}
 use Rattle.channel_pump.specs.declared.state.ReplyState.{ReplyState}

@@ -1,8 +1,8 @@
 //! The lines of rows.
 
 ghost use Rattle.std.specs.Prelude.{◌≡◌, ◌≤◌, true, false, map, min};
-ghost use Rattle.ghost_model.specs.Causes.{last_count};
-ghost use Rattle.ghost_model.specs.Values.{Database};
+ghost use Rattle.ghost_model.specs.core.Causes.{last_count};
+ghost use Rattle.ghost_model.specs.core.Values.{Database};
 ghost use Rattle.edge_traits.specs.Devices.{KeepsPages};
 ghost use Rattle.key_lines.specs.Handing.{handed};
 ghost use Rattle.reply_store.specs.Stored.{replies_in, are_ascending};

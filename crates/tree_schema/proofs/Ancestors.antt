@@ -4,8 +4,8 @@ use Rattle.std.specs.List.{list_any, AllByRecursion, IsDistinct}
 use Rattle.std.proofs.lemmas.Bool.{ne_eqb, eqb-true, cases_lt}
 use Rattle.std.proofs.lemmas.Map.Steps.{length-le_from_distinct_below}
 use Rattle.std.proofs.lemmas.Option.{slice_get_past}
-use Rattle.ghost_model.specs.Schema.{Schema, Table, places_from, first_of, is_empty, keys_to, parent}
-use Rattle.ghost_model.specs.SchemaFaults.{ancestor, Returns}
+use Rattle.ghost_model.specs.core.Schema.{Schema, Table, places_from, first_of, is_empty, references_to, parent, ancestor}
+use Rattle.ghost_model.specs.laws.SchemaTrees.{Returns}
 
 some_before : (o : Option ℕ) (f : ℕ → Option ℕ) (x : ℕ) → option_and_then f o ≡ Some x → (y : ℕ) × (o ≡ Some y) × (f y ≡ Some x)
 some_before None f x e = absurd (cc)
@@ -21,7 +21,7 @@ first_below test [] at p e = absurd (cc)
 first_below test (x ∷ xs) at p e = first_by (test x) at p (length xs) _ _ e (first_below test xs (at + 1) p)
 
 parent_below : (schema : Schema) (table p : ℕ) → parent schema table ≡ Some p → p < length schema
-parent_below schema table p e = let h : p < 0 + length schema = first_below (λ (holder : Table). not (is_empty (keys_to table holder))) schema 0 p e in omega (arith, h)
+parent_below schema table p e = let h : p < 0 + length schema = first_below (λ (holder : Table). not (is_empty (references_to table holder))) schema 0 p e in omega (arith, h)
 
 far : (schema : Schema) (table y j i total : ℕ) → total ≡ i + j → ancestor schema j table ≡ Some y → ancestor schema total table ≡ ancestor schema i y
 unfolding ancestor

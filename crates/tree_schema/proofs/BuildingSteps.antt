@@ -1,10 +1,12 @@
 -- What is within the limits as a whole is so in each part, and the rules by what is written and by what is built.
-use Rattle.std.proofs.Common.{◌≡◌, ℕ, zero, suc, ◌+◌, ◌<◌, Bool, true, false, ◌||◌, List, [], ◌∷◌, length, map, get_or, find, Option, Some, None, option_map, if◌then◌else◌, refl, ap, sym, ◌∙◌, arith}
+use Rattle.std.proofs.Common.{◌≡◌, ℕ, zero, suc, ◌+◌, ◌<◌, Bool, true, false, ◌||◌, List, [], ◌∷◌, length, map, get_or, find, Option, Some, None, option_map, refl, ap, sym, ◌∙◌, arith}
 use Rattle.std.specs.List.{list_any}
-use Rattle.ghost_model.specs.Schema.{places_from}
-use Rattle.ghost_model.specs.SchemaGrammar.{SchemaText}
-use Rattle.ghost_model.specs.SchemaMeaning as meaning
-use Rattle.ghost_model.specs.SchemaFaults as faults
+use Rattle.std.specs.Option.{option_or}
+use Rattle.ghost_model.specs.core.Schema.{places_from, places_of}
+use Rattle.ghost_model.specs.refusals.Rules.{broken_if, first_broken}
+use Rattle.ghost_model.specs.refusals.SchemaGrammar.{SchemaText}
+use Rattle.ghost_model.specs.refusals.SchemaMeaning as meaning
+use Rattle.ghost_model.specs.refusals.SchemaFaults as faults
 use Rattle.tree_schema.specs.declared.syntax.ColumnDraft.{ColumnDraft}
 use Rattle.tree_schema.specs.declared.syntax.TableDraft.{TableDraft}
 use Rattle.tree_schema.specs.Drafts as drafts
@@ -36,22 +38,30 @@ unfolding places_from
 same_places view [] at = refl
 same_places view (x ∷ xs) at = ap (λ places. at ∷ places) (same_places view xs (at + 1))
 
-then_rest : {X : Type 0} (a b c d rest : Option X) → faults.or_else a (faults.or_else b (faults.or_else c d)) ≡ None
-    → faults.or_else a (faults.or_else b (faults.or_else c (faults.or_else d rest))) ≡ rest
+last_rule : {X : Type 0} (o : Option X) → option_or o None ≡ o
+last_rule None = refl
+last_rule (Some x) = refl
+
+then_rest : {X : Type 0} (a b c d rest : Option X) → option_or a (option_or b (option_or c d)) ≡ None
+    → option_or a (option_or b (option_or c (option_or d rest))) ≡ rest
 then_rest None None None None rest e = refl
 then_rest None None None (Some x) rest e = absurd (cc)
 then_rest None None (Some x) d rest e = absurd (cc)
 then_rest None (Some x) c d rest e = absurd (cc)
 then_rest (Some x) b c d rest e = absurd (cc)
 
-abbrev rest_by : SchemaText → List ℕ → Option faults.SchemaFault
-rest_by tables places =
-    faults.or_else (option_map faults.TwoParents (find (is_shared (meaning.schema_of tables)) places))
-    (faults.or_else (option_map faults.Cycle (find (faults.returns (meaning.schema_of tables)) places))
-    (faults.wrong_roots (faults.roots_of (meaning.schema_of tables))))
+abbrev rest_by : SchemaText → List ℕ → Option faults.SchemaFault → Option faults.SchemaFault
+rest_by tables places roots =
+    option_or (option_map faults.TwoParents (find (is_shared (meaning.schema_of tables)) places))
+    (option_or (option_map faults.Cycle (find (faults.returns (meaning.schema_of tables)) places)) roots)
 
-pub tree_decides : (tables : SchemaText) → fault_of_texts tables ≡ None → faults.schema_fault tables ≡ fault_of_tree (meaning.schema_of tables)
+abbrev by_roots : SchemaText → Option faults.SchemaFault
+by_roots tables = faults.wrong_roots (faults.roots_of (meaning.schema_of tables))
+
+pub tree_decides : (tables : SchemaText) → fault_of_texts tables ≡ None → first_broken (faults.rules_of_schemas tables) ≡ fault_of_tree (meaning.schema_of tables)
 tree_decides tables e =
-    then_rest (if faults.is_over tables then Some faults.Limit else None) (faults.duplicate_in tables) (option_map faults.NoId (find (faults.lacks_id tables) (faults.places_of tables)))
-    (faults.unknown_in tables) (rest_by tables (faults.places_of tables)) e
-    ∙ ap (rest_by tables) (sym (same_places (meaning.table_of tables) tables 0))
+    then_rest (broken_if (faults.is_over tables) faults.Limit) (option_map faults.duplicate_at (find (faults.is_duplicate tables) (faults.fields tables)))
+    (option_map faults.NoId (find (faults.lacks_id tables) (places_of tables)))
+    (option_map faults.unknown_at (find (faults.is_unknown tables) (faults.fields tables))) (rest_by tables (places_of tables) (option_or (by_roots tables) None)) e
+    ∙ (ap (rest_by tables (places_of tables)) (last_rule (by_roots tables))
+    ∙ ap (λ places. rest_by tables places (by_roots tables)) (sym (same_places (meaning.table_of tables) tables 0)))

@@ -1,8 +1,8 @@
 -- How long the bytes of a catalog are.
 use Rattle.std.proofs.Common.{◌≡◌, ℕ, ◌+◌, ◌*◌, ◌≤◌, List, [], ◌∷◌, ◌++◌, length, refl, ap, ◌∙◌, length-append, arith}
 use Rattle.std.specs.Int.{to_be_bytes, w32}
-use Rattle.ghost_model.specs.Channel.{Catalog}
-use Rattle.ghost_model.specs.Catalog.{canonical_text, catalog_head, counts_bytes, catalog_bytes}
+use Rattle.ghost_model.specs.core.Channel.{Catalog}
+use Rattle.ghost_model.specs.forms.Catalog.{canonical_text, catalog_head, counts_bytes, catalog_bytes}
 
 counts_length : (counts : List ℕ) → length (counts_bytes counts) ≡ 4 * length counts
 counts_length [] = refl

@@ -3,7 +3,7 @@ use Rattle.std.proofs.Common.{◌≡◌, ℕ, ◌<◌, ◌≤◌, Bool, true, �
 use Rattle.std.specs.Int.{to_be_bytes, w32}
 use Rattle.std.proofs.lemmas.Bool.{and_parts, leb-true}
 use Rattle.std.proofs.lemmas.List.Folds.{list_all-append}
-use Rattle.ghost_model.specs.Catalog.{counts_bytes}
+use Rattle.ghost_model.specs.forms.Catalog.{counts_bytes}
 use Rattle.tree_schema.specs.Catalogs.{are_counts}
 use Rattle.tree_schema.specs.CatalogParts.{BeginsWithCount}
 

@@ -13,5 +13,4 @@ pub mod RuleSteps
 pub mod TreeSteps
 pub mod BuildingSteps
 pub mod CatalogParts
-pub mod ByteLemmas
 pub mod AnySteps

@@ -2,7 +2,7 @@
 use Rattle.std.proofs.Common.{◌≡◌, ◌≢◌, ℕ, zero, suc, ◌+◌, ◌<◌, ◌≤◌, Bool, true, false, cond, ◌==◌, List, [], ◌∷◌, ◌++◌, length, get_or, take, drop, refl, ap, ap₂, sym, subst, ◌∙◌, drop-cons, add-one, eq-eqb, not, ◌&&◌, arith}
 use Rattle.std.proofs.lemmas.Bool.{ne_eqb, le-leb}
 use Rattle.std.proofs.lemmas.List.{drop_all}
-use Rattle.ghost_model.specs.Tokens.{Read, read, Quoted, Bad, quoted_from, is_printable}
+use Rattle.ghost_model.specs.refusals.Tokens.{Read, read, Quoted, NoToken, quoted_from, is_printable}
 use Rattle.tree_schema.specs.declared.tokens.Mark.TheVariants as mark
 use Rattle.tree_schema.specs.Marks.{value_in, Begins}
 
@@ -26,7 +26,7 @@ opens text at s within e =
     record {
       value = s.value;
       is = now text false at s within
-          ∙ ap (λ t. cond t (quoted_from true s.value (at + 1 + 1) (drop (at + 1) text)) (cond (is_printable (get_or text at 0)) (quoted_from false (s.value ++ get_or text at 0 ∷ []) (at + 1 + 1) (drop (at + 1) text)) (read Bad 1))) (eq-eqb (get_or text at 0) 39 e);
+          ∙ ap (λ t. cond t (quoted_from true s.value (at + 1 + 1) (drop (at + 1) text)) (cond (is_printable (get_or text at 0)) (quoted_from false (s.value ++ get_or text at 0 ∷ []) (at + 1 + 1) (drop (at + 1) text)) (read NoToken 1))) (eq-eqb (get_or text at 0) 39 e);
     }
 
 pub doubles : (text : List ℕ) (at : ℕ) → Stands text true at → at < length text → get_or text at 0 ≡ 39 → Stands text false (at + 1)
@@ -44,15 +44,15 @@ goes_on text at s within e p =
     record {
       value = s.value ++ get_or text at 0 ∷ [];
       is = now text false at s within
-          ∙ ap₂ (λ t u. cond t (quoted_from true s.value (at + 1 + 1) (drop (at + 1) text)) (cond u (quoted_from false (s.value ++ get_or text at 0 ∷ []) (at + 1 + 1) (drop (at + 1) text)) (read Bad 1))) (ne_eqb (get_or text at 0) 39 e) p;
+          ∙ ap₂ (λ t u. cond t (quoted_from true s.value (at + 1 + 1) (drop (at + 1) text)) (cond u (quoted_from false (s.value ++ get_or text at 0 ∷ []) (at + 1 + 1) (drop (at + 1) text)) (read NoToken 1))) (ne_eqb (get_or text at 0) 39 e) p;
     }
 
 pub breaks : (text : List ℕ) (at : ℕ) → Stands text false at → at < length text → get_or text at 0 ≢ 39 → is_printable (get_or text at 0) ≡ false
-    → quoted_from false [] 1 text ≡ read Bad 1
+    → quoted_from false [] 1 text ≡ read NoToken 1
 unfolding quoted_from
 breaks text at s within e p =
     now text false at s within
-    ∙ ap₂ (λ t u. cond t (quoted_from true s.value (at + 1 + 1) (drop (at + 1) text)) (cond u (quoted_from false (s.value ++ get_or text at 0 ∷ []) (at + 1 + 1) (drop (at + 1) text)) (read Bad 1))) (ne_eqb (get_or text at 0) 39 e) p
+    ∙ ap₂ (λ t u. cond t (quoted_from true s.value (at + 1 + 1) (drop (at + 1) text)) (cond u (quoted_from false (s.value ++ get_or text at 0 ∷ []) (at + 1 + 1) (drop (at + 1) text)) (read NoToken 1))) (ne_eqb (get_or text at 0) 39 e) p
 
 pub ends : (text : List ℕ) (at : ℕ) → Stands text true at → at < length text → get_or text at 0 ≢ 39
     → (value : List ℕ) × (quoted_from false [] 1 text ≡ read (Quoted value) (at + 1))
@@ -68,7 +68,7 @@ pub ends_last : (text : List ℕ) (at : ℕ) → Stands text true at → length 
 unfolding quoted_from
 ends_last text at s past = (s.value, s.is ∙ ap (quoted_from true s.value (at + 1)) (drop_all at text past))
 
-pub breaks_last : (text : List ℕ) (at : ℕ) → Stands text false at → length text ≤ at → quoted_from false [] 1 text ≡ read Bad 1
+pub breaks_last : (text : List ℕ) (at : ℕ) → Stands text false at → length text ≤ at → quoted_from false [] 1 text ≡ read NoToken 1
 unfolding quoted_from
 breaks_last text at s past = s.is ∙ ap (quoted_from false s.value (at + 1)) (drop_all at text past)
 
@@ -87,11 +87,11 @@ counts_ended : (t : Bool) (more here : Read) (n m : ℕ) (w v : List ℕ) → (m
 counts_ended true more here n m w v h f e = omega (arith, h e)
 counts_ended false more here n m w v h f e = omega (arith, ap (λ (r : Read). r.bytes) (sym f ∙ e))
 
-no_literal : (w : List ℕ) (n m : ℕ) → read Bad n ≡ read (Quoted w) m → ⊥
-no_literal w n m e = let same : Bad ≡ Quoted w = ap (λ (r : Read). r.symbol) e in cc
+no_literal : (w : List ℕ) (n m : ℕ) → read NoToken n ≡ read (Quoted w) m → ⊥
+no_literal w n m e = let same : NoToken ≡ Quoted w = ap (λ (r : Read). r.symbol) e in cc
 
 counts_open : (t u : Bool) (ended more : Read) (n m : ℕ) (w : List ℕ) → (ended ≡ read (Quoted w) m → n + 1 ≤ m) → (more ≡ read (Quoted w) m → n + 1 + 1 ≤ m)
-    → cond t ended (cond u more (read Bad 1)) ≡ read (Quoted w) m → n + 1 ≤ m
+    → cond t ended (cond u more (read NoToken 1)) ≡ read (Quoted w) m → n + 1 ≤ m
 counts_open true u ended more n m w h g e = h e
 counts_open false true ended more n m w h g e = omega (arith, g e)
 counts_open false false ended more n m w h g e = absurd (no_literal w 1 m e)

@@ -1,7 +1,7 @@
 -- The tokens that lead nowhere within a column, and those that do not end one.
 use Rattle.std.proofs.Common.{◌≡◌, ◌≢◌, ℕ, Bool, true, false, List, Option, Some, None, option_map, refl, ap, sym, ◌∙◌}
-use Rattle.ghost_model.specs.SchemaGrammar as grammar
-use Rattle.ghost_model.specs.SchemaPlaces as places
+use Rattle.ghost_model.specs.refusals.SchemaGrammar as grammar
+use Rattle.ghost_model.specs.readings.SchemaPlaces as places
 use Rattle.tree_schema.specs.declared.tokens.Mark.{Mark}
 use Rattle.tree_schema.specs.declared.tokens.Mark.TheVariants as mark
 use Rattle.tree_schema.specs.declared.syntax.ColumnDraft.{ColumnDraft}
@@ -64,13 +64,13 @@ after_integer name bytes false (Some (grammar.To table true)) _ h g f e = refl
 after_integer name bytes false (Some (grammar.To table false)) _ h g f e = refl
 
 -- a token that is neither comma nor parenthesis goes on in the column
-pub goes_on : (tables : grammar.SchemaText) (name : List ℕ) (columns : List grammar.ColumnText) (last : grammar.ColumnText) (bytes : List ℕ) (m : Mark) → m ≢ mark.Comma → m ≢ mark.Closing
+pub goes_on : (tables : grammar.SchemaText) (name : List ℕ) (columns : List grammar.ColumnDeclaration) (last : grammar.ColumnDeclaration) (bytes : List ℕ) (m : Mark) → m ≢ mark.Comma → m ≢ mark.Closing
     → option_map (places.Within tables name columns) (places.after_column last (symbol_of m bytes)) ≡ places.step_within tables name columns (places.Whole last) (symbol_of m bytes)
 goes_on tables name columns last bytes mark.Comma h g = absurd (h refl)
 goes_on tables name columns last bytes mark.Closing h g = absurd (g refl)
 goes_on tables name columns last bytes _ h g = refl
 
-pub goes_within : (tables : grammar.SchemaText) (name : List ℕ) (columns : List grammar.ColumnText) (last : InColumn) (bytes : List ℕ) (m : Mark) → ((column : ColumnDraft) → last ≡ within.Whole column → ⊥)
+pub goes_within : (tables : grammar.SchemaText) (name : List ℕ) (columns : List grammar.ColumnDeclaration) (last : InColumn) (bytes : List ℕ) (m : Mark) → ((column : ColumnDraft) → last ≡ within.Whole column → ⊥)
     → option_map (places.Within tables name columns) (places.step_in (in_column_of last) (symbol_of m bytes)) ≡ places.step_within tables name columns (in_column_of last) (symbol_of m bytes)
 goes_within tables name columns (within.Whole column) bytes m h = absurd (h column refl)
 goes_within tables name columns (within.Named _) bytes m h = refl

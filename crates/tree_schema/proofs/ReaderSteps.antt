@@ -4,11 +4,11 @@ use Rattle.std.specs.List.{list_any}
 use Rattle.std.proofs.lemmas.Bool.{lt-ltb, ltb-true}
 use Rattle.arrayvec.specs.ArrayVec.{ArrayVec}
 use Rattle.std.proofs.lemmas.List.{length-map, map-append}
-use Rattle.ghost_model.specs.Tokens as tokens
-use Rattle.ghost_model.specs.Tokens.{in_lower_case}
-use Rattle.ghost_model.specs.SchemaGrammar as grammar
-use Rattle.ghost_model.specs.SchemaFaults.{is_long, is_column_over, is_table_over, is_over}
-use Rattle.ghost_model.specs.SchemaPlaces as places
+use Rattle.ghost_model.specs.refusals.Tokens as tokens
+use Rattle.ghost_model.specs.refusals.Tokens.{in_lower_case}
+use Rattle.ghost_model.specs.refusals.SchemaGrammar as grammar
+use Rattle.ghost_model.specs.refusals.SchemaFaults.{is_long, is_column_over, is_table_over, is_over}
+use Rattle.ghost_model.specs.readings.SchemaPlaces as places
 use Rattle.tree_schema.specs.declared.tokens.Mark.{Mark}
 use Rattle.tree_schema.specs.declared.tokens.Mark.TheVariants as mark
 use Rattle.tree_schema.specs.declared.tokens.Token.{Token}
@@ -19,25 +19,25 @@ use Rattle.tree_schema.specs.declared.syntax.Reader.{Reader}
 use Rattle.tree_schema.specs.Marks.{symbol_of, token_of}
 use Rattle.tree_schema.specs.Drafts.{in_column_of, column_of, table_of, after_column, before_last, last_of, behind, named, opened, Leads, Stops, ReadsNext, ReadsEnd, StopsEnd, ReadsOthers, StopsOthers, KeepsOthers, ReadsTable, KeepsTable, read_from, Takes, IsOut}
 
-pub taken : (p : places.Place) (next : Option places.Place) (before after : Reader) (token : Token) → Takes before token after → places.step p (symbol_of token.mark token.bytes.now) ≡ next
+pub taken : (p : places.SchemaPlace) (next : Option places.SchemaPlace) (before after : Reader) (token : Token) → Takes before token after → places.step p (symbol_of token.mark token.bytes.now) ≡ next
     → read_from p before ≡ places.syntax_from next token.at after.cursor
 unfolding places.syntax_from
 taken p next before after token h e =
     ap (λ cursor. places.syntax_from (Some p) before.at cursor) h.tokens
     ∙ ap (λ q. places.syntax_from q token.at after.cursor) e
 
-pub leads : (p q : places.Place) (before after : Reader) (token : Token) → Takes before token after → places.step p (symbol_of token.mark token.bytes.now) ≡ Some q → read_from p before ≡ read_from q after
+pub leads : (p q : places.SchemaPlace) (before after : Reader) (token : Token) → Takes before token after → places.step p (symbol_of token.mark token.bytes.now) ≡ Some q → read_from p before ≡ read_from q after
 leads p q before after token h e = taken p (Some q) before after token h e ∙ ap (λ at. places.syntax_from (Some q) at after.cursor) (sym h.place)
 
-pub stops : (p : places.Place) (before after : Reader) (token : Token) → Takes before token after → None ≡ places.step p (symbol_of token.mark token.bytes.now) → read_from p before ≡ Err token.at
+pub stops : (p : places.SchemaPlace) (before after : Reader) (token : Token) → Takes before token after → None ≡ places.step p (symbol_of token.mark token.bytes.now) → read_from p before ≡ Err token.at
 unfolding places.syntax_from
 stops p before after token h e = taken p None before after token h (sym e)
 
-pub is_out : (p : places.Place) (before after : Reader) → IsOut before after → places.tree_at p before.at ≡ Err before.at → read_from p before ≡ Err after.at
+pub is_out : (p : places.SchemaPlace) (before after : Reader) → IsOut before after → places.tree_at p before.at ≡ Err before.at → read_from p before ≡ Err after.at
 unfolding places.syntax_from
 is_out p before after h e = ap (λ cursor. places.syntax_from (Some p) before.at cursor) h.none ∙ e ∙ ap (λ at. Err at) (sym h.place)
 
-pub by_mark : (p q : places.Place) (before after : Reader) (token : Token) (m : Mark) → Takes before token after → token.mark ≡ m → places.step p (symbol_of m token.bytes.now) ≡ Some q → read_from p before ≡ read_from q after
+pub by_mark : (p q : places.SchemaPlace) (before after : Reader) (token : Token) (m : Mark) → Takes before token after → token.mark ≡ m → places.step p (symbol_of m token.bytes.now) ≡ Some q → read_from p before ≡ read_from q after
 by_mark p q before after token m h f e = leads p q before after token h (ap (λ n. places.step p (symbol_of n token.bytes.now)) f ∙ e)
 
 pub fewer : (before after : Reader) (token : Token) → Takes before token after → length after.cursor < length before.cursor
@@ -46,7 +46,7 @@ fewer before after token h = let count : length before.cursor ≡ length (token_
 -- how far a column was read
 pub record IsWithin (before : Reader) (named : List ℕ) (now : Reader) (last : InColumn) : Type 0 where
   pub leads :
-      (tables : grammar.SchemaText) (name : List ℕ) (columns : List grammar.ColumnText)
+      (tables : grammar.SchemaText) (name : List ℕ) (columns : List grammar.ColumnDeclaration)
       → read_from (places.Within tables name columns (places.Named named)) before ≡ read_from (places.Within tables name columns (in_column_of last)) now
   pub fewer : length now.cursor ≤ length before.cursor
 
@@ -62,33 +62,33 @@ pub no_parenthesis : (tables : grammar.SchemaText) (name bytes : List ℕ) (m : 
 no_parenthesis tables name bytes mark.Open h = absurd (h refl)
 no_parenthesis tables name bytes _ h = refl
 
-pub no_column_name : (tables : grammar.SchemaText) (name : List ℕ) (columns : List grammar.ColumnText) (bytes : List ℕ) (m : Mark) → m ≢ mark.Name → None ≡ places.step (places.WantsColumn tables name columns) (symbol_of m bytes)
+pub no_column_name : (tables : grammar.SchemaText) (name : List ℕ) (columns : List grammar.ColumnDeclaration) (bytes : List ℕ) (m : Mark) → m ≢ mark.Name → None ≡ places.step (places.WantsColumn tables name columns) (symbol_of m bytes)
 no_column_name tables name columns bytes mark.Name h = absurd (h refl)
 no_column_name tables name columns bytes _ h = refl
 
-pub no_semicolon : (tables : grammar.SchemaText) (name : List ℕ) (columns : List grammar.ColumnText) (last : grammar.ColumnText) (bytes : List ℕ) (m : Mark) → m ≢ mark.Semicolon → None ≡ places.step (places.AfterColumns tables name columns last) (symbol_of m bytes)
+pub no_semicolon : (tables : grammar.SchemaText) (name : List ℕ) (columns : List grammar.ColumnDeclaration) (last : grammar.ColumnDeclaration) (bytes : List ℕ) (m : Mark) → m ≢ mark.Semicolon → None ≡ places.step (places.AfterColumns tables name columns last) (symbol_of m bytes)
 no_semicolon tables name columns last bytes mark.Semicolon h = absurd (h refl)
 no_semicolon tables name columns last bytes _ h = refl
 
 -- the columns of a table that were read so far
 pub record HoldsColumns (before : Reader) (more : Bool) (now : Reader) (kept : List ColumnDraft) (over follows : Bool) : Type 0 where
-  pub others : List grammar.ColumnText
+  pub others : List grammar.ColumnDeclaration
   pub leads :
-      (tables : grammar.SchemaText) (name : List ℕ) (first : grammar.ColumnText)
+      (tables : grammar.SchemaText) (name : List ℕ) (first : grammar.ColumnDeclaration)
       → read_from (behind tables name first [] more) before ≡ read_from (behind tables name first others follows) now
   pub whole : over ≡ false → map column_of kept ≡ others
   pub many : over ≡ true → 23 < length others
   pub fewer : length now.cursor ≤ length before.cursor
 
-before_last_more : (first : grammar.ColumnText) (others : List grammar.ColumnText) (last : grammar.ColumnText) → before_last first (others ++ last ∷ []) ≡ first ∷ others
+before_last_more : (first : grammar.ColumnDeclaration) (others : List grammar.ColumnDeclaration) (last : grammar.ColumnDeclaration) → before_last first (others ++ last ∷ []) ≡ first ∷ others
 before_last_more first [] last = refl
 before_last_more first (second ∷ others) last = ap (λ columns. first ∷ columns) (before_last_more second others last)
 
-last_of_more : (first : grammar.ColumnText) (others : List grammar.ColumnText) (last : grammar.ColumnText) → last_of first (others ++ last ∷ []) ≡ last
+last_of_more : (first : grammar.ColumnDeclaration) (others : List grammar.ColumnDeclaration) (last : grammar.ColumnDeclaration) → last_of first (others ++ last ∷ []) ≡ last
 last_of_more first [] last = refl
 last_of_more first (second ∷ others) last = last_of_more second others last
 
-one_more : (tables : grammar.SchemaText) (name : List ℕ) (first : grammar.ColumnText) (others : List grammar.ColumnText) (last : grammar.ColumnText) (more : Bool)
+one_more : (tables : grammar.SchemaText) (name : List ℕ) (first : grammar.ColumnDeclaration) (others : List grammar.ColumnDeclaration) (last : grammar.ColumnDeclaration) (more : Bool)
     → after_column tables name (first ∷ others) last more ≡ behind tables name first (others ++ last ∷ []) more
 one_more tables name first others last true = refl
 one_more tables name first others last false = ap₂ (places.AfterColumns tables name) (sym (before_last_more first others last)) (sym (last_of_more first others last))
@@ -124,18 +124,18 @@ another before more now next kept new over wider follows again column h f reads 
     longer true e n = let m : 23 < length h.others = h.many e in omega (arith, m, size)
     longer false e n = let same : length h.others ≡ length kept = ap length (sym (h.whole e)) ∙ length-map kept column_of in omega (arith, same, n, size)
 
-rejoined : (first : grammar.ColumnText) (others : List grammar.ColumnText) → before_last first others ++ last_of first others ∷ [] ≡ first ∷ others
+rejoined : (first : grammar.ColumnDeclaration) (others : List grammar.ColumnDeclaration) → before_last first others ++ last_of first others ∷ [] ≡ first ∷ others
 rejoined first [] = refl
 rejoined first (second ∷ others) = ap (λ columns. first ∷ columns) (rejoined second others)
 
-abbrev pub table_text : List ℕ → grammar.ColumnText → List grammar.ColumnText → grammar.TableText
+abbrev pub table_text : List ℕ → grammar.ColumnDeclaration → List grammar.ColumnDeclaration → grammar.TableText
 table_text name first others = record { name = name; first = first; others = others }
 
-whole_table : (name : List ℕ) (first : grammar.ColumnText) (others : List grammar.ColumnText) → places.table_from name (before_last first others) (last_of first others) ≡ table_text name first others
+whole_table : (name : List ℕ) (first : grammar.ColumnDeclaration) (others : List grammar.ColumnDeclaration) → places.table_from name (before_last first others) (last_of first others) ≡ table_text name first others
 whole_table name first [] = refl
 whole_table name first (second ∷ others) = ap (table_text name first) (rejoined second others)
 
-first_behind : (tables : grammar.SchemaText) (name : List ℕ) (first : grammar.ColumnText) (more : Bool) (now : Reader) → read_from (after_column tables name [] first more) now ≡ read_from (behind tables name first [] more) now
+first_behind : (tables : grammar.SchemaText) (name : List ℕ) (first : grammar.ColumnDeclaration) (more : Bool) (now : Reader) → read_from (after_column tables name [] first more) now ≡ read_from (behind tables name first [] more) now
 first_behind tables name first true now = refl
 first_behind tables name first false now = refl
 
@@ -143,7 +143,7 @@ or_middle : (a b c : Bool) → b ≡ true → (a || b || c) ≡ true
 or_middle true b c e = refl
 or_middle false b c e = ap (λ t. t || c) e
 
-too_wide : (name : List ℕ) (first : grammar.ColumnText) (others : List grammar.ColumnText) → 23 < length others → is_table_over (table_text name first others) ≡ true
+too_wide : (name : List ℕ) (first : grammar.ColumnDeclaration) (others : List grammar.ColumnDeclaration) → 23 < length others → is_table_over (table_text name first others) ≡ true
 too_wide name first others h = or_middle (is_long name) _ (list_any is_column_over (first ∷ others)) (lt-ltb 24 (length (first ∷ others)) (let count : length (first ∷ others) ≡ suc (length others) = refl in omega (arith, count, h)))
 
 -- the front of a table up to its first column

@@ -1,5 +1,5 @@
 -- The rules place by place: the first place that breaks one, and the length that digits write.
-use Rattle.std.proofs.Common.{◌≡◌, ℕ, zero, suc, ◌+◌, ◌-◌, ◌*◌, ◌<◌, ◌≤◌, Bool, true, false, cond, ◌&&◌, ◌||◌, ◌==◌, nat_le, List, [], ◌∷◌, ◌++◌, length, map, take, drop, find, slice_get, bytes_eq, Option, Some, None, option_map, Bor, if◌then◌else◌, refl, ap, sym, ◌∙◌, add-one, get_or, drop-cons, inl, inr, arith}
+use Rattle.std.proofs.Common.{◌≡◌, ℕ, zero, suc, ◌+◌, ◌-◌, ◌*◌, ◌<◌, ◌≤◌, Bool, true, false, cond, ◌&&◌, ◌||◌, ◌==◌, nat_le, List, [], ◌∷◌, ◌++◌, length, map, take, drop, find, slice_get, bytes_eq, Option, Some, None, option_map, Bor, refl, ap, sym, ◌∙◌, add-one, get_or, drop-cons, inl, inr, arith}
 use Rattle.std.specs.List.{list_any, fold, count_by, sum_by}
 use Rattle.std.specs.Option.{option_or}
 use Rattle.std.proofs.lemmas.Bool.{ne_eqb}
@@ -9,12 +9,13 @@ use Rattle.std.proofs.lemmas.List.Folds.{find-append, fold-map}
 use Rattle.std.proofs.lemmas.List.Sums.{sum_by-cons}
 use Rattle.std.specs.Slice.{IsItemAt}
 use Rattle.std.proofs.lemmas.Option.{slice_get-map, slice_get_read, slice_get_past}
-use Rattle.ghost_model.specs.Tokens.{is_between}
-use Rattle.ghost_model.specs.Query.{Field}
-use Rattle.ghost_model.specs.Schema.{places_from}
-use Rattle.ghost_model.specs.SchemaGrammar.{TableText, SchemaText}
-use Rattle.ghost_model.specs.SchemaMeaning.{columns_written}
-use Rattle.ghost_model.specs.SchemaFaults.{places_of, is_name, repeats, column_name, columns_at, table_repeats, is_duplicate, fields, fields_from, is_over, lacks_id, is_unknown, SchemaFault, Limit, DuplicateName, NoId, UnknownTable, or_else, duplicate_in, unknown_in}
+use Rattle.ghost_model.specs.refusals.Tokens.{is_between}
+use Rattle.ghost_model.specs.core.Query.{Field}
+use Rattle.ghost_model.specs.core.Schema.{places_from, places_of}
+use Rattle.ghost_model.specs.refusals.Rules.{broken_if}
+use Rattle.ghost_model.specs.refusals.SchemaGrammar.{TableText, SchemaText}
+use Rattle.ghost_model.specs.refusals.SchemaMeaning.{columns_written}
+use Rattle.ghost_model.specs.refusals.SchemaFaults.{is_this_name, repeats, declared_name, columns_at, table_repeats, is_duplicate, fields, fields_from, is_over, lacks_id, is_unknown, SchemaFault, Limit, DuplicateName, NoId, duplicate_at as duplicate_fault, unknown_at as unknown_fault}
 use Rattle.tree_schema.specs.declared.syntax.ColumnDraft.{ColumnDraft}
 use Rattle.tree_schema.specs.Drafts as drafts
 use Rattle.tree_schema.specs.Faults.{field_at, fault_of_texts}
@@ -114,11 +115,11 @@ pub repeats_at : {X : Type 0} (name : X → List ℕ) (xs : List X) (place : ℕ
 repeats_at name xs place x e =
     any_mapped name (bytes_eq (name x)) (take place xs)
     ∙ ap (list_any (bytes_eq (name x))) (sym (take-map name place xs))
-    ∙ ap (λ o. list_any (is_name o) (take place (map name xs))) (sym (slice_get-map name xs place ∙ ap (option_map name) e))
+    ∙ ap (λ o. list_any (is_this_name o) (take place (map name xs))) (sym (slice_get-map name xs place ∙ ap (option_map name) e))
 
 pub repeats_past : {X : Type 0} (name : X → List ℕ) (xs : List X) (place : ℕ) → slice_get xs place ≡ None → repeats (map name xs) place ≡ false
 repeats_past name xs place e =
-    ap (λ o. list_any (is_name o) (take place (map name xs))) (slice_get-map name xs place ∙ ap (option_map name) e)
+    ap (λ o. list_any (is_this_name o) (take place (map name xs))) (slice_get-map name xs place ∙ ap (option_map name) e)
     ∙ nothing_passes (take place (map name xs))
 
 -- fields
@@ -174,7 +175,7 @@ fields_fail test tables at s past = s.none ∙ ap (λ ts. find test (fields_from
 
 pub duplicate_nowhere : (tables : SchemaText) (table column : ℕ) → slice_get tables table ≡ None → is_duplicate tables (field_at table column) ≡ false
 duplicate_nowhere tables table column e =
-    neither_of _ _ (no_name column) (ap (λ o. repeats (map column_name (columns_at o)) column) e ∙ nothing_repeats column)
+    neither_of _ _ (no_name column) (ap (λ o. repeats (map declared_name (columns_at o)) column) e ∙ nothing_repeats column)
   where
     nothing_repeats : (place : ℕ) → repeats [] place ≡ false
     nothing_repeats zero = refl
@@ -189,8 +190,8 @@ duplicate_nowhere tables table column e =
     neither_of false b f g = g
 
 pub duplicate_at : (tables : SchemaText) (table column : ℕ) (t : TableText) → slice_get tables table ≡ Some t
-    → is_duplicate tables (field_at table column) ≡ ((column == 0 && table_repeats tables table) || repeats (map column_name (columns_written t)) column)
-duplicate_at tables table column t e = ap (λ o. (column == 0 && table_repeats tables table) || repeats (map column_name (columns_at o)) column) e
+    → is_duplicate tables (field_at table column) ≡ ((column == 0 && table_repeats tables table) || repeats (map declared_name (columns_written t)) column)
+duplicate_at tables table column t e = ap (λ o. (column == 0 && table_repeats tables table) || repeats (map declared_name (columns_at o)) column) e
 
 -- what a slice has at a place
 
@@ -208,18 +209,18 @@ map_twice g f [] = refl
 map_twice g f (x ∷ xs) = ap (λ ys. g (f x) ∷ ys) (map_twice g f xs)
 
 abbrev name_in : ColumnDraft → List ℕ
-name_in column = column_name (drafts.column_of column)
+name_in column = declared_name (drafts.column_of column)
 
-names_in : (first : ColumnDraft) (others : List ColumnDraft) → map name_in (first ∷ others) ≡ column_name (drafts.column_of first) ∷ map column_name (map drafts.column_of others)
-names_in first others = ap (λ names. name_in first ∷ names) (sym (map_twice column_name drafts.column_of others))
+names_in : (first : ColumnDraft) (others : List ColumnDraft) → map name_in (first ∷ others) ≡ declared_name (drafts.column_of first) ∷ map declared_name (map drafts.column_of others)
+names_in first others = ap (λ names. name_in first ∷ names) (sym (map_twice declared_name drafts.column_of others))
 
 pub no_column_repeats : (first : ColumnDraft) (others : List ColumnDraft) (place k : ℕ) → place ≡ suc k → slice_get others k ≡ None
-    → repeats (column_name (drafts.column_of first) ∷ map column_name (map drafts.column_of others)) place ≡ false
+    → repeats (declared_name (drafts.column_of first) ∷ map declared_name (map drafts.column_of others)) place ≡ false
 no_column_repeats first others place k e h =
     ap (λ names. repeats names place) (sym (names_in first others)) ∙ repeats_past name_in (first ∷ others) place (ap (slice_get (first ∷ others)) e ∙ h)
 
 pub column_repeats_by : (first : ColumnDraft) (others : List ColumnDraft) (place k : ℕ) (column : ColumnDraft) → place ≡ suc k → slice_get others k ≡ Some column
-    → repeats (column_name (drafts.column_of first) ∷ map column_name (map drafts.column_of others)) place
+    → repeats (declared_name (drafts.column_of first) ∷ map declared_name (map drafts.column_of others)) place
     ≡ (bytes_eq (name_in column) (name_in first) || list_any (λ other. bytes_eq (name_in column) (name_in other)) (take k others))
 column_repeats_by first others place k column e h =
     ap (λ names. repeats names place) (sym (names_in first others))
@@ -228,37 +229,37 @@ column_repeats_by first others place k column e h =
 
 -- the rules in their order
 
+abbrev duplicates : SchemaText → Option SchemaFault
+duplicates tables = option_map duplicate_fault (find (is_duplicate tables) (fields tables))
+
+abbrev unknowns : SchemaText → Option SchemaFault
+unknowns tables = option_map unknown_fault (find (is_unknown tables) (fields tables))
+
 pub texts_over : (tables : SchemaText) → is_over tables ≡ true → fault_of_texts tables ≡ Some Limit
 texts_over tables e =
-    ap (λ b. or_else (if b then Some Limit else None) (or_else (duplicate_in tables) (or_else (option_map NoId (find (lacks_id tables) (places_of tables))) (unknown_in tables)))) e
+    ap (λ b. option_or (broken_if b Limit) (option_or (duplicates tables) (option_or (option_map NoId (find (lacks_id tables) (places_of tables))) (unknowns tables)))) e
 
-within_limits : (tables : SchemaText) → is_over tables ≡ false → fault_of_texts tables ≡ or_else (duplicate_in tables) (or_else (option_map NoId (find (lacks_id tables) (places_of tables))) (unknown_in tables))
+within_limits : (tables : SchemaText) → is_over tables ≡ false → fault_of_texts tables ≡ option_or (duplicates tables) (option_or (option_map NoId (find (lacks_id tables) (places_of tables))) (unknowns tables))
 within_limits tables e =
-    ap (λ b. or_else (if b then Some Limit else None) (or_else (duplicate_in tables) (or_else (option_map NoId (find (lacks_id tables) (places_of tables))) (unknown_in tables)))) e
-
-abbrev duplicate_fault : Field → SchemaFault
-duplicate_fault field = DuplicateName field.table field.column
-
-abbrev unknown_fault : Field → SchemaFault
-unknown_fault field = UnknownTable field.table field.column
+    ap (λ b. option_or (broken_if b Limit) (option_or (duplicates tables) (option_or (option_map NoId (find (lacks_id tables) (places_of tables))) (unknowns tables)))) e
 
 pub texts_duplicate : (tables : SchemaText) (field : Field) → is_over tables ≡ false → find (is_duplicate tables) (fields tables) ≡ Some field
     → fault_of_texts tables ≡ Some (DuplicateName field.table field.column)
 texts_duplicate tables field e f =
-    within_limits tables e ∙ ap (λ o. or_else (option_map duplicate_fault o) (or_else (option_map NoId (find (lacks_id tables) (places_of tables))) (unknown_in tables))) f
+    within_limits tables e ∙ ap (λ o. option_or (option_map duplicate_fault o) (option_or (option_map NoId (find (lacks_id tables) (places_of tables))) (unknowns tables))) f
 
 named_once : (tables : SchemaText) → is_over tables ≡ false → find (is_duplicate tables) (fields tables) ≡ None
-    → fault_of_texts tables ≡ or_else (option_map NoId (find (lacks_id tables) (places_of tables))) (unknown_in tables)
+    → fault_of_texts tables ≡ option_or (option_map NoId (find (lacks_id tables) (places_of tables))) (unknowns tables)
 named_once tables e f =
-    within_limits tables e ∙ ap (λ o. or_else (option_map duplicate_fault o) (or_else (option_map NoId (find (lacks_id tables) (places_of tables))) (unknown_in tables))) f
+    within_limits tables e ∙ ap (λ o. option_or (option_map duplicate_fault o) (option_or (option_map NoId (find (lacks_id tables) (places_of tables))) (unknowns tables))) f
 
 pub texts_without_id : (tables : SchemaText) (table : ℕ) → is_over tables ≡ false → find (is_duplicate tables) (fields tables) ≡ None
     → find (lacks_id tables) (places_of tables) ≡ Some table → fault_of_texts tables ≡ Some (NoId table)
-texts_without_id tables table e f g = named_once tables e f ∙ ap (λ o. or_else (option_map NoId o) (unknown_in tables)) g
+texts_without_id tables table e f g = named_once tables e f ∙ ap (λ o. option_or (option_map NoId o) (unknowns tables)) g
 
 pub texts_by_reference : (tables : SchemaText) (found : Option Field) → is_over tables ≡ false → find (is_duplicate tables) (fields tables) ≡ None
     → find (lacks_id tables) (places_of tables) ≡ None → find (is_unknown tables) (fields tables) ≡ found → fault_of_texts tables ≡ option_map unknown_fault found
-texts_by_reference tables found e f g h = named_once tables e f ∙ ap (λ o. or_else (option_map NoId o) (unknown_in tables)) g ∙ ap (option_map unknown_fault) h
+texts_by_reference tables found e f g h = named_once tables e f ∙ ap (λ o. option_or (option_map NoId o) (unknowns tables)) g ∙ ap (option_map unknown_fault) h
 
 -- counts
 

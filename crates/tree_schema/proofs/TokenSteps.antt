@@ -2,13 +2,13 @@
 use Rattle.std.proofs.Common.{◌≡◌, ℕ, zero, suc, ◌+◌, ◌-◌, ◌<◌, ◌≤◌, Bool, true, false, cond, ◌==◌, List, [], ◌∷◌, length, take, drop, take_while, ap, ap₂, sym, ◌∙◌, add-zero, arith}
 use Rattle.std.proofs.lemmas.Bool.{ne_eqb}
 use Rattle.std.proofs.lemmas.List.Sums.{take_while-cons}
-use Rattle.ghost_model.specs.Tokens.{Token, End, is_space, token_at, tokens_from}
+use Rattle.ghost_model.specs.refusals.Tokens.{Token, EndOfText, is_space, token_at, tokens_from}
 use Rattle.tree_schema.specs.declared.tokens.Mark.{Mark}
 use Rattle.tree_schema.specs.Marks.{symbol_of, left_from, Begins}
 
 -- the tokens of a text that does not begin with white space
 abbrev pub first_then : (at : ℕ) → List ℕ → List Token
-first_then at [] = record { symbol = End; at = at } ∷ []
+first_then at [] = record { symbol = EndOfText; at = at } ∷ []
 first_then at (b ∷ bs) = record { symbol = (token_at b bs).symbol; at = at } ∷ tokens_from ((token_at b bs).bytes - 1) (at + 1) bs
 
 spaces_by : (t : Bool) (at b : ℕ) (bs front : List ℕ) → tokens_from 0 (at + 1) bs ≡ first_then (at + 1 + length front) (drop (length front) bs)

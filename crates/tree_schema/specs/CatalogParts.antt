@@ -1,9 +1,8 @@
 -- Catalogs and their bytes, and the parts of bytes that may begin with a catalog.
 use Rattle.std.specs.Prelude.{◌≡◌, ℕ, ◌<◌, ◌≤◌, ◌^◌, List, ◌++◌, length}
 use Rattle.std.specs.Int.{to_be_bytes, w32}
-use Rattle.ghost_model.specs.Channel.{Catalog}
-use Rattle.ghost_model.specs.Catalog as catalog
-use Rattle.ghost_model.specs.Frames.{AreBytes}
+use Rattle.ghost_model.specs.core.Channel.{Catalog}
+use Rattle.ghost_model.specs.forms.Catalog as catalog
 use Rattle.tree_schema.specs.Catalogs.{IsCatalog}
 use Rattle.tree_schema.specs.declared.catalog_reading.Parts.{Parts}
 
@@ -12,10 +11,6 @@ abbrev pub CatalogsAreShort : Type 0
 CatalogsAreShort =
     (cat : Catalog) → IsCatalog cat → cat.generation < 2 ^ 32
     → catalog.IsCatalog cat × (length (catalog.catalog_bytes cat) ≤ 16640)
-
--- what a catalog is spelled with are bytes
-abbrev pub CatalogsAreBytes : Type 0
-CatalogsAreBytes = (cat : Catalog) → catalog.IsCatalog cat → AreBytes (catalog.catalog_bytes cat)
 
 -- a head of the version that there is for a generation and a text, that text, and what follows it
 pub record HasParts (bytes : List ℕ) (generation : ℕ) (text later : List ℕ) : Type 0 where

@@ -2,9 +2,9 @@
 -- million, a generation, which is not 0, and the version that there is.
 use Rattle.std.specs.Prelude.{◌≡◌, ℕ, ◌<◌, nat_le, Bool, IsTrue, List, length}
 use Rattle.std.specs.List.{list_all}
-use Rattle.ghost_model.specs.Schema.{Schema}
-use Rattle.ghost_model.specs.Channel.{Catalog}
-use Rattle.ghost_model.specs.Catalog.{catalog_version}
+use Rattle.ghost_model.specs.core.Schema.{Schema}
+use Rattle.ghost_model.specs.core.Channel.{Catalog}
+use Rattle.ghost_model.specs.forms.Catalog.{catalog_version}
 use Rattle.tree_schema.specs.Schemas.{IsDeclared}
 
 abbrev pub catalog_of : Schema → List ℕ → ℕ → Catalog

@@ -3,10 +3,10 @@
 -- limits.
 use Rattle.std.specs.Prelude.{◌≡◌, ℕ, ◌<◌, length, Bool, true, false, List, [], ◌∷◌, ◌++◌, map, Option, Some, None, Result, Ok, Err, option_map}
 use Rattle.arrayvec.specs.ArrayVec.{ArrayVec}
-use Rattle.ghost_model.specs.Tokens.{in_lower_case}
-use Rattle.ghost_model.specs.SchemaGrammar as grammar
-use Rattle.ghost_model.specs.SchemaPlaces as places
-use Rattle.ghost_model.specs.SchemaFaults.{is_table_over, is_over}
+use Rattle.ghost_model.specs.refusals.Tokens.{in_lower_case}
+use Rattle.ghost_model.specs.refusals.SchemaGrammar as grammar
+use Rattle.ghost_model.specs.readings.SchemaPlaces as places
+use Rattle.ghost_model.specs.refusals.SchemaFaults.{is_table_over, is_over}
 use Rattle.tree_schema.specs.declared.syntax.ReferenceDraft.{ReferenceDraft}
 use Rattle.tree_schema.specs.declared.syntax.ColumnDraft.{ColumnDraft}
 use Rattle.tree_schema.specs.declared.syntax.ColumnDraft.TheVariants as column
@@ -22,7 +22,7 @@ use Rattle.tree_schema.specs.Marks.{token_of}
 abbrev pub reference_of : ReferenceDraft → grammar.Reference
 reference_of reference = grammar.To (in_lower_case reference.table.now) reference.says_id
 
-abbrev pub column_of : ColumnDraft → grammar.ColumnText
+abbrev pub column_of : ColumnDraft → grammar.ColumnDeclaration
 column_of (column.Chars name digits hidden) = grammar.CharColumn (in_lower_case name.now) digits.now hidden
 column_of (column.Integer name primary reference hidden) =
     grammar.IntegerColumn (in_lower_case name.now) primary (option_map reference_of reference) hidden
@@ -45,12 +45,12 @@ in_column_of (within.AfterId name primary table) =
 in_column_of (within.Whole column) = places.Whole (column_of column)
 
 -- where a column has ended: at a comma another one follows, else the columns are over
-abbrev pub after_column : grammar.SchemaText → List ℕ → List grammar.ColumnText → grammar.ColumnText → Bool → places.Place
+abbrev pub after_column : grammar.SchemaText → List ℕ → List grammar.ColumnDeclaration → grammar.ColumnDeclaration → Bool → places.SchemaPlace
 after_column tables name columns last true = places.WantsColumn tables name (columns ++ last ∷ [])
 after_column tables name columns last false = places.AfterColumns tables name columns last
 
 -- the tree that is read from a place on, or the fault
-abbrev pub read_from : places.Place → Reader → Result grammar.SchemaText ℕ
+abbrev pub read_from : places.SchemaPlace → Reader → Result grammar.SchemaText ℕ
 read_from place reader = places.syntax_from (Some place) reader.at reader.cursor
 
 -- a token was taken, or there was none
@@ -63,88 +63,88 @@ pub record IsOut (before after : Reader) : Type 0 where
   pub place : after.at ≡ before.at
 
 -- where a token leads within the columns of a table
-abbrev pub place_of : grammar.SchemaText → List ℕ → List grammar.ColumnText → Move → Option places.Place
+abbrev pub place_of : grammar.SchemaText → List ℕ → List grammar.ColumnDeclaration → Move → Option places.SchemaPlace
 place_of tables name columns (move.Goes last) = Some (places.Within tables name columns (in_column_of last))
 place_of tables name columns (move.Ends column more) = Some (after_column tables name columns (column_of column) more)
 place_of tables name columns move.Stops = None
 
 abbrev pub ReadsColumn : Reader → List ℕ → Reader → ColumnDraft → Bool → Type 0
 ReadsColumn before named after column more =
-    (tables : grammar.SchemaText) (name : List ℕ) (columns : List grammar.ColumnText)
+    (tables : grammar.SchemaText) (name : List ℕ) (columns : List grammar.ColumnDeclaration)
     → read_from (places.Within tables name columns (places.Named named)) before ≡ read_from (after_column tables name columns (column_of column) more) after
 
 abbrev pub StopsColumn : Reader → List ℕ → ℕ → Type 0
 StopsColumn before named at =
-    (tables : grammar.SchemaText) (name : List ℕ) (columns : List grammar.ColumnText)
+    (tables : grammar.SchemaText) (name : List ℕ) (columns : List grammar.ColumnDeclaration)
     → read_from (places.Within tables name columns (places.Named named)) before ≡ Err at
 
 -- one place leads to another, and the text breaks the grammar behind a place
-abbrev pub Leads : (from to : grammar.SchemaText → places.Place) → Reader → Reader → Type 0
+abbrev pub Leads : (from to : grammar.SchemaText → places.SchemaPlace) → Reader → Reader → Type 0
 Leads from to before after = (tables : grammar.SchemaText) → read_from (from tables) before ≡ read_from (to tables) after
 
-abbrev pub Stops : (from : grammar.SchemaText → places.Place) → Reader → ℕ → Type 0
+abbrev pub Stops : (from : grammar.SchemaText → places.SchemaPlace) → Reader → ℕ → Type 0
 Stops from before at = (tables : grammar.SchemaText) → read_from (from tables) before ≡ Err at
 
-abbrev pub named : List ℕ → grammar.SchemaText → places.Place
+abbrev pub named : List ℕ → grammar.SchemaText → places.SchemaPlace
 named name tables = places.AfterName tables name
 
-abbrev pub opened : List ℕ → grammar.SchemaText → places.Place
+abbrev pub opened : List ℕ → grammar.SchemaText → places.SchemaPlace
 opened name tables = places.WantsColumn tables name []
 
 abbrev pub ReadsName : Reader → Reader → List ℕ → Type 0
 ReadsName before after named =
-    (tables : grammar.SchemaText) (name : List ℕ) (columns : List grammar.ColumnText)
+    (tables : grammar.SchemaText) (name : List ℕ) (columns : List grammar.ColumnDeclaration)
     → read_from (places.WantsColumn tables name columns) before ≡ read_from (places.Within tables name columns (places.Named named)) after
 
 abbrev pub StopsName : Reader → ℕ → Type 0
 StopsName before at =
-    (tables : grammar.SchemaText) (name : List ℕ) (columns : List grammar.ColumnText) → read_from (places.WantsColumn tables name columns) before ≡ Err at
+    (tables : grammar.SchemaText) (name : List ℕ) (columns : List grammar.ColumnDeclaration) → read_from (places.WantsColumn tables name columns) before ≡ Err at
 
 abbrev pub ReadsNext : Reader → Reader → ColumnDraft → Bool → Type 0
 ReadsNext before after column more =
-    (tables : grammar.SchemaText) (name : List ℕ) (columns : List grammar.ColumnText)
+    (tables : grammar.SchemaText) (name : List ℕ) (columns : List grammar.ColumnDeclaration)
     → read_from (places.WantsColumn tables name columns) before ≡ read_from (after_column tables name columns (column_of column) more) after
 
 abbrev pub ReadsEnd : Reader → Reader → Type 0
 ReadsEnd before after =
-    (tables : grammar.SchemaText) (name : List ℕ) (columns : List grammar.ColumnText) (last : grammar.ColumnText)
+    (tables : grammar.SchemaText) (name : List ℕ) (columns : List grammar.ColumnDeclaration) (last : grammar.ColumnDeclaration)
     → read_from (places.AfterColumns tables name columns last) before
     ≡ read_from (places.Between (tables ++ places.table_from name columns last ∷ [])) after
 
 abbrev pub StopsEnd : Reader → ℕ → Type 0
 StopsEnd before at =
-    (tables : grammar.SchemaText) (name : List ℕ) (columns : List grammar.ColumnText) (last : grammar.ColumnText)
+    (tables : grammar.SchemaText) (name : List ℕ) (columns : List grammar.ColumnDeclaration) (last : grammar.ColumnDeclaration)
     → read_from (places.AfterColumns tables name columns last) before ≡ Err at
 
 -- the columns of a table but the last, and the last
-abbrev pub before_last : grammar.ColumnText → List grammar.ColumnText → List grammar.ColumnText
+abbrev pub before_last : grammar.ColumnDeclaration → List grammar.ColumnDeclaration → List grammar.ColumnDeclaration
 before_last first [] = []
 before_last first (second ∷ others) = first ∷ before_last second others
 
-abbrev pub last_of : grammar.ColumnText → List grammar.ColumnText → grammar.ColumnText
+abbrev pub last_of : grammar.ColumnDeclaration → List grammar.ColumnDeclaration → grammar.ColumnDeclaration
 last_of first [] = first
 last_of first (second ∷ others) = last_of second others
 
 -- the place behind a table's columns, of which more follow or not
-abbrev pub behind : grammar.SchemaText → List ℕ → grammar.ColumnText → List grammar.ColumnText → Bool → places.Place
+abbrev pub behind : grammar.SchemaText → List ℕ → grammar.ColumnDeclaration → List grammar.ColumnDeclaration → Bool → places.SchemaPlace
 behind tables name first others true = places.WantsColumn tables name (first ∷ others)
 behind tables name first others false = places.AfterColumns tables name (before_last first others) (last_of first others)
 
-abbrev pub KeepsOthers : Option (ArrayVec ColumnDraft) → List grammar.ColumnText → Type 0
+abbrev pub KeepsOthers : Option (ArrayVec ColumnDraft) → List grammar.ColumnDeclaration → Type 0
 KeepsOthers None others = 23 < length others
 KeepsOthers (Some kept) others = map column_of kept.items ≡ others
 
 -- the other columns of a table, and what is kept of them
 pub record ReadsOthers (before : Reader) (more : Bool) (after : Reader) (kept : Option (ArrayVec ColumnDraft)) : Type 0 where
-  pub others : List grammar.ColumnText
+  pub others : List grammar.ColumnDeclaration
   pub leads :
-      (tables : grammar.SchemaText) (name : List ℕ) (first : grammar.ColumnText)
+      (tables : grammar.SchemaText) (name : List ℕ) (first : grammar.ColumnDeclaration)
       → read_from (behind tables name first [] more) before ≡ read_from (behind tables name first others false) after
   pub keeps : KeepsOthers kept others
 
 abbrev pub StopsOthers : Reader → Bool → ℕ → Type 0
 StopsOthers before more at =
-    (tables : grammar.SchemaText) (name : List ℕ) (first : grammar.ColumnText) → read_from (behind tables name first [] more) before ≡ Err at
+    (tables : grammar.SchemaText) (name : List ℕ) (first : grammar.ColumnDeclaration) → read_from (behind tables name first [] more) before ≡ Err at
 
 -- a table of the text, and what is kept of it
 abbrev pub KeepsTable : Option TableDraft → grammar.TableText → Type 0

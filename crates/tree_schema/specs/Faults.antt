@@ -1,10 +1,12 @@
 -- What the refusals of the code stand for, in the words of the definitions.
-use Rattle.std.specs.Prelude.{◌≡◌, ℕ, Bool, List, find, nat_lt, if◌then◌else◌, Option, Some, None, Result, Ok, Err, option_map}
-use Rattle.ghost_model.specs.Query.{Field}
-use Rattle.ghost_model.specs.Schema.{Schema}
-use Rattle.ghost_model.specs.SchemaGrammar.{SchemaText}
-use Rattle.ghost_model.specs.SchemaPlaces.{syntax_of}
-use Rattle.ghost_model.specs.SchemaFaults as faults
+use Rattle.std.specs.Prelude.{◌≡◌, ℕ, Bool, List, find, nat_lt, Option, Some, None, Result, Ok, Err, option_map}
+use Rattle.ghost_model.specs.core.Query.{Field}
+use Rattle.std.specs.Option.{option_or}
+use Rattle.ghost_model.specs.core.Schema.{Schema, places_of}
+use Rattle.ghost_model.specs.refusals.Rules.{broken_if}
+use Rattle.ghost_model.specs.refusals.SchemaGrammar.{SchemaText}
+use Rattle.ghost_model.specs.readings.SchemaPlaces.{syntax_of}
+use Rattle.ghost_model.specs.refusals.SchemaFaults as faults
 use Rattle.tree_schema.specs.declared.faults.SchemaFault.{SchemaFault}
 use Rattle.tree_schema.specs.declared.faults.SchemaFault.TheVariants as fault
 
@@ -38,18 +40,18 @@ field_of places = field_at places.0 places.1
 -- the first fault by the rules that speak of what is written, and by those that speak of the tables as a tree
 abbrev pub fault_of_texts : SchemaText → Option faults.SchemaFault
 fault_of_texts tables =
-    faults.or_else (if faults.is_over tables then Some faults.Limit else None)
-    (faults.or_else (faults.duplicate_in tables)
-    (faults.or_else (option_map faults.NoId (find (faults.lacks_id tables) (faults.places_of tables)))
-    (faults.unknown_in tables)))
+    option_or (broken_if (faults.is_over tables) faults.Limit)
+    (option_or (option_map faults.duplicate_at (find (faults.is_duplicate tables) (faults.fields tables)))
+    (option_or (option_map faults.NoId (find (faults.lacks_id tables) (places_of tables)))
+    (option_map faults.unknown_at (find (faults.is_unknown tables) (faults.fields tables)))))
 
 abbrev pub is_shared : Schema → ℕ → Bool
-is_shared schema child = nat_lt 1 (faults.keys_naming schema child)
+is_shared schema child = nat_lt 1 (faults.references_naming schema child)
 
 abbrev pub fault_of_tree : Schema → Option faults.SchemaFault
 fault_of_tree schema =
-    faults.or_else (option_map faults.TwoParents (find (is_shared schema) (faults.places_of schema)))
-    (faults.or_else (option_map faults.Cycle (find (faults.returns schema) (faults.places_of schema)))
+    option_or (option_map faults.TwoParents (find (is_shared schema) (places_of schema)))
+    (option_or (option_map faults.Cycle (find (faults.returns schema) (places_of schema)))
     (faults.wrong_roots (faults.roots_of schema)))
 
 -- some text spells these tables

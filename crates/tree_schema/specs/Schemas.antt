@@ -1,8 +1,8 @@
 -- The schemas that there are: each is what some text means. So each is a tree within the limits.
 use Rattle.std.specs.Prelude.{◌≡◌, ℕ, Bool, false, List, Option, Some, None, Ok}
-use Rattle.ghost_model.specs.Schema.{Schema, Column, column_at}
-use Rattle.ghost_model.specs.SchemaFaults.{schema_reading}
-use Rattle.ghost_model.specs.SchemaTrees.{IsTree}
+use Rattle.ghost_model.specs.core.Schema.{Schema, Column, column_at}
+use Rattle.ghost_model.specs.readings.SchemaReading.{schema_reading}
+use Rattle.ghost_model.specs.laws.SchemaTrees.{IsTree}
 
 pub record IsDeclared (schema : Schema) : Type 0 where
   pub text : List ℕ

@@ -1,6 +1,6 @@
 -- What the tables and columns of the code stand for, in the words of the definitions.
 use Rattle.std.specs.Prelude.{List, map}
-use Rattle.ghost_model.specs.Schema as schema
+use Rattle.ghost_model.specs.core.Schema as schema
 use Rattle.ghost_base.specs.Views.{kind_of}
 use Rattle.tree_schema.specs.declared.schema.Column.{Column}
 use Rattle.tree_schema.specs.declared.schema.Table.{Table}

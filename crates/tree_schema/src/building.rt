@@ -1,10 +1,10 @@
 //! The tables of a schema, from those that a text declares.
 
 ghost use Rattle.std.specs.Prelude.{◌≡◌, ◌≤◌, ◌<◌, Bool, true, false, length, map};
-ghost use Rattle.ghost_model.specs.Schema as schema;
-ghost use Rattle.ghost_model.specs.Tokens as tokens;
-ghost use Rattle.ghost_model.specs.SchemaMeaning as meaning;
-ghost use Rattle.ghost_model.specs.SchemaFaults as faults;
+ghost use Rattle.ghost_model.specs.core.Schema as schema;
+ghost use Rattle.ghost_model.specs.refusals.Tokens as tokens;
+ghost use Rattle.ghost_model.specs.refusals.SchemaMeaning as meaning;
+ghost use Rattle.ghost_model.specs.refusals.SchemaFaults as faults;
 ghost use Rattle.ghost_base.specs.Views.{kind_of};
 ghost use Rattle.tree_schema.specs.Drafts as drafts;
 ghost use Rattle.tree_schema.specs.Views as views;
@@ -42,7 +42,7 @@ fn chars_of(digits: &[u8]) -> Kind
 /// The table that a foreign key names.
 fn child_named(tables: &[TableDraft], name: &[u8]) -> Option<u8>
     requires few { length tables.now ≤ MAX_TABLES }
-    ensures child { result ≡ meaning.table_named (map drafts.table_of tables.now) (tokens.in_lower_case name.now) }
+    ensures child { result ≡ meaning.declared_table (map drafts.table_of tables.now) (tokens.in_lower_case name.now) }
 {
     match place_named(tables, name) {
         None => None,

@@ -1,7 +1,7 @@
 //! The canonical text of a schema, written through a window.
 
 ghost use Rattle.std.specs.Prelude.{◌≡◌, map, flat_map, drop};
-ghost use Rattle.ghost_model.specs.Catalog as catalog;
+ghost use Rattle.ghost_model.specs.forms.Catalog as catalog;
 ghost use Rattle.ghost_base.specs.Views.{kind_of};
 ghost use Rattle.tree_schema.specs.Views.{column_of, table_of};
 ghost use Rattle.tree_schema.specs.Windows.{pane, with_text};

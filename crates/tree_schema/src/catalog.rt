@@ -17,7 +17,7 @@ pub struct Catalog {
 }
 
 impl Model for Catalog {
-    ghost use Rattle.ghost_model.specs.Channel as channel;
+    ghost use Rattle.ghost_model.specs.core.Channel as channel;
 
     ghost Value = { channel.Catalog };
 

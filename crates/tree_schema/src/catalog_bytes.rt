@@ -1,8 +1,8 @@
 //! The bytes of a catalog, in parts.
 
 ghost use Rattle.std.specs.Prelude.{◌≡◌, ◌≤◌, ◌-◌, min, length, take, drop, bytes_eq};
-ghost use Rattle.ghost_model.specs.Catalog as catalog;
-ghost use Rattle.tree_schema.specs.CatalogParts.{CatalogsAreShort, CatalogsAreBytes};
+ghost use Rattle.ghost_model.specs.forms.Catalog as catalog;
+ghost use Rattle.tree_schema.specs.CatalogParts.{CatalogsAreShort};
 ghost use Rattle.tree_schema.specs.Windows.{pane, with_text};
 
 use crate::Catalog;
@@ -28,13 +28,6 @@ pub fn catalogs_are_short()
     ghost_model::schema::one_schema_reading();
     ghost_model::catalogs::a_catalog_of_each_text();
     ghost_model::catalogs::no_catalog_is_long();
-}
-
-/// The bytes of a catalog are bytes.
-pub fn catalogs_are_bytes()
-    ensures bytes { CatalogsAreBytes }
-{
-    ghost_model::schema::schemas_are_trees();
 }
 
 /// A catalog is one that both sides may share, and has at most 16,640 bytes.

@@ -2,8 +2,8 @@
 
 ghost use Rattle.std.specs.Prelude.{◌≡◌, ℕ, ◌≤◌, ◌++◌, true, false, List, length, IsTrue, IfSome, IfNone, IsSomeAnd};
 ghost use Rattle.std.specs.Int.{from_be_bytes, w32};
-ghost use Rattle.ghost_model.specs.Channel as channel;
-ghost use Rattle.ghost_model.specs.Catalog as catalog;
+ghost use Rattle.ghost_model.specs.core.Channel as channel;
+ghost use Rattle.ghost_model.specs.forms.Catalog as catalog;
 ghost use Rattle.tree_schema.specs.Catalogs.{are_counts};
 ghost use Rattle.tree_schema.specs.CatalogParts.{HasParts, AreParts, BeginsWithCount};
 

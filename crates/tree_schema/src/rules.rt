@@ -2,10 +2,11 @@
 
 ghost use Rattle.std.specs.Prelude.{◌≡◌, ◌≢◌, ℕ, ◌≤◌, Bool, true, false, List, length, map, find, bytes_eq, position, slice_get, ◌==◌, ◌&&◌, option_map, Some, MatchOption};
 ghost use Rattle.std.specs.List.{list_any};
-ghost use Rattle.ghost_model.specs.Tokens as tokens;
-ghost use Rattle.ghost_model.specs.SchemaMeaning as meaning;
-ghost use Rattle.ghost_model.specs.SchemaMeaning.{columns_written};
-ghost use Rattle.ghost_model.specs.SchemaFaults as faults;
+ghost use Rattle.ghost_model.specs.refusals.Tokens as tokens;
+ghost use Rattle.ghost_model.specs.refusals.SchemaMeaning as meaning;
+ghost use Rattle.ghost_model.specs.refusals.SchemaMeaning.{columns_written};
+ghost use Rattle.ghost_model.specs.core.Schema.{places_of};
+ghost use Rattle.ghost_model.specs.refusals.SchemaFaults as faults;
 ghost use Rattle.tree_schema.specs.Drafts.{column_of, table_of};
 ghost use Rattle.tree_schema.specs.Faults.{field_at, field_of, refused, fault_of_texts};
 
@@ -130,7 +131,7 @@ fn lacks_id_at(tables: &[TableDraft], place: usize) -> bool
 
 /// The first table that does not begin with its one identifier.
 fn first_without_id(tables: &[TableDraft]) -> Option<usize>
-    ensures first { result ≡ find (faults.lacks_id (map table_of tables.now)) (faults.places_of (map table_of tables.now)) }
+    ensures first { result ≡ find (faults.lacks_id (map table_of tables.now)) (places_of (map table_of tables.now)) }
 {
     for place in 0..tables.len() {
         if lacks_id_at(tables, place) {
@@ -164,7 +165,7 @@ fn table_repeats(tables: &[TableDraft], place: usize) -> bool
 
 /// The name of a column, as it is written.
 pub(crate) fn column_name<'a>(column: ColumnDraft<'a>) -> &'a [u8]
-    ensures name { tokens.in_lower_case result.now ≡ faults.column_name (column_of column.entry) }
+    ensures name { tokens.in_lower_case result.now ≡ faults.declared_name (column_of column.entry) }
 {
     match column {
         ColumnDraft::Chars(name, _, _) => name,
@@ -174,7 +175,7 @@ pub(crate) fn column_name<'a>(column: ColumnDraft<'a>) -> &'a [u8]
 
 /// Whether one of the columns has this name.
 fn has_column(columns: &[ColumnDraft], name: &[u8]) -> bool
-    ensures has { result ≡ list_any (λ column. bytes_eq (tokens.in_lower_case name.now) (faults.column_name (column_of column))) columns.now }
+    ensures has { result ≡ list_any (λ column. bytes_eq (tokens.in_lower_case name.now) (faults.declared_name (column_of column))) columns.now }
 {
     for column in columns {
         if is_word(name, column_name(*column)) {
@@ -186,7 +187,7 @@ fn has_column(columns: &[ColumnDraft], name: &[u8]) -> bool
 
 /// Whether an earlier column of a table has the name of the column at a place.
 fn column_repeats(table: &TableDraft, place: usize) -> bool
-    ensures repeats { result ≡ faults.repeats (map faults.column_name (columns_written (table_of table.now))) place }
+    ensures repeats { result ≡ faults.repeats (map faults.declared_name (columns_written (table_of table.now))) place }
 {
     if place == 0 {
         return false;
@@ -238,7 +239,7 @@ fn place_of_word(tables: &[TableDraft], name: &[u8]) -> Option<usize>
 
 /// The place of the first table with this name.
 pub(crate) fn place_named(tables: &[TableDraft], name: &[u8]) -> Option<usize>
-    ensures place { result ≡ meaning.table_named (map table_of tables.now) (tokens.in_lower_case name.now) }
+    ensures place { result ≡ meaning.declared_table (map table_of tables.now) (tokens.in_lower_case name.now) }
 {
     place_of_word(tables, name)
 }
@@ -294,7 +295,7 @@ fn columns_len(tables: &[TableDraft], table: usize) -> usize
 
 /// The first column of a table that repeats a name.
 fn first_duplicate_in(tables: &[TableDraft], table: usize) -> Option<usize>
-    ensures first { result ≡ find (λ column. faults.is_duplicate (map table_of tables.now) (field_at table column)) (faults.places_of (faults.columns_at (slice_get (map table_of tables.now) table))) }
+    ensures first { result ≡ find (λ column. faults.is_duplicate (map table_of tables.now) (field_at table column)) (places_of (faults.columns_at (slice_get (map table_of tables.now) table))) }
 {
     for column in 0..columns_len(tables, table) {
         if is_duplicate(tables, table, column) {
@@ -318,7 +319,7 @@ fn first_duplicate(tables: &[TableDraft]) -> Option<(usize, usize)>
 
 /// The first column of a table whose REFERENCES names no table.
 fn first_unknown_in(tables: &[TableDraft], table: usize) -> Option<usize>
-    ensures first { result ≡ find (λ column. faults.is_unknown (map table_of tables.now) (field_at table column)) (faults.places_of (faults.columns_at (slice_get (map table_of tables.now) table))) }
+    ensures first { result ≡ find (λ column. faults.is_unknown (map table_of tables.now) (field_at table column)) (places_of (faults.columns_at (slice_get (map table_of tables.now) table))) }
 {
     for column in 0..columns_len(tables, table) {
         if is_unknown(tables, table, column) {

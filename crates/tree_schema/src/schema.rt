@@ -2,8 +2,7 @@
 
 ghost use Rattle.std.specs.Prelude.{◌≡◌, ℕ, ◌<◌, ◌≤◌, not, length, slice_get, option_map, position};
 ghost use Rattle.std.specs.List.{list_any};
-ghost use Rattle.ghost_model.specs.Schema as schema;
-ghost use Rattle.ghost_model.specs.SchemaFaults as faults;
+ghost use Rattle.ghost_model.specs.core.Schema as schema;
 ghost use Rattle.tree_schema.specs.Views.{column_of, table_of, schema_of};
 ghost use Rattle.tree_schema.specs.Schemas as schemas;
 ghost use Rattle.tree_schema.specs.Schemas.{DeclaredSchemasAreTrees};
@@ -46,7 +45,7 @@ pub struct Schema {
 }
 
 impl Model for Schema {
-    ghost use Rattle.ghost_model.specs.Schema as schema;
+    ghost use Rattle.ghost_model.specs.core.Schema as schema;
 
     ghost Value = { schema.Schema };
 
@@ -95,14 +94,14 @@ fn has_key_to(columns: &[Column], child: usize) -> bool
 
 /// Whether a table holds a foreign key to another.
 fn holds_key_to(table: &Table, child: usize) -> bool
-    ensures { result ≡ not (schema.is_empty (schema.keys_to child (table_of table.now))) }
+    ensures { result ≡ not (schema.is_empty (schema.references_to child (table_of table.now))) }
 {
     has_key_to(&table.columns, child)
 }
 
 /// The place of the first table that holds a foreign key to another.
 fn place_of_holder(tables: &[Table], child: usize) -> Option<usize>
-    ensures { result ≡ position (λ holder. not (schema.is_empty (schema.keys_to child (table_of holder)))) tables.now }
+    ensures { result ≡ position (λ holder. not (schema.is_empty (schema.references_to child (table_of holder)))) tables.now }
 {
     tables.iter().position(|holder| holds_key_to(holder, child))
 }
@@ -183,7 +182,7 @@ impl Schema {
     /// steps, and the way ends where there is none.
     pub fn path_to_root(&self, table: usize) -> ArrayVec<usize, MAX_TABLES>
         requires { table < length self.now }
-        ensures { (steps : ℕ) → slice_get result.items steps ≡ faults.ancestor self.now steps table }
+        ensures { (steps : ℕ) → slice_get result.items steps ≡ schema.ancestor self.now steps table }
     {
         let _ = self.tables();
         schemas_are_trees();

@@ -1,9 +1,9 @@
 //! The syntax of the texts that declare tables.
 
 ghost use Rattle.std.specs.Prelude.{◌≡◌, ◌≢◌, Err, ℕ, ◌∷◌, [], Bool, true, false, List, length, ◌<◌, ◌≤◌, IfOk, IfErr, OnOk, IfSome, IfNone, option_map};
-ghost use Rattle.ghost_model.specs.Tokens as tokens;
-ghost use Rattle.ghost_model.specs.SchemaGrammar as grammar;
-ghost use Rattle.ghost_model.specs.SchemaPlaces as places;
+ghost use Rattle.ghost_model.specs.refusals.Tokens as tokens;
+ghost use Rattle.ghost_model.specs.refusals.SchemaGrammar as grammar;
+ghost use Rattle.ghost_model.specs.readings.SchemaPlaces as places;
 ghost use Rattle.tree_schema.specs.Marks.{symbol_of, token_of};
 ghost use Rattle.tree_schema.specs.Drafts.{reference_of, column_of, in_column_of, place_of, Takes, IsOut, ReadsColumn, StopsColumn, Leads, Stops, named, opened, ReadsName, StopsName, ReadsNext, ReadsEnd, StopsEnd, ReadsOthers, StopsOthers, ReadsText, ReadsTable};
 ghost use Rattle.tree_schema.specs.declared.tokens.Mark.TheVariants.{End};
@@ -185,7 +185,7 @@ fn step_in<'a>(last: InColumn<'a>, token: Token<'a>) -> Option<InColumn<'a>>
 
 /// Where a token leads, or that it leads nowhere.
 fn goes<'a>(next: Option<InColumn<'a>>) -> Move<'a>
-    ensures { (tables : grammar.SchemaText) (name : List ℕ) (columns : List grammar.ColumnText) → place_of tables name columns result ≡ option_map (places.Within tables name columns) (option_map in_column_of next.entry) }
+    ensures { (tables : grammar.SchemaText) (name : List ℕ) (columns : List grammar.ColumnDeclaration) → place_of tables name columns result ≡ option_map (places.Within tables name columns) (option_map in_column_of next.entry) }
 {
     match next {
         Some(last) => Move::Goes(last),
@@ -195,7 +195,7 @@ fn goes<'a>(next: Option<InColumn<'a>>) -> Move<'a>
 
 /// What a token does within a table's columns.
 fn step_within<'a>(last: InColumn<'a>, token: Token<'a>) -> Move<'a>
-    ensures { (tables : grammar.SchemaText) (name : List ℕ) (columns : List grammar.ColumnText) → place_of tables name columns result ≡ places.step_within tables name columns (in_column_of last.entry) (symbol_of token.entry.mark token.entry.bytes.now) }
+    ensures { (tables : grammar.SchemaText) (name : List ℕ) (columns : List grammar.ColumnDeclaration) → place_of tables name columns result ≡ places.step_within tables name columns (in_column_of last.entry) (symbol_of token.entry.mark token.entry.bytes.now) }
 {
     match last {
         InColumn::Whole(column) => match token.mark {

@@ -2,7 +2,7 @@
 
 ghost use Rattle.std.specs.Prelude.{◌≡◌, ◌≢◌, ℕ, ◌+◌, ◌<◌, ◌≤◌, List, ◌∷◌, [], true, false, length, take, take_while, bytes_eq, IfSome, IfNone, MatchOption};
 ghost use Rattle.std.specs.List.{list_any};
-ghost use Rattle.ghost_model.specs.Tokens as tokens;
+ghost use Rattle.ghost_model.specs.refusals.Tokens as tokens;
 ghost use Rattle.tree_schema.specs.Marks.{symbol_of, token_of, Begins};
 ghost use Rattle.tree_schema.specs.declared.tokens.Mark.TheVariants.{End};
 
@@ -65,7 +65,7 @@ pub struct Cursor<'a> {
 
 impl<'a> Model for Cursor<'a> {
     ghost use Rattle.std.specs.Prelude.{List, ◌+◌, ◌<◌, ◌^◌, length};
-    ghost use Rattle.ghost_model.specs.Tokens as tokens;
+    ghost use Rattle.ghost_model.specs.refusals.Tokens as tokens;
 
     ghost Value = { List tokens.Token };
 
@@ -154,7 +154,9 @@ fn mark_of_word(word: &[u8]) -> Mark
     ensures symbol { symbol_of result word.now ≡ tokens.symbol_of_word (tokens.in_lower_case word.now) }
     ensures some { result ≢ End }
 {
-    if is_word(word, b"and") {
+    if is_word(word, b"int") {
+        Mark::Integer
+    } else if is_word(word, b"and") {
         Mark::And
     } else if is_word(word, b"between") {
         Mark::Between
@@ -166,8 +168,6 @@ fn mark_of_word(word: &[u8]) -> Mark
         Mark::From
     } else if is_word(word, b"hidden") {
         Mark::Hidden
-    } else if is_word(word, b"int") {
-        Mark::Integer
     } else if is_word(word, b"integer") {
         Mark::Integer
     } else if is_word(word, b"key") {
@@ -209,10 +209,10 @@ fn sign(byte: u8) -> Mark
 }
 
 /// The length of a text literal whose `'` stands before these bytes, and `None` where it is broken.
-#[tactic(auto, unfolding(ghost_model::specs::Tokens::quoted_from))]
+#[tactic(auto, unfolding(ghost_model::specs::refusals::Tokens::quoted_from))]
 fn literal_len(rest: &[u8]) -> Option<usize>
     ensures within { IfSome result (λ len. len ≤ length rest.now + 1) }
-    ensures read { MatchOption result (tokens.quoted_from false [] 1 rest.now ≡ tokens.read tokens.Bad 1) (λ len. (value : List ℕ) × (tokens.quoted_from false [] 1 rest.now ≡ tokens.read (tokens.Quoted value) len)) }
+    ensures read { MatchOption result (tokens.quoted_from false [] 1 rest.now ≡ tokens.read tokens.NoToken 1) (λ len. (value : List ℕ) × (tokens.quoted_from false [] 1 rest.now ≡ tokens.read (tokens.Quoted value) len)) }
 {
     let mut ended = false;
     for (i, byte) in rest.iter().enumerate() {

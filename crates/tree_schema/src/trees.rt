@@ -1,8 +1,9 @@
 //! The rules that make the tables of a schema one tree.
 
 ghost use Rattle.std.specs.Prelude.{◌≡◌, ◌≤◌, length, find, count_by, option_and_then};
-ghost use Rattle.ghost_model.specs.Schema as schema;
-ghost use Rattle.ghost_model.specs.SchemaFaults as faults;
+ghost use Rattle.ghost_model.specs.core.Schema as schema;
+ghost use Rattle.ghost_model.specs.core.Schema.{places_of};
+ghost use Rattle.ghost_model.specs.refusals.SchemaFaults as faults;
 ghost use Rattle.tree_schema.specs.Views.{schema_of, table_of};
 ghost use Rattle.tree_schema.specs.Faults.{refused, is_shared, fault_of_tree};
 
@@ -26,7 +27,7 @@ fn keys_in(columns: &[Column], child: usize) -> usize
 
 /// The number of a table's foreign keys to a table.
 fn keys_of(table: &Table, child: usize) -> usize
-    ensures keys { result ≡ length (schema.keys_to child (table_of table.now)) }
+    ensures keys { result ≡ length (schema.references_to child (table_of table.now)) }
     ensures few { result ≤ MAX_COLUMNS }
 {
     keys_in(&table.columns, child)
@@ -35,7 +36,7 @@ fn keys_of(table: &Table, child: usize) -> usize
 /// The number of foreign keys to a table.
 fn keys_naming(tables: &[Table], child: usize) -> usize
     requires few { length tables.now ≤ MAX_TABLES }
-    ensures keys { result ≡ faults.keys_naming (schema_of tables.now) child }
+    ensures keys { result ≡ faults.references_naming (schema_of tables.now) child }
 {
     let mut keys = 0;
     for table in tables {
@@ -47,7 +48,7 @@ fn keys_naming(tables: &[Table], child: usize) -> usize
 /// The first table that two foreign keys name.
 fn first_shared(tables: &[Table]) -> Option<usize>
     requires few { length tables.now ≤ MAX_TABLES }
-    ensures first { result ≡ find (is_shared (schema_of tables.now)) (faults.places_of (schema_of tables.now)) }
+    ensures first { result ≡ find (is_shared (schema_of tables.now)) (places_of (schema_of tables.now)) }
 {
     for child in 0..tables.len() {
         if keys_naming(tables, child) > 1 {
@@ -83,7 +84,7 @@ fn returns(tables: &[Table], table: usize) -> bool
 
 /// The first table from which following parents returns.
 fn first_in_cycle(tables: &[Table]) -> Option<usize>
-    ensures first { result ≡ find (faults.returns (schema_of tables.now)) (faults.places_of (schema_of tables.now)) }
+    ensures first { result ≡ find (faults.returns (schema_of tables.now)) (places_of (schema_of tables.now)) }
 {
     for table in 0..tables.len() {
         if returns(tables, table) {

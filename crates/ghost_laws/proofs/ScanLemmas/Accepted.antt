@@ -2,10 +2,11 @@
 use Rattle.std.proofs.Common.{◌≡◌, ℕ, ◌⊎◌, inl, inr, Bool, true, false, not, ◌||◌, List, [], ◌∷◌, map, filter, flat_map, sym, subst, refl, Option, Some, None, option_map, is_none}
 use Rattle.std.specs.Prelude.{option_to_list}
 use Rattle.std.specs.List.{list_all, list_any}
-use Rattle.ghost_model.specs.Schema.{Schema, is_table}
-use Rattle.ghost_model.specs.Query.{Query, Field, Condition, Compare, Join, AtMost, AtLeast}
-use Rattle.ghost_model.specs.QueryGrammar.{ColumnText, Bare, Qualified, ConditionText, Compares, LiesBetween, Joins}
-use Rattle.ghost_model.specs.QueryMeaning.{field, value_of, column_named, table_named, fields_named, meanings, conditions_of, resolved, top_of, is_key_to, is_proper, lacks_join, NotLinked, Means}
+use Rattle.ghost_model.specs.core.Schema.{Schema, is_table}
+use Rattle.ghost_model.specs.core.Query.{Query, Field, Condition, Compare, Join, AtMost, AtLeast, top_of}
+use Rattle.ghost_model.specs.refusals.QueryGrammar.{ColumnText, Bare, Qualified, ConditionText, Compares, LiesBetween, Joins}
+use Rattle.ghost_model.specs.refusals.QueryMeaning.{field, value_of_literal, column_named, table_named, fields_named, meanings, conditions_of, resolved, is_reference_to, is_proper, lacks_join, Means}
+use Rattle.ghost_model.proofs.QueryReadingLemmas.{kept_rules}
 use Rattle.ghost_model.proofs.MeaningLemmas.OneRow.{Among, from_filter, from_map, either_true, neither_true, both_true}
 use Rattle.ghost_laws.proofs.ScanLemmas.Choices.{from_flat}
 
@@ -42,10 +43,10 @@ module _ (schema : Schema) (from : List ℕ) (P : Field → Type 0) (meant : (co
 
   condition_with : (text : ConditionText) (c : Condition) → Among c (conditions_of schema from text) → With P c
   condition_with (Compares column operator literal) c a =
-      let r = from_map (λ one. Compare one operator (value_of literal)) c (meanings schema from column) a in
+      let r = from_map (λ one. Compare one operator (value_of_literal literal)) c (meanings schema from column) a in
       subst (With P) r.2 (meant column r.0 r.1)
   condition_with (LiesBetween column low high) c a =
-      compared_with column (λ one. Compare one AtLeast (value_of low) ∷ Compare one AtMost (value_of high) ∷ [])
+      compared_with column (λ one. Compare one AtLeast (value_of_literal low) ∷ Compare one AtMost (value_of_literal high) ∷ [])
       (λ one d h b. (elim b [
         | inl same ↦ subst (With P) same h
         | inr later ↦ (elim later [ inl same ↦ subst (With P) same h | inr none ↦ absurd none ])
@@ -66,7 +67,7 @@ StandsFrom from c = With (λ (one : Field). Among one.table from) c
 -- a join is one of a foreign key and the identifier that it names, either side first
 abbrev pub IsJoinOrTest : Schema → Condition → Type 0
 IsJoinOrTest schema (Compare column operator literal) = Unit {0}
-IsJoinOrTest schema (Join one other) = (is_key_to schema one other ≡ true) ⊎ (is_key_to schema other one ≡ true)
+IsJoinOrTest schema (Join one other) = (is_reference_to schema one other ≡ true) ⊎ (is_reference_to schema other one ≡ true)
 
 pub record HasConditions (schema : Schema) (asked : Query) : Type 0 where
   pub from : (c : Condition) → Among c asked.conditions → StandsFrom asked.from c
@@ -74,7 +75,7 @@ pub record HasConditions (schema : Schema) (asked : Query) : Type 0 where
 
 proper_join : (schema : Schema) (c : Condition) → is_proper schema c ≡ true → IsJoinOrTest schema c
 proper_join schema (Compare column operator literal) h = tt
-proper_join schema (Join one other) h = either_true (is_key_to schema one other) (is_key_to schema other one) h
+proper_join schema (Join one other) h = either_true (is_reference_to schema one other) (is_reference_to schema other one) h
 
 not_false : (b : Bool) → not b ≡ false → b ≡ true
 not_false true h = refl
@@ -83,7 +84,7 @@ not_false false h = let bad : ⊥ = cc in absurd bad
 pub has_conditions : (schema : Schema) (text : List ℕ) (asked : Query) → Means schema text asked → HasConditions schema asked
 has_conditions schema text asked means =
     let it : Query = resolved schema means.tree in
-    let joined = neither_true (not (list_all (is_proper schema) it.conditions) || is_none (top_of schema it)) (list_any (lacks_join schema it) it.from) (means.keeps NotLinked) in
+    let joined = neither_true (not (list_all (is_proper schema) it.conditions) || is_none (top_of schema it)) (list_any (lacks_join schema it) it.from) (kept_rules schema text means.tree means.keeps).linked in
     let proper = neither_true (not (list_all (is_proper schema) it.conditions)) (is_none (top_of schema it)) joined.0 in
     let all = not_false (list_all (is_proper schema) it.conditions) proper.0 in
     subst (λ (q : Query). HasConditions schema q) (sym means.means) (record {

@@ -4,15 +4,16 @@ use Rattle.std.specs.Prelude.{is_some, option_to_list, ◌==◌}
 use Rattle.std.specs.Int.{from_be_bytes}
 use Rattle.std.specs.List.{list_all, prefix_len}
 use Rattle.std.proofs.lemmas.Bool.{le-leb}
-use Rattle.ghost_model.specs.Schema.{Kind, Integer, Chars}
-use Rattle.ghost_model.specs.Values.{Value, Number, Text}
-use Rattle.ghost_model.specs.Tokens.{is_printable}
-use Rattle.ghost_model.specs.Cells.{cell_width, decode_cell, from_lowest, text_in, is_not_zero, is_text_cell}
-use Rattle.ghost_model.specs.Database.{fits_integer, is_of_kind}
-use Rattle.ghost_model.specs.Frames.{AreBytes}
-use Rattle.ghost_model.specs.NextMove.{are_cells}
-use Rattle.ghost_model.specs.Split.{are_of_kinds}
-use Rattle.ghost_model.specs.Replies.{values_in}
+use Rattle.ghost_model.specs.core.Schema.{Kind, Integer, Chars}
+use Rattle.ghost_model.specs.core.Values.{Value, Number, Text}
+use Rattle.ghost_model.specs.refusals.Tokens.{is_printable}
+use Rattle.ghost_model.specs.forms.Cells.{cell_width}
+use Rattle.ghost_model.specs.readings.CellReading.{decode_cell, from_lowest, text_in, is_not_zero, is_text_cell}
+use Rattle.ghost_model.specs.core.Database.{fits_integer, is_of_kind}
+use Rattle.ghost_model.specs.forms.Frames.{AreBytes}
+use Rattle.ghost_model.specs.core.NextMove.{are_cells}
+use Rattle.ghost_model.specs.core.Split.{are_of_kinds}
+use Rattle.ghost_model.specs.core.Replies.{values_in}
 use Rattle.ghost_model.proofs.ChannelLemmas.Tests.{hold_both}
 use Rattle.ghost_model.proofs.MeaningLemmas.OneRow.{both_true}
 

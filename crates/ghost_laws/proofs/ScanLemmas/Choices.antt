@@ -1,9 +1,11 @@
 -- The combinations of rows of several tables, by identifiers: none stands twice, and where one alone may pass a test, those
 -- that pass are this one or none.
 use Rattle.std.proofs.Common.{◌≡◌, ◌≢◌, refl, sym, ap, ◌∙◌, subst, ℕ, zero, suc, ◌+◌, ◌<◌, ◌≤◌, inl, inr, Bool, true, false, ◌==◌, nat_eq, List, [], ◌∷◌, ◌++◌, map, filter, flat_map, Option, Some, None, unwrap_or, arith, eqb-true, eq-eqb, if◌then◌else◌}
-use Rattle.ghost_model.specs.Split.{Hidden}
-use Rattle.ghost_model.specs.Replies.{Pick, pick, picks, identifiers_from, identifiers_of}
+use Rattle.std.specs.List.{range_with_len}
+use Rattle.ghost_model.specs.core.Split.{Hidden}
 use Rattle.ghost_model.proofs.MeaningLemmas.OneRow.{Among, Distinct, filter_none, not_equal, from_map, from_append, distinct-append, distinct-cons}
+use Rattle.ghost_model.proofs.MeaningLemmas.Picks.{picks, identifiers_of}
+use Rattle.ghost_model.specs.core.Meaning.{Pick, pick, combinations}
 
 -- what a test leaves where one element alone may pass it
 pub filter_exactly : {X : Type 0} (p : X → Bool) (l : X) (xs : List X) → Distinct xs → Among l xs
@@ -56,8 +58,7 @@ distinct_flat f each apart (x ∷ xs) d =
     (λ y a b. let r = from_flat f y xs b in d.0 (subst (λ w. Among w xs) (sym (apart x r.0 y a r.2)) r.1))
 
 -- identifiers
-pub identifier_within : (from count identifier : ℕ) → Among identifier (identifiers_from from count) → (from ≤ identifier) × (identifier < from + count)
-unfolding identifiers_from
+pub identifier_within : (from count identifier : ℕ) → Among identifier (range_with_len from count) → (from ≤ identifier) × (identifier < from + count)
 identifier_within from zero identifier h = absurd h
 identifier_within from (suc count) identifier (inl same) = (omega (arith, same), omega (arith, same))
 identifier_within from (suc count) identifier (inr later) =
@@ -65,16 +66,14 @@ identifier_within from (suc count) identifier (inr later) =
     let low = r.0 in
     let high = r.1 in (omega (arith, low), omega (arith, high))
 
-pub among_identifiers : (from count place : ℕ) → place < count → Among (from + place) (identifiers_from from count)
-unfolding identifiers_from
+pub among_identifiers : (from count place : ℕ) → place < count → Among (from + place) (range_with_len from count)
 among_identifiers from zero place h = let bad : ⊥ = omega (arith, h) in absurd bad
 among_identifiers from (suc count) zero h = inl (let e : from ≡ from + 0 = omega arith in e)
 among_identifiers from (suc count) (suc place) h =
     let e : from + 1 + place ≡ from + suc place = omega arith in
-    inr (subst (λ n. Among n (identifiers_from (from + 1) count)) e (among_identifiers (from + 1) count place (omega (arith, h))))
+    inr (subst (λ n. Among n (range_with_len (from + 1) count)) e (among_identifiers (from + 1) count place (omega (arith, h))))
 
-distinct_identifiers : (from count : ℕ) → Distinct (identifiers_from from count)
-unfolding identifiers_from
+distinct_identifiers : (from count : ℕ) → Distinct (range_with_len from count)
 distinct_identifiers from zero = tt
 distinct_identifiers from (suc count) = (
   λ h. (let low = (identifier_within (from + 1) count from h).0 in omega (arith, low)),
@@ -87,7 +86,7 @@ picked reach tables = map (λ table. pick table (reach table)) tables
 
 module _ (kept : Hidden) where
   distinct_picks : (tables : List ℕ) → Distinct (picks kept tables)
-  unfolding picks
+  unfolding combinations
   distinct_picks [] = (λ h. h, tt)
   distinct_picks (table ∷ tables) =
       let rest = picks kept tables in
@@ -111,7 +110,7 @@ module _ (kept : Hidden) where
       (one.table ≡ table) × Among one.identifier (identifiers_of kept table) × IsPicked tables others
 
   pub are_picked : (tables : List ℕ) (x : List Pick) → Among x (picks kept tables) → IsPicked tables x
-  unfolding picks
+  unfolding combinations
   are_picked [] x (inl same) = sym same
   are_picked [] x (inr none) = absurd none
   are_picked (table ∷ tables) x h =
@@ -122,7 +121,7 @@ module _ (kept : Hidden) where
 
   picked_among : (reach : ℕ → ℕ) (tables : List ℕ) → ((table : ℕ) → Among table tables → Among (reach table) (identifiers_of kept table))
       → Among (picked reach tables) (picks kept tables)
-  unfolding picks
+  unfolding combinations
   picked_among reach [] within = inl refl
   picked_among reach (table ∷ tables) within =
       let rest = picks kept tables in

@@ -1,10 +1,10 @@
 -- The selected columns of an accepted query are columns of the schema, and at most 32.
 use Rattle.std.proofs.Common.{◌≡◌, ℕ, suc, ◌+◌, inl, inr, Bool, true, false, List, [], ◌∷◌, filter, sym, ◌∙◌, ap, subst, refl, arith, Option, Some, None, option_map, unwrap_or, slice_get, bytes_eq, if◌then◌else◌}
 use Rattle.std.specs.Prelude.{option_to_list}
-use Rattle.ghost_model.specs.Schema.{Schema, Column, columns_of, column_at, places_from, places_where, first_of, is_table}
-use Rattle.ghost_model.specs.Query.{Query, Field}
-use Rattle.ghost_model.specs.QueryGrammar.{ColumnText, Bare, Qualified, Selection, All, Columns}
-use Rattle.ghost_model.specs.QueryMeaning.{field, column_named, table_named, fields_named, fields_of, meanings, selected, resolved, Means}
+use Rattle.ghost_model.specs.core.Schema.{Schema, Column, columns_of, column_at, places_from, places_where, first_of, is_table}
+use Rattle.ghost_model.specs.core.Query.{Query, Field}
+use Rattle.ghost_model.specs.refusals.QueryGrammar.{ColumnText, Bare, Qualified, Selection, All, Columns}
+use Rattle.ghost_model.specs.refusals.QueryMeaning.{field, column_named, table_named, fields_named, fields_of, meanings, selected_fields, resolved, Means}
 use Rattle.ghost_model.proofs.MeaningLemmas.OneRow.{Among, from_map}
 use Rattle.ghost_laws.proofs.ScanLemmas.Choices.{from_flat}
 
@@ -53,7 +53,7 @@ module _ (schema : Schema) where
       let r = from_flat (fields_named schema name) one (filter (λ other. is_table other (table_named schema table)) from) a in
       named_by r.0 name (column_named schema r.0 name) refl one r.2
 
-  selected_has : (from : List ℕ) (selection : Selection) (one : Field) → Among one (selected schema from selection) → HasColumn one
+  selected_has : (from : List ℕ) (selection : Selection) (one : Field) → Among one (selected_fields schema from selection) → HasColumn one
   selected_has from All one a =
       let r = from_flat (fields_of schema) one from a in
       let q = from_map (field r.0) one (places_where (λ _. true) (columns_of schema r.0)) r.2 in

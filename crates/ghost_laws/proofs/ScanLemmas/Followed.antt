@@ -1,12 +1,12 @@
 -- What a loop over the rows of the top table may rely on.
 use Rattle.std.proofs.Common.{◌≡◌, refl, sym, ap, ◌∙◌, subst, ℕ, zero, suc, ◌+◌, Bool, true, false, ◌||◌, inl, inr, List, [], ◌∷◌, ◌++◌, length, flat_map, ◌⊎◌, arith, append-nil, append_assoc, nat_lt}
 use Rattle.std.specs.Prelude.{is_some}
-use Rattle.std.specs.List.{list_all, list_any}
-use Rattle.ghost_model.specs.Schema.{Schema}
-use Rattle.ghost_model.specs.Values.{Row}
-use Rattle.ghost_model.specs.Query.{Query, Field, Condition, Compare, Join}
-use Rattle.ghost_model.specs.QueryMeaning.{has_repeat, is_key_to, meanings, columns_in, resolved, Ambiguous, Means}
-use Rattle.ghost_model.specs.Replies.{identifiers_from}
+use Rattle.std.specs.List.{list_all, list_any, range_with_len}
+use Rattle.ghost_model.specs.core.Schema.{Schema}
+use Rattle.ghost_model.specs.core.Values.{Row}
+use Rattle.ghost_model.specs.core.Query.{Query, Field, Condition, Compare, Join}
+use Rattle.ghost_model.specs.refusals.QueryMeaning.{has_repeat, is_reference_to, meanings, columns_in, resolved, Means}
+use Rattle.ghost_model.proofs.QueryReadingLemmas.{kept_rules}
 use Rattle.ghost_model.proofs.ChannelLemmas.Tests.{hold_both}
 use Rattle.ghost_model.proofs.MeaningLemmas.OneRow.{Among, among_is, is_among_to, neither_true, query_is_linked}
 use Rattle.ghost_model.proofs.SessionLemmas.Accepted.{each_is, query_is_sound}
@@ -35,7 +35,7 @@ module _ (schema : Schema) (from : List ℕ) where
   condition_from (Compare column operator literal) a has join = column_from column a has
   condition_from (Join one other) a has join =
       hold_both _ _ (hold_both _ _ (column_from one a.0 has.0) (column_from other a.1 has.1))
-      (either_way (is_key_to schema one other) (is_key_to schema other one) join)
+      (either_way (is_reference_to schema one other) (is_reference_to schema other one) join)
 
 conditions_have : (schema : Schema) (text : List ℕ) (asked : Query) → Means schema text asked → (c : Condition) → Among c asked.conditions
     → With (HasColumn schema) c
@@ -47,7 +47,7 @@ conditions_have schema text asked means =
 no_repeat_from : (schema : Schema) (text : List ℕ) (asked : Query) → Means schema text asked → has_repeat asked.from ≡ false
 no_repeat_from schema text asked means =
     let it : Query = resolved schema means.tree in
-    let once = neither_true (has_repeat it.from) (list_any (λ column. nat_lt 1 (length (meanings schema it.from column))) (columns_in means.tree)) (means.keeps Ambiguous) in
+    let once = neither_true (has_repeat it.from) (list_any (λ column. nat_lt 1 (length (meanings schema it.from column))) (columns_in means.tree)) (kept_rules schema text means.tree means.keeps).one_meaning in
     subst (λ (q : Query). has_repeat q.from ≡ false) (sym means.means) once.0
 
 pub accepted_queries_are_followed : AcceptedQueriesAreFollowed
@@ -70,18 +70,16 @@ accepted_queries_are_followed schema tree text asked means top at_top =
     }
 
 one_more : (rows : ℕ → List Row) (from count : ℕ)
-    → flat_map rows (identifiers_from from (suc count)) ≡ flat_map rows (identifiers_from from count) ++ rows (from + count)
-unfolding identifiers_from
+    → flat_map rows (range_with_len from (suc count)) ≡ flat_map rows (range_with_len from count) ++ rows (from + count)
 one_more rows from zero = let e : from ≡ from + 0 = omega arith in append-nil (rows from) ∙ ap rows e
 one_more rows from (suc count) =
     let e : from + 1 + count ≡ from + suc count = omega arith in
-    let later = flat_map rows (identifiers_from (from + 1) count) in
+    let later = flat_map rows (range_with_len (from + 1) count) in
     ap (λ (xs : List Row). rows from ++ xs) (one_more rows (from + 1) count)
     ∙ (sym (append_assoc (rows from) later (rows (from + 1 + count))) ∙ ap (λ n. (rows from ++ later) ++ rows n) e)
 
 pub rows_come_one_by_one : RowsComeOneByOne
-unfolding identifiers_from
 rows_come_one_by_one = record {
   none = λ rows. refl;
-  more = λ rows count. let e : 1 + count ≡ suc count = omega arith in one_more rows 1 count ∙ ap (λ n. flat_map rows (identifiers_from 1 count) ++ rows n) e;
+  more = λ rows count. let e : 1 + count ≡ suc count = omega arith in one_more rows 1 count ∙ ap (λ n. flat_map rows (range_with_len 1 count) ++ rows n) e;
 }

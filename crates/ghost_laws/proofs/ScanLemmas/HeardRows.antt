@@ -7,47 +7,47 @@ use Rattle.std.proofs.Math.Nat.{mul-div_cancel, mod-add-div', suc-mul}
 use Rattle.std.proofs.lemmas.Bool.{ltb-false}
 use Rattle.std.proofs.lemmas.List.{length-take-le, length-drop, take-append-le, drop-append-le}
 use Rattle.std.proofs.lemmas.List.Folds.{list_all-append}
-use Rattle.ghost_model.specs.Schema.{Schema, Kind}
-use Rattle.ghost_model.specs.Channel.{Ask, Frame, Hello, Asking, More, Bye, Replied, Done, Sorry}
-use Rattle.ghost_model.specs.Frames.{AreBytes, kind_in, size_in, serial_in, payload_in, number_in, frame_in, most_payload}
-use Rattle.ghost_model.specs.Asks.{kinds_of, row_width, ReplyRow, row_in, rows_from, rows_in}
-use Rattle.ghost_model.specs.NextMove.{are_cells, rows_fit, reply_size_fits}
-use Rattle.ghost_model.specs.Split.{are_of_kinds}
-use Rattle.ghost_model.specs.Replies.{values_in}
+use Rattle.ghost_model.specs.core.Schema.{Schema, Kind}
+use Rattle.ghost_model.specs.core.Channel.{Ask, Frame, HelloFrame, AskFrame, MoreFrame, ByeFrame, RowsFrame, DoneFrame, SorryFrame}
+use Rattle.ghost_model.specs.forms.Frames.{AreBytes, kind_in, size_in, serial_in, payload_in, payload_number, frame_in, most_payload}
+use Rattle.ghost_model.specs.core.Asks.{kinds_of, row_width, RowCells, row_in, rows_from, rows_in}
+use Rattle.ghost_model.specs.core.NextMove.{are_cells, rows_fit, reply_size_fits}
+use Rattle.ghost_model.specs.core.Split.{are_of_kinds}
+use Rattle.ghost_model.specs.core.Replies.{values_in}
 use Rattle.ghost_model.proofs.ChannelLemmas.Tests.{hold_both}
 use Rattle.ghost_model.proofs.MeaningLemmas.OneRow.{both_true}
 use Rattle.ghost_laws.proofs.ScanLemmas.Cells.{bytes_taken, bytes_dropped, cells_spell}
 
 -- what a frame has that is one of rows
-skip : (b : Bool) (one other : Frame) (serial : ℕ) (payload : List ℕ) → (one ≡ Replied serial payload → ⊥)
-    → (if b then one else other) ≡ Replied serial payload → other ≡ Replied serial payload
+skip : (b : Bool) (one other : Frame) (serial : ℕ) (payload : List ℕ) → (one ≡ RowsFrame serial payload → ⊥)
+    → (if b then one else other) ≡ RowsFrame serial payload → other ≡ RowsFrame serial payload
 skip true one other serial payload never e = absurd (never e)
 skip false one other serial payload never e = e
 
-here : (b : Bool) (number : ℕ) (bytes : List ℕ) (other : Frame) (serial : ℕ) (payload : List ℕ) → (other ≡ Replied serial payload → ⊥)
-    → (if b then Replied number bytes else other) ≡ Replied serial payload → (b ≡ true) × (bytes ≡ payload)
+here : (b : Bool) (number : ℕ) (bytes : List ℕ) (other : Frame) (serial : ℕ) (payload : List ℕ) → (other ≡ RowsFrame serial payload → ⊥)
+    → (if b then RowsFrame number bytes else other) ≡ RowsFrame serial payload → (b ≡ true) × (bytes ≡ payload)
 here true number bytes other serial payload never e = (refl, payload_same e)
   where
     payload_or : Frame → List ℕ
-    payload_or (Replied _ it) = it
+    payload_or (RowsFrame _ it) = it
     payload_or _ = []
 
-    payload_same : Replied number bytes ≡ Replied serial payload → bytes ≡ payload
+    payload_same : RowsFrame number bytes ≡ RowsFrame serial payload → bytes ≡ payload
     payload_same same = ap payload_or same
 here false number bytes other serial payload never e = absurd (never e)
 
-last_no : (b : Bool) (number total code serial : ℕ) (payload : List ℕ) → (if b then Done number total else Sorry number code) ≡ Replied serial payload → ⊥
+last_no : (b : Bool) (number total code serial : ℕ) (payload : List ℕ) → (if b then DoneFrame number total else SorryFrame number code) ≡ RowsFrame serial payload → ⊥
 last_no true number total code serial payload e = cc
 last_no false number total code serial payload e = cc
 
-pub replied_in : (part : List ℕ) (serial : ℕ) (payload : List ℕ) → frame_in part ≡ Replied serial payload
+pub replied_in : (part : List ℕ) (serial : ℕ) (payload : List ℕ) → frame_in part ≡ RowsFrame serial payload
     → ((kind_in part == 18) ≡ true) × (payload_in part ≡ payload)
 replied_in part serial payload e =
     let kind = kind_in part in
-    let a = skip (kind == 1) (Hello (number_in (payload_in part))) _ serial payload (λ never. cc) e in
-    let b = skip (kind == 2) (Asking (serial_in part) (payload_in part)) _ serial payload (λ never. cc) a in
-    let c = skip (kind == 3) (More (serial_in part)) _ serial payload (λ never. cc) b in
-    let d = skip (kind == 4) Bye _ serial payload (λ never. cc) c in
+    let a = skip (kind == 1) (HelloFrame (payload_number (payload_in part))) _ serial payload (λ never. cc) e in
+    let b = skip (kind == 2) (AskFrame (serial_in part) (payload_in part)) _ serial payload (λ never. cc) a in
+    let c = skip (kind == 3) (MoreFrame (serial_in part)) _ serial payload (λ never. cc) b in
+    let d = skip (kind == 4) ByeFrame _ serial payload (λ never. cc) c in
     let f = skip (kind == 17) _ _ serial payload (λ never. cc) d in
     here (kind == 18) (serial_in part) (payload_in part) _ serial payload (last_no (kind == 19) _ _ _ serial payload) f
 
@@ -59,7 +59,7 @@ module _ (schema : Schema) (ask : Ask) where
   width = row_width schema ask
 
   -- whether the cells of a row spell a value for each asked column
-  abbrev pub is_good : ReplyRow → Bool
+  abbrev pub is_good : RowCells → Bool
   is_good row = are_of_kinds kinds (values_in kinds row.cells)
 
   pub record AreRows (bytes : List ℕ) : Type 0 where
@@ -106,7 +106,7 @@ module _ (schema : Schema) (ask : Ask) where
       ap (λ n. rows_from width n (bytes ++ others)) next
       ∙ ap (λ (taken : List ℕ). row_in taken ∷ rows_from width (count + more) (drop width (bytes ++ others))) (take-append-le width bytes others enough)
       ∙ ap (λ (left : List ℕ). row_in (take width bytes) ∷ rows_from width (count + more) left) (drop-append-le width bytes others enough)
-      ∙ ap (λ (rows : List ReplyRow). row_in (take width bytes) ∷ rows) (rows_joined count more (drop width bytes) others rest)
+      ∙ ap (λ (rows : List RowCells). row_in (take width bytes) ∷ rows) (rows_joined count more (drop width bytes) others rest)
 
   -- the rows of a frame that fits, after rows that came
   pub rows_more : (bytes payload : List ℕ) → AreRows bytes → AreBytes payload → length payload % width ≡ 0

@@ -5,15 +5,15 @@ use Rattle.std.specs.List.{list_all}
 use Rattle.std.specs.Cmp.{int_cmp_is}
 use Rattle.std.specs.declared.cmp.Ordering.TheVariants as order
 use Rattle.std.proofs.lemmas.List.Sums.{sum_by-cons}
-use Rattle.ghost_model.specs.Schema.{Schema, Column, Table, column_at, parent, is_table, keys_to, first_of, places_from}
-use Rattle.ghost_model.specs.SchemaFaults.{ancestor}
-use Rattle.ghost_model.specs.SchemaTrees.{IsTree}
-use Rattle.ghost_model.specs.Values.{Value, Number, Text, Row, Database}
-use Rattle.ghost_model.specs.Query.{Query, Field, Condition, Compare, Join}
-use Rattle.ghost_model.specs.Query as query
-use Rattle.ghost_model.specs.QueryMeaning.{is_key_to, is_join_of}
-use Rattle.ghost_model.specs.Database.{IsDatabase, row_of, field, identifier_in, key_column, points_to, leads, IsAtOrBelow}
-use Rattle.ghost_model.specs.Meaning.{compares}
+use Rattle.ghost_model.specs.core.Schema.{Schema, Column, Table, column_at, parent, is_table, references_to, first_of, places_from, ancestor}
+use Rattle.ghost_model.specs.laws.SchemaTrees.{IsTree}
+use Rattle.ghost_model.specs.core.Values.{Value, Number, Text, Row, Database}
+use Rattle.ghost_model.specs.core.Query.{Query, Field, Condition, Compare, Join}
+use Rattle.ghost_model.specs.core.Query as query
+use Rattle.ghost_model.specs.refusals.QueryMeaning.{is_reference_to, is_join_of}
+use Rattle.ghost_model.specs.core.Database.{IsDatabase, row_of, value_at_row, identifier_in, reference_column, points_to, leads}
+use Rattle.ghost_model.specs.laws.MeaningLaws.{IsAtOrBelow}
+use Rattle.ghost_model.specs.core.Meaning.{compares}
 use Rattle.ghost_model.proofs.MeaningLemmas.OneRow.{Among, among-filter, length-without, LeadsUp, leads_once, leads_on, IsLinked, both_true, either_true, any_of, both_are, key_child, held_by, in_table, place_told, not_empty}
 use Rattle.ghost_model.proofs.MeaningLemmas.Leading.{first_step, one_step_more, no_step, different, onwards, to_itself_within, along, landing, points_somewhere}
 
@@ -90,22 +90,22 @@ pub record KeyTo (schema : Schema) (key identifier : Field) : Type 0 where
   pub names : declared.child ≡ Some identifier.table
   pub first : identifier.column ≡ 0
   pub up : parent schema identifier.table ≡ Some key.table
-  pub found : key_column schema key.table identifier.table ≡ Some key.column
+  pub found : reference_column schema key.table identifier.table ≡ Some key.column
 
 key_found : (schema : Schema) → IsTree schema → (table column child : ℕ) (declared : Column)
     → column_at schema table column ≡ Some declared → declared.child ≡ Some child
-    → key_column schema table child ≡ Some column
+    → reference_column schema table child ≡ Some column
 key_found schema tree table column child declared h hc =
     let t = in_table (slice_get schema table) column declared h in
     let told : is_table child declared.child ≡ true = ap (is_table child) hc ∙ eq-eqb child child refl in
-    let few = tree.one_parent child (tree.keys_name_tables table column child declared h hc) in
-    let part = part_of_sum (λ (w : Table). length (keys_to child w)) schema table t.0 t.1 in
+    let few = tree.one_parent child (tree.references_name_tables table column child declared h hc) in
+    let part = part_of_sum (λ (w : Table). length (references_to child w)) schema table t.0 t.1 in
     let e : 0 + column ≡ column = omega arith in
-    ap (option_and_then (λ held. first_of (keys_to child held))) t.1
+    ap (option_and_then (λ held. first_of (references_to child held))) t.1
     ∙ one_place (λ (w : Column). is_table child w.child) 0 t.0.columns column declared t.2 told (omega arith)
     ∙ ap Some e
 
-pub key_to : (schema : Schema) → IsTree schema → (key identifier : Field) → is_key_to schema key identifier ≡ true
+pub key_to : (schema : Schema) → IsTree schema → (key identifier : Field) → is_reference_to schema key identifier ≡ true
     → KeyTo schema key identifier
 key_to schema tree key identifier h =
     let k = both_true (is_table identifier.table (option_and_then (λ (column : Column). column.child) (column_at schema key.table key.column))) (nat_eq identifier.column 0) h in
@@ -124,7 +124,7 @@ pub record IsValues (schema : Schema) (database : Database) (value : (table iden
   pub numbered : (table identifier : ℕ) (row : Row) → row_of database table identifier ≡ Some row
       → value table identifier 0 ≡ Some (Number (pos identifier))
   pub keys : (table identifier column child : ℕ) (declared : Column) → column_at schema table column ≡ Some declared
-      → declared.child ≡ Some child → value table identifier column ≡ field database table identifier column
+      → declared.child ≡ Some child → value table identifier column ≡ value_at_row database table identifier column
 
 -- the value of a column in a choice of rows
 abbrev pub seen : ((table identifier column : ℕ) → Option Value) → (at : ℕ → Option ℕ) → Field → Option Value
@@ -164,22 +164,22 @@ module _ (schema : Schema) (database : Database) (tree : IsTree schema) (is : Is
     key_holds row there key named k below =
         let above = landing schema database tree is below.0 top key.table identifier row below.1 there in
         let p = points_somewhere schema database tree is key.table named.table above.reached above.row k.up above.stands in
-        let read : identifier_in (field database key.table above.reached key.column) ≡ Some p.0 =
-        sym (ap (option_and_then (λ column. identifier_in (field database key.table above.reached column))) k.found) ∙ p.2 in
+        let read : identifier_in (value_at_row database key.table above.reached key.column) ≡ Some p.0 =
+        sym (ap (option_and_then (λ column. identifier_in (value_at_row database key.table above.reached column))) k.found) ∙ p.2 in
         let led_to : led named.table ≡ Some p.0 =
         along schema database tree below.0 top key.table named.table identifier below.1 k.up
         ∙ ap (onwards schema database key.table named.table) above.led ∙ p.2 in (
           p.0,
           ap (option_and_then (λ n. value key.table n key.column)) above.led
               ∙ values.keys key.table above.reached key.column named.table k.declared k.at_key k.names
-              ∙ identifier_back (field database key.table above.reached key.column) p.0 read,
+              ∙ identifier_back (value_at_row database key.table above.reached key.column) p.0 read,
           ap (option_and_then (λ n. value named.table n named.column)) led_to ∙ ap (value named.table p.0) k.first
               ∙ values.numbered named.table p.0 p.1 p.3,
         )
 
     -- so each join holds there
     pub joins_hold : (row : Row) → row_of database top identifier ≡ Some row → (one other : Field)
-        → (is_key_to schema one other ≡ true) ⊎ (is_key_to schema other one ≡ true)
+        → (is_reference_to schema one other ≡ true) ⊎ (is_reference_to schema other one ≡ true)
         → IsAtOrBelow schema top one.table → IsAtOrBelow schema top other.table
         → compares query.Equal (seen value led one) (seen value led other) ≡ true
     joins_hold row there one other (inl h) below_one below_other =
@@ -199,10 +199,10 @@ module _ (schema : Schema) (database : Database) (tree : IsTree schema) (is : Is
           let row = stand named.table y.0 y.1 in
           let number : Some v ≡ Some (Number (pos y.0)) =
           sym y.2 ∙ ap (value named.table y.0) k.first ∙ values.numbered named.table y.0 row.0 row.1 in
-          let stands : field database key.table x.0 key.column ≡ Some (Number (pos y.0)) =
+          let stands : value_at_row database key.table x.0 key.column ≡ Some (Number (pos y.0)) =
           sym (values.keys key.table x.0 key.column named.table k.declared k.at_key k.names) ∙ x.2 ∙ number in
           let points : points_to schema database key.table x.0 named.table ≡ Some y.0 =
-          ap (option_and_then (λ column. identifier_in (field database key.table x.0 column))) k.found
+          ap (option_and_then (λ column. identifier_in (value_at_row database key.table x.0 column))) k.found
           ∙ ap identifier_in stands in
           y.1
           ∙ sym (along schema database tree below.0 top key.table named.table identifier below.1 k.up
@@ -210,7 +210,7 @@ module _ (schema : Schema) (database : Database) (tree : IsTree schema) (is : Is
 
       -- the table above is the key's
       by_key_of : (above table : ℕ) → parent schema table ≡ Some above → IsAtOrBelow schema top above → at above ≡ led above
-          → (key named : Field) → is_key_to schema key named ≡ true → nat_eq named.table table ≡ true
+          → (key named : Field) → is_reference_to schema key named ≡ true → nat_eq named.table table ≡ true
           → (v : Value) → seen value at key ≡ Some v → seen value at named ≡ Some v → at table ≡ led table
       by_key_of above table up below same key named h e v hk hn =
           let k = key_to schema tree key named h in
@@ -226,10 +226,10 @@ module _ (schema : Schema) (database : Database) (tree : IsTree schema) (is : Is
       by_join above table up below same (Compare column operator literal) h holds = let bad : ⊥ = cc in absurd bad
       by_join above table up below same (Join left right) h holds =
           let both = both_are (seen value at left) (seen value at right) holds in
-          (elim (either_true (is_key_to schema left right && nat_eq right.table table) (is_key_to schema right left && nat_eq left.table table) h) [
-            | inl one ↦ (let e = both_true (is_key_to schema left right) (nat_eq right.table table) one in
+          (elim (either_true (is_reference_to schema left right && nat_eq right.table table) (is_reference_to schema right left && nat_eq left.table table) h) [
+            | inl one ↦ (let e = both_true (is_reference_to schema left right) (nat_eq right.table table) one in
                 by_key_of above table up below same left right e.0 e.1 both.0 both.1 both.2)
-            | inr other ↦ (let e = both_true (is_key_to schema right left) (nat_eq left.table table) other in
+            | inr other ↦ (let e = both_true (is_reference_to schema right left) (nat_eq left.table table) other in
                 by_key_of above table up below same right left e.0 e.1 both.0 both.2 both.1)
           ])
 

@@ -2,30 +2,32 @@
 -- keys do not depend on them.
 use Rattle.std.proofs.Common.{◌≡◌, refl, sym, ap, ◌∙◌, ℕ, zero, suc, ◌+◌, ◌<◌, inl, Bool, true, false, not, ◌&&◌, nat_eq, List, [], ◌∷◌, ◌++◌, map, drop, filter, flat_map, Option, Some, None, slice_get, unwrap_or, option_and_then, arith, eqb-true, if◌then◌else◌}
 use Rattle.std.specs.Prelude.{filter_map}
-use Rattle.std.specs.List.{list_all}
+use Rattle.std.specs.List.{list_all, range_with_len}
 use Rattle.std.specs.Option.{option_map}
 use Rattle.std.proofs.lemmas.List.Folds.{list_all-map}
 use Rattle.std.proofs.lemmas.Option.{slice_get-map}
-use Rattle.ghost_model.specs.Schema.{Schema, Column, columns_of, column_at, parent, is_shown, is_visible}
-use Rattle.ghost_model.specs.SchemaTrees.{IsTree}
-use Rattle.ghost_model.specs.Values.{Value, Row, Rows, Database}
-use Rattle.ghost_model.specs.Query.{Query, Field, Condition, Compare, Join}
-use Rattle.ghost_model.specs.QueryMeaning.{top_of, only, is_some_among}
-use Rattle.ghost_model.specs.Database.{IsDatabase, rows_of, row_of, row_count, field}
-use Rattle.ghost_model.specs.Split.{Hidden, hidden_values, hidden_flags, hidden_of, value_at}
-use Rattle.ghost_model.specs.Meaning.{compares, others_of}
-use Rattle.ghost_model.specs.Replies as replies
-use Rattle.ghost_model.specs.Replies.{Reply, reply_about, Pick, pick, picks, identifiers_from, identifiers_of, hidden_places, hidden_value, known_value, known_in, is_true_or_asked, stands_in, stands_in_reply, is_kept, answer_of_pick, answer_from}
+use Rattle.ghost_model.specs.core.Schema.{Schema, Column, columns_of, column_at, parent, is_shown, is_visible}
+use Rattle.ghost_model.specs.laws.SchemaTrees.{IsTree}
+use Rattle.ghost_model.specs.core.Values.{Value, Row, Rows, Database}
+use Rattle.ghost_model.specs.core.Query.{Query, Field, Condition, Compare, Join, top_of, only, is_some_among}
+use Rattle.ghost_model.specs.core.Database.{IsDatabase, rows_of, row_of, row_count, value_at_row}
+use Rattle.ghost_model.specs.core.Split.{Hidden, hidden_of, value_at}
+use Rattle.ghost_model.specs.core.Meaning.{compares, others_of, Pick, pick, no_value, answer_by_top}
+use Rattle.ghost_model.specs.laws.SplitByFlags.{hidden_flags, hidden_values}
+use Rattle.ghost_model.proofs.MeaningLemmas.PartsByFlags.{hidden_rows_at}
+use Rattle.ghost_model.specs.core.Replies as replies
+use Rattle.ghost_model.specs.core.Replies.{Reply, reply_about, hidden_places, hidden_value, known_value, stands_in, answer_from}
 use Rattle.ghost_model.proofs.MeaningLemmas.OneRow.{Among, from_filter, IsLinked, query_is_linked, both_true, in_table}
 use Rattle.ghost_model.proofs.MeaningLemmas.Leading.{get_within, place_within, to_itself_within}
-use Rattle.ghost_model.proofs.SessionLemmas.Values.{parts_at, hidden_of_row}
+use Rattle.ghost_model.proofs.SessionLemmas.Values.{hidden_of_row}
 use Rattle.ghost_model.proofs.SessionLemmas.Accepted.{each_is, query_is_sound, IsSound}
 use Rattle.ghost_laws.specs.Scans.{known_along, is_kept_row, stands_along, holds_or_asked_along, known_row, KnownAnswersFollowKeys}
 use Rattle.ghost_laws.proofs.ScanLemmas.Keys.{IsValues, seen, join_holds}
 use Rattle.ghost_laws.proofs.ScanLemmas.Choices.{chosen_in, picked}
 use Rattle.ghost_laws.proofs.ScanLemmas.Accepted.{pass_each, HasConditions, has_conditions}
 use Rattle.ghost_laws.proofs.ScanLemmas.OneChoice.{all_same, values_same, mapped_if, many, reach, reached, combined, combined_has, join_met, one_or_none}
-use Rattle.ghost_laws.proofs.ScanLemmas.Rows.{all_more}
+use Rattle.ghost_laws.proofs.ScanLemmas.Rows.{all_more, same_for_identifiers}
+use Rattle.ghost_model.proofs.MeaningLemmas.Picks.{picks, identifiers_of, known_in, is_true_or_asked, stands_in_reply, is_kept, answer_of_pick}
 
 -- a test of the top table and of the others is one of all
 passing_top : (test : ℕ → Bool) (top : ℕ) → test top ≡ true → (tables : List ℕ) → list_all test (others_of top tables) ≡ list_all test tables
@@ -46,17 +48,6 @@ top_and_others test top tables a =
         | false ↦ λ h. refl
       ]) refl
     ]) refl
-
-same_for_identifiers : (f g : ℕ → List Row) (from count : ℕ) → ((place : ℕ) → place < count → f (from + place) ≡ g (from + place))
-    → flat_map f (identifiers_from from count) ≡ flat_map g (identifiers_from from count)
-unfolding identifiers_from
-same_for_identifiers f g from zero same = refl
-same_for_identifiers f g from (suc count) same =
-    let zeroth : from ≡ from + 0 = omega arith in
-    ap (λ one. one ++ flat_map f (identifiers_from (from + 1) count)) (ap f zeroth ∙ same 0 (omega arith) ∙ sym (ap g zeroth))
-    ∙ ap (λ later. g from ++ later)
-    (same_for_identifiers f g (from + 1) count
-    (λ place h. let moved : from + 1 + place ≡ from + suc place = omega arith in ap f moved ∙ same (suc place) (omega (arith, h)) ∙ sym (ap g moved)))
 
 only_among : (xs : List ℕ) (x : ℕ) → only xs ≡ Some x → Among x xs
 only_among [] x h = let bad : ⊥ = cc in absurd bad
@@ -86,18 +77,18 @@ module _ (schema : Schema) (database : Database) (tree : IsTree schema) (is : Is
 
   -- a hidden value is the database's
   pub hidden_is : (table identifier before : ℕ) → is_shown (column_at schema table (suc before)) ≡ false
-      → hidden_value schema kept table identifier (suc before) ≡ field database table identifier (suc before)
+      → hidden_value schema kept table identifier (suc before) ≡ value_at_row database table identifier (suc before)
   hidden_is table zero before h = refl
   hidden_is table (suc place) before h =
       let value : Row → Option Value = λ values. value_at (hidden_places schema table) values (suc before) in
       let part : Row → Row = λ whole. hidden_values (hidden_flags (columns_of schema table)) (drop 1 whole) in
-      ap (λ (rows : Rows). option_and_then value (slice_get rows place)) (parts_at hidden_values schema database is.tables table)
+      ap (λ (rows : Rows). option_and_then value (slice_get rows place)) (hidden_rows_at schema database is.tables table)
       ∙ (ap (λ (o : Option Row). option_and_then value o) (slice_get-map part (rows_of database table) place)
       ∙ by_row value part (λ row. slice_get row (suc before)) (slice_get (rows_of database table) place)
       (λ row there. hidden_of_row (columns_of schema table) row before (is.widths table (suc place) row there) h))
 
   key_known : (table identifier column child : ℕ) (declared : Column) → column_at schema table column ≡ Some declared
-      → declared.child ≡ Some child → known table identifier column ≡ field database table identifier column
+      → declared.child ≡ Some child → known table identifier column ≡ value_at_row database table identifier column
   key_known table identifier zero child declared h hc =
       let held = in_table (slice_get schema table) 0 declared h in
       let within = place_within schema table held.0 held.1 in
@@ -107,7 +98,7 @@ module _ (schema : Schema) (database : Database) (tree : IsTree schema) (is : Is
       absurd bad
   key_known table identifier (suc before) child declared h hc =
       let unseen : is_shown (column_at schema table (suc before)) ≡ false =
-      ap is_shown h ∙ ap not (tree.keys_are_hidden table (suc before) child declared h hc) in
+      ap is_shown h ∙ ap not (tree.references_are_hidden table (suc before) child declared h hc) in
       ap (λ v. if v then replies.replied_value given table identifier (suc before) else hidden_value schema kept table identifier (suc before)) (and_false _ (is_shown (column_at schema table (suc before))) unseen)
       ∙ hidden_is table identifier before unseen
 
@@ -165,7 +156,7 @@ module _ (schema : Schema) (database : Database) (tree : IsTree schema) (is : Is
     row_is : answer_of_pick schema kept asked given top identifier ≡ known_row schema database asked given top identifier
     row_is =
         let test : List Pick → Bool = is_kept schema kept given asked.conditions in
-        let line : List Pick → Row = λ x. filter_map (known_in schema kept given x) asked.select in
+        let line : List Pick → Row = λ x. map (λ f. unwrap_or (known_in schema kept given x f) no_value) asked.select in
         let along : Field → Option Value = known_along schema database given top identifier in
         ap (map line)
         (one_or_none schema database tree is asked top linked identifier row there known is_values test
@@ -177,16 +168,16 @@ module _ (schema : Schema) (database : Database) (tree : IsTree schema) (is : Is
         ∙ ap (λ (b : Bool). if list_all (stands_along schema database given top identifier) asked.from && b then line one ∷ [] else [])
         (all_same (is_true_or_asked schema kept given one) (holds_or_asked_along schema along) asked.conditions condition_along)
         ∙ ap (λ (values : Row). if list_all (stands_along schema database given top identifier) asked.from && list_all (holds_or_asked_along schema along) asked.conditions then values ∷ [] else [])
-        (values_same (known_in schema kept given one) along asked.select
-        (λ f a. seen_along f (each_is (λ (g : Field). Among g.table asked.from) f asked.select sound.chosen a)))
+        (values_same (λ f. unwrap_or (known_in schema kept given one f) no_value) (λ f. unwrap_or (along f) no_value) asked.select
+        (λ f a. ap (λ (o : Option Value). unwrap_or o no_value) (seen_along f (each_is (λ (g : Field). Among g.table asked.from) f asked.select sound.chosen a))))
 
 pub known_answers_follow_keys : KnownAnswersFollowKeys
 known_answers_follow_keys schema tree database is text asked means given top at_top =
     let linked = query_is_linked schema text asked top means at_top in
     let conditions = has_conditions schema text asked means in
     let sound = query_is_sound schema text asked tree means in
-    ap (λ o. replies.answer_from_top schema (hidden_of schema database) asked given o) at_top
-    ∙ ap (λ n. flat_map (answer_of_pick schema (hidden_of schema database) asked given top) (identifiers_from 1 n)) (many schema database tree is asked top linked top)
+    ap (λ o. answer_by_top (replies.known schema (hidden_of schema database) given) asked o) at_top
+    ∙ ap (λ n. flat_map (answer_of_pick schema (hidden_of schema database) asked given top) (range_with_len 1 n)) (many schema database tree is asked top linked top)
     ∙ same_for_identifiers (answer_of_pick schema (hidden_of schema database) asked given top) (known_row schema database asked given top) 1 (row_count database top)
     (λ place h.
     let row = get_within (rows_of database top) place h in

@@ -1,20 +1,20 @@
 -- Each selected value is known where the rows stand in the replies to all asks: an asked one is of its column's kind, since
 -- the reply has one value for each asked column, of its kind.
 use Rattle.std.proofs.Common.{◌≡◌, ℕ, zero, suc, ◌+◌, ◌<◌, ◌≤◌, inl, inr, pos, Bool, true, false, not, ◌&&◌, ◌||◌, ◌==◌, nat_eq, nat_lt, List, [], ◌∷◌, length, map, filter, sym, ◌∙◌, ap, subst, refl, arith, eqb-true, eq-eqb, Some, slice_get, option_and_then, if◌then◌else◌}
-use Rattle.std.specs.Prelude.{filter_map, is_some}
+use Rattle.std.specs.Prelude.{is_some, unwrap_or}
 use Rattle.std.specs.List.{list_all, list_any}
 use Rattle.std.proofs.lemmas.Bool.{lt-ltb}
-use Rattle.ghost_model.specs.Schema.{Schema, Column, Kind, columns_of, column_at, places_from, is_empty, is_shown, is_visible}
-use Rattle.ghost_model.specs.SchemaTrees.{IsTree}
-use Rattle.ghost_model.specs.Values.{Number, Row, Database}
-use Rattle.ghost_model.specs.Query.{Query, Field}
-use Rattle.ghost_model.specs.QueryMeaning as meaning
-use Rattle.ghost_model.specs.QueryMeaning.{top_of, Means}
-use Rattle.ghost_model.specs.Channel.{Ask}
-use Rattle.ghost_model.specs.Asks.{kind_at, kinds_of, is_field, is_wanted, places, ask_for, is_needed, is_from, asks_of}
-use Rattle.ghost_model.specs.Database.{IsDatabase, row_of, row_count, is_of_kind}
-use Rattle.ghost_model.specs.Split.{Replied, hidden_of, value_at, are_of_kinds}
-use Rattle.ghost_model.specs.Replies.{Reply, reply_about, row_replied, replied_value, hidden_value, known_value}
+use Rattle.ghost_model.specs.core.Schema.{Schema, Column, Kind, columns_of, column_at, places_from, is_empty, is_shown, is_visible}
+use Rattle.ghost_model.specs.laws.SchemaTrees.{IsTree}
+use Rattle.ghost_model.specs.core.Values.{Number, Row, Database}
+use Rattle.ghost_model.specs.core.Query.{Query, Field, top_of}
+use Rattle.ghost_model.specs.refusals.QueryMeaning as meaning
+use Rattle.ghost_model.specs.refusals.QueryMeaning.{Means}
+use Rattle.ghost_model.specs.core.Channel.{Ask}
+use Rattle.ghost_model.specs.core.Asks.{kind_at, kinds_of, is_field, is_wanted, places, ask_for, is_needed, is_from, asks_of}
+use Rattle.ghost_model.specs.core.Database.{IsDatabase, row_of, row_count, is_of_kind}
+use Rattle.ghost_model.specs.core.Split.{RowValues, hidden_of, value_at, are_of_kinds}
+use Rattle.ghost_model.specs.core.Replies.{Reply, reply_about, row_replied, replied_value, hidden_value, known_value}
 use Rattle.ghost_model.proofs.ChannelLemmas.Tests.{hold_both}
 use Rattle.ghost_model.proofs.MeaningLemmas.OneRow.{Among, among-filter, from_filter, from_map, IsLinked, query_is_linked, both_true, in_table, among_is}
 use Rattle.ghost_model.proofs.MeaningLemmas.Leading.{landing, place_within}
@@ -26,7 +26,8 @@ use Rattle.ghost_laws.proofs.ScanLemmas.Choices.{to_map}
 use Rattle.ghost_laws.proofs.ScanLemmas.Accepted.{pass_each}
 use Rattle.ghost_laws.proofs.ScanLemmas.KnownRows.{hidden_is}
 use Rattle.ghost_laws.proofs.ScanLemmas.Columns.{HasColumn, select_has}
-use Rattle.ghost_laws.proofs.ScanLemmas.Values.{Stands, all_stand, alone_or_none, all_by_number, field_stands, row_numbered}
+use Rattle.ghost_laws.proofs.ScanLemmas.Values.{Stands, all_told, none_missing, alone_or_none, all_by_number, field_stands, row_numbered}
+use Rattle.ghost_model.specs.core.Meaning.{no_value}
 
 -- a value among values of these kinds
 value_of_kinds : (kind : ℕ → Kind) (columns : List ℕ) (values : Row) → are_of_kinds (map kind columns) values ≡ true → (column : ℕ)
@@ -111,11 +112,11 @@ reply_found target (reply ∷ later) h only =
       ])
     ]) refl
 
-row_found : (identifier : ℕ) (rows : List Replied) → is_some (row_replied identifier rows) ≡ true
-    → (row : Replied) × (row_replied identifier rows ≡ Some row) × Among row rows
+row_found : (identifier : ℕ) (rows : List RowValues) → is_some (row_replied identifier rows) ≡ true
+    → (row : RowValues) × (row_replied identifier rows ≡ Some row) × Among row rows
 row_found identifier [] h = let bad : ⊥ = cc in absurd bad
 row_found identifier (row ∷ rows) h =
-    (elim (nat_eq row.identifier identifier) as (λ v. is_some (if v then Some row else row_replied identifier rows) ≡ true → (it : Replied) × ((if v then Some row else row_replied identifier rows) ≡ Some it) × Among it (row ∷ rows)) [
+    (elim (nat_eq row.identifier identifier) as (λ v. is_some (if v then Some row else row_replied identifier rows) ≡ true → (it : RowValues) × ((if v then Some row else row_replied identifier rows) ≡ Some it) × Among it (row ∷ rows)) [
       | true ↦ λ s. (row, refl, inl refl)
       | false ↦ λ s. (let r = row_found identifier rows s in (r.0, r.1, inr r.2))
     ]) h
@@ -133,13 +134,13 @@ module _ (schema : Schema) (database : Database) (tree : IsTree schema) (is : Is
       → Stands (kind_at schema f.table f.column) (replied_value given f.table identifier f.column)
   stands_in_reply f identifier reply about same among column kept =
       let row = row_found identifier reply.rows kept in
-      let kinds = pass_each (λ (one : Replied). are_of_kinds (kinds_of schema reply.ask) one.values) reply.rows
+      let kinds = pass_each (λ (one : RowValues). are_of_kinds (kinds_of schema reply.ask) one.values) reply.rows
       (pass_each (is_of_kinds schema) given are.kinds reply among) row.0 row.2 in
       let value = value_of_kinds (kind_at schema f.table) (ask_for schema asked f.table).columns row.0.values
       (subst (λ (ask : Ask). are_of_kinds (kinds_of schema ask) row.0.values ≡ true) same kinds) f.column column in
       let known : replied_value given f.table identifier f.column ≡ value_at reply.ask.columns row.0.values f.column =
-      ap (option_and_then (λ (it : Reply). option_and_then (λ (one : Replied). value_at it.ask.columns one.values f.column) (row_replied identifier it.rows))) about
-      ∙ ap (option_and_then (λ (one : Replied). value_at reply.ask.columns one.values f.column)) row.1 in
+      ap (option_and_then (λ (it : Reply). option_and_then (λ (one : RowValues). value_at it.ask.columns one.values f.column) (row_replied identifier it.rows))) about
+      ∙ ap (option_and_then (λ (one : RowValues). value_at reply.ask.columns one.values f.column)) row.1 in
       (value.0, known ∙ (ap (λ (ask : Ask). value_at ask.columns row.0.values f.column) same ∙ value.1), value.2)
 
   -- a replied value
@@ -187,21 +188,25 @@ pub known_answers_have_selected : KnownAnswersHaveSelected
 known_answers_have_selected schema tree database is text asked means given are top at_top =
     let linked = query_is_linked schema text asked top means at_top in
     let sound = query_is_sound schema text asked tree means in
+    let kind : Field → Kind = λ f. kind_at schema f.table f.column in
+    let stand : (identifier : ℕ) → 1 ≤ identifier → identifier ≤ row_count database top
+    → list_all (stands_along schema database given top identifier) asked.from ≡ true
+    → (f : Field) → Among f asked.select → Stands (kind f) (known_along schema database given top identifier f) =
+    λ identifier low high stands f a.
+    let row = row_numbered schema database tree is top identifier low high in
+    along_stands schema database tree is asked given are top linked identifier row.0 row.1 stands f
+    (each_is (λ (g : Field). Among g.table asked.from) f asked.select sound.chosen a) a (select_has schema text asked means f a) in
     let each : (identifier : ℕ) → 1 ≤ identifier → identifier ≤ row_count database top
     → list_all (has_selected schema asked) (known_row schema database asked given top identifier) ≡ true =
     λ identifier low high.
-    let row = row_numbered schema database tree is top identifier low high in
     let kept = list_all (stands_along schema database given top identifier) asked.from in
     let holds = list_all (holds_or_asked_along schema (known_along schema database given top identifier)) asked.conditions in
     alone_or_none (has_selected schema asked) (kept && holds)
-    (filter_map (known_along schema database given top identifier) asked.select)
-    (λ passes.
-    all_stand (λ f. kind_at schema f.table f.column) (known_along schema database given top identifier) asked.select
-    (λ f a.
-    along_stands schema database tree is asked given are top linked identifier row.0 row.1 (both_true kept holds passes).0 f
-    (each_is (λ (g : Field). Among g.table asked.from) f asked.select sound.chosen a) a (select_has schema text asked means f a))) in
+    (map (λ f. unwrap_or (known_along schema database given top identifier f) no_value) asked.select)
+    (λ passes. all_told kind (known_along schema database given top identifier) asked.select (stand identifier low high (both_true kept holds passes).0)) in
     record {
       row = each;
+      none_missing = λ identifier low high stands. none_missing kind (known_along schema database given top identifier) asked.select (stand identifier low high stands);
       answer = all_by_number (has_selected schema asked) (known_row schema database asked given top) 1 (row_count database top)
           (λ identifier low high. each identifier low (omega (arith, high)));
     }

@@ -5,17 +5,18 @@ use Rattle.std.specs.List.{list_all, list_any, join_with_byte}
 use Rattle.std.proofs.lemmas.Bool.{ltb-true, ltb-false, le-leb}
 use Rattle.std.proofs.lemmas.Fmt.{length-decimal-le}
 use Rattle.std.proofs.lemmas.List.{length-map}
-use Rattle.ghost_model.specs.Schema.{Schema, Column, Kind, Integer, Chars, column_at}
-use Rattle.ghost_model.specs.SchemaTrees.{IsTree}
-use Rattle.ghost_model.specs.Values.{Value, Number, Text, Row}
-use Rattle.ghost_model.specs.Query.{Query, Field}
-use Rattle.ghost_model.specs.QueryGrammar.{ColumnText, Selection, All, Columns, QueryText}
-use Rattle.ghost_model.specs.QueryMeaning.{meanings, from_tables, selected, selected_count, columns_in, selection_columns, Limit, Ambiguous, Means}
-use Rattle.ghost_model.specs.Tokens.{is_printable}
-use Rattle.ghost_model.specs.Database.{is_of_kind}
-use Rattle.ghost_model.specs.Asks.{kind_or_none, kind_at}
-use Rattle.ghost_model.specs.Split.{are_of_kinds}
-use Rattle.ghost_model.specs.Printed.{field_text}
+use Rattle.ghost_model.specs.core.Schema.{Schema, Column, Kind, Integer, Chars, column_at}
+use Rattle.ghost_model.specs.laws.SchemaTrees.{IsTree}
+use Rattle.ghost_model.specs.core.Values.{Value, Number, Text, Row}
+use Rattle.ghost_model.specs.core.Query.{Query, Field}
+use Rattle.ghost_model.specs.refusals.QueryGrammar.{ColumnText, Selection, All, Columns, QueryText}
+use Rattle.ghost_model.specs.refusals.QueryMeaning.{meanings, from_tables, selected_fields, selected_count, columns_in, selection_columns, Means}
+use Rattle.ghost_model.proofs.QueryReadingLemmas.{kept_rules}
+use Rattle.ghost_model.specs.refusals.Tokens.{is_printable}
+use Rattle.ghost_model.specs.core.Database.{is_of_kind}
+use Rattle.ghost_model.specs.core.Asks.{kind_or_none, kind_at}
+use Rattle.ghost_model.specs.core.Split.{are_of_kinds}
+use Rattle.ghost_model.specs.core.Printed.{field_text}
 use Rattle.ghost_model.proofs.ChannelLemmas.Tests.{hold_both}
 use Rattle.ghost_model.proofs.MeaningLemmas.OneRow.{neither_true, both_true}
 use Rattle.ghost_model.proofs.SessionLemmas.Accepted.{Each}
@@ -35,7 +36,7 @@ few_meanings f (x ∷ xs) ys h =
 few_selected : (schema : Schema) (tree : QueryText) (selection : Selection) (others : List ColumnText)
     → nat_lt 32 (selected_count schema tree selection) ≡ false
     → list_any (λ column. nat_lt 1 (length (meanings schema (from_tables schema tree) column))) (selection_columns selection ++ others) ≡ false
-    → length (selected schema (from_tables schema tree) selection) ≤ 32
+    → length (selected_fields schema (from_tables schema tree) selection) ≤ 32
 few_selected schema tree All others few once = ltb-false 32 (selected_count schema tree All) few
 few_selected schema tree (Columns column more) others few once =
     let written = ltb-false 32 (length (column ∷ more)) few in
@@ -44,8 +45,9 @@ few_selected schema tree (Columns column more) others few once =
 
 pub select_few : (schema : Schema) (text : List ℕ) (asked : Query) → Means schema text asked → length asked.select ≤ 32
 select_few schema text asked means =
-    let few = neither_true _ (nat_lt 32 (selected_count schema means.tree means.tree.selection)) (means.keeps Limit) in
-    let once = neither_true _ (list_any (λ column. nat_lt 1 (length (meanings schema (from_tables schema means.tree) column))) (columns_in means.tree)) (means.keeps Ambiguous) in
+    let kept = kept_rules schema text means.tree means.keeps in
+    let few = neither_true _ (nat_lt 32 (selected_count schema means.tree means.tree.selection)) kept.limits in
+    let once = neither_true _ (list_any (λ column. nat_lt 1 (length (meanings schema (from_tables schema means.tree) column))) (columns_in means.tree)) kept.one_meaning in
     subst (λ (q : Query). length q.select ≤ 32) (sym means.means)
     (few_selected schema means.tree means.tree.selection _ few.1 once.1)
 

@@ -4,21 +4,22 @@ use Rattle.std.proofs.Common.{◌≡◌, ◌≢◌, refl, sym, ap, ◌∙◌, su
 use Rattle.std.specs.Prelude.{filter_map}
 use Rattle.std.specs.List.{list_all, cons_option}
 use Rattle.std.proofs.lemmas.List.{length-map}
-use Rattle.ghost_model.specs.Schema.{Schema}
-use Rattle.ghost_model.specs.SchemaTrees.{IsTree}
-use Rattle.ghost_model.specs.Values.{Value, Row, Rows, Database}
-use Rattle.ghost_model.specs.Query.{Query, Field, Condition, Compare, Join}
-use Rattle.ghost_model.specs.Query as query
-use Rattle.ghost_model.specs.Database.{IsDatabase, rows_or_none, rows_of, row_of, row_count, leads}
-use Rattle.ghost_model.specs.Meaning.{compares, others_of}
-use Rattle.ghost_model.specs.Split.{Hidden, hidden_values, hidden_of}
-use Rattle.ghost_model.specs.Replies.{Pick, pick, picks, identifiers_of}
+use Rattle.ghost_model.specs.core.Schema.{Schema}
+use Rattle.ghost_model.specs.laws.SchemaTrees.{IsTree}
+use Rattle.ghost_model.specs.core.Values.{Value, Row, Rows, Database}
+use Rattle.ghost_model.specs.core.Query.{Query, Field, Condition, Compare, Join}
+use Rattle.ghost_model.specs.core.Query as query
+use Rattle.ghost_model.specs.core.Database.{IsDatabase, rows_or_none, rows_of, row_of, row_count, leads}
+use Rattle.ghost_model.specs.core.Meaning.{compares, others_of, Pick, pick}
+use Rattle.ghost_model.specs.core.Split.{Hidden, hidden_of}
+use Rattle.ghost_model.proofs.MeaningLemmas.PartsByFlags.{hidden_rows_at}
+use Rattle.ghost_model.specs.laws.SplitByFlags.{hidden_values}
 use Rattle.ghost_model.proofs.MeaningLemmas.OneRow.{Among, among-filter, from_filter, distinct-filter, IsLinked}
 use Rattle.ghost_model.proofs.MeaningLemmas.Leading.{landing, to_itself_within, get_within, place_within}
-use Rattle.ghost_model.proofs.SessionLemmas.Values.{parts_at}
 use Rattle.ghost_laws.proofs.ScanLemmas.Keys.{below_top, IsValues, seen, join_holds, joins_hold, follows}
 use Rattle.ghost_laws.proofs.ScanLemmas.Choices.{identifier_within, among_identifiers, chosen_in, chosen_first, chosen_later, chosen_among, picked, picked_has, picked_or_none}
 use Rattle.ghost_laws.proofs.ScanLemmas.Accepted.{HasConditions}
+use Rattle.ghost_model.proofs.MeaningLemmas.Picks.{picks, identifiers_of}
 
 -- tests of elements
 pub all_same : {X : Type 0} (p q : X → Bool) (xs : List X) → ((x : X) → Among x xs → p x ≡ q x) → list_all p xs ≡ list_all q xs
@@ -26,11 +27,11 @@ all_same p q [] same = refl
 all_same p q (x ∷ xs) same =
     ap (λ v. v && list_all p xs) (same x (inl refl)) ∙ ap (λ v. q x && v) (all_same p q xs (λ y a. same y (inr a)))
 
-pub values_same : (f g : Field → Option Value) (xs : List Field) → ((x : Field) → Among x xs → f x ≡ g x) → filter_map f xs ≡ filter_map g xs
+pub values_same : (f g : Field → Value) (xs : List Field) → ((x : Field) → Among x xs → f x ≡ g x) → map f xs ≡ map g xs
 values_same f g [] same = refl
 values_same f g (x ∷ xs) same =
-    ap (λ (o : Option Value). cons_option o (filter_map f xs)) (same x (inl refl))
-    ∙ ap (λ (values : Row). cons_option (g x) values) (values_same f g xs (λ y a. same y (inr a)))
+    ap (λ (value : Value). value ∷ map f xs) (same x (inl refl))
+    ∙ ap (λ (values : Row). g x ∷ values) (values_same f g xs (λ y a. same y (inr a)))
 
 pub mapped_if : {X Y : Type 0} (f : X → Y) (b : Bool) (x : X) → map f (if b then x ∷ [] else []) ≡ (if b then f x ∷ [] else [])
 mapped_if f true x = refl
@@ -42,7 +43,7 @@ module _ (schema : Schema) (database : Database) (tree : IsTree schema) (is : Is
 
   pub many : (table : ℕ) → length (rows_or_none (slice_get kept.hidden table)) ≡ row_count database table
   many table =
-      ap (λ (rows : Rows). length rows) (parts_at hidden_values schema database is.tables table)
+      ap (λ (rows : Rows). length rows) (hidden_rows_at schema database is.tables table)
       ∙ length-map (rows_of database table) _
 
   -- an identifier of a row

@@ -1,16 +1,18 @@
 -- The answer of an accepted query is found along the foreign keys: for each row of the top table, the combinations that
 -- pass are the one that the row leads to, or none.
-use Rattle.std.proofs.Common.{◌≡◌, refl, sym, ap, ◌∙◌, ℕ, suc, ◌+◌, Bool, true, false, nat_eq, List, [], ◌∷◌, ◌++◌, length, map, filter, flat_map, Option, Some, None, slice_get, unwrap_or, option_and_then, arith, eqb-true, if◌then◌else◌}
-use Rattle.std.specs.List.{list_all}
+use Rattle.std.proofs.Common.{◌≡◌, refl, sym, ap, ◌∙◌, ℕ, suc, zero, ◌+◌, ◌<◌, Bool, true, false, nat_eq, List, [], ◌∷◌, ◌++◌, length, map, filter, flat_map, Option, Some, None, slice_get, unwrap_or, option_and_then, arith, eqb-true, if◌then◌else◌}
+use Rattle.std.specs.List.{list_all, range_with_len}
 use Rattle.std.proofs.lemmas.List.{map-append}
-use Rattle.ghost_model.specs.Schema.{Schema}
-use Rattle.ghost_model.specs.SchemaTrees.{IsTree}
-use Rattle.ghost_model.specs.Values.{Row, Rows, Database}
-use Rattle.ghost_model.specs.Query.{Query, Field, Condition, Compare, Join}
-use Rattle.ghost_model.specs.Database.{IsDatabase, rows_of, row_of, field}
-use Rattle.ghost_model.specs.Split.{Hidden, hidden_of}
-use Rattle.ghost_model.specs.Replies.{Pick, pick, picks, identifiers_from}
-use Rattle.ghost_model.specs.Meaning.{Chosen, choice, Combination, combinations, row_in, value_in, compares, is_true_in, passes, projection, others_of, answer_of_row, answer_or_none}
+use Rattle.ghost_model.specs.core.Schema.{Schema}
+use Rattle.ghost_model.specs.laws.SchemaTrees.{IsTree}
+use Rattle.ghost_model.specs.core.Values.{Value, Row, Rows, Database}
+use Rattle.ghost_model.specs.core.Query.{Query, Field, Condition, Compare, Join}
+use Rattle.ghost_model.specs.core.Database.{IsDatabase, rows_of, row_of, row_count, value_at_row}
+use Rattle.ghost_model.specs.core.Split.{Hidden, hidden_of}
+use Rattle.ghost_model.specs.core.Meaning as meaning
+use Rattle.ghost_model.specs.core.Meaning.{Pick, pick, compares, no_value, others_of, all_of, answer_by_top}
+use Rattle.ghost_model.proofs.MeaningLemmas.ByRows as by_row
+use Rattle.ghost_model.proofs.MeaningLemmas.ByRows.{Chosen, choice, Combination, row_combinations, row_in, value_in, is_true_in, passes, projection, answer_of_row, mapped_twice, row_field, by_rows}
 use Rattle.ghost_model.proofs.MeaningLemmas.OneRow.{Among, IsLinked, query_is_linked, both_true}
 use Rattle.ghost_model.proofs.SessionLemmas.Accepted.{each_is, query_is_sound, IsSound}
 use Rattle.ghost_laws.specs.Scans.{led_value, holds_along, row_along, AnswersFollowKeys}
@@ -18,6 +20,11 @@ use Rattle.ghost_laws.proofs.ScanLemmas.Keys.{IsValues, seen, join_holds}
 use Rattle.ghost_laws.proofs.ScanLemmas.Choices.{chosen_in}
 use Rattle.ghost_laws.proofs.ScanLemmas.Accepted.{HasConditions, has_conditions}
 use Rattle.ghost_laws.proofs.ScanLemmas.OneChoice.{all_same, values_same, mapped_if, many, combined, combined_has, join_met, one_or_none}
+use Rattle.ghost_model.proofs.MeaningLemmas.Picks.{picks}
+use Rattle.ghost_model.specs.core.Asks.{kind_at}
+use Rattle.ghost_model.proofs.MeaningLemmas.Leading.{get_within}
+use Rattle.ghost_laws.proofs.ScanLemmas.Columns.{HasColumn, select_has}
+use Rattle.ghost_laws.proofs.ScanLemmas.Values.{all_found, led_stands}
 
 -- what holds wherever another test does
 pub all_more : {X : Type 0} (p q : X → Bool) (xs : List X) → ((x : X) → p x ≡ true → q x ≡ true) → list_all p xs ≡ true → list_all q xs ≡ true
@@ -34,27 +41,15 @@ filter_mapped h p (x ∷ xs) =
       | false ↦ filter_mapped h p xs
     ])
 
-mapped_twice : {X Y Z W : Type 0} (f : X → Y) (g : Y → Z) (k : X → W) (l : W → Z) (xs : List X) → ((x : X) → g (f x) ≡ l (k x)) → map g (map f xs) ≡ map l (map k xs)
-mapped_twice f g k l [] h = refl
-mapped_twice f g k l (x ∷ xs) h =
-    ap (λ z. z ∷ map g (map f xs)) (h x) ∙ ap (λ zs. l (k x) ∷ zs) (mapped_twice f g k l xs h)
-
--- the rows of a table by their identifiers
-rows_by_number : (f : Row → List Row) (g : ℕ → List Row) (from : ℕ) (rows : Rows)
-    → ((place : ℕ) (row : Row) → slice_get rows place ≡ Some row → f row ≡ g (from + place))
-    → flat_map f rows ≡ flat_map g (identifiers_from from (length rows))
-unfolding identifiers_from
-rows_by_number f g from [] same = refl
-rows_by_number f g from (row ∷ rows) same =
-    let zeroth : from + 0 ≡ from = omega arith in
-    ap (λ one. one ++ flat_map f rows) (same 0 row refl ∙ ap g zeroth)
+pub same_for_identifiers : (f g : ℕ → List Row) (from count : ℕ) → ((place : ℕ) → place < count → f (from + place) ≡ g (from + place))
+    → flat_map f (range_with_len from count) ≡ flat_map g (range_with_len from count)
+same_for_identifiers f g from zero same = refl
+same_for_identifiers f g from (suc count) same =
+    let zeroth : from ≡ from + 0 = omega arith in
+    ap (λ one. one ++ flat_map f (range_with_len (from + 1) count)) (ap f zeroth ∙ same 0 (omega arith) ∙ sym (ap g zeroth))
     ∙ ap (λ later. g from ++ later)
-    (rows_by_number f g (from + 1) rows
-    (λ place other h. let moved : from + suc place ≡ from + 1 + place = omega arith in same (suc place) other h ∙ ap g moved))
-
-row_field : (o : Option Row) (column : ℕ) → slice_get (unwrap_or o []) column ≡ option_and_then (λ row. slice_get row column) o
-row_field None column = refl
-row_field (Some row) column = refl
+    (same_for_identifiers f g (from + 1) count
+    (λ place h. let moved : from + 1 + place ≡ from + suc place = omega arith in ap f moved ∙ same (suc place) (omega (arith, h)) ∙ sym (ap g moved)))
 
 module _ (schema : Schema) (database : Database) (tree : IsTree schema) (is : IsDatabase schema database) where
   abbrev kept : Hidden
@@ -64,76 +59,53 @@ module _ (schema : Schema) (database : Database) (tree : IsTree schema) (is : Is
   abbrev chosen : Pick → Chosen
   chosen one = choice one.table (unwrap_or (row_of database one.table one.identifier) [])
 
-  is_values : IsValues schema database (field database)
+  is_values : IsValues schema database (value_at_row database)
   is_values = record {
     numbered = λ table identifier row h.
         ap (option_and_then (λ r. slice_get r 0)) h ∙ is.identifiers table identifier row h;
     keys = λ table identifier column child declared h hc. refl;
   }
 
-  value_seen : (x : List Pick) (f : Field) → value_in (map chosen x) f ≡ seen (field database) (chosen_in x) f
+  value_seen : (x : List Pick) (f : Field) → value_in (map chosen x) f ≡ seen (value_at_row database) (chosen_in x) f
   value_seen [] f = refl
   value_seen (one ∷ others) f =
-      (elim (nat_eq one.table f.table) as (λ v. nat_eq one.table f.table ≡ v → option_and_then (λ row. slice_get row f.column) (if v then Some (unwrap_or (row_of database one.table one.identifier) []) else row_in (map chosen others) f.table) ≡ option_and_then (λ n. field database f.table n f.column) (if v then Some one.identifier else chosen_in others f.table)) [
-        | true ↦ λ e. row_field (row_of database one.table one.identifier) f.column ∙ ap (λ t. field database t one.identifier f.column) (eqb-true one.table f.table e)
+      (elim (nat_eq one.table f.table) as (λ v. nat_eq one.table f.table ≡ v → option_and_then (λ row. slice_get row f.column) (if v then Some (unwrap_or (row_of database one.table one.identifier) []) else row_in (map chosen others) f.table) ≡ option_and_then (λ n. value_at_row database f.table n f.column) (if v then Some one.identifier else chosen_in others f.table)) [
+        | true ↦ λ e. row_field (row_of database one.table one.identifier) f.column ∙ ap (λ t. value_at_row database t one.identifier f.column) (eqb-true one.table f.table e)
         | false ↦ λ e. value_seen others f
       ]) refl
 
-  join_seen : (x : List Pick) (c : Condition) → is_true_in (map chosen x) c ≡ true → join_holds (field database) (chosen_in x) c ≡ true
+  join_seen : (x : List Pick) (c : Condition) → is_true_in (map chosen x) c ≡ true → join_holds (value_at_row database) (chosen_in x) c ≡ true
   join_seen x (Compare column operator literal) h = refl
   join_seen x (Join one other) h = rw (sym (value_seen x one), sym (value_seen x other)) h
 
   -- combinations of rows are those of picks
-  products_are : (table from : ℕ) (rest : List (List Pick)) (rows : Rows)
-      → ((place : ℕ) (row : Row) → slice_get rows place ≡ Some row → row_of database table (from + place) ≡ Some row)
-      → flat_map (λ row. map (λ others. choice table row ∷ others) (map (map chosen) rest)) rows
-      ≡ map (map chosen) (flat_map (λ identifier. map (λ others. pick table identifier ∷ others) rest) (identifiers_from from (length rows)))
-  unfolding identifiers_from
-  products_are table from rest [] stand = refl
-  products_are table from rest (row ∷ rows) stand =
-      let zeroth : from + 0 ≡ from = omega arith in
-      let it : row_of database table from ≡ Some row = ap (row_of database table) (sym zeroth) ∙ stand 0 row refl in
-      let later = products_are table (from + 1) rest rows
-      (λ place other h. let moved : from + 1 + place ≡ from + suc place = omega arith in ap (row_of database table) moved ∙ stand (suc place) other h) in
-      let one : List (List Pick) = map (λ others. pick table from ∷ others) rest in
-      let more : List (List Pick) = flat_map (λ identifier. map (λ others. pick table identifier ∷ others) rest) (identifiers_from (from + 1) (length rows)) in
-      ap (λ (xs : List Combination). xs ++ flat_map (λ r. map (λ others. choice table r ∷ others) (map (map chosen) rest)) rows)
-      (mapped_twice (map chosen) (λ others. choice table row ∷ others) (λ others. pick table from ∷ others) (map chosen) rest
-      (λ others. ap (λ (o : Option Row). choice table (unwrap_or o []) ∷ map chosen others) (sym it)))
-      ∙ (ap (λ (xs : List Combination). map (map chosen) one ++ xs) later ∙ sym (map-append (map chosen) one more))
+  combinations_are : (asked : Query) (top : ℕ) (linked : IsLinked schema asked top) (tables : List ℕ) → row_combinations database tables ≡ map (map chosen) (picks kept tables)
+  combinations_are asked top linked tables =
+      by_row.combinations_are database tables
+      ∙ ap (λ (count : ℕ → ℕ). map (map chosen) (meaning.combinations count tables)) (λ i table. sym (many schema database tree is asked top linked table) i)
 
-  combinations_are : (asked : Query) (top : ℕ) (linked : IsLinked schema asked top) (tables : List ℕ) → combinations database tables ≡ map (map chosen) (picks kept tables)
-  unfolding picks combinations
-  combinations_are asked top linked [] = refl
-  combinations_are asked top linked (table ∷ tables) =
-      ap (λ (rest : List Combination). flat_map (λ row. map (λ others. choice table row ∷ others) rest) (rows_of database table)) (combinations_are asked top linked tables)
-      ∙ products_are table 1 (picks kept tables) (rows_of database table)
-      (λ place row h. let e : 1 + place ≡ suc place = omega arith in ap (row_of database table) e ∙ h)
-      ∙ ap (λ n. map (map chosen) (flat_map (λ identifier. map (λ others. pick table identifier ∷ others) (picks kept tables)) (identifiers_from 1 n)))
-      (sym (many schema database tree is asked top linked table))
-
-  module _ (asked : Query) (top : ℕ) (linked : IsLinked schema asked top) (conditions : HasConditions schema asked) (sound : IsSound schema asked) (identifier : ℕ) (row : Row) (there : row_of database top identifier ≡ Some row) where
+  module _ (asked : Query) (top : ℕ) (linked : IsLinked schema asked top) (conditions : HasConditions schema asked) (sound : IsSound schema asked) (has : (f : Field) → Among f asked.select → HasColumn schema f) (identifier : ℕ) (row : Row) (there : row_of database top identifier ≡ Some row) where
     abbrev one : List Pick
     one = combined schema database tree is asked top linked identifier row there
 
     seen_along : (f : Field) → Among f.table asked.from → value_in (map chosen one) f ≡ led_value schema database top identifier f
     seen_along f a =
         value_seen one f
-        ∙ ap (option_and_then (λ n. field database f.table n f.column)) (combined_has schema database tree is asked top linked identifier row there f.table a)
+        ∙ ap (option_and_then (λ n. value_at_row database f.table n f.column)) (combined_has schema database tree is asked top linked identifier row there f.table a)
 
     condition_along : (c : Condition) → Among c asked.conditions → is_true_in (map chosen one) c ≡ holds_along (led_value schema database top identifier) c
     condition_along (Compare column operator literal) a =
         ap (λ o. compares operator o (Some literal)) (seen_along column (conditions.from (Compare column operator literal) a))
     condition_along (Join left right) a =
         rw (value_seen one left, value_seen one right)
-        (join_met schema database tree is asked top linked identifier row there (field database) is_values conditions left right a)
+        (join_met schema database tree is asked top linked identifier row there (value_at_row database) is_values conditions left right a)
 
     row_is : answer_of_row top database asked row ≡ row_along (led_value schema database top identifier) asked
     row_is =
         let others = others_of top asked.from in
         let all : List (List Pick) = map (λ rest. pick top identifier ∷ rest) (picks kept others) in
         let test : List Pick → Bool = λ x. passes asked.conditions (map chosen x) in
-        let combinations_of_row : map (λ rest. choice top row ∷ rest) (combinations database others) ≡ map (map chosen) all =
+        let combinations_of_row : map (λ rest. choice top row ∷ rest) (row_combinations database others) ≡ map (map chosen) all =
         ap (map (λ rest. choice top row ∷ rest)) (combinations_are asked top linked others)
         ∙ mapped_twice (map chosen) (λ rest. choice top row ∷ rest) (λ rest. pick top identifier ∷ rest) (map chosen) (picks kept others)
         (λ rest. ap (λ (o : Option Row). choice top (unwrap_or o []) ∷ map chosen rest) (sym there)) in
@@ -141,22 +113,30 @@ module _ (schema : Schema) (database : Database) (tree : IsTree schema) (is : Is
         ap (λ (xs : List Combination). map (projection asked.select) (filter (passes asked.conditions) xs)) combinations_of_row
         ∙ ap (map (projection asked.select)) (filter_mapped (map chosen) (passes asked.conditions) all)
         ∙ ap (λ (xs : List (List Pick)). map (projection asked.select) (map (map chosen) xs))
-        (one_or_none schema database tree is asked top linked identifier row there (field database) is_values test
-        (λ x h. all_more (is_true_in (map chosen x)) (join_holds (field database) (chosen_in x)) asked.conditions (λ c hc. join_seen x c hc) h))
+        (one_or_none schema database tree is asked top linked identifier row there (value_at_row database) is_values test
+        (λ x h. all_more (is_true_in (map chosen x)) (join_holds (value_at_row database) (chosen_in x)) asked.conditions (λ c hc. join_seen x c hc) h))
         ∙ ap (map (projection asked.select)) (mapped_if (map chosen) (test one) one)
         ∙ mapped_if (projection asked.select) (test one) (map chosen one)
         ∙ ap (λ (b : Bool). if b then line ∷ [] else []) (all_same (is_true_in (map chosen one)) (holds_along (led_value schema database top identifier)) asked.conditions condition_along)
         ∙ ap (λ (values : Row). if list_all (holds_along (led_value schema database top identifier)) asked.conditions then values ∷ [] else [])
-        (values_same (value_in (map chosen one)) (led_value schema database top identifier) asked.select
-        (λ f a. seen_along f (each_is (λ (g : Field). Among g.table asked.from) f asked.select sound.chosen a)))
+        (values_same (λ f. unwrap_or (value_in (map chosen one) f) no_value) (λ f. unwrap_or (led_value schema database top identifier f) no_value) asked.select
+        (λ f a. ap (λ (o : Option Value). unwrap_or o no_value) (seen_along f (from_select f a)))
+        ∙ all_found (λ f. kind_at schema f.table f.column) (led_value schema database top identifier) asked.select
+        (λ f a. led_stands schema database tree is asked top linked identifier row there f (from_select f a) (has f a)))
+      where
+        from_select : (f : Field) → Among f asked.select → Among f.table asked.from
+        from_select f a = each_is (λ (g : Field). Among g.table asked.from) f asked.select sound.chosen a
 
 pub answers_follow_keys : AnswersFollowKeys
 answers_follow_keys schema tree database is text asked means top at_top =
     let linked = query_is_linked schema text asked top means at_top in
     let conditions = has_conditions schema text asked means in
     let sound = query_is_sound schema text asked tree means in
-    ap (λ o. answer_or_none o database asked) at_top
-    ∙ rows_by_number (answer_of_row top database asked) (λ identifier. row_along (led_value schema database top identifier) asked) 1 (rows_of database top)
-    (λ place row h.
+    ap (λ o. answer_by_top (all_of database) asked o) at_top
+    ∙ same_for_identifiers (meaning.answer_of_row (all_of database) asked top) (λ identifier. row_along (led_value schema database top identifier) asked) 1 (row_count database top)
+    (λ place h.
+    let row = get_within (rows_of database top) place h in
     let e : 1 + place ≡ suc place = omega arith in
-    row_is schema database tree is asked top linked conditions sound (1 + place) row (ap (row_of database top) e ∙ h))
+    let there : row_of database top (1 + place) ≡ Some row.0 = ap (row_of database top) e ∙ row.1 in
+    by_rows database asked top (1 + place) row.0 there
+    ∙ row_is schema database tree is asked top linked conditions sound (select_has schema text asked means) (1 + place) row.0 there)

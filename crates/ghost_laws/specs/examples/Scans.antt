@@ -2,15 +2,15 @@
 -- same as the key answers by whole replies; and so by a reply that lies, whose rows the key cannot tell from true ones.
 use Rattle.std.specs.Prelude.{◌≡◌, ℕ, true, false, List, [], ◌∷◌, codes, Ok}
 use Rattle.std.specs.List.{list_all}
-use Rattle.ghost_model.specs.Schema.{Integer, Chars}
-use Rattle.ghost_model.specs.Values.{Text, Row}
-use Rattle.ghost_model.specs.Query.{Query, Compare, Join, Equal}
-use Rattle.ghost_model.specs.QueryMeaning.{field}
-use Rattle.ghost_model.specs.QueryReading.{reading}
-use Rattle.ghost_model.specs.Meaning.{answer}
-use Rattle.ghost_model.specs.Split.{Replied, public_of, hidden_of}
-use Rattle.ghost_model.specs.Replies.{Reply, answer_from}
-use Rattle.ghost_model.specs.SessionLaws.{whole_replies}
+use Rattle.ghost_model.specs.core.Schema.{Integer, Chars}
+use Rattle.ghost_model.specs.core.Values.{Text, Row}
+use Rattle.ghost_model.specs.core.Query.{Query, Compare, Join, Equal}
+use Rattle.ghost_model.specs.refusals.QueryMeaning.{field}
+use Rattle.ghost_model.specs.readings.QueryReading.{reading}
+use Rattle.ghost_model.specs.core.Meaning.{answer}
+use Rattle.ghost_model.specs.core.Split.{RowValues, public_of, hidden_of}
+use Rattle.ghost_model.specs.core.Replies.{Reply, answer_from}
+use Rattle.ghost_model.specs.laws.SessionLaws.{whole_replies}
 use Rattle.ghost_model.specs.examples.Clinic.{number, clinic_schema, clinic}
 use Rattle.ghost_model.specs.examples.Meaning.{cardio_on, specialties_of_cardio}
 use Rattle.ghost_laws.specs.Scans.{answer_along, known_answer}
@@ -35,7 +35,7 @@ visits_at_cardio = visit_at 1 (codes "cardio") ∷ visit_at 3 (codes "cardio") �
 abbrev pub true_replies : List Reply
 true_replies = whole_replies clinic_schema (public_of clinic_schema clinic) flu_at_cardio
 
-abbrev pub doctor_replied : ℕ → List ℕ → Replied
+abbrev pub doctor_replied : ℕ → List ℕ → RowValues
 doctor_replied identifier specialty = record { identifier = identifier; values = Text specialty ∷ [] }
 
 -- the reply has a doctor that does not meet the condition, and lacks one that does

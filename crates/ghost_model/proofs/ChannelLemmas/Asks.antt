@@ -8,14 +8,16 @@ use Rattle.std.proofs.lemmas.Bool.Decides.{nat_tests}
 use Rattle.std.proofs.lemmas.Bool.{ltb-true, leb-true}
 use Rattle.std.proofs.lemmas.Slice.Eq.{bytes_eq-Decides}
 use Rattle.std.proofs.Math.Seq.{drop-append_seam}
-use Rattle.ghost_model.specs.Schema.{Schema, Kind, Integer, Chars}
-use Rattle.ghost_model.specs.Query.{Operator, Equal, Unequal, Less, AtMost, More, AtLeast}
-use Rattle.ghost_model.specs.Channel.{Ask, Test}
-use Rattle.ghost_model.specs.Asks as asks
-use Rattle.ghost_model.specs.Values.{Value, Number, Text}
-use Rattle.ghost_model.specs.Tokens.{is_printable}
-use Rattle.ghost_model.specs.Database.{is_of_kind, fits_integer}
-use Rattle.ghost_model.specs.Cells.{cell_width, encode_cell, decode_cell, above_lowest, from_lowest, text_in, is_text_cell, is_not_zero, padded}
+use Rattle.ghost_model.specs.core.Schema.{Schema, Kind, Integer, Chars}
+use Rattle.ghost_model.specs.core.Query.{Operator, Equal, Unequal, Less, AtMost, More, AtLeast}
+use Rattle.ghost_model.specs.core.Channel.{Ask, Test}
+use Rattle.ghost_model.specs.core.Asks as asks
+use Rattle.ghost_model.specs.readings.AskReading as reading
+use Rattle.ghost_model.specs.core.Values.{Value, Number, Text}
+use Rattle.ghost_model.specs.refusals.Tokens.{is_printable}
+use Rattle.ghost_model.specs.core.Database.{is_of_kind, fits_integer}
+use Rattle.ghost_model.specs.forms.Cells.{cell_width, encode_cell, above_lowest, padded}
+use Rattle.ghost_model.specs.readings.CellReading.{decode_cell, from_lowest, text_in, is_text_cell, is_not_zero}
 use Rattle.ghost_model.proofs.ChannelLemmas.Tests.{false_is_not, both_hold, hold_both, take_front, drop_front, BothHold}
 
 -- an integer of 64 bits, its distance to the lowest and back
@@ -110,7 +112,7 @@ cell_length (Chars most) (Text text) e =
     let both : BothHold (nat_le (length text) most) (list_all is_printable text) = both_hold _ _ e in
     padded_length most text (leb-true (length text) most both.one)
 
-operator_back : (operator : Operator) → asks.operator_of (asks.operator_code operator) ≡ operator
+operator_back : (operator : Operator) → reading.operator_of (asks.operator_code operator) ≡ operator
 operator_back Equal = refl
 operator_back Unequal = refl
 operator_back Less = refl
@@ -135,8 +137,8 @@ module _ (schema : Schema) where
   tests_back :
       (table : ℕ) (tests : List Test)
       → list_all (λ test. is_of_kind (asks.kind_at schema table test.column) test.value) tests ≡ true
-      → asks.tests_in schema table (length tests) (flat_map (asks.test_bytes schema table) tests) ≡ tests
-  unfolding asks.tests_in
+      → reading.tests_in schema table (length tests) (flat_map (asks.test_bytes schema table) tests) ≡ tests
+  unfolding reading.tests_in
   tests_back table [] e = refl
   tests_back table (test ∷ tests) e =
       let kind : Kind = asks.kind_at schema table test.column in
@@ -144,14 +146,14 @@ module _ (schema : Schema) where
       let cell : List ℕ = encode_cell kind test.value in
       let more : List ℕ = flat_map (asks.test_bytes schema table) tests in
       let size : length cell ≡ cell_width kind = cell_length kind test.value both.one in
-      let value : asks.value_or_none (decode_cell kind (take (cell_width kind) (cell ++ more))) ≡ test.value =
-      ap (λ (xs : List ℕ). asks.value_or_none (decode_cell kind xs)) (take_front (cell_width kind) cell more size)
-      ∙ ap (λ (v : Option Value). asks.value_or_none v) (cell_is_read kind test.value both.one) in
+      let value : reading.value_or_none (decode_cell kind (take (cell_width kind) (cell ++ more))) ≡ test.value =
+      ap (λ (xs : List ℕ). reading.value_or_none (decode_cell kind xs)) (take_front (cell_width kind) cell more size)
+      ∙ ap (λ (v : Option Value). reading.value_or_none v) (cell_is_read kind test.value both.one) in
       let after : drop (2 + cell_width kind) (test.column ∷ asks.operator_code test.operator ∷ (cell ++ more)) ≡ more =
       drop_two (cell_width kind) test.column (asks.operator_code test.operator) (cell ++ more) ∙ drop_front (cell_width kind) cell more size in
       cons_tests _ test _ tests
       (same_test test _ _ (operator_back test.operator) value)
-      (ap (λ (xs : List ℕ). asks.tests_in schema table (length tests) xs) after ∙ tests_back table tests both.other)
+      (ap (λ (xs : List ℕ). reading.tests_in schema table (length tests) xs) after ∙ tests_back table tests both.other)
 
   abbrev ask_with : ℕ → List ℕ → List Test → Ask
   ask_with table columns tests = record { table = table; columns = columns; tests = tests }
@@ -166,7 +168,7 @@ module _ (schema : Schema) where
       both.other
 
   -- the ask that a proper ask's payload is like
-  like_itself : (ask : Ask) → asks.is_proper_ask schema ask ≡ true → asks.ask_like schema (asks.ask_payload schema ask) ≡ ask
+  like_itself : (ask : Ask) → asks.is_proper_ask schema ask ≡ true → reading.ask_like schema (asks.ask_payload schema ask) ≡ ask
   like_itself ask e =
       let tests : List ℕ = flat_map (asks.test_bytes schema ask.table) ask.tests in
       let rest : List ℕ = length ask.tests ∷ tests in
@@ -174,7 +176,7 @@ module _ (schema : Schema) where
       drop_two (length ask.columns) ask.table (length ask.columns) (ask.columns ++ rest) ∙ drop_front (length ask.columns) ask.columns rest refl in
       same_ask ask _ _
       (take_front (length ask.columns) ask.columns rest refl)
-      (ap (λ (xs : List ℕ). asks.tests_in schema ask.table (slice_index xs 0) (drop 1 xs)) after
+      (ap (λ (xs : List ℕ). reading.tests_in schema ask.table (slice_index xs 0) (drop 1 xs)) after
       ∙ tests_back ask.table ask.tests (proper_tests ask e))
 
   abbrev judged : List ℕ → Ask → Option Ask
@@ -186,7 +188,7 @@ module _ (schema : Schema) where
   some_if : (ok : Bool) (ask : Ask) → ok ≡ true → (if ok then Some ask else None) ≡ Some ask
   some_if ok ask e = rw e
 
-  pub spelled_ask_is_read : (ask : Ask) → asks.is_proper_ask schema ask ≡ true → asks.ask_in schema (asks.ask_payload schema ask) ≡ Some ask
+  pub spelled_ask_is_read : (ask : Ask) → asks.is_proper_ask schema ask ≡ true → reading.ask_in schema (asks.ask_payload schema ask) ≡ Some ask
   spelled_ask_is_read ask e =
       ap (λ (a : Ask). judged (asks.ask_payload schema ask) a) (like_itself ask e)
       ∙ some_if _ ask (hold_both _ _ e (same_bytes (asks.ask_payload schema ask)))
@@ -205,15 +207,15 @@ module _ (schema : Schema) where
   is_judged true ask found e = record { holds = refl; same = same_some ask found e }
   is_judged false ask found e = absurd (none_is_not found e)
 
-  pub read_ask_is_proper : (payload : List ℕ) (ask : Ask) → asks.ask_in schema payload ≡ Some ask → asks.is_proper_ask schema ask ≡ true
+  pub read_ask_is_proper : (payload : List ℕ) (ask : Ask) → reading.ask_in schema payload ≡ Some ask → asks.is_proper_ask schema ask ≡ true
   read_ask_is_proper payload ask e =
-      let way : IsJudged (asks.is_proper_ask schema (asks.ask_like schema payload) && bytes_eq (asks.ask_payload schema (asks.ask_like schema payload)) payload) (asks.ask_like schema payload) ask = is_judged _ _ ask e in
-      let both : BothHold (asks.is_proper_ask schema (asks.ask_like schema payload)) (bytes_eq (asks.ask_payload schema (asks.ask_like schema payload)) payload) = both_hold _ _ way.holds in
+      let way : IsJudged (asks.is_proper_ask schema (reading.ask_like schema payload) && bytes_eq (asks.ask_payload schema (reading.ask_like schema payload)) payload) (reading.ask_like schema payload) ask = is_judged _ _ ask e in
+      let both : BothHold (asks.is_proper_ask schema (reading.ask_like schema payload)) (bytes_eq (asks.ask_payload schema (reading.ask_like schema payload)) payload) = both_hold _ _ way.holds in
       subst (λ (a : Ask). asks.is_proper_ask schema a ≡ true) way.same both.one
 
-  pub read_ask_is_spelled : (payload : List ℕ) (ask : Ask) → asks.ask_in schema payload ≡ Some ask → asks.ask_payload schema ask ≡ payload
+  pub read_ask_is_spelled : (payload : List ℕ) (ask : Ask) → reading.ask_in schema payload ≡ Some ask → asks.ask_payload schema ask ≡ payload
   read_ask_is_spelled payload ask e =
-      let way : IsJudged (asks.is_proper_ask schema (asks.ask_like schema payload) && bytes_eq (asks.ask_payload schema (asks.ask_like schema payload)) payload) (asks.ask_like schema payload) ask = is_judged _ _ ask e in
-      let both : BothHold (asks.is_proper_ask schema (asks.ask_like schema payload)) (bytes_eq (asks.ask_payload schema (asks.ask_like schema payload)) payload) = both_hold _ _ way.holds in
+      let way : IsJudged (asks.is_proper_ask schema (reading.ask_like schema payload) && bytes_eq (asks.ask_payload schema (reading.ask_like schema payload)) payload) (reading.ask_like schema payload) ask = is_judged _ _ ask e in
+      let both : BothHold (asks.is_proper_ask schema (reading.ask_like schema payload)) (bytes_eq (asks.ask_payload schema (reading.ask_like schema payload)) payload) = both_hold _ _ way.holds in
       subst (λ (a : Ask). asks.ask_payload schema a ≡ payload) way.same
-      ((bytes_eq-Decides (asks.ask_payload schema (asks.ask_like schema payload)) payload).0 both.other)
+      ((bytes_eq-Decides (asks.ask_payload schema (reading.ask_like schema payload)) payload).0 both.other)

@@ -3,28 +3,29 @@ use Rattle.std.proofs.Common.{◌≡◌, ℕ, ◌+◌, ◌-◌, ◌≤◌, inl, 
 use Rattle.std.specs.Prelude.{nat_lt, not, if◌then◌else◌}
 use Rattle.std.proofs.lemmas.Bool.Decides.{leb_tells}
 use Rattle.std.proofs.lemmas.Bool.{lt-ltb, le-ltb}
-use Rattle.ghost_model.specs.Channel.{Catalog, Frame}
-use Rattle.ghost_model.specs.Asks.{Asked}
-use Rattle.ghost_model.specs.Frames.{frame_bytes, frame_in, size_in, payload_of}
-use Rattle.ghost_model.specs.NextMove.{Awaits, Missing, Reply, Nothing, Verdict, Short, Whole, Invalid, verdict, header_fits, payload_fits, Heard, Ended, heard_frame, heard_as, hear_all, IsAwaited}
+use Rattle.ghost_model.specs.core.Channel.{Catalog, Frame}
+use Rattle.ghost_model.specs.core.Asks.{NumberedAsk}
+use Rattle.ghost_model.specs.forms.Frames.{frame_bytes, frame_in, size_in, payload_of}
+use Rattle.ghost_model.specs.core.NextMove.{Awaits, AwaitsCatalog, AwaitsReply, AwaitsNothing, Verdict, Lacking, Complete, Invalid, verdict, header_fits, payload_fits, Heard, EndedAsk, heard_frame, heard_as, hear_all}
+use Rattle.ghost_model.specs.laws.ChannelLaws.{IsAwaited}
 use Rattle.ghost_model.proofs.ChannelLemmas.{size_is_read, frame_is_read}
 
 -- the tests of a verdict, over plain values
 abbrev judged : (short header part payload : Bool) (missing_header missing_payload : ℕ) → Verdict
 judged short header part payload missing_header missing_payload =
-    if short then Short missing_header
+    if short then Lacking missing_header
     else if not header then Invalid
-    else if part then Short missing_payload
-    else if payload then Whole
+    else if part then Lacking missing_payload
+    else if payload then Complete
     else Invalid
 
-judged_whole : (short header part payload : Bool) (m n : ℕ) → short ≡ false → header ≡ true → part ≡ false → payload ≡ true → judged short header part payload m n ≡ Whole
+judged_whole : (short header part payload : Bool) (m n : ℕ) → short ≡ false → header ≡ true → part ≡ false → payload ≡ true → judged short header part payload m n ≡ Complete
 judged_whole short header part payload m n a b c d = rw (a, b, c, d)
 
-judged_head : (short header part payload : Bool) (m n : ℕ) → short ≡ true → judged short header part payload m n ≡ Short m
+judged_head : (short header part payload : Bool) (m n : ℕ) → short ≡ true → judged short header part payload m n ≡ Lacking m
 judged_head short header part payload m n a = rw a
 
-judged_part : (short header part payload : Bool) (m n : ℕ) → short ≡ false → header ≡ true → part ≡ true → judged short header part payload m n ≡ Short n
+judged_part : (short header part payload : Bool) (m n : ℕ) → short ≡ false → header ≡ true → part ≡ true → judged short header part payload m n ≡ Lacking n
 judged_part short header part payload m n a b c = rw (a, b, c)
 
 -- what a header says, whatever follows it
@@ -33,9 +34,9 @@ size_stays (a ∷ b ∷ c ∷ d ∷ part) more m = refl
 size_stays _ more m = absurd (omega (arith, m))
 
 header_stays : (catalog : Catalog) (awaits : Awaits) (part more : List ℕ) → 8 ≤ length part → header_fits catalog awaits (part ++ more) ≡ header_fits catalog awaits part
-header_stays catalog (Missing bytes) (a ∷ b ∷ c ∷ d ∷ e ∷ f ∷ g ∷ h ∷ part) more m = refl
-header_stays catalog (Reply asked serial later count last) (a ∷ b ∷ c ∷ d ∷ e ∷ f ∷ g ∷ h ∷ part) more m = refl
-header_stays catalog Nothing part more m = refl
+header_stays catalog (AwaitsCatalog bytes) (a ∷ b ∷ c ∷ d ∷ e ∷ f ∷ g ∷ h ∷ part) more m = refl
+header_stays catalog (AwaitsReply asked serial later count last) (a ∷ b ∷ c ∷ d ∷ e ∷ f ∷ g ∷ h ∷ part) more m = refl
+header_stays catalog AwaitsNothing part more m = refl
 header_stays catalog awaits _ more m = absurd (omega (arith, m))
 
 module _ (catalog : Catalog) (awaits : Awaits) (frame : Frame) (can : IsAwaited catalog awaits frame) where
@@ -46,7 +47,7 @@ module _ (catalog : Catalog) (awaits : Awaits) (frame : Frame) (can : IsAwaited 
   read_again = ap frame_in (sym (append-nil (frame_bytes frame))) ∙ frame_is_read frame [] can.fits
 
   -- the whole frame
-  pub whole : verdict catalog awaits (frame_bytes frame) ≡ Whole
+  pub whole : verdict catalog awaits (frame_bytes frame) ≡ Complete
   whole =
       let bytes : List ℕ = frame_bytes frame in
       judged_whole (nat_lt (length bytes) 8) (header_fits catalog awaits bytes) (nat_lt (length bytes) (8 + size_in bytes)) (payload_fits catalog awaits (frame_in bytes))
@@ -56,7 +57,7 @@ module _ (catalog : Catalog) (awaits : Awaits) (frame : Frame) (can : IsAwaited 
       (ap (λ (f : Frame). payload_fits catalog awaits f) read_again ∙ can.payload)
 
   -- a part of it
-  pub lacking : (part : List ℕ) (byte : ℕ) (more : List ℕ) → part ++ byte ∷ more ≡ frame_bytes frame → (n : ℕ) × (verdict catalog awaits part ≡ Short n) × (n ≤ length (byte ∷ more))
+  pub lacking : (part : List ℕ) (byte : ℕ) (more : List ℕ) → part ++ byte ∷ more ≡ frame_bytes frame → (n : ℕ) × (verdict catalog awaits part ≡ Lacking n) × (n ≤ length (byte ∷ more))
   lacking part byte more e =
       let lengths : length part + length (byte ∷ more) ≡ length (frame_bytes frame) = sym (length-append part (byte ∷ more)) ∙ ap length e in
       elim (leb_tells 8 (length part)) [
@@ -79,7 +80,7 @@ module _ (catalog : Catalog) (awaits : Awaits) (frame : Frame) (can : IsAwaited 
         )
       ]
 
-  module _ (asks : List Asked) (frames due : List Frame) (rows : List ℕ) (ended : List Ended) where
+  module _ (asks : List NumberedAsk) (frames due : List Frame) (rows : List ℕ) (ended : List EndedAsk) where
     -- what was heard, with this part of the frame at hand
     abbrev pub at_part : List ℕ → Heard
     at_part part = record { awaits = awaits; part = part; frames = frames; due = due; rows = rows; ended = ended; broken = false }
@@ -92,11 +93,11 @@ module _ (catalog : Catalog) (awaits : Awaits) (frame : Frame) (can : IsAwaited 
         ∙ ap (λ (f : Frame). heard_frame catalog asks (at_part []) f) read_again)
     heard_on part byte (next ∷ more) e =
         let joined : (part ++ byte ∷ []) ++ next ∷ more ≡ frame_bytes frame = append_assoc part (byte ∷ []) (next ∷ more) ∙ e in
-        let short : (n : ℕ) × (verdict catalog awaits (part ++ byte ∷ []) ≡ Short n) × (n ≤ length (next ∷ more)) = lacking (part ++ byte ∷ []) next more joined in
+        let short : (n : ℕ) × (verdict catalog awaits (part ++ byte ∷ []) ≡ Lacking n) × (n ≤ length (next ∷ more)) = lacking (part ++ byte ∷ []) next more joined in
         ap (λ (v : Verdict). hear_all catalog asks (heard_as catalog asks (at_part part) (part ++ byte ∷ []) v) (next ∷ more)) short.1
         ∙ heard_on (part ++ byte ∷ []) next more joined
 
-pub awaited_is_heard : (catalog : Catalog) (asks : List Asked) (before : Heard) (frame : Frame) → before.part ≡ [] → before.broken ≡ false → IsAwaited catalog before.awaits frame → hear_all catalog asks before (frame_bytes frame) ≡ heard_frame catalog asks before frame
+pub awaited_is_heard : (catalog : Catalog) (asks : List NumberedAsk) (before : Heard) (frame : Frame) → before.part ≡ [] → before.broken ≡ false → IsAwaited catalog before.awaits frame → hear_all catalog asks before (frame_bytes frame) ≡ heard_frame catalog asks before frame
 awaited_is_heard catalog asks before frame p b h =
     let again : (part : List ℕ) (broken : Bool) → Heard = λ part broken. record before { part = part; broken = broken } in
     ap (λ (part : List ℕ). hear_all catalog asks (again part before.broken) (frame_bytes frame)) p

@@ -5,14 +5,16 @@ use Rattle.std.proofs.lemmas.Bool.{eqb-true}
 use Rattle.std.proofs.Math.Nat.{mul-suc, div-add-mod}
 use Rattle.std.proofs.lemmas.Nat.{le-div}
 use Rattle.std.proofs.lemmas.Grind.{flat_map-append}
-use Rattle.ghost_model.specs.Frames.{IsFrame, Got, frame_bytes, payload_of, most_payload}
-use Rattle.ghost_model.specs.Catalog.{catalog_bytes}
+use Rattle.ghost_model.specs.forms.Frames.{IsFrame, Got, frame_bytes, payload_of, most_payload}
+use Rattle.ghost_model.specs.forms.Catalog.{catalog_bytes}
 use Rattle.std.proofs.lemmas.List.{nil_from_length, length-drop, take-append-drop}
 use Rattle.std.proofs.Math.Seq.{drop-append_seam}
 use Rattle.ghost_model.proofs.ChannelLemmas.{spelled_is_found}
-use Rattle.ghost_model.specs.Channel.{Catalog, Ask, Frame, Hello, Asking, More, Bye}
-use Rattle.ghost_model.specs.Asks.{ReplyRow, row_bytes, ask_in}
-use Rattle.ghost_model.specs.Host.{Holding, Stand, Greeting, Listening, Replying, Over, Response, welcomes, reply_to, replies_to, answers_ask, goes_on, after_reply, said_to, said_with, asks_in_frame, frames_within, frame_and, IsFront, groups_from, grouped, welcomes_of, welcome_part, rows_frame, honest_stream, host_says, frames_of}
+use Rattle.ghost_model.specs.core.Channel.{Catalog, Ask, Frame, HelloFrame, AskFrame, MoreFrame, ByeFrame}
+use Rattle.ghost_model.specs.core.Asks.{RowCells, row_bytes}
+use Rattle.ghost_model.specs.readings.AskReading.{ask_in}
+use Rattle.ghost_model.specs.core.Host.{Holding, Stand, Greeting, Listening, Replying, Over, Response, welcomes, reply_to, answers_ask, goes_on, after_reply, said_to, said_with, asks_in_frame, frames_within, frame_and, groups_from, grouped, welcomes_of, rows_frame, host_says, frames_of, said_with_refusals}
+use Rattle.ghost_model.specs.laws.HostLaws.{replies_to, IsFront, welcome_part, honest_stream}
 
 module _ (held : Holding) where
   -- what an honest host would say from here on
@@ -53,23 +55,23 @@ module _ (held : Holding) where
   if_front false o later whole h = nothing whole
 
   silent_after : (frames : List Frame) → said_to held frames Over ≡ []
-  unfolding said_to
+  unfolding said_with_refusals
   silent_after [] = refl
   silent_after (_ ∷ later) = refl
 
   is_front : (frames : List Frame) (stand : Stand) → IsFront (said_to held frames stand) (owed frames stand)
-  unfolding said_to
+  unfolding said_with_refusals
   is_front [] stand = nothing (owed [] stand)
-  is_front (Hello generation ∷ later) Greeting = more_said (welcomes held.catalog) _ _ (is_front later (Listening 1))
+  is_front (HelloFrame generation ∷ later) Greeting = more_said (welcomes held.catalog) _ _ (is_front later (Listening 1))
   is_front (_ ∷ later) Greeting = nothing _
-  is_front (Asking serial payload ∷ later) (Listening next) =
+  is_front (AskFrame serial payload ∷ later) (Listening next) =
       if_front (serial == next) (answers_ask held serial (ask_in held.catalog.schema payload)) later _
       (λ e. subst (λ (n : ℕ). IsFront (said_with (said_to held later) (answers_ask held serial (ask_in held.catalog.schema payload))) (replies_to held n (option_to_list (ask_in held.catalog.schema payload) ++ flat_map (asks_in_frame held.catalog.schema) later)))
       (eqb-true serial next e)
       (ask_front serial (ask_in held.catalog.schema payload) later (is_front later)))
-  is_front (Bye ∷ later) (Listening next) = subst (λ (x : List Frame). IsFront x (owed later (Listening next))) (sym (silent_after later)) (nothing _)
+  is_front (ByeFrame ∷ later) (Listening next) = subst (λ (x : List Frame). IsFront x (owed later (Listening next))) (sym (silent_after later)) (nothing _)
   is_front (_ ∷ later) (Listening next) = nothing _
-  is_front (More other ∷ later) (Replying serial rest) =
+  is_front (MoreFrame other ∷ later) (Replying serial rest) =
       if_front (other == serial) (goes_on serial rest) later _ (λ e. on_front serial rest later (is_front later))
   is_front (_ ∷ later) (Replying serial rest) = nothing _
   is_front (_ ∷ later) Over = nothing _
@@ -106,11 +108,11 @@ catalog_is_spelled catalog =
     ∙ spread (λ part. part) refl (λ xs ys. refl) 2039 ((length (catalog_bytes catalog) + 2039 - 1) / 2039) (catalog_bytes catalog)
     (enough_groups 2039 (length (catalog_bytes catalog)) (omega arith))
 
-rows_joined : (serial : ℕ) (groups : List (List ReplyRow)) → flat_map payload_of (map (rows_frame serial) groups) ≡ flat_map (λ rows. flat_map row_bytes rows) groups
+rows_joined : (serial : ℕ) (groups : List (List RowCells)) → flat_map payload_of (map (rows_frame serial) groups) ≡ flat_map (λ rows. flat_map row_bytes rows) groups
 rows_joined serial [] = refl
 rows_joined serial (rows ∷ groups) = ap (λ (xs : List ℕ). flat_map row_bytes rows ++ xs) (rows_joined serial groups)
 
-pub rows_are_spelled : (width serial : ℕ) (rows : List ReplyRow) → 0 < width → width ≤ most_payload → flat_map payload_of (map (rows_frame serial) (grouped (most_payload / width) rows)) ≡ flat_map row_bytes rows
+pub rows_are_spelled : (width serial : ℕ) (rows : List RowCells) → 0 < width → width ≤ most_payload → flat_map payload_of (map (rows_frame serial) (grouped (most_payload / width) rows)) ≡ flat_map row_bytes rows
 rows_are_spelled width serial rows h m =
     let most : ℕ = most_payload / width in
     let some : 1 ≤ most_payload / width = le-div 1 most_payload width h (omega (arith, m)) in

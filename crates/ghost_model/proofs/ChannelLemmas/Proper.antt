@@ -1,30 +1,29 @@
 -- That the asks of queries are such as a key may send.
-use Rattle.std.proofs.Common.{◌≡◌, ℕ, ◌+◌, ◌-◌, ◌<◌, ◌≤◌, ◌^◌, Bool, true, false, ◌&&◌, List, [], ◌∷◌, ◌++◌, length, map, sym, ◌∙◌, ap, subst, refl, arith, length-append, lit<, Option, Some, None, pos, negsuc, ℤ, Ok}
-use Rattle.std.specs.Prelude.{◌==◌, ◌||◌, nat_lt, nat_le, not, if◌then◌else◌, filter, flat_map}
+use Rattle.std.proofs.Common.{◌≡◌, ℕ, ◌+◌, ◌-◌, ◌<◌, ◌≤◌, Bool, true, false, ◌&&◌, List, [], ◌∷◌, ◌++◌, length, map, sym, ◌∙◌, ap, subst, refl, arith, length-append, lit<, Option, Some, None, Ok}
+use Rattle.std.specs.Prelude.{◌==◌, ◌||◌, nat_lt, not, if◌then◌else◌, filter, flat_map}
 use Rattle.std.specs.List.{sum_by}
 use Rattle.std.specs.Option.{option_map}
-use Rattle.std.proofs.Math.Bool.{and-true}
 use Rattle.std.proofs.lemmas.Bool.{eqb-true}
 use Rattle.std.specs.List.{list_all, list_any}
 use Rattle.std.proofs.lemmas.List.Folds.{list_all-append, list_all-map}
 use Rattle.std.proofs.lemmas.Grind.{flat_map-append}
 use Rattle.std.proofs.lemmas.List.Sums.{sum_by-cons}
-use Rattle.std.proofs.lemmas.Bool.Decides.{nat_tests}
 use Rattle.std.proofs.lemmas.Bool.{ltb-false, lt-ltb, le-leb}
-use Rattle.ghost_model.specs.Schema.{Schema, Column, Kind, Integer, Chars, columns_of, column_at, is_visible, is_shown, places_from}
-use Rattle.ghost_model.specs.Values.{Value, Number, Text}
-use Rattle.ghost_model.specs.Query.{Query, Field, Condition, Compare, Join, AtLeast, AtMost}
-use Rattle.ghost_model.specs.Channel.{Test}
-use Rattle.ghost_model.specs.Tokens.{Symbol, Quoted, End, Word, And, Comma, is_printable, symbols}
-use Rattle.ghost_model.specs.Spelled.{is_spelled, IsBeforeEnd}
-use Rattle.ghost_model.specs.Database.{is_of_kind, fits_integer}
-use Rattle.ghost_model.specs.QueryGrammar.{ConditionText, Compares, LiesBetween, Joins, ColumnText, LiteralText, Unsigned, Signed, Written, QueryText, spelling, spell_condition, spell_literal, spell_where, spell_column, spell_table, spell_selection}
-use Rattle.ghost_model.specs.Grammar.{separated}
-use Rattle.ghost_model.specs.QueryMeaning as meaning
-use Rattle.ghost_model.specs.Asks as asks
-use Rattle.ghost_model.specs.QueryReading.{reading}
+use Rattle.ghost_model.specs.core.Schema.{Schema, Column, Kind, Integer, Chars, columns_of, column_at, is_visible, is_shown, places_from}
+use Rattle.ghost_model.specs.core.Values.{Value, Number, Text}
+use Rattle.ghost_model.specs.core.Query.{Query, Field, Condition, Compare, Join, AtLeast, AtMost}
+use Rattle.ghost_model.specs.core.Channel.{Test}
+use Rattle.ghost_model.specs.refusals.Tokens.{Symbol, Quoted, EndOfText, Word, AndWord, Comma, is_printable, symbols}
+use Rattle.ghost_model.specs.laws.Spelled.{is_spelled, IsBeforeEnd}
+use Rattle.ghost_model.specs.core.Database.{is_of_kind, fits_integer}
+use Rattle.ghost_model.specs.refusals.QueryGrammar.{ConditionText, Compares, LiesBetween, Joins, ColumnText, LiteralText, Unsigned, Signed, Written, QueryText, spelling, spell_condition, spell_literal, spell_where, spell_column, spell_table, spell_selection}
+use Rattle.ghost_model.specs.refusals.Grammar.{separated}
+use Rattle.ghost_model.specs.refusals.QueryMeaning as meaning
+use Rattle.ghost_model.specs.core.Asks as asks
+use Rattle.ghost_model.specs.laws.ChannelLaws as laws
+use Rattle.ghost_model.specs.readings.QueryReading.{reading}
 use Rattle.ghost_model.proofs.TokenLemmas.{before_end}
-use Rattle.ghost_model.proofs.QueryReadingLemmas.{means_of}
+use Rattle.ghost_model.proofs.QueryReadingLemmas.{means_of, KeptRules, kept_rules}
 use Rattle.ghost_model.proofs.ChannelLemmas.Tests.{false_is_not, both_hold, hold_both, BothHold}
 
 -- tests of lists
@@ -107,11 +106,11 @@ module _ (schema : Schema) where
       all_flat (λ test. is_visible schema table test.column) (asks.test_of schema table) conditions
       (all_each (λ condition. list_all (λ test. is_visible schema table test.column) (asks.test_of schema table condition)) conditions (visible_test table))
 
-  pub asks_are_visible : (query : Query) → list_all (asks.names_visible schema) (asks.asks_of schema query) ≡ true
+  pub asks_are_visible : (query : Query) → list_all (laws.names_visible schema) (asks.asks_of schema query) ≡ true
   asks_are_visible query =
-      all_kept (asks.names_visible schema) asks.is_needed (map (asks.ask_for schema query) (filter (asks.is_from query) (asks.places schema)))
-      (list_all-map (asks.names_visible schema) (asks.ask_for schema query) (filter (asks.is_from query) (asks.places schema))
-      ∙ all_each (λ table. asks.names_visible schema (asks.ask_for schema query table)) (filter (asks.is_from query) (asks.places schema))
+      all_kept (laws.names_visible schema) asks.is_needed (map (asks.ask_for schema query) (filter (asks.is_from query) (asks.places schema)))
+      (list_all-map (laws.names_visible schema) (asks.ask_for schema query) (filter (asks.is_from query) (asks.places schema))
+      ∙ all_each (λ table. laws.names_visible schema (asks.ask_for schema query table)) (filter (asks.is_from query) (asks.places schema))
       (λ table. hold_both _ _ (visible_columns query.select table) (visible_tests table query.conditions)))
 
 -- places are below the length, and ascend
@@ -138,15 +137,12 @@ abbrev is_plain : Value → Bool
 is_plain (Number _) = true
 is_plain (Text bytes) = list_all is_printable bytes
 
-fits_below : (n : ℕ) → not (nat_le n (2 ^ 63 - 1)) ≡ false → nat_lt n (2 ^ 63) ≡ true
-fits_below n e = grind (arith, nat_tests)
-
-number_fits : (number : ℤ) → meaning.is_too_large (Some Integer) (Number number) ≡ false → fits_integer number ≡ true
-number_fits (pos n) e = fits_below n e
-number_fits (negsuc n) e = fits_below n (ap (λ (b : Bool). not b) (sym (and-true (nat_le n (2 ^ 63 - 1)))) ∙ e)
+not_not : (b : Bool) → not b ≡ false → b ≡ true
+not_not true e = refl
+not_not false e = absurd (false_is_not (sym e))
 
 by_kind : (kind : Kind) (value : Value) → meaning.is_other_kind (Some kind) value ≡ false → meaning.is_too_large (Some kind) value ≡ false → is_plain value ≡ true → is_of_kind kind value ≡ true
-by_kind Integer (Number z) a b c = number_fits z b
+by_kind Integer (Number z) a b c = not_not (fits_integer z) b
 by_kind Integer (Text text) a b c = absurd (false_is_not (sym a))
 by_kind (Chars most) (Number z) a b c = absurd (false_is_not (sym a))
 by_kind (Chars most) (Text text) a b c = hold_both _ _ (le-leb (length text) most (ltb-false most (length text) b)) c
@@ -208,7 +204,7 @@ loose_text : (text : List ℕ) → list_all is_loose (symbols text) ≡ true
 loose_text text =
     let before : (xs : List Symbol) × IsBeforeEnd text xs = before_end text in
     ap (λ (xs : List Symbol). list_all is_loose xs) before.1.whole
-    ∙ (list_all-append is_loose before.0 (End ∷ [])
+    ∙ (list_all-append is_loose before.0 (EndOfText ∷ [])
     ∙ hold_both _ _ (all_weaker is_spelled is_loose before.0 loose_if_spelled before.1.spelled) refl)
 
 loose_right : (xs ys : List Symbol) → list_all is_loose (xs ++ ys) ≡ true → list_all is_loose ys ≡ true
@@ -217,7 +213,7 @@ loose_right xs ys e = (both_hold (list_all is_loose xs) (list_all is_loose ys) (
 loose_left : (xs ys : List Symbol) → list_all is_loose (xs ++ ys) ≡ true → list_all is_loose xs ≡ true
 loose_left xs ys e = (both_hold (list_all is_loose xs) (list_all is_loose ys) (sym (list_all-append is_loose xs ys) ∙ e)).one
 
-plain_literal : (literal : LiteralText) → list_all is_loose (spell_literal literal) ≡ true → is_plain (meaning.value_of literal) ≡ true
+plain_literal : (literal : LiteralText) → list_all is_loose (spell_literal literal) ≡ true → is_plain (meaning.value_of_literal literal) ≡ true
 plain_literal (Unsigned digits) e = refl
 plain_literal (Signed sign digits) e = refl
 plain_literal (Written text) e = (both_hold (list_all is_printable text) true e).one
@@ -226,14 +222,14 @@ module _ (schema : Schema) (from : List ℕ) where
   plain_conditions : (condition : ConditionText) → list_all is_loose (spell_condition condition) ≡ true → list_all is_plain_condition (meaning.conditions_of schema from condition) ≡ true
   plain_conditions (Compares column operator literal) e =
       let right : BothHold _ (list_all is_loose (spell_literal literal)) = both_hold _ _ (loose_right (spell_column column) _ e) in
-      list_all-map is_plain_condition (λ meant. Compare meant operator (meaning.value_of literal)) (meaning.meanings schema from column)
-      ∙ all_each (λ meant. is_plain (meaning.value_of literal)) (meaning.meanings schema from column) (λ _. plain_literal literal right.other)
+      list_all-map is_plain_condition (λ meant. Compare meant operator (meaning.value_of_literal literal)) (meaning.meanings schema from column)
+      ∙ all_each (λ meant. is_plain (meaning.value_of_literal literal)) (meaning.meanings schema from column) (λ _. plain_literal literal right.other)
   plain_conditions (LiesBetween column low high) e =
-      let both : list_all is_loose (spell_literal low ++ (Word And ∷ spell_literal high)) ≡ true = loose_right (spell_column column) _ e in
-      let first : is_plain (meaning.value_of low) ≡ true = plain_literal low (loose_left (spell_literal low) _ both) in
-      let second : is_plain (meaning.value_of high) ≡ true = plain_literal high (loose_right (spell_literal low) _ both) in
-      all_flat is_plain_condition (λ meant. Compare meant AtLeast (meaning.value_of low) ∷ Compare meant AtMost (meaning.value_of high) ∷ []) (meaning.meanings schema from column)
-      (all_each (λ meant. is_plain (meaning.value_of low) && (is_plain (meaning.value_of high) && true)) (meaning.meanings schema from column)
+      let both : list_all is_loose (spell_literal low ++ (Word AndWord ∷ spell_literal high)) ≡ true = loose_right (spell_column column) _ e in
+      let first : is_plain (meaning.value_of_literal low) ≡ true = plain_literal low (loose_left (spell_literal low) _ both) in
+      let second : is_plain (meaning.value_of_literal high) ≡ true = plain_literal high (loose_right (spell_literal low) _ both) in
+      all_flat is_plain_condition (λ meant. Compare meant AtLeast (meaning.value_of_literal low) ∷ Compare meant AtMost (meaning.value_of_literal high) ∷ []) (meaning.meanings schema from column)
+      (all_each (λ meant. is_plain (meaning.value_of_literal low) && (is_plain (meaning.value_of_literal high) && true)) (meaning.meanings schema from column)
       (λ _. hold_both _ _ first (hold_both _ _ second refl)))
   plain_conditions (Joins left right) e =
       all_flat is_plain_condition (λ meant. map (Join meant) (meaning.meanings schema from right)) (meaning.meanings schema from left)
@@ -244,14 +240,14 @@ loose_where : (conditions : List ConditionText) → list_all is_loose (spell_whe
 loose_where [] e = refl
 loose_where (condition ∷ more) e =
     hold_both _ _ (loose_left (spell_condition condition) _ e)
-    (all_inside is_loose (λ other. Word And ∷ spell_condition other) more (loose_right (spell_condition condition) _ e))
+    (all_inside is_loose (λ other. Word AndWord ∷ spell_condition other) more (loose_right (spell_condition condition) _ e))
 
 loose_conditions : (text : List ℕ) (tree : QueryText) → symbols text ≡ spelling tree → list_all (λ condition. list_all is_loose (spell_condition condition)) tree.conditions ≡ true
 loose_conditions text tree e =
     let whole : list_all is_loose (spelling tree) ≡ true = ap (λ (xs : List Symbol). list_all is_loose xs) (sym e) ∙ loose_text text in
     let tables : List Symbol = separated Comma spell_table tree.table tree.more_tables in
-    let after : list_all is_loose (tables ++ (spell_where tree.conditions ++ (End ∷ []))) ≡ true = loose_right (spell_selection tree.selection) _ whole in
-    loose_where tree.conditions (loose_left (spell_where tree.conditions) (End ∷ []) (loose_right tables _ after))
+    let after : list_all is_loose (tables ++ (spell_where tree.conditions ++ (EndOfText ∷ []))) ≡ true = loose_right (spell_selection tree.selection) _ whole in
+    loose_where tree.conditions (loose_left (spell_where tree.conditions) (EndOfText ∷ []) (loose_right tables _ after))
 
 -- how many conditions an ask has
 one_at_most : (b : Bool) (test : Test) (rest : List Test) → length ((if b then test ∷ [] else []) ++ rest) ≤ 1 + length rest
@@ -296,9 +292,9 @@ module _ (schema : Schema) (from : List ℕ) (table : ℕ) where
 
   few_tests : (condition : ConditionText) → list_all has_one (meaning.condition_columns condition) ≡ true → length (flat_map (asks.test_of schema table) (meaning.conditions_of schema from condition)) ≤ meaning.literal_conditions condition
   few_tests (Compares column operator literal) e =
-      few_of_one (λ meant. Compare meant operator (meaning.value_of literal)) (meaning.meanings schema from column) (at_most_one column (both_hold (has_one column) true e).one)
+      few_of_one (λ meant. Compare meant operator (meaning.value_of_literal literal)) (meaning.meanings schema from column) (at_most_one column (both_hold (has_one column) true e).one)
   few_tests (LiesBetween column low high) e =
-      few_of_two (λ meant. Compare meant AtLeast (meaning.value_of low)) (λ meant. Compare meant AtMost (meaning.value_of high)) (meaning.meanings schema from column) (at_most_one column (both_hold (has_one column) true e).one)
+      few_of_two (λ meant. Compare meant AtLeast (meaning.value_of_literal low)) (λ meant. Compare meant AtMost (meaning.value_of_literal high)) (meaning.meanings schema from column) (at_most_one column (both_hold (has_one column) true e).one)
   few_tests (Joins left right) e =
       let none : length (flat_map (asks.test_of schema table) (meaning.conditions_of schema from (Joins left right))) ≡ 0 =
       ap length (none_of_all_joins (meaning.meanings schema from right) (meaning.meanings schema from left)) in
@@ -325,19 +321,19 @@ unfolding places_from
 columns_ascend q [] e = refl
 columns_ascend q (x ∷ xs) e = skipped (filter q (places_from always 1 xs)) (q 0) e (ascending q 0 1 xs (lit< tt))
 
-module _ (schema : Schema) (text : List ℕ) (tree : QueryText) (spells : symbols text ≡ spelling tree) (keeps : (rule : meaning.Refusal) → meaning.breaks schema text tree rule ≡ false) where
+module _ (schema : Schema) (text : List ℕ) (tree : QueryText) (spells : symbols text ≡ spelling tree) (keeps : KeptRules schema text tree) where
   abbrev tables : List ℕ
   tables = meaning.from_tables schema tree
 
   limited : sum_by meaning.literal_conditions tree.conditions ≤ 16
   limited =
-      let four : ((nat_lt 4096 (length text) || list_any (λ name. nat_lt 32 (length name)) (meaning.names_in tree) || nat_lt 12 (length (meaning.from_names tree)) || nat_lt 16 (sum_by meaning.literal_conditions tree.conditions)) ≡ false) × (nat_lt 32 (meaning.selected_count schema tree tree.selection) ≡ false) = neither _ _ (keeps meaning.Limit) in
+      let four : ((nat_lt 4096 (length text) || list_any (λ name. nat_lt 32 (length name)) (meaning.names_in tree) || nat_lt 12 (length (meaning.from_names tree)) || nat_lt 16 (sum_by meaning.literal_conditions tree.conditions)) ≡ false) × (nat_lt 32 (meaning.selected_count schema tree tree.selection) ≡ false) = neither _ _ keeps.limits in
       let three : ((nat_lt 4096 (length text) || list_any (λ name. nat_lt 32 (length name)) (meaning.names_in tree) || nat_lt 12 (length (meaning.from_names tree))) ≡ false) × (nat_lt 16 (sum_by meaning.literal_conditions tree.conditions) ≡ false) = neither _ _ four.0 in
       ltb-false 16 (sum_by meaning.literal_conditions tree.conditions) three.1
 
   single : list_all (λ condition. list_all (has_one schema tables 0) (meaning.condition_columns condition)) tree.conditions ≡ true
   single =
-      let both : (meaning.has_repeat tables ≡ false) × (list_any (λ column. nat_lt 1 (length (meaning.meanings schema tables column))) (meaning.columns_in tree) ≡ false) = neither _ _ (keeps meaning.Ambiguous) in
+      let both : (meaning.has_repeat tables ≡ false) × (list_any (λ column. nat_lt 1 (length (meaning.meanings schema tables column))) (meaning.columns_in tree) ≡ false) = neither _ _ keeps.one_meaning in
       let all : list_all (has_one schema tables 0) (meaning.columns_in tree) ≡ true = none_all (λ column. nat_lt 1 (length (meaning.meanings schema tables column))) (meaning.columns_in tree) both.1 in
       let parts : BothHold (list_all (has_one schema tables 0) (meaning.selection_columns tree.selection)) (list_all (has_one schema tables 0) (flat_map meaning.condition_columns tree.conditions)) =
       both_hold _ _ (sym (list_all-append (has_one schema tables 0) (meaning.selection_columns tree.selection) (flat_map meaning.condition_columns tree.conditions)) ∙ all) in
@@ -361,7 +357,7 @@ module _ (schema : Schema) (text : List ℕ) (tree : QueryText) (spells : symbol
       (columns_ascend (asks.is_wanted schema query.select table) (columns_of schema table) refl))
       (le-leb (length (asks.tests_of schema table query.conditions)) 16 count))
       (visible_tests schema table query.conditions))
-      (sound_tests schema table query.conditions (keeps meaning.KindMismatch) (keeps meaning.BadLiteral) plain)
+      (sound_tests schema table query.conditions keeps.kinds keeps.literals plain)
 
   proper_asks : list_all (asks.is_proper_ask schema) (asks.asks_of schema (meaning.resolved schema tree)) ≡ true
   proper_asks =
@@ -377,4 +373,4 @@ pub asks_are_proper : (schema : Schema) (text : List ℕ) (query : Query) → re
 asks_are_proper schema text query read =
     let means : meaning.Means schema text query = means_of schema text query read in
     subst (λ (q : Query). list_all (asks.is_proper_ask schema) (asks.asks_of schema q) ≡ true) (sym means.means)
-    (proper_asks schema text means.tree means.spells means.keeps)
+    (proper_asks schema text means.tree means.spells (kept_rules schema text means.tree means.keeps))

@@ -3,12 +3,13 @@ use Rattle.std.proofs.Common.{◌≡◌, ℕ, Bool, true, false, List, [], ◌�
 use Rattle.std.specs.Prelude.{not, ◌||◌, if◌then◌else◌, slice_get}
 use Rattle.std.proofs.lemmas.List.{length-map, map-append}
 use Rattle.std.proofs.lemmas.Grind.{flat_map-append}
-use Rattle.ghost_model.specs.Channel.{Catalog, Frame, Move, Dial, Listen, Accept, Send, Take, Close, Answer, Entry, Journal}
-use Rattle.ghost_model.specs.Asks.{Asked}
-use Rattle.ghost_model.specs.Frames.{frame_bytes}
-use Rattle.ghost_model.specs.Moves.{sent, taken, sent_by, piece_of}
-use Rattle.ghost_model.specs.NextMove.{Awaits, Missing, Reply, Nothing, Verdict, Short, Whole, Invalid, verdict, Heard, heard, heard_as, hear, hear_all, at_first, due, left, Left, next_with, send_or, rest_of, GoesOn, IsDue}
-use Rattle.ghost_model.specs.Host.{IsFront}
+use Rattle.ghost_model.specs.core.Channel.{Catalog, Frame, Move, Dial, Listen, Accept, Send, Take, Close, Answer, Entry, Journal}
+use Rattle.ghost_model.specs.core.Asks.{NumberedAsk}
+use Rattle.ghost_model.specs.forms.Frames.{frame_bytes}
+use Rattle.ghost_model.specs.core.Moves.{sent, taken, sent_by, piece_of}
+use Rattle.ghost_model.specs.core.NextMove.{Awaits, AwaitsCatalog, AwaitsReply, AwaitsNothing, Verdict, Lacking, Complete, Invalid, verdict, Heard, heard, heard_as, hear, hear_all, at_first, due, standing_after, Standing, next_with, send_or, take_or_close, GoesOn}
+use Rattle.ghost_model.specs.laws.ChannelLaws.{IsDue}
+use Rattle.ghost_model.specs.laws.HostLaws.{IsFront}
 
 same_front : (frames : List Frame) → IsFront frames frames
 same_front frames = record { rest = []; joined = sym (append-nil frames) }
@@ -71,13 +72,13 @@ close_is_not bytes e = cc
 take_is_not : (most : ℕ) (bytes : List ℕ) → Some (Take most) ≡ Some (Send bytes) → ⊥
 take_is_not most bytes e = cc
 
-rest_is_not : (catalog : Catalog) (h : Heard) (awaits : Awaits) (bytes : List ℕ) → Some (rest_of catalog h awaits) ≡ Some (Send bytes) → ⊥
-rest_is_not catalog h (Missing missing) bytes e = take_is_not _ bytes e
-rest_is_not catalog h (Reply asked serial later count last) bytes e = take_is_not _ bytes e
-rest_is_not catalog h Nothing bytes e = close_is_not bytes e
+rest_is_not : (catalog : Catalog) (h : Heard) (awaits : Awaits) (bytes : List ℕ) → Some (take_or_close catalog h awaits) ≡ Some (Send bytes) → ⊥
+rest_is_not catalog h (AwaitsCatalog missing) bytes e = take_is_not _ bytes e
+rest_is_not catalog h (AwaitsReply asked serial later count last) bytes e = take_is_not _ bytes e
+rest_is_not catalog h AwaitsNothing bytes e = close_is_not bytes e
 
 sends : (catalog : Catalog) (at : List ℕ) (h : Heard) (opened closed stopped : Bool) (o : Option Frame) (bytes : List ℕ)
-    → (if not opened then Some (Dial at) else if closed then None else if stopped then Some Close else Some (send_or (rest_of catalog h h.awaits) o)) ≡ Some (Send bytes)
+    → (if not opened then Some (Dial at) else if closed then None else if stopped then Some Close else Some (send_or (take_or_close catalog h h.awaits) o)) ≡ Some (Send bytes)
     → Sends o bytes
 sends catalog at h false closed stopped o bytes e = absurd (dial_is_not at bytes e)
 sends catalog at h true true stopped o bytes e = absurd (no_move_is_not bytes e)
@@ -86,10 +87,10 @@ sends catalog at h true false false None bytes e = absurd (rest_is_not catalog h
 sends catalog at h true false false (Some frame) bytes e =
     record { frame = frame; is_next = refl; same = sym (same_sent (frame_bytes frame) bytes (same_move _ _ e)) }
 
-module _ (catalog : Catalog) (at : List ℕ) (asks : List Asked) where
+module _ (catalog : Catalog) (at : List ℕ) (asks : List NumberedAsk) where
   due_judged : (h : Heard) (part : List ℕ) (v : Verdict) → IsFront h.due (heard_as catalog asks h part v).due
-  due_judged h part (Short m) = same_front h.due
-  due_judged h part Whole = record { rest = _; joined = refl }
+  due_judged h part (Lacking m) = same_front h.due
+  due_judged h part Complete = record { rest = _; joined = refl }
   due_judged h part Invalid = same_front h.due
 
   due_either : (h : Heard) (other : Heard) (broken : Bool) → IsFront h.due other.due → IsFront h.due (if broken then h else other).due
@@ -132,7 +133,7 @@ module _ (catalog : Catalog) (at : List ℕ) (asks : List Asked) where
   sending : (before : Journal) (bytes : List ℕ) (answer : Answer) → IsDue catalog asks before → next_with catalog at asks before ≡ Some (Send bytes) → IsDue catalog asks (before ++ record { move = Send bytes; answer = answer } ∷ [])
   sending before bytes answer d e =
       let entry : Entry = record { move = Send bytes; answer = answer } in
-      let l : Left = left catalog asks before in
+      let l : Standing = standing_after catalog asks before in
       let way : Sends (slice_get l.heard.due l.sent) bytes = sends catalog at l.heard l.opened l.closed (l.stopped || l.heard.broken) (slice_get l.heard.due l.sent) bytes e in
       let count : length (sent before) ≡ length d.frames = ap length d.sent_are ∙ length-map d.frames frame_bytes in
       let here : slice_get (d.frames ++ d.rest) (length d.frames) ≡ Some way.frame =

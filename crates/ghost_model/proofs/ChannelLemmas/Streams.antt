@@ -3,19 +3,20 @@ use Rattle.std.proofs.Common.{◌≡◌, ℕ, ◌+◌, ◌<◌, true, false, ◌
 use Rattle.std.specs.Prelude.{nat_lt, nat_le, flat_map}
 use Rattle.std.specs.List.{list_all}
 use Rattle.std.proofs.lemmas.Grind.{flat_map-append}
-use Rattle.ghost_model.specs.Channel.{Catalog, Frame}
-use Rattle.ghost_model.specs.Catalog.{catalog_bytes}
-use Rattle.ghost_model.specs.Asks.{Asked}
-use Rattle.ghost_model.specs.Frames.{AreBytes, frame_bytes}
-use Rattle.ghost_model.specs.NextMove.{Nothing, Heard, Ended, hear_all, heard, at_first, on_with}
-use Rattle.ghost_model.specs.Host.{most_part, welcomes_of, reply_frames, Exchange, asked_in, ended_in, exchange_frames, AreExchanges, IsHeardWhole, IsGreeted, IsHeardToTheEnd}
+use Rattle.ghost_model.specs.core.Channel.{Catalog, Frame}
+use Rattle.ghost_model.specs.forms.Catalog.{catalog_bytes}
+use Rattle.ghost_model.specs.core.Asks.{NumberedAsk}
+use Rattle.ghost_model.specs.forms.Frames.{AreBytes, frame_bytes}
+use Rattle.ghost_model.specs.core.NextMove.{AwaitsNothing, Heard, EndedAsk, hear_all, heard, at_first, ask_next}
+use Rattle.ghost_model.specs.core.Host.{most_part, welcomes_of}
+use Rattle.ghost_model.specs.laws.HostLaws.{reply_frames, Exchange, asked_in, ended_in, exchange_frames, AreExchanges, IsHeardWhole, IsGreeted, IsHeardToTheEnd}
 use Rattle.ghost_model.proofs.ChannelLemmas.Sending.{heard_more}
 use Rattle.ghost_model.proofs.ChannelLemmas.Replies.{replies_are_heard}
 use Rattle.ghost_model.proofs.ChannelLemmas.Greeting.{greetings_are_heard}
 
-module _ (catalog : Catalog) (asks : List Asked) where
-  record IsEnd (ended : List Ended) (exchanges : List Exchange) (after : Heard) : Type 0 where
-    nothing_awaited : after.awaits ≡ Nothing
+module _ (catalog : Catalog) (asks : List NumberedAsk) where
+  record IsEnd (ended : List EndedAsk) (exchanges : List Exchange) (after : Heard) : Type 0 where
+    nothing_awaited : after.awaits ≡ AwaitsNothing
     valid : after.broken ≡ false
     ends : after.ended ≡ ended ++ map ended_in exchanges
 
@@ -25,7 +26,7 @@ module _ (catalog : Catalog) (asks : List Asked) where
       ∙ heard_more catalog [] asks h (flat_map frame_bytes one) (flat_map frame_bytes other)
 
   exchanges_heard :
-      (exchanges : List Exchange) (serial : ℕ) (before : Heard) → 0 < serial → before.awaits ≡ (on_with catalog.schema serial (map asked_in exchanges)).awaits
+      (exchanges : List Exchange) (serial : ℕ) (before : Heard) → 0 < serial → before.awaits ≡ (ask_next catalog.schema serial (map asked_in exchanges)).awaits
       → before.part ≡ [] → before.rows ≡ [] → before.broken ≡ false → AreExchanges catalog serial exchanges
       → IsEnd before.ended exchanges (hear_all catalog asks before (flat_map frame_bytes (exchange_frames serial exchanges)))
   unfolding hear_all
@@ -40,7 +41,7 @@ module _ (catalog : Catalog) (asks : List Asked) where
       (record {
         nothing_awaited = rest.nothing_awaited;
         valid = rest.valid;
-        ends = rest.ends ∙ (ap (λ (xs : List Ended). xs ++ map ended_in later) whole.ended ∙ append_assoc before.ended (ended_in exchange ∷ []) (map ended_in later));
+        ends = rest.ends ∙ (ap (λ (xs : List EndedAsk). xs ++ map ended_in later) whole.ended ∙ append_assoc before.ended (ended_in exchange ∷ []) (map ended_in later));
       })
 
 pub honest_streams_are_heard :
@@ -49,7 +50,7 @@ pub honest_streams_are_heard :
     → flat_map (λ part. part) parts ≡ catalog_bytes catalog → AreExchanges catalog 1 exchanges
     → IsHeardToTheEnd exchanges (heard catalog (map asked_in exchanges) (flat_map frame_bytes (welcomes_of parts ++ exchange_frames 1 exchanges)))
 honest_streams_are_heard catalog parts exchanges h e w all =
-    let asks : List Asked = map asked_in exchanges in
+    let asks : List NumberedAsk = map asked_in exchanges in
     let greeted : IsGreeted catalog (map asked_in exchanges) (heard catalog (map asked_in exchanges) (flat_map frame_bytes (welcomes_of parts))) = greetings_are_heard catalog (map asked_in exchanges) parts h e w in
     let end : IsEnd catalog (map asked_in exchanges) (heard catalog (map asked_in exchanges) (flat_map frame_bytes (welcomes_of parts))).ended exchanges (hear_all catalog (map asked_in exchanges) (heard catalog (map asked_in exchanges) (flat_map frame_bytes (welcomes_of parts))) (flat_map frame_bytes (exchange_frames 1 exchanges))) =
     exchanges_heard catalog (map asked_in exchanges) exchanges 1 _ (omega arith) greeted.awaits greeted.part greeted.rows greeted.valid all in
@@ -57,5 +58,5 @@ honest_streams_are_heard catalog parts exchanges h e w all =
     (record {
       nothing_awaited = end.nothing_awaited;
       valid = end.valid;
-      ended = end.ends ∙ ap (λ (xs : List Ended). xs ++ map ended_in exchanges) greeted.ended;
+      ended = end.ends ∙ ap (λ (xs : List EndedAsk). xs ++ map ended_in exchanges) greeted.ended;
     })

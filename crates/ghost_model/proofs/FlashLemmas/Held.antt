@@ -1,18 +1,18 @@
 -- What column files give, and how long they are held.
 use Rattle.std.proofs.Common.{◌≡◌, ap, ◌∙◌, ℕ, suc, ◌<◌, true, List, [], get_or, arith}
 use Rattle.std.proofs.lemmas.Option.{slice_get-get_or}
-use Rattle.ghost_model.specs.Channel.{Catalog}
-use Rattle.ghost_model.specs.SchemaTrees.{IsTree}
-use Rattle.ghost_model.specs.Cells.{decode_cell}
-use Rattle.ghost_model.specs.Asks.{kind_at}
-use Rattle.ghost_model.specs.Split.{Hidden}
-use Rattle.ghost_model.specs.Replies.{hidden_value}
-use Rattle.ghost_model.specs.Runs.{record_at}
-use Rattle.ghost_model.specs.RunLaws.{AgreeOn}
-use Rattle.ghost_model.specs.Layout.{is_hidden, count_of, public_pages, files_end, column_file}
-use Rattle.ghost_model.specs.LayoutLaws.{AreNarrow, LieInOrder}
-use Rattle.ghost_model.specs.Flash.{GoesWith, HoldsColumns, hidden_cells}
-use Rattle.ghost_model.specs.FlashLaws.{HoldingsAreKept}
+use Rattle.ghost_model.specs.core.Channel.{Catalog}
+use Rattle.ghost_model.specs.laws.SchemaTrees.{IsTree}
+use Rattle.ghost_model.specs.readings.CellReading.{decode_cell}
+use Rattle.ghost_model.specs.core.Asks.{kind_at}
+use Rattle.ghost_model.specs.core.Split.{Hidden}
+use Rattle.ghost_model.specs.core.Replies.{hidden_value}
+use Rattle.ghost_model.specs.forms.Runs.{record_at}
+use Rattle.ghost_model.specs.laws.RunLaws.{AgreeOn}
+use Rattle.ghost_model.specs.forms.Layout.{is_hidden, count_of, public_pages, files_end, column_file}
+use Rattle.ghost_model.specs.laws.LayoutLaws.{AreNarrow, LieInOrder}
+use Rattle.ghost_model.specs.forms.Flash.{GoesWith, HoldsColumns, hidden_cells}
+use Rattle.ghost_model.specs.laws.FlashLaws.{HoldingsAreKept}
 use Rattle.ghost_model.proofs.RunLemmas.{run_kept}
 use Rattle.ghost_model.proofs.LayoutLemmas.Order.{lie_in_order}
 use Rattle.ghost_model.proofs.LayoutLemmas.Small.{are_narrow}

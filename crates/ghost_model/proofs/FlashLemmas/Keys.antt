@@ -4,18 +4,20 @@ use Rattle.std.specs.Prelude.{◌==◌, if◌then◌else◌}
 use Rattle.std.specs.Option.{option_map}
 use Rattle.std.proofs.lemmas.List.{length-map, length-drop}
 use Rattle.std.proofs.lemmas.Option.{slice_get-map}
-use Rattle.ghost_model.specs.Schema.{Schema, Table, Column, columns_of, columns_or_none, column_at, parent, places_from, first_of, keys_to, is_table}
-use Rattle.ghost_model.specs.Values.{Value, Row, Rows, Database}
-use Rattle.ghost_model.specs.SchemaTrees.{IsTree}
-use Rattle.ghost_model.specs.Database.{IsDatabase, rows_or_none, rows_of, field, identifier_in, key_column, points_to, leads_within, leads}
-use Rattle.ghost_model.specs.Split.{Hidden, value_at, merged, hidden_flags, hidden_values, rejoined_rows, rejoined_tables, hidden_of}
-use Rattle.ghost_model.specs.Replies.{hidden_places, hidden_value}
-use Rattle.ghost_model.specs.Layout.{hidden_or_none, is_hidden}
-use Rattle.ghost_model.specs.Flash.{zeros, zero_rows, hidden_database, leads_to}
+use Rattle.ghost_model.specs.core.Schema.{Schema, Table, Column, columns_of, columns_or_none, column_at, parent, places_from, first_of, references_to, is_table}
+use Rattle.ghost_model.specs.core.Values.{Value, Row, Rows, Database}
+use Rattle.ghost_model.specs.laws.SchemaTrees.{IsTree}
+use Rattle.ghost_model.specs.core.Database.{IsDatabase, rows_or_none, rows_of, value_at_row, identifier_in, reference_column, points_to, leads_within, leads}
+use Rattle.ghost_model.specs.core.Split.{Hidden, value_at, hidden_of}
+use Rattle.ghost_model.specs.laws.SplitByFlags.{merged, hidden_flags, rejoined_rows, rejoined_tables, hidden_values}
+use Rattle.ghost_model.proofs.MeaningLemmas.PartsByFlags.{hidden_rows_at, rejoined_parts}
+use Rattle.ghost_model.specs.core.Replies.{hidden_places, hidden_value}
+use Rattle.ghost_model.specs.forms.Layout.{is_hidden}
+use Rattle.ghost_model.specs.forms.Flash.{zeros, zero_rows, hidden_database, leads_to}
+use Rattle.ghost_model.proofs.LayoutLemmas.Columns.{hidden_or_none}
 use Rattle.ghost_model.proofs.MeaningLemmas.OneRow.{child_is}
 use Rattle.ghost_model.proofs.MeaningLemmas.Leading.{told_place}
-use Rattle.ghost_model.proofs.SessionLemmas.Values.{parts_at}
-use Rattle.ghost_model.proofs.LayoutLemmas.Order.{table_there}
+use Rattle.ghost_model.proofs.LayoutLemmas.Places.{table_there}
 use Rattle.ghost_model.proofs.FlashLemmas.Values.{hidden_among, not_hidden, value_by_place, value_of_row}
 
 -- a hidden value of a row whose visible values are zeros
@@ -78,12 +80,14 @@ table_known (declared ∷ schema) (rows ∷ tables) (suc table) there = table_kn
 
 -- a field of the database that stands for a hidden part
 field_known : (schema : Schema) (hidden : Hidden) → IsTree schema → (table identifier column : ℕ) → is_hidden schema table column ≡ true
-    → field (hidden_database schema hidden) table identifier column ≡ hidden_value schema hidden table identifier column
+    → value_at_row (hidden_database schema hidden) table identifier column ≡ hidden_value schema hidden table identifier column
 field_known schema hidden tree table identifier zero h =
     absurd (not_hidden (column_at schema table 0) (tree.begins_with_id table (table_there schema table 0 h)) h)
 field_known schema hidden tree table zero (suc place) h = refl
 field_known schema hidden tree table (suc k) (suc place) h =
-    ap (λ rows. option_and_then (λ row. slice_get row (suc place)) (slice_get rows k)) (table_known schema hidden.hidden table (table_there schema table (suc place) h))
+    ap (λ (database : Database). option_and_then (λ row. slice_get row (suc place)) (slice_get (rows_or_none (slice_get database table)) k))
+    (rejoined_parts schema (record { visible = map zero_rows hidden.hidden }) hidden)
+    ∙ ap (λ rows. option_and_then (λ row. slice_get row (suc place)) (slice_get rows k)) (table_known schema hidden.hidden table (table_there schema table (suc place) h))
     ∙ rows_known (columns_of schema table) (tree.few_columns table) place h 1 (rows_or_none (slice_get hidden.hidden table)) k
 
 -- a field of the database
@@ -94,26 +98,26 @@ by_row f part g (Some row) same = same row refl
 
 pub field_hidden : (schema : Schema) (database : Database) → IsTree schema → IsDatabase schema database → (table identifier column : ℕ)
     → is_hidden schema table column ≡ true
-    → hidden_value schema (hidden_of schema database) table identifier column ≡ field database table identifier column
+    → hidden_value schema (hidden_of schema database) table identifier column ≡ value_at_row database table identifier column
 field_hidden schema database tree is table zero column h = refl
 field_hidden schema database tree is table (suc k) column h =
     let value : Row → Option Value = λ kept. value_at (hidden_places schema table) kept column in
     let part : Row → Row = λ whole. hidden_values (hidden_flags (columns_of schema table)) (drop 1 whole) in
-    ap (λ (rows : Rows). option_and_then value (slice_get rows k)) (parts_at hidden_values schema database is.tables table)
+    ap (λ (rows : Rows). option_and_then value (slice_get rows k)) (hidden_rows_at schema database is.tables table)
     ∙ (ap (λ (o : Option Row). option_and_then value o) (slice_get-map part (rows_of database table) k)
     ∙ by_row value part (λ row. slice_get row column) (slice_get (rows_of database table) k)
     (λ row there. value_of_row (columns_of schema table) (tree.begins_with_id table (table_there schema table column h)) column h row (is.widths table (suc k) row there)))
 
 -- foreign keys
 key_of : (schema : Schema) → IsTree schema → (table child column : ℕ) (o : Option Table) → slice_get schema table ≡ o
-    → option_and_then (λ held. first_of (keys_to child held)) o ≡ Some column → is_hidden schema table column ≡ true
+    → option_and_then (λ held. first_of (references_to child held)) o ≡ Some column → is_hidden schema table column ≡ true
 key_of schema tree table child column None there h = absurd (cc (h))
 key_of schema tree table child column (Some held) there h =
     let told = told_place (λ (c : Column). is_table child c.child) 0 held.columns column h in
     let at = told.2 in
     let same : column ≡ told.0 = omega (arith, at) in
     let declared : column_at schema table told.0 ≡ Some told.1 = ap (λ o. slice_get (columns_or_none o) told.0) there ∙ told.3 in
-    let hidden = tree.keys_are_hidden table told.0 child told.1 declared (child_is child told.1.child told.4) in
+    let hidden = tree.references_are_hidden table told.0 child told.1 declared (child_is child told.1.child told.4) in
     ap (is_hidden schema table) same ∙ (ap hidden_or_none declared ∙ hidden)
 
 points_by : (one other : ℕ → Option Value) (o : Option ℕ) → ((column : ℕ) → o ≡ Some column → one column ≡ other column)
@@ -123,14 +127,14 @@ points_by one other (Some column) same = ap identifier_in (same column refl)
 
 module _ (schema : Schema) (database : Database) (tree : IsTree schema) (is : IsDatabase schema database) where
   field_same : (table identifier column : ℕ) → is_hidden schema table column ≡ true
-      → field (hidden_database schema (hidden_of schema database)) table identifier column ≡ field database table identifier column
+      → value_at_row (hidden_database schema (hidden_of schema database)) table identifier column ≡ value_at_row database table identifier column
   field_same table identifier column h =
       field_known schema (hidden_of schema database) tree table identifier column h ∙ field_hidden schema database tree is table identifier column h
 
   points_same : (table identifier child : ℕ)
       → points_to schema (hidden_database schema (hidden_of schema database)) table identifier child ≡ points_to schema database table identifier child
   points_same table identifier child =
-      points_by (field (hidden_database schema (hidden_of schema database)) table identifier) (field database table identifier) (key_column schema table child)
+      points_by (value_at_row (hidden_database schema (hidden_of schema database)) table identifier) (value_at_row database table identifier) (reference_column schema table child)
       (λ column key. field_same table identifier column (key_of schema tree table child column (slice_get schema table) refl key))
 
   lead_within : (steps : Schema) (from identifier to : ℕ)

@@ -1,10 +1,10 @@
 -- The lists of a level partition it.
-use Rattle.std.proofs.Common.{◌≡◌, refl, sym, ap, ◌∙◌, subst, ℕ, zero, suc, ◌+◌, ◌-◌, ◌<◌, ◌≤◌, Bool, true, false, not, cond, ◌||◌, inl, inr, List, [], ◌∷◌, ◌++◌, length, filter, flat_map, get_or, Contains, bytes_eq, Option, Some, arith}
+use Rattle.std.proofs.Common.{◌≡◌, refl, sym, ap, ◌∙◌, subst, ℕ, zero, suc, ◌+◌, ◌-◌, ◌<◌, ◌≤◌, Bool, true, false, not, cond, ◌||◌, inl, inr, List, [], ◌∷◌, ◌++◌, length, filter, flat_map, map, get_or, Contains, bytes_eq, Option, Some, arith}
 use Rattle.std.specs.Prelude.{◌==◌}
-use Rattle.std.specs.List.{range_with_len, list_any, AllByRecursion}
+use Rattle.std.specs.List.{concat, range_with_len, list_any, AllByRecursion}
 use Rattle.std.proofs.lemmas.Bool.{cases_lt}
 use Rattle.std.proofs.lemmas.Bool.Decides.{nat_tests}
-use Rattle.ghost_model.specs.Schema.{is_table}
+use Rattle.ghost_model.specs.core.Schema.{is_table}
 use Rattle.ghost_model.proofs.MeaningLemmas.OneRow.{child_is}
 use Rattle.std.specs.List.Sorted.{IsPermutation, IsStrictlySortedBy}
 use Rattle.std.specs.Option.{option_map_or}
@@ -15,14 +15,17 @@ use Rattle.std.proofs.lemmas.List.Sorted.{IsPermutation-refl, IsPermutation-tran
 use Rattle.std.proofs.lemmas.List.Elements.{All-contains_itself}
 use Rattle.std.proofs.lemmas.Slice.Eq.{bytes_eq-Decides}
 use Rattle.std.proofs.lemmas.Map.Text.{is_eq-slice_cmp}
-use Rattle.ghost_model.specs.Values.{Row, Database}
-use Rattle.ghost_model.specs.Channel.{Catalog}
-use Rattle.ghost_model.specs.SchemaTrees.{IsTree}
-use Rattle.ghost_model.specs.Database.{IsDatabase, IsAtOrBelow, Lands, LeadsFollowKeys, rows_of, row_of, row_counts}
-use Rattle.ghost_model.specs.Split.{hidden_of}
-use Rattle.ghost_model.specs.Layout.{is_hidden, count_of}
-use Rattle.ghost_model.specs.Flash.{hidden_cells, ids, cell_of_row, cell_led_to, leads_to, rows_with, rows_leading_to, AreValues}
-use Rattle.ghost_model.specs.FlashLaws.{CellsFit}
+use Rattle.ghost_model.specs.core.Values.{Row, Database}
+use Rattle.ghost_model.specs.core.Channel.{Catalog}
+use Rattle.ghost_model.specs.laws.SchemaTrees.{IsTree}
+use Rattle.ghost_model.specs.core.Database.{IsDatabase, rows_of, row_of, row_counts}
+use Rattle.ghost_model.specs.laws.MeaningLaws.{IsAtOrBelow}
+use Rattle.ghost_model.specs.laws.MeaningLaws.{Lands}
+use Rattle.ghost_model.specs.laws.MeaningLaws.{LeadsFollowKeys}
+use Rattle.ghost_model.specs.core.Split.{hidden_of}
+use Rattle.ghost_model.specs.forms.Layout.{is_hidden, count_of}
+use Rattle.ghost_model.specs.forms.Flash.{hidden_cells, ids, cell_led_to, leads_to, value_lists, id_lists, AreValues}
+use Rattle.ghost_model.specs.laws.FlashLaws.{CellsFit}
 use Rattle.ghost_model.proofs.MeaningLemmas.Leading.{rows_lead, get_within, place_within}
 use Rattle.ghost_model.proofs.FlashLemmas.Values.{count_there, cells_fit}
 use Rattle.ghost_model.proofs.FlashLemmas.Parts.{goes_with}
@@ -64,6 +67,10 @@ lists_rest test v (w ∷ vs) ks h =
     let one = filter_rest (test v) (test w) ks h.0 in
     let others = lists_rest test v vs ks h.1 in
     λ i. one i ++ others i
+
+joined_lists : {V : Type 0} (list : V → List ℕ) (values : List V) → flat_map list values ≡ concat (map list values)
+joined_lists list [] = refl
+joined_lists list (v ∷ vs) = ap (λ rest. list v ++ rest) (joined_lists list vs)
 
 partitioned : {V : Type 0} (test : V → ℕ → Bool) (values : List V) (ks : List ℕ) → Exclusive test values → Covered test values ks
     → IsPermutation ks (flat_map (λ v. filter (test v) ks) values)
@@ -157,7 +164,7 @@ module _ (cat : Catalog) (database : Database) (tree : IsTree cat.schema) (is : 
           let near = place_within (rows_of database table) j row stands in
           let e : suc j - 1 ≡ j = omega arith in
           let same : cell_led_to cat.schema hidden table column from (suc place) ≡ get_or cells j [] =
-          ap (λ o. option_map_or (cell_of_row cat.schema hidden table column) o []) led ∙ ap (λ n. get_or cells n []) e in
+          ap (λ o. option_map_or (λ n. get_or cells (n - 1) []) o []) led ∙ ap (λ n. get_or cells n []) e in
           subst (Contains cells) (sym same) (All-contains_itself cells j [] (omega (arith, size, rows, near)))
 
   covered : (table column from : ℕ) → is_hidden cat.schema table column ≡ true → IsAtOrBelow cat.schema from table
@@ -172,11 +179,12 @@ module _ (cat : Catalog) (database : Database) (tree : IsTree cat.schema) (is : 
 
   pub lists_partition : (table column from : ℕ) → is_hidden cat.schema table column ≡ true → IsAtOrBelow cat.schema from table
       → (values : List (List ℕ)) → AreValues (hidden_cells cat.schema (hidden_of cat.schema database) table column) values
-      → IsPermutation (ids (count_of cat from)) (flat_map (rows_with cat (hidden_of cat.schema database) table column from) values)
+      → IsPermutation (ids (count_of cat from)) (concat (value_lists cat (hidden_of cat.schema database) table column values from))
   lists_partition table column from h under values are =
       let key = cell_led_to cat.schema (hidden_of cat.schema database) table column from in
-      partitioned (λ v k. bytes_eq (key k) v) values (ids (count_of cat from)) (exclusive key values are.ascending)
-      (all_of_range (λ k. list_any (bytes_eq (key k)) values ≡ true) 1 (count_of cat from) (covered table column from h under values are))
+      subst (IsPermutation (ids (count_of cat from))) (joined_lists (λ v. filter (λ k. bytes_eq (key k) v) (ids (count_of cat from))) values)
+      (partitioned (λ v k. bytes_eq (key k) v) values (ids (count_of cat from)) (exclusive key values are.ascending)
+      (all_of_range (λ k. list_any (bytes_eq (key k)) values ≡ true) 1 (count_of cat from) (covered table column from h under values are)))
 
   covered_id : (table from : ℕ) → IsAtOrBelow cat.schema from table → (k : ℕ) → 1 ≤ k → k < 1 + count_of cat from
       → list_any (λ v. is_table v (leads_to cat.schema (hidden_of cat.schema database) from k table)) (ids (count_of cat table)) ≡ true
@@ -199,8 +207,9 @@ module _ (cat : Catalog) (database : Database) (tree : IsTree cat.schema) (is : 
           ∙ found_in_range (suc j) 1 (count_of cat table) (omega arith) (omega (arith, rows, near))
 
   pub id_lists_partition : (table from : ℕ) → IsAtOrBelow cat.schema from table
-      → IsPermutation (ids (count_of cat from)) (flat_map (rows_leading_to cat (hidden_of cat.schema database) table from) (ids (count_of cat table)))
+      → IsPermutation (ids (count_of cat from)) (concat (id_lists cat (hidden_of cat.schema database) table from))
   id_lists_partition table from under =
       let key = λ (k : ℕ). leads_to cat.schema (hidden_of cat.schema database) from k table in
-      partitioned (λ v k. is_table v (key k)) (ids (count_of cat table)) (ids (count_of cat from)) (exclusive_range key 1 (count_of cat table))
-      (all_of_range (λ k. list_any (λ v. is_table v (key k)) (ids (count_of cat table)) ≡ true) 1 (count_of cat from) (covered_id table from under))
+      subst (IsPermutation (ids (count_of cat from))) (joined_lists (λ v. filter (λ k. is_table v (key k)) (ids (count_of cat from))) (ids (count_of cat table)))
+      (partitioned (λ v k. is_table v (key k)) (ids (count_of cat table)) (ids (count_of cat from)) (exclusive_range key 1 (count_of cat table))
+      (all_of_range (λ k. list_any (λ v. is_table v (key k)) (ids (count_of cat table)) ≡ true) 1 (count_of cat from) (covered_id table from under)))

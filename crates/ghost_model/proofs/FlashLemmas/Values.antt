@@ -2,27 +2,34 @@
 use Rattle.std.proofs.Common.{◌≡◌, refl, ap, sym, ◌∙◌, subst, ℕ, zero, suc, ◌+◌, Bool, true, false, not, cond, List, [], ◌∷◌, length, map, drop, filter, sum_by, count_by, slice_index, Option, Some, None, slice_get, option_and_then, unwrap_or, arith}
 use Rattle.std.specs.Prelude.{if◌then◌else◌}
 use Rattle.std.specs.List.{range_with_len}
-use Rattle.std.specs.Option.{option_map}
+use Rattle.std.specs.Option.{option_map, option_map_or}
 use Rattle.std.proofs.lemmas.List.{length-map}
 use Rattle.std.proofs.lemmas.List.Sums.{sum_by-cons}
 use Rattle.std.proofs.lemmas.Option.{slice_get-map}
-use Rattle.ghost_model.specs.Schema.{Schema, Column, Kind, columns_of, columns_or_none, column_at, places_from, is_shown}
-use Rattle.ghost_model.specs.Values.{Value, Row, Rows, Database}
-use Rattle.ghost_model.specs.Channel.{Catalog}
-use Rattle.ghost_model.specs.SchemaTrees.{IsTree, identifier}
-use Rattle.ghost_model.specs.Database.{IsDatabase, is_of_kind, rows_or_none, rows_of}
-use Rattle.ghost_model.specs.Cells.{cell_width, decode_cell}
-use Rattle.ghost_model.specs.Asks.{kind_or_none, kind_at}
-use Rattle.ghost_model.specs.Split.{Hidden, value_at, kind_of, are_of_kinds, hidden_values, hidden_flags, hidden_of}
-use Rattle.ghost_model.specs.Replies.{hidden_places}
-use Rattle.ghost_model.specs.Layout.{below, hidden_or_none, is_hidden, width_or_none, count_of}
-use Rattle.ghost_model.specs.Flash.{hidden_rows, GoesWith, cell_or_none, hidden_cell, hidden_cells}
-use Rattle.ghost_model.specs.FlashLaws.{hidden_before, CellsFit}
+use Rattle.ghost_model.specs.core.Schema.{Schema, Column, Kind, columns_of, columns_or_none, column_at, places_from, is_shown}
+use Rattle.ghost_model.specs.core.Values.{Value, Row, Rows, Database}
+use Rattle.ghost_model.specs.core.Channel.{Catalog}
+use Rattle.ghost_model.specs.laws.SchemaTrees.{IsTree, identifier}
+use Rattle.ghost_model.specs.core.Database.{IsDatabase, is_of_kind, rows_or_none, rows_of}
+use Rattle.ghost_model.specs.forms.Cells.{cell_width, encode_cell}
+use Rattle.ghost_model.specs.readings.CellReading.{decode_cell}
+use Rattle.ghost_model.specs.core.Asks.{kind_or_none, kind_at}
+use Rattle.ghost_model.specs.core.Split.{Hidden, value_at, kind_of_column, are_of_kinds, hidden_of}
+use Rattle.ghost_model.specs.laws.SplitByFlags.{hidden_flags, hidden_values}
+use Rattle.ghost_model.proofs.MeaningLemmas.PartsByFlags.{hidden_rows_at}
+use Rattle.ghost_model.specs.core.Replies.{hidden_places}
+use Rattle.ghost_model.specs.forms.Layout.{below, is_hidden, count_of}
+use Rattle.ghost_model.specs.forms.Flash.{hidden_rows, GoesWith, hidden_cell, hidden_cells}
+use Rattle.ghost_model.specs.laws.FlashLaws.{hidden_before, CellsFit}
+use Rattle.ghost_model.proofs.LayoutLemmas.Columns.{hidden_or_none, width_or_none}
 use Rattle.ghost_model.proofs.ChannelLemmas.Asks.{cell_is_read, cell_length}
 use Rattle.ghost_model.proofs.MeaningLemmas.Leading.{get_within}
-use Rattle.ghost_model.proofs.SessionLemmas.Values.{at_itself, not_later, hidden_of_row, parts_at}
-use Rattle.ghost_model.proofs.LayoutLemmas.Order.{table_there}
+use Rattle.ghost_model.proofs.SessionLemmas.Values.{at_itself, not_later, hidden_of_row}
+use Rattle.ghost_model.proofs.LayoutLemmas.Places.{table_there}
 use Rattle.ghost_model.proofs.ChannelLemmas.Tests.{BothHold, both_hold}
+
+abbrev cell_if_any : Kind → Option Value → List ℕ
+cell_if_any kind value = option_map_or (encode_cell kind) value []
 
 is_kept : Column → Bool
 is_kept column = column.hidden
@@ -131,13 +138,13 @@ map_both f part g (row ∷ rows) same =
 pub cells_of_databases : (schema : Schema) (database : Database) → IsTree schema → IsDatabase schema database
     → (table column : ℕ) → is_hidden schema table column ≡ true
     → hidden_cells schema (hidden_of schema database) table column
-    ≡ map (λ row. cell_or_none (kind_at schema table column) (slice_get row column)) (rows_of database table)
+    ≡ map (λ row. cell_if_any (kind_at schema table column) (slice_get row column)) (rows_of database table)
 cells_of_databases schema database tree is table column h =
-    ap (map (hidden_cell schema table column)) (parts_at hidden_values schema database is.tables table)
+    ap (map (hidden_cell schema table column)) (hidden_rows_at schema database is.tables table)
     ∙ map_both (hidden_cell schema table column) (λ row. hidden_values (hidden_flags (columns_of schema table)) (drop 1 row))
-    (λ row. cell_or_none (kind_at schema table column) (slice_get row column)) (rows_of database table)
+    (λ row. cell_if_any (kind_at schema table column) (slice_get row column)) (rows_of database table)
     (λ place row there.
-    ap (cell_or_none (kind_at schema table column))
+    ap (cell_if_any (kind_at schema table column))
     (value_of_row (columns_of schema table) (tree.begins_with_id table (table_there schema table column h)) column h row (is.widths table (suc place) row there)))
 
 -- the values of a row of a hidden part that goes with a catalog
@@ -147,27 +154,27 @@ pub record HasValue (found : Option Value) (kind : Kind) : Type 0 where
   pub is : is_of_kind kind value ≡ true
 
 kinds_once : (b : Bool) (column : Column) (rest : List Column) (row : Row) → b ≡ true
-    → are_of_kinds (map kind_of (cond b (column ∷ rest) rest)) row ≡ true → HasValue (slice_get row 0) column.kind
+    → are_of_kinds (map kind_of_column (cond b (column ∷ rest) rest)) row ≡ true → HasValue (slice_get row 0) column.kind
 kinds_once false column rest row e are = absurd (cc (e))
 kinds_once true column rest [] e are = absurd (cc (are))
 kinds_once true column rest (value ∷ row) e are =
-    let both : BothHold (is_of_kind column.kind value) (are_of_kinds (map kind_of rest) row) = both_hold _ _ are in
+    let both : BothHold (is_of_kind column.kind value) (are_of_kinds (map kind_of_column rest) row) = both_hold _ _ are in
     record { value = value; there = refl; is = both.one }
 
 kinds_on : (b : Bool) (column : Column) (rest : List Column) (row : Row) (n : ℕ) (kind : Kind)
-    → are_of_kinds (map kind_of (cond b (column ∷ rest) rest)) row ≡ true
-    → ((values : Row) → are_of_kinds (map kind_of rest) values ≡ true → HasValue (slice_get values n) kind)
+    → are_of_kinds (map kind_of_column (cond b (column ∷ rest) rest)) row ≡ true
+    → ((values : Row) → are_of_kinds (map kind_of_column rest) values ≡ true → HasValue (slice_get values n) kind)
     → HasValue (slice_get row (cond b 1 0 + n)) kind
 kinds_on true column rest [] n kind are later = absurd (cc (are))
 kinds_on true column rest (value ∷ row) n kind are later =
-    let both : BothHold (is_of_kind column.kind value) (are_of_kinds (map kind_of rest) row) = both_hold _ _ are in
+    let both : BothHold (is_of_kind column.kind value) (are_of_kinds (map kind_of_column rest) row) = both_hold _ _ are in
     let e : suc n ≡ 1 + n = omega arith in
     subst (λ k. HasValue (slice_get (value ∷ row) k) kind) e (later row both.other)
 kinds_on false column rest row n kind are later =
     let e : n ≡ 0 + n = omega arith in subst (λ k. HasValue (slice_get row k) kind) e (later row are)
 
 kinds_there : (columns : List Column) (place : ℕ) → hidden_or_none (slice_get columns place) ≡ true → (row : Row)
-    → are_of_kinds (map kind_of (filter (λ (c : Column). c.hidden) columns)) row ≡ true
+    → are_of_kinds (map kind_of_column (filter (λ (c : Column). c.hidden) columns)) row ≡ true
     → HasValue (slice_get row (hidden_among place columns)) (kind_or_none (slice_get columns place))
 unfolding hidden_among
 kinds_there [] place h row are = absurd (cc (h))
@@ -177,7 +184,7 @@ kinds_there (column ∷ columns) (suc place) h row are =
     (λ values. kinds_there columns place h values)
 
 value_there : (columns : List Column) → slice_get columns 0 ≡ Some identifier → (column : ℕ) → hidden_or_none (slice_get columns column) ≡ true
-    → (row : Row) → are_of_kinds (map kind_of (filter (λ (c : Column). c.hidden) (drop 1 columns))) row ≡ true
+    → (row : Row) → are_of_kinds (map kind_of_column (filter (λ (c : Column). c.hidden) (drop 1 columns))) row ≡ true
     → HasValue (value_at (places_from (λ (c : Column). c.hidden) 1 (drop 1 columns)) row column) (kind_or_none (slice_get columns column))
 value_there [] first column h row are = absurd (cc (h))
 value_there (id ∷ columns) first zero h row are = absurd (not_hidden (Some id) first h)
@@ -214,7 +221,7 @@ module _ (cat : Catalog) (hidden : Hidden) (tree : IsTree cat.schema) (is : Goes
       let columns : columns_of cat.schema table ≡ held.0.columns = ap columns_or_none held.1 in
       let kinds = is.kinds table place held.0 row held.1 there in
       value_there (columns_of cat.schema table) (tree.begins_with_id table within) column h row
-      (subst (λ cs. are_of_kinds (map kind_of (filter (λ (c : Column). c.hidden) (drop 1 cs))) row ≡ true) (sym columns) kinds)
+      (subst (λ cs. are_of_kinds (map kind_of_column (filter (λ (c : Column). c.hidden) (drop 1 cs))) row ≡ true) (sym columns) kinds)
 
   pub cells_fit : CellsFit cat hidden
   cells_fit = record {
@@ -222,13 +229,13 @@ module _ (cat : Catalog) (hidden : Hidden) (tree : IsTree cat.schema) (is : Goes
     width = λ table column place cell h there.
         let found = mapped (hidden_cell cat.schema table column) (slice_get (hidden_rows hidden table) place) cell (sym (slice_get-map (hidden_cell cat.schema table column) (hidden_rows hidden table) place) ∙ there) in
         let has = row_value table column place found.0 h found.1 in
-        ap length (sym found.2) ∙ (ap (λ o. length (cell_or_none (kind_at cat.schema table column) o)) has.there
+        ap length (sym found.2) ∙ (ap (λ o. length (cell_if_any (kind_at cat.schema table column) o)) has.there
         ∙ (cell_length (kind_at cat.schema table column) has.value has.is ∙ width_of_kind (column_at cat.schema table column)));
     value = λ table column place cell h there.
         let found = mapped (hidden_cell cat.schema table column) (slice_get (hidden_rows hidden table) place) cell (sym (slice_get-map (hidden_cell cat.schema table column) (hidden_rows hidden table) place) ∙ there) in
         let has = row_value table column place found.0 h found.1 in
         ap (decode_cell (kind_at cat.schema table column)) (sym found.2)
-        ∙ (ap (λ o. decode_cell (kind_at cat.schema table column) (cell_or_none (kind_at cat.schema table column) o)) has.there
+        ∙ (ap (λ o. decode_cell (kind_at cat.schema table column) (cell_if_any (kind_at cat.schema table column) o)) has.there
         ∙ (cell_is_read (kind_at cat.schema table column) has.value has.is
         ∙ (sym has.there
         ∙ sym (ap (option_and_then (λ (row : Row). value_at (hidden_places cat.schema table) row column)) found.1))));

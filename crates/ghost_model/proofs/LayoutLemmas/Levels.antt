@@ -4,10 +4,9 @@ use Rattle.std.specs.List.{range_with_len, cons_option}
 use Rattle.std.proofs.lemmas.Bool.{cases_lt}
 use Rattle.std.proofs.lemmas.Option.{slice_get_past}
 use Rattle.std.proofs.lemmas.List.FromFn.{length-range_with_len}
-use Rattle.ghost_model.specs.Schema.{Schema, parent}
-use Rattle.ghost_model.specs.SchemaFaults.{ancestor}
-use Rattle.ghost_model.specs.SchemaTrees.{IsTree}
-use Rattle.ghost_model.specs.Layout.{below, levels_of}
+use Rattle.ghost_model.specs.core.Schema.{Schema, parent, ancestor}
+use Rattle.ghost_model.specs.laws.SchemaTrees.{IsTree}
+use Rattle.ghost_model.specs.forms.Layout.{below, levels_of}
 use Rattle.ghost_model.proofs.MeaningLemmas.Leading.{way_is_short}
 use Rattle.ghost_model.proofs.LayoutLemmas.Small.{length_kept}
 

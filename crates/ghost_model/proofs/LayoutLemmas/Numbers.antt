@@ -3,7 +3,7 @@ use Rattle.std.proofs.Common.{◌≡◌, ap, ◌∙◌, ℕ, suc, ◌+◌, ◌-�
 use Rattle.std.proofs.lemmas.Nat.{le-div}
 use Rattle.std.proofs.lemmas.Bool.{cases_lt}
 use Rattle.std.proofs.Math.Nat.{div-mul-le_self, mul-le-mul_right, suc-mul, le-mul_of_pos_right, le-div_iff_mul-le, mod-lt}
-use Rattle.ghost_model.specs.Runs.{per_page, pages_of}
+use Rattle.ghost_model.specs.forms.Runs.{per_page, pages_of}
 
 pub some_per_page : (width : ℕ) → 0 < width → width ≤ 2048 → 0 < per_page width
 some_per_page width wide narrow =

@@ -1,17 +1,18 @@
 -- Where the files of tables and columns lie to one another.
-use Rattle.std.proofs.Common.{◌≡◌, refl, ap, sym, ◌∙◌, ℕ, zero, suc, ◌+◌, ◌<◌, ◌≤◌, Bool, true, false, cond, inl, inr, [], ◌∷◌, ◌++◌, length, filter, sum_by, slice_get, arith}
+use Rattle.std.proofs.Common.{◌≡◌, refl, ap, ◌∙◌, ℕ, zero, suc, ◌+◌, ◌<◌, ◌≤◌, Bool, true, false, cond, inl, inr, [], ◌∷◌, ◌++◌, length, filter, sum_by, arith}
 use Rattle.std.specs.List.{range_with_len}
 use Rattle.std.proofs.lemmas.List.{length-append}
 use Rattle.std.proofs.lemmas.List.Elements.{filter-append}
 use Rattle.std.proofs.lemmas.List.Sums.{sum_by-cons, sum_by-append}
 use Rattle.std.proofs.lemmas.Bool.{cases_lt}
-use Rattle.std.proofs.lemmas.Option.{slice_get_past}
-use Rattle.ghost_model.specs.Schema.{Schema, columns_or_none, columns_of, is_visible}
-use Rattle.ghost_model.specs.Channel.{Catalog}
-use Rattle.ghost_model.specs.Runs.{run_pages, run_end}
-use Rattle.ghost_model.specs.Layout.{below, hidden_or_none, is_hidden, is_below, width_at, column_count, column_pages, column_pages_before, index_pages, table_pages, table_begin, subtree_begin, column_file, spool_pages}
-use Rattle.ghost_model.specs.LayoutLaws.{LieInOrder}
+use Rattle.ghost_model.specs.core.Schema.{is_visible}
+use Rattle.ghost_model.specs.core.Channel.{Catalog}
+use Rattle.ghost_model.specs.forms.Runs.{run_pages, run_end}
+use Rattle.ghost_model.specs.forms.Layout.{below, is_hidden, is_below, width_at, column_count, column_pages, column_file, first_page, files_end, public_pages, spool_pages}
+use Rattle.ghost_model.specs.laws.LayoutSums.{column_begin, index_pages, table_pages, table_begin, subtree_begin}
+use Rattle.ghost_model.specs.laws.LayoutLaws.{LieInOrder}
 use Rattle.ghost_model.proofs.LayoutLemmas.Following.{sum_below}
+use Rattle.ghost_model.proofs.LayoutLemmas.Places.{table_there, column_there, lie_as_summed, end_is}
 
 pub sum_next : (g : ℕ → ℕ) (n : ℕ) → sum_by g (below (n + 1)) ≡ sum_by g (below n) + g n
 sum_next g n = let e : n + 1 ≡ suc n = omega arith in ap (λ k. sum_by g (below k)) e ∙ sum_below g n
@@ -59,33 +60,18 @@ next_length test n =
     ∙ (length-append (filter test (below n)) (filter test (n ∷ []))
     ∙ ap (λ k. length (filter test (below n)) + k) (kept_length (test n) n)))
 
-pub table_there : (schema : Schema) (table column : ℕ) → is_hidden schema table column ≡ true → table < length schema
-table_there schema table column h =
-    elim (cases_lt table (length schema)) [
-      | inl less ↦ less
-      | inr past ↦ (let none : is_hidden schema table column ≡ false = ap (λ held. hidden_or_none (slice_get (columns_or_none held) column)) (slice_get_past schema table past) in
-          let clash : false ≡ true = sym none ∙ h in absurd (cc (clash)))
-    ]
-
-pub column_there : (schema : Schema) (table column : ℕ) → is_hidden schema table column ≡ true → column < column_count schema table
-column_there schema table column h =
-    elim (cases_lt column (column_count schema table)) [
-      | inl less ↦ less
-      | inr past ↦ (let none : is_hidden schema table column ≡ false = ap hidden_or_none (slice_get_past (columns_of schema table) column past) in
-          let clash : false ≡ true = sym none ∙ h in absurd (cc (clash)))
-    ]
-
 module _ (cat : Catalog) where
   its_pages : (table column : ℕ) → is_hidden cat.schema table column ≡ true → column_pages cat table column ≡ run_pages (column_file cat table column)
   its_pages table column h = ap (λ b. cond b (run_pages (column_file cat table column)) 0) h
 
   ends_before : (table column later : ℕ) → is_hidden cat.schema table column ≡ true → column < later
-      → run_end (column_file cat table column) ≤ table_begin cat table + column_pages_before cat table later
+      → run_end (column_file cat table column) ≤ column_begin cat table later
   ends_before table column later h low =
       let pages = its_pages table column h in
+      let first = (lie_as_summed cat).column_file table column h in
       let next = sum_next (column_pages cat table) column in
       let rise = sums_rise (column_pages cat table) (column + 1) later (omega (arith, low)) in
-      omega (arith, pages, next, rise)
+      omega (arith, pages, first, next, rise)
 
   ends_within : (table column : ℕ) → is_hidden cat.schema table column ≡ true → run_end (column_file cat table column) ≤ subtree_begin cat table
   ends_within table column h = ends_before table column (column_count cat.schema table) h (column_there cat.schema table column h)
@@ -97,6 +83,20 @@ module _ (cat : Catalog) where
       let next = sum_next (table_pages cat) table in
       let rise = sums_rise (table_pages cat) (table + 1) later (omega (arith, low)) in
       omega (arith, within, next, rise)
+
+  ends_at_files : (table column : ℕ) → is_hidden cat.schema table column ≡ true → run_end (column_file cat table column) ≤ files_end cat
+  ends_at_files table column h =
+      let within = ends_before_tables table (length cat.schema) column h (table_there cat.schema table column h) in
+      let end = end_is cat in
+      omega (arith, within, end)
+
+  behind_public : (table column : ℕ) → public_pages ≤ (column_file cat table column).first
+  unfolding first_page
+  behind_public table column = omega arith
+
+  some_pages : public_pages ≤ files_end cat
+  unfolding files_end
+  some_pages = omega arith
 
   pub lie_in_order : LieInOrder cat
   lie_in_order = record {
@@ -111,10 +111,10 @@ module _ (cat : Catalog) where
     column_files = ends_before;
     within_table = ends_within;
     before_tables = ends_before_tables;
-    after_public = λ table column. omega arith;
-    within = λ table column h. ends_before_tables table (length cat.schema) column h (table_there cat.schema table column h);
+    after_public = behind_public;
+    within = ends_at_files;
     static = omega arith;
     spool = omega arith;
     scratch = omega arith;
-    some = omega arith;
+    some = some_pages;
   }

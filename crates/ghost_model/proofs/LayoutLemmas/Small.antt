@@ -4,16 +4,18 @@ use Rattle.std.specs.List.{list_all, cons_option}
 use Rattle.std.proofs.lemmas.Bool.{and_parts}
 use Rattle.std.proofs.lemmas.List.FromFn.{length-range_with_len}
 use Rattle.std.proofs.lemmas.List.Sums.{sum_by-le, length-filter, count_by-le-length}
-use Rattle.ghost_model.specs.Schema.{Column, Kind, Integer, Chars, column_at, is_empty, is_visible}
-use Rattle.ghost_model.specs.Channel.{Catalog}
-use Rattle.ghost_model.specs.SchemaFaults.{ancestor}
-use Rattle.ghost_model.specs.SchemaTrees.{IsTree}
-use Rattle.ghost_model.specs.LoadFaults.{most_rows}
-use Rattle.ghost_model.specs.Cells.{cell_width}
-use Rattle.ghost_model.specs.Runs.{pages_of}
-use Rattle.ghost_model.specs.Layout
-use Rattle.ghost_model.specs.LayoutLaws.{IsLimited, AreNarrow, AreFew}
+use Rattle.ghost_model.specs.core.Schema.{Column, Kind, Integer, Chars, column_at, is_empty, is_visible, ancestor}
+use Rattle.ghost_model.specs.core.Channel.{Catalog}
+use Rattle.ghost_model.specs.laws.SchemaTrees.{IsTree}
+use Rattle.ghost_model.specs.refusals.LoadFaults.{most_rows}
+use Rattle.ghost_model.specs.forms.Cells.{cell_width}
+use Rattle.ghost_model.specs.forms.Runs.{pages_of}
+use Rattle.ghost_model.specs.forms.Layout
+use Rattle.ghost_model.specs.laws.LayoutSums
+use Rattle.ghost_model.specs.laws.LayoutLaws.{IsLimited, AreNarrow, AreFew}
+use Rattle.ghost_model.proofs.LayoutLemmas.Columns.{hidden_or_none, width_or_none}
 use Rattle.ghost_model.proofs.LayoutLemmas.Numbers.{pages_few}
+use Rattle.ghost_model.proofs.LayoutLemmas.Places.{end_is}
 
 -- lengths
 length_kept_by : (o : Option ℕ) (xs : List ℕ) → length (cons_option o xs) ≤ suc (length xs)
@@ -40,11 +42,11 @@ kind_fits : (kind : Kind) → ((most : ℕ) → kind ≡ Chars most → (1 ≤ m
 kind_fits Integer h = (omega arith, omega arith)
 kind_fits (Chars most) h = let fits = h most refl in let least = fits.0 in (omega (arith, least), fits.1)
 
-width_most : (o : Option Column) → ((held : Column) → o ≡ Some held → cell_width held.kind ≤ 64) → Layout.width_or_none o ≤ 64
+width_most : (o : Option Column) → ((held : Column) → o ≡ Some held → cell_width held.kind ≤ 64) → width_or_none o ≤ 64
 width_most None h = omega arith
 width_most (Some held) h = h held refl
 
-width_least : (o : Option Column) → ((held : Column) → o ≡ Some held → 0 < cell_width held.kind) → Layout.hidden_or_none o ≡ true → 0 < Layout.width_or_none o
+width_least : (o : Option Column) → ((held : Column) → o ≡ Some held → 0 < cell_width held.kind) → hidden_or_none o ≡ true → 0 < width_or_none o
 width_least None h e = absurd (cc (e))
 width_least (Some held) h e = h held refl
 
@@ -135,51 +137,51 @@ module _ (cat : Catalog) (limited : IsLimited cat) where
       when (Layout.is_hidden cat.schema table column) _ 1000000
       (λ h. let wide = narrow.most table column in pages table (Layout.width_at cat.schema table column) (narrow.least table column h) (omega (arith, wide)))
 
-  columns_before : (table column : ℕ) → column ≤ 24 → Layout.column_pages_before cat table column ≤ 24000000
+  columns_before : (table column : ℕ) → column ≤ 24 → LayoutSums.column_pages_before cat table column ≤ 24000000
   columns_before table upto low =
       let all = sum_few (Layout.column_pages cat table) 1000000 (column_few table) (Layout.below upto) in
       let size = length-range_with_len 0 upto in
       omega (arith, all, size, low)
 
-  subtree : (table : ℕ) → Layout.subtree_pages cat table ≤ 1000000
+  subtree : (table : ℕ) → LayoutSums.subtree_pages cat table ≤ 1000000
   subtree table =
       unless (is_empty (Layout.descendants_of cat.schema table)) _ 1000000
       (λ e. let some = some_in (Layout.descendants_of cat.schema table) e in let few = narrow.descendants table in
-      pages table (Layout.subtree_width cat.schema table) (omega (arith, some)) (omega (arith, few)))
+      pages table (LayoutSums.subtree_width cat.schema table) (omega (arith, some)) (omega (arith, few)))
 
-  level : (table : ℕ) → Layout.level_pages cat table ≤ 1954
+  level : (table : ℕ) → LayoutSums.level_pages cat table ≤ 1954
   level table = let count = rows table in omega (arith, count)
 
-  levels : (tables : List ℕ) → length tables ≤ 12 → Layout.levels_pages cat tables ≤ 23448
-  levels tables few = let all = sum_few (Layout.level_pages cat) 1954 level tables in omega (arith, all, few)
+  levels : (tables : List ℕ) → length tables ≤ 12 → LayoutSums.levels_pages cat tables ≤ 23448
+  levels tables few = let all = sum_few (LayoutSums.level_pages cat) 1954 level tables in omega (arith, all, few)
 
-  index_few : (table column : ℕ) → Layout.index_pages cat table column ≤ 1023449
+  index_few : (table column : ℕ) → LayoutSums.index_pages cat table column ≤ 1023449
   index_few table column =
       when (Layout.is_hidden cat.schema table column) _ 1023449
       (λ h.
       let wide = narrow.directory table column in
       let some = narrow.least table column h in
-      let directory = pages table (Layout.directory_width cat.schema table column) (omega (arith, some)) (omega (arith, wide)) in
+      let directory = pages table (LayoutSums.directory_width cat.schema table column) (omega (arith, some)) (omega (arith, wide)) in
       let files = levels (Layout.levels_of cat.schema table) (narrow.levels table) in
       omega (arith, directory, files))
 
-  indexes_before : (table column : ℕ) → column ≤ 24 → Layout.index_pages_before cat table column ≤ 24562776
+  indexes_before : (table column : ℕ) → column ≤ 24 → LayoutSums.index_pages_before cat table column ≤ 24562776
   indexes_before table upto low =
-      let all = sum_few (Layout.index_pages cat table) 1023449 (index_few table) (Layout.below upto) in
+      let all = sum_few (LayoutSums.index_pages cat table) 1023449 (index_few table) (Layout.below upto) in
       let size = length-range_with_len 0 upto in
       omega (arith, all, size, low)
 
-  id_index : (table : ℕ) → Layout.id_index_pages cat table ≤ 1023448
+  id_index : (table : ℕ) → LayoutSums.id_index_pages cat table ≤ 1023448
   id_index table =
       unless (is_empty (Layout.above_of cat.schema table)) _ 1023448
       (λ e.
       let some = some_in (Layout.above_of cat.schema table) e in
       let wide = narrow.id_directory table in
-      let directory = pages table (Layout.id_directory_width cat.schema table) (omega (arith, some)) (omega (arith, wide)) in
+      let directory = pages table (LayoutSums.id_directory_width cat.schema table) (omega (arith, some)) (omega (arith, wide)) in
       let files = levels (Layout.above_of cat.schema table) (narrow.above table) in
       omega (arith, directory, files))
 
-  table_few : (table : ℕ) → Layout.table_pages cat table ≤ 50586224
+  table_few : (table : ℕ) → LayoutSums.table_pages cat table ≤ 50586224
   table_few table =
       let first = columns_before table (Layout.column_count cat.schema table) (narrow.columns table) in
       let second = subtree table in
@@ -187,14 +189,14 @@ module _ (cat : Catalog) (limited : IsLimited cat) where
       let fourth = id_index table in
       omega (arith, first, second, third, fourth)
 
-  table_begin : (table : ℕ) → table ≤ 12 → Layout.table_begin cat table ≤ 607034752
+  table_begin : (table : ℕ) → table ≤ 12 → LayoutSums.table_begin cat table ≤ 607034752
   table_begin table low =
-      let all = sum_few (Layout.table_pages cat) 50586224 table_few (Layout.below table) in
+      let all = sum_few (LayoutSums.table_pages cat) 50586224 table_few (Layout.below table) in
       let size = length-range_with_len 0 table in
       omega (arith, all, size, low)
 
   files : Layout.files_end cat ≤ 607034752
-  files = table_begin (length cat.schema) limited.tree.few_tables
+  files = let end = end_is cat in let few = table_begin (length cat.schema) limited.tree.few_tables in omega (arith, end, few)
 
   spool : (table : ℕ) → Layout.spool_pages cat table ≤ 1000064
   spool table =

@@ -2,11 +2,12 @@
 -- foreign key is the identifier of a row.
 use Rattle.std.proofs.Common.{◌≡◌, ◌≢◌, refl, sym, ap, ◌∙◌, subst, ℕ, zero, suc, ◌+◌, ◌<◌, ◌≤◌, ◌⊎◌, inl, inr, pos, negsuc, Bool, true, false, not, nat_eq, nat_le, List, [], ◌∷◌, length, filter, Option, Some, None, slice_get, unwrap_or, option_and_then, arith, eqb-true, eq-eqb, leb-true, if◌then◌else◌}
 use Rattle.std.specs.List.{range_with_len}
-use Rattle.ghost_model.specs.Schema.{Schema, Column, Table, columns_of, columns_or_none, column_at, parent, is_table, is_empty, keys_to, first_of, places_from}
-use Rattle.ghost_model.specs.Values.{Value, Number, Text, Row, Rows, Database}
-use Rattle.ghost_model.specs.SchemaFaults.{ancestor}
-use Rattle.ghost_model.specs.SchemaTrees.{IsTree}
-use Rattle.ghost_model.specs.Database.{IsDatabase, rows_of, row_of, row_numbered, field, is_row_among, identifier_in, key_column, points_to, leads_within, leads, Lands, LeadsFollowKeys}
+use Rattle.ghost_model.specs.core.Schema.{Schema, Column, Table, columns_of, columns_or_none, column_at, parent, is_table, is_empty, references_to, first_of, places_from, ancestor}
+use Rattle.ghost_model.specs.core.Values.{Value, Number, Text, Row, Rows, Database}
+use Rattle.ghost_model.specs.laws.SchemaTrees.{IsTree}
+use Rattle.ghost_model.specs.core.Database.{IsDatabase, rows_of, row_of, row_numbered, value_at_row, is_row_among, identifier_in, reference_column, points_to, leads_within, leads}
+use Rattle.ghost_model.specs.laws.MeaningLaws.{Lands}
+use Rattle.ghost_model.specs.laws.MeaningLaws.{LeadsFollowKeys}
 use Rattle.ghost_model.proofs.MeaningLemmas.OneRow.{Among, among-filter, length-without, LeadsUp, leads_once, leads_on, both_true, not_equal, child_is}
 use Rattle.ghost_model.proofs.SchemaRuleLemmas.{parent_below}
 use Rattle.std.proofs.Math.Nat.{eq-or-lt_of_le}
@@ -167,10 +168,10 @@ get_within (y ∷ ys) (suc k) h = get_within ys k (omega arith)
 pub table_with_parent : (schema : Schema) → IsTree schema → (table above : ℕ) → parent schema table ≡ Some above
     → table < length schema
 table_with_parent schema tree table above up =
-    let f = told_place (λ (t : Table). not (is_empty (keys_to table t))) 0 schema above up in
-    let c = first_some (keys_to table f.1) (not_to_false (is_empty (keys_to table f.1)) f.4) in
+    let f = told_place (λ (t : Table). not (is_empty (references_to table t))) 0 schema above up in
+    let c = first_some (references_to table f.1) (not_to_false (is_empty (references_to table f.1)) f.4) in
     let k = told_place (λ (column : Column). is_table table column.child) 0 f.1.columns c.0 c.1 in
-    tree.keys_name_tables f.0 k.0 table k.1 (ap (λ o. slice_get (columns_or_none o) k.0) f.3 ∙ k.3) (child_is table k.1.child k.4)
+    tree.references_name_tables f.0 k.0 table k.1 (ap (λ o. slice_get (columns_or_none o) k.0) f.3 ∙ k.3) (child_is table k.1.child k.4)
 
 -- a value that is the identifier of a row, and that row
 pub row_among : (rows : Rows) (v : Value) → is_row_among (length rows) v ≡ true
@@ -190,24 +191,24 @@ pub points_somewhere : (schema : Schema) (database : Database) → IsTree schema
     → row_of database above identifier ≡ Some row
     → (m : ℕ) × (other : Row) × (points_to schema database above identifier to ≡ Some m) × (row_of database to m ≡ Some other)
 points_somewhere schema database tree is above to identifier row up hr =
-    let f = told_place (λ (t : Table). not (is_empty (keys_to to t))) 0 schema above up in
+    let f = told_place (λ (t : Table). not (is_empty (references_to to t))) 0 schema above up in
     let at_above : f.0 ≡ above = (let e = f.2 in omega arith) in
     let held : slice_get schema above ≡ Some f.1 = ap (slice_get schema) (sym at_above) ∙ f.3 in
-    let c = first_some (keys_to to f.1) (not_to_false (is_empty (keys_to to f.1)) f.4) in
+    let c = first_some (references_to to f.1) (not_to_false (is_empty (references_to to f.1)) f.4) in
     let k = told_place (λ (column : Column). is_table to column.child) 0 f.1.columns c.0 c.1 in
     let at_column : c.0 ≡ k.0 = (let e = k.2 in omega arith) in
-    let key : key_column schema above to ≡ Some k.0 =
-    ap (option_and_then (λ t. first_of (keys_to to t))) held ∙ c.1 ∙ ap Some at_column in
+    let key : reference_column schema above to ≡ Some k.0 =
+    ap (option_and_then (λ t. first_of (references_to to t))) held ∙ c.1 ∙ ap Some at_column in
     let columns : columns_of schema above ≡ f.1.columns = ap columns_or_none held in
     let declared : column_at schema above k.0 ≡ Some k.1 = ap (λ w. slice_get w k.0) columns ∙ k.3 in
     let width = is.widths above identifier row hr ∙ ap length columns in
     let within = place_within f.1.columns k.0 k.1 k.3 in
     let v = get_within row k.0 (omega arith) in
-    let stands : field database above identifier k.0 ≡ Some v.0 =
+    let stands : value_at_row database above identifier k.0 ≡ Some v.0 =
     ap (option_and_then (λ w. slice_get w k.0)) hr ∙ v.1 in
     let good = is.references above identifier k.0 to v.0 k.1 stands declared (child_is to k.1.child k.4) in
     let r = row_among (rows_of database to) v.0 good in
-    (r.0, r.1, ap (option_and_then (λ column. identifier_in (field database above identifier column))) key ∙ ap identifier_in stands ∙ r.2, r.3)
+    (r.0, r.1, ap (option_and_then (λ column. identifier_in (value_at_row database above identifier column))) key ∙ ap identifier_in stands ∙ r.2, r.3)
 
 -- the two laws and the rows
 
@@ -248,6 +249,6 @@ pub rows_lead : (schema : Schema) (database : Database) → IsTree schema → Is
     → LeadsFollowKeys schema database
 rows_lead schema database tree is = record {
   to_itself = λ table identifier. to_itself_within schema database schema table identifier table refl;
-  along_a_key = λ from above to identifier h up. along schema database tree h.0 from above to identifier h.1 up;
+  along_a_reference = λ from above to identifier h up. along schema database tree h.0 from above to identifier h.1 up;
   lands = λ from to identifier row h hr. landing schema database tree is h.0 from to identifier row h.1 hr;
 }

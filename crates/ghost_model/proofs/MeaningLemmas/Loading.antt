@@ -4,13 +4,13 @@ use Rattle.std.proofs.Common.{◌≡◌, refl, sym, ap, subst, ℕ, zero, suc, �
 use Rattle.std.proofs.lemmas.List.{length-map}
 use Rattle.std.proofs.lemmas.Bool.{lt-leb}
 use Rattle.std.proofs.lemmas.Bool.Decides.{Decides-int_eq}
-use Rattle.ghost_model.specs.Schema.{Schema, Column, Kind, Integer, Chars, columns_of, column_at}
-use Rattle.ghost_model.specs.Values.{Value, Number, Row, Rows, Database}
-use Rattle.ghost_model.specs.Tokens.{number_of}
-use Rattle.ghost_model.specs.Database.{IsDatabase, row_of, rows_of, row_count, field, fits_integer, is_text, is_of_kind, is_row_among, is_numeral, signed_within, integer_of, value_of, row_spelled, records_of, database_of}
-use Rattle.ghost_model.specs.SchemaTrees.{IsTree, identifier}
-use Rattle.ghost_model.specs.LoadFaults
-use Rattle.ghost_model.specs.LoadFaults.{IsFirst, LoadFault, FileLimit, Header, RowLimit, FieldCount, BadId, BadInt, BadChars, BadReference, Place, unless, value_faults, field_faults, is_number, id_faults, fields_faults, row_faults, rows_faults, is_header, record_faults, file_faults, files_faults, key_faults, keys_faults, table_references, references_from, load_faults, most_rows, most_bytes}
+use Rattle.ghost_model.specs.core.Schema.{Schema, Column, Kind, Integer, Chars, columns_of, column_at}
+use Rattle.ghost_model.specs.core.Values.{Value, Number, Row, Rows, Database}
+use Rattle.ghost_model.specs.refusals.Tokens.{number_of}
+use Rattle.ghost_model.specs.core.Database.{IsDatabase, row_of, rows_of, row_count, value_at_row, fits_integer, is_text, is_of_kind, is_row_among, is_numeral, signed_within, integer_of, value_of_field, row_spelled, records_of, database_of}
+use Rattle.ghost_model.specs.laws.SchemaTrees.{IsTree, identifier}
+use Rattle.ghost_model.specs.refusals.LoadFaults
+use Rattle.ghost_model.specs.refusals.LoadFaults.{IsFirst, LoadFault, FileLimit, Header, RowLimit, FieldCount, BadId, BadInt, BadChars, BadReference, Place, unless, value_faults, field_faults, is_number, id_faults, fields_faults, row_faults, rows_faults, is_header, record_faults, file_faults, files_faults, reference_fault_in, row_reference_faults, table_references, references_from, load_faults, most_rows, most_bytes}
 
 -- two lists that make none
 pub both_empty : {X : Type 0} (xs ys : List X) → xs ++ ys ≡ [] → (xs ≡ []) × (ys ≡ [])
@@ -76,12 +76,12 @@ pub some_fits : (text : List ℕ) (o : Option ℤ) → integer_of text ≡ o →
 some_fits text None e h = let no : ⊥ = cc in absurd no
 some_fits text (Some z) e h = integer_fits text z e
 
-pub integer_is : (text : List ℕ) → is_some (integer_of text) ≡ true → is_of_kind Integer (value_of Integer text) ≡ true
+pub integer_is : (text : List ℕ) → is_some (integer_of text) ≡ true → is_of_kind Integer (value_of_field Integer text) ≡ true
 integer_is text h = some_fits text (integer_of text) refl h
 
 -- a field without a fault is of its column's kind
 pub field_is : (at : Place) (kind : Kind) (text : List ℕ) → value_faults at kind text ≡ []
-    → is_of_kind kind (value_of kind text) ≡ true
+    → is_of_kind kind (value_of_field kind text) ≡ true
 field_is at Integer text h = integer_is text (kept (is_some (integer_of text)) (BadInt at) h)
 field_is at (Chars most) text h = kept (is_text most text) (BadChars at) h
 
@@ -95,9 +95,9 @@ fields_are table rec at [] fields h place value declared hv hd = let no : ⊥ = 
 fields_are table rec at (k ∷ ks) [] h place value declared hv hd = let no : ⊥ = cc in absurd no
 fields_are table rec at (k ∷ ks) (f ∷ fs) h zero value declared hv hd =
     let p = both_empty (value_faults (LoadFaults.place table rec at) k.kind f) (field_faults table rec (at + 1) ks fs) h in
-    let v : value_of k.kind f ≡ value = ap (λ o. unwrap_or o (value_of k.kind f)) hv in
+    let v : value_of_field k.kind f ≡ value = ap (λ o. unwrap_or o (value_of_field k.kind f)) hv in
     let d : k ≡ declared = ap (λ o. unwrap_or o k) hd in
-    subst (λ w. is_of_kind declared.kind w ≡ true) v (subst (λ c. is_of_kind c.kind (value_of k.kind f) ≡ true) d (field_is (LoadFaults.place table rec at) k.kind f p.0))
+    subst (λ w. is_of_kind declared.kind w ≡ true) v (subst (λ c. is_of_kind c.kind (value_of_field k.kind f) ≡ true) d (field_is (LoadFaults.place table rec at) k.kind f p.0))
 fields_are table rec at (k ∷ ks) (f ∷ fs) h (suc place) value declared hv hd =
     let p = both_empty (value_faults (LoadFaults.place table rec at) k.kind f) (field_faults table rec (at + 1) ks fs) h in
     fields_are table rec (at + 1) ks fs p.1 place value declared hv hd
@@ -119,13 +119,13 @@ number_is n None h = cc
 number_is n (Some z) h = ap Some ((Decides-int_eq z (pos n)).0 h)
 
 pub row_kinds : (table rec : ℕ) (k : Column) (ks : List Column) (f : List ℕ) (fs : List (List ℕ))
-    → is_of_kind k.kind (value_of k.kind f) ≡ true → field_faults table rec 1 ks fs ≡ []
+    → is_of_kind k.kind (value_of_field k.kind f) ≡ true → field_faults table rec 1 ks fs ≡ []
     → (column : ℕ) (value : Value) (declared : Column) → slice_get (row_spelled (k ∷ ks) (f ∷ fs)) column ≡ Some value
     → slice_get (k ∷ ks) column ≡ Some declared → is_of_kind declared.kind value ≡ true
 row_kinds table rec k ks f fs first h zero value declared hv hd =
-    let v : value_of k.kind f ≡ value = ap (λ o. unwrap_or o (value_of k.kind f)) hv in
+    let v : value_of_field k.kind f ≡ value = ap (λ o. unwrap_or o (value_of_field k.kind f)) hv in
     let d : k ≡ declared = ap (λ o. unwrap_or o k) hd in
-    subst (λ w. is_of_kind declared.kind w ≡ true) v (subst (λ c. is_of_kind c.kind (value_of k.kind f) ≡ true) d first)
+    subst (λ w. is_of_kind declared.kind w ≡ true) v (subst (λ c. is_of_kind c.kind (value_of_field k.kind f) ≡ true) d first)
 row_kinds table rec k ks f fs first h (suc column) value declared hv hd =
     fields_are table rec 1 ks fs h column value declared hv hd
 
@@ -144,12 +144,12 @@ row_is table n (k ∷ ks) fields b h =
         let r = both_empty (id_faults table n f) (field_faults table (n + 1) 1 ks fs) none in
         let spelled = number_is n (integer_of f) (kept (is_number n (integer_of f)) (BadId (LoadFaults.place table (n + 1) 0)) r.0) in
         let of_integers : k.kind ≡ Integer = ap (λ o. (unwrap_or o k).kind) b in
-        let first : value_of Integer f ≡ Number (pos n) = ap (λ o. Number (unwrap_or o (pos 0))) spelled in
-        let first_kind : is_of_kind Integer (value_of Integer f) ≡ true = integer_is f (ap is_some spelled) in
+        let first : value_of_field Integer f ≡ Number (pos n) = ap (λ o. Number (unwrap_or o (pos 0))) spelled in
+        let first_kind : is_of_kind Integer (value_of_field Integer f) ≡ true = integer_is f (ap is_some spelled) in
         record {
           width = spelled_width (k ∷ ks) (f ∷ fs) same;
-          number = ap Some (subst (λ kind. value_of kind f ≡ Number (pos n)) (sym of_integers) first);
-          kinds = row_kinds table (n + 1) k ks f fs (subst (λ kind. is_of_kind kind (value_of kind f) ≡ true) (sym of_integers) first_kind) r.1;
+          number = ap Some (subst (λ kind. value_of_field kind f ≡ Number (pos n)) (sym of_integers) first);
+          kinds = row_kinds table (n + 1) k ks f fs (subst (λ kind. is_of_kind kind (value_of_field kind f) ≡ true) (sym of_integers) first_kind) r.1;
         }
 
 -- the rows of a file without a fault
@@ -202,23 +202,23 @@ length-database_of (d ∷ ds) (f ∷ fs) h = ap suc (length-database_of ds fs (o
 
 -- keys without a fault are identifiers of rows: of a row, of a table, of all tables
 pub keys_are : (database : Database) (table rec at : ℕ) (columns : List Column) (row : Row)
-    → keys_faults database table rec at columns row ≡ []
+    → row_reference_faults database table rec at columns row ≡ []
     → (column child : ℕ) (value : Value) (declared : Column) → slice_get row column ≡ Some value
     → slice_get columns column ≡ Some declared → declared.child ≡ Some child
     → is_row_among (row_count database child) value ≡ true
-unfolding keys_faults
+unfolding row_reference_faults
 keys_are database table rec at [] row h column child value declared hv hd hc = let no : ⊥ = cc in absurd no
 keys_are database table rec at (k ∷ ks) [] h column child value declared hv hd hc = let no : ⊥ = cc in absurd no
 keys_are database table rec at (k ∷ ks) (v ∷ vs) h zero child value declared hv hd hc =
     let spot = LoadFaults.place table rec at in
-    let p = both_empty (key_faults database spot k.child v) (keys_faults database table rec (at + 1) ks vs) h in
+    let p = both_empty (reference_fault_in database spot k.child v) (row_reference_faults database table rec (at + 1) ks vs) h in
     let it : v ≡ value = ap (λ o. unwrap_or o v) hv in
     let d : declared ≡ k = sym (ap (λ o. unwrap_or o k) hd) in
     let c : k.child ≡ Some child = subst (λ (w : Column). w.child ≡ Some child) d hc in
-    let none : key_faults database spot (Some child) v ≡ [] = subst (λ w. key_faults database spot w v ≡ []) c p.0 in
+    let none : reference_fault_in database spot (Some child) v ≡ [] = subst (λ w. reference_fault_in database spot w v ≡ []) c p.0 in
     subst (λ w. is_row_among (row_count database child) w ≡ true) it (kept (is_row_among (row_count database child) v) (BadReference spot) none)
 keys_are database table rec at (k ∷ ks) (v ∷ vs) h (suc column) child value declared hv hd hc =
-    let p = both_empty (key_faults database (LoadFaults.place table rec at) k.child v) (keys_faults database table rec (at + 1) ks vs) h in
+    let p = both_empty (reference_fault_in database (LoadFaults.place table rec at) k.child v) (row_reference_faults database table rec (at + 1) ks vs) h in
     keys_are database table rec (at + 1) ks vs p.1 column child value declared hv hd hc
 
 pub row_keys_are : (database : Database) (table rec : ℕ) (columns : List Column) (rows : Rows)
@@ -230,11 +230,11 @@ pub row_keys_are : (database : Database) (table rec : ℕ) (columns : List Colum
 unfolding table_references
 row_keys_are database table rec columns [] h place row hr column child value declared hv hd hc = let no : ⊥ = cc in absurd no
 row_keys_are database table rec columns (r ∷ rs) h zero row hr column child value declared hv hd hc =
-    let p = both_empty (keys_faults database table rec 0 columns r) (table_references database table (rec + 1) columns rs) h in
+    let p = both_empty (row_reference_faults database table rec 0 columns r) (table_references database table (rec + 1) columns rs) h in
     let it : row ≡ r = sym (ap (λ o. unwrap_or o r) hr) in
     keys_are database table rec 0 columns r p.0 column child value declared (subst (λ w. slice_get w column ≡ Some value) it hv) hd hc
 row_keys_are database table rec columns (r ∷ rs) h (suc place) row hr column child value declared hv hd hc =
-    let p = both_empty (keys_faults database table rec 0 columns r) (table_references database table (rec + 1) columns rs) h in
+    let p = both_empty (row_reference_faults database table rec 0 columns r) (table_references database table (rec + 1) columns rs) h in
     row_keys_are database table (rec + 1) columns rs p.1 place row hr column child value declared hv hd hc
 
 pub table_keys_are : (database : Database) (table : ℕ) (schema : Schema) (later : Database)
@@ -267,7 +267,7 @@ in_row None column value h = let no : ⊥ = cc in absurd no
 in_row (Some row) column value h = (row, refl, h)
 
 pub found : (database : Database) (table identifier column : ℕ) (value : Value)
-    → field database table identifier column ≡ Some value → Found database table identifier column value
+    → value_at_row database table identifier column ≡ Some value → Found database table identifier column value
 found database table zero column value h = let no : ⊥ = cc in absurd no
 found database table (suc place) column value h =
     let p = in_row (slice_get (rows_of database table) place) column value h in

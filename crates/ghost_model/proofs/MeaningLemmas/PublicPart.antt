@@ -3,18 +3,20 @@ use Rattle.std.proofs.Common.{◌≡◌, refl, sym, ap, ◌∙◌, subst, ℕ, z
 use Rattle.std.proofs.lemmas.List.{length-map, length-drop}
 use Rattle.std.proofs.lemmas.Option.{slice_get-map}
 use Rattle.std.specs.Option.{option_map}
-use Rattle.ghost_model.specs.Schema.{Schema, Column, Table, columns_of, columns_or_none}
-use Rattle.ghost_model.specs.Values.{Value, Row, Database}
-use Rattle.ghost_model.specs.Channel.{Catalog}
-use Rattle.ghost_model.specs.Database.{IsDatabase, is_of_kind, rows_or_none, rows_of, row_counts}
-use Rattle.ghost_model.specs.Split.{hidden_flags, visible_values, rows_by, tables_by, public_of, is_open, kind_of, visible_kinds, are_of_kinds, IsPublic}
+use Rattle.ghost_model.specs.core.Schema.{Schema, Column, Table, columns_of, columns_or_none}
+use Rattle.ghost_model.specs.core.Values.{Value, Row, Rows, Database}
+use Rattle.ghost_model.specs.core.Channel.{Catalog}
+use Rattle.ghost_model.specs.core.Database.{IsDatabase, is_of_kind, rows_or_none, rows_of, row_counts}
+use Rattle.ghost_model.specs.core.Split.{public_of, is_open, kind_of_column, visible_kinds, are_of_kinds, IsPublic}
+use Rattle.ghost_model.specs.laws.SplitByFlags.{hidden_flags, visible_values, rows_by, tables_by}
+use Rattle.ghost_model.proofs.MeaningLemmas.PartsByFlags.{visible_parts}
 
 -- each value is of its column's kind
 abbrev pub AreOfKinds : List Column → Row → Type 0
 AreOfKinds columns values = (place : ℕ) (value : Value) (declared : Column) → slice_get values place ≡ Some value → slice_get columns place ≡ Some declared → is_of_kind declared.kind value ≡ true
 
 pub kinds_of_visible : (columns : List Column) (values : Row) → length values ≡ length columns → AreOfKinds columns values
-    → are_of_kinds (map kind_of (filter is_open columns)) (visible_values (map (λ (column : Column). column.hidden) columns) values) ≡ true
+    → are_of_kinds (map kind_of_column (filter is_open columns)) (visible_values (map (λ (column : Column). column.hidden) columns) values) ≡ true
 kinds_of_visible [] [] same are = refl
 kinds_of_visible [] (v ∷ vs) same are = let bad : ⊥ = cc in absurd bad
 kinds_of_visible (c ∷ cs) [] same are = let bad : ⊥ = cc in absurd bad
@@ -22,9 +24,9 @@ kinds_of_visible (c ∷ cs) (v ∷ vs) same are =
     let later = kinds_of_visible cs vs (omega arith) (λ place. are (suc place)) in
     let flags = map (λ (column : Column). column.hidden) cs in
     let first : is_of_kind c.kind v ≡ true = are 0 v c refl refl in
-    (elim (c.hidden) as (λ h. are_of_kinds (map kind_of (cond (not h) (c ∷ filter is_open cs) (filter is_open cs))) (visible_values (h ∷ flags) (v ∷ vs)) ≡ true) [
+    (elim (c.hidden) as (λ h. are_of_kinds (map kind_of_column (cond (not h) (c ∷ filter is_open cs) (filter is_open cs))) (visible_values (h ∷ flags) (v ∷ vs)) ≡ true) [
       | true ↦ later
-      | false ↦ ap (λ b. b && are_of_kinds (map kind_of (filter is_open cs)) (visible_values flags vs)) first ∙ later
+      | false ↦ ap (λ b. b && are_of_kinds (map kind_of_column (filter is_open cs)) (visible_values flags vs)) first ∙ later
     ])
 
 -- the kinds of a row without its identifier
@@ -62,10 +64,10 @@ mapped_row f (Some whole) row h = (whole, refl, ap (λ o. unwrap_or o (f whole))
 pub goes_with : (cat : Catalog) (database : Database) → IsDatabase cat.schema database
     → row_counts database ≡ cat.counts → IsPublic cat (public_of cat.schema database)
 goes_with cat database is counts = record {
-  counted = counts_of_tables visible_values cat.schema database is.tables ∙ counts;
+  counted = ap (λ (tables : List Rows). map length tables) (visible_parts cat.schema database) ∙ counts_of_tables visible_values cat.schema database is.tables ∙ counts;
   kinds = λ table place declared row hd hr.
       let part = λ (whole : Row). visible_values (hidden_flags declared.columns) (drop 1 whole) in
-      let rows = rows_in_tables visible_values cat.schema database table declared hd in
+      let rows = ap (λ (tables : List Rows). rows_or_none (slice_get tables table)) (visible_parts cat.schema database) ∙ rows_in_tables visible_values cat.schema database table declared hd in
       let at : slice_get (rows_by visible_values declared.columns (rows_of database table)) place ≡ Some row =
       subst (λ w. slice_get w place ≡ Some row) rows hr in
       let found = mapped_row part (slice_get (rows_of database table) place) row (sym (slice_get-map part (rows_of database table) place) ∙ at) in

@@ -4,11 +4,12 @@ use Rattle.std.proofs.Common.{◌≡◌, ℕ, inl, inr, Bool, true, false, not, 
 use Rattle.std.specs.Prelude.{◌==◌, option_to_list, option_and_then}
 use Rattle.std.specs.List.{list_all, list_any}
 use Rattle.std.proofs.lemmas.Bool.{eqb-true, eq-eqb}
-use Rattle.ghost_model.specs.Schema.{Schema, Column, columns_of, column_at, places_where, is_table, is_shown, is_visible}
-use Rattle.ghost_model.specs.SchemaTrees.{IsTree}
-use Rattle.ghost_model.specs.Query.{Query, Field, Condition, Compare, Join, AtMost, AtLeast}
-use Rattle.ghost_model.specs.QueryGrammar.{ColumnText, Bare, Qualified, ConditionText, Compares, LiesBetween, Joins, Selection, All, Columns, QueryText}
-use Rattle.ghost_model.specs.QueryMeaning.{field, value_of, column_named, table_named, fields_named, fields_of, is_among, meanings, conditions_of, selected, resolved, has_repeat, top_of, is_key_to, is_proper, lacks_join, columns_in, Ambiguous, NotLinked, Means}
+use Rattle.ghost_model.specs.core.Schema.{Schema, Column, columns_of, column_at, places_where, is_table, is_shown, is_visible}
+use Rattle.ghost_model.specs.laws.SchemaTrees.{IsTree}
+use Rattle.ghost_model.specs.core.Query.{Query, Field, Condition, Compare, Join, AtMost, AtLeast, is_among, top_of}
+use Rattle.ghost_model.specs.refusals.QueryGrammar.{ColumnText, Bare, Qualified, ConditionText, Compares, LiesBetween, Joins, Selection, All, Columns, QueryText}
+use Rattle.ghost_model.specs.refusals.QueryMeaning.{field, value_of_literal, column_named, table_named, fields_named, fields_of, meanings, conditions_of, selected_fields, resolved, has_repeat, is_reference_to, is_proper, lacks_join, columns_in, Means}
+use Rattle.ghost_model.proofs.QueryReadingLemmas.{kept_rules}
 use Rattle.ghost_model.proofs.ChannelLemmas.Tests.{false_is_not, BothHold, both_hold}
 use Rattle.ghost_model.proofs.MeaningLemmas.OneRow.{Among, Distinct, from_filter, child_is, either_true, neither_true}
 
@@ -67,7 +68,7 @@ module _ (schema : Schema) (from : List ℕ) where
   conditions_from (Compares column operator literal) =
       each_mapped ComparesFrom IsFrom (λ meant. Compare meant operator _) (meanings schema from column) (λ one h. h) (meanings_from column)
   conditions_from (LiesBetween column low high) =
-      two_from (meanings schema from column) (λ meant. Compare meant AtLeast (value_of low) ∷ Compare meant AtMost (value_of high) ∷ []) (λ one h. (h, (h, tt))) (meanings_from column)
+      two_from (meanings schema from column) (λ meant. Compare meant AtLeast (value_of_literal low) ∷ Compare meant AtMost (value_of_literal high) ∷ []) (λ one h. (h, (h, tt))) (meanings_from column)
   conditions_from (Joins left right) =
       each_flat ComparesFrom (λ meant. map (Join meant) (meanings schema from right)) (meanings schema from left)
       (λ one a. joins_from one (meanings schema from right))
@@ -79,7 +80,7 @@ module _ (schema : Schema) (from : List ℕ) where
   fields_from table [] h = tt
   fields_from table (column ∷ columns) h = (h, fields_from table columns h)
 
-  selected_from : (selection : Selection) → Each IsFrom (selected schema from selection)
+  selected_from : (selection : Selection) → Each IsFrom (selected_fields schema from selection)
   selected_from All = each_flat IsFrom (fields_of schema) from (λ table h. fields_from table (places_where (λ column. true) (columns_of schema table)) h)
   selected_from (Columns column more) = each_flat IsFrom (meanings schema from) (column ∷ more) (λ one a. meanings_from one)
 
@@ -99,9 +100,9 @@ module _ (schema : Schema) (tree : IsTree schema) where
   key_in : (key : Field) (table : ℕ) (o : Option Column) → column_at schema key.table key.column ≡ o → is_table table (option_and_then (λ (column : Column). column.child) o) ≡ true → is_shown o ≡ false
   key_in key table None at h = absurd (false_is_not h)
   key_in key table (Some declared) at h =
-      ap not (tree.keys_are_hidden key.table key.column table declared at (child_is table declared.child h))
+      ap not (tree.references_are_hidden key.table key.column table declared at (child_is table declared.child h))
 
-  key_unseen : (key identifier : Field) → is_key_to schema key identifier ≡ true → IsUnseen schema key × IsUnseen schema identifier
+  key_unseen : (key identifier : Field) → is_reference_to schema key identifier ≡ true → IsUnseen schema key × IsUnseen schema identifier
   key_unseen key identifier h =
       let both : BothHold (is_table identifier.table (option_and_then (λ (column : Column). column.child) (column_at schema key.table key.column))) (identifier.column == 0) = both_hold _ _ h in (
         and_false (nat_lt 0 key.column) (is_shown (column_at schema key.table key.column)) (key_in key identifier.table (column_at schema key.table key.column) refl both.one),
@@ -111,7 +112,7 @@ module _ (schema : Schema) (tree : IsTree schema) where
   join_unseen : (condition : Condition) → is_proper schema condition ≡ true → JoinsUnseen schema condition
   join_unseen (Compare one operator value) h = tt
   join_unseen (Join left right) h =
-      (elim (either_true (is_key_to schema left right) (is_key_to schema right left) h) [
+      (elim (either_true (is_reference_to schema left right) (is_reference_to schema right left) h) [
         | inl e ↦ key_unseen left right e
         | inr e ↦ (let k = key_unseen right left e in (k.1, k.0))
       ])
@@ -160,7 +161,8 @@ sound_tree schema tree text once proper = record {
 pub query_is_sound : (schema : Schema) (text : List ℕ) (asked : Query) → IsTree schema → Means schema text asked → IsSound schema asked
 query_is_sound schema text asked tree means =
     let it : Query = resolved schema means.tree in
-    let once = neither_true (has_repeat it.from) (list_any (λ column. nat_lt 1 (length (meanings schema it.from column))) (columns_in means.tree)) (means.keeps Ambiguous) in
-    let joined = neither_true (not (list_all (is_proper schema) it.conditions) || is_none (top_of schema it)) (list_any (lacks_join schema it) it.from) (means.keeps NotLinked) in
+    let kept = kept_rules schema text means.tree means.keeps in
+    let once = neither_true (has_repeat it.from) (list_any (λ column. nat_lt 1 (length (meanings schema it.from column))) (columns_in means.tree)) kept.one_meaning in
+    let joined = neither_true (not (list_all (is_proper schema) it.conditions) || is_none (top_of schema it)) (list_any (lacks_join schema it) it.from) kept.linked in
     let proper = neither_true (not (list_all (is_proper schema) it.conditions)) (is_none (top_of schema it)) joined.0 in
     subst (λ (q : Query). IsSound schema q) (sym means.means) (sound_tree schema tree means.tree once.0 (not_false _ proper.0))

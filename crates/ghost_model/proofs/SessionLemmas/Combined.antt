@@ -1,28 +1,32 @@
 -- That from the hidden part and whole replies follows the answer: combination by combination.
 use Rattle.std.proofs.Common.{◌≡◌, ℕ, zero, suc, ◌+◌, ◌<◌, ◌≤◌, inl, inr, Bool, true, false, not, ◌&&◌, ◌||◌, List, [], ◌∷◌, ◌++◌, length, map, filter, flat_map, sym, ◌∙◌, ap, subst, refl, arith, Option, Some, None, slice_get, unwrap_or}
-use Rattle.std.specs.Prelude.{◌==◌, filter_map, if◌then◌else◌, option_and_then}
-use Rattle.std.specs.List.{list_all, list_any, cons_option}
+use Rattle.std.specs.Prelude.{◌==◌, if◌then◌else◌, option_and_then}
+use Rattle.std.specs.List.{list_all, list_any, range_with_len}
 use Rattle.std.proofs.lemmas.List.{length-map}
 use Rattle.std.proofs.lemmas.List.Folds.{list_all-append}
 use Rattle.std.proofs.lemmas.Bool.Decides.{nat_tests}
 use Rattle.std.proofs.lemmas.Bool.{eqb-true}
-use Rattle.ghost_model.specs.Schema.{Schema, is_visible, parent}
-use Rattle.ghost_model.specs.SchemaTrees.{IsTree}
-use Rattle.ghost_model.specs.Values.{Value, Row, Rows, Database}
-use Rattle.ghost_model.specs.Query.{Query, Field, Condition, Compare, Join, Operator}
-use Rattle.ghost_model.specs.Query as query
-use Rattle.ghost_model.specs.QueryMeaning.{top_of, only, is_some_among, Means}
-use Rattle.ghost_model.specs.Channel.{Test}
-use Rattle.ghost_model.specs.Asks.{test_of, tests_of, is_field}
-use Rattle.ghost_model.specs.Database.{rows_of, row_of, row_numbered, IsDatabase}
-use Rattle.ghost_model.specs.Split.{Hidden, hidden_values, hidden_of, public_of, meets_test}
-use Rattle.ghost_model.specs.Meaning.{Chosen, choice, Combination, combinations, row_in, value_in, compares, is_true_in, passes, projection, others_of, answer_of_row, answer_from_top, answer_or_none, answer}
-use Rattle.ghost_model.specs.Replies as replies
-use Rattle.ghost_model.specs.Replies.{Reply, Pick, pick, picks, identifiers_from, identifiers_of, known_value, known_in, is_true_or_asked, stands_in_reply, is_kept, answer_of_pick, answer_from}
-use Rattle.ghost_model.specs.SessionLaws.{whole_replies}
+use Rattle.ghost_model.specs.core.Schema.{Schema, is_visible, parent}
+use Rattle.ghost_model.specs.laws.SchemaTrees.{IsTree}
+use Rattle.ghost_model.specs.core.Values.{Value, Row, Rows, Database}
+use Rattle.ghost_model.specs.core.Query.{Query, Field, Condition, Compare, Join, Operator, top_of, only, is_some_among}
+use Rattle.ghost_model.specs.core.Query as query
+use Rattle.ghost_model.specs.refusals.QueryMeaning.{Means}
+use Rattle.ghost_model.specs.core.Channel.{Test}
+use Rattle.ghost_model.specs.core.Asks.{test_of, tests_of, is_field}
+use Rattle.ghost_model.specs.core.Database.{rows_or_none, rows_of, row_of, row_count, IsDatabase}
+use Rattle.ghost_model.specs.core.Split.{Hidden, hidden_of, public_of, meets_test}
+use Rattle.ghost_model.specs.core.Meaning as meaning
+use Rattle.ghost_model.specs.core.Meaning.{Pick, pick, combinations, compares, no_value, others_of, all_of, answer_by_top, answer}
+use Rattle.ghost_model.proofs.MeaningLemmas.PartsByFlags.{hidden_rows_at}
+use Rattle.ghost_model.specs.core.Replies as replies
+use Rattle.ghost_model.specs.core.Replies.{Reply, known_value, known, answer_from}
+use Rattle.ghost_model.specs.laws.SessionLaws.{whole_replies}
 use Rattle.ghost_model.proofs.ChannelLemmas.Tests.{false_is_not, BothHold, both_hold, hold_both}
+use Rattle.ghost_model.proofs.MeaningLemmas.Picks.{picks, identifiers_of, known_in, is_true_or_asked, stands_in_reply, is_kept, answer_of_pick}
+use Rattle.ghost_model.proofs.MeaningLemmas.ByRows as by_row
+use Rattle.ghost_model.proofs.MeaningLemmas.ByRows.{Chosen, choice, Combination, row_combinations, row_in, value_in, is_true_in, passes, projection, answer_of_row, mapped_twice, by_rows}
 use Rattle.ghost_model.proofs.MeaningLemmas.OneRow.{Among, Distinct, among-filter, from_filter, not_equal}
-use Rattle.ghost_model.proofs.SessionLemmas.Values.{parts_at}
 use Rattle.ghost_model.proofs.SessionLemmas.Whole.{stands_by, stands_in_is, known_is}
 use Rattle.ghost_model.proofs.SessionLemmas.Accepted.{Each, each_is, ComparesFrom, JoinsUnseen, IsSound, query_is_sound}
 
@@ -48,14 +52,6 @@ same_filtered {Z} P h p q f g (x ∷ xs) tests values each =
       | true ↦ λ e. ap (λ (z : Z). z ∷ map f (filter p xs)) (values x each.0 e) ∙ ap (λ (zs : List Z). g (h x) ∷ zs) later
       | false ↦ λ e. later
     ]) refl
-
-mapped_joined : {X Y : Type 0} (f : X → Y) (xs ys : List X) → map f (xs ++ ys) ≡ map f xs ++ map f ys
-mapped_joined f [] ys = refl
-mapped_joined {X} {Y} f (x ∷ xs) ys = ap (λ (zs : List Y). f x ∷ zs) (mapped_joined f xs ys)
-
-mapped_twice : {X Y Z W : Type 0} (f : X → Y) (g : Y → Z) (k : X → W) (l : W → Z) (xs : List X) → ((x : X) → g (f x) ≡ l (k x)) → map g (map f xs) ≡ map l (map k xs)
-mapped_twice f g k l [] h = refl
-mapped_twice {X} {Y} {Z} {W} f g k l (x ∷ xs) h = ap (λ (z : Z). z ∷ map g (map f xs)) (h x) ∙ ap (λ (zs : List Z). l (k x) ∷ zs) (mapped_twice f g k l xs h)
 
 each_joined : {X : Type 0} (P : X → Type 0) (xs ys : List X) → Each P xs → Each P ys → Each P (xs ++ ys)
 each_joined P [] ys e f = f
@@ -101,20 +97,6 @@ field_selected f (first ∷ select) (inr later) = either (is_field f.table f.col
 met_as : (column : ℕ) (operator : Operator) (value : Value) (found : Option Value) → meets_test (record { column = column; operator = operator; value = value }) found ≡ compares operator found (Some value)
 met_as column operator value None = refl
 met_as column operator value (Some found) = refl
-
--- so many identifiers stand for these rows
-rows_from : (all rows : Rows) (before : ℕ) → ((place : ℕ) → slice_get all (before + place) ≡ slice_get rows place) → map (λ (identifier : ℕ). unwrap_or (row_numbered all identifier) []) (identifiers_from (suc before) (length rows)) ≡ rows
-unfolding identifiers_from
-rows_from all [] before at = refl
-rows_from all (row ∷ rows) before at =
-    let zeroth : before ≡ before + 0 = omega arith in
-    let one : unwrap_or (slice_get all before) [] ≡ row =
-    ap (λ (n : ℕ). unwrap_or (slice_get all n) []) zeroth ∙ ap (λ (o : Option Row). unwrap_or o []) (at 0) in
-    let next : suc before + 1 ≡ suc (suc before) = omega arith in
-    let later : map (λ (identifier : ℕ). unwrap_or (row_numbered all identifier) []) (identifiers_from (suc (suc before)) (length rows)) ≡ rows =
-    rows_from all rows (suc before) (λ place. let moved : suc before + place ≡ before + suc place = omega arith in ap (λ (n : ℕ). slice_get all n) moved ∙ at (suc place)) in
-    ap (λ (r : Row). r ∷ map (λ (identifier : ℕ). unwrap_or (row_numbered all identifier) []) (identifiers_from (suc before + 1) (length rows))) one
-    ∙ ap (λ (rs : Rows). row ∷ rs) (ap (λ (n : ℕ). map (λ (identifier : ℕ). unwrap_or (row_numbered all identifier) []) (identifiers_from n (length rows))) next ∙ later)
 
 module _ (schema : Schema) (database : Database) (is : IsDatabase schema database) (asked : Query) where
   abbrev kept : Hidden
@@ -342,44 +324,38 @@ module _ (schema : Schema) (database : Database) (is : IsDatabase schema databas
         sound.joined (λ condition a. a) both.other)
         (λ h. hold_both _ _ (stand_all combination picked.there (kept_stands combination picked h)) (all_asked combination asked.conditions picked.there sound.joined h))
 
-    values_are : (combination : List Pick) (select : List Field) → Each IsThere combination → Each Stands combination → ((f : Field) → Among f select → Among f asked.select) → filter_map (known_in schema kept given combination) select ≡ projection select (map chosen combination)
+    values_are : (combination : List Pick) (select : List Field) → Each IsThere combination → Each Stands combination → ((f : Field) → Among f select → Among f asked.select) → map (λ column. unwrap_or (known_in schema kept given combination column) no_value) select ≡ projection select (map chosen combination)
     values_are combination [] there stand among = refl
     values_are combination (f ∷ select) there stand among =
-        ap (λ (o : Option Value). cons_option o (filter_map (known_in schema kept given combination) select))
+        ap (λ (o : Option Value). unwrap_or o no_value ∷ map (λ column. unwrap_or (known_in schema kept given combination column) no_value) select)
         (known_agrees combination f there (λ v. (stand, field_selected f asked.select (among f (inl refl)))))
-        ∙ ap (λ (values : Row). cons_option (value_in (map chosen combination) f) values) (values_are combination select there stand (λ g a. among g (inr a)))
+        ∙ ap (λ (values : Row). unwrap_or (value_in (map chosen combination) f) no_value ∷ values) (values_are combination select there stand (λ g a. among g (inr a)))
 
     -- the same rows from picks and from rows
     same_rows :
         (combinations : List (List Pick)) → Each (IsPicked tables) combinations
-        → map (λ combination. filter_map (known_in schema kept given combination) asked.select) (filter (is_kept schema kept given asked.conditions) combinations)
+        → map (λ combination. map (λ column. unwrap_or (known_in schema kept given combination column) no_value) asked.select) (filter (is_kept schema kept given asked.conditions) combinations)
         ≡ map (projection asked.select) (filter (passes asked.conditions) (map (map chosen) combinations))
     same_rows combinations each =
         same_filtered (IsPicked tables) (map chosen) (is_kept schema kept given asked.conditions) (passes asked.conditions)
-        (λ combination. filter_map (known_in schema kept given combination) asked.select) (projection asked.select) combinations kept_is
+        (λ combination. map (λ column. unwrap_or (known_in schema kept given combination column) no_value) asked.select) (projection asked.select) combinations kept_is
         (λ combination picked h. values_are combination asked.select picked.there (kept_stands combination picked h) (λ f a. a)) each
 
   -- the identifiers of a table are those of its rows
-  abbrev row_numbered_so : ℕ → ℕ → Row
-  row_numbered_so table identifier = unwrap_or (row_of database table identifier) []
+  many : (table : ℕ) → length (rows_or_none (slice_get kept.hidden table)) ≡ row_count database table
+  many table =
+      ap (λ (rows : Rows). length rows) (hidden_rows_at schema database is.tables table)
+      ∙ length-map (rows_of database table) _
 
-  how_many : (table : ℕ) → identifiers_of kept table ≡ identifiers_from 1 (length (rows_of database table))
-  how_many table =
-      ap (λ (rows : Rows). identifiers_from 1 (length rows)) (parts_at hidden_values schema database is.tables table)
-      ∙ ap (λ (n : ℕ). identifiers_from 1 n) (length-map (rows_of database table) _)
+  how_many : (table : ℕ) → identifiers_of kept table ≡ range_with_len 1 (length (rows_of database table))
+  how_many table = ap (λ (n : ℕ). range_with_len 1 n) (many table)
 
-  rows_are : (table : ℕ) → map (row_numbered_so table) (identifiers_of kept table) ≡ rows_of database table
-  rows_are table =
-      ap (λ (identifiers : List ℕ). map (row_numbered_so table) identifiers) (how_many table)
-      ∙ rows_from (rows_of database table) (rows_of database table) 0 (λ place. let same : 0 + place ≡ place = omega arith in ap (λ (n : ℕ). slice_get (rows_of database table) n) same)
-
-  there_from : (table : ℕ) → Among table asked.from → (count before : ℕ) → before + count ≤ length (rows_of database table) → Each (λ (identifier : ℕ). IsThere (pick table identifier)) (identifiers_from (suc before) count)
-  unfolding identifiers_from
+  there_from : (table : ℕ) → Among table asked.from → (count before : ℕ) → before + count ≤ length (rows_of database table) → Each (λ (identifier : ℕ). IsThere (pick table identifier)) (range_with_len (suc before) count)
   there_from table from zero before h = tt
   there_from table from (suc count) before h =
       let next : suc before + 1 ≡ suc (suc before) = omega arith in (
         record { place = before; numbered = refl; stands = there_is (rows_of database table) before [] (omega (arith, h)); from = from },
-        subst (λ (n : ℕ). Each (λ (identifier : ℕ). IsThere (pick table identifier)) (identifiers_from n count)) (sym next)
+        subst (λ (n : ℕ). Each (λ (identifier : ℕ). IsThere (pick table identifier)) (range_with_len n count)) (sym next)
             (there_from table from count (suc before) (omega (arith, h))),
       )
 
@@ -393,7 +369,7 @@ module _ (schema : Schema) (database : Database) (is : IsDatabase schema databas
       record { there = (there, picked.there); tables_are = ap (λ (ts : List ℕ). table ∷ ts) picked.tables_are }
 
   all_picked : (tables : List ℕ) → ((table : ℕ) → Among table tables → Among table asked.from) → Each (IsPicked tables) (picks kept tables)
-  unfolding picks
+  unfolding combinations
   all_picked [] from = (record { there = tt; tables_are = refl }, tt)
   all_picked (table ∷ tables) from =
       each_flat (IsPicked (table ∷ tables)) (λ (identifier : ℕ). IsThere (pick table identifier))
@@ -405,24 +381,10 @@ module _ (schema : Schema) (database : Database) (is : IsDatabase schema databas
       (all_there table (from table (inl refl)))
 
   -- combinations of rows are those of picks
-  product_same :
-      (table : ℕ) (rest : List (List Pick)) (identifiers : List ℕ)
-      → flat_map (λ row. map (λ others. choice table row ∷ others) (map (map chosen) rest)) (map (row_numbered_so table) identifiers)
-      ≡ map (map chosen) (flat_map (λ identifier. map (λ others. pick table identifier ∷ others) rest) identifiers)
-  product_same table rest [] = refl
-  product_same table rest (identifier ∷ identifiers) =
-      ap (λ (xs : List Combination). xs ++ flat_map (λ row. map (λ others. choice table row ∷ others) (map (map chosen) rest)) (map (row_numbered_so table) identifiers))
-      (mapped_twice (map chosen) (λ others. choice table (row_numbered_so table identifier) ∷ others) (λ others. pick table identifier ∷ others) (map chosen) rest (λ others. refl))
-      ∙ (ap (λ (xs : List Combination). map (map chosen) (map (λ others. pick table identifier ∷ others) rest) ++ xs) (product_same table rest identifiers)
-      ∙ sym (mapped_joined (map chosen) (map (λ others. pick table identifier ∷ others) rest) (flat_map (λ other. map (λ others. pick table other ∷ others) rest) identifiers)))
-
-  combinations_are : (tables : List ℕ) → combinations database tables ≡ map (map chosen) (picks kept tables)
-  unfolding picks combinations
-  combinations_are [] = refl
-  combinations_are (table ∷ tables) =
-      ap (λ (rows : Rows). flat_map (λ row. map (λ others. choice table row ∷ others) (combinations database tables)) rows) (sym (rows_are table))
-      ∙ (ap (λ (rest : List Combination). flat_map (λ row. map (λ others. choice table row ∷ others) rest) (map (row_numbered_so table) (identifiers_of kept table))) (combinations_are tables)
-      ∙ product_same table (picks kept tables) (identifiers_of kept table))
+  combinations_are : (tables : List ℕ) → row_combinations database tables ≡ map (map chosen) (picks kept tables)
+  combinations_are tables =
+      by_row.combinations_are database tables
+      ∙ ap (λ (count : ℕ → ℕ). map (map chosen) (combinations count tables)) (λ i table. sym (many table) i)
 
   -- the tables of a query with a top table
   others_within : (top table : ℕ) → Among table asked.from → Among table (top ∷ others_of top asked.from)
@@ -445,29 +407,31 @@ module _ (schema : Schema) (database : Database) (is : IsDatabase schema databas
     abbrev tables : List ℕ
     tables = top ∷ others
 
-    same_answer_of : (identifier : ℕ) → IsThere (pick top identifier) → answer_of_pick schema kept asked given top identifier ≡ answer_of_row top database asked (row_numbered_so top identifier)
+    same_answer_of : (identifier : ℕ) → IsThere (pick top identifier) → answer_of_pick schema kept asked given top identifier ≡ meaning.answer_of_row (all_of database) asked top identifier
     same_answer_of identifier there =
+        let row : Row = row_at (pick top identifier) in
         same_rows sound tables (others_distinct top sound.distinct) (others_within top)
         (map (λ rest. pick top identifier ∷ rest) (picks kept others))
         (each_mapped (IsPicked tables) (IsPicked others) (λ rest. pick top identifier ∷ rest) (picks kept others)
         (λ rest picked. picked_more top identifier others rest there picked)
         (all_picked others (λ table a. (from_filter (λ other. not (other == top)) table asked.from a).0)))
         ∙ ap (λ (xs : List Combination). map (projection asked.select) (filter (passes asked.conditions) xs))
-        (sym (ap (λ (xs : List Combination). map (λ rest. choice top (row_numbered_so top identifier) ∷ rest) xs) (combinations_are others)
-        ∙ mapped_twice (map chosen) (λ rest. choice top (row_numbered_so top identifier) ∷ rest) (λ rest. pick top identifier ∷ rest) (map chosen) (picks kept others) (λ rest. refl)))
+        (sym (ap (λ (xs : List Combination). map (λ rest. choice top row ∷ rest) xs) (combinations_are others)
+        ∙ mapped_twice (map chosen) (λ rest. choice top row ∷ rest) (λ rest. pick top identifier ∷ rest) (map chosen) (picks kept others) (λ rest. refl)))
+        ∙ sym (by_rows database asked top identifier row (ap (row_of database top) there.numbered ∙ there.stands))
 
-    same_answers : (identifiers : List ℕ) → Each (λ (identifier : ℕ). IsThere (pick top identifier)) identifiers → flat_map (answer_of_pick schema kept asked given top) identifiers ≡ flat_map (answer_of_row top database asked) (map (row_numbered_so top) identifiers)
+    same_answers : (identifiers : List ℕ) → Each (λ (identifier : ℕ). IsThere (pick top identifier)) identifiers → flat_map (answer_of_pick schema kept asked given top) identifiers ≡ flat_map (meaning.answer_of_row (all_of database) asked top) identifiers
     same_answers [] there = refl
     same_answers (identifier ∷ identifiers) there =
         ap (λ (rows : List Row). rows ++ flat_map (answer_of_pick schema kept asked given top) identifiers) (same_answer_of identifier there.0)
-        ∙ ap (λ (rows : List Row). answer_of_row top database asked (row_numbered_so top identifier) ++ rows) (same_answers identifiers there.1)
+        ∙ ap (λ (rows : List Row). meaning.answer_of_row (all_of database) asked top identifier ++ rows) (same_answers identifiers there.1)
 
-    same_answer : replies.answer_from_top schema kept asked given (Some top) ≡ answer_from_top top database asked
+    same_answer : answer_by_top (known schema kept given) asked (Some top) ≡ answer_by_top (all_of database) asked (Some top)
     same_answer =
         same_answers (identifiers_of kept top) (all_there top from)
-        ∙ ap (λ (rows : Rows). flat_map (answer_of_row top database asked) rows) (rows_are top)
+        ∙ ap (λ (identifiers : List ℕ). flat_map (meaning.answer_of_row (all_of database) asked top) identifiers) (how_many top)
 
-  by_top : IsSound schema asked → (o : Option ℕ) → top_of schema asked ≡ o → replies.answer_from_top schema kept asked given o ≡ answer_or_none o database asked
+  by_top : IsSound schema asked → (o : Option ℕ) → top_of schema asked ≡ o → answer_by_top (known schema kept given) asked o ≡ answer_by_top (all_of database) asked o
   by_top sound None e = refl
   by_top sound (Some top) e =
       same_answer sound top

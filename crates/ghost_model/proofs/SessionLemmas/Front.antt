@@ -4,11 +4,11 @@ use Rattle.std.proofs.Common.{◌≡◌, ℕ, suc, ◌+◌, ◌≤◌, Bool, tru
 use Rattle.std.specs.Prelude.{◌==◌, if◌then◌else◌, flat_map}
 use Rattle.std.proofs.lemmas.Grind.{flat_map-append}
 use Rattle.std.proofs.lemmas.List.{length-map}
-use Rattle.ghost_model.specs.Channel.{Catalog, Frame, Hello, Asking, More, Bye, Welcome, Replied, Done, Sorry}
-use Rattle.ghost_model.specs.Asks.{Asked, ask_payload}
-use Rattle.ghost_model.specs.Frames.{frame_in}
-use Rattle.ghost_model.specs.NextMove.{Awaits, Missing, Reply, Nothing, Verdict, Short, Whole, Invalid, verdict, Turn, on_with, of_later_texts, still, turn_of_greeting, turn_of_reply, turn, Ended, ended_by_frame, ended_by, Heard, heard_frame, heard_as, hear, hear_all, at_first, heard}
-use Rattle.ghost_model.specs.Lines.{is_refused_by, was_refused}
+use Rattle.ghost_model.specs.core.Channel.{Catalog, Frame, HelloFrame, AskFrame, MoreFrame, ByeFrame, WelcomeFrame, RowsFrame, DoneFrame, SorryFrame}
+use Rattle.ghost_model.specs.core.Asks.{NumberedAsk, ask_payload}
+use Rattle.ghost_model.specs.forms.Frames.{frame_in}
+use Rattle.ghost_model.specs.core.NextMove.{Awaits, AwaitsCatalog, AwaitsReply, AwaitsNothing, Verdict, Lacking, Complete, Invalid, verdict, FrameOutcome, ask_next, of_later_texts, still, turn_of_greeting, turn_of_reply, after_frame, EndedAsk, ended_by_frame, ended_by, Heard, heard_frame, heard_as, hear, hear_all, at_first, heard}
+use Rattle.ghost_model.specs.core.Lines.{is_refused_by, was_refused}
 use Rattle.ghost_model.proofs.ChannelLemmas.Tests.{false_is_not}
 use Rattle.ghost_model.proofs.ChannelLemmas.Sending.{heard_more}
 
@@ -39,18 +39,18 @@ shorter_begins {X} (x ∷ a) (y ∷ b) c f g h =
     record { rest = later.rest; joined = ap (λ (z : X). z ∷ b) (sym same.0) ∙ ap (λ (zs : List X). x ∷ zs) later.joined }
 
 -- the asks in frames of the key, by what is awaited and what was sent
-abbrev pub still_to_come : List Asked → Awaits → List Asked
-still_to_come asks (Missing bytes) = asks
-still_to_come asks (Reply one serial later count last) = later
-still_to_come asks Nothing = []
+abbrev pub still_to_come : List NumberedAsk → Awaits → List NumberedAsk
+still_to_come asks (AwaitsCatalog bytes) = asks
+still_to_come asks (AwaitsReply one serial later count last) = later
+still_to_come asks AwaitsNothing = []
 
-module _ (catalog : Catalog) (asks : List Asked) where
+module _ (catalog : Catalog) (asks : List NumberedAsk) where
   -- the payloads of the asks in frames
   abbrev pub payload_in : Frame → List (List ℕ)
-  payload_in (Asking serial payload) = payload ∷ []
+  payload_in (AskFrame serial payload) = payload ∷ []
   payload_in _ = []
 
-  abbrev pub payload_of : Asked → List ℕ
+  abbrev pub payload_of : NumberedAsk → List ℕ
   payload_of one = ask_payload catalog.schema one.ask
 
   -- the asks that are due and those to come are all asks, unless one was refused
@@ -61,10 +61,10 @@ module _ (catalog : Catalog) (asks : List Asked) where
   KeepsCount due awaits = length (flat_map payload_in due) + length (still_to_come asks awaits) ≤ length asks
 
   -- what a turn makes due stands first among what was to come
-  record IsNext (before : List Asked) (next : Turn) : Type 0 where
+  record IsNext (before : List NumberedAsk) (next : FrameOutcome) : Type 0 where
     accounts : flat_map payload_in next.due ++ map payload_of (still_to_come asks next.awaits) ≡ map payload_of before
 
-  counted_next : (before : List Asked) (next : Turn) → IsNext before next → length (flat_map payload_in next.due) + length (still_to_come asks next.awaits) ≡ length before
+  counted_next : (before : List NumberedAsk) (next : FrameOutcome) → IsNext before next → length (flat_map payload_in next.due) + length (still_to_come asks next.awaits) ≡ length before
   counted_next before next n =
       let sizes = ap length n.accounts in
       let one = length-append (flat_map payload_in next.due) (map payload_of (still_to_come asks next.awaits)) in
@@ -72,64 +72,64 @@ module _ (catalog : Catalog) (asks : List Asked) where
       let three = length-map before payload_of in
       omega (arith, sizes, one, two, three)
 
-  next_asks : (serial : ℕ) (later : List Asked) → IsNext later (on_with catalog.schema serial later)
+  next_asks : (serial : ℕ) (later : List NumberedAsk) → IsNext later (ask_next catalog.schema serial later)
   next_asks serial [] = record { accounts = refl }
   next_asks serial (one ∷ later) = record { accounts = refl }
 
   next_quiet : (awaits : Awaits) → IsNext (still_to_come asks awaits) (still awaits)
   next_quiet awaits = record { accounts = refl }
 
-  next_if : (whole : Bool) (before : List Asked) (one other : Turn) → IsNext before one → IsNext before other → IsNext before (if whole then one else other)
+  next_if : (whole : Bool) (before : List NumberedAsk) (one other : FrameOutcome) → IsNext before one → IsNext before other → IsNext before (if whole then one else other)
   next_if true before one other h k = h
   next_if false before one other h k = k
 
   greeting_next : (missing : List ℕ) (frame : Frame) → IsNext asks (turn_of_greeting catalog.schema asks missing frame)
-  greeting_next missing (Welcome last part) =
+  greeting_next missing (WelcomeFrame last part) =
       next_if (length part == length missing) asks _ _ (next_asks 1 asks) (record { accounts = refl })
-  greeting_next missing (Hello _) = record { accounts = refl }
-  greeting_next missing (Asking _ _) = record { accounts = refl }
-  greeting_next missing (More _) = record { accounts = refl }
-  greeting_next missing Bye = record { accounts = refl }
-  greeting_next missing (Replied _ _) = record { accounts = refl }
-  greeting_next missing (Done _ _) = record { accounts = refl }
-  greeting_next missing (Sorry _ _) = record { accounts = refl }
+  greeting_next missing (HelloFrame _) = record { accounts = refl }
+  greeting_next missing (AskFrame _ _) = record { accounts = refl }
+  greeting_next missing (MoreFrame _) = record { accounts = refl }
+  greeting_next missing ByeFrame = record { accounts = refl }
+  greeting_next missing (RowsFrame _ _) = record { accounts = refl }
+  greeting_next missing (DoneFrame _ _) = record { accounts = refl }
+  greeting_next missing (SorryFrame _ _) = record { accounts = refl }
 
-  later_fewer : (text : ℕ) (xs : List Asked) → length (of_later_texts text xs) ≤ length xs
+  later_fewer : (text : ℕ) (xs : List NumberedAsk) → length (of_later_texts text xs) ≤ length xs
   later_fewer text [] = omega arith
   later_fewer text (one ∷ later) =
       let rest = later_fewer text later in
       (elim (one.text == text) as (λ v. length (if v then of_later_texts text later else one ∷ later) ≤ suc (length later)) [ true ↦ omega (arith, rest) | false ↦ omega arith ])
 
   -- what an ended ask leaves
-  record IsStep (before : List Asked) (next : Turn) (ends : List Ended) : Type 0 where
+  record IsStep (before : List NumberedAsk) (next : FrameOutcome) (ends : List EndedAsk) : Type 0 where
     unless_refused : was_refused ends ≡ false → IsNext before next
     count : length (flat_map payload_in next.due) + length (still_to_come asks next.awaits) ≤ length before
 
-  plain_step : (before : List Asked) (next : Turn) (ends : List Ended) → IsNext before next → IsStep before next ends
+  plain_step : (before : List NumberedAsk) (next : FrameOutcome) (ends : List EndedAsk) → IsNext before next → IsStep before next ends
   plain_step before next ends n = record { unless_refused = λ _. n; count = let same = counted_next before next n in omega (arith, same) }
 
-  reply_step : (one : Asked) (serial : ℕ) (later : List Asked) (count last : ℕ) (rows : List ℕ) (frame : Frame) → IsStep later (turn_of_reply catalog.schema one serial later count last frame) (ended_by_frame one rows frame)
-  reply_step one serial later count last rows (Replied _ payload) = plain_step later _ _ (record { accounts = refl })
-  reply_step one serial later count last rows (Done _ _) = plain_step later _ _ (next_asks (serial + 1) later)
-  reply_step one serial later count last rows (Sorry _ _) =
-      let same = counted_next (of_later_texts one.text later) (on_with catalog.schema (serial + 1) (of_later_texts one.text later)) (next_asks (serial + 1) (of_later_texts one.text later)) in
+  reply_step : (one : NumberedAsk) (serial : ℕ) (later : List NumberedAsk) (count last : ℕ) (rows : List ℕ) (frame : Frame) → IsStep later (turn_of_reply catalog.schema one serial later count last frame) (ended_by_frame one rows frame)
+  reply_step one serial later count last rows (RowsFrame _ payload) = plain_step later _ _ (record { accounts = refl })
+  reply_step one serial later count last rows (DoneFrame _ _) = plain_step later _ _ (next_asks (serial + 1) later)
+  reply_step one serial later count last rows (SorryFrame _ _) =
+      let same = counted_next (of_later_texts one.text later) (ask_next catalog.schema (serial + 1) (of_later_texts one.text later)) (next_asks (serial + 1) (of_later_texts one.text later)) in
       record { unless_refused = λ e. absurd (false_is_not (sym e)); count = omega (arith, same, later_fewer one.text later) }
-  reply_step one serial later count last rows (Hello _) = plain_step later _ _ (record { accounts = refl })
-  reply_step one serial later count last rows (Asking _ _) = plain_step later _ _ (record { accounts = refl })
-  reply_step one serial later count last rows (More _) = plain_step later _ _ (record { accounts = refl })
-  reply_step one serial later count last rows Bye = plain_step later _ _ (record { accounts = refl })
-  reply_step one serial later count last rows (Welcome _ _) = plain_step later _ _ (record { accounts = refl })
+  reply_step one serial later count last rows (HelloFrame _) = plain_step later _ _ (record { accounts = refl })
+  reply_step one serial later count last rows (AskFrame _ _) = plain_step later _ _ (record { accounts = refl })
+  reply_step one serial later count last rows (MoreFrame _) = plain_step later _ _ (record { accounts = refl })
+  reply_step one serial later count last rows ByeFrame = plain_step later _ _ (record { accounts = refl })
+  reply_step one serial later count last rows (WelcomeFrame _ _) = plain_step later _ _ (record { accounts = refl })
 
-  step : (awaits : Awaits) (rows : List ℕ) (frame : Frame) → IsStep (still_to_come asks awaits) (turn catalog asks awaits frame) (ended_by awaits rows frame)
-  step (Missing missing) rows frame = plain_step asks _ _ (greeting_next missing frame)
-  step (Reply one serial later count last) rows frame = reply_step one serial later count last rows frame
-  step Nothing rows frame = plain_step [] _ _ (record { accounts = refl })
+  step : (awaits : Awaits) (rows : List ℕ) (frame : Frame) → IsStep (still_to_come asks awaits) (after_frame catalog asks awaits frame) (ended_by awaits rows frame)
+  step (AwaitsCatalog missing) rows frame = plain_step asks _ _ (greeting_next missing frame)
+  step (AwaitsReply one serial later count last) rows frame = reply_step one serial later count last rows frame
+  step AwaitsNothing rows frame = plain_step [] _ _ (record { accounts = refl })
 
   pub record IsAccounted (h : Heard) : Type 0 where
     pub accounts : was_refused h.ended ≡ false → Accounts h.due h.awaits
     pub count : KeepsCount h.due h.awaits
 
-  refused_joined : (one other : List Ended) → was_refused (one ++ other) ≡ false → (was_refused one ≡ false) × (was_refused other ≡ false)
+  refused_joined : (one other : List EndedAsk) → was_refused (one ++ other) ≡ false → (was_refused one ≡ false) × (was_refused other ≡ false)
   refused_joined [] other e = (refl, e)
   refused_joined (end ∷ one) other e =
       (elim (is_refused_by end.ending) as (λ v. (v || was_refused (one ++ other)) ≡ false → ((v || was_refused one) ≡ false) × (was_refused other ≡ false)) [
@@ -137,10 +137,10 @@ module _ (catalog : Catalog) (asks : List Asked) where
         | false ↦ λ k. refused_joined one other k
       ]) e
 
-  accounted_frame : (h : Heard) (frame : Frame) → IsAccounted h → IsStep (still_to_come asks h.awaits) (turn catalog asks h.awaits frame) (ended_by h.awaits h.rows frame) → IsAccounted (heard_frame catalog asks h frame)
+  accounted_frame : (h : Heard) (frame : Frame) → IsAccounted h → IsStep (still_to_come asks h.awaits) (after_frame catalog asks h.awaits frame) (ended_by h.awaits h.rows frame) → IsAccounted (heard_frame catalog asks h frame)
   accounted_frame h frame a s =
-      let next : Turn = turn catalog asks h.awaits frame in
-      let joined = flat_map-append payload_in h.due (turn catalog asks h.awaits frame).due in
+      let next : FrameOutcome = after_frame catalog asks h.awaits frame in
+      let joined = flat_map-append payload_in h.due (after_frame catalog asks h.awaits frame).due in
       record {
         accounts = λ e.
             let both = refused_joined h.ended (ended_by h.awaits h.rows frame) e in
@@ -150,15 +150,15 @@ module _ (catalog : Catalog) (asks : List Asked) where
             ∙ a.accounts both.0));
         count =
             let sizes = ap length joined in
-            let split = length-append (flat_map payload_in h.due) (flat_map payload_in (turn catalog asks h.awaits frame).due) in
+            let split = length-append (flat_map payload_in h.due) (flat_map payload_in (after_frame catalog asks h.awaits frame).due) in
             let more = s.count in
             let all = a.count in
             omega (arith, sizes, split, more, all);
       }
 
   accounted_as : (h : Heard) (part : List ℕ) (v : Verdict) → IsAccounted h → IsAccounted (heard_as catalog asks h part v)
-  accounted_as h part (Short _) a = record { accounts = a.accounts; count = a.count }
-  accounted_as h part Whole a = accounted_frame h (frame_in part) a (step h.awaits h.rows (frame_in part))
+  accounted_as h part (Lacking _) a = record { accounts = a.accounts; count = a.count }
+  accounted_as h part Complete a = accounted_frame h (frame_in part) a (step h.awaits h.rows (frame_in part))
   accounted_as h part Invalid a = record { accounts = a.accounts; count = a.count }
 
   accounted_either : (broken : Bool) (h other : Heard) → IsAccounted h → IsAccounted other → IsAccounted (if broken then h else other)
@@ -184,8 +184,8 @@ module _ (catalog : Catalog) (asks : List Asked) where
   grows_itself h = record { due = begins_itself h.due; ended = begins_itself h.ended }
 
   grows_as : (h : Heard) (part : List ℕ) (v : Verdict) → Grows h (heard_as catalog asks h part v)
-  grows_as h part (Short _) = record { due = begins_itself h.due; ended = begins_itself h.ended }
-  grows_as h part Whole = record { due = record { rest = _; joined = refl }; ended = record { rest = _; joined = refl } }
+  grows_as h part (Lacking _) = record { due = begins_itself h.due; ended = begins_itself h.ended }
+  grows_as h part Complete = record { due = record { rest = _; joined = refl }; ended = record { rest = _; joined = refl } }
   grows_as h part Invalid = record { due = begins_itself h.due; ended = begins_itself h.ended }
 
   grows_either : (broken : Bool) (h other : Heard) → Grows h other → Grows h (if broken then h else other)

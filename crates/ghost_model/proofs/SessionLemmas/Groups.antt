@@ -4,7 +4,7 @@ use Rattle.std.specs.Prelude.{flat_map}
 use Rattle.std.specs.List.{list_all, concat}
 use Rattle.std.proofs.Math.Nat.{mul-suc, div-add-mod}
 use Rattle.std.proofs.lemmas.List.{nil_from_length, length-drop, length-take, take-append-drop}
-use Rattle.ghost_model.specs.Host.{groups_from, grouped}
+use Rattle.ghost_model.specs.core.Host.{groups_from, grouped}
 use Rattle.ghost_model.proofs.ChannelLemmas.Tests.{hold_both}
 
 joined_from : {X : Type 0} (most count : ℕ) (xs : List X) → length xs ≤ most * count → flat_map (λ (group : List X). group) (groups_from most count xs) ≡ xs

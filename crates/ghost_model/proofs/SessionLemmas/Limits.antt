@@ -7,21 +7,22 @@ use Rattle.std.proofs.lemmas.Bool.{ltb-true, leb-true, le-leb}
 use Rattle.std.proofs.lemmas.Bool.Decides.{nat_tests}
 use Rattle.std.proofs.lemmas.Option.{slice_get-map}
 use Rattle.std.proofs.lemmas.List.Sums.{sum_by-cons}
-use Rattle.ghost_model.specs.Schema.{Schema, Kind, Integer, Chars, Column, columns_or_none, columns_of, column_at, is_shown, is_visible}
-use Rattle.ghost_model.specs.SchemaGrammar.{To, ColumnText, CharColumn, IntegerColumn, TableText, SchemaText}
-use Rattle.ghost_model.specs.SchemaMeaning.{columns_written, column_of, table_of, schema_of}
-use Rattle.ghost_model.specs.SchemaFaults.{Limit, is_over, is_table_over, is_column_over, MeansSchema}
-use Rattle.ghost_model.specs.SchemaTrees.{IsTree}
-use Rattle.ghost_model.specs.Tokens.{is_printable, is_between, number_of}
-use Rattle.ghost_model.specs.Values.{Value, Number, Text}
-use Rattle.ghost_model.specs.Query.{Operator, Equal, Unequal, Less, AtMost, More, AtLeast}
-use Rattle.ghost_model.specs.Database.{is_of_kind}
-use Rattle.ghost_model.specs.Cells.{cell_width, encode_cell}
-use Rattle.ghost_model.specs.Channel.{Ask, Test, Asking}
-use Rattle.ghost_model.specs.Frames.{AreBytes, IsFrame}
-use Rattle.ghost_model.specs.Asks.{kind_or_none, kind_at, operator_code, test_bytes, ask_payload, ascend_from, is_proper_ask, row_width}
+use Rattle.ghost_model.specs.core.Schema.{Schema, Kind, Integer, Chars, Column, columns_or_none, columns_of, column_at, is_shown, is_visible}
+use Rattle.ghost_model.specs.refusals.SchemaGrammar.{To, ColumnDeclaration, CharColumn, IntegerColumn, TableText, SchemaText}
+use Rattle.ghost_model.specs.refusals.SchemaMeaning.{columns_written, column_of, table_of, schema_of}
+use Rattle.ghost_model.specs.refusals.SchemaFaults.{is_over, is_table_over, is_column_over, MeansSchema}
+use Rattle.ghost_model.specs.laws.SchemaTrees.{IsTree}
+use Rattle.ghost_model.specs.refusals.Tokens.{is_printable, is_between, number_of}
+use Rattle.ghost_model.specs.core.Values.{Value, Number, Text}
+use Rattle.ghost_model.specs.core.Query.{Operator, Equal, Unequal, Less, AtMost, More, AtLeast}
+use Rattle.ghost_model.specs.core.Database.{is_of_kind}
+use Rattle.ghost_model.specs.forms.Cells.{cell_width, encode_cell}
+use Rattle.ghost_model.specs.core.Channel.{Ask, Test, AskFrame}
+use Rattle.ghost_model.specs.forms.Frames.{AreBytes, IsFrame}
+use Rattle.ghost_model.specs.core.Asks.{kind_or_none, kind_at, operator_code, test_bytes, ask_payload, ascend_from, is_proper_ask, row_width}
 use Rattle.ghost_model.proofs.ChannelLemmas.Tests.{false_is_not, BothHold, both_hold, hold_both}
 use Rattle.ghost_model.proofs.ChannelLemmas.Asks.{cell_length}
+use Rattle.ghost_model.proofs.SchemaRuleLemmas.{kept_rules}
 use Rattle.ghost_model.proofs.SchemaTreeLemmas.{schemas_are_trees}
 
 -- the limits that count here
@@ -42,13 +43,13 @@ none_at test (y ∷ ys) (suc k) x e h = none_at test ys k x (neither (test y) (l
 within : (most n : ℕ) → not (is_between 1 most n) ≡ false → n ≤ most
 within most n e = grind (arith, nat_tests)
 
-narrow_column : (tables : SchemaText) (column : ColumnText) → is_column_over column ≡ false → cell_width (column_of tables column).kind ≤ 64
+narrow_column : (tables : SchemaText) (column : ColumnDeclaration) → is_column_over column ≡ false → cell_width (column_of tables column).kind ≤ 64
 narrow_column tables (CharColumn name digits hidden) e = within 64 (number_of digits) (neither _ _ e).1
 narrow_column tables (IntegerColumn name primary None hidden) e = omega arith
 narrow_column tables (IntegerColumn name primary (Some (To table says_id)) hidden) e = omega arith
 
 narrow_in :
-    (tables : SchemaText) (columns : List ColumnText) (column : ℕ) (found : Option ColumnText) → list_any is_column_over columns ≡ false
+    (tables : SchemaText) (columns : List ColumnDeclaration) (column : ℕ) (found : Option ColumnDeclaration) → list_any is_column_over columns ≡ false
     → slice_get columns column ≡ found → cell_width (kind_or_none (option_map (column_of tables) found)) ≤ 64
 narrow_in tables columns column None e h = omega arith
 narrow_in tables columns column (Some text) e h = narrow_column tables text (none_at is_column_over columns column text e h)
@@ -79,7 +80,7 @@ schema_is_small text schema means =
       few_tables = tree.few_tables;
       few_columns = tree.few_columns;
       narrow = subst (λ (s : List _). (table column : ℕ) → cell_width (kind_at s table column) ≤ 64) means.means
-          (narrow_schema means.tables (never_true (is_over means.tables) (means.obeys Limit)));
+          (narrow_schema means.tables (kept_rules means.tables means.obeys).limits);
     }
 
 -- bytes
@@ -226,7 +227,7 @@ module _ (schema : Schema) (small : IsSmall schema) where
   parts_of ask e = all_six _ _ _ _ _ _ e
 
   -- the frame of an ask that a key may send
-  pub ask_is_frame : (ask : Ask) (serial : ℕ) → is_proper_ask schema ask ≡ true → 0 < serial → serial < 2 ^ 32 → IsFrame (Asking serial (ask_payload schema ask))
+  pub ask_is_frame : (ask : Ask) (serial : ℕ) → is_proper_ask schema ask ≡ true → 0 < serial → serial < 2 ^ 32 → IsFrame (AskFrame serial (ask_payload schema ask))
   ask_is_frame ask serial e some fits =
       let parts : Parts ask = parts_of ask e in
       let tests : List ℕ = flat_map (test_bytes schema ask.table) ask.tests in

@@ -4,14 +4,14 @@ use Rattle.std.specs.Prelude.{◌||◌, not, if◌then◌else◌}
 use Rattle.std.specs.List.{list_all, list_any, concat}
 use Rattle.std.proofs.lemmas.Bool.{eqb-true}
 use Rattle.std.proofs.Math.Seq.{drop-append_seam}
-use Rattle.ghost_model.specs.Schema.{is_empty}
-use Rattle.ghost_model.specs.Channel.{Catalog, Move, Dial, Send, Take, Close, Answer, Made, Port, Piece, End, Failed, Entry, Journal}
-use Rattle.ghost_model.specs.Asks.{Asked}
-use Rattle.ghost_model.specs.Moves.{sent, taken, sent_by, piece_of}
+use Rattle.ghost_model.specs.core.Schema.{is_empty}
+use Rattle.ghost_model.specs.core.Channel.{Catalog, Move, Dial, Send, Take, Close, Answer, Made, Port, Piece, End, Failed, Entry, Journal}
+use Rattle.ghost_model.specs.core.Asks.{NumberedAsk}
+use Rattle.ghost_model.specs.core.Moves.{sent, taken, sent_by, piece_of}
 use Rattle.std.proofs.lemmas.Grind.{flat_map-append}
-use Rattle.ghost_model.specs.NextMove.{GoesOn, IsFinished, next_with, is_close}
-use Rattle.ghost_model.specs.Host.{Holding, host_sends}
-use Rattle.ghost_model.specs.Local.{IsServedBy, is_full, is_answered_in_full}
+use Rattle.ghost_model.specs.core.NextMove.{GoesOn, IsFinished, next_with, is_close}
+use Rattle.ghost_model.specs.core.Host.{Holding, host_sends}
+use Rattle.ghost_model.specs.core.Local.{IsServedBy, is_full, is_answered_in_full}
 use Rattle.ghost_model.proofs.ChannelLemmas.Tests.{false_is_not, both_hold, take_front}
 
 abbrev entry_of : Move → Answer → Entry
@@ -86,7 +86,7 @@ no_more true true dial later move p q e = none_is_not move e
 no_more true false dial later move p q e = false_is_not q
 no_more false closed dial later move p q e = false_is_not p
 
-module _ (held : Holding) (catalog : Catalog) (at : List ℕ) (asks : List Asked) where
+module _ (held : Holding) (catalog : Catalog) (at : List ℕ) (asks : List NumberedAsk) where
   -- nothing comes after Close
   after_close : (before : Journal) (entry : Entry) (move : Move) → entry.move ≡ Close → next_with catalog at asks (before ++ entry ∷ []) ≡ Some move → ⊥
   after_close before entry move c e =

@@ -6,23 +6,27 @@ use Rattle.std.proofs.lemmas.Bool.{lt-ltb, le-leb}
 use Rattle.std.proofs.lemmas.Grind.{flat_map-append}
 use Rattle.std.proofs.lemmas.Nat.{le-div}
 use Rattle.std.proofs.Math.Nat.{mul-le-mul_left, div-add-mod}
-use Rattle.ghost_model.specs.Schema.{Schema}
-use Rattle.ghost_model.specs.Channel.{Catalog, Ask, Frame, Hello, Asking, More, Bye, Welcome, Replied, Done, Sorry, Journal}
-use Rattle.ghost_model.specs.Catalog.{catalog_bytes}
-use Rattle.ghost_model.specs.Frames.{IsFrame, got_of, frame_bytes, most_payload}
-use Rattle.ghost_model.specs.Asks.{Asked, asked_of, ReplyRow, ask_in, is_proper_ask, row_width}
-use Rattle.ghost_model.specs.Moves.{taken, sent, answers}
-use Rattle.ghost_model.specs.NextMove.{IsProper, IsDue, is_stop}
-use Rattle.ghost_model.specs.Split.{Public, reply_rows}
-use Rattle.ghost_model.specs.Host.{Holding, host_of, host_sends, host_says, honest_stream, frames_of, grouped, most_part, welcomes, reply_to, replies_to, asks_in_frame, IsFront}
-use Rattle.ghost_model.specs.Honest.{has_up_to, AreWelcomes, fits_frame, IsReply, AreReplies, ask_of_frame, ask_of_got, asks_sent, IsHonest}
-use Rattle.ghost_model.specs.SessionLaws.{IsSetting}
+use Rattle.ghost_model.specs.core.Schema.{Schema}
+use Rattle.ghost_model.specs.core.Channel.{Catalog, Ask, Frame, HelloFrame, AskFrame, MoreFrame, ByeFrame, WelcomeFrame, RowsFrame, DoneFrame, SorryFrame, Journal}
+use Rattle.ghost_model.specs.forms.Catalog.{canonical_text, catalog_bytes}
+use Rattle.ghost_model.specs.forms.Frames.{IsFrame, got_of, frame_bytes, most_payload}
+use Rattle.ghost_model.specs.core.Asks.{NumberedAsk, asked_of, RowCells, is_proper_ask, row_width}
+use Rattle.ghost_model.specs.readings.AskReading.{ask_in}
+use Rattle.ghost_model.specs.core.Moves.{taken, sent, answers}
+use Rattle.ghost_model.specs.core.NextMove.{IsProper, is_stop}
+use Rattle.ghost_model.specs.laws.ChannelLaws.{IsDue}
+use Rattle.ghost_model.specs.core.Split.{Public, reply_rows}
+use Rattle.ghost_model.specs.core.Host.{Holding, host_of, host_sends, host_says, frames_of, grouped, most_part, welcomes, reply_to, asks_in_frame}
+use Rattle.ghost_model.specs.laws.HostLaws.{honest_stream, replies_to, IsFront}
+use Rattle.ghost_model.specs.core.Honest.{has_up_to, AreWelcomes, fits_frame, IsReply, AreReplies, asks_in_got, asks_sent, IsHonest}
+use Rattle.ghost_model.specs.laws.SessionLaws.{IsSetting}
 use Rattle.ghost_model.proofs.ChannelLemmas.{spelled_is_found}
 use Rattle.ghost_model.proofs.ChannelLemmas.Tests.{BothHold, both_hold, hold_both}
 use Rattle.ghost_model.proofs.ChannelLemmas.Asks.{read_ask_is_proper}
 use Rattle.ghost_model.proofs.ChannelLemmas.Hosts.{host_is_honest, frames_are_cut}
 use Rattle.ghost_model.proofs.ChannelLemmas.Sending.{sent_is_due}
 use Rattle.ghost_model.proofs.SessionLemmas.Groups.{groups_are_joined, groups_pass, joined_parts}
+use Rattle.ghost_model.proofs.SessionLemmas.Settings.{serials_fit}
 use Rattle.ghost_model.proofs.SessionLemmas.Limits.{IsSmall, schema_is_small, row_fits}
 use Rattle.ghost_model.proofs.SessionLemmas.SentFrames.{AreFrames, sent_are_frames, asks_are_good}
 
@@ -37,33 +41,18 @@ all_frames (frame ∷ frames) h zero d less = h.0
 all_frames (frame ∷ frames) h (suc k) d less = all_frames frames h.1 k d (omega (arith, less))
 
 module _ (schema : Schema) where
-  one_or_none : (o : Option Ask) (asks : List Ask) → cons_option o asks ≡ option_to_list o ++ asks
-  one_or_none None asks = refl
-  one_or_none (Some ask) asks = refl
+  abbrev pub asks_in_bytes : List ℕ → List Ask
+  asks_in_bytes bytes = asks_in_got schema (got_of bytes)
 
-  asks_of_one : (frame : Frame) (asks : List Ask) → cons_option (ask_of_frame schema frame) asks ≡ asks_in_frame schema frame ++ asks
-  asks_of_one (Asking serial payload) asks = one_or_none (ask_in schema payload) asks
-  asks_of_one (Hello _) asks = refl
-  asks_of_one (More _) asks = refl
-  asks_of_one Bye asks = refl
-  asks_of_one (Welcome _ _) asks = refl
-  asks_of_one (Replied _ _) asks = refl
-  asks_of_one (Done _ _) asks = refl
-  asks_of_one (Sorry _ _) asks = refl
-
-  abbrev pub ask_of_bytes : List ℕ → Option Ask
-  ask_of_bytes bytes = ask_of_got schema (got_of bytes)
-
-  found_again : (frame : Frame) → IsFrame frame → ask_of_bytes (frame_bytes frame) ≡ ask_of_frame schema frame
+  found_again : (frame : Frame) → IsFrame frame → asks_in_bytes (frame_bytes frame) ≡ asks_in_frame schema frame
   found_again frame h =
-      ap ask_of_bytes (sym (append-nil (frame_bytes frame))) ∙ ap (ask_of_got schema) (spelled_is_found frame [] h)
+      ap asks_in_bytes (sym (append-nil (frame_bytes frame))) ∙ ap (asks_in_got schema) (spelled_is_found frame [] h)
 
-  pub asks_in_frames : (frames : List Frame) → AreFrames frames → filter_map ask_of_bytes (map frame_bytes frames) ≡ flat_map (asks_in_frame schema) frames
+  pub asks_in_frames : (frames : List Frame) → AreFrames frames → flat_map asks_in_bytes (map frame_bytes frames) ≡ flat_map (asks_in_frame schema) frames
   asks_in_frames [] h = refl
   asks_in_frames (frame ∷ frames) h =
-      ap (λ (o : Option Ask). cons_option o (filter_map ask_of_bytes (map frame_bytes frames))) (found_again frame h.0)
-      ∙ (asks_of_one frame (filter_map ask_of_bytes (map frame_bytes frames))
-      ∙ ap (λ (asks : List Ask). asks_in_frame schema frame ++ asks) (asks_in_frames frames h.1))
+      ap (λ (asks : List Ask). asks ++ flat_map asks_in_bytes (map frame_bytes frames)) (found_again frame h.0)
+      ∙ ap (λ (asks : List Ask). asks_in_frame schema frame ++ asks) (asks_in_frames frames h.1)
 
   abbrev AreAsks : List Ask → Type 0
   AreAsks asks = list_all (is_proper_ask schema) asks ≡ true
@@ -73,14 +62,14 @@ module _ (schema : Schema) where
   proper_one payload (Some ask) asks e h = hold_both _ _ (read_ask_is_proper schema payload ask e) h
 
   proper_more : (frame : Frame) (asks : List Ask) → AreAsks asks → AreAsks (asks_in_frame schema frame ++ asks)
-  proper_more (Asking serial payload) asks h = proper_one payload (ask_in schema payload) asks refl h
-  proper_more (Hello _) asks h = h
-  proper_more (More _) asks h = h
-  proper_more Bye asks h = h
-  proper_more (Welcome _ _) asks h = h
-  proper_more (Replied _ _) asks h = h
-  proper_more (Done _ _) asks h = h
-  proper_more (Sorry _ _) asks h = h
+  proper_more (AskFrame serial payload) asks h = proper_one payload (ask_in schema payload) asks refl h
+  proper_more (HelloFrame _) asks h = h
+  proper_more (MoreFrame _) asks h = h
+  proper_more ByeFrame asks h = h
+  proper_more (WelcomeFrame _ _) asks h = h
+  proper_more (RowsFrame _ _) asks h = h
+  proper_more (DoneFrame _ _) asks h = h
+  proper_more (SorryFrame _ _) asks h = h
 
   -- every ask in a frame is one that a key may send
   asks_are_asks : (frames : List Frame) → AreAsks (flat_map (asks_in_frame schema) frames)
@@ -88,7 +77,7 @@ module _ (schema : Schema) where
   asks_are_asks (frame ∷ frames) = proper_more frame (flat_map (asks_in_frame schema) frames) (asks_are_asks frames)
 
 -- groups of rows that fit a frame
-group_fits : (width : ℕ) (group : List ReplyRow) → 0 < width → 0 < length group → length group ≤ most_payload / width → fits_frame width group ≡ true
+group_fits : (width : ℕ) (group : List RowCells) → 0 < width → 0 < length group → length group ≤ most_payload / width → fits_frame width group ≡ true
 group_fits width group wide some few =
     let product : width * length group ≤ width * (most_payload / width) = mul-le-mul_left width few in
     let whole = div-add-mod most_payload width in
@@ -109,7 +98,7 @@ module _ (catalog : Catalog) (public : Public) (small : IsSmall catalog.schema) 
   reply_is_one : (serial : ℕ) (ask : Ask) → is_proper_ask catalog.schema ask ≡ true → IsReply catalog.schema serial ask (reply_rows catalog.schema public ask) (reply_to (host_of catalog public) serial ask)
   reply_is_one serial ask e =
       let width : ℕ = row_width catalog.schema ask in
-      let rows : List ReplyRow = reply_rows catalog.schema public ask in
+      let rows : List RowCells = reply_rows catalog.schema public ask in
       let fits : row_width catalog.schema ask ≤ 2040 = row_fits catalog.schema small ask e in
       let wide : 0 < row_width catalog.schema ask = omega arith in
       let some : 1 ≤ most_payload / row_width catalog.schema ask = le-div 1 most_payload (row_width catalog.schema ask) wide (omega (arith, fits)) in
@@ -146,7 +135,7 @@ module _ (catalog : Catalog) (public : Public) (small : IsSmall catalog.schema) 
       let cut : frames_of (concat (sent journal)) ≡ frames = ap frames_of key ∙ frames_are_cut frames (all_frames frames good) in
       let asks : List Ask = flat_map (asks_in_frame catalog.schema) frames in
       let same : asks_sent catalog.schema journal ≡ flat_map (asks_in_frame catalog.schema) frames =
-      ap (filter_map (ask_of_bytes catalog.schema)) are ∙ asks_in_frames catalog.schema frames good in
+      ap (flat_map (asks_in_bytes catalog.schema)) are ∙ asks_in_frames catalog.schema frames good in
       let front : IsFront (host_says held (concat (sent journal))) (honest_stream held frames) =
       subst (λ (fs : List Frame). IsFront (host_says held (concat (sent journal))) (honest_stream held fs)) cut (host_is_honest held (concat (sent journal))) in
       let later = begins_stream (taken journal) rest (host_says held (concat (sent journal))) (honest_stream held frames) front said in
@@ -166,9 +155,9 @@ pub this_host_is_honest :
     → IsSetting catalog texts → IsProper catalog at texts journal → list_any is_stop (answers journal) ≡ false
     → taken journal ++ rest ≡ host_sends (host_of catalog public) (concat (sent journal)) → IsHonest catalog public journal
 this_host_is_honest catalog public at texts journal rest setting goes whole said =
-    let small : IsSmall catalog.schema = schema_is_small setting.schema_text catalog.schema setting.accepted in
-    let asks : List Asked = asked_of catalog.schema texts in
+    let small : IsSmall catalog.schema = schema_is_small (canonical_text catalog.schema) catalog.schema setting.proper.meant in
+    let asks : List NumberedAsk = asked_of catalog.schema texts in
     let due : IsDue catalog asks journal = sent_is_due catalog at asks journal goes in
     honest_with catalog public small journal rest due.frames due.sent_are
-    (sent_are_frames catalog small asks (asks_are_good catalog.schema texts) setting.serials_fit journal setting.generation_fits due)
+    (sent_are_frames catalog small asks (asks_are_good catalog.schema texts) (serials_fit catalog texts setting) journal setting.proper.generation_fits due)
     whole said

@@ -1,17 +1,18 @@
 -- What the key knows of a row by the hidden part and by whole replies is what stands in the row.
-use Rattle.std.proofs.Common.{◌≡◌, ℕ, zero, suc, ◌+◌, ◌<◌, inl, inr, Bool, true, false, not, List, [], ◌∷◌, length, map, drop, sym, ◌∙◌, ap, subst, refl, arith, Option, Some, None, slice_get}
-use Rattle.std.specs.Prelude.{◌==◌, filter_map, if◌then◌else◌, option_and_then}
+use Rattle.std.proofs.Common.{◌≡◌, ℕ, zero, suc, ◌+◌, ◌<◌, inl, inr, Bool, true, false, not, List, [], ◌∷◌, length, map, drop, sym, ◌∙◌, ap, subst, refl, arith, Option, Some, None, slice_get, unwrap_or}
+use Rattle.std.specs.Prelude.{◌==◌, if◌then◌else◌, option_and_then}
 use Rattle.std.specs.Option.{option_map}
-use Rattle.std.specs.List.{cons_option}
 use Rattle.std.proofs.lemmas.Option.{slice_get-map}
 use Rattle.std.proofs.lemmas.Bool.Decides.{nat_tests}
 use Rattle.std.proofs.lemmas.Bool.{eqb-true}
-use Rattle.ghost_model.specs.Schema.{Schema, Column, columns_of, column_at, places_from, is_shown}
-use Rattle.ghost_model.specs.Values.{Value, Row, Rows, Database}
-use Rattle.ghost_model.specs.Channel.{Ask}
-use Rattle.ghost_model.specs.Database.{rows_or_none, rows_of, IsDatabase}
-use Rattle.ghost_model.specs.Split.{hidden_flags, visible_values, hidden_values, rows_by, tables_by, hidden_of, value_at, is_open, Replied, replied, meets_tests, replies_from}
-use Rattle.ghost_model.specs.Replies.{hidden_places, hidden_value, row_replied}
+use Rattle.ghost_model.specs.core.Schema.{Schema, Column, columns_of, column_at, places_from, is_shown}
+use Rattle.ghost_model.specs.core.Values.{Value, Text, Row, Rows, Database}
+use Rattle.ghost_model.specs.core.Channel.{Ask}
+use Rattle.ghost_model.specs.core.Database.{rows_of, IsDatabase}
+use Rattle.ghost_model.specs.core.Split.{hidden_of, value_at, is_open, RowValues, replied, meets_tests, replies_from}
+use Rattle.ghost_model.specs.laws.SplitByFlags.{hidden_flags, visible_values, hidden_values}
+use Rattle.ghost_model.proofs.MeaningLemmas.PartsByFlags.{hidden_rows_at}
+use Rattle.ghost_model.specs.core.Replies.{hidden_places, hidden_value, row_replied}
 use Rattle.ghost_model.proofs.MeaningLemmas.OneRow.{Among}
 use Rattle.ghost_model.proofs.ChannelLemmas.Tests.{false_is_not}
 
@@ -23,16 +24,6 @@ at_itself n = grind (arith, nat_tests)
 
 pub not_later : (n k : ℕ) → (n == n + suc k) ≡ false
 not_later n k = grind (arith, nat_tests)
-
--- the rows of one part of a database
-pub parts_at :
-    (part : List Bool → Row → Row) (schema : Schema) (database : Database) → length database ≡ length schema → (table : ℕ)
-    → rows_or_none (slice_get (tables_by part schema database) table) ≡ rows_by part (columns_of schema table) (rows_of database table)
-parts_at part [] [] same table = refl
-parts_at part [] (rows ∷ database) same table = absurd (omega (arith, same))
-parts_at part (declared ∷ schema) [] same table = absurd (omega (arith, same))
-parts_at part (declared ∷ schema) (rows ∷ database) same zero = refl
-parts_at part (declared ∷ schema) (rows ∷ database) same (suc table) = parts_at part schema database (omega (arith, same)) table
 
 value_if : (here : Bool) (value : Value) (other found : Option Value) → (here ≡ true → Some value ≡ found) → (here ≡ false → other ≡ found) → (if here then Some value else other) ≡ found
 value_if true value other found p q = p refl
@@ -104,11 +95,11 @@ visible_of_row (first ∷ columns) (value ∷ values) column same h =
     (visible_at 1 columns values column (omega (arith, same)) h)
 
 -- the row of an identifier among the rows that meet an ask
-row_if : (here : Bool) (row : Replied) (other found : Option Replied) → (here ≡ true → Some row ≡ found) → (here ≡ false → other ≡ found) → (if here then Some row else other) ≡ found
+row_if : (here : Bool) (row : RowValues) (other found : Option RowValues) → (here ≡ true → Some row ≡ found) → (here ≡ false → other ≡ found) → (if here then Some row else other) ≡ found
 row_if true row other found p q = p refl
 row_if false row other found p q = q refl
 
-abbrev pub if_met : (places : List ℕ) → Ask → (identifier : ℕ) → Row → Option Replied
+abbrev pub if_met : (places : List ℕ) → Ask → (identifier : ℕ) → Row → Option RowValues
 if_met places ask identifier row = if meets_tests places ask.tests row then Some (replied places ask identifier row) else None
 
 -- no row before the first one
@@ -159,14 +150,13 @@ later_one first column columns differs (inr later) = later
 -- an asked value by its place
 pub value_asked :
     (f : ℕ → Option Value) (columns : List ℕ) (column : ℕ) → AllThere f columns → Among column columns
-    → value_at columns (filter_map f columns) column ≡ f column
+    → value_at columns (map (λ asked. unwrap_or (f asked) (Text [])) columns) column ≡ f column
 value_asked f [] column some h = absurd h
 value_asked f (first ∷ columns) column some h =
     let there : f first ≡ Some some.0.0 = some.0.1 in
-    subst (λ (o : Option Value). value_at (first ∷ columns) (cons_option o (filter_map f columns)) column ≡ f column) (sym there)
-    (value_if (first == column) some.0.0 (value_at columns (filter_map f columns) column) (f column)
-    (λ yes. sym there ∙ ap f (eqb-true first column yes))
-    (λ no. value_asked f columns column some.1 (later_one first column columns no h)))
+    value_if (first == column) (unwrap_or (f first) (Text [])) (value_at columns (map (λ asked. unwrap_or (f asked) (Text [])) columns) column) (f column)
+    (λ yes. ap (λ o. Some (unwrap_or o (Text []))) there ∙ (sym there ∙ ap f (eqb-true first column yes)))
+    (λ no. value_asked f columns column some.1 (later_one first column columns no h))
 
 module _ (schema : Schema) (database : Database) (is : IsDatabase schema database) where
   pub hidden_is_known :
@@ -175,7 +165,7 @@ module _ (schema : Schema) (database : Database) (is : IsDatabase schema databas
   hidden_is_known table place column row h hidden =
       let part : Row → Row = λ whole. hidden_values (hidden_flags (columns_of schema table)) (drop 1 whole) in
       let value : Row → Option Value = λ kept. value_at (hidden_places schema table) kept (suc column) in
-      ap (λ (rows : Rows). option_and_then value (slice_get rows place)) (parts_at hidden_values schema database is.tables table)
+      ap (λ (rows : Rows). option_and_then value (slice_get rows place)) (hidden_rows_at schema database is.tables table)
       ∙ (ap (λ (o : Option Row). option_and_then value o) (slice_get-map part (rows_of database table) place)
       ∙ (ap (λ (o : Option Row). option_and_then value (option_map part o)) h
       ∙ hidden_of_row (columns_of schema table) row column (is.widths table (suc place) row h) hidden))

@@ -7,18 +7,20 @@ use Rattle.std.proofs.lemmas.Option.{slice_get-map}
 use Rattle.std.proofs.lemmas.List.Folds.{list_all-append}
 use Rattle.std.proofs.lemmas.Bool.Decides.{nat_tests}
 use Rattle.std.proofs.lemmas.Bool.{eqb-true, lt-ltb}
-use Rattle.ghost_model.specs.Schema.{Schema, Column, columns_of, column_at, places_from, is_shown, is_visible, is_empty}
-use Rattle.ghost_model.specs.Values.{Value, Row, Rows, Database}
-use Rattle.ghost_model.specs.Query.{Query, Field, Condition, Compare, Join}
-use Rattle.ghost_model.specs.Channel.{Ask, Test}
-use Rattle.ghost_model.specs.Asks.{ask_for, is_needed, is_from, places, test_of, tests_of, is_wanted, is_field}
-use Rattle.ghost_model.specs.Database.{rows_of, IsDatabase}
-use Rattle.ghost_model.specs.Split.{Public, hidden_flags, visible_values, rows_by, hidden_of, public_of, value_at, visible_places, Replied, replied, meets_test, meets_tests, replies_from, visible_rows}
-use Rattle.ghost_model.specs.Replies.{Reply, hidden_value, row_replied, reply_about, replied_value, known_value, stands_in}
-use Rattle.ghost_model.specs.SessionLaws.{whole_reply, whole_replies}
+use Rattle.ghost_model.specs.core.Schema.{Schema, Column, columns_of, column_at, places_from, is_shown, is_visible, is_empty}
+use Rattle.ghost_model.specs.core.Values.{Value, Row, Rows, Database}
+use Rattle.ghost_model.specs.core.Query.{Query, Field, Condition, Compare, Join}
+use Rattle.ghost_model.specs.core.Channel.{Ask, Test}
+use Rattle.ghost_model.specs.core.Asks.{ask_for, is_needed, is_from, places, test_of, tests_of, is_wanted, is_field}
+use Rattle.ghost_model.specs.core.Database.{rows_of, IsDatabase}
+use Rattle.ghost_model.specs.core.Split.{Public, hidden_of, public_of, value_at, visible_places, RowValues, replied, meets_test, meets_tests, replies_from, visible_rows}
+use Rattle.ghost_model.specs.laws.SplitByFlags.{hidden_flags, visible_values, rows_by}
+use Rattle.ghost_model.proofs.MeaningLemmas.PartsByFlags.{visible_rows_at}
+use Rattle.ghost_model.specs.core.Replies.{Reply, hidden_value, row_replied, reply_about, replied_value, known_value, stands_in}
+use Rattle.ghost_model.specs.laws.SessionLaws.{whole_reply, whole_replies}
 use Rattle.ghost_model.proofs.ChannelLemmas.Tests.{false_is_not, BothHold, both_hold, hold_both}
 use Rattle.ghost_model.proofs.MeaningLemmas.OneRow.{Among, among-filter}
-use Rattle.ghost_model.proofs.SessionLemmas.Values.{parts_at, hidden_is_known, visible_of_row, row_is_replied, if_met, AllThere, value_asked}
+use Rattle.ghost_model.proofs.SessionLemmas.Values.{hidden_is_known, visible_of_row, row_is_replied, if_met, AllThere, value_asked}
 
 -- places of a list
 place_stands : {X : Type 0} (at place : ℕ) (xs : List X) → place < length xs → Among (at + place) (places_from (λ (x : X). true) at xs)
@@ -187,7 +189,7 @@ module _ (schema : Schema) (database : Database) (is : IsDatabase schema databas
       let ask : Ask = ask_for schema asked table in
       let at : slice_get (rows_by visible_values (columns_of schema table) (rows_of database table)) place ≡ Some (shown_part table row) =
       slice_get-map (shown_part table) (rows_of database table) place ∙ ap (option_map (shown_part table)) h in
-      ap (λ (rows : Rows). row_replied (suc place) (replies_from 1 (visible_places schema table) ask rows)) (parts_at visible_values schema database is.tables table)
+      ap (λ (rows : Rows). row_replied (suc place) (replies_from 1 (visible_places schema table) ask rows)) (visible_rows_at schema database is.tables table)
       ∙ subst (λ (n : ℕ). row_replied n (replies_from 1 (visible_places schema table) ask (rows_by visible_values (columns_of schema table) (rows_of database table))) ≡ if_met (visible_places schema table) ask n (shown_part table row)) (omega arith)
       (row_is_replied 1 place (visible_places schema table) ask (rows_by visible_values (columns_of schema table) (rows_of database table)) (shown_part table row) at)
 
@@ -195,7 +197,7 @@ module _ (schema : Schema) (database : Database) (is : IsDatabase schema databas
       (table place : ℕ) (row : Row) → slice_get (rows_of database table) place ≡ Some row
       → is_some (row_replied (suc place) (visible_rows schema public (ask_for schema asked table))) ≡ stands_by table row
   stood table place row h =
-      ap (λ (o : Option Replied). is_some o) (row_in_reply table place row h)
+      ap (λ (o : Option RowValues). is_some o) (row_in_reply table place row h)
       ∙ (is_some_if (meets_tests (visible_places schema table) (tests_of schema table asked.conditions) (shown_part table row)) (replied (visible_places schema table) (ask_for schema asked table) (suc place) (shown_part table row))
       ∙ tests_met table place row (tests_of schema table asked.conditions) h (visible_tests schema table asked.conditions))
 
@@ -242,10 +244,10 @@ module _ (schema : Schema) (database : Database) (is : IsDatabase schema databas
       let needed : is_needed (ask_for schema asked table) ≡ true = some_need column ask.columns (is_empty ask.tests) wanted in
       let met : meets_tests (visible_places schema table) (tests_of schema table asked.conditions) (shown_part table row) ≡ true =
       tests_met table place row (tests_of schema table asked.conditions) h (visible_tests schema table asked.conditions) ∙ stands in
-      let given : Replied → Option Value = λ one. value_at ask.columns one.values column in
+      let given : RowValues → Option Value = λ one. value_at ask.columns one.values column in
       ap (λ (o : Option Reply). option_and_then (λ reply. option_and_then (λ one. value_at reply.ask.columns one.values column) (row_replied (suc place) reply.rows)) o)
       (about_needed table (filter (is_from asked) (places schema)) needed (table_stands table place row h among))
-      ∙ (ap (λ (o : Option Replied). option_and_then given o) (row_in_reply table place row h)
+      ∙ (ap (λ (o : Option RowValues). option_and_then given o) (row_in_reply table place row h)
       ∙ (ap (λ (b : Bool). option_and_then given (if b then Some (replied (visible_places schema table) ask (suc place) (shown_part table row)) else None)) met
       ∙ (value_asked (value_at (visible_places schema table) (shown_part table row)) ask.columns column
       (all_there table place row ask.columns h (all_wanted schema asked.select table (places (columns_of schema table)))) wanted

@@ -1,7 +1,7 @@
 -- The catalogs of the worked databases, the greatest counts and generation that a catalog has, and what is no catalog.
-use Rattle.std.specs.Prelude.{ℕ, List, [], ◌∷◌, ◌++◌, take, drop, codes}
-use Rattle.ghost_model.specs.Channel.{Catalog}
-use Rattle.ghost_model.specs.Catalog.{catalog_bytes, IsCatalog, SpellsCatalog, BeginsWithCatalog}
+use Rattle.std.specs.Prelude.{ℕ, List, [], ◌∷◌, ◌++◌, take, drop, replicate, codes}
+use Rattle.ghost_model.specs.core.Channel.{Catalog}
+use Rattle.ghost_model.specs.forms.Catalog.{catalog_bytes, IsCatalog, SpellsCatalog, BeginsWithCatalog}
 use Rattle.ghost_model.specs.examples.Clinic.{clinic_catalog, note_catalog}
 
 pub record CatalogsOfExamples : Type 0 where
@@ -29,3 +29,5 @@ pub record BytesOfCatalogs : Type 0 where
   pub a_byte_more : SpellsNone (catalog_bytes clinic_catalog ++ 0 ∷ [])
   pub a_byte_more_after_it : BeginsWithCatalog (catalog_bytes clinic_catalog ++ 0 ∷ []) clinic_catalog
   pub no_byte : SpellsNone []
+  -- pages that hold nothing
+  pub blank_pages : (count : ℕ) (cat : Catalog) → BeginsWithCatalog (replicate count 255) cat → ⊥

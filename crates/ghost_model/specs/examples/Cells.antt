@@ -1,9 +1,10 @@
 -- Cells and catalogs of the worked databases.
 use Rattle.std.specs.Prelude.{◌≡◌, pos, negsuc, [], ◌∷◌, ◌++◌, codes, length, map, replicate, Some, None}
-use Rattle.ghost_model.specs.Schema.{Integer, Chars, parent, children}
-use Rattle.ghost_model.specs.Values.{Number, Text}
-use Rattle.ghost_model.specs.Cells.{encode_cell, decode_cell}
-use Rattle.ghost_model.specs.Catalog.{canonical_text, table_text, catalog_bytes}
+use Rattle.ghost_model.specs.core.Schema.{Integer, Chars, parent, children}
+use Rattle.ghost_model.specs.core.Values.{Number, Text}
+use Rattle.ghost_model.specs.forms.Cells.{encode_cell}
+use Rattle.ghost_model.specs.readings.CellReading.{decode_cell}
+use Rattle.ghost_model.specs.forms.Catalog.{canonical_text, table_text, catalog_bytes}
 use Rattle.ghost_model.specs.examples.Clinic.{clinic_schema, clinic_catalog, note_schema, note_catalog}
 
 pub record CellsOfValues : Type 0 where

@@ -2,16 +2,17 @@
 use Rattle.std.specs.Prelude.{◌≡◌, ℕ, zero, suc, flat_map, ◌+◌, pos, negsuc, List, [], ◌∷◌, ◌++◌, codes, length, map, take, drop, Option, Some, None, Result, Ok, Err}
 use Rattle.hex.specs.Hex.{decode_of, encode_lower}
 use Rattle.hex.specs.declared.error.FromHexError.{FromHexError}
-use Rattle.ghost_model.specs.Values.{Number, Text}
-use Rattle.ghost_model.specs.Query as query
-use Rattle.ghost_model.specs.Channel.{Frame, Hello, Asking, More, Bye, Welcome, Replied, Done, Sorry, Catalog, Ask, Test, Move, Dial, Send, Take, Close, Answer, Made, Piece, Entry, Journal}
-use Rattle.ghost_model.specs.Asks.{Asked, asked, asked_of, asks_of, ask_payload, ask_in, ReplyRow}
-use Rattle.ghost_model.specs.Moves.{lines}
-use Rattle.ghost_model.specs.NextMove.{IsProper, IsFinished, InvalidFrame, invalid_frame, heard, due}
-use Rattle.ghost_model.specs.Frames.{frame_bytes, kind_of, payload_of, Got, got_of, Found, Short, Bad}
-use Rattle.ghost_model.specs.Catalog.{catalog_bytes}
-use Rattle.ghost_model.specs.Host.{Holding, host_of, host_says, bad_request}
-use Rattle.ghost_model.specs.Split.{public_of}
+use Rattle.ghost_model.specs.core.Values.{Number, Text}
+use Rattle.ghost_model.specs.core.Query as query
+use Rattle.ghost_model.specs.core.Channel.{Frame, HelloFrame, AskFrame, MoreFrame, ByeFrame, WelcomeFrame, RowsFrame, DoneFrame, SorryFrame, Catalog, Ask, Test, Move, Dial, Send, Take, Close, Answer, Made, Piece, Entry, Journal}
+use Rattle.ghost_model.specs.core.Asks.{NumberedAsk, asked, asked_of, asks_of, ask_payload, RowCells}
+use Rattle.ghost_model.specs.readings.AskReading.{ask_in}
+use Rattle.ghost_model.specs.core.Moves.{lines, sent}
+use Rattle.ghost_model.specs.core.NextMove.{IsProper, IsProperWith, IsFinished, InvalidFrame, invalid_frame, heard, due}
+use Rattle.ghost_model.specs.forms.Frames.{frame_bytes, frame_kind, payload_of, Got, got_of, Found, Short, Bad}
+use Rattle.ghost_model.specs.forms.Catalog.{catalog_bytes}
+use Rattle.ghost_model.specs.core.Host.{Holding, host_of, host_says, bad_request}
+use Rattle.ghost_model.specs.core.Split.{public_of}
 use Rattle.ghost_model.specs.examples.Clinic.{clinic, clinic_schema, clinic_catalog, note_schema, note_catalog}
 
 abbrev pub bytes_or_none : Result (List ℕ) FromHexError → List ℕ
@@ -28,41 +29,41 @@ spelled frame = encode_lower (frame_bytes frame)
 
 -- the ask for the cardiologists, their two rows, and the ask for notes of one topic
 abbrev pub cardio_ask : Frame
-cardio_ask = Asking 1 (hex (codes "00010101010163617264696f0000"))
+cardio_ask = AskFrame 1 (hex (codes "00010101010163617264696f0000"))
 
 abbrev pub cardio_rows : Frame
-cardio_rows = Replied 1 (hex (codes "0000000163617264696f00000000000363617264696f0000"))
+cardio_rows = RowsFrame 1 (hex (codes "0000000163617264696f00000000000363617264696f0000"))
 
 abbrev pub topic_ask : Frame
-topic_ask = Asking 1 (hex (codes "000001010161000000"))
+topic_ask = AskFrame 1 (hex (codes "000001010161000000"))
 
 pub record SpellingsOfFrames : Type 0 where
-  pub hello : spelled (Hello 1) ≡ codes "010100040000000000000001"
+  pub hello : spelled (HelloFrame 1) ≡ codes "010100040000000000000001"
   pub ask : spelled cardio_ask ≡ codes "0201000e0000000100010101010163617264696f0000"
-  pub more : spelled (More 1) ≡ codes "0301000000000001"
-  pub bye : spelled Bye ≡ codes "0401000000000000"
+  pub more : spelled (MoreFrame 1) ≡ codes "0301000000000001"
+  pub bye : spelled ByeFrame ≡ codes "0401000000000000"
   pub rows : spelled cardio_rows ≡ codes "12010018000000010000000163617264696f00000000000363617264696f0000"
-  pub done : spelled (Done 1 2) ≡ codes "130100040000000100000002"
-  pub sorry : spelled (Sorry 1 1) ≡ codes "140100010000000101"
+  pub done : spelled (DoneFrame 1 2) ≡ codes "130100040000000100000002"
+  pub sorry : spelled (SorryFrame 1 1) ≡ codes "140100010000000101"
   pub short_ask : spelled topic_ask ≡ codes "0201000900000001000001010161000000"
-  pub ask_of_a_column : spelled (Asking 1 (hex (codes "02010100"))) ≡ codes "020100040000000102010100"
+  pub ask_of_a_column : spelled (AskFrame 1 (hex (codes "02010100"))) ≡ codes "020100040000000102010100"
   pub ask_of_a_column_and_a_condition :
-      spelled (Asking 1 (hex (codes "0201010101068000000000000002"))) ≡ codes "0201000e000000010201010101068000000000000002"
-  pub done_of_no_row : spelled (Done 1 0) ≡ codes "130100040000000100000000"
-  pub welcome : encode_lower (take 9 (frame_bytes (Welcome 1 (catalog_bytes clinic_catalog)))) ≡ codes "1101016e0000000001"
+      spelled (AskFrame 1 (hex (codes "0201010101068000000000000002"))) ≡ codes "0201000e000000010201010101068000000000000002"
+  pub done_of_no_row : spelled (DoneFrame 1 0) ≡ codes "130100040000000100000000"
+  pub welcome : encode_lower (take 9 (frame_bytes (WelcomeFrame 1 (catalog_bytes clinic_catalog)))) ≡ codes "1101016e0000000001"
 
 -- what bytes in hexadecimal amount to that begin with a frame
 abbrev pub got : List ℕ → Got
 got text = got_of (hex text)
 
 pub record ReadingsOfFrames : Type 0 where
-  pub hello : got (codes "010100040000000000000001") ≡ Found (Hello 1)
+  pub hello : got (codes "010100040000000000000001") ≡ Found (HelloFrame 1)
   pub ask : got (codes "0201000e0000000100010101010163617264696f0000") ≡ Found cardio_ask
   pub rows : got (codes "12010018000000010000000163617264696f00000000000363617264696f0000") ≡ Found cardio_rows
-  pub more_with_others_after : got (codes "03010000000000010401000000000000") ≡ Found (More 1)
-  pub bye : got (codes "0401000000000000") ≡ Found Bye
-  pub done : got (codes "130100040000000100000002") ≡ Found (Done 1 2)
-  pub sorry : got (codes "140100010000000101") ≡ Found (Sorry 1 1)
+  pub more_with_others_after : got (codes "03010000000000010401000000000000") ≡ Found (MoreFrame 1)
+  pub bye : got (codes "0401000000000000") ≡ Found ByeFrame
+  pub done : got (codes "130100040000000100000002") ≡ Found (DoneFrame 1 2)
+  pub sorry : got (codes "140100010000000101") ≡ Found (SorryFrame 1 1)
   pub nothing : got [] ≡ Short 8
   pub part_of_a_header : got (codes "1201001800") ≡ Short 3
   pub part_of_a_payload : got (codes "130100040000000100") ≡ Short 3
@@ -111,20 +112,20 @@ closed = entry Close Made
 abbrev pub topic_journal : Journal
 topic_journal =
     dialled []
-    ∷ sends (Hello 1)
+    ∷ sends (HelloFrame 1)
     ∷ takes 8 (codes "1101006500000000")
     ∷ welcomed note_catalog
     ∷ sends topic_ask
     ∷ takes 8 (codes "1201000800000001")
     ∷ takes 8 (codes "0000000100000003")
-    ∷ sends (More 1)
+    ∷ sends (MoreFrame 1)
     ∷ takes 8 (codes "1301000400000001")
     ∷ takes 4 (codes "00000002")
-    ∷ sends Bye
+    ∷ sends ByeFrame
     ∷ closed
     ∷ []
 
-abbrev pub asks_of_text : List Ask → List Asked
+abbrev pub asks_of_text : List Ask → List NumberedAsk
 asks_of_text asks = map (asked 1) asks
 
 pub record JournalOfTheNotes : Type 0 where
@@ -140,6 +141,11 @@ pub record JournalOfTheNotes : Type 0 where
 abbrev pub cardio_text : List ℕ
 cardio_text =
     codes "SELECT visit.id, specialty FROM visit, doctor WHERE doc = doctor.id AND specialty = 'cardio' AND purpose = 'flu'"
+
+-- the same but for the value of a hidden column
+abbrev pub other_text : List ℕ
+other_text =
+    codes "SELECT visit.id, specialty FROM visit, doctor WHERE doc = doctor.id AND specialty = 'cardio' AND purpose = 'none'"
 
 abbrev pub cardio_query : query.Query
 cardio_query = record {
@@ -229,43 +235,157 @@ pub record AsksOfBytes : Type 0 where
   pub a_byte_too_many : ask_read (codes "02000000") ≡ None
   pub a_byte_too_few : ask_read (codes "0200") ≡ None
 
-abbrev pub cardio_asks : List Asked
+abbrev pub cardio_asks : List NumberedAsk
 cardio_asks = asks_of_text (asks_of clinic_schema cardio_query)
 
 -- the session of the first text over the clinic
 abbrev pub cardio_journal : Journal
 cardio_journal =
     dialled []
-    ∷ sends (Hello 1)
+    ∷ sends (HelloFrame 1)
     ∷ takes 8 (codes "1101016e00000000")
     ∷ welcomed clinic_catalog
     ∷ sends cardio_ask
     ∷ takes 8 (codes "1201001800000001")
     ∷ takes 24 (codes "0000000163617264696f00000000000363617264696f0000")
-    ∷ sends (More 1)
+    ∷ sends (MoreFrame 1)
     ∷ takes 8 (codes "1301000400000001")
     ∷ takes 4 (codes "00000002")
-    ∷ sends Bye
+    ∷ sends ByeFrame
     ∷ closed
     ∷ []
 
 pub record JournalOfTheClinic : Type 0 where
   pub proper : IsProper clinic_catalog [] (cardio_text ∷ []) cardio_journal
+  pub also_for_another_hidden_value : IsProper clinic_catalog [] (other_text ∷ []) cardio_journal
   pub finished : IsFinished cardio_journal
 
 -- the session of a script without an ask
 abbrev pub silent_journal : Journal
 silent_journal =
-    dialled [] ∷ sends (Hello 1) ∷ takes 8 (codes "1101016e00000000") ∷ welcomed clinic_catalog ∷ sends Bye ∷ closed ∷ []
+    dialled [] ∷ sends (HelloFrame 1) ∷ takes 8 (codes "1101016e00000000") ∷ welcomed clinic_catalog ∷ sends ByeFrame ∷ closed ∷ []
 
 pub record JournalWithoutAsks : Type 0 where
   pub proper : IsProper clinic_catalog [] [] silent_journal
   pub also_for_hidden_columns_alone : IsProper clinic_catalog [] (name_text ∷ []) silent_journal
   pub finished : IsFinished silent_journal
 
+-- how a session with the clinic begins: up to its first ask, or BYE
+abbrev pub greeted : Catalog → Journal
+greeted catalog = dialled [] ∷ sends (HelloFrame 1) ∷ takes 8 (codes "1101016e00000000") ∷ welcomed catalog ∷ []
+
+abbrev pub day_asks : List NumberedAsk
+day_asks = asks_of_text (asks_of clinic_schema day_query)
+
+-- the days of the visits of a clinic without a visit
+abbrev pub visitless_catalog : Catalog
+visitless_catalog = record clinic_catalog { counts = 3 ∷ 2 ∷ 0 ∷ [] }
+
+abbrev pub rowless_journal : Journal
+rowless_journal =
+    greeted visitless_catalog
+    ++ sends (AskFrame 1 (hex (codes "02010100")))
+    ∷ takes 8 (codes "1301000400000001")
+    ∷ takes 4 (codes "00000000")
+    ∷ sends ByeFrame
+    ∷ closed
+    ∷ []
+
+-- two texts that ask: for the cardiologists, and for the visits from day 2 on
+abbrev pub two_asks : List NumberedAsk
+two_asks = cardio_asks ++ map (asked 2) (asks_of clinic_schema late_query)
+
+abbrev pub late_ask : Frame
+late_ask = AskFrame 2 (hex (codes "0201010101068000000000000002"))
+
+-- the second text is asked and answered by one row, and the session ends
+abbrev pub late_entries : Journal
+late_entries =
+    sends late_ask
+    ∷ takes 8 (codes "1201000c00000002")
+    ∷ takes 12 (codes "000000038000000000000009")
+    ∷ sends (MoreFrame 2)
+    ∷ takes 8 (codes "1301000400000002")
+    ∷ takes 4 (codes "00000001")
+    ∷ sends ByeFrame
+    ∷ closed
+    ∷ []
+
+abbrev pub journal_of_two : Journal
+journal_of_two =
+    greeted clinic_catalog
+    ++ sends cardio_ask
+    ∷ takes 8 (codes "1201001800000001")
+    ∷ takes 24 (codes "0000000163617264696f00000000000363617264696f0000")
+    ∷ sends (MoreFrame 1)
+    ∷ takes 8 (codes "1301000400000001")
+    ∷ takes 4 (codes "00000002")
+    ∷ late_entries
+
+-- where a reply has no row no MORE is sent; the ask of a second text follows the end of the first one's
+pub record JournalsOfAsks : Type 0 where
+  pub no_row : IsProperWith visitless_catalog [] day_asks rowless_journal
+  pub two_texts : IsProperWith clinic_catalog [] two_asks journal_of_two
+
+-- the first text is refused
+abbrev pub refused_journal : Journal
+refused_journal =
+    greeted clinic_catalog
+    ++ sends cardio_ask
+    ∷ takes 8 (codes "1401000100000001")
+    ∷ takes 1 (codes "01")
+    ∷ late_entries
+
+-- a second ROWS frame has the identifier of the first one
+abbrev pub repeating_journal : Journal
+repeating_journal =
+    greeted clinic_catalog
+    ++ sends cardio_ask
+    ∷ takes 8 (codes "1201000c00000001")
+    ∷ takes 12 (codes "0000000163617264696f0000")
+    ∷ sends (MoreFrame 1)
+    ∷ takes 8 (codes "1201000c00000001")
+    ∷ takes 12 (codes "0000000163617264696f0000")
+    ∷ closed
+    ∷ []
+
+-- the WELCOME frame has another byte in the place of the catalog's first one
+abbrev pub unwelcome_journal : Journal
+unwelcome_journal =
+    dialled []
+    ∷ sends (HelloFrame 1)
+    ∷ takes 8 (codes "1101016e00000000")
+    ∷ entry (Take 366) (Piece (1 ∷ 0 ∷ drop 1 (catalog_bytes clinic_catalog)))
+    ∷ closed
+    ∷ []
+
+-- a refusal ends the asks of its own text alone; an invalid frame ends the session, at once
+pub record JournalsCutShort : Type 0 where
+  pub refused : IsProperWith clinic_catalog [] two_asks refused_journal
+  pub one_more : IsProperWith clinic_catalog [] cardio_asks repeating_journal
+  pub nothing_is_asked : IsProperWith clinic_catalog [] cardio_asks unwelcome_journal
+
+-- takes of what is still missing, each answered by one byte
+abbrev pub byte_by_byte : List ℕ → Journal
+byte_by_byte [] = []
+byte_by_byte (byte ∷ bytes) = entry (Take (1 + length bytes)) (Piece (byte ∷ [])) ∷ byte_by_byte bytes
+
+-- the session of the first text, the reply of which comes byte by byte
+abbrev pub cut_journal : Journal
+cut_journal =
+    greeted clinic_catalog
+    ++ sends cardio_ask
+    ∷ (byte_by_byte (hex (codes "1201001800000001")) ++ (byte_by_byte (hex (codes "0000000163617264696f00000000000363617264696f0000"))
+    ++ sends (MoreFrame 1) ∷ (byte_by_byte (hex (codes "1301000400000001")) ++ (byte_by_byte (hex (codes "00000002")) ++ sends ByeFrame ∷ closed ∷ []))))
+
+-- however the stream is cut, the same is sent
+pub record JournalInSingleBytes : Type 0 where
+  pub proper : IsProperWith clinic_catalog [] cardio_asks cut_journal
+  pub sends_the_same : sent cut_journal ≡ sent cardio_journal
+
 -- the clinic's one WELCOME frame, and received bytes that follow it, in hexadecimal
 abbrev pub clinic_welcome : List ℕ
-clinic_welcome = frame_bytes (Welcome 1 (catalog_bytes clinic_catalog))
+clinic_welcome = frame_bytes (WelcomeFrame 1 (catalog_bytes clinic_catalog))
 
 abbrev pub after_welcome : List ℕ → List ℕ
 after_welcome text = clinic_welcome ++ hex text
@@ -296,18 +416,18 @@ pub record InvalidFrames : Type 0 where
   pub a_header_past_the_greatest_length : invalid_in (after_welcome (codes "1201080400000001")) ≡ invalid 18 374
   pub sorry_of_zero : invalid_in (after_welcome (codes "140100010000000100")) ≡ invalid 20 374
   pub another_byte_of_the_catalog :
-      invalid_in (frame_bytes (Welcome 1 (0 ∷ drop 1 (catalog_bytes clinic_catalog)))) ≡ invalid 17 0
+      invalid_in (frame_bytes (WelcomeFrame 1 (0 ∷ drop 1 (catalog_bytes clinic_catalog)))) ≡ invalid 17 0
   pub another_generation :
-      invalid_in (frame_bytes (Welcome 1 (catalog_bytes (record clinic_catalog { generation = 2 })))) ≡ invalid 17 0
-  pub a_last_frame_that_is_not_marked : invalid_in (frame_bytes (Welcome 0 (catalog_bytes clinic_catalog))) ≡ invalid 17 0
+      invalid_in (frame_bytes (WelcomeFrame 1 (catalog_bytes (record clinic_catalog { generation = 2 })))) ≡ invalid 17 0
+  pub a_last_frame_that_is_not_marked : invalid_in (frame_bytes (WelcomeFrame 0 (catalog_bytes clinic_catalog))) ≡ invalid 17 0
   pub a_second_hello : invalid_in (hex (codes "0101000400000000")) ≡ invalid 1 0
   pub a_longer_catalog : invalid_in (hex (codes "1101016f00000000")) ≡ invalid 17 0
 
 -- two texts, each with the ask for cardiologists; and a text with two asks before one with a third
-abbrev pub same_twice : List Asked
+abbrev pub same_twice : List NumberedAsk
 same_twice = cardio_asks ++ map (asked 2) (asks_of clinic_schema cardio_query)
 
-abbrev pub two_then_one : List Asked
+abbrev pub two_then_one : List NumberedAsk
 two_then_one = map (asked 1) (asks_of clinic_schema both_query) ++ map (asked 3) (asks_of clinic_schema day_query)
 
 -- the payload of the asks of these sessions
@@ -315,31 +435,31 @@ abbrev pub cardio_payload : List ℕ
 cardio_payload = hex (codes "00010101010163617264696f0000")
 
 pub record FramesThatAreDue : Type 0 where
-  pub at_first : due clinic_catalog same_twice [] ≡ Hello 1 ∷ []
-  pub welcomed : due clinic_catalog same_twice clinic_welcome ≡ Hello 1 ∷ Asking 1 cardio_payload ∷ []
+  pub at_first : due clinic_catalog same_twice [] ≡ HelloFrame 1 ∷ []
+  pub welcomed : due clinic_catalog same_twice clinic_welcome ≡ HelloFrame 1 ∷ AskFrame 1 cardio_payload ∷ []
   pub in_two_frames :
       due clinic_catalog same_twice
-      (frame_bytes (Welcome 0 (take 300 (catalog_bytes clinic_catalog)))
-      ++ frame_bytes (Welcome 1 (drop 300 (catalog_bytes clinic_catalog))))
-      ≡ Hello 1 ∷ Asking 1 cardio_payload ∷ []
+      (frame_bytes (WelcomeFrame 0 (take 300 (catalog_bytes clinic_catalog)))
+      ++ frame_bytes (WelcomeFrame 1 (drop 300 (catalog_bytes clinic_catalog))))
+      ≡ HelloFrame 1 ∷ AskFrame 1 cardio_payload ∷ []
   pub serials_go_on :
       due clinic_catalog same_twice (after_welcome (one_row (codes "00000001") ++ codes "130100040000000100000001"))
-      ≡ Hello 1 ∷ Asking 1 cardio_payload ∷ More 1 ∷ Asking 2 cardio_payload ∷ []
+      ≡ HelloFrame 1 ∷ AskFrame 1 cardio_payload ∷ MoreFrame 1 ∷ AskFrame 2 cardio_payload ∷ []
   pub sorry_ends_a_text :
       due clinic_catalog two_then_one (after_welcome (codes "140100010000000101"))
-      ≡ Hello 1 ∷ Asking 1 (hex (codes "00010100")) ∷ Asking 2 (hex (codes "02010100")) ∷ []
+      ≡ HelloFrame 1 ∷ AskFrame 1 (hex (codes "00010100")) ∷ AskFrame 2 (hex (codes "02010100")) ∷ []
   pub nothing_is_left :
       due clinic_catalog two_then_one (after_welcome (codes "140100010000000101130100040000000200000000"))
-      ≡ Hello 1 ∷ Asking 1 (hex (codes "00010100")) ∷ Asking 2 (hex (codes "02010100")) ∷ Bye ∷ []
+      ≡ HelloFrame 1 ∷ AskFrame 1 (hex (codes "00010100")) ∷ AskFrame 2 (hex (codes "02010100")) ∷ ByeFrame ∷ []
   pub nothing_after_an_invalid_frame :
       due clinic_catalog cardio_asks (after_welcome (codes "130100040000000100000001130100040000000100000000"))
-      ≡ Hello 1 ∷ Asking 1 cardio_payload ∷ []
+      ≡ HelloFrame 1 ∷ AskFrame 1 cardio_payload ∷ []
 
 abbrev pub clinic_host : Holding
 clinic_host = host_of clinic_catalog (public_of clinic_schema clinic)
 
 -- a host that holds so many notes of which no cell is asked for
-abbrev pub counting : (identifier : ℕ) (count : ℕ) → List ReplyRow
+abbrev pub counting : (identifier : ℕ) (count : ℕ) → List RowCells
 counting identifier zero = []
 counting identifier (suc count) = record { identifier = identifier; cells = [] } ∷ counting (identifier + 1) count
 
@@ -351,26 +471,26 @@ key_bytes frames = flat_map frame_bytes frames
 
 -- the kinds of frames, and the lengths of their payloads
 abbrev pub shape_of : Frame → List ℕ
-shape_of frame = kind_of frame ∷ length (payload_of frame) ∷ []
+shape_of frame = frame_kind frame ∷ length (payload_of frame) ∷ []
 
 pub record AnswersOfTheHost : Type 0 where
   pub a_session :
-      host_says clinic_host (key_bytes (Hello 1 ∷ cardio_ask ∷ More 1 ∷ Bye ∷ []))
-      ≡ Welcome 1 (catalog_bytes clinic_catalog) ∷ cardio_rows ∷ Done 1 2 ∷ []
+      host_says clinic_host (key_bytes (HelloFrame 1 ∷ cardio_ask ∷ MoreFrame 1 ∷ ByeFrame ∷ []))
+      ≡ WelcomeFrame 1 (catalog_bytes clinic_catalog) ∷ cardio_rows ∷ DoneFrame 1 2 ∷ []
   pub conditions_are_met :
-      host_says clinic_host (key_bytes (Hello 1 ∷ Asking 1 (hex (codes "0201010101068000000000000006")) ∷ More 1 ∷ Bye ∷ []))
-      ≡ Welcome 1 (catalog_bytes clinic_catalog) ∷ Replied 1 (hex (codes "000000038000000000000009")) ∷ Done 1 1 ∷ []
-  pub another_generation : host_says clinic_host (key_bytes (Hello 7 ∷ [])) ≡ Welcome 1 (catalog_bytes clinic_catalog) ∷ []
+      host_says clinic_host (key_bytes (HelloFrame 1 ∷ AskFrame 1 (hex (codes "0201010101068000000000000006")) ∷ MoreFrame 1 ∷ ByeFrame ∷ []))
+      ≡ WelcomeFrame 1 (catalog_bytes clinic_catalog) ∷ RowsFrame 1 (hex (codes "000000038000000000000009")) ∷ DoneFrame 1 1 ∷ []
+  pub another_generation : host_says clinic_host (key_bytes (HelloFrame 7 ∷ [])) ≡ WelcomeFrame 1 (catalog_bytes clinic_catalog) ∷ []
   pub no_row :
-      map shape_of (host_says (note_host 0) (key_bytes (Hello 1 ∷ topic_ask ∷ Bye ∷ []))) ≡ (17 ∷ 101 ∷ []) ∷ (19 ∷ 4 ∷ []) ∷ []
+      map shape_of (host_says (note_host 0) (key_bytes (HelloFrame 1 ∷ topic_ask ∷ ByeFrame ∷ []))) ≡ (17 ∷ 101 ∷ []) ∷ (19 ∷ 4 ∷ []) ∷ []
   pub as_many_rows_as_fit :
-      map shape_of (host_says (note_host 511) (key_bytes (Hello 1 ∷ topic_ask ∷ More 1 ∷ More 1 ∷ Bye ∷ [])))
+      map shape_of (host_says (note_host 511) (key_bytes (HelloFrame 1 ∷ topic_ask ∷ MoreFrame 1 ∷ MoreFrame 1 ∷ ByeFrame ∷ [])))
       ≡ (17 ∷ 101 ∷ []) ∷ (18 ∷ 2040 ∷ []) ∷ (18 ∷ 4 ∷ []) ∷ (19 ∷ 4 ∷ []) ∷ []
   pub nothing_after_a_wrong_serial :
-      host_says clinic_host (key_bytes (Hello 1 ∷ Asking 2 cardio_payload ∷ Bye ∷ [])) ≡ Welcome 1 (catalog_bytes clinic_catalog) ∷ []
-  pub no_such_table : bad_request clinic_host (key_bytes (Hello 1 ∷ Asking 1 (hex (codes "030000")) ∷ [])) ≡ invalid 2 12
-  pub a_second_hello : bad_request clinic_host (key_bytes (Hello 1 ∷ Hello 1 ∷ [])) ≡ invalid 1 12
-  pub bye_within_a_reply : bad_request clinic_host (key_bytes (Hello 1 ∷ cardio_ask ∷ Bye ∷ [])) ≡ invalid 4 34
-  pub a_frame_of_a_host : bad_request clinic_host (key_bytes (Done 1 1 ∷ [])) ≡ invalid 19 0
-  pub no_such_kind : bad_request clinic_host (key_bytes (Hello 1 ∷ []) ++ hex (codes "0501000000000000")) ≡ invalid 5 12
-  pub nothing_is_read_after_bye : bad_request clinic_host (key_bytes (Hello 1 ∷ Bye ∷ Bye ∷ [])) ≡ None
+      host_says clinic_host (key_bytes (HelloFrame 1 ∷ AskFrame 2 cardio_payload ∷ ByeFrame ∷ [])) ≡ WelcomeFrame 1 (catalog_bytes clinic_catalog) ∷ []
+  pub no_such_table : bad_request clinic_host (key_bytes (HelloFrame 1 ∷ AskFrame 1 (hex (codes "030000")) ∷ [])) ≡ invalid 2 12
+  pub a_second_hello : bad_request clinic_host (key_bytes (HelloFrame 1 ∷ HelloFrame 1 ∷ [])) ≡ invalid 1 12
+  pub bye_within_a_reply : bad_request clinic_host (key_bytes (HelloFrame 1 ∷ cardio_ask ∷ ByeFrame ∷ [])) ≡ invalid 4 34
+  pub a_frame_of_a_host : bad_request clinic_host (key_bytes (DoneFrame 1 1 ∷ [])) ≡ invalid 19 0
+  pub no_such_kind : bad_request clinic_host (key_bytes (HelloFrame 1 ∷ []) ++ hex (codes "0501000000000000")) ≡ invalid 5 12
+  pub nothing_is_read_after_bye : bad_request clinic_host (key_bytes (HelloFrame 1 ∷ ByeFrame ∷ ByeFrame ∷ [])) ≡ None

@@ -1,8 +1,8 @@
 -- The worked databases that the examples share: the clinic, of doctors, patients and visits, and the notes, one table.
 use Rattle.std.specs.Prelude.{ℕ, pos, true, false, List, [], ◌∷◌, codes, Some, None}
-use Rattle.ghost_model.specs.Schema.{Schema, Table, Column, Integer, Chars}
-use Rattle.ghost_model.specs.Values.{Value, Number, Text, Row, Database}
-use Rattle.ghost_model.specs.Channel.{Catalog}
+use Rattle.ghost_model.specs.core.Schema.{Schema, Table, Column, Integer, Chars}
+use Rattle.ghost_model.specs.core.Values.{Value, Number, Text, Row, Database}
+use Rattle.ghost_model.specs.core.Channel.{Catalog}
 
 abbrev pub id_column : Column
 id_column = record { name = codes "id"; kind = Integer; hidden = false; child = None }

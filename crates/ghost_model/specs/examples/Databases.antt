@@ -1,10 +1,12 @@
 -- The clinic's files and the database that they spell, and files that break the rules of loading: each rule alone, and
--- two rules at once, of which the earlier one is told.
-use Rattle.std.specs.Prelude.{◌≡◌, ℕ, pos, negsuc, List, [], ◌∷◌, ◌++◌, flat_map, codes, Option, Some, None}
-use Rattle.ghost_model.specs.Schema.{Schema}
-use Rattle.ghost_model.specs.Database.{database_of, integer_of, leads, records_of}
-use Rattle.ghost_model.specs.LoadFaults.{LoadFault, Header, RowLimit, FieldCount, BadId, BadInt, BadChars, BadReference, place, load_fault, load_faults, row_faults}
-use Rattle.ghost_model.specs.examples.Clinic.{id_column, number_column, text_column, key_column, patient_table, clinic_schema, clinic}
+-- two rules at once, of which the earlier one is told. The parts of rows, and what is no image.
+use Rattle.std.specs.Prelude.{◌≡◌, ℕ, pos, negsuc, List, [], ◌∷◌, ◌++◌, flat_map, take, codes, Option, Some, None}
+use Rattle.ghost_model.specs.core.Schema.{Schema, Column}
+use Rattle.ghost_model.specs.core.Values.{Text, Row}
+use Rattle.ghost_model.specs.core.Split.{Public, is_open, is_closed, part_of, column_places, asked_value, rejoined_row, public_of, image, SpellsImage}
+use Rattle.ghost_model.specs.core.Database.{database_of, integer_of, leads, records_of}
+use Rattle.ghost_model.specs.refusals.LoadFaults.{LoadFault, Header, RowLimit, FieldCount, BadId, BadInt, BadChars, BadReference, place, load_fault, load_faults, row_faults}
+use Rattle.ghost_model.specs.examples.Clinic.{id_column, number_column, text_column, hidden_text_column, key_column, patient_table, clinic_schema, clinic_catalog, clinic, number}
 
 -- lines that each end with a line feed
 abbrev pub lines : List (List ℕ) → List ℕ
@@ -167,3 +169,34 @@ pub record TwoRulesBroken : Type 0 where
       ≡ Some (BadReference (place 2 2 4))
   pub references_by_column : first_fault (cardio ∷ []) (ann ∷ []) (codes "1,5,flu,2,2" ∷ [])
       ≡ Some (BadReference (place 2 2 3))
+
+-- columns of which every second one is hidden, and a row
+abbrev pub mixed_columns : List Column
+mixed_columns =
+    id_column ∷ number_column (codes "count") ∷ hidden_text_column (codes "name") 4 ∷ text_column (codes "word") 4
+    ∷ key_column (codes "held") 1 ∷ []
+
+abbrev pub mixed_row : Row
+mixed_row = number 1 ∷ number 5 ∷ Text (codes "Ann") ∷ Text (codes "ward") ∷ number 9 ∷ []
+
+abbrev pub mixed_visible : Row
+mixed_visible = number 5 ∷ Text (codes "ward") ∷ []
+
+abbrev pub mixed_hidden : Row
+mixed_hidden = Text (codes "Ann") ∷ number 9 ∷ []
+
+-- the two parts of a row, and the row again
+pub record PartsOfRows : Type 0 where
+  pub visible : part_of is_open mixed_columns mixed_row ≡ mixed_visible
+  pub hidden : part_of is_closed mixed_columns mixed_row ≡ mixed_hidden
+  pub again : rejoined_row mixed_columns 1 mixed_visible mixed_hidden ≡ mixed_row
+  pub a_value_is_missing : part_of is_open mixed_columns (number 1 ∷ number 5 ∷ []) ≡ number 5 ∷ []
+  pub a_column_is_missing : part_of is_open (id_column ∷ number_column (codes "count") ∷ []) mixed_row ≡ number 5 ∷ []
+  pub a_short_part : rejoined_row mixed_columns 1 (number 5 ∷ []) mixed_hidden
+      ≡ number 1 ∷ number 5 ∷ Text (codes "Ann") ∷ []
+  pub asked : asked_value (column_places is_open mixed_columns) mixed_visible 3 ≡ Text (codes "ward")
+
+-- the clinic's image has 437 bytes. No public part makes its first 436
+pub record NoShorterImage : Type 0 where
+  pub last_byte :
+      (public : Public) → SpellsImage clinic_catalog public (take 436 (image clinic_catalog (public_of clinic_schema clinic))) → ⊥

@@ -1,10 +1,11 @@
 -- What the clinic's flash holds, file by file, and what loading it takes.
-use Rattle.std.specs.Prelude.{◌≡◌, ℕ, List, [], ◌∷◌, ◌++◌, codes, length, map, replicate}
-use Rattle.ghost_model.specs.Split.{Hidden, hidden_of}
-use Rattle.ghost_model.specs.Runs.{Stores}
-use Rattle.ghost_model.specs.Layout.{column_file}
-use Rattle.ghost_model.specs.Flash.{catalog_page, hidden_cells, AreValues, rows_with, level_records, directory_records, subtree_record, rows_leading_to, id_record, ids}
-use Rattle.ghost_model.specs.Work.{catalog_pages, file_pages, pages_built}
+use Rattle.std.specs.Prelude.{◌≡◌, ℕ, ◌-◌, ◌==◌, nat_lt, List, [], ◌∷◌, ◌++◌, codes, length, drop, map, get_or, replicate, if◌then◌else◌}
+use Rattle.std.specs.List.{concat}
+use Rattle.ghost_model.specs.core.Split.{Hidden, hidden_of}
+use Rattle.ghost_model.specs.forms.Runs.{Stores}
+use Rattle.ghost_model.specs.forms.Layout.{levels_of, above_of, column_file}
+use Rattle.ghost_model.specs.forms.Flash.{Holds, HoldsSoFar, catalog_page, hidden_cells, AreValues, value_lists, list_records, directory_records, subtree_record, id_lists, ids}
+use Rattle.ghost_model.specs.forms.Work.{catalog_pages, file_pages, pages_built}
 use Rattle.ghost_model.specs.examples.Clinic.{clinic_schema, clinic_catalog, note_schema, note_catalog, clinic, notes}
 
 abbrev pub hidden_clinic : Hidden
@@ -59,33 +60,100 @@ pub record IndexesOfTheClinic : Type 0 where
       map (subtree_record clinic_schema hidden_clinic 2) (ids 4)
       ≡ (small 1 ++ small 1) ∷ (small 3 ++ small 2) ∷ (small 3 ++ small 1) ∷ (small 2 ++ small 2) ∷ []
   pub countries_of_doctors :
-      level_records (rows_with clinic_catalog hidden_clinic 0 2 0) countries ≡ small 2 ∷ small 3 ∷ small 1 ∷ []
+      list_records (value_lists clinic_catalog hidden_clinic 0 2 countries 0) ≡ small 2 ∷ small 3 ∷ small 1 ∷ []
   pub countries_of_visits :
-      level_records (rows_with clinic_catalog hidden_clinic 0 2 2) countries
+      list_records (value_lists clinic_catalog hidden_clinic 0 2 countries 2)
       ≡ small 2 ∷ small 3 ∷ small 4 ∷ small 1 ∷ []
   pub directory_of_countries :
-      directory_records clinic_catalog hidden_clinic 0 2 countries
+      directory_records countries (levels_of clinic_schema 0) (value_lists clinic_catalog hidden_clinic 0 2 countries)
       ≡ (codes "ES" ++ (small 0 ++ (small 2 ++ (small 0 ++ small 3))))
       ∷ (codes "FR" ++ (small 2 ++ (small 1 ++ (small 3 ++ small 1)))) ∷ []
   pub directory_of_names :
-      directory_records clinic_catalog hidden_clinic 1 2 names
+      directory_records names (levels_of clinic_schema 1) (value_lists clinic_catalog hidden_clinic 1 2 names)
       ≡ (ann ++ (small 0 ++ (small 1 ++ (small 0 ++ small 2))))
       ∷ (bob ++ (small 1 ++ (small 1 ++ (small 2 ++ small 2)))) ∷ []
   pub directory_of_purposes :
-      directory_records clinic_catalog hidden_clinic 2 2 purposes
+      directory_records purposes (levels_of clinic_schema 2) (value_lists clinic_catalog hidden_clinic 2 2 purposes)
       ≡ (check ++ (small 0 ++ small 1)) ∷ (flu ++ (small 1 ++ small 3)) ∷ []
   pub purposes_of_visits :
-      level_records (rows_with clinic_catalog hidden_clinic 2 2 2) purposes
+      list_records (value_lists clinic_catalog hidden_clinic 2 2 purposes 2)
       ≡ small 2 ∷ small 1 ∷ small 3 ∷ small 4 ∷ []
   pub doctors_of_visits :
-      level_records (rows_with clinic_catalog hidden_clinic 2 3 2) doctors
+      list_records (value_lists clinic_catalog hidden_clinic 2 3 doctors 2)
       ≡ small 1 ∷ small 4 ∷ small 2 ∷ small 3 ∷ []
   pub directory_of_doctors :
-      map (id_record clinic_catalog hidden_clinic 0) (ids 3)
+      directory_records (replicate 3 []) (above_of clinic_schema 0) (id_lists clinic_catalog hidden_clinic 0)
       ≡ (small 0 ++ small 1) ∷ (small 1 ++ small 1) ∷ (small 2 ++ small 2) ∷ []
   pub visits_of_doctors :
-      level_records (rows_leading_to clinic_catalog hidden_clinic 0 2) (ids 3)
+      list_records (id_lists clinic_catalog hidden_clinic 0 2)
       ≡ small 1 ∷ small 4 ∷ small 2 ∷ small 3 ∷ []
+
+-- All pages of the clinic: those of the catalog, and from page 64 on these records, which a page has before bytes 0xFF.
+abbrev pub place_of : (first count : ℕ) → List ℕ
+place_of first count = small first ++ small count
+
+-- doctor.country, its index (header, directory, doctors, visits), and the id index of doctors (directory, visits)
+abbrev pub doctor_files : List (List (List ℕ))
+doctor_files =
+    (codes "FR" ∷ codes "ES" ∷ codes "ES" ∷ [])
+    ∷ (small 2 ∷ [])
+    ∷ ((codes "ES" ++ (place_of 0 2 ++ place_of 0 3)) ∷ (codes "FR" ++ (place_of 2 1 ++ place_of 3 1)) ∷ [])
+    ∷ (small 2 ∷ small 3 ∷ small 1 ∷ [])
+    ∷ (small 2 ∷ small 3 ∷ small 4 ∷ small 1 ∷ [])
+    ∷ (place_of 0 1 ∷ place_of 1 1 ∷ place_of 2 2 ∷ [])
+    ∷ (small 1 ∷ small 4 ∷ small 2 ∷ small 3 ∷ [])
+    ∷ []
+
+-- the same of patient.name
+abbrev pub patient_files : List (List (List ℕ))
+patient_files =
+    (ann ∷ bob ∷ [])
+    ∷ (small 2 ∷ [])
+    ∷ ((ann ++ (place_of 0 1 ++ place_of 0 2)) ∷ (bob ++ (place_of 1 1 ++ place_of 2 2)) ∷ [])
+    ∷ (small 1 ∷ small 2 ∷ [])
+    ∷ (small 1 ∷ small 3 ∷ small 2 ∷ small 4 ∷ [])
+    ∷ (place_of 0 2 ∷ place_of 2 2 ∷ [])
+    ∷ (small 1 ∷ small 3 ∷ small 2 ∷ small 4 ∷ [])
+    ∷ []
+
+-- visit.purpose, visit.doc and visit.pat, the doctor and the patient of each visit, and the three indexes
+abbrev pub visit_files : List (List (List ℕ))
+visit_files =
+    (flu ∷ check ∷ flu ∷ flu ∷ [])
+    ∷ (key 1 ∷ key 3 ∷ key 3 ∷ key 2 ∷ [])
+    ∷ (key 1 ∷ key 2 ∷ key 1 ∷ key 2 ∷ [])
+    ∷ ((small 1 ++ small 1) ∷ (small 3 ++ small 2) ∷ (small 3 ++ small 1) ∷ (small 2 ++ small 2) ∷ [])
+    ∷ (small 2 ∷ [])
+    ∷ ((check ++ place_of 0 1) ∷ (flu ++ place_of 1 3) ∷ [])
+    ∷ (small 2 ∷ small 1 ∷ small 3 ∷ small 4 ∷ [])
+    ∷ (small 3 ∷ [])
+    ∷ ((key 1 ++ place_of 0 1) ∷ (key 2 ++ place_of 1 1) ∷ (key 3 ++ place_of 2 2) ∷ [])
+    ∷ (small 1 ∷ small 4 ∷ small 2 ∷ small 3 ∷ [])
+    ∷ (small 2 ∷ [])
+    ∷ ((key 1 ++ place_of 0 2) ∷ (key 2 ++ place_of 2 2) ∷ [])
+    ∷ (small 1 ∷ small 3 ∷ small 2 ∷ small 4 ∷ [])
+    ∷ []
+
+abbrev pub filled : List ℕ → List ℕ
+filled bytes = bytes ++ replicate (2048 - length bytes) 0xff
+
+abbrev pub clinic_page : (place : ℕ) → List ℕ
+clinic_page place =
+    if nat_lt place 64 then catalog_page clinic_catalog place
+    else filled (concat (get_or (doctor_files ++ (patient_files ++ visit_files)) (place - 64) []))
+
+-- pages of which one has another byte at its beginning
+abbrev pub changed : (at byte : ℕ) → (place : ℕ) → List ℕ
+changed at byte place = if place == at then byte ∷ drop 1 (clinic_page place) else clinic_page place
+
+pub record HoldingsOfTheClinic : Type 0 where
+  pub whole : Holds clinic_page clinic_catalog hidden_clinic
+  pub so_far : HoldsSoFar clinic_page clinic_catalog hidden_clinic
+  pub another_catalog : HoldsSoFar (changed 0 0) clinic_catalog hidden_clinic → ⊥
+  pub another_country : HoldsSoFar (changed 64 0) clinic_catalog hidden_clinic → ⊥
+  pub another_place_of_visits : Holds (changed 69 1) clinic_catalog hidden_clinic → ⊥
+  pub another_visit_of_a_doctor : Holds (changed 70 1) clinic_catalog hidden_clinic → ⊥
+  pub another_doctor : Holds (changed 81 1) clinic_catalog hidden_clinic → ⊥
 
 -- the page of doctor.country
 abbrev pub country_page : List ℕ

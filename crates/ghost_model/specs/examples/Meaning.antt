@@ -1,11 +1,11 @@
 -- The two parts of the clinic, what its public part makes, and what texts over the clinic and the notes print.
-use Rattle.std.specs.Prelude.{◌≡◌, ℕ, negsuc, List, [], ◌∷◌, ◌++◌, length, drop, codes}
-use Rattle.std.specs.List.{concat}
-use Rattle.ghost_model.specs.Values.{Value, Number, Text, Row}
-use Rattle.ghost_model.specs.Query.{Equal, AtLeast}
-use Rattle.ghost_model.specs.Channel.{Ask}
-use Rattle.ghost_model.specs.Split.{Replied, public_of, hidden_of, rejoined, image, visible_rows, reply_bytes}
-use Rattle.ghost_model.specs.Printed.{printed, row_line}
+use Rattle.std.specs.Prelude.{◌≡◌, ℕ, negsuc, List, [], ◌∷◌, ◌++◌, length, drop, flat_map, codes}
+use Rattle.ghost_model.specs.core.Values.{Value, Number, Text, Row}
+use Rattle.ghost_model.specs.core.Query.{Equal, AtLeast}
+use Rattle.ghost_model.specs.core.Channel.{Ask}
+use Rattle.ghost_model.specs.core.Asks.{row_bytes}
+use Rattle.ghost_model.specs.core.Split.{RowValues, public_of, hidden_of, rejoined, image, visible_rows, reply_rows}
+use Rattle.ghost_model.specs.core.Printed.{printed, row_line}
 use Rattle.ghost_model.specs.examples.Clinic.{number, clinic_schema, clinic, clinic_catalog, note_schema, notes}
 use Rattle.ghost_model.specs.examples.Databases.{lines}
 
@@ -27,10 +27,10 @@ abbrev pub late_visits : Ask
 late_visits =
     record { table = 2; columns = []; tests = record { column = 1; operator = AtLeast; value = number 5 } ∷ [] }
 
-abbrev pub cardio : ℕ → Replied
+abbrev pub cardio : ℕ → RowValues
 cardio identifier = record { identifier = identifier; values = one (Text (codes "cardio")) }
 
-abbrev pub identifier_alone : ℕ → Replied
+abbrev pub identifier_alone : ℕ → RowValues
 identifier_alone identifier = record { identifier = identifier; values = [] }
 
 -- the cell of the word cardio in eight bytes
@@ -55,7 +55,7 @@ pub record PartsOfTheClinic : Type 0 where
       ∷ 0x80 ∷ 0 ∷ 0 ∷ 0 ∷ 0 ∷ 0 ∷ 0 ∷ 5 ∷ 0x80 ∷ 0 ∷ 0 ∷ 0 ∷ 0 ∷ 0 ∷ 0 ∷ 9 ∷ 0x80 ∷ 0 ∷ 0 ∷ 0 ∷ 0 ∷ 0 ∷ 0 ∷ 2 ∷ [])))
   pub reply : visible_rows clinic_schema (public_of clinic_schema clinic) specialties_of_cardio
       ≡ cardio 1 ∷ cardio 3 ∷ []
-  pub bytes_of_reply : concat (reply_bytes clinic_schema (public_of clinic_schema clinic) specialties_of_cardio)
+  pub bytes_of_reply : flat_map row_bytes (reply_rows clinic_schema (public_of clinic_schema clinic) specialties_of_cardio)
       ≡ 0 ∷ 0 ∷ 0 ∷ 1 ∷ (cardio_cell ++ 0 ∷ 0 ∷ 0 ∷ 3 ∷ cardio_cell)
   pub reply_without_columns : visible_rows clinic_schema (public_of clinic_schema clinic) late_visits
       ≡ identifier_alone 1 ∷ identifier_alone 2 ∷ identifier_alone 3 ∷ []
@@ -116,6 +116,11 @@ pub record AnswersOfTheClinic : Type 0 where
       ≡ lines (codes "> 1" ∷ codes "> 3" ∷ codes "= 1 2" ∷ [])
   pub notes_on_a_topic : printed note_schema (codes "SELECT body FROM note WHERE topic = 'a'" ∷ []) notes
       ≡ lines (codes "> x" ∷ codes "> z" ∷ codes "= 1 2" ∷ [])
+  pub the_same_text_twice : on_clinic (cardio_on (codes "flu") ∷ cardio_on (codes "flu") ∷ [])
+      ≡ lines (cardio_lines ++ codes "= 1 2" ∷ (cardio_lines ++ codes "= 2 2" ∷ []))
+  pub two_texts_on_notes :
+      printed note_schema (codes "SELECT body FROM note WHERE topic = 'a'" ∷ codes "SELECT id FROM note" ∷ []) notes
+      ≡ lines (codes "> x" ∷ codes "> z" ∷ codes "= 1 2" ∷ codes "> 1" ∷ codes "> 2" ∷ codes "> 3" ∷ codes "= 2 3" ∷ [])
 
 -- one text for each refusal
 abbrev pub refused : List (List ℕ)

@@ -1,9 +1,11 @@
 -- What telling query texts mean over the clinic's schema, and why others are refused.
 use Rattle.std.specs.Prelude.{◌≡◌, ℕ, negsuc, List, [], ◌∷◌, ◌++◌, replicate, codes, Some, None, Result, Ok, Err}
-use Rattle.ghost_model.specs.Values.{Number, Text}
-use Rattle.ghost_model.specs.Query.{Field, Condition, Query, Equal, Unequal, Less, AtMost, More, AtLeast, Compare, Join}
-use Rattle.ghost_model.specs.QueryMeaning.{Refusal, Syntax, Limit, UnknownTable, UnknownColumn, Ambiguous, KindMismatch, BadLiteral, NotLinked, field, top_of}
-use Rattle.ghost_model.specs.QueryReading.{reading}
+use Rattle.ghost_model.specs.core.Values.{Number, Text}
+use Rattle.ghost_model.specs.core.Query.{Field, Condition, Query, Equal, Unequal, Less, AtMost, More, AtLeast, Compare, Join, top_of}
+use Rattle.ghost_model.specs.refusals.Grammar.{IsSyntaxFault}
+use Rattle.ghost_model.specs.refusals.QueryGrammar.{spelling}
+use Rattle.ghost_model.specs.refusals.QueryMeaning.{Refusal, Syntax, Limit, UnknownTable, UnknownColumn, Ambiguous, KindMismatch, BadLiteral, NotLinked, field, Means, IsRefused}
+use Rattle.ghost_model.specs.readings.QueryReading.{reading}
 use Rattle.ghost_model.specs.examples.Clinic.{clinic_schema, note_schema, number}
 
 abbrev pub reads : List ℕ → Result Query Refusal
@@ -41,9 +43,23 @@ pub record ClinicQueries : Type 0 where
       (Join (field 2 3) (field 0 0) ∷ Compare (field 0 2) Equal (Text (codes "ES")) ∷ []))
   pub of_the_notes : reading note_schema (codes "SELECT body FROM note WHERE topic = 'a'")
       ≡ Ok (query (0 ∷ []) (field 0 2 ∷ []) (Compare (field 0 1) Equal (Text (codes "a")) ∷ []))
+  pub identifiers_of_the_notes : reading note_schema (codes "SELECT id FROM note") ≡ Ok (query (0 ∷ []) (field 0 0 ∷ []) [])
   pub top_is_the_root : top_of clinic_schema (query (0 ∷ 2 ∷ 1 ∷ []) [] []) ≡ Some 2
   pub top_is_below_the_root : top_of clinic_schema (query (1 ∷ []) [] []) ≡ Some 1
   pub no_top_of_two : top_of clinic_schema (query (0 ∷ 1 ∷ []) [] []) ≡ None
+
+-- the relations themselves, on a text of each kind: its one meaning or its one refusal, and where its syntax fault stands
+pub record RelationsOfQueries : Type 0 where
+  pub meant : Means clinic_schema (codes "SELECT age FROM patient") (query (1 ∷ []) (field 1 1 ∷ []) [])
+  pub not_meant_otherwise : Means clinic_schema (codes "SELECT age FROM patient") (query (1 ∷ []) (field 1 0 ∷ []) []) → ⊥
+  pub not_refused : IsRefused clinic_schema (codes "SELECT age FROM patient") Limit → ⊥
+  pub refused_by_the_first_rule : IsRefused clinic_schema (codes "SELECT x, nowhere.id FROM visit") UnknownTable
+  pub not_by_a_later_rule : IsRefused clinic_schema (codes "SELECT x, nowhere.id FROM visit") UnknownColumn → ⊥
+  pub a_syntax_fault : IsSyntaxFault spelling (codes "SELECT age patient") 11
+  pub at_no_other_token : IsSyntaxFault spelling (codes "SELECT age patient") 7 → ⊥
+  pub at_no_other_byte : IsSyntaxFault spelling (codes "SELECT age patient") 12 → ⊥
+  pub at_the_end : IsSyntaxFault spelling (codes "SELECT age FROM  ") 17
+  pub no_syntax_fault : IsSyntaxFault spelling (codes "SELECT age FROM patient") 23 → ⊥
 
 -- one meaning may be spelled in several ways
 pub record QuerySpellings : Type 0 where

@@ -1,7 +1,11 @@
 -- Schemas of texts, and the faults of texts that mean none: the offset of the token at which a text leaves the grammar,
 -- the place of each rule that is broken, and which of two broken rules is named.
-use Rattle.std.specs.Prelude.{◌≡◌, ℕ, List, [], ◌∷◌, ◌++◌, flat_map, replicate, codes, Ok, Err}
-use Rattle.ghost_model.specs.SchemaFaults.{schema_reading, Syntax, Limit, DuplicateName, NoId, UnknownTable, TwoParents, Cycle, NotOneRoot}
+use Rattle.std.specs.Prelude.{◌≡◌, ℕ, nat_le, true, false, length, List, [], ◌∷◌, ◌++◌, flat_map, replicate, codes, Ok, Err}
+use Rattle.ghost_model.specs.readings.SchemaReading.{schema_reading}
+use Rattle.ghost_model.specs.refusals.SchemaFaults.{most_schema_bytes, Syntax, Limit, DuplicateName, NoId, UnknownTable, TwoParents, Cycle, NotOneRoot, MeansSchema, IsSchemaFault}
+use Rattle.ghost_model.specs.refusals.Grammar.{IsSyntaxFault}
+use Rattle.ghost_model.specs.refusals.SchemaGrammar.{spelling}
+use Rattle.ghost_model.specs.examples.Tokens.{spaces}
 use Rattle.ghost_model.specs.examples.Clinic.{clinic_schema, id_column, text_column, key_column}
 
 abbrev pub clinic_text : List ℕ
@@ -38,6 +42,17 @@ pub record SchemasOfTexts : Type 0 where
   pub longest_name :
       schema_reading (with_id (long_name 32) [])
       ≡ Ok (record { name = long_name 32; columns = id_column ∷ [] } ∷ [])
+
+-- the relations themselves, on a text of each kind
+pub record RelationsOfSchemas : Type 0 where
+  pub meant : MeansSchema clinic_text clinic_schema
+  pub no_fault : IsSchemaFault clinic_text (NotOneRoot 1) → ⊥
+  pub the_first_fault : IsSchemaFault (codes "CREATE TABLE t (a INT, a INT);") (DuplicateName 0 1)
+  pub no_later_fault : IsSchemaFault (codes "CREATE TABLE t (a INT, a INT);") (NoId 0) → ⊥
+  pub a_syntax_fault : IsSyntaxFault spelling (codes "CREATE TABLE t ();") 16
+  pub at_no_other_token : IsSyntaxFault spelling (codes "CREATE TABLE t ();") 15 → ⊥
+  pub bytes_within : nat_le (length (spaces 65536)) most_schema_bytes ≡ true
+  pub one_byte_over : nat_le (length (spaces 65537)) most_schema_bytes ≡ false
 
 pub record SyntaxFaultsOfSchemas : Type 0 where
   pub no_column : schema_reading (codes "CREATE TABLE t ();") ≡ Err (Syntax 16)

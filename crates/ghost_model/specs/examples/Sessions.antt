@@ -1,17 +1,20 @@
--- Telling sessions over the clinic: an honest host, one that tells wrong rows in good form, and one that refuses.
-use Rattle.std.specs.Prelude.{◌≡◌, ℕ, true, false, List, [], ◌∷◌, codes}
-use Rattle.ghost_model.specs.Values.{Row, Text}
-use Rattle.ghost_model.specs.Channel.{Hello, More, Bye, Done, Frame, Ask, Journal, Entry, Take, End}
-use Rattle.ghost_model.specs.NextMove.{IsProper, Ended}
-use Rattle.ghost_model.specs.Asks.{ReplyRow}
-use Rattle.ghost_model.specs.Split.{public_of, hidden_of, Hidden, Public, reply_rows}
-use Rattle.ghost_model.specs.Host.{rows_frame, host_of}
-use Rattle.ghost_model.specs.Local.{IsServedBy}
-use Rattle.ghost_model.specs.Meaning.{answer}
-use Rattle.ghost_model.specs.Honest.{IsHonest}
-use Rattle.ghost_model.specs.Lines.{ended_of, all_done, broken_word, rows_from_replies}
-use Rattle.ghost_model.specs.examples.Clinic.{clinic, clinic_schema, clinic_catalog, number}
-use Rattle.ghost_model.specs.examples.Channel.{cardio_text, cardio_query, cardio_ask, cardio_test, cardio_journal, dialled, sends, takes, welcomed, closed}
+-- Telling sessions over the clinic: an honest host, one that tells wrong rows in good form, and one that refuses; and the
+-- lines that texts have in them.
+use Rattle.std.specs.Prelude.{◌≡◌, ℕ, true, false, List, [], ◌∷◌, ◌++◌, take, codes}
+use Rattle.ghost_model.specs.core.Values.{Row, Text, Database}
+use Rattle.ghost_model.specs.core.Channel.{HelloFrame, AskFrame, MoreFrame, ByeFrame, DoneFrame, Frame, Ask, Catalog, Journal, Entry, Take, End}
+use Rattle.ghost_model.specs.core.NextMove.{IsProper, IsFinished, EndedAsk}
+use Rattle.ghost_model.specs.core.Asks.{RowCells, asked_of}
+use Rattle.ghost_model.specs.core.Split.{public_of, hidden_of, Hidden, Public, reply_rows}
+use Rattle.ghost_model.specs.core.Host.{rows_frame, host_of}
+use Rattle.ghost_model.specs.core.Local.{IsServedBy}
+use Rattle.ghost_model.specs.core.Meaning.{answer}
+use Rattle.ghost_model.specs.core.Honest.{IsHonest}
+use Rattle.ghost_model.specs.core.Lines.{AreLines, ended_of, all_done, broken_word, rows_from_replies}
+use Rattle.ghost_model.specs.examples.Clinic.{clinic, clinic_schema, clinic_catalog, number, doctor_row, patient_row, visit_row}
+use Rattle.ghost_model.specs.examples.Channel.{hex, cardio_text, cardio_query, cardio_ask, cardio_test, cardio_journal, late_text, name_text, dialled, sends, takes, welcomed, closed}
+use Rattle.ghost_model.specs.core.Printed.{printed}
+use Rattle.ghost_model.specs.examples.Meaning.{cardio_on, tabbed}
 
 abbrev pub ends : ℕ → Entry
 ends most = record { move = Take most; answer = End }
@@ -27,11 +30,11 @@ cardio_texts = cardio_text ∷ []
 
 -- what a session answers the text about cardiologists from the replies that came
 abbrev pub rows_by : Journal → List Row
-rows_by journal = rows_from_replies clinic_catalog clinic_hidden cardio_texts journal 1 cardio_query
+rows_by journal = rows_from_replies clinic_catalog clinic_hidden (asked_of clinic_schema cardio_texts) journal 1 cardio_query
 
 -- which asks of it were ended, and how
-abbrev pub ends_by : Journal → List Ended
-ends_by journal = ended_of clinic_catalog cardio_texts journal 1
+abbrev pub ends_by : Journal → List EndedAsk
+ends_by journal = ended_of clinic_catalog (asked_of clinic_schema cardio_texts) journal 1
 
 abbrev pub cardio_row : ℕ → Row
 cardio_row visit = number visit ∷ Text (codes "cardio") ∷ []
@@ -40,16 +43,16 @@ cardio_row visit = number visit ∷ Text (codes "cardio") ∷ []
 abbrev pub lying_journal : Journal
 lying_journal =
     dialled []
-    ∷ sends (Hello 1)
+    ∷ sends (HelloFrame 1)
     ∷ takes 8 (codes "1101016e00000000")
     ∷ welcomed clinic_catalog
     ∷ sends cardio_ask
     ∷ takes 8 (codes "1201001800000001")
     ∷ takes 24 (codes "0000000163617264696f00000000000263617264696f0000")
-    ∷ sends (More 1)
+    ∷ sends (MoreFrame 1)
     ∷ takes 8 (codes "1301000400000001")
     ∷ takes 4 (codes "00000002")
-    ∷ sends Bye
+    ∷ sends ByeFrame
     ∷ closed
     ∷ []
 
@@ -57,13 +60,13 @@ lying_journal =
 abbrev pub refusing_journal : Journal
 refusing_journal =
     dialled []
-    ∷ sends (Hello 1)
+    ∷ sends (HelloFrame 1)
     ∷ takes 8 (codes "1101016e00000000")
     ∷ welcomed clinic_catalog
     ∷ sends cardio_ask
     ∷ takes 8 (codes "1401000100000001")
     ∷ takes 1 (codes "01")
-    ∷ sends Bye
+    ∷ sends ByeFrame
     ∷ closed
     ∷ []
 
@@ -71,7 +74,7 @@ refusing_journal =
 abbrev pub ending_journal : Journal
 ending_journal =
     dialled []
-    ∷ sends (Hello 1)
+    ∷ sends (HelloFrame 1)
     ∷ takes 8 (codes "1101016e00000000")
     ∷ welcomed clinic_catalog
     ∷ sends cardio_ask
@@ -84,7 +87,7 @@ ending_journal =
 abbrev pub invalid_journal : Journal
 invalid_journal =
     dialled []
-    ∷ sends (Hello 1)
+    ∷ sends (HelloFrame 1)
     ∷ takes 8 (codes "1101016e00000000")
     ∷ welcomed clinic_catalog
     ∷ sends cardio_ask
@@ -97,11 +100,11 @@ invalid_journal =
 abbrev pub cardio_wanted : Ask
 cardio_wanted = record { table = 0; columns = 1 ∷ []; tests = cardio_test ∷ [] }
 
-abbrev pub cardio_replied : List ReplyRow
+abbrev pub cardio_replied : List RowCells
 cardio_replied = reply_rows clinic_schema clinic_public cardio_wanted
 
 abbrev pub cardio_reply : List Frame
-cardio_reply = rows_frame 1 cardio_replied ∷ Done 1 2 ∷ []
+cardio_reply = rows_frame 1 cardio_replied ∷ DoneFrame 1 2 ∷ []
 
 pub record HonestSession : Type 0 where
   pub served : IsServedBy (host_of clinic_catalog clinic_public) cardio_journal
@@ -127,3 +130,120 @@ pub record BrokenSessions : Type 0 where
   pub ended_is_proper : IsProper clinic_catalog [] cardio_texts ending_journal
   pub invalid : broken_word (ends_by invalid_journal) invalid_journal ≡ codes "protocol"
   pub invalid_is_proper : IsProper clinic_catalog [] cardio_texts invalid_journal
+
+-- a line by its text, and one of a visit and a specialty
+abbrev pub line : List ℕ → List ℕ
+line text = text ++ 10 ∷ []
+
+abbrev pub visit_line : (visit : List ℕ) → List ℕ
+visit_line visit = line (tabbed visit (codes "cardio"))
+
+-- lines of a text over the clinic
+abbrev pub Lines : (texts : List (List ℕ)) → Journal → (number : ℕ) → (lines : List (List ℕ)) → Type 0
+Lines texts journal number lines = AreLines clinic_catalog clinic_hidden texts journal number lines
+
+-- a text that is refused, and one whose asks the host, the link or an invalid frame ended
+pub record LinesOfEndings : Type 0 where
+  pub refused : Lines (cardio_text ∷ codes "SELECT age patient" ∷ []) cardio_journal 2 (line (codes "! 2 syntax 11") ∷ [])
+  pub by_host : Lines cardio_texts refusing_journal 1 (line (codes "! 1 host") ∷ [])
+  pub by_link : Lines cardio_texts ending_journal 1 (line (codes "! 1 link") ∷ [])
+  pub by_frame : Lines cardio_texts invalid_journal 1 (line (codes "! 1 protocol") ∷ [])
+
+-- a text that was answered, rightly or by wrong rows, or whose rows the key's own fault cut: after one, after none, after all
+pub record LinesOfAnswers : Type 0 where
+  pub answered : Lines cardio_texts cardio_journal 1 (visit_line (codes "1") ∷ visit_line (codes "3") ∷ line (codes "= 1 2") ∷ [])
+  pub by_wrong_rows : Lines cardio_texts lying_journal 1 (visit_line (codes "1") ∷ visit_line (codes "4") ∷ line (codes "= 1 2") ∷ [])
+  pub cut_after_one : Lines cardio_texts cardio_journal 1 (visit_line (codes "1") ∷ line (codes "! 1 flash") ∷ [])
+  pub cut_after_none : Lines cardio_texts cardio_journal 1 (line (codes "! 1 damaged") ∷ [])
+  pub cut_after_all : Lines cardio_texts cardio_journal 1 (visit_line (codes "1") ∷ visit_line (codes "3") ∷ line (codes "! 1 flash") ∷ [])
+
+-- the text about cardiologists with another purpose, and a hidden part in which the first visit has this purpose
+abbrev pub none_texts : List (List ℕ)
+none_texts = cardio_on (codes "none") ∷ []
+
+abbrev pub first_for_none : Hidden
+first_for_none = hidden_of clinic_schema (
+    (doctor_row 1 (codes "cardio") (codes "FR") ∷ doctor_row 2 (codes "neuro") (codes "ES")
+    ∷ doctor_row 3 (codes "cardio") (codes "ES") ∷ [])
+    ∷ (patient_row 1 30 (codes "Ann") ∷ patient_row 2 41 (codes "Bob") ∷ [])
+    ∷ (visit_row 1 5 (codes "none") 1 1 ∷ visit_row 2 5 (codes "check") 3 2 ∷ visit_row 3 9 (codes "flu") 3 1
+    ∷ visit_row 4 2 (codes "flu") 2 2 ∷ [])
+    ∷ []
+    )
+
+-- the journal is the same byte for byte where no row is left, where one is, and where the text asks for the other purpose
+pub record SameJournal : Type 0 where
+  pub proper : IsProper clinic_catalog [] none_texts cardio_journal
+  pub no_row : AreLines clinic_catalog clinic_hidden none_texts cardio_journal 1 (line (codes "= 1 0") ∷ [])
+  pub one_row : AreLines clinic_catalog first_for_none none_texts cardio_journal 1 (visit_line (codes "1") ∷ line (codes "= 1 1") ∷ [])
+
+-- the clinic without a visit, a text about its days, and the session in which the ask for them gets no row
+abbrev pub quiet_clinic : Database
+quiet_clinic = take 2 clinic ++ [] ∷ []
+
+abbrev pub quiet_catalog : Catalog
+quiet_catalog = record { schema = clinic_schema; counts = 3 ∷ 2 ∷ 0 ∷ []; generation = 1; version = 1 }
+
+abbrev pub day_texts : List (List ℕ)
+day_texts = codes "SELECT day FROM visit" ∷ []
+
+abbrev pub quiet_journal : Journal
+quiet_journal =
+    dialled []
+    ∷ sends (HelloFrame 1)
+    ∷ takes 8 (codes "1101016e00000000")
+    ∷ welcomed quiet_catalog
+    ∷ sends (AskFrame 1 (hex (codes "02010100")))
+    ∷ takes 8 (codes "1301000400000001")
+    ∷ takes 4 (codes "00000000")
+    ∷ sends ByeFrame
+    ∷ closed
+    ∷ []
+
+pub record EmptyTable : Type 0 where
+  pub printed_line : printed clinic_schema day_texts quiet_clinic ≡ line (codes "= 1 0")
+  pub proper : IsProper quiet_catalog [] day_texts quiet_journal
+  pub finished : IsFinished quiet_journal
+  pub lines : AreLines quiet_catalog (hidden_of clinic_schema quiet_clinic) day_texts quiet_journal 1 (line (codes "= 1 0") ∷ [])
+
+-- three texts with two asks
+abbrev pub three_texts : List (List ℕ)
+three_texts = cardio_text ∷ late_text ∷ name_text ∷ []
+
+abbrev pub three_texts_journal : Journal
+three_texts_journal =
+    dialled []
+    ∷ sends (HelloFrame 1)
+    ∷ takes 8 (codes "1101016e00000000")
+    ∷ welcomed clinic_catalog
+    ∷ sends cardio_ask
+    ∷ takes 8 (codes "1201001800000001")
+    ∷ takes 24 (codes "0000000163617264696f00000000000363617264696f0000")
+    ∷ sends (MoreFrame 1)
+    ∷ takes 8 (codes "1301000400000001")
+    ∷ takes 4 (codes "00000002")
+    ∷ sends (AskFrame 2 (hex (codes "0201010101068000000000000002")))
+    ∷ takes 8 (codes "1201003000000002")
+    ∷ takes 48 (codes "000000018000000000000005000000028000000000000005000000038000000000000009000000048000000000000002")
+    ∷ sends (MoreFrame 2)
+    ∷ takes 8 (codes "1301000400000002")
+    ∷ takes 4 (codes "00000004")
+    ∷ sends ByeFrame
+    ∷ closed
+    ∷ []
+
+abbrev pub day_line : (visit day : List ℕ) → List ℕ
+day_line visit day = line (tabbed visit day)
+
+-- the flash fails in the first text, and the others are answered
+pub record LinesOfThreeTexts : Type 0 where
+  pub first : Lines three_texts three_texts_journal 1 (visit_line (codes "1") ∷ line (codes "! 1 flash") ∷ [])
+  pub second :
+      Lines three_texts three_texts_journal 2
+      (day_line (codes "1") (codes "5") ∷ day_line (codes "2") (codes "5") ∷ day_line (codes "3") (codes "9")
+      ∷ day_line (codes "4") (codes "2") ∷ line (codes "= 2 4") ∷ [])
+  pub third : Lines three_texts three_texts_journal 3 (line (codes "> Ann") ∷ line (codes "= 3 1") ∷ [])
+
+pub record JournalOfThreeTexts : Type 0 where
+  pub proper : IsProper clinic_catalog [] three_texts three_texts_journal
+  pub finished : IsFinished three_texts_journal

@@ -1,36 +1,36 @@
 -- Telling texts and their tokens, and telling scripts and their texts.
 use Rattle.std.specs.Prelude.{◌≡◌, ℕ, true, false, List, [], ◌∷◌, ◌++◌, codes, Some, None, length, nat_le, replicate, flat_map}
-use Rattle.ghost_model.specs.Tokens.{Word, Reserved, Name, Digits, Quoted, Open, Closing, Comma, Point, Semicolon, Star, Plus, Minus, Equal, Unequal, Less, AtMost, More, AtLeast, Bad, End, Select, And, Integer, Table, symbols, offset_of}
-use Rattle.ghost_model.specs.Spelled.{text_of}
-use Rattle.ghost_model.specs.Texts.{texts_of, most_script_bytes, most_texts}
+use Rattle.ghost_model.specs.refusals.Tokens.{Word, Reserved, Name, Digits, Quoted, Open, Closing, Comma, Point, Semicolon, Star, PlusSign, MinusSign, EqualSign, UnequalSign, LessSign, AtMostSign, MoreSign, AtLeastSign, NoToken, EndOfText, SelectWord, AndWord, IntegerWord, TableWord, symbols, offset_of}
+use Rattle.ghost_model.specs.laws.Spelled.{text_of}
+use Rattle.ghost_model.specs.core.Texts.{texts_of, most_script_bytes, most_texts}
 
 pub record TokensOfTexts : Type 0 where
-  pub no_bytes : symbols [] ≡ End ∷ []
-  pub words_without_case : symbols (codes "Select aGe NULL") ≡ Word Select ∷ Name (codes "age") ∷ Reserved ∷ End ∷ []
-  pub int_is_integer : symbols (codes "INT integer") ≡ Word Integer ∷ Word Integer ∷ End ∷ []
-  pub words_of_later_grammars_are_no_names : symbols (codes "count by OR max") ≡ Reserved ∷ Reserved ∷ Reserved ∷ Reserved ∷ End ∷ []
-  pub other_words_are_names : symbols (codes "distinct ORDER as id") ≡ Name (codes "distinct") ∷ Name (codes "order") ∷ Name (codes "as") ∷ Name (codes "id") ∷ End ∷ []
-  pub a_name_runs_as_far_as_its_bytes : symbols (codes "_a1B_2 table2 table") ≡ Name (codes "_a1b_2") ∷ Name (codes "table2") ∷ Word Table ∷ End ∷ []
-  pub a_number_ends_at_a_letter : symbols (codes "12abc 1AND") ≡ Digits (codes "12") ∷ Name (codes "abc") ∷ Digits (codes "1") ∷ Word And ∷ End ∷ []
-  pub a_number_ends_at_a_point : symbols (codes "1.5") ≡ Digits (codes "1") ∷ Point ∷ Digits (codes "5") ∷ End ∷ []
-  pub digits_stand_as_written : symbols (codes "007") ≡ Digits (codes "007") ∷ End ∷ []
-  pub a_sign_is_a_token : symbols (codes "--5 + 5") ≡ Minus ∷ Minus ∷ Digits (codes "5") ∷ Plus ∷ Digits (codes "5") ∷ End ∷ []
-  pub points_between_names : symbols (codes "a.b.c") ≡ Name (codes "a") ∷ Point ∷ Name (codes "b") ∷ Point ∷ Name (codes "c") ∷ End ∷ []
-  pub the_longest_sign : symbols (codes "<=<>>=< >=>") ≡ AtMost ∷ Unequal ∷ AtLeast ∷ Less ∷ AtLeast ∷ More ∷ End ∷ []
-  pub signs_apart : symbols (codes "< > < =") ≡ Less ∷ More ∷ Less ∷ Equal ∷ End ∷ []
-  pub signs_of_one_byte : symbols (codes "(*,);") ≡ Open ∷ Star ∷ Comma ∷ Closing ∷ Semicolon ∷ End ∷ []
-  pub no_such_sign : symbols (codes "!=") ≡ Bad ∷ Equal ∷ End ∷ []
-  pub a_literal_keeps_its_case_and_spaces : symbols (codes "' Ann; '") ≡ Quoted (codes " Ann; ") ∷ End ∷ []
-  pub a_doubled_quote : symbols (codes "'it''s'") ≡ Quoted (codes "it's") ∷ End ∷ []
-  pub quotes_alone : symbols (codes "'' ''''") ≡ Quoted [] ∷ Quoted (codes "'") ∷ End ∷ []
-  pub literals_apart : symbols (codes "'a' 'b'") ≡ Quoted (codes "a") ∷ Quoted (codes "b") ∷ End ∷ []
+  pub no_bytes : symbols [] ≡ EndOfText ∷ []
+  pub words_without_case : symbols (codes "Select aGe NULL") ≡ Word SelectWord ∷ Name (codes "age") ∷ Reserved ∷ EndOfText ∷ []
+  pub int_is_integer : symbols (codes "INT integer") ≡ Word IntegerWord ∷ Word IntegerWord ∷ EndOfText ∷ []
+  pub words_of_later_grammars_are_no_names : symbols (codes "count by OR max") ≡ Reserved ∷ Reserved ∷ Reserved ∷ Reserved ∷ EndOfText ∷ []
+  pub other_words_are_names : symbols (codes "distinct ORDER as id") ≡ Name (codes "distinct") ∷ Name (codes "order") ∷ Name (codes "as") ∷ Name (codes "id") ∷ EndOfText ∷ []
+  pub a_name_runs_as_far_as_its_bytes : symbols (codes "_a1B_2 table2 table") ≡ Name (codes "_a1b_2") ∷ Name (codes "table2") ∷ Word TableWord ∷ EndOfText ∷ []
+  pub a_number_ends_at_a_letter : symbols (codes "12abc 1AND") ≡ Digits (codes "12") ∷ Name (codes "abc") ∷ Digits (codes "1") ∷ Word AndWord ∷ EndOfText ∷ []
+  pub a_number_ends_at_a_point : symbols (codes "1.5") ≡ Digits (codes "1") ∷ Point ∷ Digits (codes "5") ∷ EndOfText ∷ []
+  pub digits_stand_as_written : symbols (codes "007") ≡ Digits (codes "007") ∷ EndOfText ∷ []
+  pub a_sign_is_a_token : symbols (codes "--5 + 5") ≡ MinusSign ∷ MinusSign ∷ Digits (codes "5") ∷ PlusSign ∷ Digits (codes "5") ∷ EndOfText ∷ []
+  pub points_between_names : symbols (codes "a.b.c") ≡ Name (codes "a") ∷ Point ∷ Name (codes "b") ∷ Point ∷ Name (codes "c") ∷ EndOfText ∷ []
+  pub the_longest_sign : symbols (codes "<=<>>=< >=>") ≡ AtMostSign ∷ UnequalSign ∷ AtLeastSign ∷ LessSign ∷ AtLeastSign ∷ MoreSign ∷ EndOfText ∷ []
+  pub signs_apart : symbols (codes "< > < =") ≡ LessSign ∷ MoreSign ∷ LessSign ∷ EqualSign ∷ EndOfText ∷ []
+  pub signs_of_one_byte : symbols (codes "(*,);") ≡ Open ∷ Star ∷ Comma ∷ Closing ∷ Semicolon ∷ EndOfText ∷ []
+  pub no_such_sign : symbols (codes "!=") ≡ NoToken ∷ EqualSign ∷ EndOfText ∷ []
+  pub a_literal_keeps_its_case_and_spaces : symbols (codes "' Ann; '") ≡ Quoted (codes " Ann; ") ∷ EndOfText ∷ []
+  pub a_doubled_quote : symbols (codes "'it''s'") ≡ Quoted (codes "it's") ∷ EndOfText ∷ []
+  pub quotes_alone : symbols (codes "'' ''''") ≡ Quoted [] ∷ Quoted (codes "'") ∷ EndOfText ∷ []
+  pub literals_apart : symbols (codes "'a' 'b'") ≡ Quoted (codes "a") ∷ Quoted (codes "b") ∷ EndOfText ∷ []
   -- a broken literal is a bad token at its first `'`, and the tokens go on after that byte
-  pub no_end_of_a_literal : symbols (codes "a = 'b") ≡ Name (codes "a") ∷ Equal ∷ Bad ∷ Name (codes "b") ∷ End ∷ []
-  pub a_doubled_quote_is_no_end : symbols (codes "'abc''") ≡ Bad ∷ Name (codes "abc") ∷ Quoted [] ∷ End ∷ []
-  pub a_new_line_in_a_literal : symbols (codes "'a" ++ (10 ∷ codes "'")) ≡ Bad ∷ Name (codes "a") ∷ Bad ∷ End ∷ []
-  pub a_byte_over_126_in_a_literal : symbols (codes "'a" ++ (127 ∷ codes "' 'b'")) ≡ Bad ∷ Name (codes "a") ∷ Bad ∷ Quoted (codes " ") ∷ Name (codes "b") ∷ Bad ∷ End ∷ []
-  pub white_space_is_four_bytes : symbols (9 ∷ 10 ∷ 13 ∷ 32 ∷ []) ≡ End ∷ []
-  pub other_bytes_begin_no_token : symbols (11 ∷ 12 ∷ 0 ∷ 128 ∷ 255 ∷ []) ≡ Bad ∷ Bad ∷ Bad ∷ Bad ∷ Bad ∷ End ∷ []
+  pub no_end_of_a_literal : symbols (codes "a = 'b") ≡ Name (codes "a") ∷ EqualSign ∷ NoToken ∷ Name (codes "b") ∷ EndOfText ∷ []
+  pub a_doubled_quote_is_no_end : symbols (codes "'abc''") ≡ NoToken ∷ Name (codes "abc") ∷ Quoted [] ∷ EndOfText ∷ []
+  pub a_new_line_in_a_literal : symbols (codes "'a" ++ (10 ∷ codes "'")) ≡ NoToken ∷ Name (codes "a") ∷ NoToken ∷ EndOfText ∷ []
+  pub a_byte_over_126_in_a_literal : symbols (codes "'a" ++ (127 ∷ codes "' 'b'")) ≡ NoToken ∷ Name (codes "a") ∷ NoToken ∷ Quoted (codes " ") ∷ Name (codes "b") ∷ NoToken ∷ EndOfText ∷ []
+  pub white_space_is_four_bytes : symbols (9 ∷ 10 ∷ 13 ∷ 32 ∷ []) ≡ EndOfText ∷ []
+  pub other_bytes_begin_no_token : symbols (11 ∷ 12 ∷ 0 ∷ 128 ∷ 255 ∷ []) ≡ NoToken ∷ NoToken ∷ NoToken ∷ NoToken ∷ NoToken ∷ EndOfText ∷ []
 
 -- where tokens stand
 pub record OffsetsOfTokens : Type 0 where
@@ -45,8 +45,8 @@ pub record OffsetsOfTokens : Type 0 where
 
 -- a text for a list of symbols
 pub record TextsOfSymbols : Type 0 where
-  pub words_and_signs : text_of (Word Select ∷ Name (codes "age") ∷ Less ∷ Equal ∷ Digits (codes "5") ∷ []) ≡ codes "SELECT age < = 5 "
-  pub a_literal : text_of (Quoted (codes "it's") ∷ Reserved ∷ Bad ∷ []) ≡ codes "'it''s' NULL ? "
+  pub words_and_signs : text_of (Word SelectWord ∷ Name (codes "age") ∷ LessSign ∷ EqualSign ∷ Digits (codes "5") ∷ []) ≡ codes "select age < = 5 "
+  pub a_literal : text_of (Quoted (codes "it's") ∷ Reserved ∷ NoToken ∷ []) ≡ codes "'it''s' NULL ? "
 
 -- so many spaces, and so many texts of one letter
 abbrev pub spaces : ℕ → List ℕ

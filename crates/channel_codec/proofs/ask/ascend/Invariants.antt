@@ -1,5 +1,5 @@
 use Rattle.std.proofs.Common.{◌≡◌, length}
-use Rattle.ghost_model.specs.Asks as asks
+use Rattle.ghost_model.specs.core.Asks as asks
 use Rattle.channel_codec.proofs.ask.ascend.Given as goal
 
 abbrev pub invariant-columns : goal.invariant-columns

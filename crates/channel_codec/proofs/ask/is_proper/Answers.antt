@@ -1,7 +1,7 @@
 use Rattle.std.proofs.Common.{◌∙◌, ◌&&◌, nat_lt, nat_le, Bool, List, length, ap, sym}
 use Rattle.std.specs.List.{list_all}
-use Rattle.ghost_model.specs.Schema.{is_visible}
-use Rattle.ghost_model.specs.Asks.{ascend_from}
+use Rattle.ghost_model.specs.core.Schema.{is_visible}
+use Rattle.ghost_model.specs.core.Asks.{ascend_from}
 use Rattle.channel_codec.specs.declared.ask.Test.{Test}
 use Rattle.channel_codec.specs.AskViews.{test_view, has_kind}
 use Rattle.channel_codec.proofs.AskWriting.{proper_by_parts}

@@ -1,8 +1,8 @@
 use Rattle.std.proofs.Common.{◌≡◌, ◌+◌, length, true, ap, ◌∙◌, arith}
 use Rattle.ghost_model.proofs.ChannelLemmas.Asks.{cell_length}
-use Rattle.ghost_model.specs.Schema.{Kind}
-use Rattle.ghost_model.specs.Cells.{cell_width}
-use Rattle.ghost_model.specs.Database.{is_of_kind}
+use Rattle.ghost_model.specs.core.Schema.{Kind}
+use Rattle.ghost_model.specs.forms.Cells.{cell_width}
+use Rattle.ghost_model.specs.core.Database.{is_of_kind}
 use Rattle.ghost_base.specs.Views.{kind_of, value_of}
 use Rattle.channel_codec.proofs.Writing.{same_further}
 use Rattle.channel_codec.proofs.ask.put_test.Goals as goal

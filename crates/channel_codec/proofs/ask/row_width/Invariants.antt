@@ -1,6 +1,6 @@
 use Rattle.std.proofs.Common.{◌≡◌, ◌≤◌, ◌+◌, ◌*◌, length, map, sum}
-use Rattle.ghost_model.specs.Asks as asks
-use Rattle.ghost_model.specs.Cells.{cell_width}
+use Rattle.ghost_model.specs.core.Asks as asks
+use Rattle.ghost_model.specs.forms.Cells.{cell_width}
 use Rattle.channel_codec.specs.AskViews.{ask_view}
 use Rattle.channel_codec.proofs.ask.row_width.Given as goal
 

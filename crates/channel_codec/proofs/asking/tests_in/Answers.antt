@@ -1,6 +1,6 @@
 use Rattle.std.proofs.Common.{◌≡◌, ◌+◌, ℕ, List, take, drop, refl, ap, ◌∙◌, arith}
-use Rattle.ghost_model.specs.Asks as asks
-use Rattle.ghost_model.specs.Cells.{cell_width}
+use Rattle.ghost_model.specs.core.Asks as asks
+use Rattle.ghost_model.specs.forms.Cells.{cell_width}
 use Rattle.channel_codec.specs.AskViews.{test_width}
 use Rattle.channel_codec.proofs.AskReading.{test_read, all_read, more_read}
 use Rattle.channel_codec.proofs.asking.tests_in.Goals as goal

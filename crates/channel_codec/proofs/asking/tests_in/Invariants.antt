@@ -1,12 +1,12 @@
 use Rattle.std.proofs.Common.{◌≡◌, ◌+◌, ◌≤◌, ◌++◌, map}
 use Rattle.arrayvec.specs.ArrayVec.{array_vec_len}
-use Rattle.ghost_model.specs.Asks as asks
+use Rattle.ghost_model.specs.readings.AskReading as reading
 use Rattle.channel_codec.specs.AskViews.{test_view}
 use Rattle.channel_codec.proofs.asking.tests_in.Given as goal
 
 abbrev pub invariant-tests : goal.invariant-tests
 invariant-tests l = record {
-  told : map test_view l.tests.items ++ asks.tests_in l.schema l.table l.left l.rest ≡ asks.tests_in l.schema l.table l.count l.bytes;
+  told : map test_view l.tests.items ++ reading.tests_in l.schema l.table l.left l.rest ≡ reading.tests_in l.schema l.table l.count l.bytes;
   room : array_vec_len l.tests + l.left ≤ 16;
 }
 

@@ -1,7 +1,7 @@
 use Rattle.std.proofs.Common.{◌≡◌, ◌≤◌, ◌+◌, ◌++◌, length, map, IsTrue}
 use Rattle.std.specs.List.{list_all}
 use Rattle.arrayvec.specs.ArrayVec.{array_vec_len}
-use Rattle.ghost_model.specs.Asks as asks
+use Rattle.ghost_model.specs.core.Asks as asks
 use Rattle.ghost_base.specs.Views.{kind_of}
 use Rattle.channel_codec.specs.AskViews.{ask_view}
 use Rattle.channel_pump.specs.Narrow.{is_narrow}

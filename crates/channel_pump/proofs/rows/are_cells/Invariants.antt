@@ -1,6 +1,6 @@
 use Rattle.std.proofs.Common.{◌≡◌, length, map, IsTrue}
 use Rattle.std.specs.List.{list_all}
-use Rattle.ghost_model.specs.NextMove as next
+use Rattle.ghost_model.specs.core.NextMove as next
 use Rattle.ghost_base.specs.Views.{kind_of}
 use Rattle.channel_pump.specs.Narrow.{is_narrow}
 use Rattle.channel_pump.proofs.rows.are_cells.Given as goal

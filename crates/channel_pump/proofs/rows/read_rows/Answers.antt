@@ -1,6 +1,6 @@
 use Rattle.std.proofs.Common.{◌≡◌, ℕ, ◌/◌, false, List, length, take, ap, sym, ◌∙◌, subst, arith}
-use Rattle.ghost_model.specs.Asks.{row_in, rows_from}
-use Rattle.ghost_model.specs.NextMove.{rows_fit, last_identifier}
+use Rattle.ghost_model.specs.core.Asks.{row_in, rows_from}
+use Rattle.ghost_model.specs.core.NextMove.{rows_fit, last_identifier}
 use Rattle.channel_pump.specs.Forms.{form_of}
 use Rattle.channel_pump.specs.Asked.{form_kinds, width_of, rows_with}
 use Rattle.channel_pump.proofs.RowLemmas.{row_test, rows_none, rows_count, fits_none, fits_not, row_read, width_step}

@@ -1,6 +1,6 @@
 use Rattle.std.proofs.Common.{◌≡◌, ◌≤◌, length, map, IsTrue, ◌+◌, ◌*◌, sum}
 use Rattle.std.specs.List.{list_all}
-use Rattle.ghost_model.specs.Cells.{cell_width}
+use Rattle.ghost_model.specs.forms.Cells.{cell_width}
 use Rattle.ghost_base.specs.Views.{kind_of}
 use Rattle.channel_pump.specs.Narrow.{is_narrow}
 use Rattle.channel_pump.specs.Asked.{width_of}

@@ -1,5 +1,5 @@
 use Rattle.std.proofs.Common.{◌≡◌, drop, fold}
-use Rattle.ghost_model.specs.Database as database
+use Rattle.ghost_model.specs.core.Database as database
 use Rattle.csv_split.proofs.Numerals.{with_digit}
 use Rattle.csv_split.proofs.fields.number_of.Given as goal
 

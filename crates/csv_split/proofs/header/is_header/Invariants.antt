@@ -1,6 +1,6 @@
 use Rattle.std.proofs.Common.{◌≡◌, ◌+◌, drop}
 use Rattle.csv.specs.Records.{fields_of}
-use Rattle.ghost_model.specs.LoadFaults as faults
+use Rattle.ghost_model.specs.refusals.LoadFaults as faults
 use Rattle.csv_split.specs.Reading.{columns_of, with_identifier}
 use Rattle.csv_split.proofs.header.is_header.Given as goal
 

@@ -1,5 +1,5 @@
 use Rattle.std.proofs.Common.{◌≡◌, drop}
-use Rattle.ghost_model.specs.LoadFaults as faults
+use Rattle.ghost_model.specs.refusals.LoadFaults as faults
 use Rattle.csv_split.proofs.references.check_references.Given as goal
 
 abbrev pub invariant-loop-table : goal.invariant-loop-table

@@ -1,6 +1,6 @@
 use Rattle.std.proofs.Common.{◌≡◌, ◌+◌, map, drop}
-use Rattle.ghost_model.specs.Database as database
-use Rattle.ghost_model.specs.LoadFaults as faults
+use Rattle.ghost_model.specs.core.Database as database
+use Rattle.ghost_model.specs.refusals.LoadFaults as faults
 use Rattle.tree_schema.specs.Views.{column_of}
 use Rattle.csv_split.proofs.references.check_table.Given as goal
 

@@ -1,5 +1,5 @@
 use Rattle.std.proofs.Common.{rules, ◌-◌, [], ◌∷◌, length, drop, Ok, subst}
-use Rattle.ghost_model.specs.Channel as channel
+use Rattle.ghost_model.specs.core.Channel as channel
 use Rattle.edge_traits.specs.Links.{entry, gave}
 use Rattle.edge_traits.specs.declared.Failed.{Failed}
 use Rattle.edge_traits.proofs.Takes.{filled_on, ended, failed}

@@ -1,7 +1,7 @@
 use Rattle.std.proofs.Common.{◌∙◌, ◌∷◌, [], ◌++◌, ◌<◌, ap, sym, subst, List, IsTrue, length, take, arith}
 use Rattle.std.proofs.lemmas.Bool.{le-leb}
 use Rattle.std.proofs.lemmas.List.{take_more, take_all, length-map}
-use Rattle.ghost_model.specs.Database.{row_counts}
+use Rattle.ghost_model.specs.core.Database.{row_counts}
 use Rattle.ghost_model.proofs.FlashLemmas.Values.{count_there}
 use Rattle.tree_schema.specs.Catalogs.{are_counts}
 use Rattle.tree_schema.proofs.CountsLemmas.{counts_more}

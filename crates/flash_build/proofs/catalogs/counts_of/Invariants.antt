@@ -1,6 +1,6 @@
 use Rattle.std.proofs.Common.{◌≡◌, IsTrue, take}
 use Rattle.arrayvec.specs.ArrayVec.{array_vec_len}
-use Rattle.ghost_model.specs.Database.{row_counts}
+use Rattle.ghost_model.specs.core.Database.{row_counts}
 use Rattle.tree_schema.specs.Catalogs.{are_counts}
 use Rattle.flash_build.proofs.catalogs.counts_of.Given as goal
 

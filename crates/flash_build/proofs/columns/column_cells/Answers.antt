@@ -1,5 +1,5 @@
 use Rattle.std.proofs.Common.{ap, length, ◌∙◌}
-use Rattle.ghost_model.specs.Database.{rows_of}
+use Rattle.ghost_model.specs.core.Database.{rows_of}
 use Rattle.flash_build.proofs.HiddenCells.{of_kind, same_cells, source_kinds, source_cells, part_fits, cell_widths}
 use Rattle.flash_build.proofs.columns.column_cells.Goals as goal
 

@@ -1,5 +1,5 @@
 use Rattle.std.proofs.Common.{◌≡◌, ◌≤◌}
-use Rattle.ghost_model.specs.FlashLaws as laws
+use Rattle.ghost_model.specs.laws.FlashLaws as laws
 use Rattle.flash_build.proofs.columns.hidden_before.Given as goal
 
 abbrev pub invariant-loop-at : goal.invariant-loop-at

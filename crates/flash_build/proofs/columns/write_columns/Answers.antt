@@ -1,11 +1,11 @@
 use Rattle.std.proofs.Common.{◌∙◌, ◌+◌, ap, arith, length}
-use Rattle.ghost_model.specs.Layout as layout
+use Rattle.ghost_model.specs.forms.Layout as layout
 use Rattle.flash_build.proofs.ColumnFiles.{can_fill_table, tables_more, stores_tables, columns_trans, counts_as}
 use Rattle.flash_build.proofs.columns.write_columns.Goals as goal
 
 pub write_table-requires-clause-can : goal.write_table-requires-clause-can
 write_table-requires-clause-can g c =
-    can_fill_table c.loop-table.table c.a_catalog_has_a_layout.ensures.layout.order
+    can_fill_table c.loop-table.table c.a_catalog_has_a_layout.ensures.layout.sums c.a_catalog_has_a_layout.ensures.layout.order
     (omega (arith, c.loop-table-test.true, c.tables-table-end.ensures.count, ap length c.schema.ensures.value)) c.requires.can c.loop-table.invariant.others
 
 pub returns-in_err-write_table-clause-at_most : goal.returns-in_err-write_table-clause-at_most

@@ -1,6 +1,6 @@
 use Rattle.std.proofs.Common.{ap, sym, ◌∙◌, subst, arith}
 use Rattle.edge_traits.specs.Devices.{Counts}
-use Rattle.ghost_model.specs.Runs.{Run}
+use Rattle.ghost_model.specs.forms.Runs.{Run}
 use Rattle.flash_build.proofs.ColumnFiles.{pages_of_run, runs_same, stores_as, others_as, can_as}
 use Rattle.flash_build.proofs.columns.write_file.Goals as goal
 

@@ -1,7 +1,8 @@
 use Rattle.std.proofs.Common.{◌≡◌, ◌∙◌, ◌+◌, ap, subst, arith}
 use Rattle.edge_traits.specs.Devices.{ChangesOnly}
 use Rattle.edge_traits.proofs.DeviceFrames.{changes_wider}
-use Rattle.ghost_model.specs.Layout as layout
+use Rattle.ghost_model.specs.forms.Layout as layout
+use Rattle.ghost_model.specs.laws.LayoutSums as sums
 use Rattle.flash_build.proofs.ColumnFiles.{can_fill_column, changed_more, stores_more, columns_trans, counts_as}
 use Rattle.flash_build.proofs.columns.write_table.Goals as goal
 
@@ -19,7 +20,7 @@ returns-in_err-write_column-clause-others g c =
     (omega (arith, c.loop-column-test.true, c.columns-column-end.ensures, ap (λ s. layout.column_count s c.args.table) c.schema.ensures.value)) in
     changes_wider
     (changed_more c.args.table column c.a_catalog_has_a_layout.ensures.layout.order c.loop-column.invariant.others c.in_err-write_column.ensures.others)
-    (layout.table_begin cat c.args.table) (layout.table_begin cat c.args.table + layout.columns_pages cat c.args.table)
+    (sums.table_begin cat c.args.table) (sums.table_begin cat c.args.table + layout.columns_pages cat c.args.table)
     (omega arith) (omega (arith, rise))
 
 pub returns-in_err-write_column-clause-at_most : goal.returns-in_err-write_column-clause-at_most
@@ -60,6 +61,6 @@ returns-clause-others g c =
     let all : c.loop-column.column ≡ layout.column_count cat.schema c.args.table =
     omega (arith, c.columns-column-end.ensures, ap (λ s. layout.column_count s c.args.table) c.schema.ensures.value, c.loop-column.auto.column-end, c.loop-column-test.false) in
     subst
-    (λ n. ChangesOnly (layout.table_begin cat c.args.table) (layout.table_begin cat c.args.table + layout.column_pages_before cat c.args.table n)
+    (λ n. ChangesOnly (sums.table_begin cat c.args.table) (sums.table_begin cat c.args.table + sums.column_pages_before cat c.args.table n)
     (g.F.Flash.state c.args.flash.now) (g.F.Flash.state c.loop-column.flash))
     all c.loop-column.invariant.others

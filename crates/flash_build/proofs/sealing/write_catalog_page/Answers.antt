@@ -1,5 +1,5 @@
 use Rattle.std.proofs.Common.{◌*◌}
-use Rattle.ghost_model.specs.Catalog.{catalog_bytes}
+use Rattle.ghost_model.specs.forms.Catalog.{catalog_bytes}
 use Rattle.flash_build.proofs.CatalogPages.{whole_page, written_as}
 use Rattle.flash_build.proofs.sealing.write_catalog_page.Goals as goal
 

@@ -1,5 +1,5 @@
 use Rattle.std.proofs.Common.{sym, ap, ◌∙◌}
-use Rattle.ghost_model.specs.Schema as schema
+use Rattle.ghost_model.specs.core.Schema as schema
 use Rattle.flash_layout.proofs.PlaceLemmas.{one_found, none_found}
 use Rattle.flash_layout.proofs.areas.has_none_visible.Goals as goal
 use Rattle.flash_layout.proofs.areas.has_none_visible.Goals.{then-is_visible, else-is_visible}

@@ -1,6 +1,6 @@
 use Rattle.std.proofs.Common.{◌≡◌, filter}
-use Rattle.ghost_model.specs.Schema as schema
-use Rattle.ghost_model.specs.Layout as layout
+use Rattle.ghost_model.specs.core.Schema as schema
+use Rattle.ghost_model.specs.forms.Layout as layout
 use Rattle.flash_layout.proofs.areas.has_none_visible.Given as goal
 
 abbrev pub invariant-loop-column : goal.invariant-loop-column

@@ -7,6 +7,7 @@ returns c =
       layout = record {
         tree = limited.tree;
         following = c.files_follow.ensures c.args.cat.now;
+        sums = c.files_lie_as_summed.ensures c.args.cat.now;
         order = c.files_lie_in_order.ensures c.args.cat.now;
         blocks = c.areas_are_whole_blocks.ensures c.args.cat.now;
         narrow = c.layout_is_small.ensures.narrow c.args.cat.now limited.tree;

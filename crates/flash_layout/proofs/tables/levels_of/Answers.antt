@@ -1,7 +1,7 @@
 use Rattle.std.proofs.Common.{ℕ, ◌≤◌, sym, ap, ◌∙◌, length, arith}
 use Rattle.std.proofs.lemmas.Option.{slice_get_within}
-use Rattle.ghost_model.specs.SchemaFaults.{ancestor}
-use Rattle.ghost_model.specs.Layout as layout
+use Rattle.ghost_model.specs.core.Schema.{ancestor}
+use Rattle.ghost_model.specs.forms.Layout as layout
 use Rattle.flash_layout.proofs.PlaceLemmas.{same_by_place, first_ancestor}
 use Rattle.flash_layout.proofs.tables.levels_of.Goals as goal
 

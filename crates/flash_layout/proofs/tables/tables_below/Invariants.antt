@@ -1,5 +1,5 @@
 use Rattle.std.proofs.Common.{◌≡◌, ◌≤◌, length, filter}
-use Rattle.ghost_model.specs.Layout as layout
+use Rattle.ghost_model.specs.forms.Layout as layout
 use Rattle.flash_layout.proofs.tables.tables_below.Given as goal
 
 abbrev pub invariant-loop-other : goal.invariant-loop-other

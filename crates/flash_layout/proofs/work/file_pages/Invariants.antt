@@ -1,5 +1,5 @@
 use Rattle.std.proofs.Common.{◌≡◌, ◌≤◌, ◌*◌, sum_by}
-use Rattle.ghost_model.specs.Layout as layout
+use Rattle.ghost_model.specs.forms.Layout as layout
 use Rattle.flash_layout.proofs.work.file_pages.Given as goal
 
 abbrev pub invariant-loop-table : goal.invariant-loop-table

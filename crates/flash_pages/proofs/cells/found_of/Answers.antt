@@ -1,6 +1,6 @@
 use Rattle.std.proofs.Common.{◌≡◌, ◌∙◌, ap, ◌++◌, drop, replicate, ℕ, arith}
 use Rattle.std.specs.Int.{from_be_bytes, w64}
-use Rattle.ghost_model.specs.Runs.{found_in}
+use Rattle.ghost_model.specs.forms.Runs.{found_in}
 use Rattle.flash_pages.proofs.RecordLemmas.{found_bytes, found_begins}
 use Rattle.flash_pages.proofs.cells.found_of.Goals as goal
 

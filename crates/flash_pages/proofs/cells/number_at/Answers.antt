@@ -1,6 +1,6 @@
 use Rattle.std.proofs.Common.{◌∙◌, ap}
 use Rattle.std.specs.Int.{from_be_bytes, w32}
-use Rattle.ghost_model.specs.Runs.{number_in}
+use Rattle.ghost_model.specs.forms.Runs.{number_in}
 use Rattle.flash_pages.proofs.cells.number_at.Goals as goal
 
 pub returns : goal.returns

@@ -1,6 +1,6 @@
 use Rattle.std.proofs.Common.{ap, length, [], arith}
 use Rattle.std.proofs.lemmas.List.{get_or-map, length-map}
-use Rattle.ghost_model.specs.Runs.{number_cell}
+use Rattle.ghost_model.specs.forms.Runs.{number_cell}
 use Rattle.flash_pages.proofs.filling.write_numbers.Goals as goal
 
 pub write_run-requires-clause-widths : goal.write_run-requires-clause-widths

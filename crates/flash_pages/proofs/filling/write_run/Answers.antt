@@ -1,6 +1,6 @@
 use Rattle.std.proofs.Common.{◌≡◌, ℕ, ◌+◌, ◌++◌, ◌∷◌, [], ◌∙◌, ap, sym, subst, List, length, take, arith}
 use Rattle.std.proofs.lemmas.List.{take_more}
-use Rattle.ghost_model.specs.Runs.{per_page}
+use Rattle.ghost_model.specs.forms.Runs.{per_page}
 use Rattle.edge_traits.specs.Devices.{Counts}
 use Rattle.edge_traits.proofs.DeviceFrames.{changes_wider, counts_more}
 use Rattle.flash_pages.specs.Writers.{HasWritten, next_page, fills}

@@ -1,7 +1,7 @@
 use Rattle.std.proofs.Common.{rules, ◌≡◌, Some, arith}
 use Rattle.std.proofs.lemmas.Grind.{common_steps}
-use Rattle.ghost_model.specs.Values.{Text}
-use Rattle.ghost_model.specs.Cells.{decode_cell}
+use Rattle.ghost_model.specs.core.Values.{Text}
+use Rattle.ghost_model.specs.readings.CellReading.{decode_cell}
 use Rattle.ghost_base.specs.Views.{kind_of}
 use Rattle.ghost_base.proofs.CellSpelling.{text_read}
 use Rattle.ghost_base.proofs.cells.decode_cell.Goals as goal

@@ -1,5 +1,5 @@
 use Rattle.std.proofs.Common.{◌∙◌, ap, ap₂}
-use Rattle.ghost_model.specs.Cells.{padded}
+use Rattle.ghost_model.specs.forms.Cells.{padded}
 use Rattle.ghost_base.specs.Views.{value_of}
 use Rattle.ghost_base.proofs.CellSpelling.{text_written}
 use Rattle.ghost_base.proofs.cells.encode_cell.Goals as goal

@@ -1,15 +1,14 @@
 use Rattle.std.proofs.Common.{refl}
-use Rattle.ghost_model.specs.Schema.{places_from}
-use Rattle.ghost_model.specs.Tokens.{tokens_from, quoted_from}
-use Rattle.ghost_model.specs.QueryPlaces.{read_from}
-use Rattle.ghost_model.specs.Meaning.{combinations}
-use Rattle.ghost_model.specs.Database.{leads_within}
-use Rattle.ghost_model.specs.Split.{replies_from}
-use Rattle.ghost_model.specs.Replies.{picks, identifiers_from}
+use Rattle.ghost_model.specs.core.Schema.{places_from}
+use Rattle.ghost_model.specs.refusals.Tokens.{tokens_from, quoted_from}
+use Rattle.ghost_model.specs.readings.QueryPlaces.{read_from}
+use Rattle.ghost_model.specs.core.Meaning.{combinations}
+use Rattle.ghost_model.specs.core.Database.{leads_within}
+use Rattle.ghost_model.specs.core.Split.{replies_from}
 use Rattle.ghost_laws.proofs.scans.clinic_along_keys.Goals as goal
 
 pub returns : goal.returns
-unfolding places_from tokens_from quoted_from read_from combinations leads_within replies_from picks identifiers_from
+unfolding places_from tokens_from quoted_from read_from combinations leads_within replies_from
 returns c = record {
   means = refl;
   plain = refl;

@@ -1,11 +1,12 @@
-use Rattle.std.proofs.Common.{◌≡◌, ℕ, List, [], ◌∷◌, ◌++◌, take, drop, get_or, Ok, refl, sym, ap, ◌∙◌, append-nil, arith}
+use Rattle.std.proofs.Common.{◌≡◌, ℕ, zero, suc, List, [], ◌∷◌, ◌++◌, take, drop, replicate, get_or, Ok, refl, sym, ap, ◌∙◌, append-nil, arith}
 use Rattle.std.specs.Fmt.{digits}
-use Rattle.ghost_model.specs.Schema.{places_from}
-use Rattle.ghost_model.specs.Channel.{Catalog}
-use Rattle.ghost_model.specs.Tokens.{tokens_from, quoted_from}
-use Rattle.ghost_model.specs.SchemaPlaces.{syntax_from}
-use Rattle.ghost_model.specs.SchemaFaults.{ancestor, fields_from, schema_reading}
-use Rattle.ghost_model.specs.Catalog.{canonical_text, catalog_bytes, IsCatalog, SpellsCatalog}
+use Rattle.ghost_model.specs.core.Schema.{places_from, ancestor}
+use Rattle.ghost_model.specs.core.Channel.{Catalog}
+use Rattle.ghost_model.specs.refusals.Tokens.{tokens_from, quoted_from}
+use Rattle.ghost_model.specs.readings.SchemaPlaces.{syntax_from}
+use Rattle.ghost_model.specs.refusals.SchemaFaults.{fields_from}
+use Rattle.ghost_model.specs.readings.SchemaReading.{schema_reading}
+use Rattle.ghost_model.specs.forms.Catalog.{canonical_text, catalog_bytes, IsCatalog, SpellsCatalog, BeginsWithCatalog}
 use Rattle.ghost_model.specs.examples.Clinic.{clinic_schema, clinic_catalog}
 use Rattle.ghost_model.specs.examples.Catalogs.{SpellsNone}
 use Rattle.ghost_model.proofs.SchemaRuleLemmas.{one_schema}
@@ -71,6 +72,14 @@ second_version cat spells =
 empty_or : (b : ℕ) (rest : List ℕ) → [] ≡ b ∷ rest → ⊥
 empty_or b rest e = absurd (cc)
 
+-- a blank page has no letter
+no_such_byte : ◌≡◌ {A = ℕ} 255 71 → ⊥
+no_such_byte e = omega (arith, e)
+
+no_blank : (count : ℕ) (cat : Catalog) → BeginsWithCatalog (replicate count 255) cat → ⊥
+no_blank zero cat front = empty_or _ _ front.begins
+no_blank (suc count) cat front = no_such_byte (ap (λ (xs : List ℕ). get_or xs 0 0) front.begins)
+
 pub returns : goal.returns
 returns c = record {
   another_first_letter = first_letter;
@@ -79,4 +88,5 @@ returns c = record {
   a_byte_more = λ cat spells. empty_or 0 [] (sym (no_more (0 ∷ []) cat spells));
   a_byte_more_after_it = record { proper = the_clinic; rest = 0 ∷ []; begins = refl };
   no_byte = λ cat spells. empty_or _ _ (other_head [] cat spells);
+  blank_pages = no_blank;
 }

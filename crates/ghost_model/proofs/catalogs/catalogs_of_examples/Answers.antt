@@ -1,10 +1,11 @@
 use Rattle.std.proofs.Common.{◌≡◌, [], Ok, Err, refl, sym, ◌∙◌, arith}
 use Rattle.std.specs.Fmt.{digits}
-use Rattle.ghost_model.specs.Schema.{places_from}
-use Rattle.ghost_model.specs.Tokens.{tokens_from, quoted_from}
-use Rattle.ghost_model.specs.SchemaPlaces.{syntax_from}
-use Rattle.ghost_model.specs.SchemaFaults.{NotOneRoot, ancestor, fields_from, schema_reading, MeansSchema}
-use Rattle.ghost_model.specs.Catalog.{canonical_text}
+use Rattle.ghost_model.specs.core.Schema.{places_from, ancestor}
+use Rattle.ghost_model.specs.refusals.Tokens.{tokens_from, quoted_from}
+use Rattle.ghost_model.specs.readings.SchemaPlaces.{syntax_from}
+use Rattle.ghost_model.specs.refusals.SchemaFaults.{NotOneRoot, fields_from, MeansSchema}
+use Rattle.ghost_model.specs.readings.SchemaReading.{schema_reading}
+use Rattle.ghost_model.specs.forms.Catalog.{canonical_text}
 use Rattle.ghost_model.specs.examples.Clinic.{clinic_schema, note_schema}
 use Rattle.ghost_model.proofs.SchemaRuleLemmas.{one_schema}
 use Rattle.ghost_model.proofs.catalogs.catalogs_of_examples.Goals as goal

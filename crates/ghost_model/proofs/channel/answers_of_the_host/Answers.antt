@@ -1,14 +1,15 @@
 use Rattle.std.proofs.Common.{refl}
 use Rattle.std.specs.Fmt.{digits}
 use Rattle.hex.specs.Hex.{encode_with, decode_pairs}
-use Rattle.ghost_model.specs.Asks.{rows_from, tests_in}
-use Rattle.ghost_model.specs.Schema.{places_from}
-use Rattle.ghost_model.specs.Split.{replies_from}
-use Rattle.ghost_model.specs.Host.{groups_from, said_to, frames_within, bad_from}
+use Rattle.ghost_model.specs.core.Asks.{rows_from}
+use Rattle.ghost_model.specs.readings.AskReading.{tests_in}
+use Rattle.ghost_model.specs.core.Schema.{places_from}
+use Rattle.ghost_model.specs.core.Split.{replies_from}
+use Rattle.ghost_model.specs.core.Host.{groups_from, frames_within, bad_with_refusals, said_with_refusals}
 use Rattle.ghost_model.proofs.channel.answers_of_the_host.Goals as goal
 
 pub returns : goal.returns
-unfolding digits encode_with decode_pairs rows_from tests_in places_from replies_from groups_from said_to frames_within bad_from
+unfolding digits encode_with decode_pairs rows_from tests_in places_from replies_from groups_from said_with_refusals frames_within bad_with_refusals
 returns c = record {
   a_session = refl;
   conditions_are_met = refl;

@@ -1,9 +1,10 @@
 use Rattle.std.proofs.Common.{refl}
 use Rattle.std.specs.Fmt.{digits}
 use Rattle.hex.specs.Hex.{encode_with, decode_pairs}
-use Rattle.ghost_model.specs.Asks.{rows_from, tests_in}
-use Rattle.ghost_model.specs.Schema.{places_from}
-use Rattle.ghost_model.specs.NextMove.{hear_all, rows_fit}
+use Rattle.ghost_model.specs.core.Asks.{rows_from}
+use Rattle.ghost_model.specs.readings.AskReading.{tests_in}
+use Rattle.ghost_model.specs.core.Schema.{places_from}
+use Rattle.ghost_model.specs.core.NextMove.{hear_all, rows_fit}
 use Rattle.ghost_model.proofs.channel.invalid_frames.Goals as goal
 
 pub returns : goal.returns

@@ -1,11 +1,11 @@
 use Rattle.std.proofs.Common.{refl}
 use Rattle.std.specs.Fmt.{digits}
 use Rattle.hex.specs.Hex.{encode_with, decode_pairs}
-use Rattle.ghost_model.specs.Asks.{rows_from}
-use Rattle.ghost_model.specs.Schema.{places_from}
-use Rattle.ghost_model.specs.Tokens.{tokens_from, quoted_from}
-use Rattle.ghost_model.specs.QueryPlaces.{read_from}
-use Rattle.ghost_model.specs.NextMove.{hear_all, rows_fit}
+use Rattle.ghost_model.specs.core.Asks.{rows_from}
+use Rattle.ghost_model.specs.core.Schema.{places_from}
+use Rattle.ghost_model.specs.refusals.Tokens.{tokens_from, quoted_from}
+use Rattle.ghost_model.specs.readings.QueryPlaces.{read_from}
+use Rattle.ghost_model.specs.core.NextMove.{hear_all, rows_fit}
 use Rattle.ghost_model.proofs.channel.journal_of_the_notes.Goals as goal
 
 pub returns : goal.returns

@@ -1,6 +1,5 @@
-use Rattle.ghost_model.specs.Asks.{asked_of}
 use Rattle.ghost_model.proofs.ChannelLemmas.Sending.{sent_is_due}
 use Rattle.ghost_model.proofs.channel.sent_frames_are_due.Goals as goal
 
 pub returns : goal.returns
-returns c catalog at texts journal proper = sent_is_due catalog at (asked_of catalog.schema texts) journal proper
+returns c = sent_is_due

@@ -1,8 +1,8 @@
 use Rattle.std.proofs.Common.{◌≡◌, ℕ, zero, suc, ◌<◌, Option, Some, List, [], ◌∷◌, ◌++◌, length, take, sym, ◌∙◌, ap, subst, refl, arith, add-one}
-use Rattle.ghost_model.specs.Channel.{Catalog, Move, Answer, Entry, Journal}
-use Rattle.ghost_model.specs.Asks.{Asked, asked_of}
-use Rattle.ghost_model.specs.Moves.{moves, answers}
-use Rattle.ghost_model.specs.NextMove.{GoesOn, next_with}
+use Rattle.ghost_model.specs.core.Channel.{Catalog, Move, Answer, Entry, Journal}
+use Rattle.ghost_model.specs.core.Asks.{NumberedAsk}
+use Rattle.ghost_model.specs.core.Moves.{moves, answers}
+use Rattle.ghost_model.specs.core.NextMove.{GoesOn, next_with}
 use Rattle.ghost_model.proofs.channel.two_worlds.Goals as goal
 
 same_move : (o : Option Move) (m n : Move) → o ≡ Some m → o ≡ Some n → m ≡ n
@@ -24,7 +24,7 @@ cons_moves : (m n : Move) (ms ns : List Move) → m ≡ n → ms ≡ ns → m �
 cons_moves m n ms ns p q = cc
 
 -- two journals that go on from the same entries
-module _ (catalog : Catalog) (at : List ℕ) (asks : List Asked) where
+module _ (catalog : Catalog) (at : List ℕ) (asks : List NumberedAsk) where
   same_moves :
       (first second : Journal) (i : ℕ) (before : Journal) → GoesOn catalog at asks before first
       → GoesOn catalog at asks before second → i < length first → i < length second
@@ -44,6 +44,6 @@ module _ (catalog : Catalog) (at : List ℕ) (asks : List Asked) where
       (same_tail d.answer b.answer (answers (take i ds)) (answers (take i bs)) e))
 
 pub returns : goal.returns
-returns c catalog at texts first second i p q m n e =
+returns c catalog at asks first second i p q m n e =
     subst (λ (k : ℕ). moves (take k first) ≡ moves (take k second)) (sym (add-one i))
-    (same_moves catalog at (asked_of catalog.schema texts) first second i [] p q m n e)
+    (same_moves catalog at asks first second i [] p q m n e)

@@ -1,9 +1,8 @@
 use Rattle.std.proofs.Common.{◌≡◌, refl, ℕ, zero, suc, ◌<◌, List, Contains, slice_index_or, arith}
 use Rattle.std.specs.List.Sorted.{IsStrictlySortedBy}
-use Rattle.ghost_model.specs.Schema.{places_from}
-use Rattle.ghost_model.specs.SchemaFaults.{ancestor}
-use Rattle.ghost_model.specs.Database.{leads_within}
-use Rattle.ghost_model.specs.Flash.{hidden_cells}
+use Rattle.ghost_model.specs.core.Schema.{places_from, ancestor}
+use Rattle.ghost_model.specs.core.Database.{leads_within}
+use Rattle.ghost_model.specs.forms.Flash.{hidden_cells}
 use Rattle.ghost_model.specs.examples.Clinic.{clinic_schema}
 use Rattle.ghost_model.specs.examples.Flash.{hidden_clinic, countries}
 use Rattle.ghost_model.proofs.flash.indexes_of_the_clinic.Goals as goal

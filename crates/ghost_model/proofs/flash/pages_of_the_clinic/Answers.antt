@@ -1,10 +1,9 @@
 use Rattle.std.proofs.Common.{◌≡◌, refl, ap, ℕ, zero, suc, ◌<◌, List, [], slice_index, get_or, arith}
 use Rattle.std.specs.Fmt.{digits}
-use Rattle.ghost_model.specs.Schema.{places_from}
-use Rattle.ghost_model.specs.Runs.{Run, record_at, HasBlankRest}
-use Rattle.ghost_model.specs.Layout.{column_file}
-use Rattle.ghost_model.specs.Flash.{hidden_cells}
-use Rattle.ghost_model.specs.SchemaFaults.{ancestor}
+use Rattle.ghost_model.specs.core.Schema.{places_from, ancestor}
+use Rattle.ghost_model.specs.forms.Runs.{Run, record_at, HasBlankRest}
+use Rattle.ghost_model.specs.forms.Layout.{column_file}
+use Rattle.ghost_model.specs.forms.Flash.{hidden_cells}
 use Rattle.ghost_model.specs.examples.Clinic.{clinic_schema, clinic_catalog}
 use Rattle.ghost_model.specs.examples.Flash.{hidden_clinic, country_page}
 use Rattle.ghost_model.proofs.flash.pages_of_the_clinic.Goals as goal

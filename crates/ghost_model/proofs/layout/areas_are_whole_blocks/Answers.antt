@@ -1,11 +1,12 @@
 use Rattle.std.proofs.Common.{◌≡◌, refl, ap, ◌∙◌, ℕ, ◌*◌, ◌%◌, Bool, true, false, cond, List, [], ◌∷◌, length, sum_by, arith}
 use Rattle.std.proofs.lemmas.Nat.{mul-mod}
 use Rattle.std.proofs.lemmas.List.Sums.{sum_by-cons}
-use Rattle.ghost_model.specs.Schema.{is_empty}
-use Rattle.ghost_model.specs.Channel.{Catalog}
-use Rattle.ghost_model.specs.Runs.{pages_of}
-use Rattle.ghost_model.specs.Layout.{below, count_of, in_blocks, spool_pages, spool_pages_before, spool_width, visible_columns, half_pages, scratch_pages}
-use Rattle.ghost_model.specs.LayoutLaws.{AreWholeBlocks}
+use Rattle.ghost_model.specs.core.Schema.{is_empty}
+use Rattle.ghost_model.specs.core.Channel.{Catalog}
+use Rattle.ghost_model.specs.forms.Runs.{pages_of}
+use Rattle.ghost_model.specs.forms.Layout.{below, count_of, in_blocks, spool_pages, spool_width, visible_columns, half_pages, scratch_pages}
+use Rattle.ghost_model.specs.laws.LayoutSums.{spool_pages_before}
+use Rattle.ghost_model.specs.laws.LayoutLaws.{AreWholeBlocks}
 use Rattle.ghost_model.proofs.layout.areas_are_whole_blocks.Goals as goal
 
 times : (n blocks : ℕ) → blocks % 64 ≡ 0 → (n * blocks) % 64 ≡ 0

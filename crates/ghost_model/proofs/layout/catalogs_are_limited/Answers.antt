@@ -1,4 +1,4 @@
-use Rattle.ghost_model.specs.Catalog.{canonical_text}
+use Rattle.ghost_model.specs.forms.Catalog.{canonical_text}
 use Rattle.ghost_model.proofs.SchemaTreeLemmas.{schemas_are_trees}
 use Rattle.ghost_model.proofs.layout.catalogs_are_limited.Goals as goal
 

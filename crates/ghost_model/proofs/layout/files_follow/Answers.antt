@@ -1,4 +1,4 @@
-use Rattle.ghost_model.proofs.LayoutLemmas.Following.{follow_one_another}
+use Rattle.ghost_model.proofs.LayoutLemmas.Places.{follow_one_another}
 use Rattle.ghost_model.proofs.layout.files_follow.Goals as goal
 
 pub returns : goal.returns

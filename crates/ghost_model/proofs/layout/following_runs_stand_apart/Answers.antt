@@ -1,6 +1,6 @@
 use Rattle.std.proofs.Common.{◌≡◌, subst, ℕ, zero, suc, ◌+◌, ◌<◌, ◌≤◌, List, [], ◌∷◌, Some, slice_get, arith}
-use Rattle.ghost_model.specs.Runs.{Run}
-use Rattle.ghost_model.specs.LayoutLaws.{Follow}
+use Rattle.ghost_model.specs.forms.Runs.{Run}
+use Rattle.ghost_model.specs.laws.LayoutLaws.{Follow}
 use Rattle.ghost_model.proofs.layout.following_runs_stand_apart.Goals as goal
 
 order : (room : Run → ℕ) (runs : List Run) (begin after : ℕ) → Follow room begin runs after → begin ≤ after

@@ -1,10 +1,10 @@
 use Rattle.std.proofs.Common.{refl}
-use Rattle.ghost_model.specs.SchemaFaults.{ancestor}
-use Rattle.ghost_model.specs.Schema.{places_from}
+use Rattle.ghost_model.specs.core.Schema.{places_from, ancestor}
+use Rattle.ghost_model.specs.forms.Layout.{first_page, files_end}
 use Rattle.ghost_model.proofs.layout.layout_of_the_clinic.Goals as goal
 
 pub returns : goal.returns
-unfolding ancestor places_from
+unfolding ancestor places_from first_page files_end
 returns c = record {
   levels_of_doctor = refl;
   levels_of_visit = refl;
@@ -24,6 +24,8 @@ returns c = record {
   patient_key = refl;
   below_visits = refl;
   patient_key_header = refl;
+  in_order = refl;
+  pages_of_structures = refl;
   pages = refl;
   counts = refl;
   widths = refl;

@@ -1,10 +1,10 @@
 use Rattle.std.proofs.Common.{refl}
-use Rattle.ghost_model.specs.SchemaFaults.{ancestor}
-use Rattle.ghost_model.specs.Schema.{places_from}
+use Rattle.ghost_model.specs.core.Schema.{places_from, ancestor}
+use Rattle.ghost_model.specs.forms.Layout.{first_page, files_end}
 use Rattle.ghost_model.proofs.layout.layout_of_the_notes.Goals as goal
 
 pub returns : goal.returns
-unfolding ancestor places_from
+unfolding ancestor places_from first_page files_end
 returns c = record {
   pages = refl;
   files_end = refl;

@@ -1,11 +1,11 @@
 use Rattle.std.proofs.Common.{refl}
 use Rattle.std.specs.Fmt.{digits}
-use Rattle.ghost_model.specs.SchemaFaults.{ancestor}
-use Rattle.ghost_model.specs.Schema.{places_from}
+use Rattle.ghost_model.specs.core.Schema.{places_from, ancestor}
+use Rattle.ghost_model.specs.forms.Layout.{first_page, files_end}
 use Rattle.ghost_model.proofs.layout.layouts_of_larger_databases.Goals as goal
 
 pub returns : goal.returns
-unfolding ancestor places_from digits
+unfolding ancestor places_from first_page files_end digits
 returns c = record {
   catalog = refl;
   remainders_files = refl;

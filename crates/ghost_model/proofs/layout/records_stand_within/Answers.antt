@@ -1,5 +1,5 @@
 use Rattle.std.proofs.Common.{arith}
-use Rattle.ghost_model.specs.Runs.{per_page}
+use Rattle.ghost_model.specs.forms.Runs.{per_page}
 use Rattle.ghost_model.proofs.LayoutLemmas.Numbers.{some_per_page, pages_few, place_within, cell_within, remainder}
 use Rattle.ghost_model.proofs.layout.records_stand_within.Goals as goal
 

@@ -1,9 +1,9 @@
 use Rattle.std.proofs.Common.{refl}
 use Rattle.std.specs.Fmt.{digits}
-use Rattle.ghost_model.specs.Schema.{places_from}
-use Rattle.ghost_model.specs.Tokens.{tokens_from, quoted_from}
-use Rattle.ghost_model.specs.QueryPlaces.{read_from}
-use Rattle.ghost_model.specs.Meaning.{combinations}
+use Rattle.ghost_model.specs.core.Schema.{places_from}
+use Rattle.ghost_model.specs.refusals.Tokens.{tokens_from, quoted_from}
+use Rattle.ghost_model.specs.readings.QueryPlaces.{read_from}
+use Rattle.ghost_model.specs.core.Meaning.{combinations}
 use Rattle.ghost_model.proofs.meaning.answers_of_the_clinic.Goals as goal
 
 pub returns : goal.returns
@@ -22,4 +22,6 @@ returns c = record {
   every_column = refl;
   a_join_either_side_first = refl;
   notes_on_a_topic = refl;
+  the_same_text_twice = refl;
+  two_texts_on_notes = refl;
 }

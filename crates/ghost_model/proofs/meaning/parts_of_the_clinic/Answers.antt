@@ -1,7 +1,7 @@
 use Rattle.std.proofs.Common.{refl}
 use Rattle.std.specs.Fmt.{digits}
-use Rattle.ghost_model.specs.Schema.{places_from}
-use Rattle.ghost_model.specs.Split.{replies_from}
+use Rattle.ghost_model.specs.core.Schema.{places_from}
+use Rattle.ghost_model.specs.core.Split.{replies_from}
 use Rattle.ghost_model.proofs.meaning.parts_of_the_clinic.Goals as goal
 
 pub returns : goal.returns

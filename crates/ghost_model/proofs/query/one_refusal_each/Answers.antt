@@ -1,7 +1,7 @@
 use Rattle.std.proofs.Common.{refl}
-use Rattle.ghost_model.specs.Tokens.{tokens_from, quoted_from}
-use Rattle.ghost_model.specs.Schema.{places_from}
-use Rattle.ghost_model.specs.QueryPlaces.{read_from}
+use Rattle.ghost_model.specs.refusals.Tokens.{tokens_from, quoted_from}
+use Rattle.ghost_model.specs.core.Schema.{places_from}
+use Rattle.ghost_model.specs.readings.QueryPlaces.{read_from}
 use Rattle.ghost_model.proofs.query.one_refusal_each.Goals as goal
 
 pub returns : goal.returns

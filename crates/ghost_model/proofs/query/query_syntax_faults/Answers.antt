@@ -1,7 +1,7 @@
 use Rattle.std.proofs.Common.{refl}
-use Rattle.ghost_model.specs.Tokens.{tokens_from, quoted_from}
-use Rattle.ghost_model.specs.Schema.{places_from}
-use Rattle.ghost_model.specs.QueryPlaces.{read_from}
+use Rattle.ghost_model.specs.refusals.Tokens.{tokens_from, quoted_from}
+use Rattle.ghost_model.specs.core.Schema.{places_from}
+use Rattle.ghost_model.specs.readings.QueryPlaces.{read_from}
 use Rattle.ghost_model.proofs.query.query_syntax_faults.Goals as goal
 
 pub returns : goal.returns

@@ -1,8 +1,8 @@
 use Rattle.std.proofs.Common.{refl}
-use Rattle.ghost_model.specs.Schema.{places_from}
-use Rattle.ghost_model.specs.Tokens.{tokens_from, quoted_from}
-use Rattle.ghost_model.specs.SchemaPlaces.{syntax_from}
-use Rattle.ghost_model.specs.SchemaFaults.{ancestor, fields_from}
+use Rattle.ghost_model.specs.core.Schema.{places_from, ancestor}
+use Rattle.ghost_model.specs.refusals.Tokens.{tokens_from, quoted_from}
+use Rattle.ghost_model.specs.readings.SchemaPlaces.{syntax_from}
+use Rattle.ghost_model.specs.refusals.SchemaFaults.{fields_from}
 use Rattle.ghost_model.proofs.schema.limits_of_schemas.Goals as goal
 
 pub returns : goal.returns

@@ -1,5 +1,5 @@
 use Rattle.std.proofs.Common.{[]}
-use Rattle.ghost_model.specs.Asks.{asked_of}
+use Rattle.ghost_model.specs.core.Asks.{asked_of}
 use Rattle.ghost_model.proofs.SessionLemmas.OneJournal.{same_journal}
 use Rattle.ghost_model.proofs.session_laws.one_local_journal.Goals as goal
 

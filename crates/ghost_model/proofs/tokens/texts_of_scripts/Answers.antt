@@ -1,5 +1,5 @@
 use Rattle.std.proofs.Common.{refl}
-use Rattle.ghost_model.specs.Texts.{parts_after}
+use Rattle.ghost_model.specs.readings.TextReading.{parts_after}
 use Rattle.ghost_model.proofs.tokens.texts_of_scripts.Goals as goal
 
 pub returns : goal.returns

@@ -1,5 +1,5 @@
 use Rattle.std.proofs.Common.{refl}
-use Rattle.ghost_model.specs.Tokens.{tokens_from, quoted_from}
+use Rattle.ghost_model.specs.refusals.Tokens.{tokens_from, quoted_from}
 use Rattle.ghost_model.proofs.tokens.tokens_of_texts.Goals as goal
 
 pub returns : goal.returns

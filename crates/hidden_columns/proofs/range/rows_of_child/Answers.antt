@@ -1,7 +1,7 @@
 use Rattle.std.proofs.Common.{◌∙◌, ap, sym, Some}
 use Rattle.std.specs.Prelude.{option_map, unwrap_or}
 use Rattle.std.proofs.lemmas.Option.{unwrap_or-slice_get}
-use Rattle.ghost_model.specs.Layout as layout
+use Rattle.ghost_model.specs.forms.Layout as layout
 use Rattle.hidden_columns.proofs.range.rows_of_child.Goals as goal
 
 pub returns-in-Some : goal.returns-in-Some

@@ -1,5 +1,5 @@
 use Rattle.std.proofs.Common.{Bool, List, ℕ, MatchBool, ap, sym, subst, ◌∙◌}
-use Rattle.ghost_model.specs.Catalog.{BeginsWithCatalog}
+use Rattle.ghost_model.specs.forms.Catalog.{BeginsWithCatalog}
 use Rattle.edge_traits.specs.Files.{file_of}
 use Rattle.host_exec.specs.Checked.{IsChecked}
 use Rattle.host_exec.proofs.ImageSpelling.{is_image, front_is_enough, other_image}

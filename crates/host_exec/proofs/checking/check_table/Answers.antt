@@ -1,5 +1,5 @@
 use Rattle.std.proofs.Common.{◌≡◌, ℕ, List, Some, IfOk, MatchBool, slice_index, map, ap, subst, ◌∙◌}
-use Rattle.ghost_model.specs.Schema.{Schema, Kind}
+use Rattle.ghost_model.specs.core.Schema.{Schema, Kind}
 use Rattle.ghost_base.specs.Views.{kind_of}
 use Rattle.edge_traits.specs.Files.{file_of}
 use Rattle.host_exec.specs.RowBytes.{data_columns, row_width, table_start}

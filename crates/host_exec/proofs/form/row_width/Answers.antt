@@ -1,6 +1,6 @@
 use Rattle.std.proofs.Common.{◌≡◌, ◌-◌, length, ap, ◌∙◌, arith}
 use Rattle.std.proofs.lemmas.List.{length-drop}
-use Rattle.ghost_model.specs.Schema.{columns_of}
+use Rattle.ghost_model.specs.core.Schema.{columns_of}
 use Rattle.host_exec.specs.RowBytes.{data_columns, width_before}
 use Rattle.host_exec.proofs.form.row_width.Goals as goal
 

@@ -1,5 +1,5 @@
 use Rattle.std.proofs.Common.{◌≡◌, ◌≤◌, ◌-◌, ◌+◌, ℕ, List, Some}
-use Rattle.ghost_model.specs.Asks.{ReplyRow}
+use Rattle.ghost_model.specs.core.Asks.{RowCells}
 use Rattle.edge_traits.specs.Files.{file_of}
 use Rattle.host_exec.specs.RowBytes.{replies_at}
 use Rattle.host_exec.specs.FormViews.{form_view}
@@ -16,7 +16,7 @@ invariant-pieces g l = record {
   goes_on : l.place ≤ l.next;
   sparse : l.batch.rows + l.place ≤ l.fn.batch.rows + l.next;
   within : l.next ≤ l.rows;
-  gathered : (file : List ℕ) (all : List ReplyRow) → file_of (g.D.Depot.contents l.fn.depot) l.name ≡ Some file
+  gathered : (file : List ℕ) (all : List RowCells) → file_of (g.D.Depot.contents l.fn.depot) l.name ≡ Some file
       → Gathered all l.fn.batch.rows l.fn.batch.bytes.items (replies_at (form_view l.form) file l.start l.place (l.rows - l.place))
       → Gathered all l.batch.rows l.batch.bytes.items (replies_at (form_view l.form) file l.start l.next (l.rows - l.next));
 }

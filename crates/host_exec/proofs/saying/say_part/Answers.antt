@@ -1,5 +1,5 @@
 use Rattle.std.proofs.Common.{◌∙◌, arith}
-use Rattle.ghost_model.specs.Catalog.{catalog_bytes}
+use Rattle.ghost_model.specs.forms.Catalog.{catalog_bytes}
 use Rattle.host_exec.proofs.Groups.{said_part, said_last}
 use Rattle.host_exec.proofs.saying.say_part.Goals as goal
 

@@ -1,6 +1,6 @@
 use Rattle.std.proofs.Common.{◌<◌, ◌≤◌, ℕ, List, subst, ap, ◌∙◌, arith}
-use Rattle.ghost_model.specs.Channel.{Replied}
-use Rattle.ghost_model.specs.Frames.{frame_bytes}
+use Rattle.ghost_model.specs.core.Channel.{RowsFrame}
+use Rattle.ghost_model.specs.forms.Frames.{frame_bytes}
 use Rattle.host_exec.specs.Saying.{left_from}
 use Rattle.host_exec.specs.Replies.{source_of}
 use Rattle.host_exec.proofs.Groups.{none_gathered, said_done, said_rows}
@@ -23,4 +23,4 @@ returns-clause-said g c catalog file owed stand is stands =
     said_rows catalog source c.args.serial c.args.place c.args.sent c.in_ok-next.next owed stand _ _ _ _ stands
     (subst (λ (n : ℕ). 0 < n) c.args.reply.now.full c.args.reply.now.some) gathered (omega (arith, c.if-batch-eq0.false))
     (subst (λ (n : ℕ). c.gather.new.batch.rows ≤ n) c.args.reply.now.full c.in_ok-next.ensures.room.few) (λ h. c.in_ok-next.ensures.stops h ∙ c.args.reply.now.full)
-    (c.put_frame-size-2.ensures.bytes ∙ ap (λ (bs : List ℕ). frame_bytes (Replied c.args.serial bs)) c.as_slice.ensures.value)
+    (c.put_frame-size-2.ensures.bytes ∙ ap (λ (bs : List ℕ). frame_bytes (RowsFrame c.args.serial bs)) c.as_slice.ensures.value)

@@ -1,6 +1,6 @@
 use Rattle.std.proofs.Common.{◌≡◌, Some, ap, sym, ◌∙◌}
-use Rattle.ghost_model.specs.Schema.{Schema}
-use Rattle.ghost_model.specs.Asks.{ask_in}
+use Rattle.ghost_model.specs.core.Schema.{Schema}
+use Rattle.ghost_model.specs.readings.AskReading.{ask_in}
 use Rattle.ghost_model.proofs.ChannelLemmas.Asks.{read_ask_is_proper}
 use Rattle.channel_codec.specs.AskViews.{ask_view}
 use Rattle.host_exec.specs.RowBytes.{form_of}

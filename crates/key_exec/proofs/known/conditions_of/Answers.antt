@@ -1,5 +1,5 @@
 use Rattle.std.proofs.Common.{length, ap, arith}
-use Rattle.ghost_model.specs.Query as query
+use Rattle.ghost_model.specs.core.Query as query
 use Rattle.ghost_base.specs.Views.{operator_of, value_of}
 use Rattle.spj_parse.specs.Views.{comparison_of, field_of}
 use Rattle.spj_parse.specs.declared.query.Field.{Field}

@@ -1,7 +1,7 @@
 use Rattle.std.proofs.Common.{◌≡◌, ◌+◌, ◌-◌, ◌∙◌, ap, sym, arith, drop, Some}
 use Rattle.csv.specs.Records as csv
 use Rattle.csv.specs.Records.{fields_of}
-use Rattle.ghost_model.specs.Database.{records_of}
+use Rattle.ghost_model.specs.core.Database.{records_of}
 use Rattle.key_inputs.proofs.Fields.{field_found, record_read}
 use Rattle.key_inputs.proofs.field_values.field_in.Goals as goal
 

@@ -1,5 +1,5 @@
 use Rattle.std.proofs.Common.{◌≡◌, ◌-◌, ◌≤◌, drop}
-use Rattle.ghost_model.specs.Database.{records_of}
+use Rattle.ghost_model.specs.core.Database.{records_of}
 use Rattle.key_inputs.proofs.field_values.field_in.Given as goal
 
 abbrev pub invariant-loop : goal.invariant-loop

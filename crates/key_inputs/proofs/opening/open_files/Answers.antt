@@ -6,7 +6,7 @@ use Rattle.key_inputs.specs.Views.{Tells, ReadsTable, name_at}
 use Rattle.csv_split.specs.declared.tables.Tables.{Tables}
 use Rattle.key_inputs.specs.declared.faults.OpenFault.{OpenFault}
 use Rattle.key_inputs.specs.declared.faults.OpenFault.TheVariants as open_fault
-use Rattle.ghost_model.specs.Schema.{columns_of}
+use Rattle.ghost_model.specs.core.Schema.{columns_of}
 use Rattle.key_inputs.proofs.Telling.{same_fault}
 use Rattle.key_inputs.proofs.ReadFiles.{nothing_read, at_table, file_read, all_read}
 use Rattle.key_inputs.proofs.opening.open_files.Goals as goal

@@ -1,6 +1,6 @@
 use Rattle.std.proofs.Common.{◌∙◌, subst}
-use Rattle.ghost_model.specs.Schema.{columns_of}
-use Rattle.ghost_model.specs.LoadFaults.{TellsFirst, file_faults}
+use Rattle.ghost_model.specs.core.Schema.{columns_of}
+use Rattle.ghost_model.specs.refusals.LoadFaults.{TellsFirst, file_faults}
 use Rattle.csv_split.specs.Faults.{told}
 use Rattle.edge_traits.specs.Files.{HasFile}
 use Rattle.key_inputs.specs.Openings.{table_file}

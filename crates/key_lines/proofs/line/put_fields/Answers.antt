@@ -1,6 +1,6 @@
 use Rattle.std.proofs.Common.{◌++◌, map, ap, sym, ◌∙◌, append_assoc, flat_map}
 use Rattle.ghost_base.specs.Views.{value_of}
-use Rattle.ghost_model.specs.Printed.{field_text}
+use Rattle.ghost_model.specs.core.Printed.{field_text}
 use Rattle.key_lines.specs.Fields.{fields_text, later_field}
 use Rattle.key_lines.proofs.FieldLists.{first_and_later}
 use Rattle.key_lines.proofs.line.put_fields.Goals as goal

@@ -1,12 +1,12 @@
 use Rattle.std.proofs.Common.{inr, refl}
 use Rattle.key_words.specs.Views.{load_view}
-use Rattle.key_load.specs.Results.{loading, world}
+use Rattle.key_load.specs.Results.{loading, load_side}
 use Rattle.key_load.proofs.Endings.{unprepared}
 use Rattle.key_load.proofs.command.load_input.Goals as goal
 
 pub returns-in-Err-clause-ends : goal.returns-in-Err-clause-ends
 returns-in-Err-clause-ends g c =
-    let before = world (g.F.Flash.state c.args.flash.now) (g.D.Depot.contents c.args.depot.now) (g.O.Sink.written c.args.out.now) in
+    let before = load_side (g.F.Flash.state c.args.flash.now) (g.D.Depot.contents c.args.depot.now) (g.O.Sink.written c.args.out.now) in
     unprepared (Unit {0}) g.F.Flash.told (loading c.args.input.schema c.args.input.tables (load_view c.args.words.now)) before before c.in-Err.fault
     (record { device = refl; files = refl }) c.in-Err.ensures.told
 

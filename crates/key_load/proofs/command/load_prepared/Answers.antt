@@ -1,14 +1,14 @@
 use Rattle.std.proofs.Common.{Err, ap}
 use Rattle.key_words.specs.Views.{load_view}
-use Rattle.key_load.specs.Results.{loading, world}
+use Rattle.key_load.specs.Results.{loading, load_side}
 use Rattle.key_load.proofs.Endings.{failed, large_enough, built, written, host_file, files_stand, stands, printed, front_printed}
 use Rattle.key_load.proofs.command.load_prepared.Goals as goal
 
 pub returns-in-Ok-print_line-clause-ends : goal.returns-in-Ok-print_line-clause-ends
 returns-in-Ok-print_line-clause-ends g c = λ schema database are.
     let words = load_view c.args.words.now in
-    let before = world (g.F.Flash.state c.args.flash.now) (g.D.Depot.contents c.args.depot.now) (g.O.Sink.written c.args.out.now) in
-    let after = world (g.F.Flash.state c.make_both.new.flash) (g.D.Depot.contents c.make_both.new.depot) (g.O.Sink.written c.print_line.new.out) in
+    let before = load_side (g.F.Flash.state c.args.flash.now) (g.D.Depot.contents c.args.depot.now) (g.O.Sink.written c.args.out.now) in
+    let after = load_side (g.F.Flash.state c.make_both.new.flash) (g.D.Depot.contents c.make_both.new.depot) (g.O.Sink.written c.print_line.new.out) in
     let made = c.in-Ok.ensures in
     record {
       stands = stands schema database words c.args.prepared.now g.F.Flash.told are before after c.requires.enough made.named made.holds made.pages made.file;
@@ -18,8 +18,8 @@ returns-in-Ok-print_line-clause-ends g c = λ schema database are.
 pub returns-in-Err-print_line-clause-ends : goal.returns-in-Err-print_line-clause-ends
 returns-in-Err-print_line-clause-ends g c = λ schema database are.
     let words = load_view c.args.words.now in
-    let before = world (g.F.Flash.state c.args.flash.now) (g.D.Depot.contents c.args.depot.now) (g.O.Sink.written c.args.out.now) in
-    let after = world (g.F.Flash.state c.make_both.new.flash) (g.D.Depot.contents c.make_both.new.depot) (g.O.Sink.written c.print_line.new.out) in
+    let before = load_side (g.F.Flash.state c.args.flash.now) (g.D.Depot.contents c.args.depot.now) (g.O.Sink.written c.args.out.now) in
+    let after = load_side (g.F.Flash.state c.make_both.new.flash) (g.D.Depot.contents c.make_both.new.depot) (g.O.Sink.written c.print_line.new.out) in
     let made = c.in-Ok.ensures in
     record {
       stands = stands schema database words c.args.prepared.now g.F.Flash.told are before after c.requires.enough made.named made.holds made.pages made.file;
@@ -29,8 +29,8 @@ returns-in-Err-print_line-clause-ends g c = λ schema database are.
 pub returns-in-Err-clause-ends : goal.returns-in-Err-clause-ends
 returns-in-Err-clause-ends g c = λ schema database are.
     let words = load_view c.args.words.now in
-    let before = world (g.F.Flash.state c.args.flash.now) (g.D.Depot.contents c.args.depot.now) (g.O.Sink.written c.args.out.now) in
-    let after = world (g.F.Flash.state c.make_both.new.flash) (g.D.Depot.contents c.make_both.new.depot) (g.O.Sink.written c.args.out.now) in
+    let before = load_side (g.F.Flash.state c.args.flash.now) (g.D.Depot.contents c.args.depot.now) (g.O.Sink.written c.args.out.now) in
+    let after = load_side (g.F.Flash.state c.make_both.new.flash) (g.D.Depot.contents c.make_both.new.depot) (g.O.Sink.written c.args.out.now) in
     let made = c.in-Err.ensures in
     failed c.make_both.result g.F.Flash.told (loading schema database words) before after c.in-Err.fault made.kinds
     (large_enough schema database words c.args.prepared.now are c.requires.enough)

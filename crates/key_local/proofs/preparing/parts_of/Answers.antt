@@ -1,6 +1,6 @@
 use Rattle.std.proofs.Common.{sym, subst}
-use Rattle.ghost_model.specs.Database.{IsDatabase}
-use Rattle.ghost_model.specs.Schema.{Schema}
+use Rattle.ghost_model.specs.core.Database.{IsDatabase}
+use Rattle.ghost_model.specs.core.Schema.{Schema}
 use Rattle.key_local.proofs.Settings.{stored_of}
 use Rattle.key_local.proofs.preparing.parts_of.Goals as goal
 
@@ -8,5 +8,5 @@ pub returns-clause-stored : goal.returns-clause-stored
 returns-clause-stored c =
     let cat = c.catalog_of-cat.result in
     let is = c.a_catalog_is_short.ensures.catalog in
-    stored_of cat c.args.input.tables is (c.catalogs_are_bytes.ensures.bytes cat is)
+    stored_of cat c.args.input.tables is
     (subst (λ (schema : Schema). IsDatabase schema c.args.input.tables) (sym c.catalog_of-cat.ensures.schema) c.requires.database) c.catalog_of-cat.ensures.counts

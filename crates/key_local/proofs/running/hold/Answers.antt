@@ -1,9 +1,9 @@
 use Rattle.std.proofs.Common.{[], ap, sym, ◌∙◌}
 use Rattle.std.specs.List.{list_any}
-use Rattle.ghost_model.specs.Asks.{asked_of}
-use Rattle.ghost_model.specs.Catalog.{canonical_text}
-use Rattle.ghost_model.specs.NextMove.{left}
-use Rattle.ghost_model.specs.Texts.{texts_of}
+use Rattle.ghost_model.specs.core.Asks.{asked_of}
+use Rattle.ghost_model.specs.forms.Catalog.{canonical_text}
+use Rattle.ghost_model.specs.core.NextMove.{standing_after}
+use Rattle.ghost_model.specs.core.Texts.{texts_of}
 use Rattle.key_session.specs.Counting.{is_flash}
 use Rattle.key_session.specs.Running.{is_sink}
 use Rattle.key_local.specs.Running.{clears_journal}
@@ -20,11 +20,11 @@ end_of-requires g c =
     let is = c.a_catalog_is_short.ensures.catalog in
     let ran = c.run_session-tally.ensures.ran in
     let some = c.requires.hosted in
-    let setting = setting_of c.asks_are_few.ensures.few cat texts is (c.schemas_are_trees.ensures (canonical_text cat.schema) cat.schema is.meant) c.requires.few in
+    let setting = setting_of cat texts is c.requires.few in
     let goes = c.sessions_are_local.ensures.is_local cat some.database [] texts ran.journal _ _ setting some.stored ran.proper ran.went.moved some.hosted.is_sure some.hosted.at_first in
     let unbroken = c.local_sessions_are_served.ensures cat some.database [] texts ran.journal goes.is_local in
     record {
-      of_local = is_local_status c.run_session-tally.result.status (is_sink c.run_session-tally.result.status) (left cat (asked_of cat.schema texts) ran.journal) (list_any is_flash ran.reasons.reasons) ran.reasons.counted.damage
+      of_local = is_local_status c.run_session-tally.result.status (is_sink c.run_session-tally.result.status) (standing_after cat (asked_of cat.schema texts) ran.journal) (list_any is_flash ran.reasons.reasons) ran.reasons.counted.damage
           ran.reasons.counted.status_is
           (going cat some.database texts ran.journal unbroken) (valid cat some.database texts ran.journal unbroken) (granted cat some.database texts ran.journal unbroken);
     }
@@ -35,7 +35,7 @@ returns-clause-ran g c = λ database stored hosted columns.
     let texts = texts_of c.args.script.now in
     let is = c.a_catalog_is_short.ensures.catalog in
     let ran = c.run_session-tally.ensures.ran in
-    let setting = setting_of c.asks_are_few.ensures.few cat texts is (c.schemas_are_trees.ensures (canonical_text cat.schema) cat.schema is.meant) c.requires.few in
+    let setting = setting_of cat texts is c.requires.few in
     let goes = c.sessions_are_local.ensures.is_local cat database [] texts ran.journal _ _ setting stored ran.proper ran.went.moved hosted.is_sure hosted.at_first in
     let wrote = c.proper_journals_are_written.ensures.written cat [] texts ran.journal _ _ setting ran.proper ran.went in
     ran_over g.F.Flash.told cat database texts _ c.end_of.result c.run_session-tally.result _ _ ran.journal c.local_sessions_are_served.ensures c.told_texts_are_given.ensures.given

@@ -1,5 +1,5 @@
 use Rattle.std.proofs.Common.{rules, sym}
-use Rattle.ghost_model.specs.Texts.{texts_of}
+use Rattle.ghost_model.specs.core.Texts.{texts_of}
 use Rattle.key_local.proofs.Giving.{ran_as}
 use Rattle.key_local.proofs.Hosting.{hosted_as}
 use Rattle.key_local.proofs.running.run.Goals as goal

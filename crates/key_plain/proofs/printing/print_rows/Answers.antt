@@ -1,7 +1,7 @@
 use Rattle.std.proofs.Common.{refl, subst, ap, length, map, arith}
 use Rattle.std.specs.List.{concat}
 use Rattle.ghost_base.specs.Views.{value_of}
-use Rattle.ghost_model.specs.Printed.{row_line}
+use Rattle.ghost_model.specs.core.Printed.{row_line}
 use Rattle.key_lines.specs.Handing.{Hands, Handed, handed}
 use Rattle.key_plain.proofs.HandingOn.{HandedSoFar, nothing_yet, one_more}
 use Rattle.key_plain.proofs.printing.print_rows.Goals as goal

@@ -1,6 +1,6 @@
 use Rattle.std.proofs.Common.{◌≡◌, ◌+◌, length, map}
 use Rattle.std.specs.List.{concat}
-use Rattle.ghost_model.specs.Printed.{row_line}
+use Rattle.ghost_model.specs.core.Printed.{row_line}
 use Rattle.key_lines.specs.Handing.{handed}
 use Rattle.key_plain.proofs.HandingOn.{HandedSoFar}
 use Rattle.key_plain.proofs.printing.print_rows.Given as goal

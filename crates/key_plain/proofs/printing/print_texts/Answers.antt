@@ -1,6 +1,6 @@
 use Rattle.std.proofs.Common.{◌+◌, ap, length, arith}
-use Rattle.ghost_model.specs.Printed.{printed}
-use Rattle.ghost_model.specs.Texts.{texts_of}
+use Rattle.ghost_model.specs.core.Printed.{printed}
+use Rattle.ghost_model.specs.core.Texts.{texts_of}
 use Rattle.key_lines.specs.Handing.{Handed, handed}
 use Rattle.key_plain.proofs.HandingOn.{no_text_yet, text_printed}
 use Rattle.key_plain.proofs.printing.print_texts.Goals as goal

@@ -1,7 +1,7 @@
 use Rattle.std.proofs.Common.{◌≤◌, ◌+◌, length}
 use Rattle.std.specs.List.{concat}
-use Rattle.ghost_model.specs.Printed.{lines_from, printed}
-use Rattle.ghost_model.specs.Texts.{texts_of}
+use Rattle.ghost_model.specs.core.Printed.{lines_from, printed}
+use Rattle.ghost_model.specs.core.Texts.{texts_of}
 use Rattle.key_lines.specs.Handing.{handed}
 use Rattle.key_plain.proofs.HandingOn.{HandedSoFar}
 use Rattle.key_plain.proofs.printing.print_texts.Given as goal

@@ -1,14 +1,14 @@
 use Rattle.std.proofs.Common.{List, subst, sym, ℕ, false}
 use Rattle.key_session.specs.Running.{is_sink}
-use Rattle.key_session.specs.Telling.{outside}
+use Rattle.key_session.specs.Telling.{session_side}
 use Rattle.key_query.specs.Openings.{IsScript}
 use Rattle.key_query.proofs.command.query.Goals as goal
 
 pub returns-in-Ok-clause-ran : goal.returns-in-Ok-clause-ran
 returns-in-Ok-clause-ran g c =
     let device = g.F.Flash.state c.open.new.flash in
-    let since = outside false (g.O.Sink.faults c.args.out.now) (g.O.Sink.written c.args.out.now) device in
-    let now = outside (is_sink c.run_session.result.status) (g.O.Sink.faults c.run_session.new.out) (g.O.Sink.written c.run_session.new.out) (g.F.Flash.state c.run_session.new.flash) in
+    let since = session_side false (g.O.Sink.faults c.args.out.now) (g.O.Sink.written c.args.out.now) device in
+    let now = session_side (is_sink c.run_session.result.status) (g.O.Sink.faults c.run_session.new.out) (g.O.Sink.written c.run_session.new.out) (g.F.Flash.state c.run_session.new.flash) in
     let opened = c.in-Ok.ensures.opened in
     let is_script : IsScript (g.D.Depot.contents c.args.depot.now) c.args.words.now.script.now c.deref.result.now =
     subst (λ (script : List ℕ). IsScript (g.D.Depot.contents c.args.depot.now) c.args.words.now.script.now script) (sym c.deref.ensures.value) opened.script in

@@ -10,4 +10,4 @@ returns-in-Ok-clause-complete g c = λ files script cat told held no_depot no_fl
 pub returns-in-Err-Input-clause-complete : goal.returns-in-Err-Input-clause-complete
 returns-in-Err-Input-clause-complete g c = λ files script cat told held no_depot no_flash spelled has.
     absurd (unbroken c.in-Err-Input.field-0 c.in-Err-Input.fault (script_opening files c.args.words.now.script.now) script c.in-Err-Input.field-0-is
-    (c.in-Err-Input.ensures.rule c.in-Err-Input.fault cc) (c.in-Err-Input.ensures.told files held) spelled)
+    (c.in-Err-Input.ensures.told files held) spelled)

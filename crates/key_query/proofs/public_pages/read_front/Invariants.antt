@@ -1,5 +1,5 @@
 use Rattle.std.proofs.Common.{◌≡◌, ◌≤◌, ◌*◌, min, take, length, true}
-use Rattle.ghost_model.specs.Causes.{last_count}
+use Rattle.ghost_model.specs.core.Causes.{last_count}
 use Rattle.edge_traits.specs.Devices.{KeepsPages}
 use Rattle.key_query.specs.PublicPages.{bytes_before}
 use Rattle.key_query.proofs.public_pages.read_front.Given as goal

@@ -1,6 +1,6 @@
 use Rattle.std.proofs.Common.{◌+◌, ◌∙◌, refl, sym, ap, arith}
 use Rattle.std.specs.Prelude.{is_some}
-use Rattle.ghost_model.specs.Asks.{asked_of}
+use Rattle.ghost_model.specs.core.Asks.{asked_of}
 use Rattle.channel_session.specs.Entries.{WentBy}
 use Rattle.session_laws.specs.TextEnds.{heard_in}
 use Rattle.key_session.proofs.Attending.{same_asked}

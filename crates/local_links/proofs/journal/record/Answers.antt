@@ -1,5 +1,5 @@
 use Rattle.std.proofs.Common.{◌∙◌, sym}
-use Rattle.ghost_model.specs.Moves as moves
+use Rattle.ghost_model.specs.core.Moves as moves
 use Rattle.local_links.specs.Journaling.{entry_of}
 use Rattle.local_links.specs.Appending.{one_append, with_answer}
 use Rattle.local_links.proofs.journal.record.Goals as goal

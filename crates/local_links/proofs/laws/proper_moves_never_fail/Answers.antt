@@ -1,5 +1,5 @@
 use Rattle.std.proofs.Common.{[]}
-use Rattle.ghost_model.specs.Asks.{asked_of}
+use Rattle.ghost_model.specs.core.Asks.{asked_of}
 use Rattle.local_links.proofs.Sessions.{never_failed}
 use Rattle.local_links.proofs.laws.proper_moves_never_fail.Goals as goal
 

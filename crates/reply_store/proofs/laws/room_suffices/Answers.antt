@@ -1,7 +1,7 @@
 use Rattle.std.proofs.Common.{◌≤◌, ◌+◌, ◌*◌, ℕ, List, [], ◌∷◌, length, sum_by, arith}
-use Rattle.ghost_model.specs.Channel.{Catalog}
-use Rattle.ghost_model.specs.Layout.{below, count_of, spool_width}
-use Rattle.ghost_model.specs.LayoutLaws.{SumsByPlace}
+use Rattle.ghost_model.specs.core.Channel.{Catalog}
+use Rattle.ghost_model.specs.forms.Layout.{below, count_of, spool_width}
+use Rattle.ghost_model.specs.laws.LayoutLaws.{SumsByPlace}
 use Rattle.reply_store.specs.Stored.{Stored, bytes_in}
 use Rattle.reply_store.specs.Laws.{FitTables}
 use Rattle.reply_store.proofs.laws.room_suffices.Goals as goal

@@ -1,5 +1,5 @@
 use Rattle.std.proofs.Common.{◌≡◌, length}
-use Rattle.ghost_model.specs.Replies.{reply_about}
+use Rattle.ghost_model.specs.core.Replies.{reply_about}
 use Rattle.reply_store.specs.Stored.{replies_in}
 use Rattle.reply_store.specs.Segments.{stored_from}
 use Rattle.reply_store.proofs.search.about.Given as goal

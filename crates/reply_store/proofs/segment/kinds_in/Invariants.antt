@@ -1,6 +1,6 @@
 use Rattle.std.proofs.Common.{◌≡◌, ◌≤◌, length, map, take, IsTrue}
 use Rattle.std.specs.List.{list_all}
-use Rattle.ghost_model.specs.Asks.{kind_at}
+use Rattle.ghost_model.specs.core.Asks.{kind_at}
 use Rattle.ghost_base.specs.Views.{kind_of}
 use Rattle.reply_store.specs.Stored.{is_narrow}
 use Rattle.reply_store.proofs.segment.kinds_in.Given as goal

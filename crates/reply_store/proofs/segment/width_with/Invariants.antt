@@ -1,6 +1,6 @@
 use Rattle.std.proofs.Common.{◌≡◌, ◌≤◌, ◌+◌, ◌*◌, length, map, sum, IsTrue}
 use Rattle.std.specs.List.{list_all}
-use Rattle.ghost_model.specs.Cells.{cell_width}
+use Rattle.ghost_model.specs.forms.Cells.{cell_width}
 use Rattle.ghost_base.specs.Views.{kind_of}
 use Rattle.reply_store.specs.Stored.{width_of, is_narrow}
 use Rattle.reply_store.proofs.segment.width_with.Given as goal

@@ -1,5 +1,5 @@
 use Rattle.std.proofs.Common.{◌+◌, ◌*◌, ap₂, sym, ◌∙◌, arith}
-use Rattle.ghost_model.specs.Layout.{count_of, spool_width}
+use Rattle.ghost_model.specs.forms.Layout.{count_of, spool_width}
 use Rattle.reply_store.proofs.store.room_of.Goals as goal
 
 pub loop-table-preserved : goal.loop-table-preserved

@@ -1,5 +1,5 @@
 use Rattle.std.proofs.Common.{◌≡◌, ◌≤◌, ◌*◌, sum_by}
-use Rattle.ghost_model.specs.Layout.{below, count_of, spool_width}
+use Rattle.ghost_model.specs.forms.Layout.{below, count_of, spool_width}
 use Rattle.reply_store.proofs.store.room_of.Given as goal
 
 abbrev pub invariant-loop-table : goal.invariant-loop-table

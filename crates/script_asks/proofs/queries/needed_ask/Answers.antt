@@ -1,6 +1,6 @@
 use Rattle.std.proofs.Common.{◌≡◌, ◌==◌, true, sym, ap, ◌∙◌}
 use Rattle.std.specs.List.{list_any}
-use Rattle.ghost_model.specs.Asks.{is_needed}
+use Rattle.ghost_model.specs.core.Asks.{is_needed}
 use Rattle.channel_codec.specs.AskViews.{ask_view, test_view}
 use Rattle.script_asks.proofs.QueryLemmas.{not_asked, asked_alone, needs_columns, needs_tests}
 use Rattle.script_asks.proofs.queries.needed_ask.Goals as goal

@@ -1,5 +1,5 @@
 use Rattle.std.proofs.Common.{◌∙◌}
-use Rattle.ghost_model.specs.Asks as asks
+use Rattle.ghost_model.specs.core.Asks as asks
 use Rattle.spj_parse.specs.Views.{field_of}
 use Rattle.script_asks.proofs.QueryLemmas.{any_map}
 use Rattle.script_asks.proofs.queries.selects.Goals as goal

@@ -1,6 +1,6 @@
 use Rattle.std.proofs.Common.{◌≡◌, ◌≤◌, ◌+◌, ◌++◌, length, flat_map, map}
 use Rattle.arrayvec.specs.ArrayVec.{array_vec_len}
-use Rattle.ghost_model.specs.Asks as asks
+use Rattle.ghost_model.specs.core.Asks as asks
 use Rattle.spj_parse.specs.Views.{comparison_of}
 use Rattle.channel_codec.specs.AskViews.{test_view}
 use Rattle.script_asks.proofs.queries.tests_for.Given as goal

@@ -1,7 +1,7 @@
 use Rattle.std.proofs.Common.{◌<◌, ◌++◌, ℕ, [], ◌∷◌, length, map, true, false, sym, ap, ◌∙◌, arith, append-nil}
 use Rattle.arrayvec.specs.ArrayVec.{array_vec_len}
-use Rattle.ghost_model.specs.Schema.{columns_of}
-use Rattle.ghost_model.specs.Asks as asks
+use Rattle.ghost_model.specs.core.Schema.{columns_of}
+use Rattle.ghost_model.specs.core.Asks as asks
 use Rattle.spj_parse.specs.Views.{field_of}
 use Rattle.script_asks.proofs.QueryLemmas.{more_columns, all_columns}
 use Rattle.script_asks.proofs.queries.wanted_columns.Goals as goal

@@ -1,7 +1,7 @@
 use Rattle.std.proofs.Common.{◌≡◌, ◌≤◌, ◌++◌, true, drop, filter, map}
 use Rattle.arrayvec.specs.ArrayVec.{array_vec_len}
-use Rattle.ghost_model.specs.Schema.{places_from, columns_of}
-use Rattle.ghost_model.specs.Asks as asks
+use Rattle.ghost_model.specs.core.Schema.{places_from, columns_of}
+use Rattle.ghost_model.specs.core.Asks as asks
 use Rattle.spj_parse.specs.Views.{field_of}
 use Rattle.script_asks.proofs.queries.wanted_columns.Given as goal
 

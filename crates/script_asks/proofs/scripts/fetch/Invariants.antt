@@ -1,6 +1,6 @@
 use Rattle.std.proofs.Common.{◌≡◌, ◌≤◌, ◌+◌, length, map}
-use Rattle.ghost_model.specs.Asks as asks
-use Rattle.ghost_model.specs.QueryReading.{reading}
+use Rattle.ghost_model.specs.core.Asks as asks
+use Rattle.ghost_model.specs.readings.QueryReading.{reading}
 use Rattle.script_asks.proofs.scripts.fetch.Given as goal
 
 abbrev pub invariant-texts : goal.invariant-texts

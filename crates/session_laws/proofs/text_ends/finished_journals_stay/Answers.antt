@@ -1,5 +1,5 @@
 use Rattle.std.proofs.Common.{[]}
-use Rattle.ghost_model.specs.Asks.{asked_of}
+use Rattle.ghost_model.specs.core.Asks.{asked_of}
 use Rattle.session_laws.proofs.Closing.{no_more}
 use Rattle.session_laws.proofs.text_ends.finished_journals_stay.Goals as goal
 

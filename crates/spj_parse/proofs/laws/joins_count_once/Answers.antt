@@ -1,7 +1,7 @@
 use Rattle.std.proofs.Common.{◌≡◌, refl, sym, subst}
-use Rattle.ghost_model.specs.Query.{Query}
-use Rattle.ghost_model.specs.QueryMeaning.{NotLinked}
-use Rattle.ghost_model.specs.Meaning.{answer}
+use Rattle.ghost_model.specs.core.Query.{Query}
+use Rattle.ghost_model.specs.core.Meaning.{answer}
+use Rattle.ghost_model.proofs.QueryReadingLemmas.{kept_rules}
 use Rattle.spj_parse.specs.Resolved.{linked}
 use Rattle.spj_parse.proofs.AnswerLemmas.{answer_once}
 use Rattle.spj_parse.proofs.LinkedLemmas.{asks_once}
@@ -14,5 +14,5 @@ returns c = record {
   answers = λ schema tree database text query h.
       let meant = (c.one_reading.ensures.meaning schema text query).0 h in
       subst (λ (q : Query). answer schema database (linked schema q) ≡ answer schema database q) (sym meant.means)
-      (answer_once c.values_are_ordered.ensures schema tree meant.tree (meant.keeps NotLinked) database);
+      (answer_once c.values_are_ordered.ensures schema tree meant.tree (kept_rules schema text meant.tree meant.keeps).linked database);
 }

@@ -1,6 +1,6 @@
 use Rattle.std.proofs.Common.{ap, sym, not}
-use Rattle.ghost_model.specs.Schema.{parent}
-use Rattle.ghost_model.specs.QueryMeaning.{is_some_among}
+use Rattle.ghost_model.specs.core.Schema.{parent}
+use Rattle.ghost_model.specs.core.Query.{is_some_among}
 use Rattle.spj_parse.proofs.NameLemmas.{two_pass}
 use Rattle.spj_parse.proofs.links.top_among.Goals as goal
 

@@ -1,7 +1,7 @@
 use Rattle.std.proofs.Common.{◌≡◌, take, filter, not}
 use Rattle.std.specs.Prelude.{option_to_list}
-use Rattle.ghost_model.specs.Schema.{parent}
-use Rattle.ghost_model.specs.QueryMeaning.{is_some_among}
+use Rattle.ghost_model.specs.core.Schema.{parent}
+use Rattle.ghost_model.specs.core.Query.{is_some_among}
 use Rattle.spj_parse.proofs.links.top_among.Given as goal
 
 abbrev pub invariant-loop-table : goal.invariant-loop-table

@@ -1,6 +1,6 @@
 use Rattle.std.proofs.Common.{sym, ◌∙◌, arith, ◌<◌, ◌≤◌, length}
-use Rattle.ghost_model.specs.Schema.{columns_of}
-use Rattle.ghost_model.specs.Tokens.{in_lower_case}
+use Rattle.ghost_model.specs.core.Schema.{columns_of}
+use Rattle.ghost_model.specs.refusals.Tokens.{in_lower_case}
 use Rattle.spj_parse.specs.Names.{is_called}
 use Rattle.spj_parse.proofs.Places.{found_at, not_at, nowhere}
 use Rattle.spj_parse.proofs.names.column_named.Goals as goal

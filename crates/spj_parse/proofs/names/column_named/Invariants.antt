@@ -1,7 +1,7 @@
 use Rattle.std.proofs.Common.{◌≡◌}
-use Rattle.ghost_model.specs.Schema.{columns_of}
-use Rattle.ghost_model.specs.Tokens.{in_lower_case}
-use Rattle.ghost_model.specs.QueryMeaning as meaning
+use Rattle.ghost_model.specs.core.Schema.{columns_of}
+use Rattle.ghost_model.specs.refusals.Tokens.{in_lower_case}
+use Rattle.ghost_model.specs.refusals.QueryMeaning as meaning
 use Rattle.spj_parse.specs.Names.{is_called}
 use Rattle.spj_parse.proofs.Places.{first_from}
 use Rattle.spj_parse.proofs.names.column_named.Given as goal

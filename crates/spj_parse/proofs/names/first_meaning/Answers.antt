@@ -1,5 +1,5 @@
 use Rattle.std.proofs.Common.{sym, ap, ◌∙◌}
-use Rattle.ghost_model.specs.Schema.{first_of}
+use Rattle.ghost_model.specs.core.Schema.{first_of}
 use Rattle.spj_parse.specs.Drafts.{column_of}
 use Rattle.spj_parse.specs.Names.{fields_in}
 use Rattle.spj_parse.specs.Views.{field_of}

@@ -1,5 +1,5 @@
 use Rattle.std.proofs.Common.{◌≡◌, ℕ, List, sym, subst}
-use Rattle.ghost_model.specs.Tokens.{in_lower_case}
+use Rattle.ghost_model.specs.refusals.Tokens.{in_lower_case}
 use Rattle.spj_parse.proofs.NameLemmas.{lower_table}
 use Rattle.spj_parse.proofs.names.is_table_called.Goals as goal
 

@@ -1,6 +1,6 @@
 use Rattle.std.proofs.Common.{List, ◌<◌, length, sym, subst, ap, ◌∙◌, option_map}
 use Rattle.std.specs.Prelude.{option_to_list}
-use Rattle.ghost_model.specs.Query.{Field}
+use Rattle.ghost_model.specs.core.Query.{Field}
 use Rattle.spj_parse.specs.Drafts.{column_of}
 use Rattle.spj_parse.specs.Names.{fields_in}
 use Rattle.spj_parse.specs.Views.{field_of}

@@ -1,5 +1,5 @@
 use Rattle.std.proofs.Common.{sym, ◌∙◌, arith, ◌<◌, ◌≤◌, length}
-use Rattle.ghost_model.specs.Tokens.{in_lower_case}
+use Rattle.ghost_model.specs.refusals.Tokens.{in_lower_case}
 use Rattle.spj_parse.specs.Names.{has_name}
 use Rattle.spj_parse.proofs.Places.{found_at, not_at, nowhere}
 use Rattle.spj_parse.proofs.names.table_named.Goals as goal

@@ -1,6 +1,6 @@
 use Rattle.std.proofs.Common.{◌≡◌}
-use Rattle.ghost_model.specs.Tokens.{in_lower_case}
-use Rattle.ghost_model.specs.QueryMeaning as meaning
+use Rattle.ghost_model.specs.refusals.Tokens.{in_lower_case}
+use Rattle.ghost_model.specs.refusals.QueryMeaning as meaning
 use Rattle.spj_parse.specs.Names.{has_name}
 use Rattle.spj_parse.proofs.Places.{first_from}
 use Rattle.spj_parse.proofs.names.table_named.Given as goal

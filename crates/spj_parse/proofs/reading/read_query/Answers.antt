@@ -1,7 +1,7 @@
 use Rattle.std.proofs.Common.{true, false, refl, sym, ◌∙◌}
 use Rattle.spj_parse.specs.Conditions.{IsClear}
 use Rattle.spj_parse.proofs.ReadingLemmas.{judged_by, from_are, kind_in, literal_in}
-use Rattle.ghost_model.specs.QueryMeaning.{resolved}
+use Rattle.ghost_model.specs.refusals.QueryMeaning.{resolved}
 use Rattle.spj_parse.proofs.GatheredLemmas.{gathered, selected_are, joins_are}
 use Rattle.spj_parse.proofs.ComparedLemmas.{compared_are}
 use Rattle.spj_parse.proofs.reading.read_query.Goals as goal

@@ -1,5 +1,5 @@
 use Rattle.std.proofs.Common.{flat_map, take}
-use Rattle.ghost_model.specs.QueryMeaning.{fields_of}
+use Rattle.ghost_model.specs.refusals.QueryMeaning.{fields_of}
 use Rattle.spj_parse.specs.Adding.{Adds}
 use Rattle.spj_parse.specs.Views.{field_of}
 use Rattle.spj_parse.proofs.resolve.add_all_columns.Given as goal

@@ -1,5 +1,5 @@
 use Rattle.std.proofs.Common.{◌≡◌, suc, ◌+◌, length, ap, subst, ◌∙◌, arith}
-use Rattle.ghost_model.specs.Schema.{columns_of}
+use Rattle.ghost_model.specs.core.Schema.{columns_of}
 use Rattle.spj_parse.specs.Adding.{Adds}
 use Rattle.spj_parse.specs.Views.{field_of}
 use Rattle.spj_parse.proofs.ResolveLemmas.{adds_one, adds_more, fields_below, all_below}

@@ -1,5 +1,5 @@
 use Rattle.std.proofs.Common.{sym, ◌∙◌, arith, ◌<◌, ◌≤◌, length}
-use Rattle.ghost_model.specs.Schema.{columns_of, is_table}
+use Rattle.ghost_model.specs.core.Schema.{columns_of, is_table}
 use Rattle.spj_parse.proofs.Places.{found_at, not_at, nowhere}
 use Rattle.spj_parse.proofs.resolve.key_between.Goals as goal
 

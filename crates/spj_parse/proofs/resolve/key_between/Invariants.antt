@@ -1,5 +1,5 @@
 use Rattle.std.proofs.Common.{◌≡◌}
-use Rattle.ghost_model.specs.Schema.{columns_of, is_table, first_of}
+use Rattle.ghost_model.specs.core.Schema.{columns_of, is_table, first_of}
 use Rattle.spj_parse.specs.Resolved.{keys_between}
 use Rattle.spj_parse.proofs.Places.{first_from}
 use Rattle.spj_parse.proofs.resolve.key_between.Given as goal

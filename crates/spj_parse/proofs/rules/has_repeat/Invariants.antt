@@ -1,5 +1,5 @@
 use Rattle.std.proofs.Common.{◌≡◌, drop}
-use Rattle.ghost_model.specs.QueryMeaning.{has_repeat}
+use Rattle.ghost_model.specs.refusals.QueryMeaning.{has_repeat}
 use Rattle.spj_parse.proofs.rules.has_repeat.Given as goal
 
 abbrev pub invariant-loop-place : goal.invariant-loop-place

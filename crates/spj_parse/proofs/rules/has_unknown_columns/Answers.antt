@@ -1,7 +1,7 @@
 use Rattle.std.proofs.Common.{ap, ◌∙◌, List, ℕ}
 use Rattle.std.specs.List.{list_any}
-use Rattle.ghost_model.specs.Schema.{is_empty}
-use Rattle.ghost_model.specs.QueryMeaning.{columns_in, meanings}
+use Rattle.ghost_model.specs.core.Schema.{is_empty}
+use Rattle.ghost_model.specs.refusals.QueryMeaning.{columns_in, meanings}
 use Rattle.spj_parse.specs.declared.rules.NameRule.TheVariants as rule
 use Rattle.spj_parse.specs.Rules.{breaks_rule}
 use Rattle.spj_parse.proofs.TreeLemmas.{items_are, unknown_columns}

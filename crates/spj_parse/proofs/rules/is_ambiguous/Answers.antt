@@ -1,6 +1,6 @@
 use Rattle.std.proofs.Common.{ap, ap₂, ◌∙◌, ◌||◌, List, ℕ, nat_lt, length}
 use Rattle.std.specs.List.{list_any}
-use Rattle.ghost_model.specs.QueryMeaning.{columns_in, meanings, has_repeat, from_tables}
+use Rattle.ghost_model.specs.refusals.QueryMeaning.{columns_in, meanings, has_repeat, from_tables}
 use Rattle.spj_parse.specs.declared.rules.NameRule.TheVariants as rule
 use Rattle.spj_parse.specs.Rules.{breaks_rule}
 use Rattle.spj_parse.proofs.TreeLemmas.{items_are, several_meanings}

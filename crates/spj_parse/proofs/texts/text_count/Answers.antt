@@ -1,5 +1,5 @@
 use Rattle.std.proofs.Common.{◌≤◌, true, length, arith}
-use Rattle.ghost_model.specs.Texts.{texts_of}
+use Rattle.ghost_model.specs.core.Texts.{texts_of}
 use Rattle.spj_parse.proofs.PartLemmas.{few_texts}
 use Rattle.spj_parse.proofs.texts.text_count.Goals as goal
 

@@ -1,5 +1,5 @@
 use Rattle.std.proofs.Common.{◌≡◌, ◌+◌, length}
-use Rattle.ghost_model.specs.Texts.{texts_of}
+use Rattle.ghost_model.specs.core.Texts.{texts_of}
 use Rattle.spj_parse.proofs.texts.text_count.Given as goal
 
 abbrev pub invariant-loop-count : goal.invariant-loop-count

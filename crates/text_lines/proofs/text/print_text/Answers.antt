@@ -1,6 +1,6 @@
 use Rattle.std.proofs.Common.{◌∙◌, ap, subst, sym}
-use Rattle.ghost_model.specs.QueryReading.{reading}
-use Rattle.ghost_model.specs.Split.{hidden_of}
+use Rattle.ghost_model.specs.readings.QueryReading.{reading}
+use Rattle.ghost_model.specs.core.Split.{hidden_of}
 use Rattle.spj_parse.specs.Resolved.{IsMeant}
 use Rattle.spj_parse.specs.Views.{refusal_of}
 use Rattle.reply_store.specs.Stored.{replies_in}

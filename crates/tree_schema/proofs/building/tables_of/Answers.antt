@@ -1,5 +1,5 @@
 use Rattle.std.proofs.Common.{◌≡◌, false, sym, subst}
-use Rattle.ghost_model.specs.SchemaFaults as faults
+use Rattle.ghost_model.specs.refusals.SchemaFaults as faults
 use Rattle.tree_schema.specs.declared.syntax.TableDraft.{TableDraft}
 use Rattle.tree_schema.specs.Drafts as drafts
 use Rattle.tree_schema.proofs.BuildingSteps.{table_kept}

@@ -1,5 +1,5 @@
 use Rattle.std.proofs.Common.{◌≡◌, length, map, take}
-use Rattle.ghost_model.specs.SchemaMeaning as meaning
+use Rattle.ghost_model.specs.refusals.SchemaMeaning as meaning
 use Rattle.tree_schema.specs.Drafts as drafts
 use Rattle.tree_schema.specs.Views as views
 use Rattle.tree_schema.proofs.building.tables_of.Given as goal

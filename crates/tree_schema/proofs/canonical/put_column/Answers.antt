@@ -1,5 +1,5 @@
 use Rattle.std.proofs.Common.{codes, ap, ◌∙◌}
-use Rattle.ghost_model.specs.Catalog.{kind_text, reference_text, hidden_text}
+use Rattle.ghost_model.specs.forms.Catalog.{kind_text, reference_text, hidden_text}
 use Rattle.ghost_base.specs.Views.{kind_of}
 use Rattle.tree_schema.specs.Windows.{pane, with_text}
 use Rattle.tree_schema.proofs.WindowLemmas.{then_text}

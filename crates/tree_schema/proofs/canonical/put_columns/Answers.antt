@@ -1,7 +1,7 @@
 use Rattle.std.proofs.Common.{◌<◌, map, length, ap, sym, ◌∙◌, arith}
 use Rattle.std.proofs.Math.ListN.{get_or-map}
 use Rattle.std.proofs.lemmas.List.{length-map}
-use Rattle.ghost_model.specs.Catalog.{column_text}
+use Rattle.ghost_model.specs.forms.Catalog.{column_text}
 use Rattle.tree_schema.specs.Views.{column_of}
 use Rattle.tree_schema.specs.Windows.{pane}
 use Rattle.tree_schema.proofs.WindowLemmas.{with_piece}

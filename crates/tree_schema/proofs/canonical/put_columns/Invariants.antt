@@ -1,5 +1,5 @@
 use Rattle.std.proofs.Common.{◌≡◌, map, take, flat_map}
-use Rattle.ghost_model.specs.Catalog as catalog
+use Rattle.ghost_model.specs.forms.Catalog as catalog
 use Rattle.tree_schema.specs.Views.{column_of}
 use Rattle.tree_schema.specs.Windows.{pane, with_text}
 use Rattle.tree_schema.proofs.canonical.put_columns.Given as goal

@@ -1,6 +1,6 @@
 use Rattle.std.proofs.Common.{◌≡◌, ◌∷◌, [], List, length, map, drop, sym, ap, ◌∙◌, flat_map, refl, arith}
-use Rattle.ghost_model.specs.Schema.{Schema}
-use Rattle.ghost_model.specs.Catalog.{column_text}
+use Rattle.ghost_model.specs.core.Schema.{Schema}
+use Rattle.ghost_model.specs.forms.Catalog.{column_text}
 use Rattle.tree_schema.specs.Views.{column_of}
 use Rattle.tree_schema.specs.Windows.{pane, with_text}
 use Rattle.tree_schema.specs.declared.schema.Column.{Column}

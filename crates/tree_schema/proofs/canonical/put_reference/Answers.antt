@@ -1,5 +1,5 @@
 use Rattle.std.proofs.Common.{codes}
-use Rattle.ghost_model.specs.Catalog.{table_name}
+use Rattle.ghost_model.specs.forms.Catalog.{table_name}
 use Rattle.tree_schema.specs.Windows.{pane}
 use Rattle.tree_schema.proofs.WindowLemmas.{then_text}
 use Rattle.tree_schema.proofs.canonical.put_reference.Goals as goal

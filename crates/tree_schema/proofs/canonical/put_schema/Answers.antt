@@ -1,7 +1,7 @@
 use Rattle.std.proofs.Common.{◌≡◌, ℕ, ◌<◌, [], None, length, slice_get, option_map, sym, ap, ◌∙◌, arith}
 use Rattle.std.proofs.lemmas.Option.{get_or_from_slice_get, slice_get-get_or}
-use Rattle.ghost_model.specs.Schema.{Schema}
-use Rattle.ghost_model.specs.Catalog.{table_text}
+use Rattle.ghost_model.specs.core.Schema.{Schema}
+use Rattle.ghost_model.specs.forms.Catalog.{table_text}
 use Rattle.tree_schema.specs.Views.{table_of}
 use Rattle.tree_schema.specs.Windows.{pane}
 use Rattle.tree_schema.proofs.WindowLemmas.{with_piece}

@@ -1,5 +1,5 @@
 use Rattle.std.proofs.Common.{codes, [], ◌∷◌, ap, ◌∙◌, flat_map, map, drop}
-use Rattle.ghost_model.specs.Catalog.{column_text}
+use Rattle.ghost_model.specs.forms.Catalog.{column_text}
 use Rattle.tree_schema.specs.Views.{column_of}
 use Rattle.tree_schema.specs.Windows.{pane, with_text}
 use Rattle.tree_schema.proofs.WindowLemmas.{then_text}

@@ -1,5 +1,5 @@
 use Rattle.std.proofs.Common.{◌≡◌, length, ap, ◌∙◌, sym, arith}
-use Rattle.ghost_model.specs.Schema.{Schema}
+use Rattle.ghost_model.specs.core.Schema.{Schema}
 use Rattle.tree_schema.proofs.CatalogLengths.{catalog_length}
 use Rattle.tree_schema.proofs.catalog_bytes.catalog_len.Goals as goal
 

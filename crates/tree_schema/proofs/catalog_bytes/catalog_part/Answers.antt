@@ -1,4 +1,4 @@
-use Rattle.ghost_model.specs.Catalog.{catalog_bytes}
+use Rattle.ghost_model.specs.forms.Catalog.{catalog_bytes}
 use Rattle.tree_schema.proofs.WindowFills.{is_part}
 use Rattle.tree_schema.proofs.catalog_bytes.catalog_part.Goals as goal
 

@@ -1,6 +1,6 @@
 use Rattle.std.proofs.Common.{◌≡◌, ℕ, ◌+◌, List, ◌&&◌, ◌++◌, length, take, drop, sym, ap, ◌∙◌, bytes_eq}
 use Rattle.std.proofs.lemmas.List.{take-append-drop}
-use Rattle.ghost_model.specs.Catalog.{catalog_bytes}
+use Rattle.ghost_model.specs.forms.Catalog.{catalog_bytes}
 use Rattle.tree_schema.proofs.PartEquality.{piece_by_piece}
 use Rattle.tree_schema.proofs.catalog_bytes.is_catalog_part.Goals as goal
 

@@ -1,5 +1,5 @@
 use Rattle.std.proofs.Common.{◌≡◌, length, take, drop, bytes_eq}
-use Rattle.ghost_model.specs.Catalog.{catalog_bytes}
+use Rattle.ghost_model.specs.forms.Catalog.{catalog_bytes}
 use Rattle.tree_schema.proofs.catalog_bytes.is_catalog_part.Given as goal
 
 abbrev pub invariant-loop-rest : goal.invariant-loop-rest

@@ -1,5 +1,5 @@
 use Rattle.std.proofs.Common.{length, sym, ap, ◌∙◌}
-use Rattle.ghost_model.specs.Catalog.{catalog_version, catalog_head, canonical_text, counts_bytes}
+use Rattle.ghost_model.specs.forms.Catalog.{catalog_version, catalog_head, canonical_text, counts_bytes}
 use Rattle.tree_schema.specs.Windows.{pane, with_text}
 use Rattle.tree_schema.proofs.WindowLemmas.{then_text}
 use Rattle.tree_schema.proofs.catalog_bytes.put_catalog.Goals as goal

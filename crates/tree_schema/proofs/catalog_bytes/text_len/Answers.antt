@@ -1,6 +1,6 @@
 use Rattle.std.proofs.Common.{◌≡◌, [], length, ap, arith}
-use Rattle.ghost_model.specs.Schema.{Schema}
-use Rattle.ghost_model.specs.Catalog.{canonical_text}
+use Rattle.ghost_model.specs.core.Schema.{Schema}
+use Rattle.ghost_model.specs.forms.Catalog.{canonical_text}
 use Rattle.tree_schema.specs.Windows.{pane}
 use Rattle.tree_schema.proofs.WindowFills.{IsPart, is_part}
 use Rattle.tree_schema.proofs.CatalogLengths.{text_is_short}

@@ -1,6 +1,6 @@
 use Rattle.std.proofs.Common.{◌<◌, IsTrue, List, [], ◌∷◌, ◌++◌, length, sym, ap, ◌∙◌, subst, arith}
 use Rattle.std.proofs.lemmas.Bool.{le-leb}
-use Rattle.ghost_model.specs.Catalog.{counts_bytes}
+use Rattle.ghost_model.specs.forms.Catalog.{counts_bytes}
 use Rattle.tree_schema.specs.Catalogs.{are_counts}
 use Rattle.tree_schema.proofs.CountsLemmas.{next, counts_more}
 use Rattle.tree_schema.proofs.catalog_reading.counts_of.Goals as goal

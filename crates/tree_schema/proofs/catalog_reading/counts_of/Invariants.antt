@@ -1,6 +1,6 @@
 use Rattle.std.proofs.Common.{◌≡◌, ◌-◌, ◌≤◌, ℕ, List, ◌++◌, length, IsTrue}
 use Rattle.arrayvec.specs.ArrayVec.{array_vec_len}
-use Rattle.ghost_model.specs.Catalog.{counts_bytes}
+use Rattle.ghost_model.specs.forms.Catalog.{counts_bytes}
 use Rattle.tree_schema.specs.Catalogs.{are_counts}
 use Rattle.tree_schema.proofs.CountsLemmas.{GoesOn}
 use Rattle.tree_schema.proofs.catalog_reading.counts_of.Given as goal

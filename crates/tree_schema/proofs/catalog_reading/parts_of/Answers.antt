@@ -2,7 +2,7 @@ use Rattle.std.proofs.Common.{◌≡◌, ◌++◌, List, length, take, drop, ap,
 use Rattle.std.specs.Int.{from_be_bytes, to_be_bytes, w32}
 use Rattle.std.proofs.lemmas.Nat.{from_be_bytes-to_be_bytes_4}
 use Rattle.std.proofs.Math.Seq.{take-append_seam, drop-append_seam}
-use Rattle.ghost_model.specs.Catalog.{catalog_version, catalog_head}
+use Rattle.ghost_model.specs.forms.Catalog.{catalog_version, catalog_head}
 use Rattle.tree_schema.proofs.catalog_reading.parts_of.Goals as goal
 
 pub returns : goal.returns

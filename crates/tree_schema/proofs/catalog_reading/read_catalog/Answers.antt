@@ -1,6 +1,6 @@
 use Rattle.std.proofs.Common.{◌≡◌, ◌++◌, Option, Some, None, Ok, IfNone, sym, ap, ◌∙◌}
-use Rattle.ghost_model.specs.SchemaFaults.{schema_reading}
-use Rattle.ghost_model.specs.Catalog.{canonical_text, counts_bytes}
+use Rattle.ghost_model.specs.readings.SchemaReading.{schema_reading}
+use Rattle.ghost_model.specs.forms.Catalog.{canonical_text, counts_bytes}
 use Rattle.tree_schema.proofs.CatalogParts.{has_parts}
 use Rattle.tree_schema.proofs.catalog_reading.read_catalog.Goals as goal
 

@@ -1,5 +1,5 @@
 use Rattle.std.proofs.Common.{◌≡◌, ◌-◌, suc, slice_get, ◌∙◌, sym, ap, arith}
-use Rattle.ghost_model.specs.SchemaMeaning.{columns_written}
+use Rattle.ghost_model.specs.refusals.SchemaMeaning.{columns_written}
 use Rattle.tree_schema.specs.Drafts.{column_of, table_of}
 use Rattle.tree_schema.proofs.RuleSteps.{item_at, mapped_item}
 use Rattle.tree_schema.proofs.rules.column_at.Goals as goal

@@ -1,5 +1,5 @@
 use Rattle.std.proofs.Common.{◌<◌, ◌≤◌, length, map, slice_get, sym, ◌∙◌, arith}
-use Rattle.ghost_model.specs.SchemaFaults as faults
+use Rattle.ghost_model.specs.refusals.SchemaFaults as faults
 use Rattle.tree_schema.specs.Drafts.{table_of}
 use Rattle.tree_schema.proofs.RuleSteps.{search_next, search_found, search_fails}
 use Rattle.tree_schema.proofs.rules.first_duplicate_in.Goals as goal

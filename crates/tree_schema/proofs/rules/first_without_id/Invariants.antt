@@ -1,5 +1,5 @@
 use Rattle.std.proofs.Common.{map}
-use Rattle.ghost_model.specs.SchemaFaults as faults
+use Rattle.ghost_model.specs.refusals.SchemaFaults as faults
 use Rattle.tree_schema.specs.Drafts.{table_of}
 use Rattle.tree_schema.proofs.RuleSteps.{Searched}
 use Rattle.tree_schema.proofs.rules.first_without_id.Given as goal

@@ -1,5 +1,5 @@
 use Rattle.std.proofs.Common.{bytes_eq, ap, sym, ◌∙◌}
-use Rattle.ghost_model.specs.Tokens as tokens
+use Rattle.ghost_model.specs.refusals.Tokens as tokens
 use Rattle.tree_schema.specs.declared.syntax.TableDraft.{TableDraft}
 use Rattle.tree_schema.proofs.AnySteps.{none_yet, fails_here, passes_here, none_passes}
 use Rattle.tree_schema.proofs.rules.has_table.Goals as goal

@@ -1,5 +1,5 @@
 use Rattle.std.proofs.Common.{bytes_eq}
-use Rattle.ghost_model.specs.Tokens as tokens
+use Rattle.ghost_model.specs.refusals.Tokens as tokens
 use Rattle.tree_schema.proofs.AnySteps.{NoneBefore}
 use Rattle.tree_schema.proofs.rules.has_table.Given as goal
 

@@ -1,4 +1,4 @@
-use Rattle.ghost_model.specs.SchemaFaults as faults
+use Rattle.ghost_model.specs.refusals.SchemaFaults as faults
 use Rattle.tree_schema.specs.Drafts.{column_of}
 use Rattle.tree_schema.proofs.AnySteps.{NoneBefore}
 use Rattle.tree_schema.proofs.rules.is_one_over.Given as goal

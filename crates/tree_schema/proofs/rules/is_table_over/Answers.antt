@@ -2,8 +2,8 @@ use Rattle.std.proofs.Common.{◌<◌, ◌≤◌, suc, length, map, sym, ap, ◌
 use Rattle.std.specs.Char.{to_ascii_lowercase}
 use Rattle.std.specs.List.{list_any}
 use Rattle.std.proofs.lemmas.List.{length-map}
-use Rattle.ghost_model.specs.Tokens.{in_lower_case}
-use Rattle.ghost_model.specs.SchemaFaults as faults
+use Rattle.ghost_model.specs.refusals.Tokens.{in_lower_case}
+use Rattle.ghost_model.specs.refusals.SchemaFaults as faults
 use Rattle.tree_schema.specs.Drafts.{column_of}
 use Rattle.tree_schema.proofs.RuleSteps.{any_mapped, not_le, too_wide_by}
 use Rattle.tree_schema.proofs.rules.is_table_over.Goals as goal

@@ -1,6 +1,6 @@
 use Rattle.std.proofs.Common.{◌∙◌, sym, ap, not}
 use Rattle.std.specs.List.{list_any}
-use Rattle.ghost_model.specs.SchemaFaults as faults
+use Rattle.ghost_model.specs.refusals.SchemaFaults as faults
 use Rattle.tree_schema.specs.Drafts.{column_of}
 use Rattle.tree_schema.proofs.RuleSteps.{any_mapped, or_right}
 use Rattle.tree_schema.proofs.rules.lacks_id.Goals as goal

@@ -1,5 +1,5 @@
 use Rattle.std.proofs.Common.{◌+◌, ◌*◌, ◌<◌, subst, ap, ◌∙◌, drop}
-use Rattle.ghost_model.specs.Tokens as tokens
+use Rattle.ghost_model.specs.refusals.Tokens as tokens
 use Rattle.tree_schema.proofs.RuleSteps.{too_long, folds_on}
 use Rattle.tree_schema.proofs.rules.length_of.Goals as goal
 

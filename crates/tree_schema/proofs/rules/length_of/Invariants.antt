@@ -1,6 +1,6 @@
 use Rattle.std.proofs.Common.{◌≡◌, ◌≤◌, drop}
 use Rattle.std.specs.List.{fold}
-use Rattle.ghost_model.specs.Tokens.{number_of}
+use Rattle.ghost_model.specs.refusals.Tokens.{number_of}
 use Rattle.tree_schema.proofs.RuleSteps.{with_digit}
 use Rattle.tree_schema.proofs.rules.length_of.Given as goal
 

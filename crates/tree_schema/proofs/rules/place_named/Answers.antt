@@ -1,6 +1,6 @@
 use Rattle.std.proofs.Common.{◌∙◌, bytes_eq}
-use Rattle.ghost_model.specs.SchemaGrammar.{TableText}
-use Rattle.ghost_model.specs.Tokens as tokens
+use Rattle.ghost_model.specs.refusals.SchemaGrammar.{TableText}
+use Rattle.ghost_model.specs.refusals.Tokens as tokens
 use Rattle.tree_schema.specs.Drafts.{table_of}
 use Rattle.tree_schema.proofs.FirstPlaces.{position_mapped}
 use Rattle.tree_schema.proofs.rules.place_named.Goals as goal

@@ -1,7 +1,7 @@
 use Rattle.std.proofs.Common.{◌∙◌, sym, ap}
-use Rattle.ghost_model.specs.SchemaGrammar.{TableText}
-use Rattle.ghost_model.specs.SchemaFaults as faults
-use Rattle.ghost_model.specs.Tokens as tokens
+use Rattle.ghost_model.specs.refusals.SchemaGrammar.{TableText}
+use Rattle.ghost_model.specs.refusals.SchemaFaults as faults
+use Rattle.ghost_model.specs.refusals.Tokens as tokens
 use Rattle.tree_schema.specs.declared.syntax.TableDraft.{TableDraft}
 use Rattle.tree_schema.specs.Drafts.{table_of}
 use Rattle.tree_schema.proofs.RuleSteps.{item_at, no_item, mapped_item, map_twice, repeats_at, repeats_past}

@@ -1,6 +1,6 @@
 use Rattle.std.proofs.Common.{◌∙◌, sym, ap}
 use Rattle.std.specs.List.{list_any}
-use Rattle.ghost_model.specs.Schema as schema
+use Rattle.ghost_model.specs.core.Schema as schema
 use Rattle.tree_schema.specs.Views.{column_of}
 use Rattle.tree_schema.proofs.FirstPlaces.{some_place}
 use Rattle.tree_schema.proofs.schema.holds_key_to.Goals as goal

@@ -1,5 +1,5 @@
 use Rattle.std.proofs.Common.{ap, sym, ◌∙◌}
-use Rattle.ghost_model.specs.SchemaPlaces as places
+use Rattle.ghost_model.specs.readings.SchemaPlaces as places
 use Rattle.tree_schema.specs.declared.syntax.ColumnDraft.TheVariants as column
 use Rattle.tree_schema.specs.Marks.{symbol_of}
 use Rattle.tree_schema.specs.Drafts.{column_of}

@@ -4,7 +4,7 @@ use Rattle.std.specs.Option.{option_copied}
 use Rattle.std.proofs.lemmas.Bool.{ne_eqb}
 use Rattle.std.proofs.lemmas.List.Folds.{length-prefix_len}
 use Rattle.std.proofs.lemmas.List.Sums.{prefix_len-le-length}
-use Rattle.ghost_model.specs.Tokens as tokens
+use Rattle.ghost_model.specs.refusals.Tokens as tokens
 use Rattle.tree_schema.specs.declared.tokens.Mark.{Mark}
 use Rattle.tree_schema.specs.declared.tokens.Mark.TheVariants as mark
 use Rattle.tree_schema.specs.Marks.{symbol_of, read_at, Begins}
@@ -72,7 +72,7 @@ begins_digits text rest b len f n e l =
     (l ∙ ap (λ bytes. length (take_while tokens.is_digit bytes)) f)
 
 begins_bad : (text rest : List ℕ) (b : ℕ) → text ≡ b ∷ rest → tokens.begins_name b ≡ false → tokens.is_digit b ≡ false → b ≡ 39
-    → tokens.quoted_from false [] 1 rest ≡ tokens.read tokens.Bad 1 → Begins text mark.Bad 1
+    → tokens.quoted_from false [] 1 rest ≡ tokens.read tokens.NoToken 1 → Begins text mark.Bad 1
 begins_bad text rest b f n d e q =
     begins_by text rest b mark.Bad 1 _ f
     (no_digits_read b rest n d ∙ ap (λ t. cond t (tokens.quoted_from false [] 1 rest) (behind_less b rest)) (eq-eqb b 39 e) ∙ q) refl refl
@@ -90,20 +90,20 @@ begins_sign text rest b found f n d q l m s =
 
 -- what follows a `<` and a `>`
 abbrev by_next_of_less : ℕ → tokens.Read
-by_next_of_less n = if n == 61 then tokens.read tokens.AtMost 2 else if n == 62 then tokens.read tokens.Unequal 2 else tokens.read tokens.Less 1
+by_next_of_less n = if n == 61 then tokens.read tokens.AtMostSign 2 else if n == 62 then tokens.read tokens.UnequalSign 2 else tokens.read tokens.LessSign 1
 
 less_with : (rest : List ℕ) (n : ℕ) → Some n ≡ slice_get rest 0 → tokens.less_and rest ≡ by_next_of_less n
 less_with [] n e = absurd (cc)
 less_with (b ∷ bs) n e = let same : b ≡ n = cc in ap by_next_of_less same
 
 abbrev by_next_of_more : ℕ → tokens.Read
-by_next_of_more n = if n == 61 then tokens.read tokens.AtLeast 2 else tokens.read tokens.More 1
+by_next_of_more n = if n == 61 then tokens.read tokens.AtLeastSign 2 else tokens.read tokens.MoreSign 1
 
 more_with : (rest : List ℕ) (n : ℕ) → Some n ≡ slice_get rest 0 → tokens.more_and rest ≡ by_next_of_more n
 more_with [] n e = absurd (cc)
 more_with (b ∷ bs) n e = let same : b ≡ n = cc in ap by_next_of_more same
 
-more_last : (rest : List ℕ) → None ≡ slice_get rest 0 → tokens.more_and rest ≡ tokens.read tokens.More 1
+more_last : (rest : List ℕ) → None ≡ slice_get rest 0 → tokens.more_and rest ≡ tokens.read tokens.MoreSign 1
 more_last [] e = refl
 more_last (b ∷ bs) e = absurd (cc)
 

@@ -1,4 +1,4 @@
-use Rattle.ghost_model.specs.SchemaFaults as faults
+use Rattle.ghost_model.specs.refusals.SchemaFaults as faults
 use Rattle.tree_schema.specs.Views.{schema_of}
 use Rattle.tree_schema.proofs.RuleSteps.{Searched}
 use Rattle.tree_schema.proofs.trees.first_in_cycle.Given as goal

@@ -1,5 +1,5 @@
 use Rattle.std.proofs.Common.{◌≡◌, ◌≤◌, take, count_by}
-use Rattle.ghost_model.specs.Schema as schema
+use Rattle.ghost_model.specs.core.Schema as schema
 use Rattle.tree_schema.specs.declared.schema.Column.{Column}
 use Rattle.tree_schema.proofs.trees.keys_in.Given as goal
 

@@ -1,5 +1,5 @@
 use Rattle.std.proofs.Common.{◌∙◌, sym, ap, count_by}
-use Rattle.ghost_model.specs.Schema as schema
+use Rattle.ghost_model.specs.core.Schema as schema
 use Rattle.tree_schema.specs.declared.schema.Column as declared
 use Rattle.tree_schema.specs.Views.{column_of}
 use Rattle.tree_schema.proofs.RuleSteps.{counted_mapped, places_counted}

@@ -1,6 +1,6 @@
 use Rattle.std.proofs.Common.{ap, ◌∙◌, subst}
-use Rattle.ghost_model.specs.Asks.{asked_of}
-use Rattle.ghost_model.specs.Texts.{texts_of}
+use Rattle.ghost_model.specs.core.Asks.{asked_of}
+use Rattle.ghost_model.specs.core.Texts.{texts_of}
 use Rattle.channel_pump.specs.Asked.{AreAsked}
 use Rattle.channel_pump.specs.Scripts.{forms_asked}
 use Rattle.channel_pump.proofs.AsksLemmas.{are_asked}

@@ -1,6 +1,6 @@
 use Rattle.std.proofs.Common.{◌≡◌, ◌≢◌, ℕ, ◌-◌, length, drop, refl, ap, sym, ◌∙◌, subst, arith}
-use Rattle.ghost_model.specs.Frames.{size_in}
-use Rattle.ghost_model.specs.NextMove as next
+use Rattle.ghost_model.specs.forms.Frames.{size_in}
+use Rattle.ghost_model.specs.core.NextMove as next
 use Rattle.channel_pump.specs.State.{IsTurned}
 use Rattle.channel_pump.proofs.TurningLemmas.{greeted_last, greeted_part, still_missing}
 use Rattle.channel_pump.proofs.state.Pump.greeted.Goals as goal
@@ -8,9 +8,9 @@ use Rattle.channel_pump.proofs.state.Pump.greeted.Goals as goal
 pub returns-then-size-len-clause-turned : goal.returns-then-size-len-clause-turned
 returns-then-size-len-clause-turned c catalog asks before =
     let last : size_in c.args.part.now - 1 ≡ length c.args.self.now.missing = omega (arith, c.size_in.ensures, c.if-size-len.true, c.len.ensures.count) in
-    subst (λ (t : next.Turn). IsTurned catalog c.go_on_with.new.self t)
+    subst (λ (t : next.FrameOutcome). IsTurned catalog c.go_on_with.new.self t)
     (sym (greeted_last catalog.schema asks c.args.self.now.missing c.args.part.now c.requires.whole c.requires.header last
-    ∙ ap (λ (n : ℕ). next.on_with catalog.schema n asks) (sym before.serial)))
+    ∙ ap (λ (n : ℕ). next.ask_next catalog.schema n asks) (sym before.serial)))
     (c.go_on_with.ensures.turned catalog asks before.all)
 
 pub returns-else-size-len-clause-turned : goal.returns-else-size-len-clause-turned

@@ -1,7 +1,7 @@
 use Rattle.std.proofs.Common.{◌≡◌, ℕ, ◌+◌, ◌-◌, ◌^◌, min, Bool, List, [], ◌∷◌, ◌++◌, length, take, refl, ap, sym, ◌∙◌, subst, arith}
-use Rattle.ghost_model.specs.Frames as frames
-use Rattle.ghost_model.specs.NextMove as next
-use Rattle.ghost_model.specs.NextMove.{left}
+use Rattle.ghost_model.specs.forms.Frames as frames
+use Rattle.ghost_model.specs.core.NextMove as next
+use Rattle.ghost_model.specs.core.NextMove.{standing_after}
 use Rattle.channel_pump.specs.Here.{Stands, verdict_here}
 use Rattle.channel_pump.specs.State.{IsTurned, taken_entry}
 use Rattle.channel_pump.specs.declared.state.Event.{Event}
@@ -61,10 +61,10 @@ returns-in-Whole-clause-after c catalog asks journal h k =
     subst (λ (x : List ℕ). Stands c.args.self.now x c.in-Whole.tally) c.split_at.ensures.front c.in-Whole.ensures.judged in
     let size : length (take (c.args.self.now.have + c.args.n) c.args.page.now) ≡ 8 + frames.size_in (take (c.args.self.now.have + c.args.n) c.args.page.now) =
     whole_length catalog asks journal c.args.self.now c.args.page.now c.args.n c.in-Whole.tally at stands in
-    let turned : IsTurned catalog c.hear.new.self (next.turn catalog asks (left catalog asks journal).heard.awaits (frames.frame_in (take (c.args.self.now.have + c.args.n) c.args.page.now))) =
-    subst (λ (x : List ℕ). IsTurned catalog c.hear.new.self (next.turn catalog asks (left catalog asks journal).heard.awaits (frames.frame_in x))) c.split_at.ensures.front
-    (c.hear.ensures.turned catalog asks (left catalog asks journal).heard.awaits
-    (awaits_on catalog c.args.self.now _ (left catalog asks journal).heard.awaits (same_fields _ _ refl refl refl refl refl refl refl) h.awaits)
+    let turned : IsTurned catalog c.hear.new.self (next.after_frame catalog asks (standing_after catalog asks journal).heard.awaits (frames.frame_in (take (c.args.self.now.have + c.args.n) c.args.page.now))) =
+    subst (λ (x : List ℕ). IsTurned catalog c.hear.new.self (next.after_frame catalog asks (standing_after catalog asks journal).heard.awaits (frames.frame_in x))) c.split_at.ensures.front
+    (c.hear.ensures.turned catalog asks (standing_after catalog asks journal).heard.awaits
+    (awaits_on catalog c.args.self.now _ (standing_after catalog asks journal).heard.awaits (same_fields _ _ refl refl refl refl refl refl refl) h.awaits)
     (fresh_on catalog asks c.args.self.now _ (same_fields _ _ refl refl refl refl refl refl refl) h.fresh)) in
     frame_after catalog asks journal c.args.self.now c.args.page.now c.args.n c.hear.new.self at turned
     (c.hear.ensures.fresh catalog asks (fresh_on catalog asks c.args.self.now _ (same_fields _ _ refl refl refl refl refl refl refl) h.fresh))
@@ -72,11 +72,11 @@ returns-in-Whole-clause-after c catalog asks journal h k =
     (c.hear.ensures.before ∙ (c.saturating_add-self.ensures
     ∙ ap (λ (x : List ℕ). min (c.args.self.now.before + length x) (2 ^ 64 - 1)) c.split_at.ensures.front))
     (frame_size c.args.self.now (take (c.args.self.now.have + c.args.n) c.args.page.now) c.in-Whole.tally stands size)
-    (subst (λ (marks : List Bool). AreMarked marks ((left catalog asks journal).heard.ended
-    ++ next.ended_by (left catalog asks journal).heard.awaits (left catalog asks journal).heard.rows (frames.frame_in (take (c.args.self.now.have + c.args.n) c.args.page.now))))
+    (subst (λ (marks : List Bool). AreMarked marks ((standing_after catalog asks journal).heard.ended
+    ++ next.ended_by (standing_after catalog asks journal).heard.awaits (standing_after catalog asks journal).heard.rows (frames.frame_in (take (c.args.self.now.have + c.args.n) c.args.page.now))))
     (sym (c.hear.ensures.refused ∙ ap (λ (e : Event). marked_on e c.args.self.now.rest c.args.self.now.refused)
     (c.hear.ensures.event ∙ ap (λ (x : List ℕ). event_of c.in-Whole.tally.rows (frames.frame_in x)) c.split_at.ensures.front)))
-    (frame_marks catalog c.args.self.now (left catalog asks journal).heard.awaits (left catalog asks journal).heard.ended (left catalog asks journal).heard.rows c.in-Whole.tally.rows
+    (frame_marks catalog c.args.self.now (standing_after catalog asks journal).heard.awaits (standing_after catalog asks journal).heard.ended (standing_after catalog asks journal).heard.rows c.in-Whole.tally.rows
     (take (c.args.self.now.have + c.args.n) c.args.page.now) h.awaits stands.header h.refused))
     (sym (c.in-Whole.ensures.verdict ∙ ap (verdict_here c.args.self.now) c.split_at.ensures.front))
 
@@ -117,7 +117,7 @@ returns-in-Whole-clause-tells c catalog asks journal h k =
     whole_length catalog asks journal c.args.self.now c.args.page.now c.args.n c.in-Whole.tally at stands in
     let long : length (take (c.args.self.now.have + c.args.n) c.args.page.now) ≡ c.args.self.now.have + c.args.n =
     part_length catalog asks journal c.args.self.now c.args.page.now c.args.n at in
-    subst (λ (e : Event). Tells catalog c.args.page.now e (left catalog asks journal).heard (left catalog asks (journal ++ taken_entry c.args.self.now c.args.page.now c.args.n ∷ [])).heard)
+    subst (λ (e : Event). Tells catalog c.args.page.now e (standing_after catalog asks journal).heard (standing_after catalog asks (journal ++ taken_entry c.args.self.now c.args.page.now c.args.n ∷ [])).heard)
     (ap (λ (x : List ℕ). event_of c.in-Whole.tally.rows (frames.frame_in x)) (sym c.split_at.ensures.front) ∙ sym c.hear.ensures.event)
     (frame_tells catalog asks journal c.args.self.now c.args.page.now c.args.n c.in-Whole.tally at stands
     (sym (c.in-Whole.ensures.verdict ∙ ap (verdict_here c.args.self.now) c.split_at.ensures.front))

@@ -1,5 +1,5 @@
 use Rattle.std.proofs.Common.{refl, arith}
-use Rattle.ghost_model.specs.Channel as channel
+use Rattle.ghost_model.specs.core.Channel as channel
 use Rattle.channel_pump.specs.State.{entry}
 use Rattle.channel_session.proofs.EntryLemmas.{went_well, went_wrong}
 use Rattle.channel_session.proofs.MoveLemmas.{quiet}

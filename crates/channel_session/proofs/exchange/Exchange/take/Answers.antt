@@ -1,5 +1,5 @@
 use Rattle.std.proofs.Common.{arith, refl, ap, ◌∙◌, take}
-use Rattle.ghost_model.specs.Channel as channel
+use Rattle.ghost_model.specs.core.Channel as channel
 use Rattle.channel_pump.specs.State.{entry}
 use Rattle.channel_session.proofs.EntryLemmas.{went_wrong, took}
 use Rattle.channel_session.proofs.MoveLemmas.{quiet, is_take, front_keeps, gave_some, gave_none, ended, took_piece, positive, taking_unbroken}

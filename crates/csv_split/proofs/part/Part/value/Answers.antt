@@ -1,5 +1,5 @@
 use Rattle.std.proofs.Common.{◌∙◌, ap, inl, inr, arith}
-use Rattle.ghost_model.specs.Values.{Rows}
+use Rattle.ghost_model.specs.core.Values.{Rows}
 use Rattle.csv_split.specs.Tables.{column_values, value_in}
 use Rattle.csv_split.proofs.PartRows.{no_identifier, value_is}
 use Rattle.csv_split.proofs.part.Part.value.Goals as goal

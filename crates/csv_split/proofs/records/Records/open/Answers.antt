@@ -11,6 +11,7 @@ invariant_of-result c =
       going = made.fresh;
       plain = rw (flexible, headers) at made.trim ∙ c.new.ensures.trim;
       standard = rw (flexible, headers) at made.config ∙ c.new.ensures.config;
+      flexible = rw flexible at made.flexible;
       ready = inr (inr (rw (flexible, headers) at made.has_headers, made.headers));
     })
 

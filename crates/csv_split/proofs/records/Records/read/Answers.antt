@@ -12,7 +12,7 @@ invariant_of-self c =
 pub invariant_of-self-2 : goal.invariant_of-self-2
 invariant_of-self-2 c =
     stays_after (λ (s : Bor (List ℕ)). Some s.now) c.self.inside.reader c.read_byte_record.new.self c.in-Ok.found (fields_of c.read_byte_record.new.row) c.self.invariant
-    c.in-Ok.ensures.goes c.in-Ok.ensures.ready c.in-Ok.ensures.reads
+    c.in-Ok.ensures.goes c.in-Ok.ensures.ready c.in-Ok.ensures.reads c.in-Ok.ensures.flexible
 
 pub returns : goal.returns
 returns c =

@@ -1,5 +1,5 @@
 use Rattle.std.proofs.Common.{◌∙◌, sym, ap, length}
-use Rattle.ghost_model.specs.Values.{Rows}
+use Rattle.ghost_model.specs.core.Values.{Rows}
 use Rattle.csv_split.specs.Tables.{column_values}
 use Rattle.csv_split.proofs.TableRows.{many}
 use Rattle.csv_split.proofs.table.Table.rows.Goals as goal

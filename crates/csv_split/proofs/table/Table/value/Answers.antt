@@ -1,5 +1,5 @@
 use Rattle.std.proofs.Common.{◌∙◌, Some, ap, inl, inr, arith}
-use Rattle.ghost_model.specs.Values.{Rows}
+use Rattle.ghost_model.specs.core.Values.{Rows}
 use Rattle.csv_split.specs.Tables.{column_values, value_in}
 use Rattle.csv_split.proofs.TableRows.{no_identifier, identifier_is, value_is}
 use Rattle.csv_split.proofs.table.Table.value.Goals as goal

@@ -1,5 +1,5 @@
 use Rattle.std.proofs.Common.{◌≡◌, ◌≤◌, ◌*◌, sym, ap, length, take, drop, arith}
-use Rattle.ghost_model.specs.Cells.{text_in}
+use Rattle.ghost_model.specs.readings.CellReading.{text_in}
 use Rattle.csv_split.specs.Texts.{TextList}
 use Rattle.csv_split.proofs.KeptTexts.{fits_width, room, placed, text_front}
 use Rattle.csv_split.proofs.texts.Texts.get.Goals as goal

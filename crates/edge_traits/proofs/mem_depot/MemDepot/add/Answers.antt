@@ -6,7 +6,7 @@ use Rattle.edge_traits.proofs.mem_depot.MemDepot.add.Goals as goal
 
 pub returns-clause-others : goal.returns-clause-others
 returns-clause-others c =
-    others_kept c.args.self.now.files c.add.new.self c.args.name.now
-    (or_empty (map.get c.args.self.now.files c.args.name.now) ++ c.args.bytes.now)
+    others_kept c.args.self.now.files.files c.add.new.self.files c.args.name.now
+    (or_empty (map.get c.args.self.now.files.files c.args.name.now) ++ c.args.bytes.now)
     (c.if-not-add.ensures.added refl
-    ∙ ap (λ n. map.insert c.args.self.now.files n (or_empty (map.get c.args.self.now.files n) ++ c.args.bytes.now)) c.as_bytes.ensures.value)
+    ∙ ap (λ n. map.insert c.args.self.now.files.files n (or_empty (map.get c.args.self.now.files.files n) ++ c.args.bytes.now)) c.as_bytes.ensures.value)

@@ -1,6 +1,6 @@
 use Rattle.std.proofs.Common.{◌∙◌, ap, sym, length, [], arith}
 use Rattle.std.proofs.lemmas.List.{take_at, get_or-map, length-map}
-use Rattle.ghost_model.specs.Runs.{number_cell}
+use Rattle.ghost_model.specs.forms.Runs.{number_cell}
 use Rattle.flash_pages.proofs.filling.NumbersRecords.record.Goals as goal
 
 pub returns : goal.returns

@@ -1,7 +1,7 @@
 use Rattle.std.proofs.Common.{rules, refl, sym}
 use Rattle.channel_codec.specs.Views.{frame_view}
 use Rattle.host_exec.specs.Replies.{source_of}
-use Rattle.ghost_model.specs.Catalog.{catalog_bytes}
+use Rattle.ghost_model.specs.forms.Catalog.{catalog_bytes}
 use Rattle.host_exec.proofs.Answered.{turned_leads}
 use Rattle.host_exec.proofs.Silence.{silent}
 use Rattle.host_exec.proofs.host.Host.feed.Goals as goal

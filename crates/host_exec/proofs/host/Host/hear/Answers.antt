@@ -1,5 +1,5 @@
 use Rattle.std.proofs.Common.{◌≡◌, refl, ap, sym, ◌∙◌}
-use Rattle.ghost_model.specs.Frames.{Found, got_of}
+use Rattle.ghost_model.specs.forms.Frames.{Found, got_of}
 use Rattle.channel_codec.specs.Views.{frame_view, got_view}
 use Rattle.host_exec.proofs.Heard.{was_heard, was_refused}
 use Rattle.host_exec.proofs.Going.{rule_broken}

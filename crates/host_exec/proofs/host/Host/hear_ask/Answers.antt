@@ -1,6 +1,6 @@
 use Rattle.std.proofs.Common.{ap, subst, ◌∙◌, List, ℕ}
-use Rattle.ghost_model.specs.Catalog.{catalog_bytes}
-use Rattle.ghost_model.specs.Host.{answer_to}
+use Rattle.ghost_model.specs.forms.Catalog.{catalog_bytes}
+use Rattle.ghost_model.specs.core.Host.{answer_to}
 use Rattle.channel_codec.specs.Views.{frame_view}
 use Rattle.host_exec.specs.Replies.{source_of}
 use Rattle.host_exec.specs.Taken.{TakesAsk}

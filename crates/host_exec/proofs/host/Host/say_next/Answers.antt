@@ -1,5 +1,5 @@
 use Rattle.std.proofs.Common.{refl, subst, inr}
-use Rattle.ghost_model.specs.Catalog.{catalog_bytes}
+use Rattle.ghost_model.specs.forms.Catalog.{catalog_bytes}
 use Rattle.host_exec.specs.Replies.{source_of}
 use Rattle.host_exec.specs.Saying.{Stands}
 use Rattle.host_exec.specs.declared.stage.Stage.{Stage}

@@ -1,5 +1,5 @@
 use Rattle.std.proofs.Common.{◌≡◌, inl, inr, ap, sym, subst, ◌∙◌, refl, arith, [], false, MatchBool}
-use Rattle.ghost_model.specs.Causes.{Rose}
+use Rattle.ghost_model.specs.core.Causes.{Rose}
 use Rattle.edge_traits.specs.Files.{file_of}
 use Rattle.host_exec.specs.Hosts.{name_of}
 use Rattle.host_exec.proofs.Speaking.{speaks_on, speaks_in_vain, speaks_all, told_more, same_more, owing_now, not_over_resting, granted_calm, neither}

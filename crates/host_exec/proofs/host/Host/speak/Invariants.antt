@@ -1,6 +1,6 @@
 use Rattle.std.proofs.Common.{◌≡◌, ◌≤◌, Some, MatchBool, false}
 use Rattle.host_exec.specs.declared.stage.Stage.TheVariants as stage
-use Rattle.ghost_model.specs.Causes.{Rose}
+use Rattle.ghost_model.specs.core.Causes.{Rose}
 use Rattle.edge_traits.specs.Files.{file_of}
 use Rattle.host_exec.specs.Hosts.{IsSameHost, StandsAs, name_of, steps_of}
 use Rattle.host_exec.proofs.Speaking.{SpeaksSoFar}

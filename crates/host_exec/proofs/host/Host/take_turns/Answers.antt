@@ -1,5 +1,5 @@
 use Rattle.std.proofs.Common.{◌≡◌, ◌+◌, ap, sym, subst, ◌∙◌, refl, arith, rules, MatchBool}
-use Rattle.ghost_model.specs.Causes.{Rose}
+use Rattle.ghost_model.specs.core.Causes.{Rose}
 use Rattle.edge_traits.specs.Files.{file_of}
 use Rattle.host_exec.specs.Hosts.{name_of}
 use Rattle.host_exec.proofs.Speaking.{same_more, told_more, neither}

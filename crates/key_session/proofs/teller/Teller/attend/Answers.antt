@@ -1,6 +1,6 @@
 use Rattle.std.proofs.Common.{◌∙◌, sym, refl}
-use Rattle.ghost_model.specs.Asks.{asked_of}
-use Rattle.ghost_model.specs.Moves.{taken}
+use Rattle.ghost_model.specs.core.Asks.{asked_of}
+use Rattle.ghost_model.specs.core.Moves.{taken}
 use Rattle.session_laws.specs.TextEnds.{heard_in}
 use Rattle.key_session.proofs.Attending.{same_asked, attended, unattended}
 use Rattle.key_session.proofs.teller.Teller.attend.Goals as goal

@@ -1,5 +1,5 @@
 use Rattle.std.proofs.Common.{◌≡◌, ap, sym, ◌∙◌}
-use Rattle.ghost_model.specs.Frames.{Found, got_of}
+use Rattle.ghost_model.specs.forms.Frames.{Found, got_of}
 use Rattle.channel_codec.specs.Views.{frame_view, got_view}
 use Rattle.local_links.proofs.Desks.{heard_frame, heard_nothing, short_not_found, bad_not_found}
 use Rattle.local_links.proofs.host_link.HostLink.hear.Goals as goal

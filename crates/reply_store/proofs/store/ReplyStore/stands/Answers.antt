@@ -1,7 +1,7 @@
 use Rattle.std.proofs.Common.{◌∙◌, map, ap, ap₂, sym}
 use Rattle.ghost_base.specs.Views.{kind_of}
-use Rattle.ghost_model.specs.Asks.{row_in}
-use Rattle.ghost_model.specs.Replies.{reply_about}
+use Rattle.ghost_model.specs.core.Asks.{row_in}
+use Rattle.ghost_model.specs.core.Replies.{reply_about}
 use Rattle.channel_codec.specs.AskViews.{ask_view}
 use Rattle.reply_store.specs.Stored.{Store, replies_in}
 use Rattle.reply_store.specs.Segments.{stored_from}

@@ -1,8 +1,8 @@
-use Rattle.std.proofs.Common.{◌≤◌, length, map, ap, ◌∙◌, arith}
-use Rattle.std.proofs.lemmas.List.{length-map}
-use Rattle.ghost_model.specs.QueryReading.{reading}
+use Rattle.std.proofs.Common.{◌*◌, ◌≤◌, length, map, ap, ◌∙◌, arith}
+use Rattle.ghost_model.specs.core.Asks.{asked_from}
+use Rattle.ghost_model.specs.readings.QueryReading.{reading}
 use Rattle.script_asks.specs.Left.{are_numbered, are_proper}
-use Rattle.script_asks.proofs.ScriptLemmas.{proper_from, numbered_from, few_from}
+use Rattle.script_asks.proofs.ScriptLemmas.{proper_from, numbered_from}
 use Rattle.script_asks.proofs.scripts.ScriptAsks.new.Goals as goal
 
 pub returns-clause-proper : goal.returns-clause-proper
@@ -17,7 +17,7 @@ returns-clause-numbered c =
 pub returns-clause-count : goal.returns-clause-count
 returns-clause-count c =
     let few : length c.args.schema.now ≤ 12 = omega (arith, c.tables-tables.ensures.count, c.tables-tables.ensures.few) in
-    let a = few_from c.args.schema.now 1 (map (reading c.args.schema.now) c.new-texts.result) few in
-    let b = length-map c.new-texts.result (reading c.args.schema.now) in
+    let a : length (asked_from c.args.schema.now 1 (map (reading c.args.schema.now) c.new-texts.result)) ≤ 12 * length c.new-texts.result =
+    c.asks_are_few.ensures c.args.schema.now c.new-texts.result few in
     let e = ap length c.fetch-hand.ensures.left in
-    omega (arith, a, b, e, c.requires.few, ap length c.new-texts.ensures.all)
+    omega (arith, a, e, c.requires.few, ap length c.new-texts.ensures.all)

@@ -1,5 +1,5 @@
 use Rattle.std.proofs.Common.{ap, map, filter, sym, ◌∙◌}
-use Rattle.ghost_model.specs.Query.{Query}
+use Rattle.ghost_model.specs.core.Query.{Query}
 use Rattle.spj_parse.specs.Resolved.{is_comparison}
 use Rattle.spj_parse.specs.Views.{comparison_of}
 use Rattle.spj_parse.proofs.QueryViews.{comparisons_among}

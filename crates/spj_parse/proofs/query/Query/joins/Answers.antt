@@ -1,5 +1,5 @@
 use Rattle.std.proofs.Common.{ap, map, filter, sym, ◌∙◌}
-use Rattle.ghost_model.specs.Query.{Query}
+use Rattle.ghost_model.specs.core.Query.{Query}
 use Rattle.spj_parse.specs.Resolved.{is_join}
 use Rattle.spj_parse.specs.Views.{join_of}
 use Rattle.spj_parse.proofs.QueryViews.{joins_among}

@@ -1,5 +1,5 @@
 use Rattle.std.proofs.Common.{List, ℕ, is_none, ap, ◌∙◌}
-use Rattle.ghost_model.specs.QueryMeaning.{top_of}
+use Rattle.ghost_model.specs.core.Query.{top_of}
 use Rattle.spj_parse.specs.Links.{top_among}
 use Rattle.spj_parse.proofs.TopLemmas.{has_top}
 use Rattle.spj_parse.proofs.query.Query.top.Goals as goal

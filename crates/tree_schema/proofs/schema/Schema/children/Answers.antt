@@ -1,6 +1,6 @@
 use Rattle.std.proofs.Common.{◌<◌, length, ◌∙◌, sym, ap, true, false, arith}
 use Rattle.arrayvec.specs.ArrayVec.{array_vec_len}
-use Rattle.ghost_model.specs.Schema as schema
+use Rattle.ghost_model.specs.core.Schema as schema
 use Rattle.tree_schema.proofs.FirstPlaces.{more_children, all_children}
 use Rattle.tree_schema.proofs.schema.Schema.children.Goals as goal
 use Rattle.tree_schema.proofs.schema.Schema.children.Goals.{then-is_table, else-is_table}

@@ -1,5 +1,5 @@
 use Rattle.std.proofs.Common.{◌∙◌, ap}
-use Rattle.ghost_model.specs.Schema as schema
+use Rattle.ghost_model.specs.core.Schema as schema
 use Rattle.tree_schema.specs.Views.{schema_of}
 use Rattle.tree_schema.proofs.schema.Schema.parent.Goals as goal
 

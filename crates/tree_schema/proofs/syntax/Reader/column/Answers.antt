@@ -1,5 +1,5 @@
 use Rattle.std.proofs.Common.{refl, sym, ◌∙◌, ap, arith}
-use Rattle.ghost_model.specs.SchemaPlaces as places
+use Rattle.ghost_model.specs.readings.SchemaPlaces as places
 use Rattle.tree_schema.specs.Drafts.{in_column_of, place_of}
 use Rattle.tree_schema.proofs.ReaderSteps.{leads, stops, is_out}
 use Rattle.tree_schema.proofs.syntax.Reader.column.Goals as goal

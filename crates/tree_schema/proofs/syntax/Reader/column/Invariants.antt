@@ -1,5 +1,5 @@
 use Rattle.std.proofs.Common.{length}
-use Rattle.ghost_model.specs.Tokens as tokens
+use Rattle.ghost_model.specs.refusals.Tokens as tokens
 use Rattle.tree_schema.proofs.ReaderSteps.{IsWithin}
 use Rattle.tree_schema.proofs.syntax.Reader.column.Given as goal
 

@@ -1,5 +1,5 @@
 use Rattle.std.proofs.Common.{rules}
-use Rattle.ghost_model.specs.SchemaPlaces as places
+use Rattle.ghost_model.specs.readings.SchemaPlaces as places
 use Rattle.tree_schema.specs.Drafts.{Stops}
 use Rattle.tree_schema.proofs.ReaderSteps.{front, front_stops, end_stops, kept_table, wide_table}
 use Rattle.tree_schema.proofs.syntax.Reader.table.Goals as goal

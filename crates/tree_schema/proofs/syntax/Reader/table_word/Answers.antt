@@ -1,5 +1,5 @@
 use Rattle.std.proofs.Common.{refl}
-use Rattle.ghost_model.specs.SchemaPlaces as places
+use Rattle.ghost_model.specs.readings.SchemaPlaces as places
 use Rattle.tree_schema.proofs.ReaderSteps.{by_mark, stops, is_out, no_table}
 use Rattle.tree_schema.proofs.syntax.Reader.table_word.Goals as goal
 

@@ -1,0 +1,35 @@
+use Rattle.std.proofs.Common.{refl, inl, inr, arith}
+use Rattle.ghost_model.specs.forms.Layout.{first_page}
+use Rattle.ghost_model.specs.core.Schema.{places_from, ancestor}
+use Rattle.ghost_model.specs.forms.Runs.{number_in, record_at, found_in}
+use Rattle.ghost_model.specs.forms.Slots.{Cells, IndexDirectory}
+use Rattle.ghost_model.proofs.flash.damaged_slots.Goals as goal
+
+pub returns : goal.returns
+unfolding places_from ancestor number_in record_at found_in first_page
+returns c = record {
+  no_such_doctor = record {
+    file = Cells 2 3;
+    place = 2;
+    at = record {
+      has = refl;
+      within = omega arith;
+      page_is = refl;
+      slot_is = refl;
+      damaged = inl refl;
+      found_is = refl;
+    };
+  };
+  the_later_of_two = record {
+    file = IndexDirectory 0 2;
+    place = 1;
+    at = record {
+      has = refl;
+      within = omega arith;
+      page_is = refl;
+      slot_is = refl;
+      damaged = inr (record { bound = tt; broken = refl });
+      found_is = refl;
+    };
+  };
+}

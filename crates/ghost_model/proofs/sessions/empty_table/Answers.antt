@@ -1,0 +1,23 @@
+use Rattle.std.proofs.Common.{refl, codes}
+use Rattle.std.specs.Fmt.{digits}
+use Rattle.hex.specs.Hex.{encode_with, decode_pairs}
+use Rattle.ghost_model.specs.core.Asks.{rows_from}
+use Rattle.ghost_model.specs.readings.AskReading.{tests_in}
+use Rattle.ghost_model.specs.core.Schema.{places_from}
+use Rattle.ghost_model.specs.refusals.Tokens.{tokens_from, quoted_from}
+use Rattle.ghost_model.specs.readings.QueryPlaces.{read_from}
+use Rattle.ghost_model.specs.core.NextMove.{hear_all, rows_fit}
+use Rattle.ghost_model.specs.core.Meaning.{combinations}
+use Rattle.ghost_model.specs.core.Split.{replies_from}
+use Rattle.ghost_model.specs.core.Lines.{WasAnswered}
+use Rattle.ghost_model.specs.examples.Channel.{day_query}
+use Rattle.ghost_model.proofs.sessions.empty_table.Goals as goal
+
+pub returns : goal.returns
+unfolding digits encode_with decode_pairs rows_from tests_in places_from hear_all rows_fit tokens_from quoted_from read_from combinations replies_from
+returns c = record {
+  printed_line = refl;
+  proper = (refl, (refl, (refl, (refl, (refl, (refl, (refl, (refl, (refl, tt)))))))));
+  finished = refl;
+  lines = record { place = 0; numbered = refl; written = codes "SELECT day FROM visit"; stands = refl; reason = WasAnswered; lines_are = record { query = day_query; accepted = refl; done = refl; answer = refl } };
+}

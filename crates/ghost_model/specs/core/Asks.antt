@@ -1,0 +1,144 @@
+-- What the key asks the host for. For each FROM table in the schema's order that has a condition on a visible column or
+-- a selected visible column there is one ask, with these conditions in the order of the text and these columns in their
+-- own order, each once. Nothing of a hidden column or of an identifier is in it. An ask is sent as bytes: the table, the
+-- number of its columns and each of them, the number of its conditions, and for each of these the column, the operator
+-- from 1 to 6 and the literal's cell. A reply to it has rows of one width: an identifier in 4 bytes and the asked cells.
+use Rattle.std.specs.Prelude.{ℕ, zero, suc, ◌+◌, ◌/◌, Bool, true, not, ◌&&◌, ◌==◌, nat_lt, nat_le, List, [], ◌∷◌, ◌++◌, length, take, drop, map, filter, flat_map, sum, if◌then◌else◌, Option, Some, None, Result, Ok, Err}
+use Rattle.std.specs.List.{list_any, list_all}
+use Rattle.std.specs.Int.{to_be_bytes, from_be_bytes, w32}
+use Rattle.ghost_model.specs.core.Schema.{Schema, Column, Kind, Chars, columns_of, column_at, places_where, is_empty, is_visible}
+use Rattle.ghost_model.specs.core.Database.{is_of_kind}
+use Rattle.ghost_model.specs.forms.Cells.{cell_width, encode_cell}
+use Rattle.ghost_model.specs.core.Query.{Query, Field, Condition, Compare, Join, Operator, Equal, Unequal, Less, AtMost, More, AtLeast}
+use Rattle.ghost_model.specs.readings.QueryReading.{reading}
+use Rattle.ghost_model.specs.core.Channel.{Test, Ask}
+
+-- the condition of an ask for this table that a condition of a query is, if its column is visible
+abbrev pub test_of : Schema → (table : ℕ) → Condition → List Test
+test_of schema table (Compare field operator value) =
+    if field.table == table && is_visible schema table field.column
+    then record { column = field.column; operator = operator; value = value } ∷ [] else []
+test_of schema table (Join _ _) = []
+
+abbrev pub tests_of : Schema → (table : ℕ) → List Condition → List Test
+tests_of schema table conditions = flat_map (test_of schema table) conditions
+
+abbrev pub is_field : (table column : ℕ) → Field → Bool
+is_field table column field = field.table == table && field.column == column
+
+-- whether a column is selected and visible
+abbrev pub is_wanted : Schema → List Field → (table column : ℕ) → Bool
+is_wanted schema select table column = is_visible schema table column && list_any (is_field table column) select
+
+-- all places of a list, ascending
+abbrev pub places : {X : Type 0} → List X → List ℕ
+places xs = places_where (λ _. true) xs
+
+abbrev pub ask_for : Schema → Query → (table : ℕ) → Ask
+ask_for schema query table = record {
+  table = table;
+  columns = filter (is_wanted schema query.select table) (places (columns_of schema table));
+  tests = tests_of schema table query.conditions;
+}
+
+abbrev pub is_needed : Ask → Bool
+is_needed ask = not (is_empty ask.columns && is_empty ask.tests)
+
+abbrev pub is_from : Query → (table : ℕ) → Bool
+is_from query table = list_any (λ other. other == table) query.from
+
+abbrev pub asks_of : Schema → Query → List Ask
+asks_of schema query = filter is_needed (map (ask_for schema query) (filter (is_from query) (places schema)))
+
+abbrev pub operator_code : Operator → ℕ
+operator_code Equal = 1
+operator_code Unequal = 2
+operator_code Less = 3
+operator_code AtMost = 4
+operator_code More = 5
+operator_code AtLeast = 6
+
+-- the kind of a column; where there is no such column its cells have no bytes
+abbrev pub kind_or_none : Option Column → Kind
+kind_or_none None = Chars 0
+kind_or_none (Some column) = column.kind
+
+abbrev pub kind_at : Schema → (table column : ℕ) → Kind
+kind_at schema table column = kind_or_none (column_at schema table column)
+
+abbrev pub test_bytes : Schema → (table : ℕ) → Test → List ℕ
+test_bytes schema table test =
+    test.column ∷ operator_code test.operator ∷ encode_cell (kind_at schema table test.column) test.value
+
+abbrev pub ask_payload : Schema → Ask → List ℕ
+ask_payload schema ask =
+    ask.table ∷ length ask.columns
+    ∷ (ask.columns ++ length ask.tests ∷ flat_map (test_bytes schema ask.table) ask.tests)
+
+-- whether each number is below the next
+abbrev pub ascend_from : ℕ → List ℕ → Bool
+ascend_from before [] = true
+ascend_from before (x ∷ xs) = nat_lt before x && ascend_from x xs
+
+abbrev pub most_tests : ℕ
+most_tests = 16
+
+-- whether an ask is one that a key may send: its table is there, its columns are visible and ascend, and it has at most
+-- 16 conditions, each between a visible column and a value of that column's kind
+abbrev pub is_proper_ask : Schema → Ask → Bool
+is_proper_ask schema ask =
+    nat_lt ask.table (length schema) && list_all (is_visible schema ask.table) ask.columns
+    && ascend_from 0 ask.columns && nat_le (length ask.tests) most_tests
+    && list_all (λ test. is_visible schema ask.table test.column) ask.tests
+    && list_all (λ test. is_of_kind (kind_at schema ask.table test.column) test.value) ask.tests
+
+-- the kinds of an ask's columns
+abbrev pub kinds_of : Schema → Ask → List Kind
+kinds_of schema ask = map (kind_at schema ask.table) ask.columns
+
+-- the width of a row of the reply: the identifier and the asked cells
+abbrev pub row_width : Schema → Ask → ℕ
+row_width schema ask = 4 + sum (map cell_width (kinds_of schema ask))
+
+-- a row of a reply: its identifier, and the bytes of the asked cells
+pub record RowCells : Type 0 where
+  pub identifier : ℕ
+  pub cells : List ℕ
+
+abbrev pub row_bytes : RowCells → List ℕ
+row_bytes row = to_be_bytes w32 row.identifier ++ row.cells
+
+abbrev pub row_in : List ℕ → RowCells
+row_in bytes = record { identifier = from_be_bytes w32 (take 4 bytes); cells = drop 4 bytes }
+
+-- so many rows of a width at the front of some bytes
+unfoldable pub rows_from : (width count : ℕ) → List ℕ → List RowCells
+rows_from width zero bytes = []
+rows_from width (suc count) bytes = row_in (take width bytes) ∷ rows_from width count (drop width bytes)
+
+-- the rows of a payload of ROWS
+abbrev pub rows_in : Schema → Ask → List ℕ → List RowCells
+rows_in schema ask payload = rows_from (row_width schema ask) (length payload / row_width schema ask) payload
+
+-- an ask and the number of its text
+pub record NumberedAsk : Type 0 where
+  pub text : ℕ
+  pub ask : Ask
+
+abbrev pub asked : (text : ℕ) → Ask → NumberedAsk
+asked text ask = record { text = text; ask = ask }
+
+-- the asks of a text that was read or refused
+abbrev pub asks_of_reading : {Refusal : Type 0} → Schema → Result Query Refusal → List Ask
+asks_of_reading schema (Ok query) = asks_of schema query
+asks_of_reading schema (Err _) = []
+
+-- the asks of the accepted texts in order, the first of these texts having this number
+abbrev pub asked_from : {Refusal : Type 0} → Schema → (number : ℕ) → List (Result Query Refusal) → List NumberedAsk
+asked_from schema number [] = []
+asked_from schema number (reading ∷ later) =
+    map (asked number) (asks_of_reading schema reading) ++ asked_from schema (number + 1) later
+
+-- the asks of the accepted texts in order, with the numbers of their texts
+abbrev pub asked_of : Schema → (texts : List (List ℕ)) → List NumberedAsk
+asked_of schema texts = asked_from schema 1 (map (reading schema) texts)

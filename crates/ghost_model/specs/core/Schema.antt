@@ -1,0 +1,99 @@
+-- A schema: a list of tables, each a list of columns. Tables and columns are numbered by place from 0, in the order
+-- of their declaration; column 0 of each table is its identifier, `id`. A name is a list of bytes in lower case.
+-- A foreign key names its child table; the parent of a table is the table that holds the foreign key to it.
+use Rattle.std.specs.Prelude.{ℕ, ◌+◌, Bool, true, false, not, ◌&&◌, ◌==◌, List, [], ◌∷◌, Option, Some, None, option_map, slice_get, if◌then◌else◌, nat_lt, zero, suc, option_and_then}
+
+-- what a column holds: 64-bit signed integers, or texts of at most so many bytes
+pub data Kind : Type 0 where
+  Integer : Kind
+  Chars : ℕ → Kind
+
+pub record Column : Type 0 where
+  pub name : List ℕ
+  pub kind : Kind
+  pub hidden : Bool
+  -- the table that a foreign key names, by its place
+  pub child : Option ℕ
+
+pub record Table : Type 0 where
+  pub name : List ℕ
+  pub columns : List Column
+
+abbrev pub Schema : Type 0
+Schema = List Table
+
+-- the columns of a table, none where there is no such table
+abbrev pub columns_or_none : Option Table → List Column
+columns_or_none None = []
+columns_or_none (Some table) = table.columns
+
+abbrev pub columns_of : Schema → ℕ → List Column
+columns_of schema table = columns_or_none (slice_get schema table)
+
+abbrev pub column_at : Schema → ℕ → ℕ → Option Column
+column_at schema table column = slice_get (columns_of schema table) column
+
+-- the kind of a column, where there is one
+abbrev pub column_kind : Schema → (table column : ℕ) → Option Kind
+column_kind schema table column = option_map (λ column. column.kind) (column_at schema table column)
+
+-- the places of the elements that pass a test, ascending, the first element having place `at`
+unfoldable pub places_from : {X : Type 0} → (X → Bool) → ℕ → List X → List ℕ
+places_from test at [] = []
+places_from test at (x ∷ xs) = if test x then at ∷ places_from test (at + 1) xs else places_from test (at + 1) xs
+
+abbrev pub places_where : {X : Type 0} → (X → Bool) → List X → List ℕ
+places_where test xs = places_from test 0 xs
+
+-- the place of each element of a list
+abbrev pub places_of : {X : Type 0} → List X → List ℕ
+places_of xs = places_where (λ _. true) xs
+
+abbrev pub is_empty : {X : Type 0} → List X → Bool
+is_empty [] = true
+is_empty (_ ∷ _) = false
+
+abbrev pub first_of : {X : Type 0} → List X → Option X
+first_of [] = None
+first_of (x ∷ _) = Some x
+
+-- whether a place, where there is one, is this table's
+abbrev pub is_table : ℕ → Option ℕ → Bool
+is_table table None = false
+is_table table (Some other) = other == table
+
+-- the columns of a table that are foreign keys to another, by place
+abbrev pub references_to : ℕ → Table → List ℕ
+references_to child table = places_where (λ column. is_table child column.child) table.columns
+
+-- the tables that hold a foreign key to this table
+abbrev pub holders_of : Schema → ℕ → List ℕ
+holders_of schema child = places_where (λ table. not (is_empty (references_to child table))) schema
+
+-- the table that holds the foreign key to this one; the root has none
+abbrev pub parent : Schema → ℕ → Option ℕ
+parent schema table = first_of (holders_of schema table)
+
+-- the places, from `at` on, of the tables whose parent is this one; the last list has one element for each table from `at` on
+unfoldable pub children_from : Schema → (table at : ℕ) → List Table → List ℕ
+children_from schema table at [] = []
+children_from schema table at (_ ∷ later) =
+    if is_table table (parent schema at) then at ∷ children_from schema table (at + 1) later
+    else children_from schema table (at + 1) later
+
+-- the tables that a table's foreign keys name, ascending
+abbrev pub children : Schema → ℕ → List ℕ
+children schema table = children_from schema table 0 schema
+
+-- a visible column is one that is neither hidden nor the identifier, which both sides know
+abbrev pub is_shown : Option Column → Bool
+is_shown None = false
+is_shown (Some column) = not column.hidden
+
+abbrev pub is_visible : Schema → ℕ → ℕ → Bool
+is_visible schema table column = nat_lt 0 column && is_shown (column_at schema table column)
+
+-- Cycle: following parents from a table returns to it, in at most as many steps as there are tables
+unfoldable pub ancestor : Schema → (steps table : ℕ) → Option ℕ
+ancestor schema zero table = Some table
+ancestor schema (suc steps) table = option_and_then (parent schema) (ancestor schema steps table)

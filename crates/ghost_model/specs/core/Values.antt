@@ -1,0 +1,22 @@
+-- Values, rows and databases: what the tables hold. A value is an integer or a text; a row has one value for each
+-- column, the identifier among them; a database has for each table of its schema the list of its rows.
+use Rattle.std.specs.Prelude.{ℕ, ◌^◌, ℤ, pos, negsuc, Bool, nat_lt, List}
+
+pub data Value : Type 0 where
+  Number : ℤ → Value
+  Text : List ℕ → Value
+
+-- whether a number is a signed one of 64 bits
+abbrev pub fits_integer : ℤ → Bool
+fits_integer (pos n) = nat_lt n (2 ^ 63)
+fits_integer (negsuc n) = nat_lt n (2 ^ 63)
+
+abbrev pub Row : Type 0
+Row = List Value
+
+-- the rows of one table; the row at place i, from 1, has identifier i
+abbrev pub Rows : Type 0
+Rows = List Row
+
+abbrev pub Database : Type 0
+Database = List Rows

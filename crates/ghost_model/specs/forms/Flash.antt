@@ -1,0 +1,185 @@
+-- What the flash holds once it is loaded: on its public pages the catalog, and in each static file what follows from the
+-- hidden part of a database. A column file has the column's cells, row by row. A subtree key table has, for each row, the
+-- identifiers of the rows that it leads to in the tables below. A climbing index has, for each value of its column, the
+-- rows that have it and the rows of each table above that lead to such a row; an id index has the same for each
+-- identifier. At one level the lists of all entries stand one after another, and an entry of the directory says where
+-- its own begins and how long it is. The part that each file kind has is a word of its own; `Holds` is all of them.
+use Rattle.std.specs.Prelude.{◌≡◌, ℕ, ◌-◌, ◌*◌, ◌<◌, pos, true, false, List, [], ◌∷◌, ◌++◌, length, take, drop, map, filter, flat_map, replicate, get_or, slice_index, Contains, bytes_eq, Option, Some, slice_get, unwrap_or, IsTrue}
+use Rattle.std.specs.List.Sorted.{IsStrictlySortedBy}
+use Rattle.std.specs.List.{concat, range_with_len}
+use Rattle.std.specs.Option.{option_map_or}
+use Rattle.std.specs.Cmp.Lexicographic.{slice_cmp}
+use Rattle.std.specs.Ordering.{nat_cmp}
+use Rattle.ghost_model.specs.core.Schema.{Schema, Table, Kind, is_empty, is_table}
+use Rattle.ghost_model.specs.core.Values.{Number, Row, Rows, Database}
+use Rattle.ghost_model.specs.core.Channel.{Catalog}
+use Rattle.ghost_model.specs.core.Database.{IsDatabase, rows_or_none, row_counts, leads}
+use Rattle.ghost_model.specs.forms.Cells.{encode_cell}
+use Rattle.ghost_model.specs.forms.Catalog.{catalog_bytes}
+use Rattle.ghost_model.specs.core.Asks.{kind_at}
+use Rattle.ghost_model.specs.core.Split.{Hidden, hidden_of, rejoined, value_at, kind_of_column, are_of_kinds}
+use Rattle.ghost_model.specs.core.Replies.{hidden_places}
+use Rattle.ghost_model.specs.forms.Runs.{Run, page_bytes, number_cell, Stores}
+use Rattle.ghost_model.specs.forms.Layout.{below, is_hidden, count_of, levels_of, above_of, descendants_of, public_pages, column_file, subtree_table, index_header, index_directory, index_level, id_directory, id_level}
+
+-- The public pages: a page of the catalog's bytes, and 0xFF where there are none.
+abbrev pub catalog_part : Catalog → (place : ℕ) → List ℕ
+catalog_part cat place = take page_bytes (drop (place * page_bytes) (catalog_bytes cat))
+
+abbrev pub catalog_page : Catalog → (place : ℕ) → List ℕ
+catalog_page cat place = catalog_part cat place ++ replicate (page_bytes - length (catalog_part cat place)) 0xff
+
+abbrev pub HoldsCatalog : (ℕ → List ℕ) → Catalog → Type 0
+HoldsCatalog page cat = (place : ℕ) → place < public_pages → page place ≡ catalog_page cat place
+
+-- Column files. A row of the hidden part has a value for each hidden column in order.
+abbrev pub hidden_rows : Hidden → (table : ℕ) → Rows
+hidden_rows hidden table = rows_or_none (slice_get hidden.hidden table)
+
+abbrev pub hidden_kinds : Table → List Kind
+hidden_kinds table = map kind_of_column (filter (λ column. column.hidden) (drop 1 table.columns))
+
+-- the hidden part of a database that a catalog tells of
+pub record IsHidden (cat : Catalog) (hidden : Hidden) : Type 0 where
+  pub database : Database
+  pub proper : IsDatabase cat.schema database
+  pub counted : row_counts database ≡ cat.counts
+  pub part : hidden ≡ hidden_of cat.schema database
+
+-- so each table has as many rows as the catalog says, and a row one value for each hidden column, of its kind
+pub record GoesWith (cat : Catalog) (hidden : Hidden) : Type 0 where
+  pub counted : map length hidden.hidden ≡ cat.counts
+  pub kinds : (table place : ℕ) (declared : Table) (row : Row) → slice_get cat.schema table ≡ Some declared
+      → slice_get (hidden_rows hidden table) place ≡ Some row → IsTrue (are_of_kinds (hidden_kinds declared) row)
+
+-- the cell of a hidden column for a row of the hidden part
+abbrev pub hidden_cell : Schema → (table column : ℕ) → Row → List ℕ
+hidden_cell schema table column row =
+    option_map_or (encode_cell (kind_at schema table column)) (value_at (hidden_places schema table) row column) []
+
+-- the cells of a hidden column, row by row
+abbrev pub hidden_cells : Schema → Hidden → (table column : ℕ) → List (List ℕ)
+hidden_cells schema hidden table column = map (hidden_cell schema table column) (hidden_rows hidden table)
+
+abbrev pub HoldsColumns : (ℕ → List ℕ) → Catalog → Hidden → Type 0
+HoldsColumns page cat hidden =
+    (table column : ℕ) → is_hidden cat.schema table column ≡ true
+    → Stores page (column_file cat table column) (hidden_cells cat.schema hidden table column)
+
+-- Rows lead to rows along the foreign keys, which are hidden. So the hidden part tells it, whatever the visible values
+-- are: here 0 stands for each of them, of which a row has at most 24.
+abbrev pub zeros : Row
+zeros = replicate 24 (Number (pos 0))
+
+abbrev pub zero_rows : Rows → Rows
+zero_rows rows = map (λ _. zeros) rows
+
+abbrev pub hidden_database : Schema → Hidden → Database
+hidden_database schema hidden = rejoined schema (record { visible = map zero_rows hidden.hidden }) hidden
+
+abbrev pub leads_to : Schema → Hidden → (from identifier to : ℕ) → Option ℕ
+leads_to schema hidden from identifier to = leads schema (hidden_database schema hidden) from identifier to
+
+-- the identifiers of so many rows
+abbrev pub ids : (count : ℕ) → List ℕ
+ids count = range_with_len 1 count
+
+-- Subtree key tables.
+abbrev pub subtree_record : Schema → Hidden → (table identifier : ℕ) → List ℕ
+subtree_record schema hidden table identifier =
+    flat_map (λ to. number_cell (unwrap_or (leads_to schema hidden table identifier to) 0)) (descendants_of schema table)
+
+abbrev pub HoldsSubtrees : (ℕ → List ℕ) → Catalog → Hidden → Type 0
+HoldsSubtrees page cat hidden =
+    (table : ℕ) → table < length cat.schema → is_empty (descendants_of cat.schema table) ≡ false
+    → Stores page (subtree_table cat table) (map (subtree_record cat.schema hidden table) (ids (count_of cat table)))
+
+-- Indexes. An index has entries, and at each of its levels a list of identifiers for each entry. The records of a level
+-- file: the lists one after another
+abbrev pub list_records : (lists : List (List ℕ)) → List (List ℕ)
+list_records lists = map number_cell (concat lists)
+
+-- where the list of an entry stands: how many records stand before it, and how many it has
+abbrev pub list_place : (lists : List (List ℕ)) → (entry : ℕ) → List ℕ
+list_place lists entry =
+    number_cell (length (concat (take entry lists))) ++ number_cell (length (get_or lists entry []))
+
+-- the record of an entry in the directory: its own bytes, and at the level of each table the place of its list
+abbrev pub directory_record : (heads : List (List ℕ)) → (tables : List ℕ) → (lists : ℕ → List (List ℕ)) → (entry : ℕ) → List ℕ
+directory_record heads tables lists entry = get_or heads entry [] ++ flat_map (λ table. list_place (lists table) entry) tables
+
+abbrev pub directory_records : (heads : List (List ℕ)) → (tables : List ℕ) → (lists : ℕ → List (List ℕ)) → List (List ℕ)
+directory_records heads tables lists = map (directory_record heads tables lists) (below (length heads))
+
+-- a directory and level files have these entries, with these lists at the levels of these tables
+pub record HoldsLists (page : ℕ → List ℕ) (directory : Run) (level_file : ℕ → Run) (heads : List (List ℕ)) (tables : List ℕ) (lists : ℕ → List (List ℕ)) : Type 0 where
+  pub places : Stores page directory (directory_records heads tables lists)
+  pub levels :
+      (level : ℕ) → level < length tables
+      → Stores page (level_file level) (list_records (lists (slice_index tables level)))
+
+-- Climbing indexes. The cell of a hidden column in the row of its table that a row leads to
+abbrev pub cell_led_to : Schema → Hidden → (table column from identifier : ℕ) → List ℕ
+cell_led_to schema hidden table column from identifier =
+    option_map_or (λ row. get_or (hidden_cells schema hidden table column) (row - 1) [])
+    (leads_to schema hidden from identifier table) []
+
+-- the lists of values at the level of a table: that table's rows which lead to a row that has the value, ascending
+abbrev pub value_lists : Catalog → Hidden → (table column : ℕ) → (values : List (List ℕ)) → (from : ℕ) → List (List ℕ)
+value_lists cat hidden table column values from =
+    map (λ value.
+    filter (λ identifier. bytes_eq (cell_led_to cat.schema hidden table column from identifier) value) (ids (count_of cat from)))
+    values
+
+-- the values of a column: each of its cells once, ascending
+pub record AreValues (cells values : List (List ℕ)) : Type 0 where
+  pub ascending : IsStrictlySortedBy (slice_cmp nat_cmp) values
+  pub only : (value : List ℕ) → Contains values value → Contains cells value
+  pub all : (cell : List ℕ) → Contains cells cell → Contains values cell
+
+pub record HoldsIndex (page : ℕ → List ℕ) (cat : Catalog) (hidden : Hidden) (table column : ℕ) : Type 0 where
+  pub values : List (List ℕ)
+  pub are_values : AreValues (hidden_cells cat.schema hidden table column) values
+  pub header : Stores page (index_header cat table column) (number_cell (length values) ∷ [])
+  -- an entry for each value, at most as many as the directory has room for
+  pub entries :
+      HoldsLists page (record (index_directory cat table column) { count = length values }) (index_level cat table column)
+      values (levels_of cat.schema table) (value_lists cat hidden table column values)
+
+abbrev pub HoldsIndexes : (ℕ → List ℕ) → Catalog → Hidden → Type 0
+HoldsIndexes page cat hidden =
+    (table column : ℕ) → is_hidden cat.schema table column ≡ true → HoldsIndex page cat hidden table column
+
+-- Id indexes: indexes over the identifiers themselves, an entry for each, which needs no bytes of its own, and without the
+-- level of the table itself. The lists of identifiers at the level of a table: that table's rows which lead to one, ascending
+abbrev pub id_lists : Catalog → Hidden → (table from : ℕ) → List (List ℕ)
+id_lists cat hidden table from =
+    map (λ identifier.
+    filter (λ other. is_table identifier (leads_to cat.schema hidden from other table)) (ids (count_of cat from)))
+    (ids (count_of cat table))
+
+abbrev pub HoldsIdIndexes : (ℕ → List ℕ) → Catalog → Hidden → Type 0
+HoldsIdIndexes page cat hidden =
+    (table : ℕ) → table < length cat.schema → is_empty (above_of cat.schema table) ≡ false
+    → HoldsLists page (id_directory cat table) (id_level cat table) (replicate (count_of cat table) [])
+    (above_of cat.schema table) (id_lists cat hidden table)
+
+-- the static pages hold the hidden part
+pub record HoldsFiles (page : ℕ → List ℕ) (cat : Catalog) (hidden : Hidden) : Type 0 where
+  pub columns : HoldsColumns page cat hidden
+  pub subtrees : HoldsSubtrees page cat hidden
+  pub indexes : HoldsIndexes page cat hidden
+  pub id_indexes : HoldsIdIndexes page cat hidden
+
+-- the pages hold the catalog and the hidden part
+pub record Holds (page : ℕ → List ℕ) (cat : Catalog) (hidden : Hidden) : Type 0 where
+  pub catalog : HoldsCatalog page cat
+  pub files : HoldsFiles page cat hidden
+
+-- What a device that was loaded holds so far: of the static files only column files are written yet.
+pub record HoldsFilesSoFar (page : ℕ → List ℕ) (cat : Catalog) (hidden : Hidden) : Type 0 where
+  pub columns : HoldsColumns page cat hidden
+
+pub record HoldsSoFar (page : ℕ → List ℕ) (cat : Catalog) (hidden : Hidden) : Type 0 where
+  pub catalog : HoldsCatalog page cat
+  pub files : HoldsFilesSoFar page cat hidden

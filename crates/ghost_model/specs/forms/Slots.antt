@@ -1,0 +1,202 @@
+-- What the slots of the static files may hold, kind by kind. By itself a slot may hold what is in its range: a cell that
+-- spells a value, an identifier of a row, a place within a level file. After the slot before it, it has to keep the order:
+-- values ascend in a directory, lists follow one another without a gap, identifiers ascend within a list; where an order
+-- is broken the later slot is the damaged one.
+use Rattle.std.specs.Prelude.{◌≡◌, ◌⊎◌, ℕ, zero, suc, ◌+◌, ◌*◌, ◌<◌, ⊤, Bool, true, false, not, ◌&&◌, ◌||◌, ◌==◌, nat_le, nat_lt, min, List, [], ◌∷◌, take, drop, length, slice_index, Option, Some, None, is_some, option_map, if◌then◌else◌}
+use Rattle.std.specs.Cmp.Lexicographic.{slice_cmp}
+use Rattle.std.specs.Ordering.{nat_cmp, is_lt}
+use Rattle.ghost_model.specs.core.Schema.{Schema, Column, Kind, column_at, is_empty}
+use Rattle.ghost_model.specs.core.Values.{Value}
+use Rattle.ghost_model.specs.core.Channel.{Catalog}
+use Rattle.ghost_model.specs.core.Database.{is_row_among}
+use Rattle.ghost_model.specs.readings.CellReading.{decode_cell}
+use Rattle.ghost_model.specs.core.Asks.{kind_at}
+use Rattle.ghost_model.specs.forms.Runs.{Run, page_of, slot_of, record_at, number_in, found_in}
+use Rattle.ghost_model.specs.forms.Layout.{is_hidden, width_at, count_of, levels_of, above_of, descendants_of, column_file, subtree_table, index_header, index_directory, index_level, id_directory, id_level}
+
+-- the static files by kind, as the layout names them
+pub data File : Type 0 where
+  Cells : (table column : ℕ) → File
+  Subtrees : (table : ℕ) → File
+  IndexHeader : (table column : ℕ) → File
+  IndexDirectory : (table column : ℕ) → File
+  IndexLevel : (table column level : ℕ) → File
+  IdDirectory : (table : ℕ) → File
+  IdLevel : (table level : ℕ) → File
+
+abbrev pub run_of_file : Catalog → File → Run
+run_of_file cat (Cells table column) = column_file cat table column
+run_of_file cat (Subtrees table) = subtree_table cat table
+run_of_file cat (IndexHeader table column) = index_header cat table column
+run_of_file cat (IndexDirectory table column) = index_directory cat table column
+run_of_file cat (IndexLevel table column level) = index_level cat table column level
+run_of_file cat (IdDirectory table) = id_directory cat table
+run_of_file cat (IdLevel table level) = id_level cat table level
+
+-- whether a schema has such a file
+abbrev pub has_file : Schema → File → Bool
+has_file schema (Cells table column) = is_hidden schema table column
+has_file schema (Subtrees table) = not (is_empty (descendants_of schema table))
+has_file schema (IndexHeader table column) = is_hidden schema table column
+has_file schema (IndexDirectory table column) = is_hidden schema table column
+has_file schema (IndexLevel table column level) =
+    is_hidden schema table column && nat_lt level (length (levels_of schema table))
+has_file schema (IdDirectory table) = not (is_empty (above_of schema table))
+has_file schema (IdLevel table level) = nat_lt level (length (above_of schema table))
+
+-- the table that a column names, if it is a foreign key
+abbrev pub child_or_none : Option Column → Option ℕ
+child_or_none None = None
+child_or_none (Some column) = column.child
+
+abbrev pub child_at : Schema → (table column : ℕ) → Option ℕ
+child_at schema table column = child_or_none (column_at schema table column)
+
+-- how many rows that table has
+abbrev pub child_rows : Catalog → (table column : ℕ) → Option ℕ
+child_rows cat table column = option_map (count_of cat) (child_at cat.schema table column)
+
+-- whether a value may stand in a column: in a foreign key it is the identifier of one of so many rows
+abbrev pub is_in_range : (rows : Option ℕ) → Value → Bool
+is_in_range None value = true
+is_in_range (Some rows) value = is_row_among rows value
+
+abbrev pub only_in_range : (rows : Option ℕ) → Option Value → Option Value
+only_in_range rows None = None
+only_in_range rows (Some value) = if is_in_range rows value then Some value else None
+
+-- the value that bytes spell in a column of a kind, if they spell one that may stand there
+abbrev pub spelled : Kind → (rows : Option ℕ) → List ℕ → Option Value
+spelled kind rows bytes = only_in_range rows (decode_cell kind bytes)
+
+-- whether a number is the identifier of a row of a table
+abbrev pub is_row : Catalog → (table identifier : ℕ) → Bool
+is_row cat table identifier = nat_le 1 identifier && nat_le identifier (count_of cat table)
+
+-- whether a record has an identifier of a row of each of these tables
+abbrev pub are_rows : Catalog → (tables bytes : List ℕ) → Bool
+are_rows cat [] bytes = true
+are_rows cat (table ∷ tables) bytes = is_row cat table (number_in bytes 0) && are_rows cat tables (drop 4 bytes)
+
+-- where a list begins and how long it is, and where the one after it begins, by eight bytes of a directory
+abbrev pub first_listed : List ℕ → ℕ
+first_listed bytes = number_in bytes 0
+
+abbrev pub list_end : List ℕ → ℕ
+list_end bytes = number_in bytes 0 + number_in bytes 4
+
+-- whether places of lists end within the level files of these tables
+abbrev pub are_places : Catalog → (tables bytes : List ℕ) → Bool
+are_places cat [] bytes = true
+are_places cat (table ∷ tables) bytes = nat_le (list_end bytes) (count_of cat table) && are_places cat tables (drop 8 bytes)
+
+-- whether lists begin where those before them end
+abbrev pub follow : (tables before bytes : List ℕ) → Bool
+follow [] before bytes = true
+follow (_ ∷ tables) before bytes = first_listed bytes == list_end before && follow tables (drop 8 before) (drop 8 bytes)
+
+-- whether they begin where their level files do
+abbrev pub begin : (tables bytes : List ℕ) → Bool
+begin [] bytes = true
+begin (_ ∷ tables) bytes = first_listed bytes == 0 && begin tables (drop 8 bytes)
+
+abbrev pub places_keep_order : (tables : List ℕ) → (before : Option (List ℕ)) → List ℕ → Bool
+places_keep_order tables None bytes = begin tables bytes
+places_keep_order tables (Some before) bytes = follow tables before bytes
+
+-- the bytes of a record of a climbing index's directory that spell a value, and those that say where its lists are
+abbrev pub cell_part : Schema → (table column : ℕ) → List ℕ → List ℕ
+cell_part schema table column bytes = take (width_at schema table column) bytes
+
+abbrev pub places_part : Schema → (table column : ℕ) → List ℕ → List ℕ
+places_part schema table column bytes = drop (width_at schema table column) bytes
+
+-- whether bytes may stand in a slot of a file, whatever stands in others
+abbrev pub may_stand : Catalog → File → List ℕ → Bool
+may_stand cat (Cells table column) bytes = is_some (spelled (kind_at cat.schema table column) (child_rows cat table column) bytes)
+may_stand cat (Subtrees table) bytes = are_rows cat (descendants_of cat.schema table) bytes
+may_stand cat (IndexHeader table column) bytes =
+    nat_le (number_in bytes 0) (count_of cat table) && (nat_lt 0 (number_in bytes 0) || count_of cat table == 0)
+may_stand cat (IndexDirectory table column) bytes =
+    is_some (decode_cell (kind_at cat.schema table column) (cell_part cat.schema table column bytes))
+    && are_places cat (levels_of cat.schema table) (places_part cat.schema table column bytes)
+may_stand cat (IndexLevel table column level) bytes = is_row cat (slice_index (levels_of cat.schema table) level) (number_in bytes 0)
+may_stand cat (IdDirectory table) bytes = are_places cat (above_of cat.schema table) bytes
+may_stand cat (IdLevel table level) bytes = is_row cat (slice_index (above_of cat.schema table) level) (number_in bytes 0)
+
+abbrev pub ascends : (before : Option (List ℕ)) → List ℕ → Bool
+ascends None bytes = true
+ascends (Some before) bytes = is_lt (slice_cmp nat_cmp before bytes)
+
+-- whether they may stand there after those before them: in a directory those of the slot before, in a level file those
+-- before in the same list, if there are any
+abbrev pub may_follow : Catalog → File → (before : Option (List ℕ)) → List ℕ → Bool
+may_follow cat (Cells table column) before bytes = true
+may_follow cat (Subtrees table) before bytes = true
+may_follow cat (IndexHeader table column) before bytes = true
+may_follow cat (IndexDirectory table column) before bytes =
+    ascends (option_map (cell_part cat.schema table column) before) (cell_part cat.schema table column bytes)
+    && places_keep_order (levels_of cat.schema table) (option_map (places_part cat.schema table column) before)
+    (places_part cat.schema table column bytes)
+may_follow cat (IndexLevel table column level) before bytes = ascends before bytes
+may_follow cat (IdDirectory table) before bytes = places_keep_order (above_of cat.schema table) before bytes
+may_follow cat (IdLevel table level) before bytes = ascends before bytes
+
+-- the record in a slot of a file
+abbrev pub in_slot : (ℕ → List ℕ) → Catalog → File → (place : ℕ) → List ℕ
+in_slot page cat file place = record_at page (run_of_file cat file) place
+
+-- how many slots of a file have a record: in the directory of a climbing index as many as its header says
+abbrev pub slots_in : (ℕ → List ℕ) → Catalog → File → ℕ
+slots_in page cat (Cells table column) = count_of cat table
+slots_in page cat (Subtrees table) = count_of cat table
+slots_in page cat (IndexHeader table column) = 1
+slots_in page cat (IndexDirectory table column) =
+    min (count_of cat table) (number_in (in_slot page cat (IndexHeader table column) 0) 0)
+slots_in page cat (IndexLevel table column level) = count_of cat (slice_index (levels_of cat.schema table) level)
+slots_in page cat (IdDirectory table) = count_of cat table
+slots_in page cat (IdLevel table level) = count_of cat (slice_index (above_of cat.schema table) level)
+
+-- the record before it, if it is not the first
+abbrev pub before_slot : (ℕ → List ℕ) → Catalog → File → (place : ℕ) → Option (List ℕ)
+before_slot page cat file zero = None
+before_slot page cat file (suc place) = Some (in_slot page cat file place)
+
+-- some entry's list has a record of a level file and the one before it. Where its list is the directory says in eight
+-- bytes, after so many bytes for the cell and for the levels below
+pub record AreInOneList (page : ℕ → List ℕ) (cat : Catalog) (directory : File) (skipped place : ℕ) : Type 0 where
+  pub entry : ℕ
+  pub there : entry < slots_in page cat directory
+  pub after_first : first_listed (drop skipped (in_slot page cat directory entry)) < place
+  pub before_end : place < list_end (drop skipped (in_slot page cat directory entry))
+
+-- whether the order of a file binds a slot to the one before it: in a level file within a list alone
+abbrev pub IsBound : (ℕ → List ℕ) → Catalog → File → (place : ℕ) → Type 0
+IsBound page cat (Cells table column) place = ⊤
+IsBound page cat (Subtrees table) place = ⊤
+IsBound page cat (IndexHeader table column) place = ⊤
+IsBound page cat (IndexDirectory table column) place = ⊤
+IsBound page cat (IndexLevel table column level) place =
+    AreInOneList page cat (IndexDirectory table column) (width_at cat.schema table column + 8 * level) place
+IsBound page cat (IdDirectory table) place = ⊤
+IsBound page cat (IdLevel table level) place = AreInOneList page cat (IdDirectory table) (8 * level) place
+
+-- the slot of a record breaks the order of its file
+pub record IsOutOfOrder (page : ℕ → List ℕ) (cat : Catalog) (file : File) (place : ℕ) : Type 0 where
+  pub bound : IsBound page cat file place
+  pub broken : may_follow cat file (before_slot page cat file place) (in_slot page cat file place) ≡ false
+
+-- a slot of a file that is damaged, by its page and its place in it, and what was found there
+pub record IsDamagedIn (cat : Catalog) (page : ℕ → List ℕ) (file : File) (place number slot found : ℕ) : Type 0 where
+  pub has : has_file cat.schema file ≡ true
+  pub within : place < slots_in page cat file
+  pub page_is : number ≡ page_of (run_of_file cat file) place
+  pub slot_is : slot ≡ slot_of (run_of_file cat file) place
+  pub damaged : (may_stand cat file (in_slot page cat file place) ≡ false) ⊎ IsOutOfOrder page cat file place
+  pub found_is : found ≡ found_in (in_slot page cat file place)
+
+-- a slot of some file
+pub record IsDamagedSlot (cat : Catalog) (page : ℕ → List ℕ) (number slot found : ℕ) : Type 0 where
+  pub file : File
+  pub place : ℕ
+  pub at : IsDamagedIn cat page file place number slot found

@@ -1,0 +1,16 @@
+pub mod Spelled
+pub mod SchemaTrees
+pub mod SchemaLaws
+pub mod TextLaws
+pub mod QueryLaws
+pub mod CatalogLaws
+pub mod ChannelLaws
+pub mod HostLaws
+pub mod SplitByFlags
+pub mod RunLaws
+pub mod LayoutSums
+pub mod LayoutLaws
+pub mod FlashLaws
+pub mod ListLaws
+pub mod SessionLaws
+pub mod MeaningLaws

@@ -1,0 +1,28 @@
+-- The lists of a level in an index: together they have each row of the level's table once. So their lengths add
+-- up to that table's rows, which is what its level file has room for.
+use Rattle.std.specs.Prelude.{◌≡◌, ℕ, true, List, IsPermutation}
+use Rattle.std.specs.List.{concat}
+use Rattle.ghost_model.specs.core.Values.{Database}
+use Rattle.ghost_model.specs.core.Channel.{Catalog}
+use Rattle.ghost_model.specs.laws.SchemaTrees.{IsTree}
+use Rattle.ghost_model.specs.core.Database.{IsDatabase, row_counts}
+use Rattle.ghost_model.specs.laws.MeaningLaws.{IsAtOrBelow}
+use Rattle.ghost_model.specs.core.Split.{hidden_of}
+use Rattle.ghost_model.specs.forms.Layout.{is_hidden, count_of}
+use Rattle.ghost_model.specs.forms.Flash.{hidden_cells, ids, value_lists, id_lists, AreValues}
+
+abbrev pub ListsPartition : Type 0
+ListsPartition =
+    (cat : Catalog) (database : Database) → IsTree cat.schema → IsDatabase cat.schema database → row_counts database ≡ cat.counts
+    → (table column from : ℕ) → is_hidden cat.schema table column ≡ true → IsAtOrBelow cat.schema from table
+    → (values : List (List ℕ)) → AreValues (hidden_cells cat.schema (hidden_of cat.schema database) table column) values
+    → IsPermutation (ids (count_of cat from))
+    (concat (value_lists cat (hidden_of cat.schema database) table column values from))
+
+-- the same of an id index
+abbrev pub IdListsPartition : Type 0
+IdListsPartition =
+    (cat : Catalog) (database : Database) → IsTree cat.schema → IsDatabase cat.schema database → row_counts database ≡ cat.counts
+    → (table from : ℕ) → IsAtOrBelow cat.schema from table
+    → IsPermutation (ids (count_of cat from))
+    (concat (id_lists cat (hidden_of cat.schema database) table from))

@@ -1,0 +1,9 @@
+pub mod Rules
+pub mod Tokens
+pub mod Grammar
+pub mod SchemaGrammar
+pub mod SchemaMeaning
+pub mod SchemaFaults
+pub mod QueryGrammar
+pub mod QueryMeaning
+pub mod LoadFaults

@@ -1,0 +1,58 @@
+-- The texts that declare tables. A text is any number of tables, each `CREATE TABLE name ( columns ) ;` with commas
+-- between its columns, of which there is at least one. A column is a name with INTEGER or INT, or with CHAR and a
+-- length in parentheses. After INTEGER may follow, in this order, PRIMARY KEY, then REFERENCES with a table's name and
+-- perhaps `( id )`, then HIDDEN; after CHAR and its length may follow HIDDEN. What a text declares is a tree, with
+-- whatever may be left out among it, and each tree is spelled in one way.
+use Rattle.std.specs.Prelude.{ℕ, Bool, true, false, List, [], ◌∷◌, ◌++◌, flat_map, codes, Option, Some, None}
+use Rattle.ghost_model.specs.refusals.Tokens.{Symbol, Word, Name, Digits, Open, Closing, Comma, Semicolon, EndOfText, CharWord, CreateWord, HiddenWord, IntegerWord, PrimaryKeyWord, PrimaryWord, ReferencesWord, TableWord}
+use Rattle.ghost_model.specs.refusals.Grammar.{separated}
+
+-- REFERENCES: the name of a table, and whether `( id )` follows it
+pub data Reference : Type 0 where
+  To : (table : List ℕ) (says_id : Bool) → Reference
+
+-- a column: the length of a CHAR stands by its digits; `primary` and `hidden` say whether the words are written
+pub data ColumnDeclaration : Type 0 where
+  CharColumn : (name digits : List ℕ) (hidden : Bool) → ColumnDeclaration
+  IntegerColumn : (name : List ℕ) (primary : Bool) (reference : Option Reference) (hidden : Bool) → ColumnDeclaration
+
+pub record TableText : Type 0 where
+  pub name : List ℕ
+  pub first : ColumnDeclaration
+  pub others : List ColumnDeclaration
+
+abbrev pub SchemaText : Type 0
+SchemaText = List TableText
+
+abbrev pub spell_hidden : Bool → List Symbol
+spell_hidden false = []
+spell_hidden true = Word HiddenWord ∷ []
+
+abbrev pub spell_primary : Bool → List Symbol
+spell_primary false = []
+spell_primary true = Word PrimaryWord ∷ Word PrimaryKeyWord ∷ []
+
+abbrev pub spell_id : Bool → List Symbol
+spell_id false = []
+spell_id true = Open ∷ Name (codes "id") ∷ Closing ∷ []
+
+abbrev pub spell_reference : Option Reference → List Symbol
+spell_reference None = []
+spell_reference (Some (To table says_id)) = Word ReferencesWord ∷ Name table ∷ spell_id says_id
+
+abbrev pub spell_column : ColumnDeclaration → List Symbol
+spell_column (CharColumn name digits hidden) =
+    Name name ∷ Word CharWord ∷ Open ∷ Digits digits ∷ Closing ∷ spell_hidden hidden
+spell_column (IntegerColumn name primary reference hidden) =
+    Name name ∷ Word IntegerWord ∷ (spell_primary primary ++ (spell_reference reference ++ spell_hidden hidden))
+
+abbrev pub spell_heading : List ℕ → List Symbol
+spell_heading name = Word CreateWord ∷ Word TableWord ∷ Name name ∷ Open ∷ []
+
+abbrev pub spell_table : TableText → List Symbol
+spell_table table =
+    spell_heading table.name ++ (separated Comma spell_column table.first table.others ++ Closing ∷ Semicolon ∷ [])
+
+-- the symbols of a schema's text; a text of no table is one
+abbrev pub spelling : SchemaText → List Symbol
+spelling tables = flat_map spell_table tables ++ EndOfText ∷ []
