@@ -71,10 +71,10 @@ fn table_len(declared: &[Column], part: &Part) -> usize
 fn column_len(column: &Column) -> usize
     ensures { result ≡ column_bytes (column_of column.now) }
 {
-    if column.hidden {
-        return 0;
+    if !column.hidden {
+        return cell_width(column.kind);
     }
-    cell_width(column.kind)
+    0
 }
 
 /// How many bytes the visible columns of one row have.
