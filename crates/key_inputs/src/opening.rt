@@ -1,6 +1,6 @@
 //! The reading of inputs.
 
-ghost use Rattle.std.specs.Prelude.{◌≡◌, ◌≤◌, ◌<◌, ◌^◌, ℕ, List, [], Some, Err, IfOk, IfErr, MatchResult, length, string_bytes, is_some};
+ghost use Rattle.std.specs.Prelude.{◌≡◌, ◌≤◌, ◌<◌, ◌^◌, ℕ, List, [], Some, Err, IfOk, IfErr, MatchResult, length, string_bytes, is_some, true};
 ghost use Rattle.ghost_model.specs.core.Causes.{Rose};
 ghost use Rattle.ghost_model.specs.core.Database as database;
 ghost use Rattle.edge_traits.specs.Files.{Files, AreSure};
