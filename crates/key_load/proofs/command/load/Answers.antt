@@ -37,14 +37,14 @@ pub returns-in-Err-clause-ends : goal.returns-in-Err-clause-ends
 returns-in-Err-clause-ends g c = λ files held.
     rw c.failure_of.ensures
     (unread _ g.F.Flash.told (tables_opening files c.args.words.now.schema.now c.args.words.now.tables.now) (load_view c.args.words.now)
-    (world (g.F.Flash.state c.args.flash.now) (g.D.Depot.contents c.args.depot.now) (g.O.Sink.written c.args.out.now))
-    (world (g.F.Flash.state c.args.flash.now) (g.D.Depot.contents c.open_tables.new.depot) (g.O.Sink.written c.args.out.now))
-    c.in-Err.fault (record { device = refl; files = c.in-Err.ensures.same }) (λ broken is. c.in-Err.ensures.rule broken (ap Err is)) (c.in-Err.ensures.opened files held))
+    (load_side (g.F.Flash.state c.args.flash.now) (g.D.Depot.contents c.args.depot.now) (g.O.Sink.written c.args.out.now))
+    (load_side (g.F.Flash.state c.args.flash.now) (g.D.Depot.contents c.open_tables.new.depot) (g.O.Sink.written c.args.out.now))
+    c.in-Err.fault (record { device = refl; files = c.in-Err.ensures.same }) (c.in-Err.ensures.opened files held))
 
 pub returns-in-Err-clause-loads : goal.returns-in-Err-clause-loads
 returns-in-Err-clause-loads g c =
     rw c.failure_of.ensures
     (unread_some _ g.F.Flash.told (load_view c.args.words.now)
-    (world (g.F.Flash.state c.args.flash.now) (g.D.Depot.contents c.args.depot.now) (g.O.Sink.written c.args.out.now))
-    (world (g.F.Flash.state c.args.flash.now) (g.D.Depot.contents c.open_tables.new.depot) (g.O.Sink.written c.args.out.now))
+    (load_side (g.F.Flash.state c.args.flash.now) (g.D.Depot.contents c.args.depot.now) (g.O.Sink.written c.args.out.now))
+    (load_side (g.F.Flash.state c.args.flash.now) (g.D.Depot.contents c.open_tables.new.depot) (g.O.Sink.written c.args.out.now))
     c.in-Err.fault (record { device = refl; files = c.in-Err.ensures.same }))
