@@ -3,7 +3,7 @@ use Rattle.std.proofs.Common.{◌≡◌, ℕ, ◌≤◌, List, length}
 use Rattle.ghost_model.specs.forms.Catalog.{IsCatalog}
 use Rattle.ghost_model.specs.core.Channel.{Catalog}
 use Rattle.ghost_model.specs.core.Database.{IsDatabase, row_counts}
-use Rattle.ghost_model.specs.laws.SessionLaws.{IsSetting, IsCatalogOf}
+use Rattle.ghost_model.specs.core.Honest.{IsSetting, IsCatalogOf}
 use Rattle.ghost_model.specs.core.Values.{Database}
 
 -- a catalog and at most 64 texts are one

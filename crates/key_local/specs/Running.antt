@@ -7,7 +7,7 @@ use Rattle.ghost_model.specs.core.Host.{Holding}
 use Rattle.ghost_model.specs.core.Moves.{lines}
 use Rattle.ghost_model.specs.core.NextMove.{IsFinished}
 use Rattle.ghost_model.specs.core.Printed.{printed}
-use Rattle.ghost_model.specs.laws.SessionLaws.{IsCatalogOf}
+use Rattle.ghost_model.specs.core.Honest.{IsCatalogOf}
 use Rattle.ghost_model.specs.core.Values.{Database}
 use Rattle.session_laws.specs.Local.{IsLocal, holding_of}
 use Rattle.edge_traits.specs.Files.{Files}

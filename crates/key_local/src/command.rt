@@ -4,7 +4,7 @@ ghost use Rattle.std.specs.Prelude.{◌≡◌, ◌⊎◌, ◌≤◌, ℕ, true, 
 ghost use Rattle.ghost_model.specs.core.Causes.{Rose};
 ghost use Rattle.ghost_model.specs.core.Database.{IsDatabase};
 ghost use Rattle.ghost_model.specs.core.Schema.{Schema};
-ghost use Rattle.ghost_model.specs.laws.SessionLaws.{IsCatalogOf};
+ghost use Rattle.ghost_model.specs.core.Honest.{IsCatalogOf};
 ghost use Rattle.ghost_model.specs.core.Split.{hidden_of};
 ghost use Rattle.ghost_model.specs.core.Texts.{texts_of};
 ghost use Rattle.ghost_model.specs.core.Values.{Database};

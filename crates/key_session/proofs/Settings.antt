@@ -2,7 +2,7 @@
 use Rattle.std.proofs.Common.{ℕ, ◌≤◌, List, length, Bool}
 use Rattle.ghost_model.specs.forms.Catalog.{IsCatalog}
 use Rattle.ghost_model.specs.core.Channel.{Catalog}
-use Rattle.ghost_model.specs.laws.SessionLaws.{IsSetting, IsCatalogOf}
+use Rattle.ghost_model.specs.core.Honest.{IsSetting, IsCatalogOf}
 use Rattle.ghost_model.specs.core.Values.{Database}
 use Rattle.key_exec.specs.Reading.{Knows}
 

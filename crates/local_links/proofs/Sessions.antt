@@ -6,7 +6,7 @@ use Rattle.ghost_model.specs.core.Channel.{Catalog, Frame, Move, Dial, Listen, A
 use Rattle.ghost_model.specs.core.Asks.{NumberedAsk, asked_of}
 use Rattle.ghost_model.specs.core.NextMove.{Awaits, AwaitsCatalog, AwaitsReply, AwaitsNothing, Standing, standing_after, move_from, next_with, send_or, take_or_close, GoesOn, IsProper}
 use Rattle.ghost_model.specs.core.Host.{Holding}
-use Rattle.ghost_model.specs.laws.SessionLaws.{IsSetting, IsCatalogOf}
+use Rattle.ghost_model.specs.core.Honest.{IsSetting, IsCatalogOf}
 use Rattle.edge_traits.specs.Files.{Files}
 use Rattle.edge_traits.specs.Links.{Steps}
 use Rattle.session_laws.specs.Serving.{Desk, first_desk}

@@ -12,7 +12,7 @@ use Rattle.ghost_model.specs.core.Moves.{sent, sent_by, piece_of}
 use Rattle.ghost_model.specs.forms.Catalog.{canonical_text}
 use Rattle.ghost_model.specs.core.NextMove.{Awaits, AwaitsCatalog, AwaitsReply, AwaitsNothing, Lacking, Complete, Invalid, verdict, bytes_missing, header_fits, Heard, Standing, standing_after, move_from, send_or, take_or_close, GoesOn, IsProper}
 use Rattle.ghost_model.specs.laws.ChannelLaws.{IsDue}
-use Rattle.ghost_model.specs.laws.SessionLaws.{IsSetting}
+use Rattle.ghost_model.specs.core.Honest.{IsSetting}
 use Rattle.ghost_model.proofs.ChannelLemmas.Tests.{both_hold, hold_both}
 use Rattle.ghost_model.proofs.SessionLemmas.Settings.{serials_fit}
 use Rattle.ghost_model.proofs.ChannelLemmas.Sending.{sent_is_due}

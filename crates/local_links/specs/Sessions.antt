@@ -5,7 +5,7 @@ use Rattle.ghost_model.specs.core.Values.{Database}
 use Rattle.ghost_model.specs.core.Channel.{Catalog, Journal}
 use Rattle.ghost_model.specs.core.Moves.{lines}
 use Rattle.ghost_model.specs.core.NextMove.{IsProper}
-use Rattle.ghost_model.specs.laws.SessionLaws.{IsSetting, IsCatalogOf}
+use Rattle.ghost_model.specs.core.Honest.{IsSetting, IsCatalogOf}
 use Rattle.edge_traits.specs.Files.{Files}
 use Rattle.edge_traits.specs.Links.{Steps}
 use Rattle.session_laws.specs.Serving.{first_desk}

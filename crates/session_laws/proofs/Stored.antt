@@ -14,8 +14,7 @@ use Rattle.ghost_model.specs.core.Asks.{RowCells, asked_of, is_proper_ask, kinds
 use Rattle.ghost_model.specs.core.NextMove as next
 use Rattle.ghost_model.specs.core.Split.{Public, public_of, visible_rows, reply_rows}
 use Rattle.ghost_model.specs.laws.HostLaws.{AreGroups}
-use Rattle.ghost_model.specs.core.Honest.{fits_frame}
-use Rattle.ghost_model.specs.laws.SessionLaws.{IsSetting, IsCatalogOf}
+use Rattle.ghost_model.specs.core.Honest.{fits_frame, IsSetting, IsCatalogOf}
 use Rattle.ghost_model.proofs.ChannelLemmas.Tests.{hold_both}
 use Rattle.ghost_model.proofs.SessionLemmas.Accepted.{Each}
 use Rattle.ghost_model.proofs.SessionLemmas.Groups.{groups_are_joined, groups_pass}

@@ -7,10 +7,9 @@ use Rattle.ghost_model.specs.readings.QueryReading.{reading}
 use Rattle.ghost_model.specs.core.Channel.{Catalog, Journal}
 use Rattle.ghost_model.specs.core.NextMove.{IsProper, IsFinished}
 use Rattle.ghost_model.specs.core.Split.{Hidden, public_of, hidden_of}
-use Rattle.ghost_model.specs.core.Honest.{IsHonest}
+use Rattle.ghost_model.specs.core.Honest.{IsHonest, IsSetting, IsCatalogOf}
 use Rattle.ghost_model.specs.core.Lines.{Reason, WasRefused, WasBroken, WasAnswered, MetFault, AreLines, ended_of, was_refused, all_done}
 use Rattle.ghost_model.specs.core.Printed.{printed_lines}
-use Rattle.ghost_model.specs.laws.SessionLaws.{IsSetting, IsCatalogOf}
 use Rattle.session_laws.specs.TextEnds.{heard_in}
 use Rattle.ghost_model.specs.core.Asks.{asked_of}
 

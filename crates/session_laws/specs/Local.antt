@@ -14,7 +14,9 @@ use Rattle.ghost_model.specs.core.Split.{public_of, hidden_of}
 use Rattle.ghost_model.specs.core.Host.{Holding, host_of}
 use Rattle.ghost_model.specs.core.Lines.{ended_of, was_refused, all_done, rows_from_replies}
 use Rattle.ghost_model.specs.core.Printed.{printed_lines}
-use Rattle.ghost_model.specs.laws.SessionLaws.{IsSetting, IsCatalogOf, IsServedThroughout}
+use Rattle.ghost_model.specs.laws.SessionLaws.{IsServedThroughout}
+use Rattle.ghost_model.specs.core.Honest.{IsSetting}
+use Rattle.ghost_model.specs.core.Honest.{IsCatalogOf}
 use Rattle.session_laws.specs.HonestSessions.{AreAllLines}
 use Rattle.session_laws.specs.Serving.{Desk, first_desk, ServedFrom}
 

@@ -18,11 +18,11 @@ use Rattle.ghost_model.specs.laws.ChannelLaws.{IsDue}
 use Rattle.ghost_model.specs.core.Split.{Public, public_of, hidden_of}
 use Rattle.ghost_model.specs.core.Host.{asks_in_frame}
 use Rattle.ghost_model.specs.laws.HostLaws.{Exchange, asked_in, ended_in}
-use Rattle.ghost_model.specs.core.Honest.{AreReplies, asks_sent, IsHonest}
+use Rattle.ghost_model.specs.core.Honest.{AreReplies, asks_sent, IsHonest, IsSetting, IsCatalogOf}
 use Rattle.ghost_model.specs.core.Meaning.{answer}
 use Rattle.ghost_model.specs.core.Replies.{replies, reply_for, answer_from}
 use Rattle.ghost_model.specs.core.Lines.{ended_of, was_refused, all_done}
-use Rattle.ghost_model.specs.laws.SessionLaws.{IsSetting, IsCatalogOf, whole_reply, whole_replies}
+use Rattle.ghost_model.specs.laws.SessionLaws.{whole_reply, whole_replies}
 use Rattle.ghost_model.proofs.ChannelLemmas.Tests.{false_is_not}
 use Rattle.ghost_model.proofs.ChannelLemmas.Sending.{sent_is_due}
 use Rattle.ghost_model.proofs.SessionLemmas.Settings.{tree_of, serials_fit, counts_fit, bytes_are}

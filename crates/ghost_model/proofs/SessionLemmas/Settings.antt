@@ -17,7 +17,7 @@ use Rattle.ghost_model.specs.forms.Frames.{AreBytes}
 use Rattle.ghost_model.specs.core.Asks.{asked, asked_from, asked_of, ask_for, asks_of, asks_of_reading, is_from, is_needed, places}
 use Rattle.ghost_model.specs.laws.ChannelLaws.{AsksAreFew}
 use Rattle.ghost_model.specs.laws.SchemaTrees.{IsTree}
-use Rattle.ghost_model.specs.laws.SessionLaws.{IsSetting, IsCatalogOf}
+use Rattle.ghost_model.specs.core.Honest.{IsSetting, IsCatalogOf}
 use Rattle.ghost_model.proofs.CatalogByteLemmas.{catalog_is_bytes}
 use Rattle.ghost_model.proofs.MeaningLemmas.OneRow.{length-filter_le}
 use Rattle.ghost_model.proofs.SchemaTreeLemmas.{schemas_are_trees}

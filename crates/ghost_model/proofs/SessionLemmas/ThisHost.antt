@@ -18,8 +18,7 @@ use Rattle.ghost_model.specs.laws.ChannelLaws.{IsDue}
 use Rattle.ghost_model.specs.core.Split.{Public, reply_rows}
 use Rattle.ghost_model.specs.core.Host.{Holding, host_of, host_sends, host_says, frames_of, grouped, most_part, welcomes, reply_to, asks_in_frame}
 use Rattle.ghost_model.specs.laws.HostLaws.{honest_stream, replies_to, IsFront}
-use Rattle.ghost_model.specs.core.Honest.{has_up_to, AreWelcomes, fits_frame, IsReply, AreReplies, asks_in_got, asks_sent, IsHonest}
-use Rattle.ghost_model.specs.laws.SessionLaws.{IsSetting}
+use Rattle.ghost_model.specs.core.Honest.{has_up_to, AreWelcomes, fits_frame, IsReply, AreReplies, asks_in_got, asks_sent, IsHonest, IsSetting}
 use Rattle.ghost_model.proofs.ChannelLemmas.{spelled_is_found}
 use Rattle.ghost_model.proofs.ChannelLemmas.Tests.{BothHold, both_hold, hold_both}
 use Rattle.ghost_model.proofs.ChannelLemmas.Asks.{read_ask_is_proper}

@@ -28,8 +28,8 @@ pub record Ask : Type 0 where
   pub columns : List ℕ
   pub tests : List Test
 
--- frames of the key (Hello to Bye) and of the host (Welcome to Sorry). Ask, Welcome and Rows carry their payload's
--- bytes, Welcome those after its first byte, which is 1 in the last WELCOME frame
+-- frames of the key (HelloFrame to ByeFrame) and of the host (WelcomeFrame to SorryFrame). AskFrame, WelcomeFrame and
+-- RowsFrame carry their payload's bytes, WelcomeFrame those after its first byte, which is 1 in the last WELCOME frame
 pub data Frame : Type 0 where
   HelloFrame : (generation : ℕ) → Frame
   AskFrame : (serial : ℕ) (payload : List ℕ) → Frame

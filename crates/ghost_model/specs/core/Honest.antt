@@ -1,14 +1,15 @@
 -- An honest host: nothing breaks off, and what the key takes begins a stream that the public part decides but for its
 -- packing. First come WELCOME frames whose parts, joined, are the catalog's bytes; then, for each ask that the key sent,
 -- in order, ROWS frames in any packing whose rows, joined, are the rows that meet the ask, and DONE with their number.
-use Rattle.std.specs.Prelude.{◌≡◌, ℕ, ◌+◌, ◌*◌, Bool, true, false, ◌&&◌, nat_le, nat_lt, List, [], ◌∷◌, ◌++◌, length, map, flat_map, filter_map, Option, None}
+use Rattle.std.specs.Prelude.{◌≡◌, ℕ, ◌+◌, ◌*◌, Bool, true, false, ◌&&◌, nat_le, nat_lt, List, [], ◌∷◌, ◌++◌, length, map, flat_map, ◌≤◌}
 use Rattle.std.specs.List.{concat, list_any, list_all}
 use Rattle.ghost_model.specs.core.Schema.{Schema}
-use Rattle.ghost_model.specs.core.Channel.{Catalog, Ask, Frame, AskFrame, DoneFrame, Journal}
-use Rattle.ghost_model.specs.forms.Catalog.{catalog_bytes}
-use Rattle.ghost_model.specs.forms.Frames.{Got, Found, Short, Bad, got_of, frame_bytes, most_payload}
+use Rattle.ghost_model.specs.core.Channel.{Catalog, Ask, Frame, DoneFrame, Journal}
+use Rattle.ghost_model.specs.core.Values.{Database}
+use Rattle.ghost_model.specs.core.Database.{IsDatabase, row_counts}
+use Rattle.ghost_model.specs.forms.Catalog.{catalog_bytes, IsCatalog}
+use Rattle.ghost_model.specs.forms.Frames.{Got, Found, got_of, frame_bytes, most_payload}
 use Rattle.ghost_model.specs.core.Asks.{RowCells, row_width}
-use Rattle.ghost_model.specs.readings.AskReading.{ask_in}
 use Rattle.ghost_model.specs.core.Moves.{taken, sent, answers}
 use Rattle.ghost_model.specs.core.NextMove.{is_stop}
 use Rattle.ghost_model.specs.core.Split.{Public, reply_rows}
@@ -60,3 +61,14 @@ pub record IsHonest (catalog : Catalog) (public : Public) (journal : Journal) : 
   -- what the key has not taken yet
   pub rest : List ℕ
   pub taken_before : taken journal ++ rest ≡ flat_map frame_bytes (greeting ++ replies)
+
+-- the catalog is one that both sides may share, and there are at most 64 texts
+pub record IsSetting (catalog : Catalog) (texts : List (List ℕ)) : Type 0 where
+  pub proper : IsCatalog catalog
+  pub few : length texts ≤ 64
+
+-- the catalog is one that both sides may share, and is that of a database
+pub record IsCatalogOf (catalog : Catalog) (database : Database) : Type 0 where
+  pub proper : IsCatalog catalog
+  pub is_database : IsDatabase catalog.schema database
+  pub counts_are : row_counts database ≡ catalog.counts

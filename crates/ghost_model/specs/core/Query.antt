@@ -31,8 +31,6 @@ pub record Query : Type 0 where
   pub conditions : List Condition
 
 -- whether a table is among these
-
--- whether a table is among these
 abbrev pub is_among : List ℕ → ℕ → Bool
 is_among tables table = list_any (λ other. other == table) tables
 

@@ -93,7 +93,7 @@ is_shown (Some column) = not column.hidden
 abbrev pub is_visible : Schema → ℕ → ℕ → Bool
 is_visible schema table column = nat_lt 0 column && is_shown (column_at schema table column)
 
--- Cycle: following parents from a table returns to it, in at most as many steps as there are tables
+-- the table to which so many steps to the parent lead, where there are so many
 unfoldable pub ancestor : Schema → (steps table : ℕ) → Option ℕ
 ancestor schema zero table = Some table
 ancestor schema (suc steps) table = option_and_then (parent schema) (ancestor schema steps table)

@@ -54,7 +54,8 @@ count_of cat table = slice_index cat.counts table
 
 -- What stands on the flash for a table: the file of a hidden column, with a cell for each row; the subtree key table, where
 -- tables lie below it, with the identifiers in these that each row leads to; the climbing index of a hidden column; and
--- the id index, where a table lies above it.
+-- the id index, where a table lies above it. (`structures_of` lists the two last kinds for every table; where no table lies
+-- below or above, they have no page.)
 pub data Structure : Type 0 where
   ColumnFile : (table column : ℕ) → Structure
   SubtreeTable : (table : ℕ) → Structure
@@ -124,7 +125,9 @@ abbrev pub static_files : Catalog → List Run
 static_files cat =
     flat_map (λ structure. map (run_of cat structure) (below (length (files_of cat structure)))) (structures cat.schema)
 
--- The files by name. Levels are numbered upwards from 0, in an index the table itself, in an id index its parent.
+-- The files by name. The column is a hidden one, the table of a subtree key table has one below it, that of an id index one
+-- above it; other names name no file. Levels are numbered upwards from 0, in an index the table itself, in an id index its
+-- parent.
 abbrev pub column_file : Catalog → (table column : ℕ) → Run
 column_file cat table column = run_of cat (ColumnFile table column) 0
 

@@ -23,7 +23,7 @@ pub record Run : Type 0 where
 abbrev pub per_page : (width : ℕ) → ℕ
 per_page width = 2048 / width
 
--- how many pages so many records of a width need
+-- how many pages so many records of a width need; none where the width is 0, as a division by 0 gives 0
 abbrev pub pages_of : (count width : ℕ) → ℕ
 pages_of count width = (count + (per_page width - 1)) / per_page width
 

@@ -1,7 +1,8 @@
 -- What the slots of the static files may hold, kind by kind. By itself a slot may hold what is in its range: a cell that
 -- spells a value, an identifier of a row, a place within a level file. After the slot before it, it has to keep the order:
 -- values ascend in a directory, lists follow one another without a gap, identifiers ascend within a list; where an order
--- is broken the later slot is the damaged one.
+-- is broken the later slot is the damaged one. That the lists which one search gives have together at most as many
+-- identifiers as their level has rows is a rule of the search and not of a slot; it is not said here.
 use Rattle.std.specs.Prelude.{◌≡◌, ◌⊎◌, ℕ, zero, suc, ◌+◌, ◌*◌, ◌<◌, ⊤, Bool, true, false, not, ◌&&◌, ◌||◌, ◌==◌, nat_le, nat_lt, min, List, [], ◌∷◌, take, drop, length, slice_index, Option, Some, None, is_some, option_map, if◌then◌else◌}
 use Rattle.std.specs.Cmp.Lexicographic.{slice_cmp}
 use Rattle.std.specs.Ordering.{nat_cmp, is_lt}

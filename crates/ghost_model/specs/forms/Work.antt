@@ -1,5 +1,5 @@
 -- How many calls of the flash the commands make at most. Loading a device makes it, by one call, and then writes each page
--- that holds a byte of the catalog or of a file, once.
+-- that holds a byte of the catalog or of a file that is written so far (the column files), once.
 use Rattle.std.specs.Prelude.{ℕ, ◌+◌, length, sum_by}
 use Rattle.ghost_model.specs.core.Channel.{Catalog}
 use Rattle.ghost_model.specs.forms.Catalog.{catalog_bytes}

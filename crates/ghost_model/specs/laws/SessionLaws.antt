@@ -18,7 +18,7 @@ use Rattle.ghost_model.specs.core.NextMove.{IsProper, IsFinished, is_stop}
 use Rattle.ghost_model.specs.core.Split.{Public, public_of, hidden_of, visible_rows}
 use Rattle.ghost_model.specs.core.Host.{Holding, host_of, host_sends}
 use Rattle.ghost_model.specs.core.Local.{IsServedBy}
-use Rattle.ghost_model.specs.core.Honest.{IsHonest}
+use Rattle.ghost_model.specs.core.Honest.{IsSetting, IsCatalogOf, IsHonest}
 use Rattle.ghost_model.specs.core.Replies.{Reply, replies, answer_from}
 use Rattle.ghost_model.specs.core.Lines.{ended_of, all_done}
 
@@ -33,11 +33,6 @@ OneLocalJournal =
     (held : Holding) (catalog : Catalog) (at : List ℕ) (texts : List (List ℕ)) (first second : Journal)
     → IsProper catalog at texts first → IsProper catalog at texts second → IsFinished first → IsFinished second
     → IsServedThroughout held first → IsServedThroughout held second → first ≡ second
-
--- the catalog is one that both sides may share, and there are at most 64 texts
-pub record IsSetting (catalog : Catalog) (texts : List (List ℕ)) : Type 0 where
-  pub proper : IsCatalog catalog
-  pub few : length texts ≤ 64
 
 -- where nothing broke off and the key took the beginning of what this host sends for the key's bytes, the journal is one
 -- with an honest host
@@ -62,12 +57,6 @@ WholeRepliesAnswer =
     → (text : List ℕ) (asked : Query) → Means schema text asked
     → answer_from schema (hidden_of schema database) asked (whole_replies schema (public_of schema database) asked)
     ≡ answer schema database asked
-
--- the catalog is one that both sides may share, and is that of a database
-pub record IsCatalogOf (catalog : Catalog) (database : Database) : Type 0 where
-  pub proper : IsCatalog catalog
-  pub is_database : IsDatabase catalog.schema database
-  pub counts_are : row_counts database ≡ catalog.counts
 
 -- where the host was honest and every ask of an accepted text was ended by DONE, what its replies answer is the meaning
 -- of the text; the text at place 0 has number 1

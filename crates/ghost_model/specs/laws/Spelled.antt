@@ -1,4 +1,4 @@
--- The lists of symbols that bytes can spell, and a text for each. Every symbol but End stands in some text, with these
+-- The lists of symbols that bytes can spell, and a text for each. Every symbol but EndOfText stands in some text, with these
 -- limits: a name is a word in lower case that is not reserved, a number has a digit, a text literal has characters of a
 -- text. Written out one after another with a space after each, such symbols are a text with exactly these tokens; and
 -- the tokens of every text are such symbols and then its end.

@@ -1,5 +1,5 @@
 -- The value that a cell spells, read from it. Nothing here need be believed: the law `CellsSpellOneValue` of the crate
--- ghost_base says that it is the one whose cell these bytes are.
+-- ghost_base says that it is the one whose cell these are, where they are bytes.
 use Rattle.std.specs.Prelude.{ℕ, ℤ, pos, negsuc, ◌-◌, ◌^◌, Bool, not, ◌&&◌, ◌==◌, nat_le, List, length, drop, take_while, Option, Some, None, if◌then◌else◌}
 use Rattle.std.specs.List.{list_all}
 use Rattle.std.specs.Int.{from_be_bytes, w64}

@@ -103,6 +103,7 @@ references_naming schema child = sum_by (λ (table : Table). length (references_
 abbrev pub is_shared : SchemaText → ℕ → Bool
 is_shared tables child = nat_lt 1 (references_naming (schema_of tables) child)
 
+-- Cycle: following parents from a table returns to it, in at most as many steps as there are tables
 abbrev pub returns : Schema → ℕ → Bool
 returns schema table =
     list_any (λ steps. is_table table (ancestor schema (suc steps) table)) (places_of schema)
