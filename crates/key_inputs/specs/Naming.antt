@@ -63,9 +63,9 @@ abbrev pub IsRecordNamedBy : Schema → RecordNamed → Type 0
 IsRecordNamedBy schema record_named = record_named.table ≡ shown (name_at schema record_named.at.table)
 
 -- a field is named after its table and its column
-pub record IsFieldNamedBy (schema : Schema) (value_at_row : FieldNamed) : Type 0 where
-  pub table : value_at_row.table ≡ shown (name_at schema value_at_row.at.table)
-  pub column : value_at_row.column ≡ shown (column_name_at schema value_at_row.at.table value_at_row.at.column)
+pub record IsFieldNamedBy (schema : Schema) (field : FieldNamed) : Type 0 where
+  pub table : field.table ≡ shown (name_at schema field.at.table)
+  pub column : field.column ≡ shown (column_name_at schema field.at.table field.at.column)
 
 -- the names that a broken rule shows are those of the schema at its place, and of a foreign key's child table
 abbrev pub IsNamedBy : Schema → BrokenTable → Type 0
@@ -73,11 +73,11 @@ IsNamedBy schema (broken.FileLimit named) = IsRecordNamedBy schema named
 IsNamedBy schema (broken.Header named) = IsRecordNamedBy schema named
 IsNamedBy schema (broken.RowLimit named) = IsRecordNamedBy schema named
 IsNamedBy schema (broken.FieldCount named) = IsRecordNamedBy schema named
-IsNamedBy schema (broken.BadId value_at_row value) = IsFieldNamedBy schema value_at_row
-IsNamedBy schema (broken.BadInt value_at_row value) = IsFieldNamedBy schema value_at_row
-IsNamedBy schema (broken.BadChars value_at_row value) = IsFieldNamedBy schema value_at_row
-IsNamedBy schema (broken.BadReference value_at_row child value) =
-    IsFieldNamedBy schema value_at_row × (child ≡ shown (child_name_at schema value_at_row.at.table value_at_row.at.column))
+IsNamedBy schema (broken.BadId field value) = IsFieldNamedBy schema field
+IsNamedBy schema (broken.BadInt field value) = IsFieldNamedBy schema field
+IsNamedBy schema (broken.BadChars field value) = IsFieldNamedBy schema field
+IsNamedBy schema (broken.BadReference field child value) =
+    IsFieldNamedBy schema field × (child ≡ shown (child_name_at schema field.at.table field.at.column))
 
 -- what is said of a broken rule of a table's file, where an error tells one
 abbrev pub OfTable : (BrokenTable → Type 0) → OpenFault → Type 0
@@ -86,14 +86,14 @@ OfTable says _ = ⊤
 
 -- what is said of a field's place and of the value that is shown, where one field breaks a rule of its column
 abbrev pub OfField : (Place → Shown → Type 0) → BrokenTable → Type 0
-OfField says (broken.BadId value_at_row value) = says value_at_row.at value
-OfField says (broken.BadInt value_at_row value) = says value_at_row.at value
-OfField says (broken.BadChars value_at_row value) = says value_at_row.at value
+OfField says (broken.BadId field value) = says field.at value
+OfField says (broken.BadInt field value) = says field.at value
+OfField says (broken.BadChars field value) = says field.at value
 OfField says _ = ⊤
 
 -- what is said of a foreign key's place and of the value that is shown
 abbrev pub OfKey : (Place → Shown → Type 0) → BrokenTable → Type 0
-OfKey says (broken.BadReference value_at_row child value) = says value_at_row.at value
+OfKey says (broken.BadReference field child value) = says field.at value
 OfKey says _ = ⊤
 
 -- the field of a file at a place
