@@ -5,5 +5,6 @@
 
 pub mod dir_depot;
 pub mod file_flash;
+pub mod file_name;
 pub mod std_sink;
 pub mod tcp_link;

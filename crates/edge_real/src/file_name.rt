@@ -1,0 +1,36 @@
+//! A file's name in a value of fixed size.
+
+/// The most bytes of a name that are kept.
+const MOST_NAME: usize = 240;
+
+/// The first bytes of a file's name, which lie in the value itself.
+#[derive(Clone, Copy, Drop)]
+pub struct FileName {
+    /// The bytes, and zeros in the places after them.
+    places: [u8; MOST_NAME],
+
+    /// How many bytes the whole name has.
+    len: usize,
+}
+
+impl FileName {
+    /// The name, or its first bytes where it is longer.
+    pub(crate) fn of(name: &str) -> FileName {
+        let mut places = [0; MOST_NAME];
+        for (place, byte) in places.iter_mut().zip(name.as_bytes().iter()) {
+            *place = *byte;
+        }
+        FileName {
+            places,
+            len: name.len(),
+        }
+    }
+
+    /// Whether this is the whole of a name.
+    pub(crate) fn is(&self, name: &str) -> bool {
+        match self.places.get(..self.len) {
+            Some(bytes) => bytes == name.as_bytes(),
+            None => false,
+        }
+    }
+}
