@@ -3,6 +3,7 @@
 ghost use Rattle.std.specs.Prelude.{◌≡◌, ◌≤◌, None, length, IfOk};
 ghost use Rattle.ghost_model.specs.core.Causes.{Rose};
 
+use crate::file_fault::{Deed, FileFault, Reason};
 use crate::file_name::FileName;
 use edge_traits::Failed;
 use edge_traits::depot::Depot;
@@ -19,6 +20,7 @@ use std::rt::Files;
 pub struct DirDepot<R: Files> {
     files: R,
     kept: Option<KeptFile<R::File>>,
+    first: Option<FileFault>,
     faults: u64,
     append_faults: u64,
 }
@@ -40,6 +42,7 @@ impl<R: Files + Drop> DirDepot<R> {
         DirDepot {
             files,
             kept: None,
+            first: None,
             faults: 0,
             append_faults: 0,
         }
@@ -53,12 +56,32 @@ impl<R: Files + Drop> DirDepot<R> {
         self.kept = file;
     }
 
+    /// The first call that failed, if one did.
+    pub fn first_fault(&self) -> Option<FileFault> {
+        self.first
+    }
+
+    /// Keeps what failed, where it is the first.
+    fn note(&mut self, deed: Deed, name: &str, error: &io::Error)
+        ensures faults { self.new.faults ≡ self.old.faults }
+        ensures append_faults { self.new.append_faults ≡ self.old.append_faults }
+    {
+        if self.first.is_none() {
+            self.first = Some(FileFault {
+                deed,
+                name: FileName::of(name),
+                reason: Reason::of(error.kind()),
+            });
+        }
+    }
+
     /// Counts a fault.
-    fn fault(&mut self) -> Failed
+    fn fault(&mut self, deed: Deed, name: &str, error: &io::Error) -> Failed
         ensures rose { Rose self.old.faults self.new.faults }
         ensures never_falls { self.old.faults ≤ self.new.faults }
         ensures append_faults { self.new.append_faults ≡ self.old.append_faults }
     {
+        self.note(deed, name, error);
         self.faults = self.faults.saturating_add(1);
         Failed
     }
@@ -112,6 +135,21 @@ fn read_from<F: Read + Seek>(found: &mut KeptFile<F>, at: u64, buf: &mut [u8]) -
     Ok(count)
 }
 
+/// Reads from a place of the file of a name on, and answers that file too.
+fn read_by<R: Files>(
+    files: &R,
+    kept: Option<KeptFile<R::File>>,
+    name: &str,
+    at: u64,
+    buf: &mut [u8],
+) -> io::Result<(KeptFile<R::File>, usize)>
+    ensures within { IfOk result (λ read. read.1 ≤ length buf.old) }
+{
+    let mut file = found(files, kept, name)?;
+    let count = read_from(&mut file, at, buf)?;
+    Ok((file, count))
+}
+
 /// Makes the bytes the whole of a file.
 fn write_new<R: Files>(files: &R, name: &str, bytes: &[u8]) -> io::Result<()> {
     let mut file = File::create(files, name)?;
@@ -138,15 +176,12 @@ impl<R: Files + Drop> Depot for DirDepot<R> {
 
     fn read_at(&mut self, name: &str, at: u64, buf: &mut [u8]) -> Result<usize, Failed> {
         let kept = self.kept.take();
-        let Ok(mut file) = found(&self.files, kept, name) else {
-            return Err(self.fault());
-        };
-        match read_from(&mut file, at, buf) {
-            Ok(count) => {
+        match read_by(&self.files, kept, name, at, buf) {
+            Ok((file, count)) => {
                 self.keep(Some(file));
                 Ok(count)
             }
-            Err(_) => Err(self.fault()),
+            Err(error) => Err(self.fault(Deed::Read, name, &error)),
         }
     }
 
@@ -154,15 +189,15 @@ impl<R: Files + Drop> Depot for DirDepot<R> {
         self.keep(None);
         match write_new(&self.files, name, bytes) {
             Ok(()) => Ok(()),
-            Err(_) => Err(self.fault()),
+            Err(error) => Err(self.fault(Deed::Write, name, &error)),
         }
     }
 
     fn append(&mut self, name: &str, bytes: &[u8]) -> Result<(), Failed> {
         self.keep(None);
-        if write_more(&self.files, name, bytes).is_err() {
+        if let Err(error) = write_more(&self.files, name, bytes) {
             self.append_faults = self.append_faults.saturating_add(1);
-            return Err(self.fault());
+            return Err(self.fault(Deed::Write, name, &error));
         }
         Ok(())
     }

@@ -1,5 +1,7 @@
 //! A file's name in a value of fixed size.
 
+use std::fmt::{Display, Error as FormatError, Formatter, Write};
+
 /// The most bytes of a name that are kept.
 const MOST_NAME: usize = 240;
 
@@ -31,6 +33,28 @@ impl FileName {
         match self.places.get(..self.len) {
             Some(bytes) => bytes == name.as_bytes(),
             None => false,
+        }
+    }
+}
+
+/// The characters as they are, with a question mark for each control character, up to one that is cut.
+impl Display for FileName {
+    fn fmt<W: Write>(&self, f: &mut Formatter<W>) -> Result<(), FormatError> {
+        for letter in shown_of(&self.places, self.len).chars() {
+            f.write_char(if letter.is_control() { '?' } else { letter })?;
+        }
+        Ok(())
+    }
+}
+
+/// The characters of the bytes that are kept of a name of so many.
+fn shown_of(places: &[u8], len: usize) -> &str {
+    let kept = places.get(..len).unwrap_or(places);
+    match std::str::from_utf8(kept) {
+        Ok(text) => text,
+        Err(cut) => {
+            let whole = kept.get(..cut.valid_up_to()).unwrap_or(&[]);
+            std::str::from_utf8(whole).unwrap_or("")
         }
     }
 }
