@@ -4,6 +4,8 @@
 #![tactic(auto)]
 
 pub mod dir_depot;
+pub mod file_fault;
 pub mod file_flash;
+pub mod file_name;
 pub mod std_sink;
 pub mod tcp_link;

@@ -6,6 +6,7 @@ ghost use Rattle.edge_traits.specs.Links.{faults_after, Steps, steps_stay, steps
 
 use edge_traits::Failed;
 use edge_traits::link::Link;
+use std::fmt::{Display, Error as FormatError, Formatter, Write as FormatWrite};
 use std::io;
 use std::io::{Read, Write};
 use std::net::{Net, OpenListener, OpenStream, TcpListener, TcpStream};
@@ -19,7 +20,69 @@ pub struct TcpLink<R: Net> {
     net: R,
     listener: Option<R::Listener>,
     stream: Option<R::Stream>,
+    first: Option<Cause>,
     faults: u64,
+}
+
+/// Why a move failed.
+#[derive(Clone, Copy, Drop)]
+pub enum Cause {
+    /// Nobody listens there.
+    Refused,
+
+    /// The other end broke off.
+    BrokenOff,
+
+    /// The address is listened at already.
+    InUse,
+
+    /// The address is none of this machine.
+    NotHere,
+
+    /// The address is none, or cannot be reached.
+    NoAddress,
+
+    /// The system does not allow it.
+    NotAllowed,
+
+    /// Another cause.
+    Other,
+}
+
+impl Cause {
+    /// The cause that an error of this kind has.
+    fn of(kind: io::ErrorKind) -> Cause {
+        match kind {
+            io::ErrorKind::ConnectionRefused => Cause::Refused,
+            io::ErrorKind::ConnectionReset
+            | io::ErrorKind::ConnectionAborted
+            | io::ErrorKind::BrokenPipe => Cause::BrokenOff,
+            io::ErrorKind::AddrInUse => Cause::InUse,
+            io::ErrorKind::AddrNotAvailable => Cause::NotHere,
+            io::ErrorKind::InvalidInput
+            | io::ErrorKind::HostUnreachable
+            | io::ErrorKind::NetworkUnreachable
+            | io::ErrorKind::TimedOut => Cause::NoAddress,
+            io::ErrorKind::PermissionDenied => Cause::NotAllowed,
+            _ => Cause::Other,
+        }
+    }
+}
+
+impl Display for Cause {
+    fn fmt<W: FormatWrite>(&self, f: &mut Formatter<W>) -> Result<(), FormatError> {
+        f.write_str(match self {
+            Cause::Refused =>
+                "the connection was refused: is host_program running at that address and port?",
+            Cause::BrokenOff => "the other end broke off: see what it said",
+            Cause::InUse => "the address is in use: give another port, or 0 for a free one",
+            Cause::NotHere => "the address is none of this machine: give one of it, as 127.0.0.1:0",
+            Cause::NoAddress =>
+                "the address is none, or cannot be reached: give one with its port, as 127.0.0.1:4711",
+            Cause::NotAllowed => "the system does not allow it: give a port from 1024 on",
+            Cause::Other => "the network failed",
+        })
+    }
 }
 
 impl<R: Net + Drop> TcpLink<R> {
@@ -31,6 +94,7 @@ impl<R: Net + Drop> TcpLink<R> {
             net,
             listener: None,
             stream: None,
+            first: None,
             faults: 0,
         }
     }
@@ -49,12 +113,27 @@ impl<R: Net + Drop> TcpLink<R> {
         self.listener = listener;
     }
 
+    /// Why the first move failed that did.
+    pub fn first_cause(&self) -> Option<Cause> {
+        self.first
+    }
+
+    /// Keeps why a move failed, where it is the first.
+    fn note(&mut self, error: &io::Error)
+        ensures faults { self.new.faults ≡ self.old.faults }
+    {
+        if self.first.is_none() {
+            self.first = Some(Cause::of(error.kind()));
+        }
+    }
+
     /// Counts a fault.
-    fn fault(&mut self) -> Failed
+    fn fault(&mut self, error: &io::Error) -> Failed
         ensures count { self.new.faults ≡ min (self.old.faults + 1) last_count }
         ensures rose { Rose self.old.faults self.new.faults }
         ensures never_falls { self.old.faults ≤ self.new.faults }
     {
+        self.note(error);
         self.faults = self.faults.saturating_add(1);
         Failed
     }
@@ -117,7 +196,7 @@ impl<R: Net + Drop> Link for TcpLink<R> {
                 self.hold(Some(stream));
                 Ok(())
             }
-            Err(_) => Err(self.fault()),
+            Err(error) => Err(self.fault(&error)),
         }
     }
 
@@ -127,7 +206,7 @@ impl<R: Net + Drop> Link for TcpLink<R> {
                 self.hear(Some(listener));
                 Ok(port)
             }
-            Err(_) => Err(self.fault()),
+            Err(error) => Err(self.fault(&error)),
         }
     }
 
@@ -138,21 +217,21 @@ impl<R: Net + Drop> Link for TcpLink<R> {
                 self.hold(Some(stream));
                 Ok(())
             }
-            Err(_) => Err(self.fault()),
+            Err(error) => Err(self.fault(&error)),
         }
     }
 
     fn send(&mut self, bytes: &[u8]) -> Result<(), Failed> {
         match write_whole(&mut self.stream, bytes) {
             Ok(()) => Ok(()),
-            Err(_) => Err(self.fault()),
+            Err(error) => Err(self.fault(&error)),
         }
     }
 
     fn take(&mut self, buf: &mut [u8]) -> Result<usize, Failed> {
         match read_some(&mut self.stream, buf) {
             Ok(count) => Ok(count),
-            Err(_) => Err(self.fault()),
+            Err(error) => Err(self.fault(&error)),
         }
     }
 

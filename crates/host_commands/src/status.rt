@@ -15,7 +15,7 @@ pub enum HostStatus {
     Ok,
 
     /// The words are refused.
-    #[error("usage: host_program --visible FILE --at ADDRESS:PORT, where port 0 stands for a free one")]
+    #[error("usage: host_program\n    --visible FILE     the host's file, as key_program load made it\n    --at ADDRESS:PORT  where to listen, as 127.0.0.1:4711; port 0 stands for a free one")]
     Usage,
 
     /// There was no memory for the words or the name of the file. It comes before the host listens.
@@ -35,7 +35,7 @@ pub enum HostStatus {
     Link,
 
     /// The file is no visible image.
-    #[error("the file is no visible image: `key_program load` writes one")]
+    #[error("the file is no visible image: give the one that `key_program load` made")]
     BadVisibleFile,
 
     /// A frame of the key did not belong where it came.

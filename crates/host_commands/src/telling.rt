@@ -24,10 +24,10 @@ fn named_line(
             format!(in alloc; "{visible} could not be read: see that the file is there")
         }
         HostStatus::BadVisibleFile => format!(in alloc;
-            "{visible} is no visible image: `key_program load` writes one with --visible {visible}"
+            "{visible} is no visible image, and stays as it is: give the file that `key_program load` made with --visible, or load the tables under another name"
         ),
         HostStatus::Link => format!(in alloc;
-            "the link at {at} failed: where no port was printed, it is in use or not of this machine, and port 0 takes a free one; else the key broke off, and both are to be started again"
+            "the link at {at} failed: where no port was printed, it is in use, not of this machine, or no ADDRESS:PORT, as 127.0.0.1:0, whose port 0 takes a free one; else the key broke off, and both are to be started again"
         ),
         other => format!(in alloc; "{other}"),
     }

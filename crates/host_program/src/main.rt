@@ -2,29 +2,38 @@
 #![tactic(auto)]
 
 use edge_real::dir_depot::DirDepot;
+use edge_real::file_fault::FileFault;
 use edge_real::std_sink::StdSink;
-use edge_real::tcp_link::TcpLink;
+use edge_real::tcp_link::{Cause, TcpLink};
 use host_commands::{HostStatus, host_main, line_of};
 use std::io::ErrorKind;
 use std::process::ExitCode;
 use std::{env, io};
 
-/// Does what the words of the command line say, prints a line on standard error where that did not go well, and ends
-/// with the status.
+/// Does what the words of the command line say, prints on standard error what did not go well, and ends with the status.
 fn main(rt: HostRuntime) -> ExitCode {
     let mut words = Vec::new(rt.alloc());
     let status = match run(&rt, &mut words) {
         Ok(status) => status,
-        Err(error) if error.kind() == ErrorKind::OutOfMemory => HostStatus::NoMemory,
-        Err(_) => HostStatus::Usage,
+        Err(error) => {
+            let status = not_read(&error);
+            tell(&rt, &words, &status);
+            status
+        }
     };
-    if status != HostStatus::Ok {
-        tell(&rt, &words, &status);
-    }
     ExitCode::from(status.exit_code())
 }
 
-/// Reads the words of the command line, and does what they say. An error tells that they could not be read.
+/// The status of a host whose words could not be read.
+fn not_read(error: &io::Error) -> HostStatus {
+    match error.kind() {
+        ErrorKind::OutOfMemory => HostStatus::NoMemory,
+        _ => HostStatus::Usage,
+    }
+}
+
+/// Reads the words of the command line, does what they say, and prints on standard error what did not go well. An error
+/// tells that they could not be read, and nothing was printed.
 fn run(rt: &HostRuntime, words: &mut Vec<String>) -> io::Result<HostStatus> {
     for word in env::args(rt)? {
         words.push(word)?;
@@ -32,7 +41,13 @@ fn run(rt: &HostRuntime, words: &mut Vec<String>) -> io::Result<HostStatus> {
     let mut depot = DirDepot::new(rt);
     let mut link = TcpLink::new(rt);
     let mut out = StdSink::new(rt.alloc(), rt)?;
-    Ok(host_main(rt.alloc(), words, &mut depot, &mut link, &mut out))
+    let status = host_main(rt.alloc(), words, &mut depot, &mut link, &mut out);
+    if status != HostStatus::Ok {
+        tell(rt, words, &status);
+        tell_file(rt, depot.first_fault());
+        tell_move(rt, link.first_cause());
+    }
+    Ok(status)
 }
 
 /// Prints on standard error how the program ended.
@@ -41,4 +56,18 @@ fn tell(rt: &HostRuntime, words: &[String], status: &HostStatus) {
         Ok(line) => eprintln!(rt; "{line}"),
         Err(_) => eprintln!(rt; "{status}"),
     };
+}
+
+/// Prints on standard error the file that could not be read, if it could not.
+fn tell_file(rt: &HostRuntime, fault: Option<FileFault>) {
+    if let Some(fault) = fault {
+        let _printed = eprintln!(rt; "{fault}");
+    }
+}
+
+/// Prints on standard error why a move on the link failed, if one did.
+fn tell_move(rt: &HostRuntime, cause: Option<Cause>) {
+    if let Some(cause) = cause {
+        let _printed = eprintln!(rt; "{cause}");
+    }
 }

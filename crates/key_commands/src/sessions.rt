@@ -11,11 +11,22 @@ use std::alloc::{AllocError, Global};
 /// What is told where lines could not be printed.
 const NO_OUTPUT: &str = "the lines could not be printed: see that the output takes them";
 
-/// The line of a damaged slot.
-fn damage_line(alloc: Global, flash: &str, damage: &Damage) -> Result<String, AllocError> {
+/// What to do where the device that `local` made is damaged.
+const ASK_ELSEWHERE: &str = "ask again over a device of another name";
+
+/// What to do where a loaded device is damaged.
+const LOAD_ELSEWHERE: &str = "load the tables again under another name, and ask over that";
+
+/// The line of a damaged slot, with what to do.
+fn damage_line(
+    alloc: Global,
+    flash: &str,
+    damage: &Damage,
+    remedy: &str,
+) -> Result<String, AllocError> {
     let Damage { page, slot, found } = *damage;
     format!(in alloc;
-        "{flash} is damaged, and the texts that met it have the word damaged: slot {slot} of page {page} begins with {found}; load it anew"
+        "{flash} is damaged, and the texts that met it have the word damaged: slot {slot} of page {page} begins with {found}; {remedy}"
     )
 }
 
@@ -42,8 +53,9 @@ pub(crate) fn local_failure_line(
     match fault {
         LocalFailure::NoMemory => String::from_str(alloc, NO_MEMORY),
         LocalFailure::Depot => {
+            let journal = words.journal.unwrap_or("the journal");
             format!(in alloc;
-                "a file could not be read or written: see that {schema}, {script} and the file of each table in {tables} are there, and that the journal can be written"
+                "a file could not be read or written: see that {schema}, {script} and the file of each table in {tables} are there, and that {journal} can be written"
             )
         }
         LocalFailure::Input(broken) => {
@@ -84,7 +96,7 @@ pub(crate) fn local_end_line(
                 slot: *slot,
                 found: *found,
             };
-            damage_line(alloc, words.flash, &damage)
+            damage_line(alloc, words.flash, &damage, ASK_ELSEWHERE)
         }
     }
 }
@@ -111,15 +123,17 @@ pub(crate) fn query_failure_line(
         }
         QueryFailure::Flash => {
             format!(in alloc;
-                "{flash} could not be read: see that it is there and was made by key_program load"
+                "{flash} could not be read: see that it is there, and whole as key_program load made it"
             )
         }
         QueryFailure::NotAKey => {
-            format!(in alloc; "{flash} is no loaded flash: key_program load makes one")
+            format!(in alloc;
+                "{flash} is no loaded flash, and stays as it is: give the file that key_program load made, or load the tables under another name"
+            )
         }
         QueryFailure::TooSmall { need, have } => {
             format!(in alloc;
-                "{flash} has {have} pages, but its catalog needs {need}: load it anew"
+                "{flash} has {have} pages, but its catalog needs {need}: give the whole file that key_program load made, or load the tables again under another name"
             )
         }
     }
@@ -137,7 +151,7 @@ pub(crate) fn status_line(
         SessionStatus::Sink => String::from_str(alloc, NO_OUTPUT),
         SessionStatus::Link => {
             format!(in alloc;
-                "the link to {to} failed or ended: see that host_program listens there, and ask again"
+                "the link to {to} failed or ended: see that host_program listens there, that this is its address and the port that it printed, as 127.0.0.1:4711, and ask again"
             )
         }
         SessionStatus::Protocol { kind, at } => {
@@ -151,6 +165,6 @@ pub(crate) fn status_line(
             )
         }
         SessionStatus::Flash => flash_line(alloc, words.flash),
-        SessionStatus::Damaged(damage) => damage_line(alloc, words.flash, damage),
+        SessionStatus::Damaged(damage) => damage_line(alloc, words.flash, damage, LOAD_ELSEWHERE),
     }
 }

@@ -6,21 +6,63 @@ use crate::sessions::{local_end_line, local_failure_line, query_failure_line, st
 use edge_traits::flash::BLOCK_PAGES;
 use key_load::LoadFailure;
 use key_plain::PlainFault;
-use key_words::{KeyWords, LoadWords, PlainWords, read_words};
+use key_words::{KeyWords, LoadWords, PlainWords, UsageFault, read_words};
 use std::alloc::{AllocError, Global};
 
-/// The words that the program takes.
-pub const USAGE: &str =
-    "usage: key_program load --schema FILE --data FOLDER --flash FILE --visible FILE [--blocks NUMBER], or key_program query --flash FILE --to ADDRESS:PORT --script FILE [--plan scan] [--pace 0], or key_program local --schema FILE --data FOLDER --flash FILE --script FILE [--journal FILE] [--plan scan] [--pace 0], or key_program plain --schema FILE --data FOLDER --script FILE";
+/// The commands of the program.
+const USAGE: &str = "\
+usage: key_program COMMAND OPTIONS, COMMAND being
+    load   makes a key's device and a host's file of tables, in place of files of those names
+    query  asks a host and a loaded device
+    local  does both in one process, over a device that it makes in place of a file of that name
+    plain  answers from the tables alone
+key_program COMMAND shows the options of one";
+
+/// The words of `load`.
+const LOAD_USAGE: &str = "\
+usage: key_program load
+    --schema FILE      the schema
+    --data FOLDER      the folder of the tables' CSV files
+    --flash FILE       the key's device, made in place of a file of that name
+    --visible FILE     the host's file, made in place of a file of that name
+    [--blocks NUMBER]  the device's blocks, 1 to 60000000; else as many as the tables need";
+
+/// The words of `query`.
+const QUERY_USAGE: &str = "\
+usage: key_program query
+    --flash FILE       the key's device, as load made it
+    --to ADDRESS:PORT  the host's address, as 127.0.0.1:4711, with the port that host_program printed
+    --script FILE      the queries, with ; between them
+    [--plan scan]      how they are answered
+    [--pace 0]         how much is done between the moves";
+
+/// The words of `local`.
+const LOCAL_USAGE: &str = "\
+usage: key_program local
+    --schema FILE      the schema
+    --data FOLDER      the folder of the tables' CSV files
+    --flash FILE       a device, made in place of a file of that name
+    --script FILE      the queries, with ; between them
+    [--journal FILE]   what went between key and host, in place of a file of that name
+    [--plan scan]      how they are answered
+    [--pace 0]         how much is done between the moves";
+
+/// The words of `plain`.
+const PLAIN_USAGE: &str = "\
+usage: key_program plain
+    --schema FILE      the schema
+    --data FOLDER      the folder of the tables' CSV files
+    --script FILE      the queries, with ; between them";
 
 /// What is told where there is no memory.
 pub(crate) const NO_MEMORY: &str = "out of memory: free some, or give smaller files";
 
 /// The line, without its end, that tells how a call ended: what is wrong, in which file, in the file of a table in which
-/// record and column, and in a schema at which table and column.
+/// record and column, and in a schema at which table and column. Of refused words it tells those of the command too, an
+/// option a line.
 pub fn line_of(alloc: Global, args: &[String], ended: &Ended) -> Result<String, AllocError> {
     match (read_words(alloc, args), ended) {
-        (_, Ended::Usage(fault)) => format!(in alloc; "{fault}; {USAGE}"),
+        (_, Ended::Usage(fault)) => usage_lines(alloc, args, fault),
         (Ok(KeyWords::Plain(words)), Ended::Plain(Err(fault))) => {
             plain_line(alloc, &words, fault)
         }
@@ -37,6 +79,45 @@ pub fn line_of(alloc: Global, args: &[String], ended: &Ended) -> Result<String, 
         }
         (_, Ended::Plain(Ok(())) | Ended::Load(Ok(()))) => String::from_str(alloc, "done"),
         _ => String::from_str(alloc, NO_MEMORY),
+    }
+}
+
+/// What is told of refused words: what is wrong, what to do, and the words of the command.
+fn usage_lines(alloc: Global, args: &[String], fault: &UsageFault) -> Result<String, AllocError> {
+    let usage = usage_of(args);
+    match remedy(fault) {
+        Some(remedy) => format!(in alloc; "{fault}: {remedy}\n{usage}"),
+        None => format!(in alloc; "{fault}\n{usage}"),
+    }
+}
+
+/// What to do about a value that an option does not take.
+fn remedy(fault: &UsageFault) -> Option<&'static str> {
+    match fault {
+        UsageFault::Plan => Some("give --plan scan, or leave it out"),
+        UsageFault::Pace => Some("give --pace 0, or leave it out"),
+        UsageFault::Blocks => Some("give such a number, or leave it out for as many as are needed"),
+        UsageFault::Twice(_) => Some("give it once"),
+        _ => None,
+    }
+}
+
+/// The words of the command that is given, or the commands where none of them is.
+fn usage_of(args: &[String]) -> &'static str {
+    match args.get(1) {
+        Some(command) => usage_by(command.as_str()),
+        None => USAGE,
+    }
+}
+
+/// The words of the command of this name, or the commands where it is none.
+fn usage_by(command: &str) -> &'static str {
+    match command {
+        "load" => LOAD_USAGE,
+        "query" => QUERY_USAGE,
+        "local" => LOCAL_USAGE,
+        "plain" => PLAIN_USAGE,
+        _ => USAGE,
     }
 }
 
@@ -104,7 +185,7 @@ fn load_line(
         LoadFailure::TooSmall { need, have } => {
             let blocks = need / BLOCK_PAGES;
             format!(in alloc;
-                "{flash} would have {have} pages, but the tables need {need}: give --blocks {blocks} or more, or leave it out"
+                "{flash} would have {have} pages, but the tables need {need}: give --blocks {blocks} or more, or leave it out (nothing was written)"
             )
         }
         LoadFailure::Flash => {

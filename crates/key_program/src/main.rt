@@ -3,32 +3,41 @@
 #![tactic(auto)]
 
 use edge_real::dir_depot::DirDepot;
+use edge_real::file_fault::FileFault;
 use edge_real::file_flash::FileFlash;
 use edge_real::std_sink::StdSink;
-use edge_real::tcp_link::TcpLink;
+use edge_real::tcp_link::{Cause, TcpLink};
 use key_commands::{Ended, key_main, line_of};
 use key_words::UsageFault;
 use std::io::ErrorKind;
 use std::process::ExitCode;
 use std::{env, io};
 
-/// Does what the words of the command line say, prints a line on standard error where that did not go well, and ends
-/// with the status.
+/// Does what the words of the command line say, prints on standard error what did not go well, and ends with the status.
 fn main(rt: HostRuntime) -> ExitCode {
     let mut words = Vec::new(rt.alloc());
     let ended = match run(&rt, &mut words) {
         Ok(ended) => ended,
-        Err(error) if error.kind() == ErrorKind::OutOfMemory => Ended::NoMemory,
-        Err(error) if error.kind() == ErrorKind::InvalidData => Ended::Usage(UsageFault::NotUtf8),
-        Err(_) => Ended::Usage(UsageFault::Words),
+        Err(error) => {
+            let ended = not_read(&error);
+            tell(&rt, &words, &ended);
+            ended
+        }
     };
-    if ended.exit_code() != 0 {
-        tell(&rt, &words, &ended);
-    }
     ExitCode::from(ended.exit_code())
 }
 
-/// Reads the words of the command line, and does what they say. An error tells that they could not be read.
+/// How a call ended whose words could not be read.
+fn not_read(error: &io::Error) -> Ended {
+    match error.kind() {
+        ErrorKind::OutOfMemory => Ended::NoMemory,
+        ErrorKind::InvalidData => Ended::Usage(UsageFault::NotUtf8),
+        _ => Ended::Usage(UsageFault::Words),
+    }
+}
+
+/// Reads the words of the command line, does what they say, and prints on standard error what did not go well. An error
+/// tells that they could not be read, and nothing was printed.
 fn run(rt: &HostRuntime, words: &mut Vec<String>) -> io::Result<Ended> {
     for word in env::args(rt)? {
         words.push(word)?;
@@ -37,14 +46,20 @@ fn run(rt: &HostRuntime, words: &mut Vec<String>) -> io::Result<Ended> {
     let mut out = StdSink::new(rt.alloc(), rt)?;
     let mut flash = FileFlash::new(rt.alloc(), rt);
     let mut link = TcpLink::new(rt);
-    Ok(key_main(
+    let ended = key_main(
         rt.alloc(),
         words,
         &mut depot,
         &mut flash,
         &mut link,
         &mut out,
-    ))
+    );
+    if ended.exit_code() != 0 {
+        tell(rt, words, &ended);
+        tell_file(rt, depot.first_fault());
+        tell_move(rt, link.first_cause());
+    }
+    Ok(ended)
 }
 
 /// Prints on standard error how a command ended.
@@ -53,4 +68,18 @@ fn tell(rt: &HostRuntime, words: &[String], ended: &Ended) {
         Ok(line) => eprintln!(rt; "{line}"),
         Err(_) => eprintln!(rt; "out of memory"),
     };
+}
+
+/// Prints on standard error the file that could not be read or written, if one could not.
+fn tell_file(rt: &HostRuntime, fault: Option<FileFault>) {
+    if let Some(fault) = fault {
+        let _printed = eprintln!(rt; "{fault}");
+    }
+}
+
+/// Prints on standard error why a move on the link failed, if one did.
+fn tell_move(rt: &HostRuntime, cause: Option<Cause>) {
+    if let Some(cause) = cause {
+        let _printed = eprintln!(rt; "{cause}");
+    }
 }
