@@ -13,7 +13,7 @@ const LOCAL: &str =
 const NO_MEMORY: &str = "out of memory: free some, or give smaller files";
 
 const DAMAGED: &str =
-    "flash is damaged, and the texts that met it have the word damaged: slot 1 of page 79 begins with 4; load it anew";
+    "flash is damaged, and the texts that met it have the word damaged: slot 1 of page 79 begins with 4; ask again over a device of another name";
 
 #[test]
 fn want_of_memory_and_damage_of_local_are_told(rt: HostRuntime) -> Result<(), AllocError> {
