@@ -4,13 +4,13 @@ ghost use Rattle.std.specs.Prelude.{◌≡◌, ◌<◌, ◌≤◌, ◌%◌, ◌^
 ghost use Rattle.ghost_model.specs.core.Schema as schema;
 ghost use Rattle.ghost_model.specs.forms.Layout as layout;
 ghost use Rattle.ghost_model.specs.laws.LayoutSums as sums;
-ghost use Rattle.flash_pages.specs.Runs.{run_of};
+ghost use Rattle.ghost_base.specs.Runs.{run_of};
 
 use crate::columns::{columns_of, rows_of, width_of};
 use crate::indexes::table_begin;
 use crate::limits::a_catalog_has_a_layout;
 use crate::runs::{in_blocks, pages};
-use flash_pages::run::Run;
+use ghost_base::runs::Run;
 use tree_schema::Catalog;
 
 /// The first page after the static part, where a block begins.

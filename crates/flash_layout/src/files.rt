@@ -3,7 +3,7 @@
 ghost use Rattle.std.specs.Prelude.{◌≡◌, ◌<◌, ◌≤◌, length, true};
 ghost use Rattle.ghost_model.specs.forms.Layout as layout;
 ghost use Rattle.ghost_model.specs.laws.LayoutSums as sums;
-ghost use Rattle.flash_pages.specs.Runs.{run_of};
+ghost use Rattle.ghost_base.specs.Runs.{run_of};
 
 use crate::columns::{column_pages_before, rows_of, width_of};
 use crate::indexes::{
@@ -12,7 +12,7 @@ use crate::indexes::{
 };
 use crate::limits::a_catalog_has_a_layout;
 use crate::tables::{but_first, levels_of};
-use flash_pages::run::Run;
+use ghost_base::runs::Run;
 use tree_schema::Catalog;
 
 /// The file of a hidden column: a cell for each row.

@@ -3,9 +3,9 @@
 ghost use Rattle.std.specs.Prelude.{◌≡◌, ◌<◌, ◌≤◌, ◌+◌, ◌%◌};
 ghost use Rattle.ghost_model.specs.forms.Runs as runs;
 ghost use Rattle.ghost_model.specs.forms.Layout as layout;
-ghost use Rattle.flash_pages.specs.Runs.{run_of};
+ghost use Rattle.ghost_base.specs.Runs.{run_of};
 
-use flash_pages::run::Run;
+use ghost_base::runs::Run;
 
 /// The bytes of a page.
 pub const PAGE_BYTES: u32 = 2048;

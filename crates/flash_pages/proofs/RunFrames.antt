@@ -5,7 +5,8 @@ use Rattle.std.specs.List.{slice_range}
 use Rattle.std.proofs.lemmas.List.{drop-take, take-take, drop-drop}
 use Rattle.ghost_model.specs.forms.Runs.{Run, HasRecords, Stores, record_at, records_in, page_of, run_pages, run_end, per_page, cell_in, id_at, ids_from}
 use Rattle.edge_traits.specs.Devices.{Device, ChangesOnly, IsErased}
-use Rattle.flash_pages.specs.Runs.{HasRun, run_of}
+use Rattle.ghost_base.specs.Runs.{run_of}
+use Rattle.flash_pages.specs.Runs.{HasRun}
 use Rattle.std.proofs.lemmas.Nat.{le-div, div-add-mod'}
 use Rattle.flash_pages.specs.Filling.{CanFill}
 use Rattle.flash_pages.specs.Cursors.{IsReady, IsPageOf}

@@ -5,7 +5,8 @@ use Rattle.edge_traits.specs.Devices.{Device}
 use Rattle.flash_pages.specs.declared.cursor.RunCursor.{RunCursor}
 use Rattle.flash_pages.specs.declared.fault.PageFault.{PageFault}
 use Rattle.flash_pages.specs.declared.fault.PageFault.TheVariants.{Flash, Damaged}
-use Rattle.flash_pages.specs.Runs.{run_of, HasRun, IsHeld}
+use Rattle.ghost_base.specs.Runs.{run_of}
+use Rattle.flash_pages.specs.Runs.{HasRun, IsHeld}
 use Rattle.flash_pages.specs.Holding.{reads}
 
 -- the number in the run of the record that is next

@@ -2,12 +2,7 @@
 use Rattle.std.specs.Prelude.{◌≡◌, ℕ, ◌^◌, ◌<◌, ◌≤◌, Bool, true, List, IfSome}
 use Rattle.ghost_model.specs.forms.Runs as runs
 use Rattle.edge_traits.specs.Devices.{Device}
-use Rattle.flash_pages.specs.declared.run.Run.{Run}
 use Rattle.flash_pages.specs.declared.held.Held.{Held}
-
--- the run that three numbers name
-abbrev pub run_of : Run → runs.Run
-run_of run = record { first = run.first; count = run.count; width = run.width }
 
 -- the device has every page of a run, and a record has a width that may be
 pub record HasRun (device : Device) (run : runs.Run) : Type 0 where

@@ -2,7 +2,7 @@
 use Rattle.std.specs.Prelude.{◌≡◌, ℕ, ◌+◌, ◌^◌, ◌<◌, Bool, if◌then◌else◌, List, nat_eq, nat_lt}
 use Rattle.ghost_model.specs.forms.Runs as runs
 use Rattle.edge_traits.specs.Devices.{Device}
-use Rattle.flash_pages.specs.declared.run.Run.{Run}
+use Rattle.ghost_base.specs.declared.runs.Run.{Run}
 use Rattle.flash_pages.specs.declared.writer.RunWriter.{RunWriter}
 use Rattle.flash_pages.specs.Writing.{page_calls, CanWritePage, IsWriting}
 

@@ -4,13 +4,14 @@ ghost use Rattle.std.specs.Prelude.{◌≡◌, ◌<◌, ◌≤◌, ◌+◌, ◌^
 ghost use Rattle.edge_traits.specs.Devices.{next_if, KeepsPages};
 ghost use Rattle.flash_pages.specs.Cursors.{GivesNext, BlamesNext, SameList, IsReady, IsNext, will_read, place, page_next};
 ghost use Rattle.flash_pages.specs.Faults.{PageCause, EndsAtFault, MadeCall};
-ghost use Rattle.flash_pages.specs.Runs.{run_of, HasRun, IsHeld};
+ghost use Rattle.ghost_base.specs.Runs.{run_of};
+ghost use Rattle.flash_pages.specs.Runs.{HasRun, IsHeld};
 
 use crate::cells::{cell_of, found_of, number_at};
 use crate::fault::PageFault;
 use crate::held::Held;
-use crate::run::{ListRef, per_page};
 use edge_traits::flash::Flash;
+use ghost_base::runs::{ListRef, per_page};
 
 /// Reads the identifiers of a list, the first four bytes of each record, one after another.
 ///

@@ -5,12 +5,12 @@ ghost use Rattle.ghost_model.specs.core.Causes.{HasCause};
 ghost use Rattle.ghost_model.specs.forms.Runs.{Stores, pages_of, number_cell};
 ghost use Rattle.edge_traits.specs.Devices.{Counts, ChangesOnly};
 ghost use Rattle.flash_pages.specs.Filling.{CanFill};
-ghost use Rattle.flash_pages.specs.Runs.{run_of};
+ghost use Rattle.ghost_base.specs.Runs.{run_of};
 
-use crate::run::Run;
 use crate::writer::RunWriter;
 use edge_traits::Failed;
 use edge_traits::flash::Flash;
+use ghost_base::runs::Run;
 
 /// Records by their numbers, as a run is written from them.
 pub trait Records {

@@ -5,13 +5,14 @@ ghost use Rattle.ghost_model.specs.forms.Runs.{record_at, page_of};
 ghost use Rattle.edge_traits.specs.Devices.{next_if, KeepsPages};
 ghost use Rattle.flash_pages.specs.Faults.{PageCause, BlamesNoSlot, EndsAtFault};
 ghost use Rattle.flash_pages.specs.Holding.{reads};
-ghost use Rattle.flash_pages.specs.Runs.{run_of, HasRun, IsHeld};
+ghost use Rattle.ghost_base.specs.Runs.{run_of};
+ghost use Rattle.flash_pages.specs.Runs.{HasRun, IsHeld};
 
 use crate::cells::cell_of;
 use crate::fault::PageFault;
 use crate::held::Held;
-use crate::run::{Run, per_page};
 use edge_traits::flash::Flash;
+use ghost_base::runs::{Run, per_page};
 
 /// Copies record `i` of a run, counted from 0, into `out`, which has the run's width.
 ///

@@ -10,5 +10,6 @@ pub mod fault;
 pub mod filling;
 pub mod fixed;
 pub mod held;
-pub mod run;
 pub mod writer;
+
+pub use ghost_base::runs::{ListRef, Run, per_page};

@@ -7,9 +7,9 @@ ghost use Rattle.ghost_model.specs.forms.Runs.{Stores};
 ghost use Rattle.edge_traits.specs.Devices.{Counts, KeepsPages, ChangesOnly};
 ghost use Rattle.flash_pages.specs.Writing.{CanWritePage, IsEntered, reach, page_calls};
 
-use crate::run::{Run, per_page};
 use edge_traits::Failed;
 use edge_traits::flash::Flash;
+use ghost_base::runs::{Run, per_page};
 
 /// Writes a run, record by record, from a page on.
 ///
@@ -81,7 +81,7 @@ fn write_next<F: Flash>(
 }
 
 impl RunWriter {
-    ghost use Rattle.flash_pages.specs.Runs.{run_of};
+    ghost use Rattle.ghost_base.specs.Runs.{run_of};
     ghost use Rattle.flash_pages.specs.Writers.{CanWrite, HasWritten, SameRun, IsRunOf, next_page, fills, waits, put_calls, finish_calls};
 
     /// A writer of records of `width` bytes, 1 to 2,048, from the beginning of page `first` on. With `erase` that page is the

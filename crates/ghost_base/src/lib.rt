@@ -10,6 +10,7 @@ pub mod kind;
 pub mod laws;
 pub mod limits;
 pub mod operator;
+pub mod runs;
 pub mod text;
 pub mod value;
 

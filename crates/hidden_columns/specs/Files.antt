@@ -11,7 +11,8 @@ use Rattle.ghost_base.specs.Views.{kind_of}
 use Rattle.edge_traits.specs.Devices.{Device}
 use Rattle.flash_pages.specs.declared.fault.PageFault.{PageFault}
 use Rattle.flash_pages.specs.declared.fault.PageFault.TheVariants.{Flash, Damaged}
-use Rattle.flash_pages.specs.Runs.{run_of, HasRun}
+use Rattle.ghost_base.specs.Runs.{run_of}
+use Rattle.flash_pages.specs.Runs.{HasRun}
 use Rattle.hidden_columns.specs.declared.file.ColumnFile.{ColumnFile}
 use Rattle.ghost_model.specs.forms.Slots.{child_rows, is_in_range, spelled}
 

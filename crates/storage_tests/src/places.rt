@@ -9,7 +9,7 @@ use flash_layout::{
     is_leaf, levels_of, need, pages, pages_built, scratch_area, spool_area, static_end,
     subtree_table,
 };
-use flash_pages::run::Run;
+use ghost_base::runs::Run;
 use std::alloc::{AllocError, Global};
 use tree_schema::{Catalog, read_catalog};
 

@@ -8,7 +8,7 @@ use edge_traits::mem_flash::MemFlash;
 use flash_pages::cursor::RunCursor;
 use flash_pages::fault::PageFault;
 use flash_pages::filling::write_numbers;
-use flash_pages::run::ListRef;
+use ghost_base::runs::ListRef;
 use std::alloc::Global;
 
 /// The numbers from 1 to 1,030.

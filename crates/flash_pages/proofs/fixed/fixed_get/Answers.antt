@@ -1,5 +1,5 @@
 use Rattle.std.proofs.Common.{◌∙◌}
-use Rattle.flash_pages.specs.Runs.{run_of}
+use Rattle.ghost_base.specs.Runs.{run_of}
 use Rattle.flash_pages.proofs.RecordLemmas.{record_read}
 use Rattle.flash_pages.proofs.fixed.fixed_get.Goals as goal
 

@@ -1,6 +1,6 @@
 use Rattle.std.proofs.Common.{◌≡◌, ◌+◌, ◌-◌, ◌∷◌, ◌∙◌, ap, sym, refl, arith}
 use Rattle.ghost_model.specs.forms.Runs.{number_in, found_in, ids_from}
-use Rattle.flash_pages.specs.Runs.{run_of}
+use Rattle.ghost_base.specs.Runs.{run_of}
 use Rattle.flash_pages.specs.Cursors.{id_next, place}
 use Rattle.flash_pages.proofs.RecordLemmas.{record_read, ids_step, ids_end}
 use Rattle.flash_pages.proofs.cursor.RunCursor.next.Goals as goal

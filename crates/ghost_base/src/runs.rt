@@ -1,9 +1,7 @@
 //! Runs and lists, by their places.
 
-ghost use Rattle.std.specs.Prelude.{◌≡◌, ◌+◌, ◌*◌, ◌/◌, ◌%◌, ◌<◌, ◌≤◌};
-ghost use Rattle.ghost_model.specs.forms.Runs.{per_page, page_of, slot_of};
-ghost use Rattle.edge_traits.specs.Devices.{Device};
-ghost use Rattle.flash_pages.specs.Runs.{run_of};
+ghost use Rattle.std.specs.Prelude.{◌≡◌, ◌*◌, ◌<◌, ◌≤◌};
+ghost use Rattle.ghost_model.specs.forms.Runs.{per_page};
 
 /// Records of one width, one after another from a page on: as many in each page as whole ones fit.
 #[derive(Clone, Copy)]
