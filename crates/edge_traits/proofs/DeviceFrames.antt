@@ -1,6 +1,10 @@
 -- How what one call leaves of a device goes on over several of them.
-use Rattle.std.proofs.Common.{◌≡◌, ℕ, ◌+◌, ◌≤◌, ◌∙◌, ap, Bool, arith}
-use Rattle.edge_traits.specs.Devices.{Device, next, Counts, KeepsPages, SamePage, ChangesOnly, IsErased}
+use Rattle.std.proofs.Common.{◌≡◌, ℕ, ◌+◌, ◌≤◌, ◌∙◌, ap, refl, List, Bool, arith}
+use Rattle.edge_traits.specs.Devices.{Device, next, Counts, KeepsPages, SamePage, ChangesOnly, IsErased, GaveSince}
+
+-- a device keeps what it is
+pub kept_same : (a : Device) → KeepsPages a a
+kept_same a = record { name = refl; page_count = refl; page = refl; blank = refl; never_falls = omega arith; gave = λ at page bytes gave. gave }
 
 pub kept_trans : {a b c : Device} → KeepsPages a b → KeepsPages b c → KeepsPages a c
 kept_trans first second = record {
@@ -8,6 +12,8 @@ kept_trans first second = record {
   page_count = second.page_count ∙ first.page_count;
   page = second.page ∙ first.page;
   blank = second.blank ∙ first.blank;
+  never_falls = omega (arith, first.never_falls, second.never_falls);
+  gave = λ at page bytes gave. second.gave at page bytes (first.gave at page bytes gave);
 }
 
 pub same_trans : {a b c : Device} {page : ℕ} → SamePage a b page → SamePage b c page → SamePage a c page
@@ -22,6 +28,8 @@ changes_trans first second = record {
   page_count = second.page_count ∙ first.page_count;
   below = λ page before. same_trans (first.below page before) (second.below page before);
   above = λ page behind. same_trans (first.above page behind) (second.above page behind);
+  never_falls = omega (arith, first.never_falls, second.never_falls);
+  gave = λ at page bytes gave. second.gave at page bytes (first.gave at page bytes gave);
 }
 
 -- what changed lies in a wider part as well
@@ -33,6 +41,8 @@ changes_wider changes lower higher down up = record {
   page_count = changes.page_count;
   below = λ page before. changes.below page (omega arith);
   above = λ page behind. changes.above page (omega arith);
+  never_falls = changes.never_falls;
+  gave = changes.gave;
 }
 
 pub changes_kept : {a b : Device} → KeepsPages a b → (low high : ℕ) → ChangesOnly low high a b
@@ -41,7 +51,26 @@ changes_kept kept low high = record {
   page_count = kept.page_count;
   below = λ page before. same_kept kept page;
   above = λ page behind. same_kept kept page;
+  never_falls = kept.never_falls;
+  gave = kept.gave;
 }
+
+-- what a read gave it gave, and it did so after fewer calls as well
+pub gave_kept :
+    {since : ℕ} {a b : Device} {bytes : List ℕ} {page : ℕ} → KeepsPages a b → GaveSince since a bytes page → GaveSince since b bytes page
+gave_kept {bytes = bytes} {page = page} kept read =
+    record { at = read.at; from = read.from; gave = kept.gave read.at page bytes read.gave }
+
+pub gave_changed :
+    {since low high : ℕ} {a b : Device} {bytes : List ℕ} {page : ℕ} → ChangesOnly low high a b → GaveSince since a bytes page
+    → GaveSince since b bytes page
+gave_changed {bytes = bytes} {page = page} changes read =
+    record { at = read.at; from = read.from; gave = changes.gave read.at page bytes read.gave }
+
+pub gave_earlier :
+    {since earlier : ℕ} {device : Device} {bytes : List ℕ} {page : ℕ} → earlier ≤ since → GaveSince since device bytes page
+    → GaveSince earlier device bytes page
+gave_earlier down read = record { at = read.at; from = omega (arith, read.from); gave = read.gave }
 
 -- two changes next to each other are one of both parts
 pub changes_joined :

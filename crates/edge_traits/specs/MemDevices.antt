@@ -1,5 +1,5 @@
 -- What a device in memory tells.
-use Rattle.std.specs.Prelude.{if◌then◌else◌, Some, None, vec_len}
+use Rattle.std.specs.Prelude.{true, if◌then◌else◌, Some, None, vec_len}
 use Rattle.edge_traits.specs.Devices.{Device}
 use Rattle.edge_traits.specs.Marks.{is_marked}
 use Rattle.edge_traits.specs.Pages.{page_at}
@@ -15,4 +15,5 @@ device_of flash = record {
   deep_reads = flash.deep_reads;
   faults = flash.script.faults;
   since_fault = flash.since_fault;
+  gave = λ at page bytes. true;
 }

@@ -92,6 +92,7 @@ impl MemFlash {
         ensures cause { HasCause self.old.script.faults self.new.script.faults result }
         ensures one_fault { self.new.script.faults ≤ self.old.script.faults + 1 }
         ensures calls { self.new.script.calls ≡ next self.old.script.calls }
+        ensures calls_rise { self.old.script.calls ≤ self.new.script.calls }
         ensures since_fault { self.new.since_fault ≡ since_call self.old.since_fault result }
         ensures pages { self.new.pages ≡ self.old.pages }
         ensures marks { self.new.marks ≡ self.old.marks }

@@ -37,6 +37,7 @@ impl Script {
         ensures failed { OnErr result (IsNamed self.old.fails.items self.new.calls) }
         ensures passed { OnOk result (IsNamed self.old.fails.items self.new.calls → ⊥) }
         ensures calls { self.new.calls ≡ min (self.old.calls + 1) last_count }
+        ensures calls_rise { self.old.calls ≤ self.new.calls }
         ensures fails { self.new.fails ≡ self.old.fails }
     {
         self.calls = self.calls.saturating_add(1);

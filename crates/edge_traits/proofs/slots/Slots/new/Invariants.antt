@@ -1,4 +1,3 @@
-use Rattle.std.proofs.Common.{length}
 use Rattle.edge_traits.proofs.InSlots.{AreMade}
 use Rattle.edge_traits.proofs.slots.Slots.new.Given as goal
 

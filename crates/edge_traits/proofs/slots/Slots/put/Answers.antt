@@ -1,4 +1,4 @@
-use Rattle.std.proofs.Common.{rules, List, ℕ, sym, subst}
+use Rattle.std.proofs.Common.{rules, sym, subst}
 use Rattle.edge_traits.specs.Slots.{HasRoom, Stored}
 use Rattle.edge_traits.proofs.InSlots.{no_place}
 use Rattle.edge_traits.proofs.slots.Slots.put.Goals as goal
