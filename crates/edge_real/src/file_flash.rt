@@ -1,6 +1,6 @@
 //! A file as a flash device.
 
-ghost use Rattle.std.specs.Prelude.{◌≡◌, ◌≤◌, ◌+◌, ◌*◌, IsTrue, IsOk, ◌↔◌, IfSome, None, option_map, false, [], vec_len};
+ghost use Rattle.std.specs.Prelude.{◌≡◌, ◌≤◌, ◌+◌, ◌*◌, IsTrue, IsOk, ◌↔◌, IfSome, None, option_map, true, false, [], vec_len};
 ghost use Rattle.ghost_model.specs.core.Causes.{HasCause};
 ghost use Rattle.edge_traits.specs.Devices.{next, since_call};
 ghost use Rattle.edge_traits.specs.Marks.{is_marked};
@@ -85,6 +85,7 @@ impl<R: Files + Drop> FileFlash<R, R::File> {
     fn count(&mut self, went_well: bool) -> Result<(), Failed>
         ensures answer { IsOk result ↔ IsTrue went_well }
         ensures calls { self.new.calls ≡ next self.old.calls }
+        ensures calls_rise { self.old.calls ≤ self.new.calls }
         ensures cause { HasCause self.old.faults self.new.faults result }
         ensures one_fault { self.new.faults ≤ self.old.faults + 1 }
         ensures since_fault { self.new.since_fault ≡ since_call self.old.since_fault result }
@@ -182,6 +183,7 @@ where
       deep_reads = flash.deep_reads;
       faults = flash.faults;
       since_fault = flash.since_fault;
+      gave = λ at page bytes. true;
     } };
 
     fn make(&mut self, alloc: Global, name: &str, blocks: u32) -> Result<(), AttachFault> {
