@@ -140,6 +140,7 @@ impl PagePool {
     pub fn note(&mut self, lease: &Lease, page: u32)
         requires out { IsOut self.old lease.now }
         ensures noted { self.new ≡ noted self.old lease.now page }
+        ensures page { page_at self.new lease.now ≡ Some page }
     {
         self.filled[lease.slot] = Some(page);
     }
