@@ -3,14 +3,14 @@ use Rattle.std.proofs.Common.{◌≡◌, ℕ, ◌+◌, ◌-◌, ◌*◌, ◌/◌
 use Rattle.std.proofs.lemmas.Nat.{le-div, div-mul-add}
 use Rattle.edge_traits.specs.Devices.{Device, KeepsPages, ChangesOnly, Counts}
 use Rattle.ghost_model.specs.forms.Runs.{per_page, pages_of}
-use Rattle.flash_pages.specs.declared.writer.RunWriter.{RunWriter}
+use Rattle.flash_pages.specs.declared.filler.RunFiller.{RunFiller}
 use Rattle.std.proofs.lemmas.Bool.Decides.{nat_tests}
 use Rattle.edge_traits.proofs.DeviceFrames.{changes_trans, changes_wider, changes_kept, changes_joined}
 use Rattle.flash_pages.specs.Writers.{HasWritten, waits, fills, next_page, put_calls}
 use Rattle.flash_pages.specs.Writing.{reach, page_calls}
 
 -- so many records were put
-pub record Filled (told : Bool) (before now : Device) (bytes : List ℕ) (writer : RunWriter) (begin size : ℕ) (cells : List (List ℕ)) (done : ℕ) : Type 0 where
+pub record Filled (told : Bool) (before now : Device) (bytes : List ℕ) (writer : RunFiller) (begin size : ℕ) (cells : List (List ℕ)) (done : ℕ) : Type 0 where
   pub first : writer.first ≡ begin
   pub width : writer.width ≡ size
   pub erase : writer.erase ≡ false
@@ -65,15 +65,15 @@ others_more false begin pages more before now kept size =
     changes_wider (changes_trans before (changes_kept (kept refl) begin (begin + pages))) begin (begin + more) (omega arith) (omega arith)
 
 -- the calls of a record that is put without erasing
-pub put_calls_plain : (writer : RunWriter) → writer.erase ≡ false → put_calls writer ≡ (if fills writer then 1 else 0)
+pub put_calls_plain : (writer : RunFiller) → writer.erase ≡ false → put_calls writer ≡ (if fills writer then 1 else 0)
 put_calls_plain writer plain = ap (λ k. if fills writer then k else 0) (plain_calls (next_page writer) writer.erase plain)
 
 -- the records that were put, by whole pages
 pub whole_pages :
-    (writer : RunWriter) (size done : ℕ) → writer.width ≡ size → writer.count ≡ done
+    (writer : RunFiller) (size done : ℕ) → writer.width ≡ size → writer.count ≡ done
     → writer.pages * per_page size + writer.held ≡ done
 whole_pages writer size done width count =
     ap (λ w. writer.pages * (2048 / w) + writer.held) (sym width) ∙ sym writer.counted ∙ count
 
-pub few_held : (writer : RunWriter) (size : ℕ) → writer.width ≡ size → writer.held < per_page size
+pub few_held : (writer : RunFiller) (size : ℕ) → writer.width ≡ size → writer.held < per_page size
 few_held writer size width = let P : ℕ → Type 0 = λ w. writer.held < 2048 / w in subst P width writer.not_full

@@ -1,4 +1,5 @@
 pub mod RecordLemmas
 pub mod WriterLemmas
 pub mod RunFrames
+pub mod LeaseFrames
 pub mod Fillings

@@ -9,8 +9,6 @@ use Rattle.ghost_base.specs.Runs.{run_of}
 use Rattle.flash_pages.specs.Runs.{HasRun}
 use Rattle.std.proofs.lemmas.Nat.{le-div, div-add-mod'}
 use Rattle.flash_pages.specs.Filling.{CanFill}
-use Rattle.flash_pages.specs.Cursors.{IsReady, IsPageOf}
-use Rattle.flash_pages.specs.declared.cursor.RunCursor.{RunCursor}
 
 -- a record stays where its page stays
 pub record_kept :
@@ -78,32 +76,6 @@ ids_from-get page run place (suc count) zero within =
 ids_from-get page run place (suc count) (suc i) within =
     let e : place + 1 + i ≡ place + suc i = omega arith in
     ids_from-get page run (place + 1) count i (omega arith) ∙ ap (λ n. id_at page run n) e
-
--- a cursor may go on where the pages of its run stayed as they were
-held_kept :
-    (told : Bool) (before now : ℕ → List ℕ) (run : Run) (bytes : List ℕ) (held : Option ℕ)
-    → ((i : ℕ) → i < run.count → now (page_of run i) ≡ before (page_of run i))
-    → IfSome held (IsPageOf run) → IfSome held (λ number. told ≡ true → bytes ≡ before number)
-    → IfSome held (λ number. told ≡ true → bytes ≡ now number)
-held_kept told before now run bytes None same page stands = tt
-held_kept told before now run bytes (Some number) same page stands = λ is_told.
-    stands is_told
-    ∙ ap (λ n. before n) page.is
-    ∙ sym (same page.place page.within)
-    ∙ ap (λ n. now n) (sym page.is)
-
-pub ready_kept :
-    {told : Bool} {before now : Device} {cursor : RunCursor} {bytes : List ℕ} → now.page_count ≡ before.page_count
-    → ((i : ℕ) → i < cursor.list.run.count → now.page (page_of (run_of cursor.list.run) i) ≡ before.page (page_of (run_of cursor.list.run) i))
-    → IsReady told before cursor bytes → IsReady told now cursor bytes
-ready_kept {told = told} {before = before} {now = now} {cursor = cursor} {bytes = bytes} count same ready = record {
-  run = run_kept count ready.run;
-  width = ready.width;
-  list = ready.list;
-  place = ready.place;
-  page = ready.page;
-  held = held_kept told before.page now.page (run_of cursor.list.run) bytes cursor.held.page same ready.page ready.held;
-}
 
 -- a record of a run stands in one of its pages
 pub place_in_run :

@@ -1,7 +1,9 @@
 pub mod Runs
 pub mod Faults
 pub mod Holding
+pub mod Reads
 pub mod Cursors
+pub mod Looking
 pub mod Writing
 pub mod Writers
 pub mod Filling

@@ -1,8 +1,8 @@
 use Rattle.std.proofs.Common.{◌≡◌, ◌+◌, ◌-◌, length, drop, replicate, ◌∙◌, ap, arith}
 use Rattle.std.proofs.lemmas.List.{length-take-le}
 use Rattle.flash_pages.proofs.WriterLemmas.{rest_kept, rest_of_blank}
-use Rattle.flash_pages.proofs.writer.put_cell.Goals as goal
-use Rattle.flash_pages.proofs.writer.put_cell.Goals.{then-at-eq0, else-at-eq0}
+use Rattle.flash_pages.proofs.filler.put_cell.Goals as goal
+use Rattle.flash_pages.proofs.filler.put_cell.Goals.{then-at-eq0, else-at-eq0}
 
 pub returns-clause-rest : goal.returns-clause-rest
 returns-clause-rest c = λ rest.
