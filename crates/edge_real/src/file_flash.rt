@@ -182,6 +182,7 @@ where
       deep_reads = flash.deep_reads;
       faults = flash.faults;
       since_fault = flash.since_fault;
+      gave = λ calls page bytes. true;
     } };
 
     fn make(&mut self, alloc: Global, name: &str, blocks: u32) -> Result<(), AttachFault> {

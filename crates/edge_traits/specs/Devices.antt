@@ -21,6 +21,8 @@ pub record Device : Type 0 where
   pub faults : ℕ
   -- the calls since the last failed one
   pub since_fault : ℕ
+  -- after so many calls a read of that page gave these bytes
+  pub gave : (calls page : ℕ) → List ℕ → Bool
 
 -- a count one higher, which stays at its last value
 abbrev pub next : ℕ → ℕ
@@ -56,12 +58,14 @@ pub record AttachCause {T : Type 0} (before now : ℕ) (result : Result T Attach
   pub never_falls : before ≤ now
   pub tells : AttachTells before now result
 
--- the device is open as before, and no page changed
+-- the device is open as before, and no page changed; its calls do not become fewer, and what reads gave they gave
 pub record KeepsPages (before now : Device) : Type 0 where
   pub name : now.name ≡ before.name
   pub page_count : now.page_count ≡ before.page_count
   pub page : now.page ≡ before.page
   pub blank : now.blank ≡ before.blank
+  pub never_falls : before.calls ≤ now.calls
+  pub gave : (calls page : ℕ) (bytes : List ℕ) → before.gave calls page bytes ≡ true → now.gave calls page bytes ≡ true
 
 -- that page is as it was
 pub record SamePage (before now : Device) (page : ℕ) : Type 0 where
@@ -74,6 +78,14 @@ pub record ChangesOnly (low high : ℕ) (before now : Device) : Type 0 where
   pub page_count : now.page_count ≡ before.page_count
   pub below : (page : ℕ) → page < low → SamePage before now page
   pub above : (page : ℕ) → high ≤ page → SamePage before now page
+  pub never_falls : before.calls ≤ now.calls
+  pub gave : (calls page : ℕ) (bytes : List ℕ) → before.gave calls page bytes ≡ true → now.gave calls page bytes ≡ true
+
+-- a read from that count of calls on gave these bytes of a page
+pub record GaveSince (since : ℕ) (device : Device) (bytes : List ℕ) (number : ℕ) : Type 0 where
+  pub at : ℕ
+  pub from : since ≤ at
+  pub gave : device.gave at number bytes ≡ true
 
 -- the pages from `low` on and below `high` are blank, and where pages are told they are bytes 0xFF
 pub record IsErased (told : Bool) (low high : ℕ) (device : Device) : Type 0 where

@@ -15,4 +15,5 @@ device_of flash = record {
   deep_reads = flash.deep_reads;
   faults = flash.script.faults;
   since_fault = flash.since_fault;
+  gave = λ calls page bytes. true;
 }

@@ -87,6 +87,7 @@ pub trait Flash {
     fn read_page(&mut self, page: u32, buf: &mut [u8; 2048]) -> Result<(), Failed>
         requires { page < (state self.old).page_count }
         ensures bytes { OnOk result (told ≡ true → buf.new ≡ (state self.old).page page) }
+        ensures gave { OnOk result ((state self.new).gave (state self.old).calls page buf.new ≡ true) }
         ensures kept { KeepsPages (state self.old) (state self.new) }
         ensures calls { (state self.new).calls ≡ next (state self.old).calls }
         ensures deep_reads { (state self.new).deep_reads ≡ next_if (nat_le 64 page) (state self.old).deep_reads }

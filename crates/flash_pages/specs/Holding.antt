@@ -1,10 +1,6 @@
 -- Whether a page must be read before it stands in a buffer.
 use Rattle.std.specs.Prelude.{ℕ, Bool, true, not, nat_eq, Option, Some, None}
-use Rattle.flash_pages.specs.declared.held.Held.{Held}
 
 abbrev pub is_apart : Option ℕ → ℕ → Bool
 is_apart None page = true
 is_apart (Some held) page = not (nat_eq held page)
-
-abbrev pub reads : Held → ℕ → Bool
-reads held page = is_apart held.page page

@@ -7,7 +7,7 @@ ghost use Rattle.edge_traits.specs.Devices.{Counts, ChangesOnly};
 ghost use Rattle.flash_pages.specs.Filling.{CanFill};
 ghost use Rattle.ghost_base.specs.Runs.{run_of};
 
-use crate::writer::RunWriter;
+use crate::filler::RunFiller;
 use edge_traits::Failed;
 use edge_traits::flash::Flash;
 use ghost_base::runs::Run;
@@ -50,7 +50,7 @@ pub fn write_run<F: Flash, C: Records>(
     ensures cause { HasCause (F.state flash.old).faults (F.state flash.new).faults result }
     ensures last { OnErr result ((F.state flash.new).since_fault ≡ 0) }
 {
-    let mut writer = RunWriter::begin(first, width, false);
+    let mut writer = RunFiller::begin(first, width, false);
     let mut room = [0; 256];
     for i in 0..source.count() {
         writer.put(flash, buf, source.record(i, &mut room))?;

@@ -1,26 +1,27 @@
 //! One record of a run.
 
-ghost use Rattle.std.specs.Prelude.{◌≡◌, ◌<◌, ◌≤◌, ◌+◌, ◌&&◌, true, Some, None, length, nat_le, OnOk, OnErr};
+ghost use Rattle.std.specs.Prelude.{◌≡◌, ◌<◌, ◌≤◌, ℕ, true, length, OnOk, OnErr};
 ghost use Rattle.ghost_model.specs.forms.Runs.{record_at, page_of};
-ghost use Rattle.edge_traits.specs.Devices.{next_if, KeepsPages};
-ghost use Rattle.flash_pages.specs.Faults.{PageCause, BlamesNoSlot, EndsAtFault};
-ghost use Rattle.flash_pages.specs.Holding.{reads};
+ghost use Rattle.page_pool.specs.Pools.{page_at};
+ghost use Rattle.flash_pages.specs.Faults.{BlamesNoSlot};
+ghost use Rattle.flash_pages.specs.Reads.{Reads, CanRead, WasGiven, WasRead, must_read, page_after};
 ghost use Rattle.ghost_base.specs.Runs.{run_of};
-ghost use Rattle.flash_pages.specs.Runs.{HasRun, IsHeld};
+ghost use Rattle.flash_pages.specs.Runs.{HasRun};
 
 use crate::cells::cell_of;
 use crate::fault::PageFault;
-use crate::held::Held;
+use crate::load::load;
 use edge_traits::flash::Flash;
 use ghost_base::runs::{Run, per_page};
+use page_pool::{Lease, PagePool};
 
-/// Copies record `i` of a run, counted from 0, into `out`, which has the run's width.
+/// Copies record `i` of a run, counted from 0, into `out`, which has the run's width. No slot is blamed.
 ///
-/// It reads at most one page, and none where `held` says that the page stands in `buf`.
+/// It reads at most one page, and none where the page stands in the buffer of the lease.
 pub fn fixed_get<F: Flash>(
     flash: &mut F,
-    held: &mut Held,
-    buf: &mut [u8; 2048],
+    pool: &mut PagePool,
+    lease: &Lease,
     run: &Run,
     i: u32,
     out: &mut [u8],
@@ -28,23 +29,16 @@ pub fn fixed_get<F: Flash>(
     requires run { HasRun (F.state flash.old) (run_of run.now) }
     requires in_range { i < run.now.count }
     requires width { length out.old ≡ run.now.width }
-    requires held { IsHeld F.told (F.state flash.old).page held.old buf.old }
+    requires ready { CanRead F.told (F.state flash.old) pool.old lease.now }
     ensures record_at { OnOk result (F.told ≡ true → out.new ≡ record_at (F.state flash.old).page (run_of run.now) i) }
+    ensures was_read { (since : ℕ) → since ≤ (F.state flash.old).calls → WasGiven since (F.state flash.old) pool.old lease.now → OnOk result (WasRead since (F.state flash.new) (run_of run.now) i out.new) }
     ensures out { OnErr result (out.new ≡ out.old) }
-    ensures holds { OnOk result (held.new.page ≡ Some (page_of (run_of run.now) i)) }
-    ensures lost { OnErr result (held.new.page ≡ None) }
-    ensures held { IsHeld F.told (F.state flash.new).page held.new buf.new }
-    ensures kept { KeepsPages (F.state flash.old) (F.state flash.new) }
-    ensures calls { (F.state flash.new).calls ≡ next_if (reads held.old (page_of (run_of run.now) i)) (F.state flash.old).calls }
-    ensures at_most { (F.state flash.new).calls ≤ (F.state flash.old).calls + 1 }
-    ensures made { OnErr result (reads held.old (page_of (run_of run.now) i) ≡ true) }
-    ensures deep_reads { (F.state flash.new).deep_reads ≡ next_if (reads held.old (page_of (run_of run.now) i) && nat_le 64 (page_of (run_of run.now) i)) (F.state flash.old).deep_reads }
-    ensures cause { PageCause (F.state flash.old).faults (F.state flash.new).faults result }
+    ensures holds { page_at pool.new lease.now ≡ page_after result (page_of (run_of run.now) i) }
+    ensures read { Reads F.told (F.state flash.old) (F.state flash.new) pool.old pool.new lease.now (must_read pool.old lease.now (page_of (run_of run.now) i)) (page_of (run_of run.now) i) result }
     ensures no_slot { BlamesNoSlot result }
-    ensures last { EndsAtFault (F.state flash.new).since_fault result }
 {
     let records = per_page(run.width);
-    held.load(flash, run.first + i / records, buf)?;
-    out.copy_from_slice(cell_of(buf, run.width, i % records));
+    load(flash, pool, lease, run.first + i / records)?;
+    out.copy_from_slice(cell_of(pool.page(lease), run.width, i % records));
     Ok(())
 }

@@ -7,9 +7,10 @@
 pub mod cells;
 pub mod cursor;
 pub mod fault;
+pub mod filler;
 pub mod filling;
 pub mod fixed;
-pub mod held;
+pub mod load;
 pub mod writer;
 
 pub use ghost_base::runs::{ListRef, Run, per_page};

@@ -1,109 +1,49 @@
-//! A run that is written, record by record.
+//! A run that is written under a lease.
 
-ghost use Rattle.std.specs.Prelude.{◌≡◌, ◌<◌, ◌≤◌, ◌+◌, ◌-◌, ◌*◌, ◌/◌, ◌^◌, ◌++◌, ◌∷◌, [], true, false, Bool, List, ℕ, length, take, drop, replicate, if◌then◌else◌, IfOk, OnOk, OnErr};
-ghost use Rattle.ghost_model.specs.core.Causes.{HasCause};
-ghost use Rattle.std.specs.List.{slice_range};
+ghost use Rattle.std.specs.Prelude.{◌≡◌, ◌<◌, ◌≤◌, ◌-◌, ◌^◌, ◌++◌, ◌∷◌, [], true, false, Bool, List, ℕ, length, IfOk, OnOk, OnErr};
 ghost use Rattle.ghost_model.specs.forms.Runs.{Stores};
-ghost use Rattle.edge_traits.specs.Devices.{Counts, KeepsPages, ChangesOnly};
-ghost use Rattle.flash_pages.specs.Writing.{CanWritePage, IsEntered, reach, page_calls};
+ghost use Rattle.edge_traits.specs.Devices.{KeepsPages};
+ghost use Rattle.page_pool.specs.Pools.{Pool, IsOut, ChangesPage};
+ghost use Rattle.flash_pages.specs.Writing.{IsEntered, reach};
+ghost use Rattle.flash_pages.specs.Writers.{CanWrite, HasPut, HasOneMore, SameRun, IsRunOf, Writes, next_page, fills, waits, put_calls, finish_calls};
+ghost use Rattle.ghost_base.specs.Runs.{run_of};
 
+use crate::filler::RunFiller;
 use edge_traits::Failed;
 use edge_traits::flash::Flash;
-use ghost_base::runs::{Run, per_page};
+use ghost_base::runs::Run;
+use page_pool::{Lease, PagePool};
 
-/// Writes a run, record by record, from a page on.
+/// Writes a run, record by record, from a page on, through the buffer of its lease.
 ///
-/// The records of a page are gathered in a buffer, which is written with 0xFF after them when it is full, or by `finish`.
-/// Nothing else may write to that buffer between the calls. With `erase` a block is erased when its first page is about to be written.
+/// A page is written when its last record is put, with 0xFF after the records, or by `finish`. With `erase` a block is erased
+/// when its first page is about to be written.
 #[derive(Drop)]
 pub struct RunWriter {
-    /// The first page.
-    pub first: u32,
-    /// The bytes of a record.
-    pub width: u32,
-    /// Whether blocks are erased.
-    pub erase: bool,
-    /// How many whole pages were written.
-    pub pages: u32,
-    /// How many records wait in the buffer.
-    pub held: u32,
-    /// How many records were put.
-    pub count: u32,
-    ghost some: { 0 < width },
-    ghost fits: { width ≤ 2048 },
-    ghost not_full: { held < 2048 / width },
-    ghost counted: { count ≡ pages * (2048 / width) + held },
-}
-
-/// Puts a record at a place of a page, at the first one after all bytes of the page became 0xFF.
-fn put_cell(bytes: &mut [u8; 2048], at: usize, cell: &[u8])
-    requires { at + length cell.now ≤ 2048 }
-    ensures front { take at bytes.new ≡ take at bytes.old }
-    ensures cell { slice_range bytes.new at (at + length cell.now) ≡ cell.now }
-    ensures rest { (0 < at → drop at bytes.old ≡ replicate (2048 - at) 255) → drop (at + length cell.now) bytes.new ≡ replicate (2048 - (at + length cell.now)) 255 }
-{
-    if at == 0 {
-        *bytes = [0xFF; 2048];
-    }
-    copy_cell(bytes, at, cell);
-}
-
-/// Copies a record to a place of a page.
-fn copy_cell(bytes: &mut [u8; 2048], at: usize, cell: &[u8])
-    requires { at + length cell.now ≤ 2048 }
-    ensures { bytes.new ≡ take at bytes.old ++ (cell.now ++ drop (at + length cell.now) bytes.old) }
-{
-    bytes[at..at + cell.len()].copy_from_slice(cell);
-}
-
-/// Writes a page, and erases its block before where the page is its first and that is asked for.
-fn write_next<F: Flash>(
-    flash: &mut F,
-    page: u32,
-    erase: bool,
-    bytes: &[u8; 2048],
-) -> Result<(), Failed>
-    requires can { CanWritePage (F.state flash.old) page erase }
-    ensures written { OnOk result (F.told ≡ true → (F.state flash.new).page page ≡ bytes.now) }
-    ensures entered { OnOk result (IsEntered (F.state flash.new) (page + 1) erase) }
-    ensures others { ChangesOnly page (reach page erase) (F.state flash.old) (F.state flash.new) }
-    ensures exact { OnOk result (Counts (page_calls page erase) (F.state flash.old).calls (F.state flash.new).calls) }
-    ensures at_most { (F.state flash.new).calls ≤ (F.state flash.old).calls + page_calls page erase }
-    ensures deep_reads { (F.state flash.new).deep_reads ≡ (F.state flash.old).deep_reads }
-    ensures cause { HasCause (F.state flash.old).faults (F.state flash.new).faults result }
-    ensures last { OnErr result ((F.state flash.new).since_fault ≡ 0) }
-{
-    if erase && page % 64 == 0 {
-        flash.erase_block(page / 64)?;
-        return flash.write_page(page, bytes);
-    }
-    flash.write_page(page, bytes)
+    /// How far the run is.
+    pub filler: RunFiller,
+    /// The leave to use a buffer.
+    pub lease: Lease,
 }
 
 impl RunWriter {
-    ghost use Rattle.ghost_base.specs.Runs.{run_of};
-    ghost use Rattle.flash_pages.specs.Writers.{CanWrite, HasWritten, SameRun, IsRunOf, next_page, fills, waits, put_calls, finish_calls};
-
     /// A writer of records of `width` bytes, 1 to 2,048, from the beginning of page `first` on. With `erase` that page is the
     /// first of a block; without it the pages that are written are blank.
-    pub fn begin(first: u32, width: u32, erase: bool) -> RunWriter
+    pub fn begin(first: u32, width: u32, erase: bool, lease: Lease) -> RunWriter
         requires some { 0 < width }
         requires fits { width ≤ 2048 }
-        ensures first { result.first ≡ first }
-        ensures width { result.width ≡ width }
-        ensures erase { result.erase ≡ erase }
-        ensures pages { result.pages ≡ 0 }
-        ensures held { result.held ≡ 0 }
-        ensures count { result.count ≡ 0 }
-        ensures none { (told : Bool) → (page : ℕ → List ℕ) → (bytes : List ℕ) → HasWritten told page bytes result [] }
+        ensures first { result.filler.first ≡ first }
+        ensures width { result.filler.width ≡ width }
+        ensures erase { result.filler.erase ≡ erase }
+        ensures pages { result.filler.pages ≡ 0 }
+        ensures held { result.filler.held ≡ 0 }
+        ensures count { result.filler.count ≡ 0 }
+        ensures lease { result.lease ≡ lease }
+        ensures none { (told : Bool) → (page : ℕ → List ℕ) → (pool : Pool) → HasPut told page pool result [] }
     {
         RunWriter {
-            first,
-            width,
-            erase,
-            pages: 0,
-            held: 0,
-            count: 0,
+            filler: RunFiller::begin(first, width, erase),
+            lease,
         }
     }
 
@@ -113,63 +53,63 @@ impl RunWriter {
     pub fn put<F: Flash>(
         &mut self,
         flash: &mut F,
-        buf: &mut [u8; 2048],
+        pool: &mut PagePool,
         cell: &[u8],
     ) -> Result<(), Failed>
-        requires can { CanWrite (F.state flash.old) self.old }
-        requires width { length cell.now ≡ self.old.width }
-        requires room { self.old.count < 2 ^ 32 - 1 }
-        ensures appended { OnOk result ((records : List (List ℕ)) → HasWritten F.told (F.state flash.old).page buf.old self.old records → HasWritten F.told (F.state flash.new).page buf.new self.new (records ++ cell.now ∷ [])) }
-        ensures counted { OnOk result (self.new.count ≡ self.old.count + 1) }
-        ensures pages { OnOk result (self.new.pages ≡ self.old.pages + (if fills self.old then 1 else 0)) }
-        ensures held { OnOk result (self.new.held ≡ (if fills self.old then 0 else self.old.held + 1)) }
+        requires can { CanWrite (F.state flash.old) self.old.filler }
+        requires out { IsOut pool.old self.old.lease }
+        requires width { length cell.now ≡ self.old.filler.width }
+        requires room { self.old.filler.count < 2 ^ 32 - 1 }
+        ensures appended { OnOk result ((records : List (List ℕ)) → HasPut F.told (F.state flash.old).page pool.old self.old records → HasPut F.told (F.state flash.new).page pool.new self.new (records ++ cell.now ∷ [])) }
+        ensures more { OnOk result (HasOneMore self.old.filler self.new.filler) }
         ensures failed { OnErr result (self.new ≡ self.old) }
-        ensures same { SameRun self.old self.new }
-        ensures entered { OnOk result (IsEntered (F.state flash.new) (next_page self.new) self.new.erase) }
-        ensures unwritten { fills self.old ≡ false → KeepsPages (F.state flash.old) (F.state flash.new) }
-        ensures others { ChangesOnly (next_page self.old) (reach (next_page self.old) self.old.erase) (F.state flash.old) (F.state flash.new) }
-        ensures exact { OnOk result (Counts (put_calls self.old) (F.state flash.old).calls (F.state flash.new).calls) }
-        ensures at_most { (F.state flash.new).calls ≤ (F.state flash.old).calls + put_calls self.old }
-        ensures deep_reads { (F.state flash.new).deep_reads ≡ (F.state flash.old).deep_reads }
-        ensures cause { HasCause (F.state flash.old).faults (F.state flash.new).faults result }
-        ensures last { OnErr result ((F.state flash.new).since_fault ≡ 0) }
+        ensures same { SameRun self.old.filler self.new.filler }
+        ensures lease { self.new.lease ≡ self.old.lease }
+        ensures entered { OnOk result (IsEntered (F.state flash.new) (next_page self.new.filler) self.new.filler.erase) }
+        ensures unwritten { fills self.old.filler ≡ false → KeepsPages (F.state flash.old) (F.state flash.new) }
+        ensures writes { Writes (F.state flash.old) (F.state flash.new) (next_page self.old.filler) (reach (next_page self.old.filler) self.old.filler.erase) (put_calls self.old.filler) result }
+        ensures buffer { ChangesPage pool.old pool.new self.old.lease }
+        ensures out { IsOut pool.new self.new.lease }
     {
-        put_cell(buf, (self.held * self.width) as usize, cell);
-        if self.held + 1 < per_page(self.width) {
-            self.held += 1;
-            self.count += 1;
-            return Ok(());
-        }
-        write_next(flash, self.first + self.pages, self.erase, buf)?;
-        self.held = 0;
-        self.pages += 1;
-        self.count += 1;
-        Ok(())
+        self.filler.put(flash, pool.page_mut(&self.lease), cell)
     }
 
-    /// Writes the last page, if records wait for it, and answers the run. Nothing may be put after it.
-    pub fn finish<F: Flash>(&mut self, flash: &mut F, buf: &[u8; 2048]) -> Result<Run, Failed>
-        requires can { waits self.old ≡ true → CanWrite (F.state flash.old) self.old }
-        ensures run { IfOk result (λ run. IsRunOf self.old run) }
-        ensures stores { IfOk result (λ run. F.told ≡ true → (records : List (List ℕ)) → HasWritten F.told (F.state flash.old).page buf.now self.old records → Stores (F.state flash.new).page (run_of run) records) }
+    /// Writes the last page, if records wait for it, and answers the run. Nothing may be put after it before `restart`.
+    pub fn finish<F: Flash>(
+        &mut self,
+        flash: &mut F,
+        pool: &mut PagePool,
+    ) -> Result<Run, Failed>
+        requires can { waits self.old.filler ≡ true → CanWrite (F.state flash.old) self.old.filler }
+        requires out { IsOut pool.old self.old.lease }
+        ensures run { IfOk result (λ run. IsRunOf self.old.filler run) }
+        ensures stores { IfOk result (λ run. F.told ≡ true → (records : List (List ℕ)) → HasPut F.told (F.state flash.old).page pool.old self.old records → Stores (F.state flash.new).page (run_of run) records) }
         ensures same { self.new ≡ self.old }
-        ensures unwritten { waits self.old ≡ false → KeepsPages (F.state flash.old) (F.state flash.new) }
-        ensures others { ChangesOnly (next_page self.old) (reach (next_page self.old) self.old.erase) (F.state flash.old) (F.state flash.new) }
-        ensures exact { OnOk result (Counts (finish_calls self.old) (F.state flash.old).calls (F.state flash.new).calls) }
-        ensures at_most { (F.state flash.new).calls ≤ (F.state flash.old).calls + finish_calls self.old }
-        ensures deep_reads { (F.state flash.new).deep_reads ≡ (F.state flash.old).deep_reads }
-        ensures cause { HasCause (F.state flash.old).faults (F.state flash.new).faults result }
-        ensures last { OnErr result ((F.state flash.new).since_fault ≡ 0) }
+        ensures unwritten { waits self.old.filler ≡ false → KeepsPages (F.state flash.old) (F.state flash.new) }
+        ensures writes { Writes (F.state flash.old) (F.state flash.new) (next_page self.old.filler) (reach (next_page self.old.filler) self.old.filler.erase) (finish_calls self.old.filler) result }
+        ensures buffers { pool.new ≡ pool.old }
     {
-        let run = Run {
-            first: self.first,
-            count: self.count,
-            width: self.width,
-        };
-        if self.held == 0 {
-            return Ok(run);
-        }
-        write_next(flash, self.first + self.pages, self.erase, buf)?;
-        Ok(run)
+        self.filler.finish(flash, pool.page(&self.lease))
+    }
+
+    /// Begins another run of records of the same width at page `first`, with the same lease. What waited for its page is lost.
+    pub fn restart(&mut self, first: u32)
+        ensures first { self.new.filler.first ≡ first }
+        ensures width { self.new.filler.width ≡ self.old.filler.width }
+        ensures erase { self.new.filler.erase ≡ self.old.filler.erase }
+        ensures pages { self.new.filler.pages ≡ 0 }
+        ensures held { self.new.filler.held ≡ 0 }
+        ensures count { self.new.filler.count ≡ 0 }
+        ensures lease { self.new.lease ≡ self.old.lease }
+        ensures none { (told : Bool) → (page : ℕ → List ℕ) → (pool : Pool) → HasPut told page pool self.new [] }
+    {
+        self.filler = RunFiller::begin(first, self.filler.width, self.filler.erase);
+    }
+
+    /// Gives the lease back.
+    pub fn end(self) -> Lease
+        ensures lease { result ≡ self.lease }
+    {
+        self.lease
     }
 }
