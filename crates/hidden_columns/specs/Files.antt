@@ -13,6 +13,7 @@ use Rattle.flash_pages.specs.declared.fault.PageFault.{PageFault}
 use Rattle.flash_pages.specs.declared.fault.PageFault.TheVariants.{Flash, Damaged}
 use Rattle.ghost_base.specs.Runs.{run_of}
 use Rattle.flash_pages.specs.Runs.{HasRun}
+use Rattle.flash_pages.specs.Reads.{WasRead}
 use Rattle.hidden_columns.specs.declared.file.ColumnFile.{ColumnFile}
 use Rattle.ghost_model.specs.forms.Slots.{child_rows, is_in_range, spelled}
 
@@ -75,29 +76,15 @@ abbrev pub GivesOrFails : {T : Type 0} → (T → Value) → (wanted : Value) �
 GivesOrFails value wanted (Ok given) = value given ≡ wanted
 GivesOrFails value wanted (Err fault) = IsFlash fault
 
--- a slot that is blamed is that of the row, and what was found begins no value of the column, even where pages are not told
-pub record BlamesSlot (file : ColumnFile) (identifier number slot found : ℕ) : Type 0 where
+-- A slot that is blamed is that of the row. What a read from that count of calls on gave there spells no value of the column.
+pub record BlamesSlot (since : ℕ) (device : Device) (file : ColumnFile) (identifier number slot found : ℕ) : Type 0 where
   pub page_is : number ≡ slot_page file identifier
   pub slot_is : slot ≡ slot_place file identifier
   pub bytes : List ℕ
-  pub wide : length bytes ≡ file.run.width
+  pub read : WasRead since device (run_of file.run) (identifier - 1) bytes
   pub no_value : value_spelled file bytes ≡ None
   pub found_is : found ≡ found_in bytes
 
-abbrev pub Blames : ColumnFile → (identifier : ℕ) → PageFault → Type 0
-Blames file identifier Flash = ⊤
-Blames file identifier (Damaged number slot found) = BlamesSlot file identifier number slot found
-
--- where the flash is blamed, a page was to be read
-abbrev pub FailsInRead : (reads : Bool) → PageFault → Type 0
-FailsInRead reads Flash = reads ≡ true
-FailsInRead reads (Damaged number slot found) = ⊤
-
--- the page that stands in the buffer after a call that needed one
-abbrev pub left_by : PageFault → (page : ℕ) → Option ℕ
-left_by Flash page = None
-left_by (Damaged number slot found) page = Some page
-
-abbrev pub page_after : {T : Type 0} → Result T PageFault → (page : ℕ) → Option ℕ
-page_after (Ok given) page = Some page
-page_after (Err fault) page = left_by fault page
+abbrev pub Blames : (since : ℕ) → Device → ColumnFile → (identifier : ℕ) → PageFault → Type 0
+Blames since device file identifier Flash = ⊤
+Blames since device file identifier (Damaged number slot found) = BlamesSlot since device file identifier number slot found
