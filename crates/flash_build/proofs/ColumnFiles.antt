@@ -12,7 +12,7 @@ use Rattle.ghost_model.specs.laws.LayoutSums.{column_pages_before, table_begin, 
 use Rattle.ghost_model.specs.laws.LayoutLaws.{LieAsSummed, LieInOrder, AreNarrow, SumsByPlace}
 use Rattle.ghost_model.specs.forms.Flash.{hidden_cells}
 use Rattle.edge_traits.specs.Devices.{Device, Counts, ChangesOnly}
-use Rattle.edge_traits.proofs.DeviceFrames.{same_trans, changes_wider, changes_joined, counts_more}
+use Rattle.edge_traits.proofs.DeviceFrames.{same_trans, changes_wider, changes_joined, counts_more, kept_same, changes_kept}
 use Rattle.flash_pages.specs.Filling.{CanFill}
 use Rattle.flash_pages.proofs.RunFrames.{stores_below, can_fill_part, can_fill_kept}
 use Rattle.flash_build.specs.Building.{IsBlank, ChangesColumns}
@@ -56,12 +56,7 @@ columns_trans first second = record {
 }
 
 pub changes_same : (low high : ℕ) (device : Device) → ChangesOnly low high device device
-changes_same low high device = record {
-  name = refl;
-  page_count = refl;
-  below = λ page before. record { bytes = refl; blank = refl };
-  above = λ page behind. record { bytes = refl; blank = refl };
-}
+changes_same low high device = changes_kept (kept_same device) low high
 
 -- a column file alone
 pub columns_of_file :

@@ -1,5 +1,6 @@
 -- A whole session.
 use Rattle.std.proofs.Common.{◌≡◌, ◌≤◌, ℕ, suc, ◌+◌, arith, Bool, true, false, ◌||◌, List, [], ◌∷◌, length, refl, sym, ap, ◌∙◌, subst, Option, None, Some, slice_get}
+use Rattle.edge_traits.proofs.DeviceFrames.{kept_same}
 use Rattle.std.specs.Prelude.{min, if◌then◌else◌, count_by, is_err, is_some}
 use Rattle.std.specs.List.{list_any}
 use Rattle.std.proofs.lemmas.List.Sums.{sum_by-cons}
@@ -54,7 +55,7 @@ at_first join pages_told catalog texts since teller replies all none counts kept
     kept = subst (λ (n : ℕ). IsKept catalog (heard_in catalog texts []) (n + 1) 0 replies) (sym none)
         (subst (λ (h : Heard). IsKept catalog h 1 0 replies) (sym (heard_none catalog texts)) kept);
     near = omega arith;
-    pages = record { name = refl; page_count = refl; page = refl; blank = refl };
+    pages = kept_same since.flash;
     calls = omega arith;
     called = λ e. absurd (none_failed (sym (ap (λ (c : Counts). c.by_flash) counts) ∙ e));
     damage_called = λ e. absurd (none_failed (sym (ap (λ (c : Counts). is_some c.damage) counts) ∙ e));

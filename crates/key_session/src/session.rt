@@ -9,6 +9,7 @@ ghost use Rattle.channel_session.specs.Entries.{WentBy};
 ghost use Rattle.key_lines.specs.Handing.{handed};
 ghost use Rattle.session_replies.specs.Kept.{IsKept, none_heard};
 ghost use Rattle.key_exec.specs.Plans.{Suffices};
+ghost use Rattle.page_pool.specs.Pools.{IsIdle};
 ghost use Rattle.text_lines.specs.Rows.{PrintsSome};
 ghost use Rattle.key_session.specs.Going.{GoesFrom};
 ghost use Rattle.key_session.specs.Running.{HasRun, is_sink, blames_flash, is_damaged, spares_flash};
@@ -26,6 +27,7 @@ use edge_traits::link::Link;
 use edge_traits::sink::Sink;
 use flash_layout::limits::a_catalog_has_a_layout;
 use key_lines::printer::pieces_join;
+use page_pool::PagePool;
 use reply_laws::stores::replies_fit;
 use session_laws::honest_sessions::{honest_lines_are_printed, honest_sessions_are_smooth};
 use session_laws::text_cases::texts_have_outcomes;
@@ -42,11 +44,14 @@ fn converse<F: Flash, L: Link, O: Sink>(
     exchange: &mut Exchange<'_>,
     teller: &mut Teller<'_>,
     replies: &mut Replies,
+    pool: &mut PagePool,
     flash: &mut F,
     link: &mut L,
     out: &mut O,
 ) -> Option<u8>
     requires suffices { Suffices cat.now (F.state flash.old) }
+    requires idle { IsIdle pool.old }
+    ensures idle { IsIdle pool.new }
     ensures suffices { Suffices cat.now (F.state flash.new) }
     ensures closed { want_of exchange.new.pump ≡ Want.Closed }
     ensures gone { GoesFrom (WentBy (λ journal. L.went link.old journal link.new) (L.faults link.old) (L.faults link.new)) F.told cat.now at.now
@@ -61,7 +66,7 @@ fn converse<F: Flash, L: Link, O: Sink>(
     moves_join();
     let mut refusal = None;
     'moves: loop {
-        teller.attend(cat, &exchange.pump, replies, flash, out);
+        teller.attend(cat, &exchange.pump, replies, pool, flash, out);
         if let Want::Closed = exchange.pump.want() {
             return refusal;
         }
@@ -75,6 +80,7 @@ fn converse<F: Flash, L: Link, O: Sink>(
 /// Runs the session of a script, which has at most 64 texts, with the host at the options' address, and prints the lines of
 /// each text: the replies of the host and the key's own flash answer it.
 ///
+/// Every page that it reads of the flash lies in a buffer of the pool, of which none is out before it and none after it.
 /// The replies are kept in stores that are empty at first. After a failed write no further line is printed, but the session
 /// goes on to its end.
 pub fn run_session<F: Flash, L: Link, O: Sink>(
@@ -82,6 +88,7 @@ pub fn run_session<F: Flash, L: Link, O: Sink>(
     script: &[u8],
     options: &Options<'_>,
     replies: &mut Replies,
+    pool: &mut PagePool,
     flash: &mut F,
     link: &mut L,
     out: &mut O,
@@ -90,6 +97,7 @@ pub fn run_session<F: Flash, L: Link, O: Sink>(
     requires pace { options.now.pace ≡ 0 }
     requires suffices { Suffices cat.now (F.state flash.old) }
     requires replies { IsKept cat.now (none_heard cat.now) 1 0 replies.old }
+    requires idle { IsIdle pool.old }
     ensures ran { HasRun (λ journal. L.went link.old journal link.new) (L.faults link.old) (L.faults link.new) F.told cat.now options.now.at.now (texts_of script.now)
         (session_side false (O.faults out.old) (O.written out.old) (F.state flash.old)) (session_side (is_sink result.status) (O.faults out.new) (O.written out.new) (F.state flash.new)) result }
     ensures texts { result.texts ≡ length (texts_of script.now) }
@@ -97,6 +105,7 @@ pub fn run_session<F: Flash, L: Link, O: Sink>(
     ensures sink_rose { is_sink result.status ≡ true → Rose (O.faults out.old) (O.faults out.new) }
     ensures sink_same { is_sink result.status ≡ false → O.faults out.new ≡ O.faults out.old }
     ensures pages { KeepsPages (F.state flash.old) (F.state flash.new) }
+    ensures idle { IsIdle pool.new }
     ensures flash_calls { min (F.state flash.old).calls last_count ≤ (F.state flash.new).calls }
     ensures flash_called { blames_flash result.status ≡ true → Rose (F.state flash.old).calls (F.state flash.new).calls }
     ensures damage_called { is_damaged result.status ≡ true → Rose (F.state flash.old).calls (F.state flash.new).calls }
@@ -120,11 +129,12 @@ pub fn run_session<F: Flash, L: Link, O: Sink>(
         &mut exchange,
         &mut teller,
         replies,
+        pool,
         flash,
         link,
         out,
     );
-    teller.tell_all(cat, &exchange.pump, replies, flash, out);
+    teller.tell_all(cat, &exchange.pump, replies, pool, flash, out);
     let failed = teller.printer.failed;
     Tally {
         texts: teller.count,

@@ -5,6 +5,7 @@ ghost use Rattle.ghost_model.specs.core.Channel.{Journal};
 ghost use Rattle.ghost_model.specs.core.Asks.{asked_of};
 ghost use Rattle.channel_pump.specs.State.{IsAfter};
 ghost use Rattle.key_exec.specs.Plans.{Suffices};
+ghost use Rattle.page_pool.specs.Pools.{IsIdle};
 ghost use Rattle.key_session.specs.Going.{IsGoing, IsAttended};
 ghost use Rattle.key_session.specs.Telling.{SessionSide, session_side, CameOut, TellsOn};
 
@@ -15,6 +16,7 @@ use edge_traits::sink::Sink;
 use key_lines::printer::pieces_join;
 use reply_laws::stores::{replies_ascend, replies_fit, stored_are_given};
 use reply_laws::texts::texts_come_in_order;
+use page_pool::PagePool;
 use session_laws::text_cases::texts_are_decided;
 use session_laws::text_ends::over_texts_are_settled;
 use session_replies::Replies;
@@ -29,10 +31,13 @@ impl<'a> Teller<'a> {
         cat: &Catalog,
         pump: &Pump,
         replies: &mut Replies,
+        pool: &mut PagePool,
         flash: &mut F,
         out: &mut O,
     ) -> bool
         requires suffices { Suffices cat.now (F.state flash.old) }
+        requires idle { IsIdle pool.old }
+        ensures idle { IsIdle pool.new }
         ensures suffices { Suffices cat.now (F.state flash.new) }
         ensures told { TellsOn F.told cat.now pump.now (λ texts journal. CameOut cat.now texts journal (self.old.count + 1))
             (session_side self.old.printer.failed (O.faults out.old) (O.written out.old) (F.state flash.old)) self.old replies.old
@@ -61,6 +66,7 @@ impl<'a> Teller<'a> {
             text,
             state,
             replies.store(number),
+            pool,
             flash,
         );
         self.count = number;
@@ -74,10 +80,13 @@ impl<'a> Teller<'a> {
         cat: &Catalog,
         pump: &Pump,
         replies: &mut Replies,
+        pool: &mut PagePool,
         flash: &mut F,
         out: &mut O,
     )
         requires suffices { Suffices cat.now (F.state flash.old) }
+        requires idle { IsIdle pool.old }
+        ensures idle { IsIdle pool.new }
         ensures suffices { Suffices cat.now (F.state flash.new) }
         ensures told { TellsOn F.told cat.now pump.now (λ texts journal. (number : ℕ) → number < text → CameOut cat.now texts journal number)
             (session_side self.old.printer.failed (O.faults out.old) (O.written out.old) (F.state flash.old)) self.old replies.old
@@ -86,7 +95,7 @@ impl<'a> Teller<'a> {
         ensures near { (self.new.texts ≡ [] → ⊥) → text ≤ self.new.count + 2 }
     {
         'texts: while self.count + 2 < text {
-            if !self.tell_next(cat, pump, replies, flash, out) {
+            if !self.tell_next(cat, pump, replies, pool, flash, out) {
                 return;
             }
         }
@@ -98,16 +107,19 @@ impl<'a> Teller<'a> {
         cat: &Catalog,
         pump: &Pump,
         replies: &mut Replies,
+        pool: &mut PagePool,
         flash: &mut F,
         out: &mut O,
     )
         requires suffices { Suffices cat.now (F.state flash.old) }
+        requires idle { IsIdle pool.old }
+        ensures idle { IsIdle pool.new }
         ensures told { TellsOn F.told cat.now pump.now (λ texts journal. (number : ℕ) → CameOut cat.now texts journal number)
             (session_side self.old.printer.failed (O.faults out.old) (O.written out.old) (F.state flash.old)) self.old replies.old
             (session_side self.new.printer.failed (O.faults out.new) (O.written out.new) (F.state flash.new)) self.new replies.new }
         ensures all { self.new.texts ≡ [] }
     {
-        'texts: while self.tell_next(cat, pump, replies, flash, out) {}
+        'texts: while self.tell_next(cat, pump, replies, pool, flash, out) {}
     }
 
     /// Tells the texts whose asks are over and whose replies have to leave their place to those of the ask that is awaited,
@@ -117,10 +129,13 @@ impl<'a> Teller<'a> {
         cat: &Catalog,
         pump: &Pump,
         replies: &mut Replies,
+        pool: &mut PagePool,
         flash: &mut F,
         out: &mut O,
     )
         requires suffices { Suffices cat.now (F.state flash.old) }
+        requires idle { IsIdle pool.old }
+        ensures idle { IsIdle pool.new }
         ensures suffices { Suffices cat.now (F.state flash.new) }
         ensures attended { (texts : List (List ℕ)) (journal : Journal) (since : SessionSide)
             → IsAfter cat.now (asked_of cat.now.schema texts) journal pump.now
@@ -135,7 +150,7 @@ impl<'a> Teller<'a> {
         match pump.asked() {
             None => {}
             Some((text, ask)) => {
-                self.tell_before(text, cat, pump, replies, flash, out);
+                self.tell_before(text, cat, pump, replies, pool, flash, out);
                 replies.open(cat.schema(), text, ask);
             }
         }

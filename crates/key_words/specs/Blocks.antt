@@ -1,4 +1,5 @@
--- How many blocks a flash may have: where a number is given, it is not above the most.
+-- How many blocks a flash may have: where a number is given, it is not above the most. And how many page buffers a key may
+-- have.
 use Rattle.std.specs.Prelude.{ℕ, ◌≤◌, Option, IfSome}
 
 abbrev pub most_blocks : ℕ
@@ -6,3 +7,13 @@ most_blocks = 60000000
 
 abbrev pub IsFew : Option ℕ → Type 0
 IsFew given = IfSome given (λ blocks. blocks ≤ most_blocks)
+
+abbrev pub least_buffers : ℕ
+least_buffers = 8
+
+abbrev pub most_buffers : ℕ
+most_buffers = 64
+
+pub record AreBuffers (buffers : ℕ) : Type 0 where
+  pub enough : least_buffers ≤ buffers
+  pub few : buffers ≤ most_buffers

@@ -21,8 +21,9 @@ plain_app = with_rule (with_inputs (new_app (codes "plain"))) (needed (codes "sc
 
 abbrev pub local_app : App
 local_app =
-    with_rule (with_rule (with_rule (with_rule (with_rule (with_inputs (new_app (codes "local"))) (needed (codes "flash")))
-    (needed (codes "script"))) (optional (codes "journal"))) (optional (codes "plan"))) (optional (codes "pace"))
+    with_rule (with_rule (with_rule (with_rule (with_rule (with_rule (with_inputs (new_app (codes "local"))) (needed (codes "flash")))
+    (needed (codes "script"))) (optional (codes "journal"))) (optional (codes "plan"))) (optional (codes "pace")))
+    (optional (codes "buffers"))
 
 abbrev pub load_app : App
 load_app =
@@ -31,8 +32,8 @@ load_app =
 
 abbrev pub query_app : App
 query_app =
-    with_rule (with_rule (with_rule (with_rule (with_rule (new_app (codes "query")) (needed (codes "flash"))) (needed (codes "to")))
-    (needed (codes "script"))) (optional (codes "plan"))) (optional (codes "pace"))
+    with_rule (with_rule (with_rule (with_rule (with_rule (with_rule (new_app (codes "query")) (needed (codes "flash")))
+    (needed (codes "to"))) (needed (codes "script"))) (optional (codes "plan"))) (optional (codes "pace"))) (optional (codes "buffers"))
 
 abbrev pub bare_app : App
 bare_app =

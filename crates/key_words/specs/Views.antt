@@ -20,6 +20,7 @@ local_view local = record {
   journal = option_map (λ name. name.now) local.journal;
   plan = local.plan;
   pace = local.pace;
+  buffers = local.buffers;
 }
 
 abbrev pub load_view : LoadWords → words.Load
@@ -32,7 +33,14 @@ load_view load = record {
 }
 
 abbrev pub query_view : QueryWords → words.Query
-query_view query = record { flash = query.flash.now; to = query.to.now; script = query.script.now; plan = query.plan; pace = query.pace }
+query_view query = record {
+  flash = query.flash.now;
+  to = query.to.now;
+  script = query.script.now;
+  plan = query.plan;
+  pace = query.pace;
+  buffers = query.buffers;
+}
 
 abbrev pub words_view : KeyWords → words.Command
 words_view (key.Local local) = words.LocalCommand (local_view local)

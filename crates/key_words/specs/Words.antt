@@ -1,6 +1,7 @@
 -- What the words of the program say: the reading of `clap`, and then the rule of each value. `--plan` takes the name of a
--- plan, and stands for `scan` where it is left out; `--pace` takes 0 alone, which it is where it is left out. `--blocks`
--- takes a number from 1 to 60,000,000, as one to nine decimal digits, and may be left out.
+-- plan, and stands for `scan` where it is left out; `--pace` takes 0 alone, which it is where it is left out. `--buffers`
+-- takes a number from 8 to 64, which is 32 where it is left out, and `--blocks` one from 1 to 60,000,000, which may be left
+-- out. A number is one to nine decimal digits.
 use Rattle.std.specs.Prelude.{ℕ, Bool, ◌&&◌, nat_le, List, length, Option, Some, None, codes, bytes_eq, option_map, option_and_then, if◌then◌else◌}
 use Rattle.std.specs.List.{list_all}
 use Rattle.leakless_plan.specs.declared.plan.Plan.{Plan}
@@ -11,7 +12,7 @@ use Rattle.clap.specs.Walk.{Row, Text, is_empty, first_of}
 use Rattle.clap.specs.Simple.{subcommand_of}
 use Rattle.clap.specs.Faults.{fault_of}
 use Rattle.key_words.specs.KeyApp.{key_app}
-use Rattle.key_words.specs.Blocks.{most_blocks}
+use Rattle.key_words.specs.Blocks.{most_blocks, least_buffers, most_buffers}
 
 pub record Plain : Type 0 where
   pub schema : List ℕ
@@ -26,6 +27,7 @@ pub record Local : Type 0 where
   pub journal : Option (List ℕ)
   pub plan : Plan
   pub pace : ℕ
+  pub buffers : ℕ
 
 pub record Load : Type 0 where
   pub schema : List ℕ
@@ -40,6 +42,7 @@ pub record Query : Type 0 where
   pub script : List ℕ
   pub plan : Plan
   pub pace : ℕ
+  pub buffers : ℕ
 
 pub data Command : Type 0 where
   LocalCommand : Local → Command
@@ -69,18 +72,35 @@ plain_of rows =
     needs rows (codes "schema") (λ schema. needs rows (codes "data") (λ tables. needs rows (codes "script") (λ script.
     Some (PlainCommand (record { schema = schema; tables = tables; script = script })))))
 
--- the command that is made of the plan and the pace
-abbrev pub with_pace : Option ℕ → (ℕ → Command) → Option Command
-with_pace said made = option_map made said
+-- the number that a value says, from one to another one
+abbrev pub is_number : (least most : ℕ) → Text → Bool
+is_number least most digits =
+    list_all is_digit digits && (nat_le (length digits) 9 && is_between least most (number_of digits))
 
-abbrev pub with_plan : List Row → (Plan → ℕ → Command) → Option Command
+abbrev pub number_said : (least most : ℕ) → Text → Option ℕ
+number_said least most digits = if is_number least most digits then Some (number_of digits) else None
+
+-- the number of page buffers that its option says
+abbrev pub buffers_said : Option Text → Option ℕ
+buffers_said None = Some 32
+buffers_said (Some digits) = number_said least_buffers most_buffers digits
+
+-- the command that is made of the plan, the pace and the number of buffers
+abbrev pub with_buffers : Option ℕ → (ℕ → Command) → Option Command
+with_buffers said made = option_map made said
+
+abbrev pub with_pace : List Row → Option ℕ → (ℕ → ℕ → Command) → Option Command
+with_pace rows said made = option_and_then (λ pace. with_buffers (buffers_said (first_of (codes "buffers") rows)) (made pace)) said
+
+abbrev pub with_plan : List Row → (Plan → ℕ → ℕ → Command) → Option Command
 with_plan rows made =
-    option_and_then (λ way. with_pace (pace_said (first_of (codes "pace") rows)) (made way)) (plan_said (first_of (codes "plan") rows))
+    option_and_then (λ way. with_pace rows (pace_said (first_of (codes "pace") rows)) (made way))
+    (plan_said (first_of (codes "plan") rows))
 
 abbrev pub local_of : List Row → Option Command
 local_of rows =
     needs rows (codes "schema") (λ schema. needs rows (codes "data") (λ tables. needs rows (codes "flash") (λ flash.
-    needs rows (codes "script") (λ script. with_plan rows (λ way pace.
+    needs rows (codes "script") (λ script. with_plan rows (λ way pace buffers.
     LocalCommand (record {
       schema = schema;
       tables = tables;
@@ -89,20 +109,13 @@ local_of rows =
       journal = first_of (codes "journal") rows;
       plan = way;
       pace = pace;
+      buffers = buffers;
     }))))))
 
--- the number of blocks that a value says
-abbrev pub is_block_number : Text → Bool
-is_block_number digits =
-    list_all is_digit digits && (nat_le (length digits) 9 && is_between 1 most_blocks (number_of digits))
-
-abbrev pub blocks_of : Text → Option ℕ
-blocks_of digits = if is_block_number digits then Some (number_of digits) else None
-
--- what the option of that number says: nothing where it is left out; none where its value breaks the rule
+-- what the option of the number of blocks says: nothing where it is left out; none where its value breaks the rule
 abbrev pub blocks_said : Option Text → Option (Option ℕ)
 blocks_said None = Some None
-blocks_said (Some digits) = option_map Some (blocks_of digits)
+blocks_said (Some digits) = option_map Some (number_said 1 most_blocks digits)
 
 abbrev pub with_blocks : (schema tables flash visible : List ℕ) → Option (Option ℕ) → Option Command
 with_blocks schema tables flash visible =
@@ -116,7 +129,8 @@ load_of rows =
 abbrev pub query_of : List Row → Option Command
 query_of rows =
     needs rows (codes "flash") (λ flash. needs rows (codes "to") (λ to. needs rows (codes "script") (λ script.
-    with_plan rows (λ way pace. QueryCommand (record { flash = flash; to = to; script = script; plan = way; pace = pace })))))
+    with_plan rows (λ way pace buffers.
+    QueryCommand (record { flash = flash; to = to; script = script; plan = way; pace = pace; buffers = buffers })))))
 
 abbrev pub command_of : Text → List Row → Option Command
 command_of name rows =

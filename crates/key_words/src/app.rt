@@ -61,7 +61,8 @@ fn local_command<'a>(alloc: Global) -> Result<Command<'a>, AllocError>
     let command = with_needed(alloc, command, "script");
     let command = with_optional(alloc, command, "journal");
     let command = with_optional(alloc, command, "plan");
-    with_optional(alloc, command, "pace")
+    let command = with_optional(alloc, command, "pace");
+    with_optional(alloc, command, "buffers")
 }
 
 /// The command `load`.
@@ -82,7 +83,8 @@ fn query_command<'a>(alloc: Global) -> Result<Command<'a>, AllocError>
     let command = with_needed(alloc, command, "to");
     let command = with_needed(alloc, command, "script");
     let command = with_optional(alloc, command, "plan");
-    with_optional(alloc, command, "pace")
+    let command = with_optional(alloc, command, "pace");
+    with_optional(alloc, command, "buffers")
 }
 
 /// The program without its commands.

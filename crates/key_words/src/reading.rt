@@ -5,13 +5,14 @@ ghost use Rattle.clap.specs.Words.{first_of, found_of, rows_of};
 ghost use Rattle.clap.specs.Simple.{subcommand_rows_of};
 ghost use Rattle.clap.specs.Values.{kind_of};
 ghost use Rattle.key_words.specs.Refusals.{BreaksRule, BreaksRuleIn, HasCause, is_told, told_kind};
+ghost use Rattle.key_words.specs.Blocks.{AreBuffers};
 ghost use Rattle.key_words.specs.Words.{reading, said};
 ghost use Rattle.key_words.specs.Words as words;
 ghost use Rattle.key_words.specs.Views.{words_view};
 
 use crate::app::program;
 use crate::refusing::refusal;
-use crate::values::{read_blocks, read_pace, read_plan};
+use crate::values::{read_blocks, read_buffers, read_pace, read_plan};
 use crate::words::{
     KeyWords, LoadWords, LocalWords, PlainWords, QueryWords, UsageFault, WordsFault,
 };
@@ -121,6 +122,19 @@ fn pace_of(options: &ArgMatches<'_>) -> Result<u32, UsageFault>
     }
 }
 
+/// The number of page buffers of the key.
+fn buffers_of(options: &ArgMatches<'_>) -> Result<u32, UsageFault>
+    ensures read { IfOk result (λ buffers. words.buffers_said (first_of (codes "buffers") (rows_of (found_of options.now))) ≡ Some buffers) }
+    ensures usage { OnErr result (words.buffers_said (first_of (codes "buffers") (rows_of (found_of options.now))) ≡ None) }
+    ensures some { IfOk result AreBuffers }
+    ensures fault { IfErr result (λ fault. fault ≡ UsageFault.Buffers) }
+{
+    match read_buffers(value_of(options, "buffers")) {
+        Some(buffers) => Ok(buffers),
+        None => Err(UsageFault::Buffers),
+    }
+}
+
 /// The words of `plain`.
 fn plain_of<'a>(options: &ArgMatches<'a>) -> Result<KeyWords<'a>, UsageFault>
     ensures read { IfOk result (λ command. words.plain_of (rows_of (found_of options.now)) ≡ Some (words_view command)) }
@@ -193,12 +207,14 @@ fn query_of<'a>(options: &ArgMatches<'a>) -> Result<KeyWords<'a>, UsageFault>
     };
     let plan = plan_of(options)?;
     let pace = pace_of(options)?;
+    let buffers = buffers_of(options)?;
     Ok(KeyWords::Query(QueryWords {
         flash,
         to,
         script,
         plan,
         pace,
+        buffers,
     }))
 }
 
@@ -223,6 +239,7 @@ fn local_of<'a>(options: &ArgMatches<'a>) -> Result<KeyWords<'a>, UsageFault>
     };
     let plan = plan_of(options)?;
     let pace = pace_of(options)?;
+    let buffers = buffers_of(options)?;
     Ok(KeyWords::Local(LocalWords {
         schema,
         tables,
@@ -231,5 +248,6 @@ fn local_of<'a>(options: &ArgMatches<'a>) -> Result<KeyWords<'a>, UsageFault>
         journal: value_of(options, "journal"),
         plan,
         pace,
+        buffers,
     }))
 }

@@ -2,7 +2,7 @@
 
 ghost use Rattle.std.specs.Prelude.{◌≡◌};
 ghost use Rattle.std.proofs.Props.{props};
-ghost use Rattle.key_words.specs.Blocks.{IsFew};
+ghost use Rattle.key_words.specs.Blocks.{IsFew, AreBuffers};
 
 use crate::shown::ShownWord;
 use leakless_plan::Plan;
@@ -59,6 +59,10 @@ pub struct QueryWords<'a> {
     /// How much is done between the moves: 0 as long as no work falls between them.
     pub pace: u32,
     pub ghost unpaced: { pace ≡ 0 } by { Prim.hlevel props },
+
+    /// How many page buffers the key has, from 8 to 64.
+    pub buffers: u32,
+    pub ghost some_buffers: { AreBuffers buffers } by { Prim.hlevel props },
 }
 
 /// The words of `local`.
@@ -85,6 +89,10 @@ pub struct LocalWords<'a> {
     /// How much is done between the moves: 0 as long as no work falls between them.
     pub pace: u32,
     pub ghost unpaced: { pace ≡ 0 } by { Prim.hlevel props },
+
+    /// How many page buffers the key has, from 8 to 64.
+    pub buffers: u32,
+    pub ghost some_buffers: { AreBuffers buffers } by { Prim.hlevel props },
 }
 
 /// A command with its words.
@@ -145,6 +153,10 @@ pub enum UsageFault {
     /// `--pace` has a value that it does not take.
     #[error("--pace takes 0 alone")]
     Pace,
+
+    /// `--buffers` has a value that it does not take.
+    #[error("--buffers takes a number from 8 to 64")]
+    Buffers,
 
     /// `--blocks` has a value that it does not take.
     #[error("--blocks takes a number from 1 to 60000000, of at most 9 digits")]

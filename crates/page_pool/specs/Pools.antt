@@ -1,5 +1,5 @@
 -- Page buffers as clauses see them. A lease is the number of its buffer.
-use Rattle.std.specs.Prelude.{◌≡◌, ◌≢◌, ℕ, ◌<◌, Bool, true, false, not, List, [], ◌∷◌, length, replicate, get_or, slice_set, count_by, Option, Some, None}
+use Rattle.std.specs.Prelude.{◌≡◌, ◌≢◌, ℕ, ◌<◌, ◌≤◌, Bool, true, false, not, List, [], ◌∷◌, length, replicate, get_or, slice_set, count_by, Option, Some, None}
 
 pub record Pool : Type 0 where
   -- what each buffer holds
@@ -34,6 +34,11 @@ pub record IsNew (buffers : ℕ) (pool : Pool) : Type 0 where
   pub size : length pool.pages ≡ buffers
   pub out : pool.out ≡ replicate buffers false
   pub free : free_count pool ≡ buffers
+
+-- no buffer of a pool is out, and there are as many as a pool has at least
+pub record IsIdle (pool : Pool) : Type 0 where
+  pub enough : 8 ≤ length pool.pages
+  pub free : free_count pool ≡ length pool.pages
 
 -- after a lease of a buffer, of which no page is known to lie there
 abbrev pub leased : Pool → (lease : ℕ) → Pool

@@ -2,7 +2,7 @@
 
 ghost use Rattle.std.specs.Prelude.{◌≡◌, ◌+◌, ◌<◌, ◌≤◌, Some, None, true, false, IfSome, IfNone, IfOk, length, get_or, count_by, not};
 ghost use Rattle.std.specs.Borrow.{sem};
-ghost use Rattle.page_pool.specs.Pools.{Pool, IsOut, IsFree, IsNew, leased, given, noted, bytes_at, page_at, free_count};
+ghost use Rattle.page_pool.specs.Pools.{Pool, IsOut, IsFree, IsNew, IsIdle, leased, given, noted, bytes_at, page_at, free_count};
 ghost use Rattle.page_pool.specs.Lending.{LendsPage};
 
 use std::alloc::{AllocError, Global};
@@ -68,6 +68,7 @@ impl PagePool {
         requires enough { 8 ≤ buffers }
         requires few { buffers ≤ 64 }
         ensures made { IfOk result (IsNew buffers) }
+        ensures idle { IfOk result IsIdle }
     {
         let buffers = buffers as usize;
         Ok(PagePool {

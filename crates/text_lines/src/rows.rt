@@ -34,6 +34,7 @@ pub(crate) fn print_rows<F: Flash, O: Sink>(
     printer: &mut Printer,
     out: &mut O,
     job: &mut Job<'_>,
+    pool: &mut PagePool,
     flash: &mut F,
     store: &ReplyStore,
 ) -> End

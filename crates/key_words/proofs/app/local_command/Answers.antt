@@ -6,4 +6,5 @@ returns c =
     let script = c.with_needed-command-2.ensures.made _ flash in
     let journal = c.with_optional-command.ensures.made _ script in
     let plan = c.with_optional-command-2.ensures.made _ journal in
-    record { made = c.with_optional.ensures.made _ plan }
+    let pace = c.with_optional-command-3.ensures.made _ plan in
+    record { made = c.with_optional.ensures.made _ pace }
