@@ -1,18 +1,17 @@
 -- What a cursor, a writer and a buffer keep where other pages change and other buffers are used.
-use Rattle.std.proofs.Common.{◌≡◌, ◌≢◌, ℕ, zero, suc, ◌+◌, ◌-◌, ◌*◌, ◌/◌, ◌%◌, ◌∷◌, ◌<◌, ◌≤◌, ◌∙◌, ap, sym, refl, subst, Bool, true, false, List, length, drop, arith}
+use Rattle.std.proofs.Common.{◌≡◌, ◌≢◌, ℕ, zero, suc, ◌+◌, ◌-◌, ◌*◌, ◌/◌, ◌%◌, ◌∷◌, ◌<◌, ◌≤◌, ◌∙◌, ap, sym, refl, subst, Bool, true, List, drop, arith}
 use Rattle.std.specs.Prelude.{IfSome, Option, Some, None}
 use Rattle.std.proofs.lemmas.Nat.{div_below}
 use Rattle.ghost_model.specs.forms.Runs.{Run, page_of, run_end, per_page, id_at, ids_from, cell_in, number_in}
 use Rattle.edge_traits.specs.Devices.{Device, KeepsPages, ChangesOnly, GaveSince}
-use Rattle.edge_traits.proofs.DeviceFrames.{gave_kept, gave_changed}
 use Rattle.page_pool.specs.Pools.{Pool, IsOut, ChangesPage, bytes_at, page_at}
 use Rattle.page_pool.specs.Laws.{SameBuffer}
 use Rattle.page_pool.proofs.Leases.{out_kept, change_keeps_out, change_elsewhere}
 use Rattle.ghost_base.specs.Runs.{run_of}
 use Rattle.flash_pages.specs.Reads.{IsFilled, CanRead, WasGiven}
 use Rattle.flash_pages.specs.Cursors.{IsReady, IsPageOf, ids_left, place}
-use Rattle.flash_pages.specs.Writing.{CanWritePage, IsWriting, block_end}
-use Rattle.flash_pages.specs.Writers.{CanWrite, HasWritten, HasPut, next_page}
+use Rattle.flash_pages.specs.Writing.{IsWriting}
+use Rattle.flash_pages.specs.Writers.{CanWrite, HasPut, next_page}
 use Rattle.flash_pages.specs.declared.cursor.RunCursor.{RunCursor}
 use Rattle.flash_pages.specs.declared.filler.RunFiller.{RunFiller}
 use Rattle.flash_pages.specs.declared.writer.RunWriter.{RunWriter}

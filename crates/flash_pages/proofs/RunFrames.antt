@@ -1,11 +1,10 @@
 -- What stays of a run where other pages change, a part of a record, and the identifiers of a list one by one.
 use Rattle.std.proofs.Common.{◌≡◌, ℕ, zero, suc, ◌+◌, ◌-◌, ◌*◌, ◌/◌, ◌%◌, ◌^◌, ◌<◌, ◌≤◌, ◌∙◌, ap, sym, refl, List, length, take, drop, get_or, arith}
-use Rattle.std.specs.Prelude.{IfSome, Option, Some, None, Bool, true}
+use Rattle.std.specs.Prelude.{Bool}
 use Rattle.std.specs.List.{slice_range}
 use Rattle.std.proofs.lemmas.List.{drop-take, take-take, drop-drop}
 use Rattle.ghost_model.specs.forms.Runs.{Run, HasRecords, Stores, record_at, records_in, page_of, run_pages, run_end, per_page, cell_in, id_at, ids_from}
 use Rattle.edge_traits.specs.Devices.{Device, ChangesOnly, IsErased}
-use Rattle.ghost_base.specs.Runs.{run_of}
 use Rattle.flash_pages.specs.Runs.{HasRun}
 use Rattle.std.proofs.lemmas.Nat.{le-div, div-add-mod'}
 use Rattle.flash_pages.specs.Filling.{CanFill}

@@ -10,6 +10,7 @@ pub mod fault;
 pub mod filler;
 pub mod filling;
 pub mod fixed;
+pub mod held;
 pub mod load;
 pub mod writer;
 

@@ -1,9 +1,9 @@
 //! A run that is written under a lease.
 
-ghost use Rattle.std.specs.Prelude.{◌≡◌, ◌<◌, ◌≤◌, ◌-◌, ◌^◌, ◌++◌, ◌∷◌, [], true, false, Bool, List, ℕ, length, IfOk, OnOk, OnErr};
+ghost use Rattle.std.specs.Prelude.{◌≡◌, ◌<◌, ◌≤◌, ◌-◌, ◌^◌, ◌++◌, ◌∷◌, [], true, false, Bool, List, ℕ, None, length, IfOk, OnOk, OnErr};
 ghost use Rattle.ghost_model.specs.forms.Runs.{Stores};
 ghost use Rattle.edge_traits.specs.Devices.{KeepsPages};
-ghost use Rattle.page_pool.specs.Pools.{Pool, IsOut, ChangesPage};
+ghost use Rattle.page_pool.specs.Pools.{Pool, IsOut, ChangesPage, page_at};
 ghost use Rattle.flash_pages.specs.Writing.{IsEntered, reach};
 ghost use Rattle.flash_pages.specs.Writers.{CanWrite, HasPut, HasOneMore, SameRun, IsRunOf, Writes, next_page, fills, waits, put_calls, finish_calls};
 ghost use Rattle.ghost_base.specs.Runs.{run_of};
@@ -70,6 +70,7 @@ impl RunWriter {
         ensures writes { Writes (F.state flash.old) (F.state flash.new) (next_page self.old.filler) (reach (next_page self.old.filler) self.old.filler.erase) (put_calls self.old.filler) result }
         ensures buffer { ChangesPage pool.old pool.new self.old.lease }
         ensures out { IsOut pool.new self.new.lease }
+        ensures unheld { page_at pool.new self.new.lease ≡ None }
     {
         self.filler.put(flash, pool.page_mut(&self.lease), cell)
     }

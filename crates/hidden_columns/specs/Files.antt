@@ -1,5 +1,5 @@
 -- The file of a hidden column, and what a call on it gives.
-use Rattle.std.specs.Prelude.{◌≡◌, ℕ, ◌-◌, ◌≤◌, ⊤, Bool, true, pos, List, length, Option, Some, None, Result, Ok, Err, IsTrue}
+use Rattle.std.specs.Prelude.{◌≡◌, ℕ, ◌-◌, ◌≤◌, ⊤, pos, List, Option, Some, None, Result, Ok, Err, IsTrue}
 use Rattle.ghost_model.specs.core.Values.{Value, Number}
 use Rattle.ghost_model.specs.core.Channel.{Catalog}
 use Rattle.ghost_model.specs.forms.Cells.{cell_width}

@@ -5,6 +5,7 @@
 #![tactic(auto)]
 
 pub mod file;
+pub mod held;
 pub mod laws;
 mod range;
 
