@@ -12,7 +12,7 @@ use Rattle.edge_traits.specs.Devices.{Device, KeepsPages}
 use Rattle.flash_pages.specs.declared.fault.PageFault.{PageFault}
 use Rattle.flash_pages.specs.declared.fault.PageFault.TheVariants.{Flash, Damaged}
 use Rattle.hidden_columns.specs.declared.file.ColumnFile.{ColumnFile}
-use Rattle.hidden_columns.specs.Files as files
+use Rattle.hidden_columns.specs.Held as files
 use Rattle.hidden_columns.specs.Files.{IsFileOf, GivesSlot, HasNoValue, slot_bytes, value_spelled}
 use Rattle.key_exec.specs.Blaming.{BlamesAt, Blames}
 

@@ -143,7 +143,7 @@ fn value(
     if identifier == 0 || identifier > file.run.count {
         return None;
     }
-    Some(file.get(
+    Some(file.get_held(
         &mut loaded.flash,
         &mut Held::none(),
         &mut [0; 2048],

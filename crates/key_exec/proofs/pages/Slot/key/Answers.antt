@@ -4,5 +4,5 @@ use Rattle.key_exec.proofs.pages.Slot.key.Goals as goal
 
 pub returns-clause-blames : goal.returns-clause-blames
 returns-clause-blames g c =
-    blamed key_value g.F.Flash.told (g.F.Flash.state c.args.flash.now) (g.F.Flash.state c.key.new.flash) c.args.file.now c.args.identifier c.key.result
-    c.key.ensures.blames c.key.ensures.gives c.key.ensures.kept
+    blamed key_value g.F.Flash.told (g.F.Flash.state c.args.flash.now) (g.F.Flash.state c.key_held.new.flash) c.args.file.now c.args.identifier c.key_held.result
+    c.key_held.ensures.blames c.key_held.ensures.gives c.key_held.ensures.kept
