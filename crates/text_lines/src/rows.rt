@@ -7,6 +7,7 @@ ghost use Rattle.edge_traits.specs.Devices.{KeepsPages};
 ghost use Rattle.key_lines.specs.Handing.{handed};
 ghost use Rattle.reply_store.specs.Stored.{replies_in, are_ascending};
 ghost use Rattle.key_exec.specs.Plans.{Suffices};
+ghost use Rattle.page_pool.specs.Pools.{IsIdle};
 ghost use Rattle.key_exec.specs.Reading.{Knows};
 ghost use Rattle.key_exec.specs.Jobs.{is_over, rows_left};
 ghost use Rattle.text_lines.specs.Rows.{GivesEnd, PrintsSome, EndTells, EndCalls, EndBlames};
@@ -16,6 +17,7 @@ use edge_traits::sink::Sink;
 use key_exec::{Job, Pages, Row, Turn};
 use key_lines::Printer;
 use key_lines::printer::pieces_join;
+use page_pool::PagePool;
 use reply_store::ReplyStore;
 
 /// How the rows of a text ended.
@@ -40,11 +42,13 @@ pub(crate) fn print_rows<F: Flash, O: Sink>(
 ) -> End
     requires going { is_over job.old ≡ false }
     requires suffices { Suffices job.old.cat (F.state flash.old) }
+    requires idle { IsIdle pool.old }
     ensures rows { (database : Database) → Knows F.told (F.state flash.old).page job.old.cat database → are_ascending (replies_in store.now.stored) ≡ true
         → GivesEnd (rows_left job.old database (replies_in store.now.stored)) job.old.given
         (handed printer.old.failed (O.faults out.old) (O.written out.old)) (handed printer.new.failed (O.faults out.new) (O.written out.new)) result }
     ensures prints { PrintsSome (handed printer.old.failed (O.faults out.old) (O.written out.old)) (handed printer.new.failed (O.faults out.new) (O.written out.new)) }
     ensures kept { KeepsPages (F.state flash.old) (F.state flash.new) }
+    ensures idle { IsIdle pool.new }
     ensures faults { EndTells (F.state flash.old).faults (F.state flash.new).faults result }
     ensures calls_stay { min (F.state flash.old).calls last_count ≤ (F.state flash.new).calls }
     ensures called { EndCalls (F.state flash.old).calls (F.state flash.new).calls result }

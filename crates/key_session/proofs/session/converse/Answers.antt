@@ -9,7 +9,7 @@ use Rattle.key_session.proofs.session.converse.Goals as goal
 
 pub moves-init : goal.moves-init
 moves-init g c = (
-  c.requires.suffices,
+  (c.requires.suffices, c.requires.idle),
   (λ texts since live going. none_gone _ _ c.args.cat.now c.args.at.now texts since _ _ _ _ (record { gone = g.met.L.Link.stays _; counts = c.moves_join.ensures.joined.none _; short = refl }) live going),
   omega arith,
 )
@@ -24,7 +24,7 @@ pub moves-preserved : goal.moves-preserved
 moves-preserved g c =
     let before = c.moves.invariant.2 in
     let more = c.step-event.ensures.faults in (
-      c.attend.ensures.suffices,
+      (c.attend.ensures.suffices, c.attend.ensures.idle),
       (λ texts since live going.
           let gone = c.moves.invariant.1 texts since live going in
           gone_on c.ended_texts_stay.ensures c.reasons_stay.ensures c.replies_fit.ensures _ c.args.cat.now c.a_catalog_is_short.ensures.catalog.meant

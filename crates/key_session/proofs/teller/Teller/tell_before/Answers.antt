@@ -9,7 +9,7 @@ returns-then-not-tell_next-clause-told g c = λ texts journal top since after ca
 pub texts-preserved : goal.texts-preserved
 texts-preserved g c =
     let more = c.tell_next.ensures.next c.if-not-tell_next.false in (
-      c.tell_next.ensures.suffices,
+      (c.tell_next.ensures.suffices, c.tell_next.ensures.idle),
       (λ texts journal top since after came telling.
           c.tell_next.ensures.told texts journal top since after (came (c.texts.self.count + 1) (omega (arith, c.texts-test.true)))
           (c.texts.invariant.1 texts journal top since after came telling)),
