@@ -1,13 +1,18 @@
 use Rattle.std.proofs.Common.{Bor, ◌∙◌, sym, ℕ, List, Some}
 use Rattle.csv.specs.Records.{fields_of}
 use Rattle.csv.specs.Reading.{stops_reader, error_kind}
-use Rattle.csv_split.proofs.ReadRecords.{stays, stays_after, reads}
+use Rattle.csv_split.proofs.ReadRecords.{formless, stays, stays_after, reads}
 use Rattle.csv_split.proofs.records.Records.read.Goals as goal
+
+pub wanting-requires : goal.wanting-requires
+wanting-requires c =
+    formless (λ (s : Bor (List ℕ)). Some s.now) c.self.inside.reader c.read_byte_record.new.self (error_kind c.in-Err.error) c.self.invariant
+    (λ failed. cc (sym c.in-Err.is ∙ c.read_byte_record.ensures.failed failed)) c.in-Err.ensures.why
 
 pub invariant_of-self : goal.invariant_of-self
 invariant_of-self c =
-    stays c.self.inside.reader c.read_byte_record.new.self (stops_reader (error_kind c.in_default.field-0)) c.self.invariant
-    (λ failed. cc (sym c.in_default.is ∙ c.read_byte_record.ensures.failed failed)) c.in_default.ensures.fails c.in_default.ensures.goes_on
+    stays c.self.inside.reader c.read_byte_record.new.self (stops_reader (error_kind c.in-Err.error)) c.self.invariant
+    (λ failed. cc (sym c.in-Err.is ∙ c.read_byte_record.ensures.failed failed)) c.in-Err.ensures.fails c.in-Err.ensures.goes_on
 
 pub invariant_of-self-2 : goal.invariant_of-self-2
 invariant_of-self-2 c =
