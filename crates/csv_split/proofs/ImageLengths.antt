@@ -1,5 +1,5 @@
 -- The bytes of the tables before one, and of those that are left.
-use Rattle.std.proofs.Common.{◌≡◌, ◌≤◌, ◌<◌, ◌+◌, ◌*◌, ◌∙◌, ℕ, zero, suc, List, [], ◌∷◌, length, drop, get_or, min, Some, None, inl, inr, refl, sym, ap, arith, add-one, if◌then◌else◌}
+use Rattle.std.proofs.Common.{◌≡◌, ◌≤◌, ◌<◌, ◌+◌, ◌*◌, ◌∙◌, ℕ, zero, suc, List, [], ◌∷◌, length, drop, get_or, min, Some, None, inl, inr, refl, sym, ap, arith, add-one}
 use Rattle.std.specs.Prelude.{◌-◌, ◌^◌, ◌⊎◌, slice_get, true, false}
 use Rattle.std.proofs.Math.Dec.{leb}
 use Rattle.std.proofs.Math.Nat.{min-eq_left, min-eq_right, min-le_right}
@@ -7,7 +7,6 @@ use Rattle.std.proofs.lemmas.Bool.Decides.{leb_tells}
 use Rattle.std.proofs.lemmas.List.{drop_all, length-map}
 use Rattle.std.proofs.lemmas.Option.{slice_get-get_or}
 use Rattle.std.proofs.lemmas.Grind.{common_steps}
-use Rattle.ghost_model.specs.forms.Cells.{cell_width}
 use Rattle.ghost_model.specs.core.Schema as schema
 use Rattle.ghost_model.specs.laws.SchemaTrees.{identifier}
 use Rattle.ghost_model.specs.core.Values.{Rows}

@@ -129,3 +129,7 @@ formless rem old new (kind.UnequalLengths at expected len) (inr set) going why =
 formless rem old new (kind.Utf8 at cause) (inr set) going why = cc (why set.ready).0
 formless rem old new (kind.Serialize text) (inr set) going why = absurd (why set.ready)
 formless rem old new (kind.Deserialize at cause) (inr set) going why = absurd (why set.ready)
+
+-- a reader that failed has no records left
+pub none_after : (reader : Reader (Bor (List ℕ))) → has_failed reader ≡ true → left_of (λ (s : Bor (List ℕ)). Some s.now) reader ≡ []
+none_after reader failed = rw failed refl

@@ -1,6 +1,6 @@
 //! The records of a CSV file, one after another into one record that is used again.
 
-ghost use Rattle.std.specs.Prelude.{◌≡◌, IfOk, true};
+ghost use Rattle.std.specs.Prelude.{◌≡◌, [], IfErr, IfOk, true};
 ghost use Rattle.csv.specs.Reading.{error_kind, stops_reader};
 ghost use Rattle.csv.specs.Records.{fields_of};
 ghost use Rattle.ghost_model.specs.core.Database.{records_of};
@@ -51,9 +51,10 @@ impl<'a> Records<'a> {
     }
 
     /// Takes the next record, where there is one. Records of any number of fields are taken, and none is read as text, so
-    /// that no fault of a record's form can come; that bytes in memory can't be read is told as want of memory.
+    /// that no fault of a record's form can come; that bytes in memory can't be read is told as want of memory. No record is left after an error.
     pub fn read(&mut self, row: &mut ByteRecord) -> Result<bool, AllocError>
-        ensures { IfOk result (λ found. Reads found self.old (fields_of row.new) self.new) }
+        ensures read { IfOk result (λ found. Reads found self.old (fields_of row.new) self.new) }
+        ensures stopped { IfErr result (λ _. self.new ≡ []) }
     {
         let found = match self.reader.read_byte_record(row) {
             Ok(found) => found,
