@@ -1,6 +1,7 @@
 -- How a result judges the faults of a whole by those of its parts.
-use Rattle.std.proofs.Common.{◌≡◌, Bool, true, false, List, [], ◌++◌, Option, Some, None, Result, sym, ap, subst}
+use Rattle.std.proofs.Common.{◌≡◌, Bool, true, false, List, [], ◌++◌, Option, Some, None, Result, Ok, Err, sym, ap, subst}
 use Rattle.ghost_model.specs.refusals.LoadFaults as faults
+use Rattle.csv_split.specs.declared.faults.LoadFault.{LoadFault}
 use Rattle.ghost_model.specs.refusals.LoadFaults.{IsFirst, Judges, TellsFirst, unless}
 
 -- the first fault of a part is that of the whole that begins with it
@@ -24,3 +25,11 @@ judges_same told result part whole same h = let P : List faults.LoadFault → Ty
 -- a part without faults leaves the rest
 pub none_first : (part later : List faults.LoadFault) → part ≡ [] → part ++ later ≡ later
 none_first part later none = ap (λ faults. faults ++ later) none
+
+-- an error that is another one is so in a result of any type
+abbrev error_or : {X : Type 0} → LoadFault → Result X LoadFault → LoadFault
+error_or other (Ok value) = other
+error_or other (Err error) = error
+
+pub same_error : {X Y : Type 0} (error other : LoadFault) → ◌≡◌ {A = Result X LoadFault} (Err error) (Err other) → ◌≡◌ {A = Result Y LoadFault} (Err error) (Err other)
+same_error error other is = ap (λ one. Err one) (ap (error_or other) is)

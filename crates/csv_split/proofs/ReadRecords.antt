@@ -3,7 +3,9 @@ use Rattle.std.proofs.Common.{Bor, ◌≡◌, ◌⊎◌, ◌<◌, ◌+◌, ◌�
 use Rattle.std.specs.Prelude.{⊤, option_map, if◌then◌else◌, ◌++◌, not, ◌&&◌, ◌==◌, drop, take}
 use Rattle.csv.specs.declared.reader.Trim.TheVariants as trim
 use Rattle.csv.specs.Machine.{Read, ends_at_end, field_after, fields_after, is_end, next_record, step}
-use Rattle.csv.specs.Reading.{NextIs, ReadRecord, ReadsNext, ReadsOn, Ready, buffered_of, default_config, has_failed, is_flexible, pending_of, records_from, records_next, source_of, strip_bom}
+use Rattle.csv.specs.Reading.{ExplainsRead, NextIs, ReadRecord, ReadsNext, ReadsOn, Ready, buffered_of, default_config, has_failed, is_flexible, pending_of, records_from, records_next, source_of, stops_reader, strip_bom}
+use Rattle.csv.specs.declared.error.ErrorKind.{ErrorKind}
+use Rattle.csv.specs.declared.error.ErrorKind.TheVariants as kind
 use Rattle.csv.specs.declared.parser.Config.{Config}
 use Rattle.csv.specs.declared.parser.State.{State}
 use Rattle.csv.specs.declared.parser.State.TheVariants as st
@@ -116,3 +118,18 @@ reads old new found fields (inr set) none read =
     let r = read set.plain set.ready in
     let known = told old set.going in
     rw r.1 (from_bytes old.config old.state new.state (source_of (λ (s : Bor (List ℕ)). Some s.now) old) (pending_of (Some new.rdr.now) new) known.0 found fields set.standard known.1 r.0)
+
+-- an error of such a reader is not of a record's form
+pub formless : {R : Type 0} (rem : R → Option (List ℕ)) (old new : Reader R) (of : ErrorKind) → IsReading old → (has_failed old ≡ true → ⊥)
+    → (Ready old → ExplainsRead rem old new false of) → stops_reader of ≡ true
+formless rem old new (kind.Io cause) reading going why = refl
+formless rem old new kind.OutOfMemory reading going why = refl
+formless rem old new of (inl failed) going why = absurd (going failed)
+formless rem old new (kind.UnequalLengths at expected len) (inr set) going why = cc (sym set.flexible ∙ (why set.ready).0)
+formless rem old new (kind.Utf8 at cause) (inr set) going why = cc (why set.ready).0
+formless rem old new (kind.Serialize text) (inr set) going why = absurd (why set.ready)
+formless rem old new (kind.Deserialize at cause) (inr set) going why = absurd (why set.ready)
+
+-- a reader that failed has no records left
+pub none_after : (reader : Reader (Bor (List ℕ))) → has_failed reader ≡ true → left_of (λ (s : Bor (List ℕ)). Some s.now) reader ≡ []
+none_after reader failed = rw failed refl

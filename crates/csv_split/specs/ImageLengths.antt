@@ -1,11 +1,15 @@
 -- How many bytes a visible image has where each row of it has a value for each visible column of its table.
-use Rattle.std.specs.Prelude.{ℕ, ◌+◌, ◌*◌, List, [], ◌∷◌, drop, length, if◌then◌else◌}
+use Rattle.std.specs.Prelude.{ℕ, ◌+◌, ◌*◌, ◌-◌, ◌^◌, min, List, [], ◌∷◌, drop, length, if◌then◌else◌}
 use Rattle.ghost_model.specs.forms.Catalog.{catalog_bytes}
 use Rattle.ghost_model.specs.forms.Cells.{cell_width}
 use Rattle.ghost_model.specs.core.Channel.{Catalog}
 use Rattle.ghost_model.specs.core.Schema.{Schema, Column}
 use Rattle.ghost_model.specs.core.Split.{Public}
 use Rattle.ghost_model.specs.core.Values.{Rows}
+
+-- a number of bytes as it is counted, where more than the greatest count are that
+abbrev pub counted : ℕ → ℕ
+counted bytes = min bytes (2 ^ 64 - 1)
 
 -- the bytes of a column in the image's rows
 abbrev pub column_bytes : Column → ℕ

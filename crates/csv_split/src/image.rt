@@ -8,7 +8,7 @@ ghost use Rattle.ghost_model.specs.core.Values.{Number, Text};
 ghost use Rattle.ghost_base.specs.Views.{kind_of};
 ghost use Rattle.tree_schema.specs.Views.{column_of};
 ghost use Rattle.csv_split.specs.Cells.{values_in};
-ghost use Rattle.csv_split.specs.ImageLengths.{column_bytes, image_bytes, row_bytes};
+ghost use Rattle.csv_split.specs.ImageLengths.{column_bytes, counted, image_bytes, row_bytes};
 ghost use Rattle.csv_split.specs.Parts.{HaveRow, part_in};
 ghost use Rattle.csv_split.specs.Reading.{HaveAll, columns_of};
 ghost use Rattle.csv_split.specs.Tables.{column_values, values_at};
@@ -43,10 +43,11 @@ fn catalog_in(alloc: Global, cat: &Catalog, room: usize) -> Result<Vec<u8>, Allo
     Ok(out)
 }
 
-/// How many bytes are to be reserved for an image, and no more than the image of whole rows has. Fewer would cost time alone.
+/// How many bytes are to be reserved for an image: as many as the image of whole rows has, or the greatest count where they
+/// are more.
 #[tactic(auto, using(crate::proofs::ImageLengths::all_lengths))]
 fn image_len(cat: &Catalog, public: &Public) -> usize
-    ensures at_most { result ≤ image_bytes cat.now public.now }
+    ensures { result ≡ counted (image_bytes cat.now public.now) }
 {
     let schema = cat.schema();
     let mut len = catalog_len(cat) as usize;
@@ -62,7 +63,7 @@ fn image_len(cat: &Catalog, public: &Public) -> usize
 /// How many bytes are to be reserved for the rows of a table.
 #[tactic(auto, using(crate::proofs::ImageLengths::scaled))]
 fn table_len(declared: &[Column], part: &Part) -> usize
-    ensures at_most { result ≤ row_bytes (columns_of declared.now) * length part.now }
+    ensures { result ≡ counted (row_bytes (columns_of declared.now) * length part.now) }
 {
     row_width(declared).saturating_mul(part.rows() as usize)
 }
@@ -80,7 +81,7 @@ fn column_len(column: &Column) -> usize
 /// How many bytes the visible columns of one row have.
 #[tactic(auto, using(crate::proofs::ImageLengths::all_widths))]
 fn row_width(declared: &[Column]) -> usize
-    ensures at_most { result ≤ row_bytes (columns_of declared.now) }
+    ensures { result ≡ counted (row_bytes (columns_of declared.now)) }
 {
     let mut width: usize = 0;
     for column in declared {

@@ -1,13 +1,13 @@
 //! A table from its file, record by record.
 
-ghost use Rattle.std.specs.Prelude.{◌≡◌, ◌≤◌, ◌&&◌, map, drop, IfOk, IfErr, OnOk};
+ghost use Rattle.std.specs.Prelude.{◌≡◌, ◌≤◌, ◌⊎◌, ◌&&◌, [], map, drop, Err, IfOk, IfErr, OnOk};
 ghost use Rattle.csv.specs.Records.{fields_of};
 ghost use Rattle.ghost_model.specs.core.Database as database;
 ghost use Rattle.ghost_model.specs.refusals.LoadFaults as faults;
 ghost use Rattle.csv_split.specs.Faults.{told};
 ghost use Rattle.csv_split.specs.Reading.{AreColumns, AreOfKinds, HaveAll, columns_of, with_identifier};
 ghost use Rattle.csv_split.specs.Tables.{column_values, rows_in};
-ghost use Rattle.csv_split.specs.Wants.{NeverWants};
+ghost use Rattle.csv_split.specs.Wants.{NeverWants, WantsForRow};
 
 use crate::cells::Cells;
 use crate::faults::{LoadFault, Place};
@@ -114,6 +114,7 @@ fn take_rows(
     requires kinds { AreOfKinds (columns_of declared.now) columns.old }
     requires none { HaveAll 0 (column_values columns.old) }
     ensures judged { faults.Judges told result (faults.rows_faults table 1 (with_identifier (columns_of declared.now)) records.old) }
+    ensures memory { result ≡ Err LoadFault.NoMemory → (records.new ≡ []) ⊎ WantsForRow table (columns_of declared.now) records.old records.new }
     ensures rows { IfOk result (λ count. rows_in count (column_values columns.new) ≡ map (database.row_spelled (with_identifier (columns_of declared.now))) records.old) }
     ensures few { IfOk result (λ count. count ≤ faults.most_rows) }
     ensures all { IfOk result (λ count. HaveAll count (column_values columns.new)) }

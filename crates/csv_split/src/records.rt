@@ -1,11 +1,12 @@
 //! The records of a CSV file, one after another into one record that is used again.
 
-ghost use Rattle.std.specs.Prelude.{◌≡◌, IfOk};
+ghost use Rattle.std.specs.Prelude.{◌≡◌, [], IfErr, IfOk, true};
+ghost use Rattle.csv.specs.Reading.{error_kind, stops_reader};
 ghost use Rattle.csv.specs.Records.{fields_of};
 ghost use Rattle.ghost_model.specs.core.Database.{records_of};
 ghost use Rattle.csv_split.specs.Records.{Reads};
 
-use csv::{ByteRecord, Reader, ReaderBuilder};
+use csv::{ByteRecord, Error, ErrorKind, Reader, ReaderBuilder};
 use std::alloc::{AllocError, Global};
 use std::marker::Model;
 
@@ -26,6 +27,16 @@ impl<'a> Model for Records<'a> {
     ghost invariant = { λ records. IsReading records.reader };
 }
 
+/// Want of memory, of an error that tells nothing of a record's form.
+fn wanting(error: Error) -> AllocError
+    requires { stops_reader (error_kind error) ≡ true }
+{
+    match error.into_kind() {
+        ErrorKind::OutOfMemory | ErrorKind::Io(_) => AllocError,
+        _ => unreachable!(),
+    }
+}
+
 impl<'a> Records<'a> {
     /// All records of a text.
     pub fn open(alloc: Global, text: &'a [u8]) -> Records<'a>
@@ -39,12 +50,15 @@ impl<'a> Records<'a> {
         }
     }
 
-    /// Takes the next record, where there is one.
+    /// Takes the next record, where there is one. Records of any number of fields are taken, and none is read as text, so
+    /// that no fault of a record's form can come; that bytes in memory can't be read is told as want of memory. No record is left after an error.
     pub fn read(&mut self, row: &mut ByteRecord) -> Result<bool, AllocError>
-        ensures { IfOk result (λ found. Reads found self.old (fields_of row.new) self.new) }
+        ensures read { IfOk result (λ found. Reads found self.old (fields_of row.new) self.new) }
+        ensures stopped { IfErr result (λ _. self.new ≡ []) }
     {
-        let Ok(found) = self.reader.read_byte_record(row) else {
-            return Err(AllocError);
+        let found = match self.reader.read_byte_record(row) {
+            Ok(found) => found,
+            Err(error) => return Err(wanting(error)),
         };
         Ok(found)
     }

@@ -1,6 +1,6 @@
 //! The rows of a table, from the records of its file.
 
-ghost use Rattle.std.specs.Prelude.{◌≡◌, ◌≤◌, ◌+◌, ◌∷◌, [], length, map, drop, get_or, pos, OnOk, IfErr};
+ghost use Rattle.std.specs.Prelude.{◌≡◌, ◌≤◌, ◌+◌, ◌∷◌, [], length, map, drop, get_or, pos, OnOk, Err, IfErr};
 ghost use Rattle.csv.specs.Records.{fields_of};
 ghost use Rattle.ghost_model.specs.core.Database as database;
 ghost use Rattle.ghost_model.specs.refusals.LoadFaults as faults;
@@ -8,7 +8,7 @@ ghost use Rattle.ghost_model.specs.core.Values.{Number};
 ghost use Rattle.csv_split.specs.Faults.{told};
 ghost use Rattle.csv_split.specs.Reading.{AreOfKinds, AtMost, columns_of, with_identifier, with_row};
 ghost use Rattle.csv_split.specs.Tables.{column_values};
-ghost use Rattle.csv_split.specs.Wants.{NeverWants};
+ghost use Rattle.csv_split.specs.Wants.{NeverWants, WantsForField};
 
 use crate::cells::Cells;
 use crate::faults::{LoadFault, Place};
@@ -70,6 +70,9 @@ pub(crate) fn take_row(
     requires kinds { AreOfKinds (columns_of declared.now) columns.old }
     requires room { AtMost faults.most_rows (column_values columns.old) }
     ensures judged { faults.Judges told result (faults.row_faults table number (with_identifier (columns_of declared.now)) (fields_of row.now)) }
+    ensures memory { result ≡ Err LoadFault.NoMemory → WantsForField table (number + 1) (columns_of declared.now) (fields_of row.now) }
+    ensures memory_last { result ≡ Err LoadFault.NoMemory → faults.row_faults table number (with_identifier (columns_of declared.now)) (fields_of row.now)
+        ≡ faults.field_faults table (number + 1) 1 (columns_of declared.now) (drop 1 (fields_of row.now)) }
     ensures values { OnOk result (column_values columns.new ≡ with_row (column_values columns.old) (database.row_spelled (columns_of declared.now) (drop 1 (fields_of row.now)))) }
     ensures kinds { AreOfKinds (columns_of declared.now) columns.new }
     ensures identifier { OnOk result (database.row_spelled (with_identifier (columns_of declared.now)) (fields_of row.now) ≡ Number (pos number) ∷ database.row_spelled (columns_of declared.now) (drop 1 (fields_of row.now))) }
@@ -96,6 +99,7 @@ fn take_fields(
     requires kinds { AreOfKinds (columns_of declared.now) columns.old }
     requires room { AtMost faults.most_rows (column_values columns.old) }
     ensures judged { faults.Judges told result (faults.field_faults at.table at.rec 1 (columns_of declared.now) (drop 1 (fields_of row.now))) }
+    ensures memory { result ≡ Err LoadFault.NoMemory → WantsForField at.table at.rec (columns_of declared.now) (fields_of row.now) }
     ensures values { OnOk result (column_values columns.new ≡ with_row (column_values columns.old) (database.row_spelled (columns_of declared.now) (drop 1 (fields_of row.now)))) }
     ensures kinds { AreOfKinds (columns_of declared.now) columns.new }
 {

@@ -15,3 +15,7 @@ HasRoomFor depot name bytes = HasRoom depot.files name bytes
 -- a depot has the room that it had, but for one file at most
 abbrev pub KeepsRoomOf : (before after : MemDepot) → Type 0
 KeepsRoomOf before after = KeepsRoom before.files after.files
+
+-- a depot has the files and the room that it had
+abbrev pub KeepsFilesOf : (before after : MemDepot) → Type 0
+KeepsFilesOf before after = after.files ≡ before.files

@@ -5,7 +5,7 @@ ghost use Rattle.std.specs.FinMap as map;
 ghost use Rattle.ghost_model.specs.core.Causes.{HasCause};
 ghost use Rattle.edge_traits.specs.Scripts.{IsFresh, IsSure};
 ghost use Rattle.edge_traits.specs.Files.{file_of, with_file, or_empty, SameBut, GivesAt};
-ghost use Rattle.edge_traits.specs.Rooms.{IsEmptyWith, HasRoomFor, KeepsRoomOf};
+ghost use Rattle.edge_traits.specs.Rooms.{IsEmptyWith, HasRoomFor, KeepsFilesOf, KeepsRoomOf};
 
 use crate::Failed;
 use crate::depot::Depot;
@@ -77,7 +77,7 @@ impl MemDepot {
         ensures append_faults { self.new.append_faults ≡ self.old.append_faults }
         ensures added { OnOk result (Some self.new.files.files ≡ with_file (Some self.old.files.files) name.now (or_empty (file_of (Some self.old.files.files) name.now) ++ bytes.now)) }
         ensures others { SameBut name.now (Some self.old.files.files) (Some self.new.files.files) }
-        ensures kept { OnErr result (self.new.files ≡ self.old.files) }
+        ensures kept { OnErr result (KeepsFilesOf self.old self.new) }
     {
         self.script.begin()?;
         if !self.files.add(name.as_bytes(), bytes) {
@@ -138,7 +138,7 @@ impl Depot for MemDepot {
         ensures appends { self.new.append_faults ≡ self.old.append_faults }
         ensures replaced { OnOk result (Some self.new.files.files ≡ with_file (Some self.old.files.files) name.now bytes.now) }
         ensures others { SameBut name.now (Some self.old.files.files) (Some self.new.files.files) }
-        ensures kept { OnErr result (self.new.files ≡ self.old.files) }
+        ensures kept { OnErr result (KeepsFilesOf self.old self.new) }
     {
         self.script.begin()?;
         if !self.files.put(name.as_bytes(), bytes) {
@@ -152,7 +152,7 @@ impl Depot for MemDepot {
         ensures append_cause { HasCause self.old.append_faults self.new.append_faults result }
         ensures appended { OnOk result (Some self.new.files.files ≡ with_file (Some self.old.files.files) name.now (or_empty (file_of (Some self.old.files.files) name.now) ++ bytes.now)) }
         ensures others { SameBut name.now (Some self.old.files.files) (Some self.new.files.files) }
-        ensures kept { OnErr result (self.new.files ≡ self.old.files) }
+        ensures kept { OnErr result (KeepsFilesOf self.old self.new) }
     {
         let result = self.add(name, bytes);
         if result.is_err() {

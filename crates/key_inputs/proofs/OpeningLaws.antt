@@ -1,11 +1,10 @@
 -- The files of tables, read one after another, are answered by the first load fault of all of them.
 use Rattle.std.proofs.Common.{◌≡◌, ℕ, ◌+◌, List, [], ◌∷◌, ◌++◌, map as each, Some, refl, sym, ap, ◌∙◌, append_assoc, append-nil}
-use Rattle.std.specs.FinMap as map
 use Rattle.ghost_model.specs.core.Schema.{Schema, Table, first_of}
 use Rattle.ghost_model.specs.core.Database.{database_of}
 use Rattle.ghost_model.specs.refusals.LoadFaults.{LoadFault, file_faults, files_faults, reference_faults}
 use Rattle.edge_traits.specs.Files.{Files}
-use Rattle.key_inputs.specs.Openings.{Spelled, on_table, unless_broken, table_file, tables_from}
+use Rattle.key_inputs.specs.Openings.{Spelled, on_table, unless_broken, tables_from}
 use Rattle.key_inputs.specs.OpeningLaws.{opening_by}
 use Rattle.key_inputs.specs.Views.{file_for}
 

@@ -1,6 +1,7 @@
 pub mod Naming
 pub mod Openings
 pub mod OpeningLaws
+pub mod Renaming
 pub mod Rules
 pub mod Scripts
 pub mod Views

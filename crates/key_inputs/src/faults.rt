@@ -1,7 +1,11 @@
 //! Why an input was not read.
 
+ghost use Rattle.std.specs.Prelude.{◌≡◌};
+ghost use Rattle.key_inputs.specs.Renaming.{as_fault};
+
 use crate::broken_schema::BrokenSchema;
 use crate::broken_table::BrokenTable;
+use edge_traits::reading::ReadFault;
 use thiserror::Error;
 
 /// A broken rule of an input.
@@ -42,4 +46,16 @@ pub enum OpenFault {
     /// A rule is broken.
     #[error("{0}")]
     Input(InputFault),
+}
+
+/// What stands for the fault of a file's reading, where `too_long` is the rule that too long a file breaks: want of memory
+/// for want of memory alone.
+pub(crate) fn unread(fault: ReadFault, too_long: InputFault) -> OpenFault
+    ensures { result ≡ as_fault too_long fault }
+{
+    match fault {
+        ReadFault::Depot => OpenFault::Depot,
+        ReadFault::NoMemory => OpenFault::NoMemory,
+        ReadFault::TooLong => OpenFault::Input(too_long),
+    }
 }

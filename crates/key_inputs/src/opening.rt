@@ -6,25 +6,27 @@ ghost use Rattle.ghost_model.specs.core.Database as database;
 ghost use Rattle.edge_traits.specs.Files.{Files, AreSure};
 ghost use Rattle.key_inputs.specs.Openings.{tables_opening, tables_from};
 ghost use Rattle.key_inputs.specs.Naming.{IsNamedBy, IsNamedIn, IsShownBy, IsSpelledIn, OfKey, OfTable, ShowsKey};
-ghost use Rattle.key_inputs.specs.Views.{OpensTables, OpensSchema, ReadsFiles, ReadsTable, Tells, TellsRule, rule_in, name_at, opening_at};
+ghost use Rattle.key_inputs.specs.Views.{OpensTables, OpensSchema, ReadsFiles, ReadsTable, Tells, TellsRule, rule_in, rule_of, name_at, opening_at};
 ghost use Rattle.ghost_model.specs.refusals.LoadFaults as load;
+ghost use Rattle.tree_schema.specs.Faults.{fault_of};
 ghost use Rattle.ghost_model.specs.core.Schema as schemas;
 ghost use Rattle.key_inputs.specs.Openings as openings;
 ghost use Rattle.key_inputs.specs.Openings.{Opening, Missing, TablesInput};
+ghost use Rattle.key_inputs.specs.declared.faults.OpenFault.TheVariants as open_fault;
 
 use crate::broken_table::{BrokenTable, RecordNamed};
-use crate::faults::{InputFault, OpenFault};
+use crate::faults::{InputFault, OpenFault, unread};
 use crate::names::table_file;
 use crate::naming::{fault_of_file, fault_of_keys, table_name};
 use crate::schema_names::broken_in;
 use csv_split::{Place, Table, Tables, check_references, read_table};
 use edge_traits::depot::Depot;
-use edge_traits::reading::{ReadFault, read_file};
+use edge_traits::reading::read_file;
 use ghost_base::limits::MAX_CSV;
 use ghost_model::meaning::files_spell_a_database;
 use std::alloc::{AllocError, Global};
 use tree_schema::schema::schemas_are_trees;
-use tree_schema::{Schema, read_schema};
+use tree_schema::{Schema, SchemaFault, read_schema};
 
 /// The most bytes of a schema's or a script's file.
 pub const MAX_TEXT: usize = 65_536;
@@ -81,14 +83,21 @@ fn open_schema<D: Depot>(alloc: Global, name: &str, depot: &mut D) -> Result<Sch
 {
     let text = match read_file(alloc, depot, name, MAX_TEXT) {
         Ok(text) => text,
-        Err(ReadFault::Depot) => return Err(OpenFault::Depot),
-        Err(ReadFault::NoMemory) => return Err(OpenFault::NoMemory),
-        Err(ReadFault::TooLong) => return Err(OpenFault::Input(InputFault::SchemaBytes)),
+        Err(fault) => return Err(unread(fault, InputFault::SchemaBytes)),
     };
     match read_schema(&text) {
         Ok(schema) => Ok(schema),
-        Err(fault) => Err(OpenFault::Input(InputFault::Schema(broken_in(&text, fault)))),
+        Err(fault) => Err(fault_of_schema(&text, fault)),
     }
+}
+
+/// That a schema's text breaks a rule.
+fn fault_of_schema(text: &[u8], fault: SchemaFault) -> OpenFault
+    ensures rule { rule_in result ≡ Some (openings.SchemaRule (fault_of fault)) }
+    ensures not_depot { result ≡ OpenFault.Depot → ⊥ }
+    ensures no_table { OfTable (λ _. ⊥) result }
+{
+    OpenFault::Input(InputFault::Schema(broken_in(text, fault)))
 }
 
 /// Reads the files of a schema's tables.
@@ -145,9 +154,7 @@ fn open_table<D: Depot>(
     };
     let file = match read_file(alloc, depot, name.as_str(), MAX_CSV) {
         Ok(file) => file,
-        Err(ReadFault::Depot) => return Err(OpenFault::Depot),
-        Err(ReadFault::NoMemory) => return Err(OpenFault::NoMemory),
-        Err(ReadFault::TooLong) => return Err(too_long(schema, table)),
+        Err(fault) => return Err(unread(fault, too_long(schema, table))),
     };
     match read_table(alloc, schema, table, &file) {
         Ok(read) => Ok(read),
@@ -156,11 +163,10 @@ fn open_table<D: Depot>(
 }
 
 /// That the file of a table is too long.
-fn too_long(schema: &Schema, table: usize) -> OpenFault
+fn too_long(schema: &Schema, table: usize) -> InputFault
     requires within { table < 2 ^ 8 }
-    ensures rule { rule_in result ≡ Some (openings.TableRule (load.FileLimit (load.place table 0 0))) }
-    ensures not_depot { result ≡ OpenFault.Depot → ⊥ }
-    ensures names { OfTable (IsNamedBy schema.now) result }
+    ensures rule { rule_of result ≡ openings.TableRule (load.FileLimit (load.place table 0 0)) }
+    ensures names { OfTable (IsNamedBy schema.now) (open_fault.Input result) }
 {
     let at = Place {
         table: table as u8,
@@ -168,7 +174,7 @@ fn too_long(schema: &Schema, table: usize) -> OpenFault
         column: 0,
     };
     let table = table_name(schema, table);
-    OpenFault::Input(InputFault::Table(BrokenTable::FileLimit(RecordNamed { at, table })))
+    InputFault::Table(BrokenTable::FileLimit(RecordNamed { at, table }))
 }
 
 /// The name of the file of a table's rows.

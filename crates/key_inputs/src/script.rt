@@ -1,17 +1,19 @@
 //! The reading of a script.
 
-ghost use Rattle.std.specs.Prelude.{◌≡◌, ◌≤◌, ℕ, List, Some, Err, IfOk, IfErr, length};
+ghost use Rattle.std.specs.Prelude.{◌≡◌, ◌≤◌, ◌<◌, ℕ, List, Some, Err, IfOk, IfErr, OnOk, length};
 ghost use Rattle.ghost_model.specs.core.Causes.{Rose};
 ghost use Rattle.ghost_model.specs.core.Texts.{most_script_bytes, most_texts, texts_of};
 ghost use Rattle.edge_traits.specs.Files.{Files, AreSure};
 ghost use Rattle.key_inputs.specs.Openings.{Spelled, Missing};
 ghost use Rattle.key_inputs.specs.Scripts.{script_opening};
 ghost use Rattle.key_inputs.specs.Views.{Tells};
+ghost use Rattle.key_inputs.specs.declared.faults.InputFault.TheVariants as fault;
+ghost use Rattle.key_inputs.specs.declared.faults.OpenFault.TheVariants as open_fault;
 
-use crate::faults::{InputFault, OpenFault};
+use crate::faults::{InputFault, OpenFault, unread};
 use crate::opening::MAX_TEXT;
 use edge_traits::depot::Depot;
-use edge_traits::reading::{ReadFault, read_file};
+use edge_traits::reading::read_file;
 use spj_parse::text_count;
 use std::alloc::Global;
 
@@ -34,12 +36,21 @@ pub fn open_script<D: Depot>(alloc: Global, name: &str, depot: &mut D) -> Result
 {
     let script = match read_file(alloc, depot, name, MAX_TEXT) {
         Ok(script) => script,
-        Err(ReadFault::Depot) => return Err(OpenFault::Depot),
-        Err(ReadFault::NoMemory) => return Err(OpenFault::NoMemory),
-        Err(ReadFault::TooLong) => return Err(OpenFault::Input(InputFault::ScriptBytes)),
+        Err(fault) => return Err(unread(fault, InputFault::ScriptBytes)),
     };
-    if text_count(&script) > MAX_TEXTS {
+    match judge_texts(&script) {
+        Ok(()) => Ok(script),
+        Err(fault) => Err(fault),
+    }
+}
+
+/// Judges the number of a script's texts.
+fn judge_texts(script: &[u8]) -> Result<(), OpenFault>
+    ensures few { OnOk result (length (texts_of script.now) ≤ most_texts) }
+    ensures many { IfErr result (λ told. (told ≡ open_fault.Input fault.ScriptTexts) × (most_texts < length (texts_of script.now))) }
+{
+    if text_count(script) > MAX_TEXTS {
         return Err(OpenFault::Input(InputFault::ScriptTexts));
     }
-    Ok(script)
+    Ok(())
 }

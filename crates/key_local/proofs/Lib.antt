@@ -6,3 +6,4 @@ pub mod Hosting
 pub mod Statuses
 pub mod Giving
 pub mod Endings
+mod Renamed

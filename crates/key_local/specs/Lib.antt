@@ -5,3 +5,4 @@ pub mod Reading
 pub mod Preparing
 pub mod Making
 pub mod Running
+pub mod Renaming

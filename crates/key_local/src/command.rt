@@ -23,7 +23,7 @@ ghost use Rattle.key_local.specs.Results.{EndsLocalCall, EndsSomeLocal, EndsLoca
 ghost use Rattle.key_local.specs.declared.ends.LocalEnd.TheVariants as ends;
 ghost use Rattle.key_local.specs.declared.ends.LocalFailure.TheVariants as failure;
 
-use crate::ends::{LocalEnd, LocalFailure};
+use crate::ends::{LocalEnd, LocalFailure, failure_of};
 use crate::making::{begin_journal, make_flash};
 use crate::opening::{Opened, open_inputs};
 use crate::preparing::{Prepared, prepare};
@@ -32,7 +32,6 @@ use edge_traits::depot::Depot;
 use edge_traits::flash::Flash;
 use edge_traits::mem_depot::MemDepot;
 use edge_traits::sink::Sink;
-use key_inputs::OpenFault;
 use key_words::LocalWords;
 use std::alloc::Global;
 
@@ -78,9 +77,7 @@ pub fn local<D: Depot, F: Flash, O: Sink>(
 {
     match open_inputs(alloc, words, depot) {
         Ok(opened) => local_opened(alloc, opened, words, depot, flash, out),
-        Err(OpenFault::NoMemory) => Err(LocalFailure::NoMemory),
-        Err(OpenFault::Depot) => Err(LocalFailure::Depot),
-        Err(OpenFault::Input(fault)) => Err(LocalFailure::Input(fault)),
+        Err(fault) => Err(failure_of(fault)),
     }
 }
 

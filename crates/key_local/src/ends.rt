@@ -1,6 +1,9 @@
 //! How the command ended.
 
-use key_inputs::InputFault;
+ghost use Rattle.std.specs.Prelude.{◌≡◌};
+ghost use Rattle.key_local.specs.Renaming.{as_failure};
+
+use key_inputs::{InputFault, OpenFault};
 use thiserror::Error;
 
 /// How a session ended: the first of these that is so, in the order `Sink`, `Depot`, `Flash`, `Damaged`, `Ok`.
@@ -52,4 +55,15 @@ pub enum LocalFailure {
     /// The flash could not be made or written.
     #[error("the flash failed")]
     Flash,
+}
+
+/// What stands for a fault of the inputs: want of memory for want of memory alone.
+pub(crate) fn failure_of(fault: OpenFault) -> LocalFailure
+    ensures { result ≡ as_failure fault }
+{
+    match fault {
+        OpenFault::NoMemory => LocalFailure::NoMemory,
+        OpenFault::Depot => LocalFailure::Depot,
+        OpenFault::Input(fault) => LocalFailure::Input(fault),
+    }
 }

@@ -1,14 +1,14 @@
 -- How an opening ended.
-use Rattle.std.proofs.Common.{◌≡◌, ℕ, Bool, true, List, Result, Ok, Err, refl, subst}
+use Rattle.std.proofs.Common.{◌≡◌, ℕ, Bool, true, List, Result, Ok, Err, refl}
 use Rattle.std.specs.Prelude.{IfErr}
 use Rattle.ghost_model.specs.core.Channel.{Catalog}
 use Rattle.edge_traits.specs.Devices.{Device}
 use Rattle.key_inputs.specs.Openings.{Opening, Spelled, Broken, InputFault}
 use Rattle.key_inputs.specs.Views.{Tells, rule_of}
-use Rattle.key_inputs.specs.declared.faults.InputFault.{InputFault as Fault}
 use Rattle.key_inputs.specs.declared.faults.OpenFault.{OpenFault}
 use Rattle.key_inputs.specs.declared.faults.OpenFault.TheVariants as open_fault
 use Rattle.key_query.specs.PublicPages.{HasCatalog}
+use Rattle.key_query.specs.Renaming.{as_failure}
 use Rattle.key_query.specs.Results.{IsOfFlash, TellsFlash, is_faultless}
 use Rattle.key_query.specs.declared.failures.QueryFailure.{QueryFailure}
 use Rattle.key_query.specs.declared.failures.QueryFailure.TheVariants as failure
@@ -30,7 +30,10 @@ module _ {T : Type 0} where
 spelled_unbroken : (rule : InputFault) (opening : Opening (List ℕ)) (script : List ℕ) → opening ≡ Broken rule → opening ≡ Spelled script → ⊥
 spelled_unbroken rule opening script broken spelled = cc
 
-pub unbroken : (fault : OpenFault) (inner : Fault) (opening : Opening (List ℕ)) (script : List ℕ) → fault ≡ open_fault.Input inner
-    → Tells opening fault → opening ≡ Spelled script → ⊥
-unbroken fault inner opening script is tells spelled =
-    spelled_unbroken (rule_of inner) opening script (subst (λ (one : OpenFault). Tells opening one) is tells) spelled
+pub faultless_unread :
+    (T : Type 0) (fault : OpenFault) (opening : Opening (List ℕ)) (script : List ℕ) → Tells opening fault → opening ≡ Spelled script
+    → (fault ≡ open_fault.Depot → ⊥) → is_faultless {T = T} (Err (as_failure fault)) ≡ true
+faultless_unread T open_fault.NoMemory opening script tells spelled fine = refl
+faultless_unread T open_fault.Depot opening script tells spelled fine = absurd (fine refl)
+faultless_unread T (open_fault.Input broken) opening script tells spelled fine =
+    absurd (spelled_unbroken (rule_of broken) opening script tells spelled)

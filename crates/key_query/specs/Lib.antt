@@ -1,3 +1,4 @@
 pub mod PublicPages
 pub mod Openings
 pub mod Results
+pub mod Renaming

@@ -1,6 +1,9 @@
 //! Why no session was begun.
 
-use key_inputs::InputFault;
+ghost use Rattle.std.specs.Prelude.{◌≡◌};
+ghost use Rattle.key_query.specs.Renaming.{as_failure};
+
+use key_inputs::{InputFault, OpenFault};
 use thiserror::Error;
 
 /// Why no session was begun.
@@ -34,4 +37,15 @@ pub enum QueryFailure {
         /// The pages that the flash has.
         have: u32,
     },
+}
+
+/// What stands for a fault of the script: want of memory for want of memory alone.
+pub(crate) fn failure_of(fault: OpenFault) -> QueryFailure
+    ensures { result ≡ as_failure fault }
+{
+    match fault {
+        OpenFault::NoMemory => QueryFailure::NoMemory,
+        OpenFault::Depot => QueryFailure::Depot,
+        OpenFault::Input(fault) => QueryFailure::Input(fault),
+    }
 }

@@ -14,12 +14,12 @@ ghost use Rattle.key_query.specs.PublicPages.{HasCatalog};
 ghost use Rattle.key_query.specs.Results.{TellsScript, TellsFlash, IsOfFlash, is_faultless, is_of_opened_flash, is_of_script};
 ghost use Rattle.key_query.specs.declared.failures.QueryFailure.TheVariants as failure;
 
-use crate::failures::QueryFailure;
+use crate::failures::{QueryFailure, failure_of};
 use crate::public_pages::read_public_pages;
 use edge_traits::depot::Depot;
 use edge_traits::flash::{AttachFault, Flash};
 use flash_layout::need;
-use key_inputs::{OpenFault, open_script};
+use key_inputs::open_script;
 use key_words::QueryWords;
 use reply_store::ReplyStore;
 use session_replies::Replies;
@@ -160,8 +160,6 @@ pub(crate) fn open<D: Depot, F: Flash>(
 {
     match open_script(alloc, words.script, depot) {
         Ok(script) => open_over(alloc, script, words, flash),
-        Err(OpenFault::NoMemory) => Err(QueryFailure::NoMemory),
-        Err(OpenFault::Depot) => Err(QueryFailure::Depot),
-        Err(OpenFault::Input(fault)) => Err(QueryFailure::Input(fault)),
+        Err(fault) => Err(failure_of(fault)),
     }
 }

@@ -1,7 +1,8 @@
-use Rattle.std.proofs.Common.{◌<◌, length, arith}
+use Rattle.std.proofs.Common.{◌<◌, ◌+◌, ◌∙◌, ap, sym, length, drop, arith}
 use Rattle.ghost_model.specs.forms.Catalog.{catalog_bytes}
+use Rattle.csv_split.specs.ImageLengths.{counted, tables_bytes}
 use Rattle.csv_split.specs.Reading.{columns_of}
-use Rattle.csv_split.proofs.ImageLengths.{capped, no_table, one_length}
+use Rattle.csv_split.proofs.ImageLengths.{no_table, one_length}
 use Rattle.csv_split.proofs.image.image_len.Goals as goal
 use Rattle.csv_split.proofs.image.image_len.Goals.{in-Some, in_default}
 
@@ -14,10 +15,7 @@ loop-table-preserved c =
     let within : c.loop-table.table < length tables = rw c.schema-schema.ensures.value at here in
     elim c.match-part.branch [
       | in-Some w ↦
-          let more = capped c.loop-table.len w.table_len-rows.result _ w.saturating_add-len.result w.saturating_add-len.ensures in
-          let rows = w.table_len-rows.ensures in
-          let is = w.len-is in
           one_length tables visible head c.loop-table.table c.loop-table.len c.match-part.len (columns_of w.declared_columns.result.now) w.in-Some.part.now
-          c.loop-table.invariant within (rw c.schema-schema.ensures.value at w.declared_columns.ensures.columns) w.in-Some.ensures (omega (arith, more, rows, is))
-      | in_default w ↦ let is = w.len-is in let none = no_table tables visible head c.loop-table.table c.loop-table.len c.loop-table.invariant w.in_default.ensures in record { at_most = omega (arith, is, none.at_most) }
+          c.loop-table.invariant within (rw c.schema-schema.ensures.value at w.declared_columns.ensures.columns) w.in-Some.ensures (w.len-is ∙ w.saturating_add-len.ensures ∙ ap (λ n. counted (c.loop-table.len + n)) w.table_len-rows.ensures)
+      | in_default w ↦ let rest = tables_bytes (drop (c.loop-table.table + 1) tables) (drop (c.loop-table.table + 1) visible) in let none = no_table tables visible head c.loop-table.table c.loop-table.len c.loop-table.invariant w.in_default.ensures in record { exact = ap (λ n. counted (n + rest)) w.len-is ∙ none.exact; fits = ap counted w.len-is ∙ none.fits ∙ sym w.len-is }
     ]

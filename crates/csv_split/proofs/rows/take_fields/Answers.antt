@@ -1,10 +1,10 @@
-use Rattle.std.proofs.Common.{◌≡◌, length, arith}
+use Rattle.std.proofs.Common.{◌≡◌, ◌∙◌, Err, sym, ap, length, arith}
 use Rattle.std.proofs.lemmas.List.{length-map}
 use Rattle.std.proofs.lemmas.Result.{err_from_is_err_and}
 use Rattle.csv.specs.Records.{fields_of}
 use Rattle.tree_schema.specs.Views.{column_of}
 use Rattle.csv_split.specs.Reading.{columns_of}
-use Rattle.csv_split.proofs.Judging.{first_more}
+use Rattle.csv_split.proofs.Judging.{first_more, none_first}
 use Rattle.csv_split.proofs.TakenFields.{all_faults, all_taken, kinds_stay, room_there, same_length, step}
 use Rattle.csv_split.proofs.rows.take_fields.Goals as goal
 
@@ -24,6 +24,20 @@ returns-in_err-take-clause-judged c =
     let all = all_faults c.args.at.table c.args.at.rec (columns_of c.args.declared.now) (fields_of c.args.row.now) c.args.columns.now c.loop-i.columns c.loop-i.i c.index-columns-i.result
     c.loop-i.invariant (omega arith) (omega arith) in
     rw (p.1, p.2, all) (first_more _ _ _ (rw c.field_of.ensures at c.in_err-take.ensures.judged))
+
+pub returns-in_err-take-clause-memory : goal.returns-in_err-take-clause-memory
+returns-in_err-take-clause-memory c wants =
+    let p = err_from_is_err_and c.from_residual.result c.from_residual.ensures.1 in
+    let many = same_length (columns_of c.args.declared.now) c.args.columns.now c.requires.kinds in
+    let wide : length (columns_of c.args.declared.now) ≡ length c.args.declared.now = length-map c.args.declared.now column_of in
+    let width = c.requires.width in
+    let all = all_faults c.args.at.table c.args.at.rec (columns_of c.args.declared.now) (fields_of c.args.row.now) c.args.columns.now c.loop-i.columns c.loop-i.i c.index-columns-i.result
+    c.loop-i.invariant (omega arith) (omega arith) in
+    record {
+      column = c.loop-i.i;
+      within = omega arith;
+      judged = all ∙ none_first _ _ (rw c.field_of.ensures at c.in_err-take.ensures.memory (ap (λ fault. Err fault) (sym p.2) ∙ sym p.1 ∙ wants));
+    }
 
 pub returns-in_err-take-clause-kinds : goal.returns-in_err-take-clause-kinds
 returns-in_err-take-clause-kinds c =

@@ -16,7 +16,7 @@ returns-clause-names g c files h =
     let named = c.as_str.ensures.value ∙ c.in-Ok.ensures.name in
     let read = subst (λ one. HasFile (g.D.Depot.contents c.args.depot.now) one file) named c.in-Ok-read_file.ensures.file in
     let found = subst (λ contents. HasFile contents name file) h read in
-    shown_of_file files c.args.folder.now c.args.schema.now c.args.table file (told c.in-Err.fault) c.fault_of_file.result found
-    (subst (λ bytes. TellsFirst (told c.in-Err.fault) (file_faults c.args.table (columns_of c.args.schema.now c.args.table) bytes)) c.deref.ensures.value c.in-Err.ensures.judged)
+    shown_of_file files c.args.folder.now c.args.schema.now c.args.table file (told c.in-Err-read_table.fault) c.fault_of_file.result found
+    (subst (λ bytes. TellsFirst (told c.in-Err-read_table.fault) (file_faults c.args.table (columns_of c.args.schema.now c.args.table) bytes)) c.deref.ensures.value c.in-Err-read_table.ensures.judged)
     c.fault_of_file.ensures.rule c.fault_of_file.ensures.names
-    (subst (λ bytes. OfTable (OfField (ShowsField bytes)) c.fault_of_file.result) c.deref-in-Err.ensures.value c.fault_of_file.ensures.value)
+    (subst (λ bytes. OfTable (OfField (ShowsField bytes)) c.fault_of_file.result) c.deref-in-Err-read_table.ensures.value c.fault_of_file.ensures.value)

@@ -1,0 +1,24 @@
+-- How a call ended whose inputs were not read.
+use Rattle.std.proofs.Common.{inl, Bool, Err}
+use Rattle.key_inputs.specs.Openings.{Opening}
+use Rattle.key_inputs.specs.Views.{Tells}
+use Rattle.key_inputs.specs.declared.faults.OpenFault.{OpenFault}
+use Rattle.key_inputs.specs.declared.faults.OpenFault.TheVariants as open_fault
+use Rattle.key_plain.specs.Openings.{PlainInput}
+use Rattle.key_words.specs.Words.{Local}
+use Rattle.key_local.specs.Renaming.{as_failure}
+use Rattle.key_local.specs.Results.{LeavesBoth, EndsLocalCall, EndsSomeLocal}
+use Rattle.key_local.specs.Sessions.{LocalSide}
+
+pub unread : (told : Bool) (opening : Opening PlainInput) (words : Local) (before after : LocalSide) (fault : OpenFault) → LeavesBoth before after
+    → Tells opening fault
+    → EndsLocalCall told opening words (Err (as_failure fault)) before after
+unread told opening words before after open_fault.NoMemory leaves tells = inl leaves
+unread told opening words before after open_fault.Depot leaves tells = inl leaves
+unread told opening words before after (open_fault.Input broken) leaves tells = tells
+
+pub unread_some : (told : Bool) (words : Local) (before after : LocalSide) (fault : OpenFault) → LeavesBoth before after
+    → EndsSomeLocal told words (Err (as_failure fault)) before after
+unread_some told words before after open_fault.NoMemory leaves = inl leaves
+unread_some told words before after open_fault.Depot leaves = inl leaves
+unread_some told words before after (open_fault.Input broken) leaves = tt
