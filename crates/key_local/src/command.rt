@@ -11,6 +11,7 @@ ghost use Rattle.ghost_model.specs.core.Values.{Database};
 ghost use Rattle.session_laws.specs.Local.{holding_of};
 ghost use Rattle.edge_traits.specs.Files.{Files, AreSure};
 ghost use Rattle.ghost_model.specs.forms.Flash.{IsHidden};
+ghost use Rattle.page_pool.specs.Pools.{IsIdle};
 ghost use Rattle.session_replies.specs.Kept.{IsKept, none_heard};
 ghost use Rattle.key_words.specs.Views.{local_view};
 ghost use Rattle.key_inputs.specs.Openings.{InputFault, Spelled, Broken};
@@ -109,7 +110,7 @@ fn local_opened<D: Depot, F: Flash, O: Sink>(
     ensures no_flash { clears_flash result ≡ true → (F.state flash.new).faults ≡ (F.state flash.old).faults }
 {
     let Opened { tables, script } = opened;
-    match prepare(alloc, tables) {
+    match prepare(alloc, tables, words.buffers) {
         Ok(prepared) => local_prepared(alloc, prepared, &script, words, depot, flash, out),
         Err(_) => Err(LocalFailure::NoMemory),
     }
@@ -128,6 +129,7 @@ fn local_prepared<D: Depot, F: Flash, O: Sink>(
     requires part { IsHidden prepared.cat prepared.hidden }
     requires few { length (texts_of script.now) ≤ 64 }
     requires replies { IsKept prepared.cat (none_heard prepared.cat) 1 0 prepared.replies }
+    requires idle { IsIdle prepared.pool }
     requires hosted { IsSomeHosted ⟦<MemDepot as Depot>⟧.contents ⟦<MemDepot as Depot>⟧.sure prepared.cat prepared.link }
     ensures ends { (schema : Schema) → (database : Database) → prepared.cat ≡ catalog_for schema database → prepared.hidden ≡ hidden_of schema database
         → IsCatalogOf prepared.cat database
@@ -153,6 +155,7 @@ fn local_prepared<D: Depot, F: Flash, O: Sink>(
         hidden,
         mut link,
         mut replies,
+        mut pool,
     } = prepared;
     match make_flash(alloc, &cat, hidden, flash, words.flash) {
         Err(fault) => Err(fault),
@@ -164,6 +167,7 @@ fn local_prepared<D: Depot, F: Flash, O: Sink>(
                 words,
                 &mut link,
                 &mut replies,
+                &mut pool,
                 depot,
                 flash,
                 out,

@@ -1,6 +1,6 @@
 //! What a session needs in memory: the parts of the tables, the host and its link, and the room for replies.
 
-ghost use Rattle.std.specs.Prelude.{◌≡◌, Some, IfOk};
+ghost use Rattle.std.specs.Prelude.{◌≡◌, Some, IfOk, length};
 ghost use Rattle.ghost_model.specs.core.Channel as channel;
 ghost use Rattle.ghost_model.specs.core.Database.{IsDatabase};
 ghost use Rattle.ghost_model.specs.core.Host.{host_of};
@@ -9,7 +9,9 @@ ghost use Rattle.ghost_model.specs.core.Split as divided;
 ghost use Rattle.session_laws.specs.Local.{holding_of};
 ghost use Rattle.edge_traits.specs.Files.{file_of};
 ghost use Rattle.ghost_model.specs.forms.Flash.{IsHidden};
+ghost use Rattle.page_pool.specs.Pools.{IsIdle};
 ghost use Rattle.session_replies.specs.Kept.{IsKept, none_heard};
+ghost use Rattle.key_words.specs.Blocks.{AreBuffers};
 ghost use Rattle.key_local.specs.Sessions.{catalog_for};
 ghost use Rattle.key_local.specs.Preparing.{IsSomeImage, IsHosted};
 
@@ -23,6 +25,7 @@ use host_exec::laws::images_are_held;
 use host_exec::{BeginFault, Host};
 use key_inputs::Input;
 use local_links::host_link::HostLink;
+use page_pool::PagePool;
 use reply_store::ReplyStore;
 use session_replies::Replies;
 use std::alloc::{AllocError, Global};
@@ -40,13 +43,15 @@ struct Parts {
     image: Vec<u8>,
 }
 
-/// The catalog and the hidden part of a database, the link to a host that holds its visible part, and the room for replies.
+/// The catalog and the hidden part of a database, the link to a host that holds its visible part, the room for replies, and
+/// the page buffers, of which none is out.
 #[derive(Drop)]
 pub(crate) struct Prepared {
     pub(crate) cat: Catalog,
     pub(crate) hidden: Hidden,
     pub(crate) link: HostLink<MemDepot>,
     pub(crate) replies: Replies,
+    pub(crate) pool: PagePool,
 }
 
 /// Splits tables into the two parts.
@@ -111,23 +116,32 @@ fn replies_for(alloc: Global, cat: &Catalog) -> Result<Replies, AllocError>
     Ok(Replies::new(even, odd))
 }
 
-/// Prepares a session over tables that were read.
-pub(crate) fn prepare(alloc: Global, input: Input) -> Result<Prepared, AllocError>
+/// Prepares a session over tables that were read, with so many page buffers, from 8 to 64.
+pub(crate) fn prepare(
+    alloc: Global,
+    input: Input,
+    buffers: u32,
+) -> Result<Prepared, AllocError>
     requires database { IsDatabase input.schema input.tables }
+    requires buffers { AreBuffers buffers }
     ensures cat { IfOk result (λ prepared. prepared.cat ≡ catalog_for input.schema input.tables) }
     ensures stored { IfOk result (λ prepared. IsCatalogOf prepared.cat input.tables) }
     ensures hidden { IfOk result (λ prepared. prepared.hidden ≡ divided.hidden_of input.schema input.tables) }
     ensures part { IfOk result (λ prepared. IsHidden prepared.cat prepared.hidden) }
     ensures hosted { IfOk result (λ prepared. IsHosted ⟦<MemDepot as Depot>⟧.contents ⟦<MemDepot as Depot>⟧.sure (holding_of prepared.cat input.tables) prepared.link) }
     ensures replies { IfOk result (λ prepared. IsKept prepared.cat (none_heard prepared.cat) 1 0 prepared.replies) }
+    ensures idle { IfOk result (λ prepared. IsIdle prepared.pool) }
+    ensures size { IfOk result (λ prepared. length prepared.pool.pages ≡ buffers) }
 {
     let Parts { cat, hidden, image } = parts_of(alloc, input)?;
     let link = link_over(alloc, image)?;
     let replies = replies_for(alloc, &cat)?;
+    let pool = PagePool::new(alloc, buffers)?;
     Ok(Prepared {
         cat,
         hidden,
         link,
         replies,
+        pool,
     })
 }

@@ -10,6 +10,7 @@ ghost use Rattle.ghost_model.specs.core.Values.{Database};
 ghost use Rattle.session_laws.specs.Local.{holding_of};
 ghost use Rattle.edge_traits.specs.Devices.{KeepsPages};
 ghost use Rattle.key_exec.specs.Plans.{Suffices};
+ghost use Rattle.page_pool.specs.Pools.{IsIdle};
 ghost use Rattle.session_replies.specs.Kept.{IsKept, none_heard};
 ghost use Rattle.local_links.specs.Keeping.{named};
 ghost use Rattle.key_words.specs.Views.{local_view};
@@ -31,6 +32,7 @@ use local_lines::laws::told_texts_are_given;
 use local_links::host_link::HostLink;
 use local_links::journaled::Journaled;
 use local_links::laws::{proper_journals_are_written, sessions_are_local};
+use page_pool::PagePool;
 use session_laws::local::local_sessions_are_served;
 use session_replies::Replies;
 use tree_schema::Catalog;
@@ -72,6 +74,7 @@ fn hold<D: Depot, F: Flash, O: Sink>(
     script: &[u8],
     words: &LocalWords<'_>,
     replies: &mut Replies,
+    pool: &mut PagePool,
     flash: &mut F,
     link: &mut Journaled<'_, HostLink<MemDepot>, D>,
     out: &mut O,
@@ -79,6 +82,7 @@ fn hold<D: Depot, F: Flash, O: Sink>(
     requires few { length (texts_of script.now) ≤ 64 }
     requires suffices { Suffices cat.now (F.state flash.old) }
     requires replies { IsKept cat.now (none_heard cat.now) 1 0 replies.old }
+    requires idle { IsIdle pool.old }
     requires going { link.old.failed ≡ false }
     requires hosted { IsSomeHosted ⟦<MemDepot as Depot>⟧.contents ⟦<MemDepot as Depot>⟧.sure cat.now link.old.link.now }
     ensures same_link { link.new.link.ghost_name ≡ link.old.link.ghost_name }
@@ -111,7 +115,7 @@ fn hold<D: Depot, F: Flash, O: Sink>(
         plan: words.plan,
         pace: words.pace,
     };
-    let tally = run_session(cat, script, &options, replies, flash, link, out);
+    let tally = run_session(cat, script, &options, replies, pool, flash, link, out);
     end_of(tally.status, link.failed())
 }
 
@@ -122,6 +126,7 @@ pub(crate) fn run<D: Depot, F: Flash, O: Sink>(
     words: &LocalWords<'_>,
     link: &mut HostLink<MemDepot>,
     replies: &mut Replies,
+    pool: &mut PagePool,
     depot: &mut D,
     flash: &mut F,
     out: &mut O,
@@ -129,6 +134,7 @@ pub(crate) fn run<D: Depot, F: Flash, O: Sink>(
     requires few { length (texts_of script.now) ≤ 64 }
     requires suffices { Suffices cat.now (F.state flash.old) }
     requires replies { IsKept cat.now (none_heard cat.now) 1 0 replies.old }
+    requires idle { IsIdle pool.old }
     requires hosted { IsSomeHosted ⟦<MemDepot as Depot>⟧.contents ⟦<MemDepot as Depot>⟧.sure cat.now link.old }
     ensures ran { (database : Database) → IsCatalogOf cat.now database
         → IsHosted ⟦<MemDepot as Depot>⟧.contents ⟦<MemDepot as Depot>⟧.sure (holding_of cat.now database) link.old
@@ -148,5 +154,14 @@ pub(crate) fn run<D: Depot, F: Flash, O: Sink>(
     ensures no_flash { clears_flash result ≡ true → (F.state flash.new).faults ≡ (F.state flash.old).faults }
 {
     let mut journaled = Journaled::new(link, depot, words.journal);
-    hold(cat, script, words, replies, flash, &mut journaled, out)
+    hold(
+        cat,
+        script,
+        words,
+        replies,
+        pool,
+        flash,
+        &mut journaled,
+        out,
+    )
 }

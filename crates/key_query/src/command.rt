@@ -27,7 +27,7 @@ use std::alloc::Global;
 use tree_schema::catalog_bytes::a_catalog_is_short;
 
 /// Does the command `query`: reads the script, attaches the flash, reads the catalog on its public pages, and takes the
-/// memory for two texts' replies. Then it runs the session of the script with the host at the address of `--to`, and
+/// memory for two texts' replies and, last, for the page buffers of `--buffers`. Then it runs the session of the script with the host at the address of `--to`, and
 /// prints the lines of each text.
 ///
 /// After an error no move was made on the link, nothing was printed, and no page past the public ones was read. Once the
@@ -76,6 +76,7 @@ pub fn query<D: Depot, F: Flash, L: Link, O: Sink>(
                 script,
                 cat,
                 mut replies,
+                mut pool,
             } = opened;
             a_catalog_is_short(&cat);
             let options = Options {
@@ -83,7 +84,16 @@ pub fn query<D: Depot, F: Flash, L: Link, O: Sink>(
                 plan: words.plan,
                 pace: words.pace,
             };
-            Ok(run_session(&cat, &script, &options, &mut replies, flash, link, out))
+            Ok(run_session(
+                &cat,
+                &script,
+                &options,
+                &mut replies,
+                &mut pool,
+                flash,
+                link,
+                out,
+            ))
         }
         Err(failure) => Err(failure),
     }

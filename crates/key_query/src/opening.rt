@@ -1,6 +1,6 @@
 //! The opening of a session.
 
-ghost use Rattle.std.specs.Prelude.{◌≡◌, ◌≤◌, ℕ, List, true, min, Some, Err, IfOk, IfErr};
+ghost use Rattle.std.specs.Prelude.{◌≡◌, ◌≤◌, ℕ, List, length, true, min, Some, Err, IfOk, IfErr};
 ghost use Rattle.ghost_model.specs.core.Causes.{Rose, last_count};
 ghost use Rattle.ghost_model.specs.core.Channel as channel;
 ghost use Rattle.edge_traits.specs.Files.{Files, AreSure};
@@ -8,6 +8,7 @@ ghost use Rattle.key_words.specs.Views.{query_view};
 ghost use Rattle.key_inputs.specs.Openings.{Spelled, Missing};
 ghost use Rattle.key_inputs.specs.Scripts.{script_opening};
 ghost use Rattle.session_replies.specs.Kept.{IsKept, none_heard};
+ghost use Rattle.page_pool.specs.Pools.{IsIdle};
 ghost use Rattle.key_exec.specs.Plans.{Suffices};
 ghost use Rattle.key_query.specs.Openings.{IsOpened};
 ghost use Rattle.key_query.specs.PublicPages.{HasCatalog};
@@ -21,6 +22,7 @@ use edge_traits::flash::{AttachFault, Flash};
 use flash_layout::need;
 use key_inputs::open_script;
 use key_words::QueryWords;
+use page_pool::PagePool;
 use reply_store::ReplyStore;
 use session_replies::Replies;
 use std::alloc::{AllocError, Global};
@@ -36,6 +38,8 @@ pub(crate) struct Opened {
     pub(crate) cat: Catalog,
     /// The stores of the replies, still empty.
     pub(crate) replies: Replies,
+    /// The page buffers, of which none is out.
+    pub(crate) pool: PagePool,
 }
 
 /// The catalog of a flash that has as many pages as it needs.
@@ -98,6 +102,21 @@ fn empty_replies(alloc: Global, cat: &Catalog) -> Result<Replies, AllocError>
     Ok(Replies::new(even, odd))
 }
 
+/// The memory of a session: the stores of the replies, and last the page buffers, so many as the words say.
+fn memory_for(
+    alloc: Global,
+    cat: &Catalog,
+    words: &QueryWords<'_>,
+) -> Result<(Replies, PagePool), AllocError>
+    ensures stores { IfOk result (λ memory. IsKept cat.now (none_heard cat.now) 1 0 memory.0) }
+    ensures idle { IfOk result (λ memory. IsIdle memory.1) }
+    ensures buffers { IfOk result (λ memory. length memory.1.pages ≡ words.now.buffers) }
+{
+    let replies = empty_replies(alloc, cat)?;
+    let pool = PagePool::new(alloc, words.buffers)?;
+    Ok((replies, pool))
+}
+
 /// Opens a session over a script that was read.
 fn open_over<F: Flash>(
     alloc: Global,
@@ -109,6 +128,8 @@ fn open_over<F: Flash>(
     ensures catalog { IfOk result (λ opened. F.told ≡ true → HasCatalog (F.state flash.new) opened.cat) }
     ensures suffices { IfOk result (λ opened. Suffices opened.cat (F.state flash.new)) }
     ensures stores { IfOk result (λ opened. IsKept opened.cat (none_heard opened.cat) 1 0 opened.replies) }
+    ensures idle { IfOk result (λ opened. IsIdle opened.pool) }
+    ensures buffers { IfOk result (λ opened. length opened.pool.pages ≡ words.now.buffers) }
     ensures named { IfOk result (λ opened. (F.state flash.new).name ≡ Some words.now.flash.now) }
     ensures device { IfErr result (λ fault. TellsFlash F.told words.now.flash.now (F.state flash.new) fault) }
     ensures kinds { IfErr result (λ fault. IsOfFlash fault) }
@@ -120,11 +141,12 @@ fn open_over<F: Flash>(
     ensures attached { Rose (F.state flash.old).calls (F.state flash.new).calls }
 {
     match open_flash(alloc, words.flash, flash) {
-        Ok(cat) => match empty_replies(alloc, &cat) {
-            Ok(replies) => Ok(Opened {
+        Ok(cat) => match memory_for(alloc, &cat, words) {
+            Ok((replies, pool)) => Ok(Opened {
                 script,
                 cat,
                 replies,
+                pool,
             }),
             Err(_) => Err(QueryFailure::NoMemory),
         },
@@ -132,7 +154,8 @@ fn open_over<F: Flash>(
     }
 }
 
-/// Opens a session: reads the script, attaches the flash, reads its catalog, and takes the memory for the replies.
+/// Opens a session: reads the script, attaches the flash, reads its catalog, and takes the memory for the replies and, last,
+/// for the page buffers.
 pub(crate) fn open<D: Depot, F: Flash>(
     alloc: Global,
     words: &QueryWords<'_>,
