@@ -12,12 +12,12 @@ use Rattle.edge_traits.specs.Devices.{Device, KeepsPages}
 use Rattle.flash_pages.specs.declared.fault.PageFault.{PageFault}
 use Rattle.flash_pages.specs.declared.fault.PageFault.TheVariants.{Flash, Damaged}
 use Rattle.hidden_columns.specs.declared.file.ColumnFile.{ColumnFile}
-use Rattle.hidden_columns.specs.Files as files
+use Rattle.hidden_columns.specs.Held as held
 use Rattle.hidden_columns.specs.Files.{IsFileOf, GivesSlot, HasNoValue, slot_bytes, value_spelled}
 use Rattle.key_exec.specs.Blaming.{BlamesAt, Blames}
 
 pub blamed : {T : Type 0} (value : T → Value) (told : Bool) (old new : Device) (file : ColumnFile) (identifier : ℕ) (result : Result T PageFault)
-    → IfErr result (λ fault. files.Blames file identifier fault) → (told ≡ true → GivesSlot value old.page file identifier result) → KeepsPages old new
+    → IfErr result (λ fault. held.Blames file identifier fault) → (told ≡ true → GivesSlot value old.page file identifier result) → KeepsPages old new
     → IfErr result (λ fault. BlamesAt told new.page file identifier fault)
 blamed value told old new file identifier (Ok given) blames gives kept = tt
 blamed value told old new file identifier (Err Flash) blames gives kept = tt

@@ -1,7 +1,7 @@
 -- The pages that are held: where pages are told, each buffer has the page that it is said to hold.
 use Rattle.std.specs.Prelude.{◌≡◌, ◌⊎◌, ℕ, ◌<◌, Bool, List, length, get_or, None}
 use Rattle.ghost_model.specs.core.Causes.{Rose}
-use Rattle.flash_pages.specs.Runs.{IsHeld}
+use Rattle.flash_pages.specs.Held.{IsHeld}
 use Rattle.key_exec.specs.declared.pages.Slot.{Slot}
 
 abbrev pub AreHeld : Bool → (ℕ → List ℕ) → List Slot → Type 0

@@ -10,6 +10,7 @@ use Rattle.ghost_model.specs.core.NextMove.{standing_after}
 use Rattle.ghost_model.specs.core.Split.{hidden_of}
 use Rattle.ghost_model.specs.core.Replies.{replies}
 use Rattle.edge_traits.specs.Devices.{Device, KeepsPages}
+use Rattle.edge_traits.proofs.DeviceFrames.{kept_trans}
 use Rattle.channel_pump.specs.Marks.{state_of}
 use Rattle.channel_pump.specs.declared.state.ReplyState.{ReplyState}
 use Rattle.channel_pump.specs.declared.state.ReplyState.TheVariants as state_is
@@ -51,12 +52,7 @@ never_falls since before now result e tells = by result tells
     by (told.Damaged page slot found) t = subst (λ (n : ℕ). min since last_count ≤ n) (sym t) e
 
 pub pages_stay : (since between now : Device) → KeepsPages since between → KeepsPages between now → KeepsPages since now
-pages_stay since between now first second = record {
-  name = second.name ∙ first.name;
-  page_count = second.page_count ∙ first.page_count;
-  page = second.page ∙ first.page;
-  blank = second.blank ∙ first.blank;
-}
+pages_stay since between now first second = kept_trans first second
 
 -- what is kept of a text that is done
 kept_is_done : (catalog : Catalog) (texts : List (List ℕ)) (journal : Journal) (low top text : ℕ) (replies : Replies) → IsKept catalog (heard_in catalog texts journal) low top replies → low ≤ text

@@ -11,6 +11,7 @@ use Rattle.ghost_model.specs.core.Lines.{Reason, WasRefused, WasBroken, WasAnswe
 use Rattle.ghost_model.specs.core.NextMove.{Standing, Heard, standing_after, IsProper, IsFinished}
 use Rattle.ghost_model.specs.core.Split.{hidden_of}
 use Rattle.edge_traits.specs.Devices.{KeepsPages}
+use Rattle.edge_traits.proofs.DeviceFrames.{kept_same}
 use Rattle.channel_pump.specs.Progress.{EndsAs}
 use Rattle.channel_pump.specs.State.{IsAfter}
 use Rattle.channel_pump.specs.declared.state.Cause.{Cause}
@@ -54,7 +55,7 @@ at_first join pages_told catalog texts since teller replies all none counts kept
     kept = subst (λ (n : ℕ). IsKept catalog (heard_in catalog texts []) (n + 1) 0 replies) (sym none)
         (subst (λ (h : Heard). IsKept catalog h 1 0 replies) (sym (heard_none catalog texts)) kept);
     near = omega arith;
-    pages = record { name = refl; page_count = refl; page = refl; blank = refl };
+    pages = kept_same _;
     calls = omega arith;
     called = λ e. absurd (none_failed (sym (ap (λ (c : Counts). c.by_flash) counts) ∙ e));
     damage_called = λ e. absurd (none_failed (sym (ap (λ (c : Counts). is_some c.damage) counts) ∙ e));

@@ -1,5 +1,6 @@
 use Rattle.std.proofs.Common.{◌≡◌, ◌∙◌, ◌*◌, ◌+◌, ◌++◌, ap, sym, refl, take, ℕ, List, arith}
 use Rattle.std.proofs.Math.Seq.{take-length}
+use Rattle.edge_traits.proofs.DeviceFrames.{kept_same, kept_trans}
 use Rattle.key_query.specs.PublicPages.{bytes_before}
 use Rattle.key_query.proofs.Fronts.{with_page, bytes_next, none_before}
 use Rattle.key_query.proofs.public_pages.read_front.Goals as goal
@@ -8,7 +9,7 @@ pub loop-place-init : goal.loop-place-init
 loop-place-init g c = record {
   bytes = λ told. none_before (g.F.Flash.state c.args.flash.now).page;
   size = c.told-bytes;
-  kept = record { name = refl; page_count = refl; page = refl; blank = refl };
+  kept = kept_same _;
   deep_reads = refl;
   faults = refl;
   calls = omega arith;
@@ -30,12 +31,7 @@ loop-place-preserved g c =
           ∙ (bytes_next (g.F.Flash.state c.loop-place.flash).page place
           ∙ ap (λ (page : ℕ → List ℕ). bytes_before page (place + 1)) (sym read.kept.page)))));
       size = c.put_page.array_long;
-      kept = record {
-        name = read.kept.name ∙ was.kept.name;
-        page_count = read.kept.page_count ∙ was.kept.page_count;
-        page = read.kept.page ∙ was.kept.page;
-        blank = read.kept.blank ∙ was.kept.blank;
-      };
+      kept = kept_trans was.kept read.kept;
       deep_reads = grind (arith, read.deep_reads, was.deep_reads, c.loop-place-test.true);
       faults = read.cause.other ∙ was.faults;
       calls = omega (arith, was.calls, read.calls);
