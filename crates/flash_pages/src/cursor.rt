@@ -2,11 +2,11 @@
 
 ghost use Rattle.std.specs.Prelude.{◌≡◌, ◌<◌, ◌≤◌, ◌+◌, ◌^◌, ◌&&◌, Bool, true, false, None, Ok, Some, length, IfOk, IfErr, IfSome, OnErr, MatchOption, ℕ};
 ghost use Rattle.edge_traits.specs.Devices.{Device};
-ghost use Rattle.page_pool.specs.Pools.{IsOut};
+ghost use Rattle.page_pool.specs.Pools.{IsOut, page_at};
 ghost use Rattle.flash_pages.specs.Cursors.{GivesNext, BlamesNext, BlamesPassed, GivesPassed, Passes, PassesTo, SameList, StandsAt, IsReady, IsNext, will_read, place, page_next};
 ghost use Rattle.flash_pages.specs.Looking.{IsInPage, DamagesAt, BlamesAt};
 ghost use Rattle.ghost_model.specs.forms.Runs.{id_at};
-ghost use Rattle.flash_pages.specs.Reads.{Reads, WasGiven, must_read};
+ghost use Rattle.flash_pages.specs.Reads.{Reads, WasGiven, must_read, page_after};
 ghost use Rattle.ghost_base.specs.Runs.{run_of};
 
 use crate::cells::{cell_of, found_of, number_at};
@@ -69,6 +69,8 @@ impl RunCursor {
         ensures blames { (since : ℕ) → since ≤ (F.state flash.old).calls → WasGiven since (F.state flash.old) pool.old self.old.lease → BlamesNext since (F.state flash.new) self.old result }
         ensures ready { IsReady F.told (F.state flash.new) pool.new self.new }
         ensures same { SameList self.old self.new }
+        ensures holds { self.old.at < self.old.list.count → page_at pool.new self.old.lease ≡ page_after result (page_next self.old) }
+        ensures rests { self.old.at ≡ self.old.list.count → pool.new ≡ pool.old }
         ensures read { Reads F.told (F.state flash.old) (F.state flash.new) pool.old pool.new self.old.lease (will_read pool.old self.old) (page_next self.old) result }
     {
         if self.at >= self.list.count {
@@ -100,6 +102,8 @@ impl RunCursor {
         ensures blames { (since : ℕ) → since ≤ (F.state flash.old).calls → WasGiven since (F.state flash.old) pool.old self.old.lease → BlamesPassed since (F.state flash.new) self.old result }
         ensures ready { IsReady F.told (F.state flash.new) pool.new self.new }
         ensures same { SameList self.old self.new }
+        ensures holds { self.old.at < self.old.list.count → page_at pool.new self.old.lease ≡ page_after result (page_next self.old) }
+        ensures rests { self.old.at ≡ self.old.list.count → pool.new ≡ pool.old }
         ensures read { Reads F.told (F.state flash.old) (F.state flash.new) pool.old pool.new self.old.lease (will_read pool.old self.old) (page_next self.old) result }
     {
         if self.at >= self.list.count {
@@ -127,6 +131,7 @@ impl RunCursor {
         ensures damage { IfErr result (λ fault. F.told ≡ true → DamagesAt (F.state flash.old).page self.now at fault) }
         ensures blames { IfErr result (λ fault. (since : ℕ) → since ≤ (F.state flash.old).calls → WasGiven since (F.state flash.old) pool.old self.now.lease → BlamesAt since (F.state flash.new) self.now at fault) }
         ensures ready { IsReady F.told (F.state flash.new) pool.new self.now }
+        ensures holds { page_at pool.new self.now.lease ≡ page_after result (page_next self.now) }
         ensures read { Reads F.told (F.state flash.old) (F.state flash.new) pool.old pool.new self.now.lease (must_read pool.old self.now.lease (page_next self.now)) (page_next self.now) result }
     {
         let run = self.list.run;

@@ -1,7 +1,7 @@
 //! Runs of records on a flash device: one record by its number, a list of ascending identifiers, and a run that is written.
 //!
-//! A reader takes a buffer of one page and remembers which page stands in it, so that neighbouring records of one page cost
-//! one read. A writer gathers the records of a page in such a buffer and writes it when it is full.
+//! A reader has the lease of a page buffer, and a page that stands there is not read again, so that neighbouring records of
+//! one page cost one read. A writer gathers the records of a page in such a buffer and writes it when it is full.
 #![tactic(auto)]
 
 pub mod cells;
