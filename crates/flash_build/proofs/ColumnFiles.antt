@@ -46,13 +46,21 @@ file_each cat narrow table column h =
 
 -- which pages changed
 pub columns_same : (cat : Catalog) (device : Device) → ChangesColumns cat device device
-columns_same cat device = record { name = refl; page_count = refl; others = λ page beside. record { bytes = refl; blank = refl } }
+columns_same cat device = record {
+  name = refl;
+  page_count = refl;
+  others = λ page beside. record { bytes = refl; blank = refl };
+  never_falls = omega arith;
+  gave = λ calls page bytes gave. gave;
+}
 
 pub columns_trans : {cat : Catalog} {a b c : Device} → ChangesColumns cat a b → ChangesColumns cat b c → ChangesColumns cat a c
 columns_trans first second = record {
   name = second.name ∙ first.name;
   page_count = second.page_count ∙ first.page_count;
   others = λ page beside. same_trans (first.others page beside) (second.others page beside);
+  never_falls = omega (arith, first.never_falls, second.never_falls);
+  gave = λ calls page bytes gave. second.gave calls page bytes (first.gave calls page bytes gave);
 }
 
 pub changes_same : (low high : ℕ) (device : Device) → ChangesOnly low high device device
@@ -77,6 +85,8 @@ columns_of_file {cat = cat} table column h changes =
                   | inr behind ↦ changes.above page (omega (arith, behind, size))
                 ]
           ];
+      never_falls = changes.never_falls;
+      gave = changes.gave;
     }
 
 -- column files stand between the public pages and the end of the files
@@ -88,6 +98,8 @@ columns_within {cat = cat} order changes = record {
       absurd (omega (arith, before, stands.from, order.after_public table column)));
   above = λ page behind. changes.others page (λ table column h stands.
       absurd (omega (arith, behind, stands.before, order.within table column h)));
+  never_falls = changes.never_falls;
+  gave = changes.gave;
 }
 
 -- blank pages for all files

@@ -1,5 +1,5 @@
 -- What is written when the hidden part of a database is put on the flash: the pages of the column files, and no other.
-use Rattle.std.specs.Prelude.{◌≡◌, ℕ, ◌<◌, ◌≤◌, true}
+use Rattle.std.specs.Prelude.{◌≡◌, ℕ, ◌<◌, ◌≤◌, true, List}
 use Rattle.ghost_model.specs.core.Channel.{Catalog}
 use Rattle.ghost_model.specs.forms.Runs.{Run, run_end}
 use Rattle.ghost_model.specs.forms.Layout.{is_hidden, column_file}
@@ -24,3 +24,5 @@ pub record ChangesColumns (cat : Catalog) (before now : Device) : Type 0 where
   pub name : now.name ≡ before.name
   pub page_count : now.page_count ≡ before.page_count
   pub others : (page : ℕ) → IsBeside cat page → SamePage before now page
+  pub never_falls : before.calls ≤ now.calls
+  pub gave : (calls page : ℕ) (bytes : List ℕ) → before.gave calls page bytes ≡ true → now.gave calls page bytes ≡ true
