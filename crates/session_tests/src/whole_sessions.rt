@@ -8,6 +8,7 @@ use edge_traits::peer::PeerScript;
 use flash_layout::need;
 use key_session::{Options, SessionStatus, run_session};
 use leakless_plan::Plan;
+use page_pool::PagePool;
 use reply_store::ReplyStore;
 use session_replies::Replies;
 use spj_parse::text_count;
@@ -92,12 +93,14 @@ fn a_session_is_told_alike_however_its_stream_is_cut(rt: HostRuntime) -> Result<
             ReplyStore::new(rt.alloc(), &cat)?,
             ReplyStore::new(rt.alloc(), &cat)?,
         );
+        let mut pool = PagePool::new(rt.alloc(), 8)?;
         assert!(rt; need(&cat) <= flash.pages());
         let tally = run_session(
             &cat,
             SCRIPT,
             &options,
             &mut replies,
+            &mut pool,
             &mut flash,
             &mut link,
             &mut out,
