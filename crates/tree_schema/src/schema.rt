@@ -1,8 +1,9 @@
 //! Schemas as values of a fixed size.
 
-ghost use Rattle.std.specs.Prelude.{◌≡◌, ℕ, ◌<◌, ◌≤◌, not, length, slice_get, option_map, position};
-ghost use Rattle.std.specs.List.{list_any};
+ghost use Rattle.std.specs.Prelude.{◌≡◌, ℕ, ◌<◌, ◌≤◌, not, length, map, slice_get, option_map, option_and_then, position, IfSome};
+ghost use Rattle.std.specs.List.{list_any, range_with_len};
 ghost use Rattle.ghost_model.specs.core.Schema as schema;
+ghost use Rattle.ghost_model.specs.core.Database as database;
 ghost use Rattle.tree_schema.specs.Views.{column_of, table_of, schema_of};
 ghost use Rattle.tree_schema.specs.Schemas as schemas;
 ghost use Rattle.tree_schema.specs.Schemas.{DeclaredSchemasAreTrees};
@@ -92,6 +93,13 @@ fn has_key_to(columns: &[Column], child: usize) -> bool
     columns.iter().any(|column| is_key_to(column, child))
 }
 
+/// The place of the first of some columns that is a foreign key to a table.
+fn place_of_key(columns: &[Column], child: usize) -> Option<usize>
+    ensures { result ≡ position (λ column. schema.is_table child column.child) columns.now }
+{
+    columns.iter().position(|column| is_key_to(column, child))
+}
+
 /// Whether a table holds a foreign key to another.
 fn holds_key_to(table: &Table, child: usize) -> bool
     ensures { result ≡ not (schema.is_empty (schema.references_to child (table_of table.now))) }
@@ -178,11 +186,35 @@ impl Schema {
         found
     }
 
-    /// The way from a table to the root: the table, its parent, and so on. At each place stands the table after so many
-    /// steps, and the way ends where there is none.
-    pub fn path_to_root(&self, table: usize) -> ArrayVec<usize, MAX_TABLES>
-        requires { table < length self.now }
-        ensures { (steps : ℕ) → slice_get result.items steps ≡ schema.ancestor self.now steps table }
+    /// The parent of each table.
+    pub fn parents(&self) -> ArrayVec<Option<usize>, MAX_TABLES>
+        ensures parents { result.items ≡ map (schema.parent self.now) (range_with_len 0 (length self.now)) }
+    {
+        let mut parents = ArrayVec::new();
+        for at in 0..self.tables() {
+            parents.push(self.parent(at));
+        }
+        parents
+    }
+
+    /// The parent of a table among those of all tables.
+    fn parent_among(&self, parents: &[Option<usize>], table: usize) -> Option<usize>
+        requires parents { parents.now ≡ map (schema.parent self.now) (range_with_len 0 (length self.now)) }
+        requires there { table < length self.now }
+        ensures parent { result ≡ schema.parent self.now table }
+    {
+        match parents.get(table) {
+            None => unreachable!(),
+            Some(parent) => *parent,
+        }
+    }
+
+    /// The way from a table to the root by the parents of all tables: the table, its parent, and so on. At each place
+    /// stands the table after so many steps, and the way ends where there is none.
+    pub fn path_by(&self, parents: &[Option<usize>], table: usize) -> ArrayVec<usize, MAX_TABLES>
+        requires parents { parents.now ≡ map (schema.parent self.now) (range_with_len 0 (length self.now)) }
+        requires there { table < length self.now }
+        ensures way { (steps : ℕ) → slice_get result.items steps ≡ schema.ancestor self.now steps table }
     {
         let _ = self.tables();
         schemas_are_trees();
@@ -190,9 +222,37 @@ impl Schema {
         let mut next = Some(table);
         while let Some(here) = next {
             path.push(here);
-            next = self.parent(here);
+            next = self.parent_among(parents, here);
         }
         path
+    }
+
+    /// The way from a table to the root.
+    pub fn path_to_root(&self, table: usize) -> ArrayVec<usize, MAX_TABLES>
+        requires { table < length self.now }
+        ensures { (steps : ℕ) → slice_get result.items steps ≡ schema.ancestor self.now steps table }
+    {
+        self.path_by(&self.parents(), table)
+    }
+
+    /// The column of a table that is the foreign key to another, the first one where there are several.
+    pub fn reference(&self, table: usize, child: usize) -> Option<usize>
+        ensures column { result ≡ database.reference_column self.now table child }
+    {
+        match self.table(table) {
+            None => None,
+            Some(found) => place_of_key(&found.columns, child),
+        }
+    }
+
+    /// The table that a column refers to, where it is a foreign key.
+    pub fn child(&self, table: usize, column: usize) -> Option<usize>
+        ensures child { result ≡ option_and_then (λ (held : schema.Column). held.child) (schema.column_at self.now table column) }
+    {
+        match self.column(table, column) {
+            None => None,
+            Some(found) => found.child.map(|child| child as usize),
+        }
     }
 
     /// Whether a column is hidden; where there is no such column, it is not.
