@@ -6,20 +6,18 @@
 //! memory, and each has its answer for every catalog.
 #![tactic(auto)]
 
+mod adding;
 pub mod areas;
 mod columns;
 pub mod files;
 mod indexes;
+pub mod layout;
 pub mod limits;
+mod places;
 pub mod runs;
 mod tables;
-pub mod work;
 
-pub use areas::{need, scratch_area, spool_area, static_end};
 pub use columns::is_hidden;
-pub use files::{
-    column_file, id_directory, id_level, index_directory, index_header, index_level, subtree_table,
-};
+pub use files::{column_file, need};
+pub use layout::Layout;
 pub use runs::{pages, run_pages};
-pub use tables::{is_leaf, levels_of};
-pub use work::pages_built;

@@ -1,7 +1,7 @@
 use Rattle.std.proofs.Common.{◌≡◌, ◌+◌, sym, ap, ◌∙◌, arith}
 use Rattle.ghost_model.specs.forms.Layout as layout
 use Rattle.ghost_model.specs.laws.LayoutSums as sums
-use Rattle.flash_layout.proofs.files.index_level.Goals as goal
+use Rattle.flash_layout.proofs.layout.Layout.index_level.Goals as goal
 
 pub returns : goal.returns
 returns c =

@@ -1,5 +1,5 @@
 use Rattle.std.proofs.Common.{sym, ◌∙◌}
-use Rattle.flash_layout.proofs.files.id_directory.Goals as goal
+use Rattle.flash_layout.proofs.layout.Layout.id_directory.Goals as goal
 
 pub returns : goal.returns
 returns c =
