@@ -1,5 +1,5 @@
 -- What the numbers of a layout are, in the words of the definitions.
-use Rattle.std.specs.Prelude.{◌≡◌, ℕ, ◌+◌, List, length, map, Some, slice_get}
+use Rattle.std.specs.Prelude.{◌≡◌, ℕ, ◌+◌, ◌≤◌, List, length, map, Some, slice_get}
 use Rattle.arrayvec.specs.ArrayVec.{ArrayVec}
 use Rattle.ghost_model.specs.core.Schema.{Schema}
 use Rattle.ghost_model.specs.core.Channel.{Catalog}
@@ -20,6 +20,7 @@ pub record ArePlaces (cat : Catalog) (table : ℕ) (places : TablePlaces) : Type
   pub id_index : places.indexes.after ≡ sums.id_index_begin cat table
   pub after : places.after ≡ sums.table_begin cat (table + 1)
   pub spool : places.spool ≡ sums.spool_pages_before cat table
+  pub few : places.spool ≤ 12000768
   pub spool_width : places.spool_width ≡ layout.spool_width cat.schema table
 
 -- those of the tables before one, by table

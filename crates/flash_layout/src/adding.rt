@@ -35,6 +35,7 @@ fn places_of(
     requires there { table < length cat.now.schema }
     requires begin { begin ≡ sums.table_begin cat.now table }
     requires spool { spool ≡ sums.spool_pages_before cat.now table }
+    requires few { spool ≤ 12000768 }
     ensures places { ArePlaces cat.now table result }
     ensures most { result.after ≤ 607034752 }
 {

@@ -75,7 +75,10 @@ pub(crate) fn directory_pages(cat: &Catalog, table: usize, column: usize, levels
     ensures value { result ≡ sums.directory_pages cat.now table column }
     ensures most { result ≤ 1000000 }
 {
-    pages(rows_of(cat, table), directory_width(cat, table, column, levels))
+    pages(
+        rows_of(cat, table),
+        directory_width(cat, table, column, levels),
+    )
 }
 
 /// The pages of the index of a column, whose level files have so many, none where it is not hidden.

@@ -6,6 +6,7 @@ ghost use Rattle.ghost_model.specs.forms.Layout as layout;
 ghost use Rattle.ghost_model.specs.laws.LayoutSums as sums;
 ghost use Rattle.ghost_base.specs.Runs.{run_of};
 ghost use Rattle.ghost_base.specs.Views.{kind_of};
+ghost use Rattle.flash_layout.specs.Limits.{HasLayout};
 ghost use Rattle.flash_layout.specs.Places.{ArePlaces};
 
 use crate::adding::places_of_all;
@@ -76,6 +77,13 @@ impl<'a> Layout<'a> {
         self.cat
     }
 
+    /// What holds of where its files and areas lie.
+    fn laws(&self)
+        ensures layout { HasLayout self.now }
+    {
+        a_catalog_has_a_layout(self.cat);
+    }
+
     /// The places of a table.
     fn places(&self, table: usize) -> &TablePlaces
         requires there { table < length self.now.schema }
@@ -130,7 +138,7 @@ impl<'a> Layout<'a> {
         ensures tables { result.now ≡ layout.above_of self.now.schema table }
         ensures few { length result.now ≤ 12 }
     {
-        a_catalog_has_a_layout(self.cat);
+        self.laws();
         but_first(self.levels(table))
     }
 
@@ -140,7 +148,7 @@ impl<'a> Layout<'a> {
         ensures tables { result.now ≡ layout.descendants_of self.now.schema table }
         ensures few { length result.now ≤ 12 }
     {
-        a_catalog_has_a_layout(self.cat);
+        self.laws();
         &self.places(table).below
     }
 
@@ -149,7 +157,7 @@ impl<'a> Layout<'a> {
         requires hidden { layout.is_hidden self.now.schema table column ≡ true }
         ensures value { result ≡ sums.column_begin self.now table column }
     {
-        a_catalog_has_a_layout(self.cat);
+        self.laws();
         let begins = &self.places(table).columns;
         begins.each[column]
     }
@@ -160,7 +168,7 @@ impl<'a> Layout<'a> {
         ensures value { result ≡ sums.index_begin self.now table column }
         ensures most { result ≤ 656597528 }
     {
-        a_catalog_has_a_layout(self.cat);
+        self.laws();
         let begins = &self.places(table).indexes;
         begins.each[column]
     }
@@ -170,7 +178,7 @@ impl<'a> Layout<'a> {
         requires hidden { layout.is_hidden self.now.schema table column ≡ true }
         ensures run { run_of result ≡ layout.column_file self.now table column }
     {
-        a_catalog_has_a_layout(self.cat);
+        self.laws();
         Run {
             first: self.column_begin(table, column),
             count: self.rows(table),
@@ -183,7 +191,7 @@ impl<'a> Layout<'a> {
         requires there { table < length self.now.schema }
         ensures run { run_of result ≡ layout.subtree_table self.now table }
     {
-        a_catalog_has_a_layout(self.cat);
+        self.laws();
         Run {
             first: self.places(table).columns.after,
             count: self.rows(table),
@@ -196,7 +204,7 @@ impl<'a> Layout<'a> {
         requires hidden { layout.is_hidden self.now.schema table column ≡ true }
         ensures run { run_of result ≡ layout.index_header self.now table column }
     {
-        a_catalog_has_a_layout(self.cat);
+        self.laws();
         Run {
             first: self.index_begin(table, column),
             count: 1,
@@ -209,7 +217,7 @@ impl<'a> Layout<'a> {
         requires hidden { layout.is_hidden self.now.schema table column ≡ true }
         ensures run { run_of result ≡ layout.index_directory self.now table column }
     {
-        a_catalog_has_a_layout(self.cat);
+        self.laws();
         Run {
             first: self.index_begin(table, column) + 1,
             count: self.rows(table),
@@ -237,10 +245,14 @@ impl<'a> Layout<'a> {
         requires level { level < length (layout.levels_of self.now.schema table) }
         ensures run { run_of result ≡ layout.index_level self.now table column level }
     {
-        a_catalog_has_a_layout(self.cat);
+        self.laws();
         let levels = self.levels(table);
         let directory = directory_pages(self.cat, table, column, levels);
-        self.level_file(self.index_begin(table, column) + 1 + directory, levels, level)
+        self.level_file(
+            self.index_begin(table, column) + 1 + directory,
+            levels,
+            level,
+        )
     }
 
     /// The directory of the id index of a table that is not the root: a record for each row.
@@ -248,7 +260,7 @@ impl<'a> Layout<'a> {
         requires there { table < length self.now.schema }
         ensures run { run_of result ≡ layout.id_directory self.now table }
     {
-        a_catalog_has_a_layout(self.cat);
+        self.laws();
         Run {
             first: self.places(table).indexes.after,
             count: self.rows(table),
@@ -262,7 +274,7 @@ impl<'a> Layout<'a> {
         requires level { level < length (layout.above_of self.now.schema table) }
         ensures run { run_of result ≡ layout.id_level self.now table level }
     {
-        a_catalog_has_a_layout(self.cat);
+        self.laws();
         let above = self.above(table);
         let begin = self.places(table).indexes.after + id_directory_pages(self.cat, table, above);
         self.level_file(begin, above, level)
@@ -274,8 +286,17 @@ impl<'a> Layout<'a> {
         ensures block { result % 64 ≡ 0 }
         ensures most { result ≤ 607034815 }
     {
-        a_catalog_has_a_layout(self.cat);
+        self.laws();
         self.static_end
+    }
+
+    /// The pages of one half of the spool.
+    fn half_pages(&self) -> u32
+        ensures value { result ≡ layout.half_pages self.now }
+        ensures most { result ≤ 12000768 }
+    {
+        self.laws();
+        self.half_pages
     }
 
     /// The area of a table in a half of the spool.
@@ -284,10 +305,9 @@ impl<'a> Layout<'a> {
         requires there { table < length self.now.schema }
         ensures run { run_of result ≡ layout.spool_area self.now half table }
     {
-        a_catalog_has_a_layout(self.cat);
         let places = self.places(table);
         Run {
-            first: self.static_end + (half * self.half_pages + places.spool),
+            first: self.static_end() + (half * self.half_pages() + places.spool),
             count: self.rows(table),
             width: places.spool_width,
         }
@@ -298,8 +318,7 @@ impl<'a> Layout<'a> {
         ensures value { result ≡ layout.spool_end self.now }
         ensures most { result ≤ 631036351 }
     {
-        a_catalog_has_a_layout(self.cat);
-        self.static_end + 2 * self.half_pages
+        self.static_end() + 2 * self.half_pages()
     }
 
     /// The pages of one scratch area.
@@ -307,7 +326,7 @@ impl<'a> Layout<'a> {
         ensures value { result ≡ layout.scratch_pages self.now }
         ensures most { result ≤ 1984 }
     {
-        a_catalog_has_a_layout(self.cat);
+        self.laws();
         in_blocks(pages(self.largest, 4))
     }
 
@@ -329,7 +348,7 @@ impl<'a> Layout<'a> {
         ensures blocks { result % 64 ≡ 0 }
         ensures small { result < 2 ^ 30 }
     {
-        a_catalog_has_a_layout(self.cat);
+        self.laws();
         self.spool_end() + 6 * self.scratch_pages()
     }
 }

@@ -73,12 +73,7 @@ fn is_among(tables: &[usize], table: usize) -> bool
 }
 
 /// Whether the second table lies below the first.
-fn is_below(
-    cat: &Catalog,
-    ways: &[ArrayVec<usize, MAX_TABLES>],
-    table: usize,
-    other: usize,
-) -> bool
+fn is_below(cat: &Catalog, ways: &[ArrayVec<usize, MAX_TABLES>], table: usize, other: usize) -> bool
     requires ways { AreWays cat.now.schema ways.now }
     requires there { other < length cat.now.schema }
     ensures below { result ≡ layout.is_below cat.now.schema table other }

@@ -18,5 +18,5 @@ loop-table-preserved c =
 pub returns-clause-after : goal.returns-clause-after
 returns-clause-after c =
     let all : c.loop-table.table ≡ length c.args.cat.now.schema =
-        omega (arith, c.loop-table-test.false, c.loop-table.auto.table-end, c.tables-table-end.ensures.count ∙ ap length c.schema.ensures.value) in
+    omega (arith, c.loop-table-test.false, c.loop-table.auto.table-end, c.tables-table-end.ensures.count ∙ ap length c.schema.ensures.value) in
     c.loop-table.invariant.begin ∙ ap (sums.table_begin c.args.cat.now) all ∙ sym c.a_catalog_has_a_layout.ensures.layout.sums.files_end

@@ -1,4 +1,4 @@
-use Rattle.std.proofs.Common.{◌≡◌, ◌∙◌, ap, sym, subst, ◌<◌, length, rules, arith}
+use Rattle.std.proofs.Common.{◌∙◌, sym, subst, ◌<◌, length, rules}
 use Rattle.std.proofs.lemmas.Option.{slice_get_within}
 use Rattle.ghost_model.specs.forms.Layout as layout
 use Rattle.flash_layout.proofs.PlaceLemmas.{ways_count, way_at, first_ancestor}
