@@ -95,7 +95,8 @@ fn has_key_to(columns: &[Column], child: usize) -> bool
 
 /// The place of the first of some columns that is a foreign key to a table.
 fn place_of_key(columns: &[Column], child: usize) -> Option<usize>
-    ensures { result ≡ position (λ column. schema.is_table child column.child) columns.now }
+    ensures few { IfSome result (λ place. place < length columns.now) }
+    ensures place { result ≡ position (λ column. schema.is_table child column.child) columns.now }
 {
     columns.iter().position(|column| is_key_to(column, child))
 }
@@ -238,6 +239,7 @@ impl Schema {
     /// The column of a table that is the foreign key to another, the first one where there are several.
     pub fn reference(&self, table: usize, child: usize) -> Option<usize>
         ensures column { result ≡ database.reference_column self.now table child }
+        ensures few { IfSome result (λ column. column < MAX_COLUMNS) }
     {
         match self.table(table) {
             None => None,
