@@ -11,7 +11,7 @@ ghost use Rattle.flash_layout.specs.Places.{ArePlaces};
 
 use crate::adding::places_of_all;
 use crate::areas::largest_count;
-use crate::columns::{rows_of, width_of};
+use crate::columns::{is_hidden, rows_of, width_of};
 use crate::indexes::{
     directory_pages, directory_width, id_directory_pages, id_directory_width, levels_pages,
     subtree_width,
@@ -29,8 +29,9 @@ use tree_schema::Catalog;
 
 /// Where the files and areas of a catalog lie. A clause sees the catalog, which the layout borrows.
 ///
-/// It is made once, in time that grows with the columns and with pairs of tables; then each file is told at once, or in as
-/// many steps as its table has levels. It has some 6 kB and takes no memory.
+/// It is made in one walk over the columns and one over pairs of tables and their levels; then each file is told at once, or
+/// in as many steps as its table has levels. It has some 5 kB, and no call takes memory. A call that is handed a catalog
+/// makes it once and lends it.
 #[derive(Drop)]
 pub struct Layout<'a> {
     cat: &'a Catalog,
@@ -101,6 +102,13 @@ impl<'a> Layout<'a> {
         ensures few { result ≤ 1000000 }
     {
         rows_of(self.cat, table)
+    }
+
+    /// Whether a column is hidden, and so has a file and an index; where there is no such column, it is not.
+    pub fn is_hidden(&self, table: usize, column: usize) -> bool
+        ensures value { result ≡ layout.is_hidden self.now.schema table column }
+    {
+        is_hidden(self.cat, table, column)
     }
 
     /// The width of a column's cells in bytes, and 0 where there is no such column.

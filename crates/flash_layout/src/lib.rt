@@ -2,8 +2,8 @@
 //!
 //! Pages 0 to 63 hold the catalog's bytes. From page 64 on the static files follow one another, each on pages of its own,
 //! table by table: column files, the subtree key table, the climbing indexes, the id index. The static part ends at a block.
-//! Then come the two halves of the spool and six scratch areas, each area of whole blocks. None of the calls here takes
-//! memory, and each has its answer for every catalog.
+//! Then come the two halves of the spool and six scratch areas, each area of whole blocks. `Layout` tells them all; it is made
+//! once from a catalog. None of the calls here takes memory, and each has its answer for every catalog.
 #![tactic(auto)]
 
 mod adding;

@@ -1,9 +1,9 @@
 //! The tables above and below a table.
 
-ghost use Rattle.std.specs.Prelude.{◌≡◌, ◌<◌, ◌≤◌, ◌==◌, length, map, drop};
+ghost use Rattle.std.specs.Prelude.{◌≡◌, ◌<◌, ◌≤◌, ◌==◌, length, drop};
 ghost use Rattle.std.specs.List.{list_any};
-ghost use Rattle.ghost_model.specs.core.Schema as schema;
 ghost use Rattle.ghost_model.specs.forms.Layout as layout;
+ghost use Rattle.tree_schema.specs.Schemas.{AreParents};
 ghost use Rattle.flash_layout.specs.Places.{AreWays};
 
 use crate::limits::a_catalog_has_a_layout;
@@ -12,8 +12,12 @@ use ghost_base::limits::MAX_TABLES;
 use tree_schema::Catalog;
 
 /// A table and those above it by the parents of all tables.
-fn way_of(cat: &Catalog, parents: &[Option<usize>], table: usize) -> ArrayVec<usize, MAX_TABLES>
-    requires parents { parents.now ≡ map (schema.parent cat.now.schema) (layout.tables_of cat.now.schema) }
+fn way_of(
+    cat: &Catalog,
+    parents: &[Option<usize>; MAX_TABLES],
+    table: usize,
+) -> ArrayVec<usize, MAX_TABLES>
+    requires parents { AreParents cat.now.schema parents.now }
     requires there { table < length cat.now.schema }
     ensures tables { result.items ≡ layout.levels_of cat.now.schema table }
 {

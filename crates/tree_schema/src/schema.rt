@@ -1,7 +1,7 @@
 //! Schemas as values of a fixed size.
 
-ghost use Rattle.std.specs.Prelude.{◌≡◌, ℕ, ◌<◌, ◌≤◌, not, length, map, slice_get, option_map, option_and_then, position, IfSome};
-ghost use Rattle.std.specs.List.{list_any, range_with_len};
+ghost use Rattle.std.specs.Prelude.{◌≡◌, ℕ, ◌<◌, ◌≤◌, ◌==◌, not, length, slice_get, option_map, option_and_then, position, IfSome};
+ghost use Rattle.std.specs.List.{list_any};
 ghost use Rattle.ghost_model.specs.core.Schema as schema;
 ghost use Rattle.ghost_model.specs.core.Database as database;
 ghost use Rattle.tree_schema.specs.Views.{column_of, table_of, schema_of};
@@ -122,6 +122,34 @@ pub(crate) fn parent_in(tables: &[Table], table: usize) -> Option<usize>
     place_of_holder(tables, table)
 }
 
+/// Notes the parent of a table that has none yet.
+fn note(parents: &mut [Option<usize>; MAX_TABLES], child: usize, holder: usize)
+    ensures noted { schemas.IsNoted holder (λ table. child == table) parents.old parents.new }
+{
+    if child < MAX_TABLES && parents[child].is_none() {
+        parents[child] = Some(holder);
+    }
+}
+
+/// Notes the holder of a column as the parent of the table that the column names, where that has none yet.
+fn note_key(parents: &mut [Option<usize>; MAX_TABLES], column: &Column, holder: usize)
+    ensures noted { schemas.IsNoted holder (λ child. schema.is_table child column.now.child) parents.old parents.new }
+{
+    match column.child {
+        None => {}
+        Some(child) => note(parents, child as usize, holder),
+    }
+}
+
+/// Notes the holder of columns as the parent of each table that one of them names and that has none yet.
+fn note_keys(parents: &mut [Option<usize>; MAX_TABLES], columns: &[Column], holder: usize)
+    ensures noted { schemas.IsNoted holder (λ child. list_any (λ column. schema.is_table child column.child) columns.now) parents.old parents.new }
+{
+    for column in columns {
+        note_key(parents, column, holder);
+    }
+}
+
 impl Schema {
     /// A schema of tables that some text means.
     pub(crate) fn of(tables: ArrayVec<Table, MAX_TABLES>) -> Schema
@@ -187,33 +215,35 @@ impl Schema {
         found
     }
 
-    /// The parent of each table.
-    pub fn parents(&self) -> ArrayVec<Option<usize>, MAX_TABLES>
-        ensures parents { result.items ≡ map (schema.parent self.now) (range_with_len 0 (length self.now)) }
+    /// Notes a table as the parent of each table that it names and that has none yet.
+    fn note_table(&self, parents: &mut [Option<usize>; MAX_TABLES], holder: usize)
+        ensures noted { schemas.IsNoted holder (λ child. not (schema.is_empty (schema.places_where (λ column. schema.is_table child column.child) (schema.columns_of self.now holder)))) parents.old parents.new }
     {
-        let mut parents = ArrayVec::new();
-        for at in 0..self.tables() {
-            parents.push(self.parent(at));
+        match self.table(holder) {
+            None => {}
+            Some(found) => note_keys(parents, &found.columns, holder),
+        }
+    }
+
+    /// The parent of each table, by place, from one walk over all columns; places after the last table have none.
+    pub fn parents(&self) -> [Option<usize>; MAX_TABLES]
+        ensures parents { schemas.AreParents self.now result }
+    {
+        let mut parents = [None; MAX_TABLES];
+        for holder in 0..self.tables() {
+            self.note_table(&mut parents, holder);
         }
         parents
     }
 
-    /// The parent of a table among those of all tables.
-    fn parent_among(&self, parents: &[Option<usize>], table: usize) -> Option<usize>
-        requires parents { parents.now ≡ map (schema.parent self.now) (range_with_len 0 (length self.now)) }
-        requires there { table < length self.now }
-        ensures parent { result ≡ schema.parent self.now table }
-    {
-        match parents.get(table) {
-            None => unreachable!(),
-            Some(parent) => *parent,
-        }
-    }
-
     /// The way from a table to the root by the parents of all tables: the table, its parent, and so on. At each place
     /// stands the table after so many steps, and the way ends where there is none.
-    pub fn path_by(&self, parents: &[Option<usize>], table: usize) -> ArrayVec<usize, MAX_TABLES>
-        requires parents { parents.now ≡ map (schema.parent self.now) (range_with_len 0 (length self.now)) }
+    pub fn path_by(
+        &self,
+        parents: &[Option<usize>; MAX_TABLES],
+        table: usize,
+    ) -> ArrayVec<usize, MAX_TABLES>
+        requires parents { schemas.AreParents self.now parents.now }
         requires there { table < length self.now }
         ensures way { (steps : ℕ) → slice_get result.items steps ≡ schema.ancestor self.now steps table }
     {
@@ -223,7 +253,7 @@ impl Schema {
         let mut next = Some(table);
         while let Some(here) = next {
             path.push(here);
-            next = self.parent_among(parents, here);
+            next = parents[here];
         }
         path
     }

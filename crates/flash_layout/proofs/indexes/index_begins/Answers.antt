@@ -1,6 +1,6 @@
 use Rattle.std.proofs.Common.{◌≡◌, ◌+◌, arith}
 use Rattle.ghost_model.specs.laws.LayoutSums as sums
-use Rattle.tree_schema.proofs.ByPlace.{one_more}
+use Rattle.flash_layout.proofs.ByPlace.{one_more}
 use Rattle.flash_layout.proofs.indexes.index_begins.Goals as goal
 
 pub loop-column-preserved : goal.loop-column-preserved

@@ -1,6 +1,10 @@
+use Rattle.std.proofs.Common.{subst, arith}
+use Rattle.tree_schema.specs.Schemas.{AreParents}
 use Rattle.flash_layout.proofs.PlaceLemmas.{one_way_more}
-use Rattle.std.proofs.Common.{arith}
 use Rattle.flash_layout.proofs.tables.ways_of.Goals as goal
+
+pub way_of-requires-clause-parents : goal.way_of-requires-clause-parents
+way_of-requires-clause-parents c = subst (λ schema. AreParents schema c.parents-parents.result) c.schema.ensures.value c.parents-parents.ensures.parents
 
 pub loop-table-preserved : goal.loop-table-preserved
 loop-table-preserved c =

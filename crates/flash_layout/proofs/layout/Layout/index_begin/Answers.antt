@@ -2,7 +2,7 @@ use Rattle.std.proofs.Common.{◌≡◌, ◌∙◌, ◌+◌, ap, refl, length, a
 use Rattle.std.proofs.lemmas.List.FromFn.{length-map-range_with_len}
 use Rattle.ghost_model.specs.forms.Layout as layout
 use Rattle.ghost_model.specs.laws.LayoutSums as sums
-use Rattle.tree_schema.proofs.ByPlace.{at_place}
+use Rattle.flash_layout.proofs.ByPlace.{at_place}
 use Rattle.flash_layout.proofs.layout.Layout.index_begin.Goals as goal
 
 pub bounds-deref-column : goal.bounds-deref-column

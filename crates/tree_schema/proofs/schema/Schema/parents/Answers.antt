@@ -1,11 +1,14 @@
-use Rattle.std.proofs.Common.{arith}
-use Rattle.ghost_model.specs.core.Schema as schema
-use Rattle.tree_schema.proofs.ByPlace.{one_more}
+use Rattle.std.proofs.Common.{◌≤◌, ◌<◌, length, arith}
+use Rattle.tree_schema.proofs.Parents.{one_holder_more, all_holders}
 use Rattle.tree_schema.proofs.schema.Schema.parents.Goals as goal
 
-pub loop-at-preserved : goal.loop-at-preserved
-loop-at-preserved c =
-    record {
-      so_far = one_more (schema.parent c.args.self.now) c.loop-at.at c.loop-at.parents.items c.push.new.self.items c.parent.result c.push.ensures.items c.loop-at.invariant.so_far c.parent.ensures;
-      room = omega (arith, c.push.ensures.len, c.loop-at.invariant.room);
-    }
+pub loop-holder-preserved : goal.loop-holder-preserved
+loop-holder-preserved c =
+    let within : c.loop-holder.holder < length c.args.self.now = omega (arith, c.loop-holder-test.true, c.tables-holder-end.ensures.count) in
+    λ child h. one_holder_more c.args.self.now child c.loop-holder.holder _ _ within (c.note_table.ensures.noted child h) (c.loop-holder.invariant child h)
+
+pub returns : goal.returns
+returns c =
+    let past : length c.args.self.now ≤ c.loop-holder.holder = omega (arith, c.loop-holder-test.false, c.tables-holder-end.ensures.count) in
+    let few : length c.args.self.now ≤ 12 = omega (arith, c.tables-holder-end.ensures.few, c.tables-holder-end.ensures.count) in
+    record { parents = λ table there. all_holders c.args.self.now table c.loop-holder.holder _ past (c.loop-holder.invariant table (omega (arith, there, few))) }

@@ -1,4 +1,4 @@
-use Rattle.std.proofs.Common.{◌≡◌, ◌+◌, ◌<◌, ◌≤◌, length, refl, sym, ◌∙◌, lit<, arith}
+use Rattle.std.proofs.Common.{◌≡◌, ◌+◌, ◌<◌, ◌≤◌, length, refl, sym, ◌∙◌, lit<, arith, rules}
 use Rattle.tree_schema.proofs.Ancestors.{way_is_short, table_on_way, walk_begins, walk_goes, walk_ends}
 use Rattle.tree_schema.proofs.schema.Schema.path_by.Goals as goal
 
@@ -21,11 +21,18 @@ loop-next-smaller c =
     omega (arith, short, longer)
 
 pub loop-next-preserved : goal.loop-next-preserved
-loop-next-preserved c = walk_goes c.args.self.now c.args.table c.loop-next.path.items _ c.in-Some.here c.loop-next.next _ c.loop-next.invariant c.in-Some.is c.push.ensures.items c.parent_among-next.ensures.parent
+loop-next-preserved c = walk_goes c.args.self.now c.args.table c.loop-next.path.items _ c.in-Some.here c.loop-next.next _ c.loop-next.invariant c.in-Some.is c.push.ensures.items (c.requires.parents c.in-Some.here (table_on_way c.args.self.now c.args.table (length c.loop-next.path.items) c.in-Some.here c.requires.there (sym c.loop-next.invariant.ahead ∙ c.in-Some.is)))
 
 pub returns : goal.returns
 returns c = record { way = walk_ends c.args.self.now c.args.table c.loop-next.path.items c.loop-next.next c.loop-next.invariant c.in_default.is }
 
-pub parent_among-next-requires-clause-there : goal.parent_among-next-requires-clause-there
-parent_among-next-requires-clause-there c =
-    table_on_way c.args.self.now c.args.table (length c.loop-next.path.items) c.in-Some.here c.requires.there (sym c.loop-next.invariant.ahead ∙ c.in-Some.is)
+pub bounds-parents-here : goal.bounds-parents-here
+bounds-parents-here c =
+    let there : c.in-Some.here < length c.args.self.now = table_on_way c.args.self.now c.args.table (length c.loop-next.path.items) c.in-Some.here c.requires.there (sym c.loop-next.invariant.ahead ∙ c.in-Some.is) in
+    omega (arith, there, c.tables.ensures.count, c.tables.ensures.few)
+
+pub offset_bounds-parents-here : goal.offset_bounds-parents-here
+offset_bounds-parents-here c =
+    let there : c.in-Some.here < length c.args.self.now = table_on_way c.args.self.now c.args.table (length c.loop-next.path.items) c.in-Some.here c.requires.there (sym c.loop-next.invariant.ahead ∙ c.in-Some.is) in
+    let few : c.in-Some.here < 12 = omega (arith, there, c.tables.ensures.count, c.tables.ensures.few) in
+    search rules
