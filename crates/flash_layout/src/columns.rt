@@ -1,11 +1,13 @@
 //! What a table has: its rows, and the widths and pages of its columns.
 
-ghost use Rattle.std.specs.Prelude.{◌≡◌, ◌<◌, ◌≤◌, true};
+ghost use Rattle.std.specs.Prelude.{◌≡◌, ◌<◌, ◌≤◌, true, map};
 ghost use Rattle.ghost_model.specs.forms.Layout as layout;
 ghost use Rattle.ghost_model.specs.laws.LayoutSums as sums;
 
 use crate::limits::a_catalog_has_a_layout;
+use crate::places::Begins;
 use crate::runs::pages;
+use arrayvec::ArrayVec;
 use ghost_base::cells::cell_width;
 use tree_schema::{Catalog, Schema};
 
@@ -76,24 +78,21 @@ fn column_pages(cat: &Catalog, table: usize, column: usize) -> u32
     }
 }
 
-/// The pages of the files of a table's columns before one.
-pub(crate) fn column_pages_before(cat: &Catalog, table: usize, column: usize) -> u32
-    requires few { column ≤ 24 }
-    ensures value { result ≡ sums.column_pages_before cat.now table column }
-    ensures most { result ≤ 24000000 }
+/// The first pages of the files of a table's columns, the first of which begins at this page. A column that is not hidden
+/// has no page.
+pub(crate) fn column_begins(cat: &Catalog, table: usize, begin: u32) -> Begins
+    requires begin { begin ≡ sums.table_begin cat.now table }
+    requires most { begin ≤ 607034752 }
+    ensures each { result.each.items ≡ map (sums.column_begin cat.now table) (layout.below (layout.column_count cat.now.schema table)) }
+    ensures after { result.after ≡ sums.subtree_begin cat.now table }
+    ensures most { result.after ≤ 631034752 }
 {
     a_catalog_has_a_layout(cat);
-    let mut total = 0;
-    for at in 0..column {
-        total += column_pages(cat, table, at);
+    let mut each = ArrayVec::new();
+    let mut after = begin;
+    for column in 0..columns_of(cat, table) {
+        each.push(after);
+        after += column_pages(cat, table, column);
     }
-    total
-}
-
-/// The pages of the files of a table's columns.
-pub(crate) fn columns_pages(cat: &Catalog, table: usize) -> u32
-    ensures value { result ≡ layout.columns_pages cat.now table }
-    ensures most { result ≤ 24000000 }
-{
-    column_pages_before(cat, table, columns_of(cat, table))
+    Begins { each, after }
 }

@@ -2,24 +2,22 @@
 //!
 //! Pages 0 to 63 hold the catalog's bytes. From page 64 on the static files follow one another, each on pages of its own,
 //! table by table: column files, the subtree key table, the climbing indexes, the id index. The static part ends at a block.
-//! Then come the two halves of the spool and six scratch areas, each area of whole blocks. None of the calls here takes
-//! memory, and each has its answer for every catalog.
+//! Then come the two halves of the spool and six scratch areas, each area of whole blocks. `Layout` tells them all; it is made
+//! once from a catalog. None of the calls here takes memory, and each has its answer for every catalog.
 #![tactic(auto)]
 
+mod adding;
 pub mod areas;
 mod columns;
 pub mod files;
 mod indexes;
+pub mod layout;
 pub mod limits;
+mod places;
 pub mod runs;
 mod tables;
-pub mod work;
 
-pub use areas::{need, scratch_area, spool_area, static_end};
 pub use columns::is_hidden;
-pub use files::{
-    column_file, id_directory, id_level, index_directory, index_header, index_level, subtree_table,
-};
+pub use files::{column_file, need};
+pub use layout::Layout;
 pub use runs::{pages, run_pages};
-pub use tables::{is_leaf, levels_of};
-pub use work::pages_built;

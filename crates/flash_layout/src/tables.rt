@@ -2,24 +2,61 @@
 
 ghost use Rattle.std.specs.Prelude.{◌≡◌, ◌<◌, ◌≤◌, ◌==◌, length, drop};
 ghost use Rattle.std.specs.List.{list_any};
-ghost use Rattle.ghost_model.specs.core.Schema as schema;
 ghost use Rattle.ghost_model.specs.forms.Layout as layout;
+ghost use Rattle.tree_schema.specs.Schemas.{AreParents};
+ghost use Rattle.flash_layout.specs.Places.{AreWays};
 
 use crate::limits::a_catalog_has_a_layout;
 use arrayvec::ArrayVec;
 use ghost_base::limits::MAX_TABLES;
 use tree_schema::Catalog;
 
-/// A table and those above it, nearest first: the levels of its indexes.
-pub fn levels_of(cat: &Catalog, table: usize) -> ArrayVec<usize, MAX_TABLES>
+/// A table and those above it by the parents of all tables.
+fn way_of(
+    cat: &Catalog,
+    parents: &[Option<usize>; MAX_TABLES],
+    table: usize,
+) -> ArrayVec<usize, MAX_TABLES>
+    requires parents { AreParents cat.now.schema parents.now }
     requires there { table < length cat.now.schema }
     ensures tables { result.items ≡ layout.levels_of cat.now.schema table }
-    ensures own { 0 < length result.items }
-    ensures few { length result.items ≤ 12 }
 {
     a_catalog_has_a_layout(cat);
     ghost_model::layout::levels_are_ancestors();
-    cat.schema().path_to_root(table)
+    cat.schema().path_by(parents, table)
+}
+
+/// For each table the table itself and those above it, nearest first: the levels of its indexes.
+pub(crate) fn ways_of(cat: &Catalog) -> ArrayVec<ArrayVec<usize, MAX_TABLES>, MAX_TABLES>
+    ensures ways { AreWays cat.now.schema result.items }
+{
+    a_catalog_has_a_layout(cat);
+    let parents = cat.schema().parents();
+    let mut ways = ArrayVec::new();
+    for table in 0..cat.schema().tables() {
+        ways.push(way_of(cat, &parents, table));
+    }
+    ways
+}
+
+/// A table and those above it, nearest first, among the ways of all tables.
+pub(crate) fn levels_among<'a>(
+    cat: &Catalog,
+    ways: &'a [ArrayVec<usize, MAX_TABLES>],
+    table: usize,
+) -> &'a [usize]
+    requires ways { AreWays cat.now.schema ways.now }
+    requires there { table < length cat.now.schema }
+    ensures tables { result.now ≡ layout.levels_of cat.now.schema table }
+    ensures own { 0 < length result.now }
+    ensures few { length result.now ≤ 12 }
+{
+    a_catalog_has_a_layout(cat);
+    ghost_model::layout::levels_are_ancestors();
+    match ways.get(table) {
+        None => unreachable!(),
+        Some(way) => way,
+    }
 }
 
 /// All levels but the first.
@@ -40,32 +77,30 @@ fn is_among(tables: &[usize], table: usize) -> bool
 }
 
 /// Whether the second table lies below the first.
-fn is_below(cat: &Catalog, table: usize, other: usize) -> bool
+fn is_below(cat: &Catalog, ways: &[ArrayVec<usize, MAX_TABLES>], table: usize, other: usize) -> bool
+    requires ways { AreWays cat.now.schema ways.now }
     requires there { other < length cat.now.schema }
     ensures below { result ≡ layout.is_below cat.now.schema table other }
 {
-    let levels = levels_of(cat, other);
-    is_among(but_first(&levels), table)
+    is_among(but_first(levels_among(cat, ways, other)), table)
 }
 
-/// The number of tables below a table.
-pub(crate) fn tables_below(cat: &Catalog, table: usize) -> u32
-    ensures count { result ≡ length (layout.descendants_of cat.now.schema table) }
-    ensures few { result ≤ 12 }
+/// The tables below a table, ascending.
+pub(crate) fn tables_below(
+    cat: &Catalog,
+    ways: &[ArrayVec<usize, MAX_TABLES>],
+    table: usize,
+) -> ArrayVec<usize, MAX_TABLES>
+    requires ways { AreWays cat.now.schema ways.now }
+    ensures tables { result.items ≡ layout.descendants_of cat.now.schema table }
+    ensures few { length result.items ≤ 12 }
 {
     a_catalog_has_a_layout(cat);
-    let mut found = 0;
+    let mut found = ArrayVec::new();
     for other in 0..cat.schema().tables() {
-        if is_below(cat, table, other) {
-            found += 1;
+        if is_below(cat, ways, table, other) {
+            found.push(other);
         }
     }
     found
-}
-
-/// Whether no table lies below a table, which so has no subtree key table.
-pub fn is_leaf(cat: &Catalog, table: usize) -> bool
-    ensures leaf { result ≡ schema.is_empty (layout.descendants_of cat.now.schema table) }
-{
-    tables_below(cat, table) == 0
 }

@@ -5,7 +5,6 @@
 #![tactic(auto)]
 
 pub mod answer;
-mod keys;
 mod rows;
 pub mod ways;
 

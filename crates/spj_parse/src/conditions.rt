@@ -1,6 +1,6 @@
 //! Tests of the conditions of a text, where each column means the first of its meanings.
 
-ghost use Rattle.std.specs.Prelude.{◌≡◌, option_and_then, option_map};
+ghost use Rattle.std.specs.Prelude.{◌≡◌, option_map};
 ghost use Rattle.std.specs.List.{list_any};
 ghost use Rattle.ghost_base.specs.Views.{kind_of};
 ghost use Rattle.ghost_model.specs.refusals.QueryMeaning as meaning;
@@ -15,7 +15,7 @@ ghost use Rattle.spj_parse.specs.Views.{field_of};
 
 use crate::drafts::{ConditionDraft, Item, LiteralDraft, Sign};
 use crate::literals::{integer_in, text_in};
-use crate::names::first_meaning;
+use crate::names::{first_meaning, is_table};
 use crate::query::Field;
 use crate::walk::Walk;
 use ghost_base::Kind;
@@ -82,31 +82,12 @@ fn is_too_large(kind: Option<Kind>, literal: LiteralDraft) -> bool
     }
 }
 
-/// The table that a column names as a foreign key.
-fn child_at(schema: &Schema, key: Field) -> Option<u8>
-    ensures child { result ≡ option_and_then (λ column. column.child) (model.column_at schema.now (field_of key).table (field_of key).column) }
-{
-    match schema.column(key.table as usize, key.column as usize) {
-        None => None,
-        Some(found) => found.child,
-    }
-}
-
-/// Whether a place, where there is one, is this table's.
-pub(crate) fn is_table(place: Option<u8>, table: u8) -> bool
-    ensures same { result ≡ model.is_table table place }
-{
-    match place {
-        None => false,
-        Some(other) => other == table,
-    }
-}
-
 /// Whether the first column is a foreign key and the second the identifier of its child.
 fn is_key_to(schema: &Schema, key: Field, identifier: Field) -> bool
     ensures key { result ≡ meaning.is_reference_to schema.now (field_of key) (field_of identifier) }
 {
-    is_table(child_at(schema, key), identifier.table) && identifier.column == 0
+    let child = schema.child(key.table as usize, key.column as usize);
+    is_table(child, identifier.table) && identifier.column == 0
 }
 
 /// Whether two columns are a join, either side first.

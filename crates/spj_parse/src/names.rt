@@ -83,7 +83,7 @@ fn column_named(schema: &Schema, table: usize, name: &[u8]) -> Option<usize>
 }
 
 /// Whether a place, where there is one, is this table's.
-fn is_table(place: Option<usize>, table: u8) -> bool
+pub(crate) fn is_table(place: Option<usize>, table: u8) -> bool
     ensures same { result ≡ model.is_table table place }
 {
     match place {

@@ -10,13 +10,11 @@ ghost use Rattle.ghost_model.specs.core.Values as values;
 ghost use Rattle.tree_schema.specs.Marks as marks;
 ghost use Rattle.spj_parse.specs.Drafts.{column_of, condition_of, item_of, literal_of, sign_of};
 ghost use Rattle.spj_parse.specs.Conditions.{first_alone};
-ghost use Rattle.spj_parse.specs.Names.{passes};
 ghost use Rattle.spj_parse.specs.Adding.{Adds};
 ghost use Rattle.spj_parse.specs.Items.{items_in};
 ghost use Rattle.spj_parse.specs.Resolved as resolved;
 ghost use Rattle.spj_parse.specs.Views.{comparison_of, field_of, join_of};
 
-use crate::conditions::is_table;
 use crate::drafts::{ColumnDraft, ConditionDraft, Item, LiteralDraft, Sign};
 use crate::links::is_among;
 use crate::literals::{integer_in, text_in};
@@ -262,29 +260,12 @@ pub(crate) fn comparisons(
     kept
 }
 
-/// Whether a column is a foreign key to a table.
-fn names_child(schema: &Schema, holder: usize, column: usize, child: u8) -> bool
-    ensures key { result ≡ passes (λ column. model.is_table child column.child) (model.column_at schema.now holder column) }
-{
-    match schema.column(holder, column) {
-        None => false,
-        Some(found) => is_table(found.child, child),
-    }
-}
-
 /// The first foreign key of a table to another.
 fn key_between(schema: &Schema, holder: usize, child: u8) -> Option<usize>
     ensures key { result ≡ model.first_of (resolved.keys_between schema.now holder child) }
     ensures few { IfSome result (λ column. column < MAX_COLUMNS) }
 {
-    let _ = schema.tables();
-    schemas_are_trees();
-    for column in 0..schema.columns(holder) {
-        if names_child(schema, holder, column, child) {
-            return Some(column);
-        }
-    }
-    None
+    schema.reference(holder, child as usize)
 }
 
 /// The join of a table with its parent, if the parent is among the FROM tables.

@@ -4,11 +4,8 @@ ghost use Rattle.std.specs.Prelude.{◌≡◌, ◌<◌, length, true};
 ghost use Rattle.ghost_model.specs.forms.Layout as layout;
 
 use arrayvec::ArrayVec;
-use flash_layout::{
-    column_file, id_directory, id_level, index_directory, index_header, index_level, is_hidden,
-    is_leaf, levels_of, need, pages, pages_built, scratch_area, spool_area, static_end,
-    subtree_table,
-};
+use flash_layout::{Layout, column_file, is_hidden, need, pages};
+use ghost_base::Kind;
 use ghost_base::runs::Run;
 use std::alloc::{AllocError, Global};
 use tree_schema::{Catalog, read_catalog};
@@ -49,74 +46,76 @@ pub(crate) fn catalog_bytes(text: &str, counts: &[u32]) -> ArrayVec<u8, 600> {
 }
 
 /// The column files of a table.
-fn put_columns(cat: &Catalog, table: usize, found: &mut Files) {
+fn put_columns(lain: &Layout<'_>, table: usize, found: &mut Files) {
+    let cat = lain.catalog();
     for column in 0..cat.schema().columns(table) {
         if is_hidden(cat, table, column) {
-            put(found, column_file(cat, table, column));
+            put(found, lain.column_file(table, column));
         }
     }
 }
 
 /// The files of an index.
-fn put_index(cat: &Catalog, table: usize, column: usize, found: &mut Files)
-    requires there { table < length cat.now.schema }
-    requires hidden { layout.is_hidden cat.now.schema table column ≡ true }
+fn put_index(lain: &Layout<'_>, table: usize, column: usize, found: &mut Files)
+    requires there { table < length lain.now.schema }
+    requires hidden { layout.is_hidden lain.now.schema table column ≡ true }
 {
-    put(found, index_header(cat, table, column));
-    put(found, index_directory(cat, table, column));
-    for level in 0..levels_of(cat, table).len() {
-        put(found, index_level(cat, table, column, level));
+    put(found, lain.index_header(table, column));
+    put(found, lain.index_directory(table, column));
+    for level in 0..lain.levels(table).len() {
+        put(found, lain.index_level(table, column, level));
     }
 }
 
 /// The files of the indexes of a table.
-fn put_indexes(cat: &Catalog, table: usize, found: &mut Files)
-    requires there { table < length cat.now.schema }
+fn put_indexes(lain: &Layout<'_>, table: usize, found: &mut Files)
+    requires there { table < length lain.now.schema }
 {
+    let cat = lain.catalog();
     for column in 0..cat.schema().columns(table) {
         if is_hidden(cat, table, column) {
-            put_index(cat, table, column, found);
+            put_index(lain, table, column, found);
         }
     }
 }
 
 /// The files of the id index of a table.
-fn put_id_index(cat: &Catalog, table: usize, found: &mut Files)
-    requires there { table < length cat.now.schema }
+fn put_id_index(lain: &Layout<'_>, table: usize, found: &mut Files)
+    requires there { table < length lain.now.schema }
 {
-    let above = levels_of(cat, table).len() - 1;
+    let above = lain.above(table).len();
     if above > 0 {
-        put(found, id_directory(cat, table));
+        put(found, lain.id_directory(table));
     }
     for level in 0..above {
-        put(found, id_level(cat, table, level));
+        put(found, lain.id_level(table, level));
     }
 }
 
 /// All files, in order.
-fn files_of(cat: &Catalog) -> Files {
+fn files_of(lain: &Layout<'_>) -> Files {
     let mut found = ArrayVec::new();
-    for table in 0..cat.schema().tables() {
-        put_columns(cat, table, &mut found);
-        if !is_leaf(cat, table) {
-            put(&mut found, subtree_table(cat, table));
+    for table in 0..lain.catalog().schema().tables() {
+        put_columns(lain, table, &mut found);
+        if !lain.below(table).is_empty() {
+            put(&mut found, lain.subtree_table(table));
         }
-        put_indexes(cat, table, &mut found);
-        put_id_index(cat, table, &mut found);
+        put_indexes(lain, table, &mut found);
+        put_id_index(lain, table, &mut found);
     }
     found
 }
 
 /// The areas of both halves of the spool and of scratch.
-fn areas_of(cat: &Catalog) -> Files {
+fn areas_of(lain: &Layout<'_>) -> Files {
     let mut found = ArrayVec::new();
     for half in 0..2 {
-        for table in 0..cat.schema().tables() {
-            put(&mut found, spool_area(cat, half, table));
+        for table in 0..lain.catalog().schema().tables() {
+            put(&mut found, lain.spool_area(half, table));
         }
     }
     for area in 0..6 {
-        put(&mut found, scratch_area(cat, area));
+        put(&mut found, lain.scratch_area(area));
     }
     found
 }
@@ -142,8 +141,9 @@ fn the_files_and_areas_of_the_clinic_lie_where_they_should(
         assert!(rt; false);
         return Ok(());
     };
-    assert!(rt; lie_so(rt.alloc(), &files_of(&cat), CLINIC_FILES)?);
-    let areas = areas_of(&cat);
+    let lain = Layout::of(&cat);
+    assert!(rt; lie_so(rt.alloc(), &files_of(&lain), CLINIC_FILES)?);
+    let areas = areas_of(&lain);
     assert!(rt; areas.len() == 12);
     for (at, (first, _count, width)) in areas.iter().enumerate() {
         let wide = if at < 6 { 12 } else { 4 };
@@ -156,19 +156,67 @@ fn the_files_and_areas_of_the_clinic_lie_where_they_should(
 }
 
 #[test]
+fn a_layout_tells_what_readers_ask(rt: HostRuntime) {
+    let Some(cat) = read_catalog(&catalog_bytes(CLINIC, &[3, 2, 4])) else {
+        assert!(rt; false);
+        return;
+    };
+    let lain = Layout::of(&cat);
+    for (table, rows, levels, above, below) in [
+        (
+            0,
+            3u32,
+            [0usize, 2].as_slice(),
+            [2usize].as_slice(),
+            [].as_slice(),
+        ),
+        (1, 2, &[1, 2], &[2], &[]),
+        (2, 4, &[2], &[], &[0, 1]),
+    ] {
+        assert!(rt; lain.rows(table) == rows, "rows of {table}");
+        if table < cat.schema().tables() {
+            assert!(rt; lain.levels(table) == levels, "levels of {table}");
+            assert!(rt; lain.above(table) == above, "above {table}");
+            assert!(rt; lain.below(table) == below, "below {table}");
+        }
+    }
+    assert!(rt; lain.width(0, 2) == 2 && matches!(lain.kind(0, 2), Some(Kind::Chars(2))));
+    assert!(rt; lain.width(2, 3) == 8 && matches!(lain.kind(2, 3), Some(Kind::Integer)));
+    assert!(rt; lain.width(2, 9) == 0 && lain.kind(2, 9).is_none());
+    if is_hidden(&cat, 2, 2) {
+        let own = column_file(&cat, 2, 2);
+        assert!(rt; own.first == lain.column_file(2, 2).first && own.width == 8);
+    }
+}
+
+#[test]
+fn the_schema_tells_its_foreign_keys(rt: HostRuntime) {
+    let Some(cat) = read_catalog(&catalog_bytes(CLINIC, &[3, 2, 4])) else {
+        assert!(rt; false);
+        return;
+    };
+    let schema = cat.schema();
+    assert!(rt; schema.reference(2, 0) == Some(3) && schema.reference(2, 1) == Some(4));
+    assert!(rt; schema.reference(0, 2).is_none() && schema.reference(7, 0).is_none());
+    assert!(rt; schema.child(2, 3) == Some(0) && schema.child(2, 4) == Some(1));
+    assert!(rt; schema.child(2, 2).is_none() && schema.child(0, 9).is_none());
+}
+
+#[test]
 fn a_device_has_whole_blocks(rt: HostRuntime) {
-    for (text, counts, end, most, built) in [
-        (CLINIC, [3u32, 2, 4].as_slice(), 128u32, 896u32, 7u32),
-        (LEAF, &[50, 12_000], 512, 1280, 97),
-        (LEAF, &[41_000, 100], 1024, 2432, 165),
-        (SECRET, &[1], 128, 512, 3),
-        (SECRET, &[1_000_000], 13_760, 25_664, 3909),
+    for (text, counts, end, most) in [
+        (CLINIC, [3u32, 2, 4].as_slice(), 128u32, 896u32),
+        (LEAF, &[50, 12_000], 512, 1280),
+        (LEAF, &[41_000, 100], 1024, 2432),
+        (SECRET, &[1], 128, 512),
+        (SECRET, &[1_000_000], 13_760, 25_664),
     ] {
         match read_catalog(&catalog_bytes(text, counts)) {
             None => assert!(rt; false),
             Some(cat) => {
-                assert!(rt; static_end(&cat) == end && need(&cat) == most, "{end}");
-                assert!(rt; pages_built(&cat) == built, "{end}");
+                let lain = Layout::of(&cat);
+                assert!(rt; lain.static_end() == end && lain.need() == most, "{end}");
+                assert!(rt; need(&cat) == most, "{end}");
             }
         }
     }

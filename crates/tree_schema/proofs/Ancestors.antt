@@ -49,10 +49,10 @@ all_before schema table (suc m) x k e h =
       | inr more ↦ (let same : k ≡ suc m = omega (arith, more, h) in (x, ap (λ n. ancestor schema n table) same ∙ e))
     ]
 
-ancestor_below : (schema : Schema) (table n x : ℕ) → table < length schema → ancestor schema n table ≡ Some x → x < length schema
+pub table_on_way : (schema : Schema) (table n x : ℕ) → table < length schema → ancestor schema n table ≡ Some x → x < length schema
 unfolding ancestor
-ancestor_below schema table zero x h e = let same : table ≡ x = cc in subst (λ k. k < length schema) same h
-ancestor_below schema table (suc n) x h e =
+table_on_way schema table zero x h e = let same : table ≡ x = cc in subst (λ k. k < length schema) same h
+table_on_way schema table (suc n) x h e =
     let before = some_before (ancestor schema n table) (parent schema) x e in parent_below schema before.0 x before.2
 
 number : Option ℕ → ℕ

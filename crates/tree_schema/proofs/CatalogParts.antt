@@ -1,7 +1,7 @@
 -- Bytes that begin with a catalog have its parts.
 use Rattle.std.proofs.Common.{◌≡◌, ℕ, ◌≤◌, List, ◌++◌, length, ap, ◌∙◌, append_assoc, arith}
 use Rattle.ghost_model.specs.core.Channel.{Catalog}
-use Rattle.ghost_model.specs.forms.Catalog.{canonical_text, catalog_version, catalog_head, counts_bytes, catalog_bytes, BeginsWithCatalog}
+use Rattle.ghost_model.specs.forms.Catalog.{canonical_text, catalog_head, counts_bytes, catalog_bytes, BeginsWithCatalog}
 use Rattle.tree_schema.specs.CatalogParts.{HasParts}
 use Rattle.tree_schema.proofs.CatalogLengths.{text_is_short}
 

@@ -14,3 +14,4 @@ pub mod TreeSteps
 pub mod BuildingSteps
 pub mod CatalogParts
 pub mod AnySteps
+pub mod Parents

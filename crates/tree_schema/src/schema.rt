@@ -1,8 +1,9 @@
 //! Schemas as values of a fixed size.
 
-ghost use Rattle.std.specs.Prelude.{◌≡◌, ℕ, ◌<◌, ◌≤◌, not, length, slice_get, option_map, position};
+ghost use Rattle.std.specs.Prelude.{◌≡◌, ℕ, ◌<◌, ◌≤◌, ◌==◌, not, length, slice_get, option_map, option_and_then, position, IfSome};
 ghost use Rattle.std.specs.List.{list_any};
 ghost use Rattle.ghost_model.specs.core.Schema as schema;
+ghost use Rattle.ghost_model.specs.core.Database as database;
 ghost use Rattle.tree_schema.specs.Views.{column_of, table_of, schema_of};
 ghost use Rattle.tree_schema.specs.Schemas as schemas;
 ghost use Rattle.tree_schema.specs.Schemas.{DeclaredSchemasAreTrees};
@@ -92,6 +93,14 @@ fn has_key_to(columns: &[Column], child: usize) -> bool
     columns.iter().any(|column| is_key_to(column, child))
 }
 
+/// The place of the first of some columns that is a foreign key to a table.
+fn place_of_key(columns: &[Column], child: usize) -> Option<usize>
+    ensures few { IfSome result (λ place. place < length columns.now) }
+    ensures place { result ≡ position (λ column. schema.is_table child column.child) columns.now }
+{
+    columns.iter().position(|column| is_key_to(column, child))
+}
+
 /// Whether a table holds a foreign key to another.
 fn holds_key_to(table: &Table, child: usize) -> bool
     ensures { result ≡ not (schema.is_empty (schema.references_to child (table_of table.now))) }
@@ -111,6 +120,34 @@ pub(crate) fn parent_in(tables: &[Table], table: usize) -> Option<usize>
     ensures parent { result ≡ schema.parent (schema_of tables.now) table }
 {
     place_of_holder(tables, table)
+}
+
+/// Notes the parent of a table that has none yet.
+fn note(parents: &mut [Option<usize>; MAX_TABLES], child: usize, holder: usize)
+    ensures noted { schemas.IsNoted holder (λ table. child == table) parents.old parents.new }
+{
+    if child < MAX_TABLES && parents[child].is_none() {
+        parents[child] = Some(holder);
+    }
+}
+
+/// Notes the holder of a column as the parent of the table that the column names, where that has none yet.
+fn note_key(parents: &mut [Option<usize>; MAX_TABLES], column: &Column, holder: usize)
+    ensures noted { schemas.IsNoted holder (λ child. schema.is_table child column.now.child) parents.old parents.new }
+{
+    match column.child {
+        None => {}
+        Some(child) => note(parents, child as usize, holder),
+    }
+}
+
+/// Notes the holder of columns as the parent of each table that one of them names and that has none yet.
+fn note_keys(parents: &mut [Option<usize>; MAX_TABLES], columns: &[Column], holder: usize)
+    ensures noted { schemas.IsNoted holder (λ child. list_any (λ column. schema.is_table child column.child) columns.now) parents.old parents.new }
+{
+    for column in columns {
+        note_key(parents, column, holder);
+    }
 }
 
 impl Schema {
@@ -178,11 +215,37 @@ impl Schema {
         found
     }
 
-    /// The way from a table to the root: the table, its parent, and so on. At each place stands the table after so many
-    /// steps, and the way ends where there is none.
-    pub fn path_to_root(&self, table: usize) -> ArrayVec<usize, MAX_TABLES>
-        requires { table < length self.now }
-        ensures { (steps : ℕ) → slice_get result.items steps ≡ schema.ancestor self.now steps table }
+    /// Notes a table as the parent of each table that it names and that has none yet.
+    fn note_table(&self, parents: &mut [Option<usize>; MAX_TABLES], holder: usize)
+        ensures noted { schemas.IsNoted holder (λ child. not (schema.is_empty (schema.places_where (λ column. schema.is_table child column.child) (schema.columns_of self.now holder)))) parents.old parents.new }
+    {
+        match self.table(holder) {
+            None => {}
+            Some(found) => note_keys(parents, &found.columns, holder),
+        }
+    }
+
+    /// The parent of each table, by place, from one walk over all columns; places after the last table have none.
+    pub fn parents(&self) -> [Option<usize>; MAX_TABLES]
+        ensures parents { schemas.AreParents self.now result }
+    {
+        let mut parents = [None; MAX_TABLES];
+        for holder in 0..self.tables() {
+            self.note_table(&mut parents, holder);
+        }
+        parents
+    }
+
+    /// The way from a table to the root by the parents of all tables: the table, its parent, and so on. At each place
+    /// stands the table after so many steps, and the way ends where there is none.
+    pub fn path_by(
+        &self,
+        parents: &[Option<usize>; MAX_TABLES],
+        table: usize,
+    ) -> ArrayVec<usize, MAX_TABLES>
+        requires parents { schemas.AreParents self.now parents.now }
+        requires there { table < length self.now }
+        ensures way { (steps : ℕ) → slice_get result.items steps ≡ schema.ancestor self.now steps table }
     {
         let _ = self.tables();
         schemas_are_trees();
@@ -190,9 +253,38 @@ impl Schema {
         let mut next = Some(table);
         while let Some(here) = next {
             path.push(here);
-            next = self.parent(here);
+            next = parents[here];
         }
         path
+    }
+
+    /// The way from a table to the root.
+    pub fn path_to_root(&self, table: usize) -> ArrayVec<usize, MAX_TABLES>
+        requires { table < length self.now }
+        ensures { (steps : ℕ) → slice_get result.items steps ≡ schema.ancestor self.now steps table }
+    {
+        self.path_by(&self.parents(), table)
+    }
+
+    /// The column of a table that is the foreign key to another, the first one where there are several.
+    pub fn reference(&self, table: usize, child: usize) -> Option<usize>
+        ensures column { result ≡ database.reference_column self.now table child }
+        ensures few { IfSome result (λ column. column < MAX_COLUMNS) }
+    {
+        match self.table(table) {
+            None => None,
+            Some(found) => place_of_key(&found.columns, child),
+        }
+    }
+
+    /// The table that a column refers to, where it is a foreign key.
+    pub fn child(&self, table: usize, column: usize) -> Option<usize>
+        ensures child { result ≡ option_and_then (λ (held : schema.Column). held.child) (schema.column_at self.now table column) }
+    {
+        match self.column(table, column) {
+            None => None,
+            Some(found) => found.child.map(|child| child as usize),
+        }
     }
 
     /// Whether a column is hidden; where there is no such column, it is not.

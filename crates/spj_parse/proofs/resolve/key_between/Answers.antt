@@ -1,19 +1,12 @@
-use Rattle.std.proofs.Common.{sym, ◌∙◌, arith, ◌<◌, ◌≤◌, length}
-use Rattle.ghost_model.specs.core.Schema.{columns_of, is_table}
-use Rattle.spj_parse.proofs.Places.{found_at, not_at, nowhere}
+use Rattle.std.proofs.Common.{◌≡◌, ◌∙◌, ℕ, Option, None, Some, refl, option_and_then, slice_get}
+use Rattle.ghost_model.specs.core.Schema.{Table, first_of, is_table, places_from, references_to, places_where, columns_or_none}
 use Rattle.spj_parse.proofs.resolve.key_between.Goals as goal
 
-pub returns-then-names_child-clause-key : goal.returns-then-names_child-clause-key
-returns-then-names_child-clause-key c =
-    sym (found_at (λ column. is_table c.args.child column.child) (columns_of c.args.schema.now c.args.holder) _ _ c.loop-column.invariant (let within : c.loop-column.column < length (columns_of c.args.schema.now c.args.holder) = omega (arith, c.loop-column-test.true, c.columns-column-end.ensures) in within)
-    (sym c.names_child.ensures.key ∙ c.if-names_child.true))
-
-pub loop-column-preserved : goal.loop-column-preserved
-loop-column-preserved c =
-    not_at (λ column. is_table c.args.child column.child) (columns_of c.args.schema.now c.args.holder) _ _ c.loop-column.invariant (let within : c.loop-column.column < length (columns_of c.args.schema.now c.args.holder) = omega (arith, c.loop-column-test.true, c.columns-column-end.ensures) in within)
-    (sym c.names_child.ensures.key ∙ c.if-names_child.false)
+in_table : (child : ℕ) (held : Option Table)
+    → option_and_then (λ held. first_of (references_to child held)) held ≡ first_of (places_where (λ column. is_table child column.child) (columns_or_none held))
+unfolding places_from
+in_table child None = refl
+in_table child (Some table) = refl
 
 pub returns-clause-key : goal.returns-clause-key
-returns-clause-key c =
-    sym (nowhere (λ column. is_table c.args.child column.child) (columns_of c.args.schema.now c.args.holder) _ _ c.loop-column.invariant
-    (let past : length (columns_of c.args.schema.now c.args.holder) ≤ c.loop-column.column = omega (arith, c.loop-column-test.false, c.columns-column-end.ensures) in past))
+returns-clause-key c = c.reference.ensures.column ∙ in_table c.args.child (slice_get c.args.schema.now c.args.holder)

@@ -1,8 +1,0 @@
-use Rattle.std.proofs.Common.{sym, ◌∙◌}
-use Rattle.flash_layout.proofs.files.id_directory.Goals as goal
-
-pub returns : goal.returns
-returns c =
-    let first = c.id_index_begin.ensures.value ∙ sym (c.a_catalog_has_a_layout.ensures.layout.sums.id_directory c.args.table c.requires.there) in
-    let width = c.id_directory_width.ensures.value in
-    record { run = λ i. record { first = first i; count = c.rows_of.ensures.value i; width = width i } }
