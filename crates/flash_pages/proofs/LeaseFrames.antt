@@ -8,7 +8,7 @@ use Rattle.page_pool.specs.Pools.{Pool, IsOut, ChangesPage, bytes_at, page_at}
 use Rattle.page_pool.specs.Laws.{SameBuffer}
 use Rattle.page_pool.proofs.Leases.{out_kept, change_keeps_out, change_elsewhere}
 use Rattle.ghost_base.specs.Runs.{run_of}
-use Rattle.flash_pages.specs.Reads.{IsFilled, CanRead, WasGiven}
+use Rattle.flash_pages.specs.Reads.{IsFilled, CanRead, WasGiven, WasRead}
 use Rattle.flash_pages.specs.Cursors.{IsReady, IsPageOf, ids_left, place}
 use Rattle.flash_pages.specs.Writing.{IsWriting}
 use Rattle.flash_pages.specs.Writers.{CanWrite, HasPut, next_page}
@@ -76,6 +76,17 @@ pub given_beside :
     → lease ≢ other → WasGiven since before pool lease → WasGiven since now later lease
 given_beside {before = before} {now = now} since kept changes apart is =
     given_kept since before now kept.gave (change_elsewhere changes apart) is
+
+-- what a read gave of a record it gave
+pub was_read_kept :
+    {since : ℕ} {before now : Device} {run : Run} {place : ℕ} {cell : List ℕ}
+    → ((at number : ℕ) (bytes : List ℕ) → before.gave at number bytes ≡ true → now.gave at number bytes ≡ true)
+    → WasRead since before run place cell → WasRead since now run place cell
+was_read_kept {run = run} {place = place} gave was = record {
+  bytes = was.bytes;
+  gave = record { at = was.gave.at; from = was.gave.from; gave = gave was.gave.at (page_of run place) was.bytes was.gave.gave };
+  record_is = was.record_is;
+}
 
 -- a cursor may go on where the pages of its run and its buffer stayed as they were
 pub ready_kept :

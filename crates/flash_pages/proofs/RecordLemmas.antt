@@ -2,7 +2,8 @@
 use Rattle.std.proofs.Common.{◌≡◌, ℕ, zero, suc, ◌+◌, ◌-◌, ◌*◌, ◌/◌, ◌%◌, ◌^◌, ◌<◌, ◌≤◌, ◌++◌, ◌∙◌, ap, sym, inl, inr, min, List, [], ◌∷◌, length, take, drop, replicate, get_or, lit<, arith}
 use Rattle.std.proofs.lemmas.Bool.{cases_lt}
 use Rattle.std.proofs.lemmas.List.{take_all, drop-replicate}
-use Rattle.std.proofs.lemmas.Nat.{div-mul-add}
+use Rattle.std.proofs.lemmas.Nat.{div-mul-add, div-add-mod', le-div}
+use Rattle.std.proofs.Math.Nat.{mod-lt}
 use Rattle.ghost_model.specs.forms.Runs.{Run, per_page, cell_in, record_at, id_at, ids_from, number_in, found_in}
 
 -- the slot of the page that was read is the record
@@ -88,3 +89,14 @@ found_begins (a ∷ b ∷ c ∷ d ∷ others) found long small is =
     let high = d + c * 256 + b * 65536 + a * 16777216 in
     first_half high (get_or rest 0 0) (get_or rest 1 0) (get_or rest 2 0) (get_or rest 3 0) found (below 0) (below 1) (below 2) (below 3) (omega (arith, is))
     ∙ omega arith
+
+-- the place in a list after the last record of a page is that of another page
+pub later_page :
+    (first at count n later : ℕ) → 0 < n → at + min (n - 1 - (first + at) % n) (count - 1 - at) < later → later < count
+    → (first + later) / n ≡ (first + at) / n → ⊥
+later_page first at count n later some behind within same =
+    let place = first + at in
+    let whole = div-add-mod' place n in
+    let upper : place / n * n + n ≤ first + later = omega (arith, whole, behind, within, mod-lt place some) in
+    let next : (place / n + 1) * n ≤ first + later = omega (arith, upper) in
+    omega (arith, same, le-div (place / n + 1) (first + later) n some next)

@@ -86,6 +86,21 @@ pub record Passes (before now : RunCursor) (bound : ℕ) : Type 0 where
   pub below : now.last < bound
   pub rows : now.last ≤ before.rows
 
+-- the last record of the list in the page of the next one
+pub record IsLastInPage (cursor : RunCursor) (at : ℕ) : Type 0 where
+  pub from : cursor.at ≤ at
+  pub within : at < cursor.list.count
+  pub same_page : runs.page_of (run_of cursor.list.run) (cursor.list.first + at) ≡ page_next cursor
+  pub last :
+      (later : ℕ) → at < later → later < cursor.list.count
+      → runs.page_of (run_of cursor.list.run) (cursor.list.first + later) ≡ page_next cursor → ⊥
+
+-- by the bytes of the pages, that record has an identifier that is not below the bound
+pub record Reaches (page : ℕ → List ℕ) (cursor : RunCursor) (bound : ℕ) : Type 0 where
+  pub at : ℕ
+  pub last : IsLastInPage cursor at
+  pub reaches : bound ≤ runs.id_at page (run_of cursor.list.run) (cursor.list.first + at)
+
 -- by the bytes of the pages, the identifier of the last record passed is the cursor's last one
 abbrev pub PassesTo : (ℕ → List ℕ) → RunCursor → Type 0
 PassesTo page now = now.last ≡ runs.id_at page (run_of now.list.run) (now.list.first + (now.at - 1))

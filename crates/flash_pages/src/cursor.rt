@@ -1,9 +1,9 @@
 //! The ascending identifiers of a list.
 
-ghost use Rattle.std.specs.Prelude.{◌≡◌, ◌<◌, ◌≤◌, ◌+◌, ◌^◌, ◌&&◌, Bool, true, false, None, Ok, Some, length, IfOk, IfErr, IfSome, OnErr, MatchOption, ℕ};
+ghost use Rattle.std.specs.Prelude.{◌≡◌, ◌<◌, ◌≤◌, ◌+◌, ◌-◌, ◌^◌, ◌⊎◌, ◌&&◌, Bool, true, false, None, Ok, Some, length, IfOk, IfErr, IfSome, OnErr, MatchOption, ℕ};
 ghost use Rattle.edge_traits.specs.Devices.{Device};
 ghost use Rattle.page_pool.specs.Pools.{IsOut, page_at};
-ghost use Rattle.flash_pages.specs.Cursors.{GivesNext, BlamesNext, BlamesPassed, GivesPassed, Passes, PassesTo, SameList, StandsAt, IsReady, IsNext, will_read, place, page_next};
+ghost use Rattle.flash_pages.specs.Cursors.{GivesNext, BlamesNext, BlamesPassed, GivesPassed, Passes, PassesTo, IsLastInPage, Reaches, SameList, StandsAt, IsReady, IsNext, will_read, place, page_next};
 ghost use Rattle.flash_pages.specs.Looking.{IsInPage, DamagesAt, BlamesAt};
 ghost use Rattle.ghost_model.specs.forms.Runs.{id_at};
 ghost use Rattle.flash_pages.specs.Reads.{Reads, WasGiven, must_read, page_after};
@@ -96,7 +96,9 @@ impl RunCursor {
         requires ready { IsReady F.told (F.state flash.old) pool.old self.old }
         ensures passes { IfOk result (λ passed. passed ≡ true → Passes self.old self.new bound) }
         ensures gives { IfOk result (λ passed. passed ≡ true → F.told ≡ true → PassesTo (F.state flash.old).page self.new) }
+        ensures whole { IfOk result (λ passed. passed ≡ true → IsLastInPage self.old (self.new.at - 1)) }
         ensures stays { IfOk result (λ passed. passed ≡ false → self.new ≡ self.old) }
+        ensures ends { IfOk result (λ passed. passed ≡ false → F.told ≡ true → (self.old.at ≡ self.old.list.count) ⊎ Reaches (F.state flash.old).page self.old bound) }
         ensures fault { OnErr result (self.new ≡ self.old) }
         ensures damage { F.told ≡ true → GivesPassed (F.state flash.old).page self.old result }
         ensures blames { (since : ℕ) → since ≤ (F.state flash.old).calls → WasGiven since (F.state flash.old) pool.old self.old.lease → BlamesPassed since (F.state flash.new) self.old result }

@@ -12,9 +12,9 @@ use edge_traits::mem_flash::MemFlash;
 use flash_build::{catalog_of, load_flash};
 use flash_layout::{is_hidden, need};
 use flash_pages::fault::PageFault;
-use flash_pages::held::Held;
 use ghost_base::Value;
 use hidden_columns::ColumnFile;
+use page_pool::PagePool;
 use std::alloc::{AllocError, Global};
 use tree_schema::{Catalog, Schema, read_schema};
 
@@ -67,11 +67,12 @@ fn clinic(alloc: Global) -> Option<Parts>
     parts_of(alloc, schema, tables)
 }
 
-/// A catalog and a device.
+/// A catalog, a device, and page buffers.
 #[derive(Drop)]
 struct Loaded {
     cat: Catalog,
     flash: MemFlash,
+    pool: PagePool,
 }
 
 /// The clinic on a device that was loaded with it.
@@ -82,6 +83,7 @@ fn load(alloc: Global) -> Option<Loaded> {
     Some(Loaded {
         cat: parts.cat,
         flash,
+        pool: PagePool::new(alloc, 8).ok()?,
     })
 }
 
@@ -143,12 +145,10 @@ fn value(
     if identifier == 0 || identifier > file.run.count {
         return None;
     }
-    Some(file.get_held(
-        &mut loaded.flash,
-        &mut Held::none(),
-        &mut [0; 2048],
-        identifier,
-    ))
+    let lease = loaded.pool.lease()?;
+    let value = file.get(&mut loaded.flash, &mut loaded.pool, &lease, identifier);
+    loaded.pool.give(lease);
+    Some(value)
 }
 
 /// Whether a value is spelled so.

@@ -11,6 +11,8 @@ mod clinic;
 #[cfg(test)]
 mod devices;
 #[cfg(test)]
+mod leases;
+#[cfg(test)]
 mod lines_and_files;
 #[cfg(test)]
 mod links;

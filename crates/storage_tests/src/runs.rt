@@ -9,6 +9,7 @@ use flash_pages::cursor::RunCursor;
 use flash_pages::fault::PageFault;
 use flash_pages::filling::write_numbers;
 use ghost_base::runs::ListRef;
+use page_pool::PagePool;
 use std::alloc::Global;
 
 /// The numbers from 1 to 1,030.
@@ -33,13 +34,13 @@ fn made(alloc: Global) -> Result<MemFlash, AttachFault>
 /// The sum of the identifiers that a cursor has left.
 fn sum_of_ids(
     flash: &mut MemFlash,
+    pool: &mut PagePool,
     cursor: &mut RunCursor,
-    buf: &mut [u8; 2048],
 ) -> Result<u64, PageFault>
-    requires { IsReady true (⟦<MemFlash as Flash>⟧.state flash.old) cursor.old buf.old }
+    requires { IsReady true (⟦<MemFlash as Flash>⟧.state flash.old) pool.old cursor.old }
 {
     let mut sum = 0u64;
-    while let Some(id) = cursor.next(flash, buf)? {
+    while let Some(id) = cursor.next(flash, pool)? {
         sum = sum.saturating_add(u64::from(id));
     }
     Ok(sum)
@@ -58,8 +59,12 @@ fn a_run_over_three_pages_is_read_up_to_a_slot_out_of_range(
             first: 500,
             count: 530,
         };
-        let mut cursor = RunCursor::begin(list, rows);
-        match sum_of_ids(&mut flash, &mut cursor, &mut buf) {
+        let mut pool = PagePool::new(rt.alloc(), 8)?;
+        let Some(lease) = pool.lease() else {
+            unreachable!()
+        };
+        let mut cursor = RunCursor::begin(list, rows, lease);
+        match sum_of_ids(&mut flash, &mut pool, &mut cursor) {
             Ok(found) => assert!(rt; found == sum && cursor.at == 530, "{rows}"),
             Err(PageFault::Damaged { page, slot, found }) => {
                 assert!(rt; rows == 512 && cursor.last == 512);
