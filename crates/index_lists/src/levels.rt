@@ -1,6 +1,6 @@
 //! From the rows of a table to those of the table above it.
 
-ghost use Rattle.std.specs.Prelude.{◌≡◌, length, map, IfOk, IsTrue, ℕ, ◌-◌};
+ghost use Rattle.std.specs.Prelude.{◌≡◌, length, map, IfOk, IsTrue, true, ℕ, ◌-◌};
 ghost use Rattle.std.specs.List.{All};
 ghost use Rattle.ghost_model.specs.core.Values.{Number};
 ghost use Rattle.ghost_model.specs.core.Database.{is_row_among};
@@ -13,7 +13,11 @@ pub fn ranks_above(alloc: Global, ranks: &[u32], keys: &[i64]) -> Result<Vec<u32
     requires named { All (λ key. IsTrue (is_row_among (length ranks.now) (Number key))) keys.now }
     ensures ranks { IfOk result (λ above. above.items ≡ of_referred ranks.now (map identifier_of keys.now)) }
 {
-    Err(AllocError)
+    let mut above = Vec::with_capacity(alloc, keys.len())?;
+    for key in keys {
+        above.push(ranks[*key as usize - 1])?;
+    }
+    Ok(above)
 }
 
 /// The places of the rows that foreign keys name: their ranks in the id index of a table with so many rows.
@@ -21,5 +25,9 @@ pub fn places_referred(alloc: Global, rows: u32, keys: &[i64]) -> Result<Vec<u32
     requires named { All (λ key. IsTrue (is_row_among rows (Number key))) keys.now }
     ensures places { IfOk result (λ places. places.items ≡ map (λ identifier. identifier - 1) (map identifier_of keys.now)) }
 {
-    Err(AllocError)
+    let mut places = Vec::with_capacity(alloc, keys.len())?;
+    for key in keys {
+        places.push(*key as u32 - 1)?;
+    }
+    Ok(places)
 }
