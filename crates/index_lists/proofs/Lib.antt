@@ -1,3 +1,4 @@
 pub mod Members
 pub mod SortedRows
 pub mod Numberings
+pub mod ByRanks
