@@ -2,3 +2,4 @@ pub mod Members
 pub mod SortedRows
 pub mod Numberings
 pub mod ByRanks
+pub mod Counts
