@@ -3,3 +3,4 @@ pub mod SortedRows
 pub mod Numberings
 pub mod ByRanks
 pub mod Counts
+pub mod Leading
