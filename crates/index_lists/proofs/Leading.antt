@@ -1,21 +1,19 @@
 -- Where rows lead, along the foreign keys.
-use Rattle.std.proofs.Common.{◌≡◌, refl, sym, ap, ◌∙◌, subst, ℕ, zero, suc, ◌+◌, ◌-◌, ◌<◌, ◌≤◌, ℤ, pos, negsuc, Bool, true, false, ◌&&◌, inl, inr, List, [], ◌∷◌, length, map, get_or, Option, Some, None, slice_get, option_and_then, arith}
-use Rattle.std.specs.Prelude.{IsTrue, int_le, nat_le}
-use Rattle.std.specs.List.{All, range_with_len}
+use Rattle.std.proofs.Common.{◌≡◌, refl, sym, ap, ◌∙◌, subst, ℕ, zero, suc, ◌+◌, ◌-◌, ◌<◌, ◌≤◌, ℤ, pos, negsuc, Bool, true, false, ◌&&◌, List, length, map, get_or, Option, Some, None, slice_get, option_and_then, arith}
+use Rattle.std.specs.Prelude.{IsTrue, nat_le}
 use Rattle.std.proofs.lemmas.Bool.Decides.{nat_tests}
 use Rattle.std.proofs.lemmas.List.{length-map, get_or-map}
-use Rattle.std.proofs.lemmas.List.Elements.{All-get_or, All-from_get_or, All-map, All-weaker}
+use Rattle.std.proofs.lemmas.List.Elements.{All-get_or, All-from_get_or}
 use Rattle.std.proofs.lemmas.List.FromFn.{length-range_with_len, get_or-range_with_len}
 use Rattle.ghost_model.specs.core.Schema.{Schema, Table, Column, column_at, columns_or_none, parent, ancestor, references_to, first_of, is_table}
-use Rattle.ghost_model.specs.core.Values.{Value, Number, Text, Database}
+use Rattle.ghost_model.specs.core.Values.{Number, Database}
 use Rattle.ghost_model.specs.core.Channel.{Catalog}
-use Rattle.ghost_model.specs.core.Database.{IsDatabase, row_count, row_counts, rows_of, value_at_row, identifier_in, is_row_among, reference_column, points_to, leads}
+use Rattle.ghost_model.specs.core.Database.{IsDatabase, row_count, row_counts, value_at_row, identifier_in, is_row_among, points_to, leads}
 use Rattle.ghost_model.specs.core.Split.{Hidden, hidden_of}
-use Rattle.ghost_model.specs.core.Replies.{hidden_value}
 use Rattle.ghost_model.specs.laws.SchemaTrees.{IsTree}
 use Rattle.ghost_model.specs.laws.MeaningLaws.{IsAtOrBelow, LeadsFollowKeys}
 use Rattle.ghost_model.specs.forms.Layout.{is_hidden, count_of}
-use Rattle.ghost_model.specs.forms.Flash.{IsHidden, ids, hidden_database, leads_to}
+use Rattle.ghost_model.specs.forms.Flash.{IsHidden, ids, hidden_database}
 use Rattle.ghost_model.proofs.MeaningLemmas.OneRow.{child_is}
 use Rattle.ghost_model.proofs.MeaningLemmas.Leading.{first_step, one_step_more, to_itself_within, told_place, rows_lead}
 use Rattle.ghost_model.proofs.FlashLemmas.Keys.{lead_alike, field_hidden}

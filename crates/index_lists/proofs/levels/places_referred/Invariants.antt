@@ -1,4 +1,4 @@
-use Rattle.std.proofs.Common.{◌≡◌, ℕ, ◌-◌, map, take}
+use Rattle.std.proofs.Common.{◌≡◌, ◌-◌, map, take}
 use Rattle.index_lists.specs.Ranks.{identifier_of}
 use Rattle.index_lists.proofs.levels.places_referred.Given as goal
 
