@@ -1,7 +1,6 @@
 -- Where rows lead, along the foreign keys.
-use Rattle.std.proofs.Common.{◌≡◌, refl, sym, ap, ◌∙◌, subst, ℕ, zero, suc, ◌+◌, ◌-◌, ◌<◌, ◌≤◌, ℤ, pos, negsuc, Bool, true, false, ◌&&◌, List, length, map, get_or, Option, Some, None, slice_get, option_and_then, arith}
-use Rattle.std.specs.Prelude.{IsTrue, nat_le}
-use Rattle.std.proofs.lemmas.Bool.Decides.{nat_tests}
+use Rattle.std.proofs.Common.{◌≡◌, refl, sym, ap, ◌∙◌, subst, ℕ, zero, suc, ◌+◌, ◌-◌, ◌<◌, ◌≤◌, ℤ, pos, true, List, length, map, get_or, Option, Some, None, slice_get, option_and_then, arith}
+use Rattle.std.specs.Prelude.{IsTrue}
 use Rattle.std.proofs.lemmas.List.{length-map, get_or-map}
 use Rattle.std.proofs.lemmas.List.Elements.{All-get_or, All-from_get_or}
 use Rattle.std.proofs.lemmas.List.FromFn.{length-range_with_len, get_or-range_with_len}
@@ -20,6 +19,7 @@ use Rattle.ghost_model.proofs.FlashLemmas.Keys.{lead_alike, field_hidden}
 use Rattle.ghost_model.proofs.FlashLemmas.Values.{count_there}
 use Rattle.ghost_model.proofs.LayoutLemmas.Columns.{hidden_or_none}
 use Rattle.index_lists.specs.Ranks.{identifier_of, of_referred}
+use Rattle.index_lists.proofs.NamedRows.{IsRow, row_named}
 use Rattle.index_lists.specs.Laws.{LeadAs, AreKeys, KeysLead}
 
 pub to_themselves : (cat : Catalog) (hidden : Hidden) (table : ℕ) → LeadAs cat hidden table table (ids (count_of cat table))
@@ -135,21 +135,6 @@ key_column schema table child column (Some held) there h =
       there = ap (column_at schema table) same ∙ (ap (λ o. slice_get (columns_or_none o) told.0) there ∙ told.3);
       names = child_is child told.1.child told.4;
     }
-
--- an integer that is the identifier of one of so many rows
-record IsRow (count : ℕ) (key : ℤ) : Type 0 where
-  is : key ≡ pos (identifier_of key)
-  real : 0 < identifier_of key
-  within : identifier_of key ≤ count
-
-row_named : (count : ℕ) (key : ℤ) → is_row_among count (Number key) ≡ true → IsRow count key
-row_named count (pos n) h = by_tests n (nat_le 1 n) refl (nat_le n count) refl h
-  where
-    by_tests : (n : ℕ) (a : Bool) → nat_le 1 n ≡ a → (b : Bool) → nat_le n count ≡ b → (a && b) ≡ true → IsRow count (pos n)
-    by_tests n true low true high e = record { is = refl; real = grind (arith, nat_tests, low); within = grind (arith, nat_tests, high) }
-    by_tests n true low false high e = absurd (cc e)
-    by_tests n false low b high e = absurd (cc e)
-row_named count (negsuc n) h = absurd (cc h)
 
 module _ (cat : Catalog) (database : Database) (tree : IsTree cat.schema) (is : IsDatabase cat.schema database) (counts : row_counts database ≡ cat.counts) where
   count_is : (table : ℕ) → count_of cat table ≡ row_count database table

@@ -3,4 +3,5 @@ pub mod SortedRows
 pub mod Numberings
 pub mod ByRanks
 pub mod Counts
+pub mod NamedRows
 pub mod Leading

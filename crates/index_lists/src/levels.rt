@@ -1,6 +1,6 @@
 //! From the rows of a table to those of the table above it.
 
-ghost use Rattle.std.specs.Prelude.{◌≡◌, length, map, IfOk, IsTrue, true, ℕ, ◌-◌};
+ghost use Rattle.std.specs.Prelude.{◌≡◌, length, map, IfOk, IsTrue, true, ℕ, ◌-◌, ◌<◌};
 ghost use Rattle.std.specs.List.{All};
 ghost use Rattle.ghost_model.specs.core.Values.{Number};
 ghost use Rattle.ghost_model.specs.core.Database.{is_row_among};
@@ -12,6 +12,7 @@ use std::alloc::{AllocError, Global};
 pub fn ranks_above(alloc: Global, ranks: &[u32], keys: &[i64]) -> Result<Vec<u32>, AllocError>
     requires named { All (λ key. IsTrue (is_row_among (length ranks.now) (Number key))) keys.now }
     ensures ranks { IfOk result (λ above. above.items ≡ of_referred ranks.now (map identifier_of keys.now)) }
+    ensures below { (entries : ℕ) → All (λ rank. rank < entries) ranks.now → IfOk result (λ above. All (λ rank. rank < entries) above.items) }
 {
     let mut above = Vec::with_capacity(alloc, keys.len())?;
     for key in keys {
@@ -24,6 +25,7 @@ pub fn ranks_above(alloc: Global, ranks: &[u32], keys: &[i64]) -> Result<Vec<u32
 pub fn places_referred(alloc: Global, rows: u32, keys: &[i64]) -> Result<Vec<u32>, AllocError>
     requires named { All (λ key. IsTrue (is_row_among rows (Number key))) keys.now }
     ensures places { IfOk result (λ places. places.items ≡ map (λ identifier. identifier - 1) (map identifier_of keys.now)) }
+    ensures below { IfOk result (λ places. All (λ place. place < rows) places.items) }
 {
     let mut places = Vec::with_capacity(alloc, keys.len())?;
     for key in keys {
