@@ -5,3 +5,4 @@ pub mod ByRanks
 pub mod Counts
 pub mod NamedRows
 pub mod Leading
+pub mod NumberRows
