@@ -19,4 +19,6 @@ mod links;
 #[cfg(test)]
 mod places;
 #[cfg(test)]
+mod ranks;
+#[cfg(test)]
 mod runs;

@@ -1,0 +1,6 @@
+use Rattle.std.proofs.Common.{◌≡◌, ◌-◌, map, take}
+use Rattle.index_lists.specs.Ranks.{identifier_of}
+use Rattle.index_lists.proofs.levels.places_referred.Given as goal
+
+abbrev pub invariant-loop-key : goal.invariant-loop-key
+invariant-loop-key l = l.places.items ≡ map (λ identifier. identifier - 1) (map identifier_of (take l.key-index l.keys))

@@ -1,0 +1,4 @@
+pub mod Ranks
+pub mod Lists
+pub mod Laws
+pub mod Numbering

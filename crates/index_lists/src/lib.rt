@@ -1,0 +1,20 @@
+//! The lists of indexes, in memory.
+//!
+//! An index has an entry for each value of a column, ascending, and at each of its levels a list of rows for each entry. All
+//! of it is told by numbers: the rank of a row, which is the number of its value, and at a table above the rank of the row
+//! that a foreign key names. So one index takes four bytes for each row of the level in hand, and eight more while the rows
+//! of the level are put in order.
+#![tactic(auto)]
+
+pub mod column;
+pub mod laws;
+pub mod levels;
+pub mod lists;
+pub mod numbers;
+pub mod ranking;
+
+pub use column::{Column, Numbers};
+pub use levels::{places_referred, ranks_above};
+pub use lists::{list_starts, rows_by_rank};
+pub use numbers::rank_numbers;
+pub use ranking::{Ranking, rank_column};
