@@ -1,3 +1,7 @@
 pub mod HiddenCells
-pub mod ColumnFiles
+pub mod Writes
+pub mod KeyNumbers
+pub mod Leading
+pub mod NumberRecords
+pub mod TableFiles
 pub mod CatalogPages

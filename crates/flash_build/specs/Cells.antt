@@ -1,7 +1,9 @@
 -- The cells of a hidden column, as its values stand in the hidden part: at one place of each row.
-use Rattle.std.specs.Prelude.{◌≡◌, ℕ, ◌≤◌, List, [], map, Option, Some, option_and_then, slice_get, IsTrue}
+use Rattle.std.specs.Prelude.{◌≡◌, ℕ, ℤ, ◌≤◌, List, [], map, Option, Some, None, option_and_then, slice_get, IsTrue}
 use Rattle.std.specs.Option.{option_map_or}
 use Rattle.ghost_model.specs.core.Schema.{Kind}
+use Rattle.csv_split.specs.declared.cells.Cells.{Cells}
+use Rattle.csv_split.specs.declared.cells.Cells.TheVariants as cells
 use Rattle.ghost_model.specs.core.Values.{Value, Row, Rows}
 use Rattle.ghost_model.specs.core.Database.{row_numbered, is_of_kind}
 use Rattle.ghost_model.specs.forms.Cells.{cell_width, encode_cell}
@@ -19,3 +21,9 @@ value_at rows identifier place = option_and_then (λ row. slice_get row place) (
 pub record AreOfKind (kind : Kind) (place : ℕ) (rows : Rows) : Type 0 where
   pub narrow : cell_width kind ≤ 64
   pub each : (identifier : ℕ) (value : Value) → value_at rows identifier place ≡ Some value → IsTrue (is_of_kind kind value)
+
+-- the integers of a column that holds some
+abbrev pub ReadAsNumbers : Option Cells → (numbers : List ℤ) → Type 0
+ReadAsNumbers None numbers = numbers ≡ []
+ReadAsNumbers (Some (cells.Numbers held)) numbers = numbers ≡ held.items
+ReadAsNumbers (Some (cells.Texts held)) numbers = numbers ≡ []

@@ -22,13 +22,6 @@ EndsAtFault since_fault (Err NoMemory) = ⊤
 EndsAtFault since_fault (Err Flash) = since_fault ≡ 0
 EndsAtFault since_fault (Err (TooSmall need have)) = ⊤
 
--- no fault but one of the flash
-abbrev pub BlamesFlash : {T : Type 0} → Result T BuildFault → Type 0
-BlamesFlash (Ok value) = ⊤
-BlamesFlash (Err NoMemory) = ⊥
-BlamesFlash (Err Flash) = ⊤
-BlamesFlash (Err (TooSmall need have)) = ⊥
-
 -- no fault of a device that is too small
 abbrev pub IsLargeEnough : {T : Type 0} → Result T BuildFault → Type 0
 IsLargeEnough (Ok value) = ⊤

@@ -1,5 +1,6 @@
 pub mod Cells
 pub mod Sources
-pub mod Building
+pub mod Levels
 pub mod Faults
+pub mod Building
 pub mod Sealing

@@ -5,13 +5,13 @@ ghost use Rattle.ghost_model.specs.forms.Flash.{HoldsFilesSoFar};
 ghost use Rattle.ghost_model.specs.forms.Layout as layout;
 ghost use Rattle.ghost_model.specs.forms.Work as work;
 ghost use Rattle.edge_traits.specs.Devices.{Counts, ChangesOnly};
-ghost use Rattle.flash_build.specs.Building.{IsBlank, ChangesColumns};
+ghost use Rattle.flash_build.specs.Building.{IsBlank};
 ghost use Rattle.ghost_model.specs.forms.Flash.{IsHidden};
-ghost use Rattle.flash_build.specs.Faults.{BuildCause, EndsAtFault, BlamesFlash};
+ghost use Rattle.flash_build.specs.Faults.{BuildCause, EndsAtFault, IsLargeEnough};
 ghost use Rattle.flash_build.specs.declared.faults.BuildFault.TheVariants as fault;
 
-use crate::columns::write_columns;
 use crate::faults::BuildFault;
+use crate::tables::write_tables;
 use csv_split::Hidden;
 use edge_traits::flash::Flash;
 use flash_layout::limits::a_catalog_has_a_layout;
@@ -19,12 +19,12 @@ use flash_layout::need;
 use std::alloc::Global;
 use tree_schema::Catalog;
 
-/// Writes the hidden part of a catalog's database to its places on the flash: the file of each hidden column, whose pages
-/// are blank. Each page is written once, and none after a failed call. No memory is taken.
+/// Writes the hidden part of a catalog's database to its places on the flash, whose pages are blank: for each table the files
+/// of its hidden columns and its subtree key table. Each page is written once, and none after a failed call.
 ///
 /// A flash with fewer pages than the catalog needs is too small, and no call is made.
 pub fn build<F: Flash>(
-    _alloc: Global,
+    alloc: Global,
     cat: &Catalog,
     hidden: &Hidden,
     flash: &mut F,
@@ -34,11 +34,10 @@ pub fn build<F: Flash>(
     ensures holds { OnOk result (F.told ≡ true → HoldsFilesSoFar (F.state flash.new).page cat.now hidden.now) }
     ensures too_small { (F.state flash.old).page_count < layout.need cat.now → result ≡ Err (fault.TooSmall (layout.need cat.now) (F.state flash.old).page_count) }
     ensures untouched { (F.state flash.old).page_count < layout.need cat.now → F.state flash.new ≡ F.state flash.old }
-    ensures large_enough { layout.need cat.now ≤ (F.state flash.old).page_count → BlamesFlash result }
-    ensures columns { ChangesColumns cat.now (F.state flash.old) (F.state flash.new) }
+    ensures large_enough { layout.need cat.now ≤ (F.state flash.old).page_count → IsLargeEnough result }
     ensures others { ChangesOnly layout.public_pages (layout.files_end cat.now) (F.state flash.old) (F.state flash.new) }
-    ensures exact { OnOk result (Counts (work.file_pages cat.now hidden.now) (F.state flash.old).calls (F.state flash.new).calls) }
-    ensures at_most { (F.state flash.new).calls ≤ (F.state flash.old).calls + work.file_pages cat.now hidden.now }
+    ensures exact { OnOk result (Counts (work.file_pages_so_far cat.now hidden.now) (F.state flash.old).calls (F.state flash.new).calls) }
+    ensures at_most { (F.state flash.new).calls ≤ (F.state flash.old).calls + work.file_pages_so_far cat.now hidden.now }
     ensures deep_reads { (F.state flash.new).deep_reads ≡ (F.state flash.old).deep_reads }
     ensures cause { BuildCause (F.state flash.old).faults (F.state flash.new).faults result }
     ensures last { EndsAtFault (F.state flash.new).since_fault result }
@@ -49,8 +48,5 @@ pub fn build<F: Flash>(
     if have < need {
         return Err(BuildFault::TooSmall { need, have });
     }
-    match write_columns(cat, hidden, flash) {
-        Ok(()) => Ok(()),
-        Err(_) => Err(BuildFault::Flash),
-    }
+    write_tables(alloc, cat, hidden, flash)
 }

@@ -1,17 +1,23 @@
 //! Building a flash: the hidden part of a database on its pages, and then the catalog, which seals it.
 //!
-//! `build` writes the column files, each page once. `seal` writes the catalog's pages from the last to page 0, so that the
-//! pages spell no catalog before all is there. `make_and_build` and `load_flash` do all of it on a new device. Where the
-//! flash fails, nothing more is written.
+//! `build` writes the column files and the subtree key tables, each page once. `seal` writes the catalog's pages from the
+//! last to page 0, so that the pages spell no catalog before all is there. `make_and_build` and `load_flash` do all of it on
+//! a new device. Where the flash fails, nothing more is written.
 #![tactic(auto)]
 
 pub mod building;
 pub mod catalogs;
 mod columns;
 pub mod faults;
+mod keys;
+mod levels;
 pub mod loading;
+mod number_rows;
 pub mod sealing;
 mod source;
+mod subtrees;
+mod tables;
+mod writing;
 
 pub use building::build;
 pub use catalogs::catalog_of;

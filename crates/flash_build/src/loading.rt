@@ -45,8 +45,8 @@ pub fn make_and_build<F: Flash>(
     ensures large_enough { layout.need cat.now ≤ 64 * blocks → IsLargeEnough result }
     ensures unsealed { layout.need cat.now ≤ 64 * blocks → 0 < (F.state flash.new).page_count → F.told ≡ true → SpellsNoCatalog (F.state flash.new).page }
     ensures page_0 { layout.need cat.now ≤ 64 * blocks → 0 < (F.state flash.new).page_count → (F.state flash.new).blank 0 ≡ true }
-    ensures exact { OnOk result (Counts (1 + work.file_pages cat.now hidden.now) (F.state flash.old).calls (F.state flash.new).calls) }
-    ensures at_most { (F.state flash.new).calls ≤ (F.state flash.old).calls + (1 + work.file_pages cat.now hidden.now) }
+    ensures exact { OnOk result (Counts (1 + work.file_pages_so_far cat.now hidden.now) (F.state flash.old).calls (F.state flash.new).calls) }
+    ensures at_most { (F.state flash.new).calls ≤ (F.state flash.old).calls + (1 + work.file_pages_so_far cat.now hidden.now) }
     ensures deep_reads { (F.state flash.new).deep_reads ≡ (F.state flash.old).deep_reads }
     ensures cause { BuildCause (F.state flash.old).faults (F.state flash.new).faults result }
     ensures last { EndsAtFault (F.state flash.new).since_fault result }

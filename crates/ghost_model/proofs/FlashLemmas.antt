@@ -3,4 +3,5 @@ pub mod Values
 pub mod Parts
 pub mod Keys
 pub mod Held
+pub mod Written
 pub mod Lists

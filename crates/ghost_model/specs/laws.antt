@@ -11,6 +11,7 @@ pub mod RunLaws
 pub mod LayoutSums
 pub mod LayoutLaws
 pub mod FlashLaws
+pub mod WorkLaws
 pub mod ListLaws
 pub mod SessionLaws
 pub mod MeaningLaws

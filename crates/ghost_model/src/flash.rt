@@ -1,6 +1,7 @@
 //! Examples and laws of what the flash holds.
 
 ghost use Rattle.ghost_model.specs.laws.FlashLaws.{HiddenValuesByPlace, HiddenPartsGoWithCatalogs, HiddenCellsFit, HiddenCellsOfDatabases, RowsLeadByHiddenValues, HiddenValuesOfDatabases, ColumnFilesGiveValues, HoldingsAreKept, RecordsAreAsWide};
+ghost use Rattle.ghost_model.specs.laws.WorkLaws.{PagesAddUp, ValuesAreCounted};
 ghost use Rattle.ghost_model.specs.laws.ListLaws.{ListsPartition, IdListsPartition};
 ghost use Rattle.ghost_model.specs.examples.Slots.{RangesOfSlots, OrderOfSlots, DamagedSlots};
 ghost use Rattle.ghost_model.specs.examples.Flash.{CellsOfTheClinic, IndexesOfTheClinic, HoldingsOfTheClinic, PagesOfTheClinic};
@@ -35,7 +36,17 @@ pub fn column_files_give_values()
     ensures { ColumnFilesGiveValues }
 {}
 
-/// Column files and the catalog are held as long as their pages stay.
+/// The distinct cells of a hidden column are as many as its values.
+pub fn values_are_counted()
+    ensures { ValuesAreCounted }
+{}
+
+/// The pages that a loading writes add up, table by table.
+pub fn pages_add_up()
+    ensures { PagesAddUp }
+{}
+
+/// Static files and the catalog are held as long as their pages stay.
 pub fn holdings_are_kept()
     ensures { HoldingsAreKept }
 {}

@@ -120,15 +120,15 @@ levels_are cat (table ∷ tables) =
     let rest = levels_are cat tables in
     omega (arith, one, same, rest)
 
-one_file : (count width : ℕ) → files_pages ((count, width) ∷ []) ≡ pages_of count width
+pub one_file : (count width : ℕ) → files_pages ((count, width) ∷ []) ≡ pages_of count width
 one_file count width = let one = sum_by-cons file_pages (count, width) [] in omega (arith, one)
 
-some_width : (each count : ℕ) (tables : List ℕ)
+pub some_width : (each count : ℕ) (tables : List ℕ)
     → pages_of count (each * length tables) ≡ cond (is_empty tables) 0 (pages_of count (each * length tables))
 some_width each count [] = let e : each * 0 ≡ 0 = omega arith in ap (pages_of count) e ∙ no_bytes count
 some_width each count (table ∷ tables) = refl
 
-id_pages : (cat : Catalog) (count : ℕ) (tables : List ℕ)
+pub id_pages : (cat : Catalog) (count : ℕ) (tables : List ℕ)
     → files_pages ((count, 8 * length tables) ∷ level_files cat tables)
     ≡ cond (is_empty tables) 0 (pages_of count (8 * length tables) + levels_pages cat tables)
 id_pages cat count [] = one_file count 0 ∙ no_bytes count

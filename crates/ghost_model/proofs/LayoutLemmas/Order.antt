@@ -61,7 +61,7 @@ next_length test n =
     ∙ ap (λ k. length (filter test (below n)) + k) (kept_length (test n) n)))
 
 module _ (cat : Catalog) where
-  its_pages : (table column : ℕ) → is_hidden cat.schema table column ≡ true → column_pages cat table column ≡ run_pages (column_file cat table column)
+  pub its_pages : (table column : ℕ) → is_hidden cat.schema table column ≡ true → column_pages cat table column ≡ run_pages (column_file cat table column)
   its_pages table column h = ap (λ b. cond b (run_pages (column_file cat table column)) 0) h
 
   ends_before : (table column later : ℕ) → is_hidden cat.schema table column ≡ true → column < later

@@ -115,7 +115,7 @@ unless : (b : Bool) (n m : ℕ) → (b ≡ false → n ≤ m) → cond b 0 n ≤
 unless true n m h = omega arith
 unless false n m h = h refl
 
-some_in : (xs : List ℕ) → is_empty xs ≡ false → 0 < length xs
+pub some_in : (xs : List ℕ) → is_empty xs ≡ false → 0 < length xs
 some_in [] e = absurd (cc (e))
 some_in (x ∷ xs) e = omega arith
 

@@ -4,7 +4,7 @@
 -- rows that have it and the rows of each table above that lead to such a row; an id index has the same for each
 -- identifier. At one level the lists of all entries stand one after another, and an entry of the directory says where
 -- its own begins and how long it is. The part that each file kind has is a word of its own; `Holds` is all of them.
-use Rattle.std.specs.Prelude.{◌≡◌, ℕ, ◌-◌, ◌*◌, ◌<◌, pos, true, false, List, [], ◌∷◌, ◌++◌, length, take, drop, map, filter, flat_map, replicate, get_or, slice_index, Contains, bytes_eq, Option, Some, slice_get, unwrap_or, IsTrue}
+use Rattle.std.specs.Prelude.{◌≡◌, ℕ, ◌-◌, ◌*◌, ◌<◌, ◌≤◌, pos, true, false, List, [], ◌∷◌, ◌++◌, length, take, drop, map, filter, flat_map, replicate, get_or, slice_index, Contains, bytes_eq, Option, Some, slice_get, unwrap_or, IsTrue}
 use Rattle.std.specs.List.Sorted.{IsStrictlySortedBy}
 use Rattle.std.specs.List.{concat, range_with_len}
 use Rattle.std.specs.Option.{option_map_or}
@@ -142,6 +142,7 @@ pub record HoldsIndex (page : ℕ → List ℕ) (cat : Catalog) (hidden : Hidden
   pub are_values : AreValues (hidden_cells cat.schema hidden table column) values
   pub header : Stores page (index_header cat table column) (number_cell (length values) ∷ [])
   -- an entry for each value, at most as many as the directory has room for
+  pub fits : length values ≤ count_of cat table
   pub entries :
       HoldsLists page (record (index_directory cat table column) { count = length values }) (index_level cat table column)
       values (levels_of cat.schema table) (value_lists cat hidden table column values)
@@ -176,9 +177,10 @@ pub record Holds (page : ℕ → List ℕ) (cat : Catalog) (hidden : Hidden) : T
   pub catalog : HoldsCatalog page cat
   pub files : HoldsFiles page cat hidden
 
--- What a device that was loaded holds so far: of the static files only column files are written yet.
+-- What a device that was loaded holds so far: of the static files column files and subtree key tables are written.
 pub record HoldsFilesSoFar (page : ℕ → List ℕ) (cat : Catalog) (hidden : Hidden) : Type 0 where
   pub columns : HoldsColumns page cat hidden
+  pub subtrees : HoldsSubtrees page cat hidden
 
 pub record HoldsSoFar (page : ℕ → List ℕ) (cat : Catalog) (hidden : Hidden) : Type 0 where
   pub catalog : HoldsCatalog page cat

@@ -1,20 +1,39 @@
 -- How many calls of the flash the commands make at most. Loading a device makes it, by one call, and then writes each page
--- that holds a byte of the catalog or of a file that is written so far (the column files), once.
-use Rattle.std.specs.Prelude.{ℕ, ◌+◌, length, sum_by}
+-- that holds a byte of the catalog or of a file that is written so far (column files and subtree key tables), once.
+use Rattle.std.specs.Prelude.{ℕ, ◌+◌, ◌*◌, List, ◌∷◌, length, sum_by, bytes_eq}
+use Rattle.std.specs.Set.{distinct_count}
 use Rattle.ghost_model.specs.core.Channel.{Catalog}
 use Rattle.ghost_model.specs.forms.Catalog.{catalog_bytes}
 use Rattle.ghost_model.specs.core.Split.{Hidden}
-use Rattle.ghost_model.specs.forms.Runs.{pages_of}
-use Rattle.ghost_model.specs.forms.Layout.{tables_of, columns_pages}
+use Rattle.ghost_model.specs.forms.Runs.{pages_of, run_pages}
+use Rattle.ghost_model.specs.forms.Layout.{Structure, ClimbingIndex, structures, width_at, levels_of, level_files, files_of, files_pages, tables_of, columns_pages, subtree_table}
+use Rattle.ghost_model.specs.forms.Flash.{hidden_cells}
 
 -- the pages that hold a byte of the catalog: its bytes are a run of width 1
 abbrev pub catalog_pages : Catalog → ℕ
 catalog_pages cat = pages_of (length (catalog_bytes cat)) 1
 
--- those of the files of a hidden part that are written so far: the column files, whose length does not depend on it
+-- how many values a hidden column has, each counted once
+abbrev pub value_count : Catalog → Hidden → (table column : ℕ) → ℕ
+value_count cat hidden table column = distinct_count bytes_eq (hidden_cells cat.schema hidden table column)
+
+-- the records that stand in the files of a structure, and their width: as many as there is room for, but a directory of a
+-- climbing index has one for each value
+abbrev pub written_of : Catalog → Hidden → Structure → List (ℕ × ℕ)
+written_of cat hidden (ClimbingIndex table column) =
+    (1, 4) ∷ (value_count cat hidden table column, width_at cat.schema table column + 8 * length (levels_of cat.schema table))
+    ∷ level_files cat (levels_of cat.schema table)
+written_of cat hidden structure = files_of cat structure
+
+-- the pages that hold a byte of a static file
 abbrev pub file_pages : Catalog → Hidden → ℕ
-file_pages cat hidden = sum_by (columns_pages cat) (tables_of cat.schema)
+file_pages cat hidden = sum_by (λ structure. files_pages (written_of cat hidden structure)) (structures cat.schema)
+
+-- those of the files that are written so far, whose length does not depend on the hidden part
+abbrev pub file_pages_so_far : Catalog → Hidden → ℕ
+file_pages_so_far cat hidden =
+    sum_by (λ table. columns_pages cat table + run_pages (subtree_table cat table)) (tables_of cat.schema)
 
 -- the calls of a loading: one that makes the device, and one for each page
 abbrev pub pages_built : Catalog → Hidden → ℕ
-pages_built cat hidden = 1 + (catalog_pages cat + file_pages cat hidden)
+pages_built cat hidden = 1 + (catalog_pages cat + file_pages_so_far cat hidden)

@@ -1,42 +1,45 @@
-use Rattle.std.proofs.Common.{◌∙◌, ◌+◌, ap, arith, length}
+use Rattle.std.proofs.Common.{◌≡◌, ap, sym, subst, refl, Err, arith, rules}
 use Rattle.ghost_model.specs.forms.Layout as layout
-use Rattle.flash_build.proofs.ColumnFiles.{can_fill_table, tables_more, stores_tables, columns_trans, counts_as}
+use Rattle.ghost_model.specs.laws.LayoutSums as sums
+use Rattle.flash_build.specs.Building.{Wrote}
+use Rattle.flash_build.proofs.Writes.{written, written_more, written_as, wrote_after, fails}
+use Rattle.flash_build.proofs.TableFiles.{can_fill_column, column_ends, columns_more}
 use Rattle.flash_build.proofs.columns.write_columns.Goals as goal
 
-pub write_table-requires-clause-can : goal.write_table-requires-clause-can
-write_table-requires-clause-can g c =
-    can_fill_table c.loop-table.table c.a_catalog_has_a_layout.ensures.layout.sums c.a_catalog_has_a_layout.ensures.layout.order
-    (omega (arith, c.loop-table-test.true, c.tables-table-end.ensures.count, ap length c.schema.ensures.value)) c.requires.can c.loop-table.invariant.others
+pub write_column-requires-clause-can : goal.write_column-requires-clause-can
+write_column-requires-clause-can g c =
+    can_fill_column c.args.cat.now c.args.table c.loop-column.column
+    (omega (arith, c.loop-column-test.true, c.columns-column-end.ensures, ap (λ s. layout.column_count s c.args.table) c.schema.ensures.value)) c.requires.can c.loop-column.invariant.wrote.others
 
-pub returns-in_err-write_table-clause-at_most : goal.returns-in_err-write_table-clause-at_most
-returns-in_err-write_table-clause-at_most g c =
+pub returns-in_err-write_column-clause-wrote : goal.returns-in_err-write_column-clause-wrote
+returns-in_err-write_column-clause-wrote g c =
     let cat = c.args.cat.now in
-    let table = c.loop-table.table in
-    let rise =
-    c.sums_by_place.ensures.rise (layout.columns_pages cat) (table + 1) (length cat.schema)
-    (omega (arith, c.loop-table-test.true, c.tables-table-end.ensures.count, ap length c.schema.ensures.value)) in
-    let next = c.sums_by_place.ensures.next (layout.columns_pages cat) table in
-    let was = c.loop-table.invariant.exact.most in
-    omega (arith, was, rise, next, c.in_err-write_table.ensures.at_most)
+    let column = c.loop-column.column in
+    let same : c.from_residual.result ≡ Err c.in_err-write_column.field-0.0 = search rules in
+    let ends =
+    column_ends cat c.args.table column (layout.column_count cat.schema c.args.table)
+    (omega (arith, c.loop-column-test.true, c.columns-column-end.ensures, ap (λ s. layout.column_count s c.args.table) c.schema.ensures.value)) in
+    let step = wrote_after (Err c.in_err-write_column.field-0.0) (omega arith) (omega arith) c.loop-column.invariant.wrote c.in_err-write_column.ensures.wrote in
+    subst (λ r. Wrote (sums.table_begin cat c.args.table) (sums.subtree_begin cat c.args.table) (layout.columns_pages cat c.args.table)
+    (g.F.Flash.state c.args.flash.now) (g.F.Flash.state c.write_column.new.flash) r) (sym same)
+    (fails c.in_err-write_column.field-0.0 step (sums.table_begin cat c.args.table) (sums.subtree_begin cat c.args.table) (layout.columns_pages cat c.args.table) (omega arith) (omega (arith, ends)) (omega (arith, ends)))
 
-pub loop-table-preserved : goal.loop-table-preserved
-loop-table-preserved g c =
+pub loop-column-preserved : goal.loop-column-preserved
+loop-column-preserved g c =
     let cat = c.args.cat.now in
-    let laid = c.a_catalog_has_a_layout.ensures.layout in
-    let was = c.loop-table.invariant in
-    let step = c.in_ok-write_table.ensures in
-    let table = c.loop-table.table in
+    let column = c.loop-column.column in
+    let was = c.loop-column.invariant in
+    let step = c.in_ok-write_column.ensures in
+    let next = c.a_catalog_has_a_layout.ensures.layout.order.next_column c.args.table column in
     record {
-      stores = stores_tables c.args.hidden.now table laid.order laid.narrow was.stores step.others step.stores;
-      others = tables_more table laid.order was.others step.others;
-      columns = columns_trans was.columns step.columns;
-      exact = counts_as (c.sums_by_place.ensures.next (layout.columns_pages cat) table) was.exact step.exact;
-      deep_reads = step.deep_reads ∙ was.deep_reads;
-      faults = step.cause.other ∙ was.faults;
+      stores = columns_more cat c.args.hidden.now c.args.table column c.a_catalog_has_a_layout.ensures.layout.tree was.stores step.wrote.others step.stores;
+      wrote =
+          written_as refl (omega (arith, next)) (sym next)
+          (written_more (omega arith) (omega arith) was.wrote (written step.wrote));
     }
 
 pub returns-clause-stores : goal.returns-clause-stores
-returns-clause-stores g c = λ told table column h.
-    let there = c.a_catalog_has_a_layout.ensures.layout.order.there_are table column h in
-    c.loop-table.invariant.stores told table
-    (omega (arith, there.0, c.tables-table-end.ensures.count, ap length c.schema.ensures.value, c.loop-table.auto.table-end, c.loop-table-test.false)) column h
+returns-clause-stores g c = λ told column h.
+    let there = c.a_catalog_has_a_layout.ensures.layout.order.there_are c.args.table column h in
+    c.loop-column.invariant.stores told column
+    (omega (arith, there.1, c.columns-column-end.ensures, ap (λ s. layout.column_count s c.args.table) c.schema.ensures.value, c.loop-column.auto.column-end, c.loop-column-test.false)) h

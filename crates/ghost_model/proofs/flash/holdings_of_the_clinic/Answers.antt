@@ -100,6 +100,7 @@ unfolding places_from ancestor leads_within record_at IsStrictlySortedBy patient
 country_index = record {
   values = countries;
   are_values = values_of (hidden_cells clinic_schema hidden_clinic 0 2) countries ((refl, tt), (tt, tt)) ((1, omega arith, refl), ((0, omega arith, refl), tt)) ((1, omega arith, refl), ((0, omega arith, refl), ((0, omega arith, refl), tt)));
+  fits = omega arith;
   header = record { has = record { count = refl; each = once (λ i. record_at clinic_page (index_header clinic_catalog 0 2) i ≡ get_or (number_cell 2 ∷ []) i []) refl }; rest = once (λ i. drop (records_in (index_header clinic_catalog 0 2) i * (index_header clinic_catalog 0 2).width) (clinic_page ((index_header clinic_catalog 0 2).first + i)) ≡ replicate (2048 - records_in (index_header clinic_catalog 0 2) i * (index_header clinic_catalog 0 2).width) 0xff) refl };
   entries = record {
     places = record { has = record { count = refl; each = twice (λ i. record_at clinic_page (record (index_directory clinic_catalog 0 2) { count = 2 }) i ≡ get_or (directory_records countries (levels_of clinic_schema 0) (value_lists clinic_catalog hidden_clinic 0 2 countries)) i []) refl refl }; rest = once (λ i. drop (records_in (record (index_directory clinic_catalog 0 2) { count = 2 }) i * (record (index_directory clinic_catalog 0 2) { count = 2 }).width) (clinic_page ((record (index_directory clinic_catalog 0 2) { count = 2 }).first + i)) ≡ replicate (2048 - records_in (record (index_directory clinic_catalog 0 2) { count = 2 }) i * (record (index_directory clinic_catalog 0 2) { count = 2 }).width) 0xff) refl };
@@ -114,6 +115,7 @@ unfolding places_from ancestor leads_within record_at IsStrictlySortedBy patient
 name_index = record {
   values = names;
   are_values = values_of (hidden_cells clinic_schema hidden_clinic 1 2) names ((refl, tt), (tt, tt)) ((0, omega arith, refl), ((1, omega arith, refl), tt)) ((0, omega arith, refl), ((1, omega arith, refl), tt));
+  fits = omega arith;
   header = record { has = record { count = refl; each = once (λ i. record_at clinic_page (index_header clinic_catalog 1 2) i ≡ get_or (number_cell 2 ∷ []) i []) refl }; rest = once (λ i. drop (records_in (index_header clinic_catalog 1 2) i * (index_header clinic_catalog 1 2).width) (clinic_page ((index_header clinic_catalog 1 2).first + i)) ≡ replicate (2048 - records_in (index_header clinic_catalog 1 2) i * (index_header clinic_catalog 1 2).width) 0xff) refl };
   entries = record {
     places = record { has = record { count = refl; each = twice (λ i. record_at clinic_page (record (index_directory clinic_catalog 1 2) { count = 2 }) i ≡ get_or (directory_records names (levels_of clinic_schema 1) (value_lists clinic_catalog hidden_clinic 1 2 names)) i []) refl refl }; rest = once (λ i. drop (records_in (record (index_directory clinic_catalog 1 2) { count = 2 }) i * (record (index_directory clinic_catalog 1 2) { count = 2 }).width) (clinic_page ((record (index_directory clinic_catalog 1 2) { count = 2 }).first + i)) ≡ replicate (2048 - records_in (record (index_directory clinic_catalog 1 2) { count = 2 }) i * (record (index_directory clinic_catalog 1 2) { count = 2 }).width) 0xff) refl };
@@ -128,6 +130,7 @@ unfolding places_from ancestor leads_within record_at IsStrictlySortedBy patient
 purpose_index = record {
   values = purposes;
   are_values = values_of (hidden_cells clinic_schema hidden_clinic 2 2) purposes ((refl, tt), (tt, tt)) ((1, omega arith, refl), ((0, omega arith, refl), tt)) ((1, omega arith, refl), ((0, omega arith, refl), ((1, omega arith, refl), ((1, omega arith, refl), tt))));
+  fits = omega arith;
   header = record { has = record { count = refl; each = once (λ i. record_at clinic_page (index_header clinic_catalog 2 2) i ≡ get_or (number_cell 2 ∷ []) i []) refl }; rest = once (λ i. drop (records_in (index_header clinic_catalog 2 2) i * (index_header clinic_catalog 2 2).width) (clinic_page ((index_header clinic_catalog 2 2).first + i)) ≡ replicate (2048 - records_in (index_header clinic_catalog 2 2) i * (index_header clinic_catalog 2 2).width) 0xff) refl };
   entries = record {
     places = record { has = record { count = refl; each = twice (λ i. record_at clinic_page (record (index_directory clinic_catalog 2 2) { count = 2 }) i ≡ get_or (directory_records purposes (levels_of clinic_schema 2) (value_lists clinic_catalog hidden_clinic 2 2 purposes)) i []) refl refl }; rest = once (λ i. drop (records_in (record (index_directory clinic_catalog 2 2) { count = 2 }) i * (record (index_directory clinic_catalog 2 2) { count = 2 }).width) (clinic_page ((record (index_directory clinic_catalog 2 2) { count = 2 }).first + i)) ≡ replicate (2048 - records_in (record (index_directory clinic_catalog 2 2) { count = 2 }) i * (record (index_directory clinic_catalog 2 2) { count = 2 }).width) 0xff) refl };
@@ -141,6 +144,7 @@ unfolding places_from ancestor leads_within record_at IsStrictlySortedBy patient
 doctor_index = record {
   values = doctors;
   are_values = values_of (hidden_cells clinic_schema hidden_clinic 2 3) doctors ((refl, (refl, tt)), ((refl, tt), (tt, tt))) ((0, omega arith, refl), ((3, omega arith, refl), ((1, omega arith, refl), tt))) ((0, omega arith, refl), ((2, omega arith, refl), ((2, omega arith, refl), ((1, omega arith, refl), tt))));
+  fits = omega arith;
   header = record { has = record { count = refl; each = once (λ i. record_at clinic_page (index_header clinic_catalog 2 3) i ≡ get_or (number_cell 3 ∷ []) i []) refl }; rest = once (λ i. drop (records_in (index_header clinic_catalog 2 3) i * (index_header clinic_catalog 2 3).width) (clinic_page ((index_header clinic_catalog 2 3).first + i)) ≡ replicate (2048 - records_in (index_header clinic_catalog 2 3) i * (index_header clinic_catalog 2 3).width) 0xff) refl };
   entries = record {
     places = record { has = record { count = refl; each = thrice (λ i. record_at clinic_page (record (index_directory clinic_catalog 2 3) { count = 3 }) i ≡ get_or (directory_records doctors (levels_of clinic_schema 2) (value_lists clinic_catalog hidden_clinic 2 3 doctors)) i []) refl refl refl }; rest = once (λ i. drop (records_in (record (index_directory clinic_catalog 2 3) { count = 3 }) i * (record (index_directory clinic_catalog 2 3) { count = 3 }).width) (clinic_page ((record (index_directory clinic_catalog 2 3) { count = 3 }).first + i)) ≡ replicate (2048 - records_in (record (index_directory clinic_catalog 2 3) { count = 3 }) i * (record (index_directory clinic_catalog 2 3) { count = 3 }).width) 0xff) refl };
@@ -154,6 +158,7 @@ unfolding places_from ancestor leads_within record_at IsStrictlySortedBy patient
 patient_index = record {
   values = patients;
   are_values = values_of (hidden_cells clinic_schema hidden_clinic 2 4) patients ((refl, tt), (tt, tt)) ((0, omega arith, refl), ((1, omega arith, refl), tt)) ((0, omega arith, refl), ((1, omega arith, refl), ((0, omega arith, refl), ((1, omega arith, refl), tt))));
+  fits = omega arith;
   header = record { has = record { count = refl; each = once (λ i. record_at clinic_page (index_header clinic_catalog 2 4) i ≡ get_or (number_cell 2 ∷ []) i []) refl }; rest = once (λ i. drop (records_in (index_header clinic_catalog 2 4) i * (index_header clinic_catalog 2 4).width) (clinic_page ((index_header clinic_catalog 2 4).first + i)) ≡ replicate (2048 - records_in (index_header clinic_catalog 2 4) i * (index_header clinic_catalog 2 4).width) 0xff) refl };
   entries = record {
     places = record { has = record { count = refl; each = twice (λ i. record_at clinic_page (record (index_directory clinic_catalog 2 4) { count = 2 }) i ≡ get_or (directory_records patients (levels_of clinic_schema 2) (value_lists clinic_catalog hidden_clinic 2 4 patients)) i []) refl refl }; rest = once (λ i. drop (records_in (record (index_directory clinic_catalog 2 4) { count = 2 }) i * (record (index_directory clinic_catalog 2 4) { count = 2 }).width) (clinic_page ((record (index_directory clinic_catalog 2 4) { count = 2 }).first + i)) ≡ replicate (2048 - records_in (record (index_directory clinic_catalog 2 4) { count = 2 }) i * (record (index_directory clinic_catalog 2 4) { count = 2 }).width) 0xff) refl };
@@ -184,7 +189,7 @@ pub returns : goal.returns
 unfolding places_from ancestor leads_within record_at digits first_page
 returns c = record {
   whole = record { catalog = catalog; files = record { columns = columns; subtrees = subtrees; indexes = indexes; id_indexes = id_indexes } };
-  so_far = record { catalog = catalog; files = record { columns = columns } };
+  so_far = record { catalog = catalog; files = record { columns = columns; subtrees = subtrees } };
   another_catalog = λ h. let clash : 0 ≡ 71 = ap (λ bytes. slice_index bytes 0) (h.catalog 0 (omega arith)) in absurd (omega (arith, clash));
   another_country = λ h. let clash : 0 ≡ 70 = ap (λ bytes. slice_index bytes 0) ((h.files.columns 0 2 refl).has.each 0 (omega arith)) in absurd (omega (arith, clash));
   another_place_of_visits = λ h. let clash : 1 ≡ 0 = ap (λ bytes. slice_index bytes 0) ((h.files.id_indexes 0 (omega arith) refl).places.has.each 0 (omega arith)) in absurd (omega (arith, clash));

@@ -1,6 +1,6 @@
 use Rattle.std.proofs.Common.{◌≡◌, ◌≤◌}
 use Rattle.ghost_model.specs.laws.FlashLaws as laws
-use Rattle.flash_build.proofs.columns.hidden_before.Given as goal
+use Rattle.flash_build.proofs.keys.hidden_before.Given as goal
 
 abbrev pub invariant-loop-at : goal.invariant-loop-at
 invariant-loop-at l = record { count : l.count ≡ laws.hidden_before l.cat.schema l.table l.at; most : l.count ≤ l.at }

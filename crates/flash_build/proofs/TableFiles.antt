@@ -1,0 +1,177 @@
+-- The files of tables one after another: what stands, and what is left to fill.
+use Rattle.std.proofs.Common.{◌≡◌, ap, sym, ◌∙◌, ℕ, ◌+◌, ◌-◌, ◌^◌, ◌<◌, ◌≤◌, Bool, true, false, cond, List, length, sum_by, arith}
+use Rattle.ghost_model.specs.core.Schema.{is_empty}
+use Rattle.ghost_model.specs.core.Channel.{Catalog}
+use Rattle.ghost_model.specs.core.Split.{Hidden}
+use Rattle.ghost_model.specs.laws.SchemaTrees.{IsTree}
+use Rattle.ghost_model.specs.forms.Runs.{Run, Stores, run_pages, pages_of}
+use Rattle.ghost_model.specs.forms.Layout as layout
+use Rattle.ghost_model.specs.forms.Layout.{below, tables_of, column_count, is_hidden, count_of, descendants_of, column_file, column_pages, columns_pages, subtree_table, files_end, public_pages}
+use Rattle.ghost_model.specs.forms.Flash.{HoldsFilesSoFar, hidden_cells}
+use Rattle.ghost_model.specs.laws.LayoutSums.{column_pages_before, table_begin, table_pages, column_begin, subtree_begin, subtree_pages}
+use Rattle.ghost_model.specs.laws.LayoutLaws.{LieAsSummed, LieInOrder}
+use Rattle.ghost_model.specs.forms.Work.{file_pages_so_far}
+use Rattle.ghost_model.proofs.LayoutLemmas.Following.{some_width}
+use Rattle.ghost_model.proofs.LayoutLemmas.Order.{sum_next, sums_rise}
+use Rattle.ghost_model.proofs.FlashLemmas.Held.{column_kept, subtree_kept}
+use Rattle.edge_traits.specs.Devices.{Device, ChangesOnly}
+use Rattle.flash_pages.specs.Filling.{CanFill}
+use Rattle.flash_build.specs.Building.{IsBlank, HoldsTable}
+use Rattle.flash_build.proofs.Writes.{Written, agree_below, below_next, can_fill_rest}
+
+-- blank pages for all files
+pub can_fill_files : {cat : Catalog} {device : Device} → LieInOrder cat → IsBlank public_pages (files_end cat) device
+    → layout.need cat ≤ device.page_count → device.page_count < 2 ^ 32 → CanFill device public_pages (files_end cat - public_pages)
+can_fill_files {cat = cat} order blank enough small =
+    let some = order.some in
+    let within : files_end cat ≤ layout.need cat = omega (arith, order.static, order.spool, order.scratch) in
+    record {
+      there = omega (arith, some, within, enough);
+      blank = λ page from before. blank.blank page from (omega (arith, before, some)) (omega (arith, before, some, within, enough));
+      small = small;
+    }
+
+-- the pages of a column file, and of a subtree key table
+pub pages_of_file :
+    (cat : Catalog) (table column : ℕ) → is_hidden cat.schema table column ≡ true
+    → column_pages cat table column ≡ run_pages (column_file cat table column)
+pages_of_file cat table column h = ap (λ b. cond b (run_pages (column_file cat table column)) 0) h
+
+-- the pages of so many records of a column file's run
+pub pages_of_run :
+    (cat : Catalog) (table column : ℕ) {run : Run} {count : ℕ} → is_hidden cat.schema table column ≡ true
+    → run ≡ column_file cat table column → count ≡ count_of cat table → pages_of count run.width ≡ column_pages cat table column
+pages_of_run cat table column {run = run} h is same =
+    ap (λ n. pages_of n run.width) same
+    ∙ (ap (λ (r : Run). pages_of (count_of cat table) r.width) is ∙ sym (pages_of_file cat table column h))
+
+pub no_pages : (cat : Catalog) (table column : ℕ) → is_hidden cat.schema table column ≡ false → column_pages cat table column ≡ 0
+no_pages cat table column h = ap (λ b. cond b (run_pages (column_file cat table column)) 0) h
+
+pub pages_of_subtree :
+    (cat : Catalog) (table : ℕ) → is_empty (descendants_of cat.schema table) ≡ false → subtree_pages cat table ≡ run_pages (subtree_table cat table)
+pages_of_subtree cat table h = ap (λ b. cond b 0 (run_pages (subtree_table cat table))) h
+
+pub no_subtree : (cat : Catalog) (table : ℕ) → is_empty (descendants_of cat.schema table) ≡ true → subtree_pages cat table ≡ 0
+no_subtree cat table h = ap (λ b. cond b 0 (run_pages (subtree_table cat table))) h
+
+pub subtree_size : (cat : Catalog) (table : ℕ) → run_pages (subtree_table cat table) ≡ subtree_pages cat table
+subtree_size cat table = some_width 4 (count_of cat table) (descendants_of cat.schema table)
+
+-- some columns of a table were written
+pub record ColumnsWritten (told : Bool) (cat : Catalog) (hidden : Hidden) (table : ℕ) (before now : Device) (done : ℕ) : Type 0 where
+  pub stores :
+      told ≡ true → (column : ℕ) → column < done → is_hidden cat.schema table column ≡ true
+      → Stores now.page (column_file cat table column) (hidden_cells cat.schema hidden table column)
+  pub wrote : Written (table_begin cat table) (column_begin cat table done) (column_pages_before cat table done) before now
+
+-- a column's file ends before a later one begins, and before the subtree key table
+pub column_ends : (cat : Catalog) (table column later : ℕ) → column < later → column_begin cat table column + column_pages cat table column ≤ column_begin cat table later
+column_ends cat table column later less =
+    let next = sum_next (column_pages cat table) column in
+    let rise = sums_rise (column_pages cat table) (column + 1) later (omega (arith, less)) in
+    omega (arith, next, rise)
+
+pub columns_more :
+    {told : Bool} (cat : Catalog) (hidden : Hidden) (table column : ℕ) {b c : Device} → IsTree cat.schema
+    → (told ≡ true → (earlier : ℕ) → earlier < column → is_hidden cat.schema table earlier ≡ true
+    → Stores b.page (column_file cat table earlier) (hidden_cells cat.schema hidden table earlier))
+    → ChangesOnly (column_begin cat table column) (column_begin cat table column + column_pages cat table column) b c
+    → (told ≡ true → is_hidden cat.schema table column ≡ true → Stores c.page (column_file cat table column) (hidden_cells cat.schema hidden table column))
+    → told ≡ true → (earlier : ℕ) → earlier < column + 1 → is_hidden cat.schema table earlier ≡ true
+    → Stores c.page (column_file cat table earlier) (hidden_cells cat.schema hidden table earlier)
+columns_more cat hidden table column {b = b} {c = c} tree were changes last told =
+    below_next (λ k. is_hidden cat.schema table k ≡ true → Stores c.page (column_file cat table k) (hidden_cells cat.schema hidden table k)) column
+    (λ earlier less h.
+    column_kept b.page c.page cat hidden tree table earlier h
+    (agree_below changes (column_begin cat table earlier) (column_begin cat table earlier + column_pages cat table earlier) (column_ends cat table earlier column less))
+    (were told earlier less h))
+    (last told)
+
+-- the files of a table stay where their pages stay
+pub columns_stay :
+    {b c : Device} (cat : Catalog) (hidden : Hidden) (table : ℕ) {low high : ℕ} → IsTree cat.schema → LieInOrder cat → ChangesOnly low high b c → subtree_begin cat table ≤ low
+    → ((column : ℕ) → is_hidden cat.schema table column ≡ true → Stores b.page (column_file cat table column) (hidden_cells cat.schema hidden table column))
+    → (column : ℕ) → is_hidden cat.schema table column ≡ true → Stores c.page (column_file cat table column) (hidden_cells cat.schema hidden table column)
+columns_stay {b = b} {c = c} cat hidden table tree order changes apart were column h =
+    let there = (order.there_are table column h).1 in
+    let ends = column_ends cat table column (column_count cat.schema table) there in
+    column_kept b.page c.page cat hidden tree table column h
+    (agree_below changes (column_begin cat table column) (column_begin cat table column + column_pages cat table column) (omega (arith, ends, apart)))
+    (were column h)
+
+pub table_stays :
+    {b c : Device} (cat : Catalog) (hidden : Hidden) (table : ℕ) {low high : ℕ} → IsTree cat.schema → LieInOrder cat → table < length cat.schema → ChangesOnly low high b c
+    → table_begin cat table + table_pages cat table ≤ low → HoldsTable b.page cat hidden table → HoldsTable c.page cat hidden table
+table_stays {b = b} {c = c} cat hidden table tree order there changes apart holds = record {
+  columns = columns_stay cat hidden table tree order changes (omega (arith, apart)) holds.columns;
+  subtree = λ h.
+      subtree_kept b.page c.page cat hidden tree table there h
+      (agree_below changes (subtree_begin cat table) (subtree_begin cat table + subtree_pages cat table) (omega (arith, apart)))
+      (holds.subtree h);
+}
+
+-- some tables were written
+abbrev pub table_size : Catalog → (table : ℕ) → ℕ
+table_size cat table = columns_pages cat table + subtree_pages cat table
+
+pub record TablesWritten (told : Bool) (cat : Catalog) (hidden : Hidden) (before now : Device) (done : ℕ) : Type 0 where
+  pub stores : told ≡ true → (table : ℕ) → table < done → HoldsTable now.page cat hidden table
+  pub wrote : Written public_pages (table_begin cat done) (sum_by (table_size cat) (below done)) before now
+
+pub tables_more :
+    {told : Bool} (cat : Catalog) (hidden : Hidden) (table : ℕ) {b c : Device} → IsTree cat.schema → LieInOrder cat → table < length cat.schema
+    → (told ≡ true → (earlier : ℕ) → earlier < table → HoldsTable b.page cat hidden earlier)
+    → ChangesOnly (table_begin cat table) (table_begin cat table + table_pages cat table) b c
+    → (told ≡ true → HoldsTable c.page cat hidden table)
+    → told ≡ true → (earlier : ℕ) → earlier < table + 1 → HoldsTable c.page cat hidden earlier
+tables_more cat hidden table {b = b} {c = c} tree order there were changes last told =
+    below_next (λ k. HoldsTable c.page cat hidden k) table
+    (λ earlier less.
+    let next = order.next_table earlier in
+    let rise = order.tables (earlier + 1) table (omega (arith, less)) in
+    table_stays cat hidden earlier tree order (omega (arith, less, there)) changes (omega (arith, next, rise)) (were told earlier less))
+    (last told)
+
+-- all of them
+pub all_tables : {page : ℕ → List ℕ} {cat : Catalog} {hidden : Hidden} → LieInOrder cat → ((table : ℕ) → table < length cat.schema → HoldsTable page cat hidden table)
+    → HoldsFilesSoFar page cat hidden
+all_tables order all = record {
+  columns = λ table column h. (all table (order.there_are table column h).0).columns column h;
+  subtrees = λ table low h. (all table low).subtree h;
+}
+
+pub sizes_are : (cat : Catalog) (hidden : Hidden) → sum_by (table_size cat) (tables_of cat.schema) ≡ file_pages_so_far cat hidden
+sizes_are cat hidden = ap (λ (f : ℕ → ℕ). sum_by f (tables_of cat.schema)) (λ i table. columns_pages cat table + sym (subtree_size cat table) i)
+
+pub sizes_rise : (cat : Catalog) (table : ℕ) → table < length cat.schema
+    → sum_by (table_size cat) (below table) + table_size cat table ≤ sum_by (table_size cat) (tables_of cat.schema)
+sizes_rise cat table low =
+    let next = sum_next (table_size cat) table in
+    let rise = sums_rise (table_size cat) (table + 1) (length cat.schema) (omega (arith, low)) in
+    omega (arith, next, rise)
+
+-- blank pages for the next column's file, for the subtree key table, and for the next table
+pub can_fill_column :
+    {a b : Device} (cat : Catalog) (table column : ℕ) → column < column_count cat.schema table → CanFill a (table_begin cat table) (columns_pages cat table)
+    → ChangesOnly (table_begin cat table) (column_begin cat table column) a b → CanFill b (column_begin cat table column) (column_pages cat table column)
+can_fill_column cat table column less can changes =
+    let ends = column_ends cat table column (column_count cat.schema table) less in
+    can_fill_rest can changes (omega arith) (omega arith) (omega (arith, ends))
+
+pub can_fill_table :
+    {a b : Device} (cat : Catalog) (table : ℕ) → LieAsSummed cat → LieInOrder cat → table < length cat.schema
+    → CanFill a public_pages (files_end cat - public_pages) → ChangesOnly public_pages (table_begin cat table) a b
+    → CanFill b (table_begin cat table) (table_pages cat table)
+can_fill_table cat table laid order less can changes =
+    let end = laid.files_end in
+    let next = order.next_table table in
+    let rise = order.tables (table + 1) (length cat.schema) (omega (arith, less)) in
+    can_fill_rest can changes (omega arith) (omega arith) (omega (arith, next, rise, end, order.some))
+
+abbrev pub table_sizes : Catalog → (done : ℕ) → ℕ
+table_sizes cat done = sum_by (table_size cat) (below done)
+
+pub size_next : (cat : Catalog) (table : ℕ)
+    → sum_by (table_size cat) (below (table + 1)) ≡ sum_by (table_size cat) (below table) + table_size cat table
+size_next cat table = sum_next (table_size cat) table
