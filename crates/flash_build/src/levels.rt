@@ -10,8 +10,8 @@ ghost use Rattle.index_lists.specs.Laws.{LeadAs};
 ghost use Rattle.flash_build.specs.Levels.{AreLed, items_of};
 
 use crate::keys::keys_of;
+use crate::places::levels_of;
 use csv_split::Hidden;
-use flash_layout::levels_of;
 use flash_layout::limits::a_catalog_has_a_layout;
 use index_lists::ranks_above;
 use std::alloc::{AllocError, Global};

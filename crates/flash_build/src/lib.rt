@@ -13,6 +13,7 @@ mod keys;
 mod levels;
 pub mod loading;
 mod number_rows;
+mod places;
 pub mod sealing;
 mod source;
 mod subtrees;

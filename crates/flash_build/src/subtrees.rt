@@ -12,11 +12,11 @@ ghost use Rattle.flash_build.specs.Building.{Wrote};
 use crate::faults::BuildFault;
 use crate::levels::all_led;
 use crate::number_rows::NumberRows;
+use crate::places::{is_leaf, subtree_table};
 use crate::writing::write_records;
 use csv_split::Hidden;
 use edge_traits::flash::Flash;
 use flash_layout::limits::a_catalog_has_a_layout;
-use flash_layout::{is_leaf, subtree_table};
 use std::alloc::Global;
 use tree_schema::Catalog;
 

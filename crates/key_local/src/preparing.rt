@@ -117,11 +117,7 @@ fn replies_for(alloc: Global, cat: &Catalog) -> Result<Replies, AllocError>
 }
 
 /// Prepares a session over tables that were read, with so many page buffers, from 8 to 64.
-pub(crate) fn prepare(
-    alloc: Global,
-    input: Input,
-    buffers: u32,
-) -> Result<Prepared, AllocError>
+pub(crate) fn prepare(alloc: Global, input: Input, buffers: u32) -> Result<Prepared, AllocError>
     requires database { IsDatabase input.schema input.tables }
     requires buffers { AreBuffers buffers }
     ensures cat { IfOk result (λ prepared. prepared.cat ≡ catalog_for input.schema input.tables) }

@@ -1,0 +1,308 @@
+-- The tables that a plan tests or selects of are FROM tables, and rows of the top table lead to a row of each.
+use Rattle.std.proofs.Common.{◌≡◌, ◌∙◌, ℕ, zero, suc, ◌-◌, ◌<◌, ◌≤◌, inl, inr, Bool, true, false, not, ◌&&◌, nat_eq, List, [], ◌∷◌, ◌++◌, length, get_or, slice_get, slice_set, slice_index, map, take, filter, flat_map, replicate, Option, Some, None, option_and_then, if◌then◌else◌, sym, subst, refl, ap, ap₂, arith}
+use Rattle.std.specs.List.{list_all}
+use Rattle.std.proofs.lemmas.Bool.{eqb-true, eqb-false}
+use Rattle.std.proofs.lemmas.List.{get_or-set_same, get_or-set_other}
+use Rattle.ghost_model.specs.core.Schema.{Schema, parent, ancestor, is_visible, first_of}
+use Rattle.ghost_model.specs.core.Values.{Row, Database}
+use Rattle.ghost_model.specs.core.Channel.{Catalog}
+use Rattle.ghost_model.specs.core.Database.{row_of, rows_of, reference_column}
+use Rattle.ghost_model.specs.core.Query.{Query, Field, Condition, Compare, Join, is_among, top_of}
+use Rattle.ghost_model.specs.core.Meaning.{compares}
+use Rattle.ghost_model.specs.core.Replies.{Reply}
+use Rattle.ghost_model.specs.forms.Layout.{count_of}
+use Rattle.ghost_model.specs.laws.SchemaTrees.{IsTree}
+use Rattle.ghost_model.specs.laws.QueryLaws.{OneReading}
+use Rattle.ghost_model.specs.laws.MeaningLaws.{IsAtOrBelow, LeadsFollowKeys, RowsLeadToRows}
+use Rattle.ghost_model.proofs.MeaningLemmas.OneRow.{Among, among_is, from_filter, both_true}
+use Rattle.ghost_model.proofs.MeaningLemmas.Leading.{first_step, no_step, way_is_short, table_with_parent, get_within, to_itself_within, told_place, first_some, not_to_false}
+use Rattle.ghost_model.proofs.FlashLemmas.Values.{count_there}
+use Rattle.ghost_laws.specs.Followed.{IsFollowed, AcceptedQueriesAreFollowed, is_column_from, is_condition_from}
+use Rattle.ghost_laws.specs.Scans.{known_along, stands_along, holds_or_asked_along, is_kept_row}
+use Rattle.ghost_laws.proofs.ScanLemmas.Accepted.{pass_each}
+use Rattle.spj_parse.specs.Resolved.{IsMeant, joins_of, join_to, join_with, join_by, keys_between, is_comparison}
+use Rattle.ghost_base.specs.Views.{value_of}
+use Rattle.candidate_rows.specs.declared.plan.Hop.{Hop}
+use Rattle.candidate_rows.specs.declared.plan.Test.{Test}
+use Rattle.candidate_rows.specs.declared.plan.Check.{Check}
+use Rattle.candidate_rows.specs.declared.plan.Check.TheVariants.{Stands, Holds}
+use Rattle.candidate_rows.specs.declared.plan.RowPlan.{RowPlan}
+use Rattle.candidate_rows.specs.declared.next.Follow.{Follow}
+use Rattle.candidate_rows.specs.declared.work.RowWork.{RowWork}
+use Rattle.candidate_rows.specs.Plans.{IsPlanOf, IsHop, IsHopOrNone, AreHops, test_meets, check_meets, is_asked, is_tested}
+use Rattle.candidate_rows.specs.Working.{Knows, StandsFor, IsRowOf, IsLedTo, passes, told, way_to, along_hop, from_row}
+use Rattle.candidate_rows.specs.Steps.{row_known}
+use Rattle.candidate_rows.specs.Laws.{TestsAreThoseOfAnswers}
+use Rattle.candidate_rows.proofs.StepLemmas.{IsNowhere, Wanted, tested, selected, known_at}
+use Rattle.candidate_rows.proofs.TellLemmas.{holds_at_place}
+
+-- ---- lists
+
+all_each : {X : Type 0} (p : X → Bool) (xs : List X) → ((x : X) → Among x xs → p x ≡ true) → list_all p xs ≡ true
+all_each p [] each = refl
+all_each p (x ∷ xs) each = ap₂ (λ a b. a && b) (each x (inl refl)) (all_each p xs (λ y a. each y (inr a)))
+
+all_filtered : {X : Type 0} (p q : X → Bool) (xs : List X) → ((x : X) → Among x xs → q x ≡ false → p x ≡ true) → list_all p (filter q xs) ≡ list_all p xs
+all_filtered p q [] each = refl
+all_filtered p q (x ∷ xs) each = by (q x) refl (all_filtered p q xs (λ y a. each y (inr a)))
+  where
+    by : (b : Bool) → q x ≡ b → list_all p (filter q xs) ≡ list_all p xs → list_all p (if b then x ∷ filter q xs else filter q xs) ≡ (p x && list_all p xs)
+    by true e rest = ap (λ b. p x && b) rest
+    by false e rest = rest ∙ sym (ap (λ b. b && list_all p xs) (each x (inl refl) e))
+
+-- ---- FROM tables
+
+abbrev is_from : List ℕ → Condition → Bool
+is_from from (Compare field operator literal) = is_among from field.table
+is_from from (Join one other) = true
+
+one_join : (from : List ℕ) (table holder : ℕ) (key : Option ℕ) → list_all (is_from from) (join_by table holder key) ≡ true
+one_join from table holder None = refl
+one_join from table holder (Some column) = refl
+
+joins_with : (schema : Schema) (from : List ℕ) (table : ℕ) (holder : Option ℕ) → list_all (is_from from) (join_with schema from table holder) ≡ true
+joins_with schema from table None = refl
+joins_with schema from table (Some holder) =
+    elim (is_among from holder) as (λ b. list_all (is_from from) (if b then join_by table holder (first_of (keys_between schema holder table)) else []) ≡ true) [
+      | true ↦ one_join from table holder (first_of (keys_between schema holder table))
+      | false ↦ refl
+    ]
+
+all_both : {X : Type 0} (p : X → Bool) (xs ys : List X) → list_all p xs ≡ true → list_all p ys ≡ true → list_all p (xs ++ ys) ≡ true
+all_both p [] ys a b = b
+all_both p (x ∷ xs) ys a b =
+    let both = both_true (p x) (list_all p xs) a in
+    ap₂ (λ c d. c && d) both.0 (all_both p xs ys both.1 b)
+
+joins_from : (schema : Schema) (from tables : List ℕ) → list_all (is_from from) (flat_map (join_to schema from) tables) ≡ true
+joins_from schema from [] = refl
+joins_from schema from (table ∷ tables) =
+    all_both (is_from from) (join_to schema from table) (flat_map (join_to schema from) tables) (joins_with schema from table (parent schema table)) (joins_from schema from tables)
+
+comparisons_from : (schema : Schema) (from : List ℕ) (conditions : List Condition) → list_all (is_condition_from schema from) conditions ≡ true
+    → list_all (is_from from) (filter is_comparison conditions) ≡ true
+comparisons_from schema from [] all = refl
+comparisons_from schema from (Compare field operator literal ∷ conditions) all =
+    let both = both_true (is_condition_from schema from (Compare field operator literal)) (list_all (is_condition_from schema from) conditions) all in
+    ap₂ (λ c d. c && d) (both_true (is_among from field.table) _ both.0).0 (comparisons_from schema from conditions both.1)
+comparisons_from schema from (Join one other ∷ conditions) all =
+    comparisons_from schema from conditions (both_true (is_condition_from schema from (Join one other)) (list_all (is_condition_from schema from) conditions) all).1
+
+module _ (cat : Catalog) (asked : Query) (plan : RowPlan) (plan_is : IsPlanOf cat asked plan) (text : List ℕ) (read : IsMeant cat.schema text asked)
+    (tree : IsTree cat.schema) (one : OneReading) (accepted : AcceptedQueriesAreFollowed) where
+  follows : IsFollowed cat.schema read.meant plan.top
+  follows =
+      let top_is : top_of cat.schema read.meant ≡ Some plan.top = ap (top_of cat.schema) (sym read.once) ∙ plan_is.top_is text read in
+      accepted cat.schema tree text read.meant ((one.meaning cat.schema text read.meant).0 read.reads) plan.top top_is
+
+  from_same : asked.from ≡ read.meant.from
+  from_same = ap (λ (q : Query). q.from) read.once
+
+  pub below_top : (table : ℕ) → is_among asked.from table ≡ true → IsAtOrBelow cat.schema plan.top table
+  below_top table among = follows.below table (ap (λ from. is_among from table) (sym from_same) ∙ among)
+
+  conditions_from : list_all (is_from asked.from) asked.conditions ≡ true
+  conditions_from =
+      ap (λ (q : Query). list_all (is_from q.from) q.conditions) read.once
+      ∙ all_both (is_from read.meant.from) (joins_of cat.schema read.meant.from) (filter is_comparison read.meant.conditions)
+      (joins_from cat.schema read.meant.from read.meant.from)
+      (comparisons_from cat.schema read.meant.from read.meant.conditions follows.conditions)
+
+  tests_from : list_all (test_meets (is_among asked.from) (is_from asked.from)) plan.tests.items ≡ true
+  tests_from =
+      plan_is.tests (is_among asked.from) (is_from asked.from)
+      ∙ ap₂ (λ a b. a && b)
+      (all_each (is_among asked.from) (filter (is_asked cat.schema asked) asked.from)
+      (λ x a. among_is x asked.from (from_filter (is_asked cat.schema asked) x asked.from a).0))
+      (all_each (is_from asked.from) (filter (is_tested cat.schema) asked.conditions)
+      (λ c a. pass_each (is_from asked.from) asked.conditions conditions_from c (from_filter (is_tested cat.schema) c asked.conditions a).0))
+
+  test_from : (test : Test) → test_meets (is_among asked.from) (is_from asked.from) test ≡ true → is_among asked.from test.known.field.table ≡ true
+  test_from test met = by test.check refl
+    where
+      by : (check : Check) → test.check ≡ check → is_among asked.from test.known.field.table ≡ true
+      by Stands e = sym (ap (check_meets (is_among asked.from) (is_from asked.from) test.known.field) e) ∙ met
+      by (Holds operator literal) e = sym (ap (check_meets (is_among asked.from) (is_from asked.from) test.known.field) e) ∙ met
+
+  selected_from : (i : ℕ) (field : Field) → slice_get asked.select i ≡ Some field → is_among asked.from field.table ≡ true
+  selected_from i field there =
+      let all : list_all (is_column_from cat.schema asked.from) asked.select ≡ true =
+      ap (λ (q : Query). list_all (is_column_from cat.schema q.from) q.select) read.once ∙ follows.selected in
+      (both_true (is_among asked.from field.table) _ (holds_at_place (is_column_from cat.schema asked.from) asked.select i field all there)).0
+
+  pub wanted_below : (work : RowWork) (table : ℕ) → Wanted plan work table → IsAtOrBelow cat.schema plan.top table
+  wanted_below work table (tested test there e) =
+      subst (IsAtOrBelow cat.schema plan.top) e
+      (below_top test.known.field.table (test_from test (holds_at_place (test_meets (is_among asked.from) (is_from asked.from)) plan.tests.items work.at test tests_from there)))
+  wanted_below work table (selected known there e) =
+      let at = known_at cat asked.select plan.select.items (length work.values.items) known plan_is.select there in
+      let same : at.field.table ≡ table = ap (λ (f : Field). f.table) (sym at.is.field_is) ∙ e in
+      subst (IsAtOrBelow cat.schema plan.top) same (below_top at.field.table (selected_from (length work.values.items) at.field at.there))
+
+  -- ---- the tests are those of the answer
+
+  module _ (page : ℕ → List ℕ) (database : Database) (given : List Reply) (identifier : ℕ) (knows : Knows page cat asked database given)
+      (row : IsRowOf cat plan.top identifier) (keys : LeadsFollowKeys cat.schema database) where
+    row_there : (place : ℕ) → place < count_of cat plan.top → (r : Row) × (row_of database plan.top (suc place) ≡ Some r)
+    row_there place low =
+        let size = ap (λ (ns : List ℕ). slice_index ns plan.top) (sym knows.counts) ∙ count_there database plan.top in
+        get_within (rows_of database plan.top) place (omega (arith, size, low))
+
+    top_row : (r : Row) × (row_of database plan.top identifier ≡ Some r)
+    top_row =
+        let some = row.some in
+        let within = row.within in
+        let r = row_there (identifier - 1) (omega (arith, some, within)) in
+        let same : suc (identifier - 1) ≡ identifier = omega (arith, some) in
+        (r.0, ap (row_of database plan.top) (sym same) ∙ r.1)
+
+    unasked_stands : (table : ℕ) → Among table asked.from → is_asked cat.schema asked table ≡ false → stands_along cat.schema database given plan.top identifier table ≡ true
+    unasked_stands table among none =
+        let below = below_top table (among_is table asked.from among) in
+        let lands = keys.lands plan.top table identifier top_row.0 below top_row.1 in
+        ap₂ is_kept_row lands.led (knows.of_asked table none)
+
+    shown : (b : Bool) → not b ≡ false → b ≡ true
+    shown true e = refl
+    shown false e = cc
+
+    untested_holds : (condition : Condition) → is_tested cat.schema condition ≡ false
+        → holds_or_asked_along cat.schema (known_along cat.schema database given plan.top identifier) condition ≡ true
+    untested_holds (Compare field operator literal) e =
+        ap (λ b. if b then true else compares operator (known_along cat.schema database given plan.top identifier field) (Some literal))
+        (shown (is_visible cat.schema field.table field.column) e)
+    untested_holds (Join one other) e = refl
+
+    pub same_row : row_known cat asked database given identifier plan
+        ≡ (if list_all (passes cat.schema database given plan.top identifier) plan.tests.items
+        then told (known_along cat.schema database given plan.top identifier) asked.select ∷ [] else [])
+    same_row =
+        let stands = stands_along cat.schema database given plan.top identifier in
+        let holds = holds_or_asked_along cat.schema (known_along cat.schema database given plan.top identifier) in
+        sym (ap (λ b. if b then told (known_along cat.schema database given plan.top identifier) asked.select ∷ [] else [])
+        (plan_is.tests stands holds
+        ∙ ap₂ (λ a b. a && b) (all_filtered stands (is_asked cat.schema asked) asked.from unasked_stands)
+        (all_filtered holds (is_tested cat.schema) asked.conditions (λ c a e. untested_holds c e))))
+
+pub tests_are : OneReading → AcceptedQueriesAreFollowed → RowsLeadToRows → TestsAreThoseOfAnswers
+tests_are one accepted rows page cat asked database given identifier plan knows plan_is row =
+    same_row cat asked plan plan_is knows.text knows.meant knows.tree one accepted page database given identifier knows row (rows cat.schema database knows.tree knows.is)
+
+-- ---- there is a way to each table that is tested or selected of
+
+no_reference : (schema : Schema) → (table above : ℕ) → parent schema table ≡ Some above → reference_column schema above table ≡ None → ⊥
+no_reference schema table above up none =
+    let f = told_place _ 0 schema above up in
+    let at_above : f.0 ≡ above = (let e = f.2 in omega arith) in
+    let c = first_some _ (not_to_false _ f.4) in
+    let held = ap (slice_get schema) (sym at_above) ∙ f.3 in
+    let found : reference_column schema above table ≡ Some c.0 = ap (option_and_then _) held ∙ c.1 in
+    clash found none
+  where
+    clash : {o : Option ℕ} {x : ℕ} → o ≡ Some x → o ≡ None → ⊥
+    clash s n = cc
+
+follow_none : (to : ℕ) (hop : Hop) (row : Option ℕ) (further : Option Follow) → from_row to hop row further ≡ None → (row ≡ None) × (further ≡ None)
+follow_none to hop None further e = (refl, e)
+follow_none to hop (Some identifier) further e = absurd (cc (e))
+
+pub way_there : (cat : Catalog) (hops : List (Option Hop)) (reached : List (Option ℕ)) (top identifier : ℕ) → AreHops cat hops → get_or reached top None ≡ Some identifier
+    → (steps most table : ℕ) → ancestor cat.schema steps table ≡ Some top → get_or reached table None ≡ None → steps ≤ most → way_to hops reached most table ≡ None → ⊥
+way_there cat hops reached top identifier are here zero most table up none few e =
+    let same = no_step cat.schema top table up in
+    clash (ap (λ t. get_or reached t None) (sym same) ∙ here) none
+  where
+    clash : {o : Option ℕ} {x : ℕ} → o ≡ Some x → o ≡ None → ⊥
+    clash s n = cc
+way_there cat hops reached top identifier are here (suc steps) zero table up none few e = absurd (omega (arith, few))
+way_there cat hops reached top identifier are here (suc steps) (suc most) table up none few e =
+    let above = first_step cat.schema steps top table up in
+    by above.0 above.1 above.2 (get_or hops table None) refl
+    (λ other a r w. way_there cat hops reached top identifier are here steps most other a r (omega (arith, few)) w) e
+  where
+    some_is : {a b : ℕ} → Some a ≡ Some b → a ≡ b
+    some_is h = cc
+
+    by : (above : ℕ) → parent cat.schema table ≡ Some above → ancestor cat.schema steps above ≡ Some top → (found : Option Hop) → get_or hops table None ≡ found
+        → ((other : ℕ) → ancestor cat.schema steps other ≡ Some top → get_or reached other None ≡ None → way_to hops reached most other ≡ None → ⊥)
+        → along_hop table found reached (λ a. way_to hops reached most a) ≡ None → ⊥
+    by above p a None there rest h =
+        let no : IsHopOrNone cat table None = subst (IsHopOrNone cat table) there (are table) in
+        no_reference cat.schema table above p (sym (ap (option_and_then (λ b. reference_column cat.schema b table)) p) ∙ no)
+    by above p a (Some hop) there rest h =
+        let hop_is : IsHop cat table hop = subst (IsHopOrNone cat table) there (are table) in
+        let same : above ≡ hop.above = some_is (sym p ∙ hop_is.above_is) in
+        let both = follow_none table hop (get_or reached hop.above None) (way_to hops reached most hop.above) h in
+        rest hop.above (subst (λ t. ancestor cat.schema steps t ≡ Some top) same a) both.0 both.1
+
+pub nowhere_never : OneReading → AcceptedQueriesAreFollowed → (page : ℕ → List ℕ) (cat : Catalog) (asked : Query) (database : Database) (given : List Reply) (identifier : ℕ) (plan : RowPlan) (work : RowWork)
+    → Knows page cat asked database given → IsPlanOf cat asked plan → StandsFor cat asked database given identifier plan work → IsNowhere plan work → ⊥
+nowhere_never one accepted page cat asked database given identifier plan work knows plan_is stands is =
+    let below = wanted_below cat asked plan plan_is knows.text knows.meant knows.tree one accepted work is.table is.wanted in
+    by below.0 below.1
+  where
+    by : (steps : ℕ) → ancestor cat.schema steps is.table ≡ Some plan.top → ⊥
+    by zero up = way_there cat plan.hops.items work.reached plan.top identifier plan_is.hops stands.top 0 12 is.table up is.unreached (omega arith) is.no_way
+    by (suc steps) up =
+        let above = first_step cat.schema steps plan.top is.table up in
+        let there = table_with_parent cat.schema knows.tree is.table above.0 above.1 in
+        let short = way_is_short cat.schema knows.tree (suc steps) plan.top is.table there up in
+        let few = knows.tree.few_tables in
+        way_there cat plan.hops.items work.reached plan.top identifier plan_is.hops stands.top (suc steps) 12 is.table up is.unreached (omega (arith, short, few)) is.no_way
+
+-- ---- the beginning
+
+index_within : (counts : List ℕ) (table identifier : ℕ) → 1 ≤ identifier → identifier ≤ slice_index counts table → table < length counts
+index_within [] table identifier some within = absurd (omega (arith, some, within))
+index_within (count ∷ counts) zero identifier some within = omega arith
+index_within (count ∷ counts) (suc table) identifier some within = let later = index_within counts table identifier some within in omega (arith, later)
+
+itself : (schema : Schema) (table : ℕ) → ancestor schema 0 table ≡ Some table
+unfolding ancestor
+itself schema table = refl
+
+none_in : (n table : ℕ) → get_or {A = Option ℕ} (replicate n None) table None ≡ None
+none_in zero table = refl
+none_in (suc n) zero = refl
+none_in (suc n) (suc table) = none_in n table
+
+pub begin_stands : (cat : Catalog) (asked : Query) (database : Database) (given : List Reply) (identifier : ℕ) (plan : RowPlan) (work : RowWork)
+    → IsPlanOf cat asked plan → IsRowOf cat plan.top identifier → work.at ≡ 0 → work.values.items ≡ [] → work.reached ≡ slice_set (replicate 12 None) plan.top (Some identifier)
+    → StandsFor cat asked database given identifier plan work
+begin_stands cat asked database given identifier plan work plan_is row at_is values_are reached_are =
+    let low = index_within cat.counts plan.top identifier row.some row.within in
+    let few = plan_is.few_tables in
+    let within : plan.top < 12 = below low few in
+    let first = get_or-set_same (replicate 12 None) plan.top (Some identifier) None within in
+    record {
+      row = row;
+      top = ap (λ (r : List (Option ℕ)). get_or r plan.top None) reached_are ∙ first;
+      rows = λ table reached there. one_row within first table reached (nat_eq table plan.top) refl (sym (ap (λ (r : List (Option ℕ)). get_or r table None) reached_are) ∙ there);
+      met = ap (λ n. list_all (passes cat.schema database given plan.top identifier) (take n plan.tests.items)) at_is;
+      values = ap (λ v. map value_of v) values_are
+          ∙ ap (λ v. told (known_along cat.schema database given plan.top identifier) (take (length v) asked.select)) (sym values_are);
+    }
+  where
+    below : {a b : ℕ} → a < b → b ≤ 12 → a < 12
+    below low few = omega (arith, low, few)
+
+    some_is : {a b : ℕ} → Some a ≡ Some b → a ≡ b
+    some_is h = cc
+
+    is_itself : (reached : ℕ) → identifier ≡ reached → IsLedTo cat.schema database plan.top identifier plan.top reached
+    is_itself reached e = record {
+      below = (0, itself cat.schema plan.top);
+      led = to_itself_within cat.schema database cat.schema plan.top identifier plan.top refl ∙ ap Some e;
+    }
+
+    clash : {o : Option ℕ} {x : ℕ} → o ≡ Some x → o ≡ None → ⊥
+    clash s n = cc
+
+    one_row : plan.top < 12 → get_or (slice_set (replicate 12 None) plan.top (Some identifier)) plan.top None ≡ Some identifier → (table reached : ℕ) (b : Bool) → nat_eq table plan.top ≡ b
+        → get_or (slice_set (replicate 12 None) plan.top (Some identifier)) table None ≡ Some reached → IsLedTo cat.schema database plan.top identifier table reached
+    one_row within first table reached true e there =
+        let it = eqb-true table plan.top e in
+        let same : identifier ≡ reached = some_is (sym first ∙ ap (λ t. get_or (slice_set (replicate 12 None) plan.top (Some identifier)) t None) (sym it) ∙ there) in
+        subst (λ t. IsLedTo cat.schema database plan.top identifier t reached) (sym it) (is_itself reached same)
+    one_row within first table reached false e there =
+        absurd (clash (sym (get_or-set_other (replicate 12 None) plan.top table (Some identifier) None (eqb-false table plan.top e)) ∙ there) (none_in 12 table))

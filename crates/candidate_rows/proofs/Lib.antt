@@ -1,0 +1,9 @@
+mod HopLemmas
+mod ReadLemmas
+mod ValueLemmas
+mod WayLemmas
+mod TestLemmas
+mod StepLemmas
+mod TellLemmas
+mod FromLemmas
+mod AskLemmas

@@ -1,0 +1,5 @@
+pub mod Plans
+pub mod Working
+pub mod Steps
+pub mod Values
+pub mod Laws

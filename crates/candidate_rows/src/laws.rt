@@ -1,0 +1,17 @@
+//! Laws of the work on rows.
+
+ghost use Rattle.candidate_rows.specs.Laws.{TestsAreThoseOfAnswers, WholeRepliesAreOfAsked};
+
+/// A row of the top table is in the answer, with the selected values, exactly where it meets all tests of a plan.
+pub fn tests_are_those_of_answers()
+    ensures same { TestsAreThoseOfAnswers }
+{
+    ghost_model::query::one_reading();
+    ghost_model::meaning::rows_lead_to_rows();
+    ghost_laws::followed::accepted_queries_are_followed();
+}
+
+/// One reply to each ask of a query is about asked tables alone.
+pub fn whole_replies_are_of_asked()
+    ensures asked { WholeRepliesAreOfAsked }
+{}

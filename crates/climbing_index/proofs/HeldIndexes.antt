@@ -1,0 +1,120 @@
+-- A search over an index that pages hold finds by the column's values.
+use Rattle.std.proofs.Common.{◌≡◌, refl, sym, ap, ◌∙◌, ℕ, suc, ◌+◌, ◌<◌, Bool, true, ◌&&◌, nat_le, inl, inr, List, [], ◌∷◌, length, take, drop, get_or, Option, Some, None, slice_get, is_some, arith}
+use Rattle.std.specs.Option.{option_map}
+use Rattle.std.specs.Cmp.Lexicographic.{slice_cmp}
+use Rattle.std.specs.Ordering.{nat_cmp}
+use Rattle.std.proofs.Math.Seq.{take-append_seam}
+use Rattle.std.proofs.lemmas.Map.Keys.{Less-from_sorted}
+use Rattle.std.proofs.lemmas.List.Elements.{Contains-get_or}
+use Rattle.std.proofs.lemmas.List.FromFn.{get_or-map-range_with_len}
+use Rattle.std.proofs.lemmas.Option.{slice_get-get_or}
+use Rattle.ghost_model.specs.core.Schema as schema
+use Rattle.ghost_model.specs.core.Channel.{Catalog}
+use Rattle.ghost_model.specs.core.Asks.{kind_at}
+use Rattle.ghost_model.specs.core.Split.{Hidden}
+use Rattle.ghost_model.specs.readings.CellReading.{decode_cell}
+use Rattle.ghost_model.specs.laws.LayoutLaws.{LieAsSummed, AreFew, LayoutIsSmall, FilesLieAsSummed}
+use Rattle.ghost_model.specs.laws.FlashLaws.{CellsFit, HiddenCellsFit}
+use Rattle.ghost_model.specs.laws.RunLaws.{NumbersAreRead}
+use Rattle.ghost_model.specs.forms.Runs.{record_at, number_in}
+use Rattle.ghost_model.specs.forms.Layout.{is_hidden, width_at, count_of, levels_of, index_directory, index_level}
+use Rattle.ghost_model.specs.forms.Flash.{hidden_cells, directory_record, value_lists}
+use Rattle.ghost_model.specs.forms.Slots as slots
+use Rattle.ghost_base.specs.Views.{kind_of}
+use Rattle.ghost_base.specs.declared.kind.Kind.{Kind}
+use Rattle.climbing_index.specs.declared.directory.LevelFile.{LevelFile}
+use Rattle.climbing_index.specs.declared.index.ClimbingIndex.{ClimbingIndex}
+use Rattle.climbing_index.specs.Directories.{spells, are_places, entry_stands}
+use Rattle.climbing_index.specs.Indexes.{IsIndexOf}
+use Rattle.climbing_index.specs.Searches.{header_stands}
+use Rattle.climbing_index.specs.Laws.{HoldsEntriesBut, HeldIndexesHaveEntries, IsOfValues, SearchesFindByValues}
+use Rattle.climbing_index.proofs.LevelFiles.{how_many, at_level, its_level}
+
+pub have_entries : HeldIndexesHaveEntries
+unfolding record_at
+have_entries page cat hidden table column holds few = record {
+  are_values = holds.are_values;
+  few = few;
+  header = inl (holds.header.has.each 0 (omega arith));
+  entries = λ entry low.
+      let e : 0 + entry ≡ entry = omega arith in
+      inl
+      (holds.entries.places.has.each entry low
+      ∙ get_or-map-range_with_len (directory_record holds.values (levels_of cat.schema table) (value_lists cat hidden table column holds.values)) 0 (length holds.values) entry entry [] low e);
+}
+
+-- the words of an index are those of the layout's slots
+abbrev by_kind : Option schema.Kind → List ℕ → Bool
+by_kind None bytes = true
+by_kind (Some kind) bytes = is_some (decode_cell kind bytes)
+
+spells_by : (kind : Option Kind) (bytes : List ℕ) → spells kind bytes ≡ by_kind (option_map kind_of kind) bytes
+spells_by None bytes = refl
+spells_by (Some kind) bytes = refl
+
+same_places : (cat : Catalog) (levels : List LevelFile) (tables : List ℕ) → length levels ≡ length tables
+    → ((level : ℕ) (file : LevelFile) → slice_get levels level ≡ Some file → file.count ≡ count_of cat (get_or tables level 0))
+    → (bytes : List ℕ) → are_places levels bytes ≡ slots.are_places cat tables bytes
+same_places cat [] [] size counts bytes = refl
+same_places cat [] (table ∷ tables) size counts bytes = absurd (omega (arith, size))
+same_places cat (level ∷ levels) [] size counts bytes = absurd (omega (arith, size))
+same_places cat (level ∷ levels) (table ∷ tables) size counts bytes =
+    let here = counts 0 level refl in
+    let rest = same_places cat levels tables (omega (arith, size)) (λ k file at. counts (suc k) file at) (drop 8 bytes) in
+    ap (λ n. nat_le (slots.list_end bytes) n && are_places levels (drop 8 bytes)) here
+    ∙ ap (λ b. nat_le (slots.list_end bytes) (count_of cat table) && b) rest
+
+module _ (cat : Catalog) (laid : LieAsSummed cat) (table column : ℕ) (hidden_is : is_hidden cat.schema table column ≡ true)
+    (index : ClimbingIndex) (is : IsIndexOf cat table column index) where
+  pub same_entry : (bytes : List ℕ) → entry_stands index.directory bytes ≡ slots.may_stand cat (slots.IndexDirectory table column) bytes
+  same_entry bytes =
+      let levels = index.directory.levels.items in
+      let count = length (levels_of cat.schema table) in
+      let size = how_many (index_level cat table column) count levels is.levels_are in
+      let places = same_places cat levels (levels_of cat.schema table) size
+      (λ level one at.
+      let low = its_level (index_level cat table column) count levels is.levels_are level one at in
+      ap (λ r. r.count) (at_level (index_level cat table column) count levels is.levels_are level one at ∙ laid.index_level table column level hidden_is low)) in
+      ap (λ n. spells index.directory.kind (take n bytes) && are_places levels (drop n bytes)) is.cell_is
+      ∙ (ap (λ b. b && are_places levels (drop (width_at cat.schema table column) bytes))
+      (spells_by index.directory.kind (take (width_at cat.schema table column) bytes)
+      ∙ ap (λ k. by_kind k (take (width_at cat.schema table column) bytes)) is.kind_is)
+      ∙ ap (λ b. is_some (decode_cell (kind_at cat.schema table column) (take (width_at cat.schema table column) bytes)) && b)
+      (places (drop (width_at cat.schema table column) bytes)))
+
+  module _ (page : ℕ → List ℕ) (hidden : Hidden) (few : AreFew cat) (fit : CellsFit cat hidden) (read : NumbersAreRead) (values : List (List ℕ))
+      (holds : HoldsEntriesBut page cat hidden table column values) where
+    value_width : (entry : ℕ) → entry < length values → length (get_or values entry []) ≡ width_at cat.schema table column
+    value_width entry low =
+        let value = get_or values entry [] in
+        let cells = hidden_cells cat.schema hidden table column in
+        let has = holds.are_values.only value (Contains-get_or values entry [] low) in
+        fit.width table column has.0 value hidden_is (slice_get-get_or cells has.0 value has.1 ∙ ap Some has.2)
+
+    pub of_values : IsOfValues page index values
+    of_values =
+        let rows = few.rows table in
+        let size = holds.few in
+        let w = width_at cat.schema table column in
+        record {
+          has = record {
+            header = elim holds.header [
+              | inl e ↦ inl (ap (λ r. number_in (record_at page r 0) 0) is.header_is ∙ (ap (λ b. number_in b 0) e ∙ read (length values) (omega (arith, rows, size))))
+              | inr wrong ↦ inr ((λ i. header_stands (is.run_is i).count (record_at page (is.header_is i) 0)) ∙ wrong)
+            ];
+            entries = λ entry low.
+                elim (holds.entries entry low) [
+                  | inl e ↦ inl ((λ i. take (is.cell_is i) (record_at page (is.run_is i) entry))
+                      ∙ (ap (take w) e
+                      ∙ (ap (λ n. take n (directory_record values (levels_of cat.schema table) (value_lists cat hidden table column values) entry)) (sym (value_width entry low))
+                      ∙ take-append_seam (get_or values entry []) _)))
+                  | inr wrong ↦ inr (ap (λ r. entry_stands index.directory (record_at page r entry)) is.run_is
+                      ∙ (same_entry (record_at page (index_directory cat table column) entry) ∙ wrong))
+                ];
+          };
+          ascend = λ entry later less low. Less-from_sorted (slice_cmp nat_cmp) values entry later [] holds.are_values.ascending less low;
+        }
+
+pub by_values : HiddenCellsFit → LayoutIsSmall → FilesLieAsSummed → NumbersAreRead → SearchesFindByValues
+by_values fit small laid read page cat hidden limited goes table column h values holds index is =
+    of_values cat (laid cat) table column h index is page hidden (small.few cat limited) (fit cat hidden limited.tree goes) read values holds

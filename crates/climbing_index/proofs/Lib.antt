@@ -1,0 +1,10 @@
+pub mod Entries
+pub mod LevelFiles
+pub mod ReadableFiles
+pub mod Narrowing
+pub mod Frames
+pub mod Between
+pub mod Finding
+pub mod HeldIndexes
+pub mod Cuts
+pub mod BlamedSlots

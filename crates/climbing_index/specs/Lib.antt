@@ -1,0 +1,5 @@
+pub mod Directories
+pub mod Indexes
+pub mod Searches
+pub mod Laws
+pub mod Ids

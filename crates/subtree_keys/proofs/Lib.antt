@@ -1,0 +1,3 @@
+pub mod Records
+pub mod ReadableTables
+pub mod HeldTables
