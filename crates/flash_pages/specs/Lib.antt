@@ -1,7 +1,6 @@
 pub mod Runs
 pub mod Faults
 pub mod Holding
-pub mod Held
 pub mod Reads
 pub mod Cursors
 pub mod Looking

@@ -10,7 +10,6 @@ pub mod fault;
 pub mod filler;
 pub mod filling;
 pub mod fixed;
-pub mod held;
 pub mod load;
 pub mod writer;
 

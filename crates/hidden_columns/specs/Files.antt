@@ -1,5 +1,5 @@
 -- The file of a hidden column, and what a call on it gives.
-use Rattle.std.specs.Prelude.{◌≡◌, ℕ, ◌-◌, ◌≤◌, ⊤, pos, List, Option, Some, None, Result, Ok, Err, IsTrue}
+use Rattle.std.specs.Prelude.{◌≡◌, ℕ, ◌-◌, ◌≤◌, ⊤, pos, List, length, Option, Some, None, Result, Ok, Err, IsTrue}
 use Rattle.ghost_model.specs.core.Values.{Value, Number}
 use Rattle.ghost_model.specs.core.Channel.{Catalog}
 use Rattle.ghost_model.specs.forms.Cells.{cell_width}
@@ -67,21 +67,13 @@ abbrev pub GivesSlot : {T : Type 0} → (T → Value) → (ℕ → List ℕ) →
 GivesSlot value page file identifier (Ok given) = slot_value page file identifier ≡ Some (value given)
 GivesSlot value page file identifier (Err fault) = FailsAt page file identifier fault
 
--- where the slot spells a value, a call gives that one or the flash failed: no slot is blamed
-abbrev pub IsFlash : PageFault → Type 0
-IsFlash Flash = ⊤
-IsFlash (Damaged number slot found) = ⊥
-
-abbrev pub GivesOrFails : {T : Type 0} → (T → Value) → (wanted : Value) → Result T PageFault → Type 0
-GivesOrFails value wanted (Ok given) = value given ≡ wanted
-GivesOrFails value wanted (Err fault) = IsFlash fault
-
 -- A slot that is blamed is that of the row. What a read from that count of calls on gave there spells no value of the column.
 pub record BlamesSlot (since : ℕ) (device : Device) (file : ColumnFile) (identifier number slot found : ℕ) : Type 0 where
   pub page_is : number ≡ slot_page file identifier
   pub slot_is : slot ≡ slot_place file identifier
   pub bytes : List ℕ
   pub read : WasRead since device (run_of file.run) (identifier - 1) bytes
+  pub wide : length bytes ≡ file.run.width
   pub no_value : value_spelled file bytes ≡ None
   pub found_is : found ≡ found_in bytes
 

@@ -5,7 +5,6 @@
 #![tactic(auto)]
 
 pub mod file;
-pub mod held;
 pub mod laws;
 mod range;
 

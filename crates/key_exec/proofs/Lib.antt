@@ -1,6 +1,7 @@
-pub mod Readings
-pub mod LinkLemmas
-pub mod LeadLemmas
 pub mod RowLemmas
 pub mod BlameLemmas
+pub mod LeaseLemmas
+pub mod StepLemmas
+pub mod ScanLemmas
 pub mod TurnLemmas
+pub mod AskedLemmas

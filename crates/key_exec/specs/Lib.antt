@@ -1,6 +1,6 @@
-pub mod Held
-pub mod Reading
 pub mod Plans
-pub mod RowsGiven
-pub mod Jobs
+pub mod Reading
 pub mod Blaming
+pub mod Jobs
+pub mod Ready
+pub mod Laws

@@ -6,13 +6,7 @@
 #![tactic(auto)]
 
 pub mod job;
-mod known;
-mod leading;
-mod links;
-pub mod pages;
-mod rows;
-mod scan;
-mod values;
+pub mod laws;
+mod lending;
 
 pub use job::{Job, Row, Turn};
-pub use pages::Pages;

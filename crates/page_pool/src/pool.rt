@@ -28,6 +28,19 @@ impl Model for Lease {
     ghost view = { λ lease. lease.slot };
 }
 
+/// The lease of no buffer, for the unused places of a list of leases: its number is above that of every pool's buffers.
+impl Default for Lease {
+    ghost use Rattle.std.specs.Prelude.{◌≡◌};
+
+    ghost is_default = { λ lease. lease ≡ 64 };
+
+    fn default() -> Self {
+        Lease {
+            slot: MAX_BUFFERS as usize,
+        }
+    }
+}
+
 /// Page buffers of 2,048 bytes each, of which some are out under leases.
 #[derive(Drop)]
 pub struct PagePool {
