@@ -47,7 +47,8 @@ fn catalog_in(alloc: Global, cat: &Catalog, room: usize) -> Result<Vec<u8>, Allo
 /// are more.
 #[tactic(auto, using(crate::proofs::ImageLengths::all_lengths))]
 fn image_len(cat: &Catalog, public: &Public) -> usize
-    ensures { result ≡ counted (image_bytes cat.now public.now) }
+    ensures rows { result ≡ counted (image_bytes cat.now public.now) }
+    ensures whole { parts.IsPublic cat.now public.now → result ≡ counted (length (parts.image cat.now public.now)) }
 {
     let schema = cat.schema();
     let mut len = catalog_len(cat) as usize;
