@@ -43,12 +43,12 @@ fn catalog_in(alloc: Global, cat: &Catalog, room: usize) -> Result<Vec<u8>, Allo
     Ok(out)
 }
 
-/// How many bytes are to be reserved for an image: as many as the image of whole rows has, or the greatest count where they
-/// are more.
+/// How many bytes are to be reserved for an image: those that it has, where the public part goes with the catalog; and in any
+/// case as many as the image of whole rows has, or the greatest count where they are more.
 #[tactic(auto, using(crate::proofs::ImageLengths::all_lengths))]
 fn image_len(cat: &Catalog, public: &Public) -> usize
     ensures rows { result ≡ counted (image_bytes cat.now public.now) }
-    ensures whole { parts.IsPublic cat.now public.now → result ≡ counted (length (parts.image cat.now public.now)) }
+    ensures whole { parts.IsPublic cat.now public.now → result ≡ length (parts.image cat.now public.now) }
 {
     let schema = cat.schema();
     let mut len = catalog_len(cat) as usize;

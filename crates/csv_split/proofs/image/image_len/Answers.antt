@@ -24,4 +24,5 @@ loop-table-preserved c =
 pub returns-clause-whole : goal.returns-clause-whole
 returns-clause-whole c =
     let past : length c.schema-schema.result.now ≤ c.loop-table.table = omega (arith, c.loop-table-test.false, c.tables-table-end.ensures.count) in
-    whole_length c.args.cat.now c.args.public.now c.loop-table.table c.loop-table.len c.loop-table.invariant (rw c.schema-schema.ensures.value at past)
+    let short : length (catalog_bytes c.args.cat.now) ≤ 16640 = rw c.catalog_len-len.ensures.value at c.catalog_len-len.ensures.most in
+    whole_length c.args.cat.now c.args.public.now c.loop-table.table c.loop-table.len c.catalog_len-len.ensures.catalog short c.loop-table.invariant (rw c.schema-schema.ensures.value at past)
