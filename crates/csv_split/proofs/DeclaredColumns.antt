@@ -18,7 +18,7 @@ lower : (name : List ℕ) → is_name name ≡ true → in_lower_case name ≡ n
 unfolding is_name
 lower name h = (bytes_eq-Decides (in_lower_case name) name).0 (second_so _ _ (first_so _ _ h))
 
-narrow : (kind : Kind) → ((most : ℕ) → kind ≡ Chars most → (1 ≤ most) × (most ≤ 64)) → cell_width kind ≤ 64
+pub narrow : (kind : Kind) → ((most : ℕ) → kind ≡ Chars most → (1 ≤ most) × (most ≤ 64)) → cell_width kind ≤ 64
 narrow Integer short = lit< tt
 narrow (Chars most) short = (short most refl).1
 

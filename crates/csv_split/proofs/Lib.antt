@@ -17,3 +17,4 @@ pub mod SplitParts
 pub mod ImageCells
 pub mod RejoinedParts
 mod ImageLengths
+mod ImageBytes

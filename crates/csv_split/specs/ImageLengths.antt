@@ -1,10 +1,10 @@
 -- How many bytes a visible image has where each row of it has a value for each visible column of its table.
-use Rattle.std.specs.Prelude.{ℕ, ◌+◌, ◌*◌, ◌-◌, ◌^◌, min, List, [], ◌∷◌, drop, length, if◌then◌else◌}
+use Rattle.std.specs.Prelude.{◌≡◌, ℕ, ◌+◌, ◌*◌, ◌-◌, ◌^◌, min, List, [], ◌∷◌, drop, length, if◌then◌else◌}
 use Rattle.ghost_model.specs.forms.Catalog.{catalog_bytes}
 use Rattle.ghost_model.specs.forms.Cells.{cell_width}
 use Rattle.ghost_model.specs.core.Channel.{Catalog}
 use Rattle.ghost_model.specs.core.Schema.{Schema, Column}
-use Rattle.ghost_model.specs.core.Split.{Public}
+use Rattle.ghost_model.specs.core.Split.{Public, SpellsImage}
 use Rattle.ghost_model.specs.core.Values.{Rows}
 
 -- a number of bytes as it is counted, where more than the greatest count are that
@@ -28,3 +28,8 @@ tables_bytes (table ∷ tables) (rows ∷ visible) = row_bytes (drop 1 table.col
 -- the catalog, and the rows of all tables
 abbrev pub image_bytes : Catalog → Public → ℕ
 image_bytes cat public = length (catalog_bytes cat) + tables_bytes cat.schema public.visible
+
+-- bytes that are a visible image are so many
+abbrev pub ImagesHaveTheirBytes : Type 0
+ImagesHaveTheirBytes =
+    (cat : Catalog) (public : Public) (bytes : List ℕ) → SpellsImage cat public bytes → length bytes ≡ image_bytes cat public

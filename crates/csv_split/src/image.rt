@@ -1,6 +1,6 @@
 //! The visible image: the catalog and the cells of the visible columns, row by row.
 
-ghost use Rattle.std.specs.Prelude.{◌≡◌, pos, ◌≤◌, ◌<◌, ◌*◌, ◌++◌, ◌∷◌, [], map, filter, flat_map, length, replicate, get_or, IfOk, OnOk};
+ghost use Rattle.std.specs.Prelude.{◌≡◌, pos, ◌≤◌, ◌<◌, ◌*◌, ◌++◌, ◌∷◌, [], map, filter, flat_map, length, replicate, get_or, vec_capacity, IfOk, OnOk};
 ghost use Rattle.ghost_model.specs.forms.Catalog.{catalog_bytes};
 ghost use Rattle.ghost_model.specs.forms.Cells as cells;
 ghost use Rattle.ghost_model.specs.core.Split as parts;
@@ -35,7 +35,8 @@ pub fn visible_image(alloc: Global, cat: &Catalog, public: &Public) -> Result<Ve
 
 /// The bytes of a catalog, with room for so many bytes in all.
 fn catalog_in(alloc: Global, cat: &Catalog, room: usize) -> Result<Vec<u8>, AllocError>
-    ensures { IfOk result (λ bytes. bytes.items ≡ catalog_bytes cat.now) }
+    ensures value { IfOk result (λ bytes. bytes.items ≡ catalog_bytes cat.now) }
+    ensures room { IfOk result (λ bytes. room ≤ vec_capacity bytes) }
 {
     let mut out = Vec::with_capacity(alloc, room)?;
     out.resize(catalog_len(cat) as usize, 0)?;
@@ -43,11 +44,12 @@ fn catalog_in(alloc: Global, cat: &Catalog, room: usize) -> Result<Vec<u8>, Allo
     Ok(out)
 }
 
-/// How many bytes are to be reserved for an image: as many as the image of whole rows has, or the greatest count where they
-/// are more.
+/// How many bytes are to be reserved for an image: those that it has, where the public part goes with the catalog; and in any
+/// case as many as the image of whole rows has, or the greatest count where they are more.
 #[tactic(auto, using(crate::proofs::ImageLengths::all_lengths))]
 fn image_len(cat: &Catalog, public: &Public) -> usize
-    ensures { result ≡ counted (image_bytes cat.now public.now) }
+    ensures rows { result ≡ counted (image_bytes cat.now public.now) }
+    ensures whole { parts.IsPublic cat.now public.now → result ≡ length (parts.image cat.now public.now) }
 {
     let schema = cat.schema();
     let mut len = catalog_len(cat) as usize;
