@@ -1,5 +1,6 @@
 pub mod Coming
 pub mod Adding
+pub mod OfAsked
 pub mod OneMore
 pub mod Attending
 pub mod Moving

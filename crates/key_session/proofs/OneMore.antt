@@ -1,5 +1,5 @@
 -- A teller after one more text.
-use Rattle.std.proofs.Common.{◌≡◌, ◌≤◌, ℕ, suc, ◌+◌, arith, Bool, true, false, List, ◌∷◌, refl, sym, ap, ◌∙◌, subst, Some, slice_get}
+use Rattle.std.proofs.Common.{◌≡◌, ◌≤◌, ℕ, suc, ◌+◌, arith, Bool, true, false, List, ◌∷◌, refl, sym, ap, ◌∙◌, subst, Some, Ok, slice_get}
 use Rattle.edge_traits.proofs.DeviceFrames.{kept_trans}
 use Rattle.std.specs.Prelude.{min}
 use Rattle.ghost_model.specs.core.Causes.{last_count}
@@ -9,7 +9,9 @@ use Rattle.ghost_model.specs.core.Asks.{asked_of}
 use Rattle.ghost_model.specs.core.Moves.{taken}
 use Rattle.ghost_model.specs.core.NextMove.{standing_after}
 use Rattle.ghost_model.specs.core.Split.{hidden_of}
-use Rattle.ghost_model.specs.core.Replies.{replies}
+use Rattle.ghost_model.specs.core.Query.{Query}
+use Rattle.ghost_model.specs.core.Replies.{Reply, replies}
+use Rattle.ghost_model.specs.readings.QueryReading.{reading}
 use Rattle.edge_traits.specs.Devices.{Device, KeepsPages}
 use Rattle.channel_pump.specs.Marks.{state_of}
 use Rattle.channel_pump.specs.declared.state.ReplyState.{ReplyState}
@@ -22,7 +24,8 @@ use Rattle.session_replies.specs.Halves.{kept}
 use Rattle.session_replies.specs.Kept.{IsKept, expected, done_of}
 use Rattle.session_replies.specs.declared.replies.Replies.{Replies}
 use Rattle.key_lines.specs.Handing.{PiecesJoin}
-use Rattle.key_exec.specs.Reading.{Knows}
+use Rattle.key_exec.specs.Laws.{WholeRepliesAreOfAsked}
+use Rattle.key_exec.specs.Reading.{Knows, AreOfAsked}
 use Rattle.text_lines.specs.Rows.{PrintsSome}
 use Rattle.text_lines.specs.Texts.{TellsText, ToldTells, ToldCalls, ToldBlames, IsToldBy, Why}
 use Rattle.text_lines.specs.declared.text.Told.{Told}
@@ -33,6 +36,7 @@ use Rattle.key_session.specs.Reasons.{HaveReasons, HasReason}
 use Rattle.key_session.specs.Telling.{SessionSide, IsTold, AreTold, AreLeft, CameOut, IsTelling}
 use Rattle.key_session.specs.declared.teller.Teller.{Teller}
 use Rattle.key_session.proofs.Coming.{told_so, done_so, all_is_done, reason_so}
+use Rattle.key_session.proofs.OfAsked.{replies_of_asked}
 use Rattle.key_session.proofs.Adding.{one_told, one_reason, one_damage, called_more, damage_called_more, still_no_fall, next_of, next_number, left_more, some_more}
 
 -- the count of faults never falls, but for its last value
@@ -64,7 +68,7 @@ kept_is_done catalog texts journal low top text replies k from valid settled = k
     by true = all_is_done catalog texts journal text settled
     by false = refl
 
-pub tell_one : PiecesJoin → TextsAreDecided → StoredAreGiven → RepliesAscend → (pages_told : Bool) (catalog : Catalog) (texts : List (List ℕ)) (journal : Journal) (top : ℕ) (since between now : SessionSide)
+pub tell_one : PiecesJoin → TextsAreDecided → StoredAreGiven → RepliesAscend → WholeRepliesAreOfAsked → (pages_told : Bool) (catalog : Catalog) (texts : List (List ℕ)) (journal : Journal) (top : ℕ) (since between now : SessionSide)
     (old new : Teller) (before after : Replies) (written : List ℕ) (state : ReplyState) (stored : List Stored) (result : Told)
     → IsTelling pages_told catalog texts journal top since between old before
     → old.texts ≡ written ∷ new.texts → new.count ≡ old.count + 1
@@ -73,6 +77,7 @@ pub tell_one : PiecesJoin → TextsAreDecided → StoredAreGiven → RepliesAsce
     → state ≡ state_of (asked_of catalog.schema texts) (old.count + 1) (standing_after catalog (asked_of catalog.schema texts) journal)
     → stored ≡ kept before (old.count + 1)
     → ((database : Database) → Knows pages_told between.flash.page catalog database → (state ≡ state_is.Done → are_ascending (replies_in stored) ≡ true)
+    → (state ≡ state_is.Done → (query : Query) → reading catalog.schema written ≡ Ok query → AreOfAsked catalog.schema query (replies_in stored))
     → TellsText catalog.schema (hidden_of catalog.schema database) (replies_in stored) (old.count + 1) written state between.sink now.sink result)
     → PrintsSome between.sink now.sink → KeepsPages between.flash now.flash
     → min between.flash.calls last_count ≤ now.flash.calls → ToldCalls between.flash.calls now.flash.calls result → ToldTells between.flash.faults now.flash.faults result
@@ -80,7 +85,7 @@ pub tell_one : PiecesJoin → TextsAreDecided → StoredAreGiven → RepliesAsce
     → IsToldBy catalog.schema written state result
     → new.counts.damage ≡ first_damage old.counts.damage (damage_in result) → ToldBlames pages_told now.flash.page catalog result
     → IsTelling pages_told catalog texts journal top since now new after
-tell_one join decided same ascend pages_told catalog texts journal top since between now old new before after written state stored result telling next more came kept_now is_state is_stored tells prints pages calls called faults counted by first blames = record {
+tell_one join decided same ascend whole pages_told catalog texts journal top since between now old new before after written state stored result telling next more came kept_now is_state is_stored tells prints pages calls called faults counted by first blames = record {
   left = subst (λ (n : ℕ). AreLeft texts new.texts n) (sym more) (left_more texts old.count old.texts new.texts written telling.left next);
   kept = subst (λ (n : ℕ). IsKept catalog (heard_in catalog texts journal) (n + 1) top after) (sym more) kept_now;
   near = (let near : top ≤ old.count + 2 = telling.near in omega (arith, near, more));
@@ -95,7 +100,7 @@ tell_one join decided same ascend pages_told catalog texts journal top since bet
   reasons = subst (λ (n : ℕ). HaveReasons catalog texts journal n (λ reasons. AreKept pages_told since.flash.page catalog reasons new.counts) since.flash.faults now.flash.faults) (sym more)
       (one_reason pages_told since.flash.page catalog texts journal old.count old.counts new.counts since.flash.faults between.flash.faults now.flash.faults result telling.reasons has_reason faults counted first blames_now);
   told = λ database knows.
-      let lines = tells database (subst (λ (p : ℕ → List ℕ). Knows pages_told p catalog database) (sym telling.pages.page) knows) ascends in
+      let lines = tells database (subst (λ (p : ℕ → List ℕ). Knows pages_told p catalog database) (sym telling.pages.page) knows) ascends of_asked in
       subst (λ (n : ℕ). AreTold catalog (hidden_of catalog.schema database) texts journal n (λ reasons. AreUndamaged reasons new.counts) since now) (sym more)
       (one_told join catalog (hidden_of catalog.schema database) texts journal old.count old.counts new.counts since between now result lines.lines
       (telling.told database knows) (is_told database lines) lines.handed faults counted);
@@ -123,6 +128,16 @@ tell_one join decided same ascend pages_told catalog texts journal top since bet
         ap (λ (xs : List Stored). are_ascending (replies_in xs)) (is_done e ∙ sym (all_is_done catalog texts journal (old.count + 1) (settled e)))
         ∙ ascend catalog texts (taken journal) (old.count + 1)
 
+    are_given : state ≡ state_is.Done → replies_in stored ≡ replies catalog (asked_of catalog.schema texts) journal (suc old.count)
+    are_given e =
+        ap replies_in (is_done e) ∙ same catalog (asked_of catalog.schema texts) journal (old.count + 1)
+        ∙ ap (λ (n : ℕ). replies catalog (asked_of catalog.schema texts) journal n) (sym number)
+
+    of_asked : state ≡ state_is.Done → (query : Query) → reading catalog.schema written ≡ Ok query → AreOfAsked catalog.schema query (replies_in stored)
+    of_asked e query accepted =
+        subst (λ (given : List Reply). AreOfAsked catalog.schema query given) (sym (are_given e))
+        (replies_of_asked whole catalog texts journal old.count written query here accepted)
+
     here_is : state ≡ state_of (asked_of catalog.schema texts) (suc old.count) (standing_after catalog (asked_of catalog.schema texts) journal)
     here_is = subst (λ (n : ℕ). state ≡ state_of (asked_of catalog.schema texts) n (standing_after catalog (asked_of catalog.schema texts) journal)) (sym number) is_state
 
@@ -143,5 +158,5 @@ tell_one join decided same ascend pages_told catalog texts journal top since bet
         (λ query accepted. decided catalog texts journal old.count written query here accepted)
         (λ query accepted. came old.count written query (next_number old.count) here accepted)
         (replies_in stored) state here_is
-        (λ e. ap replies_in (is_done e) ∙ same catalog (asked_of catalog.schema texts) journal (old.count + 1) ∙ ap (λ (n : ℕ). replies catalog (asked_of catalog.schema texts) journal n) (sym number))
+        are_given
         lines.lines result (subst (λ (n : ℕ). Why catalog.schema (hidden_of catalog.schema database) (replies_in stored) n written state lines.lines result) (sym number) lines.why)

@@ -13,6 +13,7 @@ use crate::teller::Teller;
 use channel_pump::state::Pump;
 use edge_traits::flash::Flash;
 use edge_traits::sink::Sink;
+use key_exec::laws::whole_replies_are_of_asked;
 use key_lines::printer::pieces_join;
 use page_pool::PagePool;
 use reply_laws::stores::{replies_ascend, replies_fit, stored_are_given};
@@ -51,6 +52,7 @@ impl<'a> Teller<'a> {
         texts_are_decided();
         stored_are_given();
         replies_ascend();
+        whole_replies_are_of_asked();
         let Some(text) = self.texts.next() else {
             return false;
         };

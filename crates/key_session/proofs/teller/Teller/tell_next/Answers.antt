@@ -6,7 +6,7 @@ use Rattle.key_session.proofs.teller.Teller.tell_next.Goals as goal
 pub returns-clause-told : goal.returns-clause-told
 returns-clause-told g c = λ texts journal top since after came telling.
     let near : top ≤ c.args.self.now.count + 2 = telling.near in
-    tell_one c.pieces_join.ensures c.texts_are_decided.ensures c.stored_are_given.ensures c.replies_ascend.ensures _ c.args.cat.now texts journal top since _ _
+    tell_one c.pieces_join.ensures c.texts_are_decided.ensures c.stored_are_given.ensures c.replies_ascend.ensures c.whole_replies_are_of_asked.ensures.asked _ c.args.cat.now texts journal top since _ _
     c.args.self.now _ c.args.replies.now _ c.in-Some.text.now c.reply_state-state.result c.store.result.now.stored c.print_text-told.result
     telling c.in-Some.ensures.taken refl came
     (c.leave_earlier.ensures.kept c.args.cat.now (heard_in c.args.cat.now texts journal) top (omega arith) (omega (arith, near)) telling.kept)
