@@ -20,8 +20,11 @@ use Rattle.key_exec.specs.Laws.{WholeRepliesAreOfAsked}
 use Rattle.key_exec.specs.Reading.{AreOfAsked}
 
 -- an ask of a table weighs 1, and one of a text and a table
+abbrev once : Bool → ℕ
+once is = if is then 1 else 0
+
 abbrev of_table : (table : ℕ) → NumberedAsk → ℕ
-of_table table one = if one.ask.table == table then 1 else 0
+of_table table one = once (one.ask.table == table)
 
 abbrev of_both : (text table : ℕ) → NumberedAsk → ℕ
 of_both text table one = if one.text == text then of_table table one else 0
@@ -44,7 +47,7 @@ none_weigh number table (ask ∷ asks) e =
     let first = sum_by-cons (of_table table) (asked number ask) (map (asked number) asks) in
     let zero : of_table table (asked number ask) + sum_by (of_table table) (map (asked number) asks) ≡ 0 =
     (elim (ask.table == table) as (λ v. (if v then Some (bare ask) else reply_about table (map bare asks)) ≡ None
-    → (if v then 1 else 0) + sum_by (of_table table) (map (asked number) asks) ≡ 0) [
+    → once v + sum_by (of_table table) (map (asked number) asks) ≡ 0) [
       | true ↦ λ h. let bad : ⊥ = cc in absurd bad
       | false ↦ λ h. (let rest = none_weigh number table asks h in omega (arith, rest))
     ]) e in
@@ -83,7 +86,7 @@ none_replied schema text table (end ∷ ends) e =
     by : (ending : Ending) → of_table table end.asked ≡ 0 → reply_about table later ≡ None → reply_about table (cons_option (reply_of schema end.asked ending) later) ≡ None
     by (Refused code) h none = none
     by (Answered rows) h none =
-        (elim (end.asked.ask.table == table) as (λ v. (if v then 1 else 0) ≡ 0 → (if v then reply_of schema end.asked (Answered rows) else reply_about table later) ≡ None) [
+        (elim (end.asked.ask.table == table) as (λ v. once v ≡ 0 → (if v then reply_of schema end.asked (Answered rows) else reply_about table later) ≡ None) [
           | true ↦ λ bad. absurd (omega (arith, bad))
           | false ↦ λ fine. none
         ]) h
