@@ -1,14 +1,15 @@
 //! The key's answer of a query over the clinic.
 
 use crate::clinic::{CATALOG, ask_for, device};
+use channel_pump::state::ReplyState;
 use edge_traits::flash::{AttachFault, Flash};
 use edge_traits::mem_sink::MemSink;
 use flash_layout::need;
-use key_exec::{Job, Pages, Row, Turn};
 use key_lines::Printer;
 use leakless_plan::Plan;
+use page_pool::PagePool;
 use reply_store::ReplyStore;
-use spj_parse::read_query;
+use text_lines::{Told, print_text};
 use tree_schema::read_catalog;
 
 /// The visits in some days with doctors of one country.
@@ -19,34 +20,38 @@ const VISITS: &[u8] =
 const DAYS: &[u8] =
     b"\0\0\0\x01\x80\0\0\0\0\0\0\x05\0\0\0\x02\x80\0\0\0\0\0\0\x05\0\0\0\x03\x80\0\0\0\0\0\0\x09";
 
-const LINES: &[u8] = b"> 2\tBob\t5\n> 3\tAnn\t9\n";
+const LINES: &[u8] = b"> 2\tBob\t5\n> 3\tAnn\t9\n= 1 2\n";
 
 #[test]
-fn an_answer_comes_in_slices(rt: HostRuntime) -> Result<(), AttachFault> {
+fn an_answer_is_printed_through_eight_buffers(rt: HostRuntime) -> Result<(), AttachFault> {
     let cat = read_catalog(CATALOG).expect(&rt, "the catalog");
-    let query = read_query(cat.schema(), VISITS).expect(&rt, "the query");
     let mut flash = device(rt.alloc())?;
     assert!(rt; need(&cat) <= flash.pages());
+    let before = flash.script.calls;
     let mut store = ReplyStore::new(rt.alloc(), &cat)?;
     store.begin_ask(cat.schema(), &ask_for(2));
     store.push_rows(DAYS);
     let mut out = MemSink::new(rt.alloc(), 99, 99, &[])?;
     let mut printer = Printer::new();
-    let mut job = Job::begin(&cat, &query, Plan::Scan);
-    let mut pages = Pages::none();
-    let mut row = Row::new();
-    let first = job.slice(&mut flash, &mut pages, &store, &mut row);
-    assert!(rt; matches!(first, Turn::More));
-    assert!(rt; flash.script.calls == 4);
-    let second = job.slice(&mut flash, &mut pages, &store, &mut row);
-    assert!(rt; matches!(second, Turn::Line));
-    printer.row(&mut out, row.as_slice());
-    let third = job.slice(&mut flash, &mut pages, &store, &mut row);
-    assert!(rt; matches!(third, Turn::Line));
-    printer.row(&mut out, row.as_slice());
-    let last = job.slice(&mut flash, &mut pages, &store, &mut row);
-    assert!(rt; matches!(last, Turn::Done(2)));
-    assert!(rt; flash.script.calls == 5 && job.spent() == 4);
+    let mut pool = PagePool::new(rt.alloc(), 8)?;
+    let told = print_text(
+        &mut printer,
+        &mut out,
+        &cat,
+        Plan::Scan,
+        1,
+        VISITS,
+        ReplyState::Done,
+        &store,
+        &mut pool,
+        &mut flash,
+    );
+    assert!(rt; matches!(told, Told::Answered));
     assert!(rt; out.bytes() == LINES);
+    assert!(rt; flash.script.calls == before + 4);
+    for _ in 0..8u32 {
+        assert!(rt; pool.lease().is_some());
+    }
+    assert!(rt; pool.lease().is_none());
     Ok(())
 }

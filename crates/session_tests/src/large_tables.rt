@@ -25,6 +25,7 @@ const WORDS: LocalWords<'static> = LocalWords {
     journal: None,
     plan: Plan::Scan,
     pace: 0,
+    buffers: 8,
 };
 
 const PLAIN_WORDS: PlainWords<'static> = PlainWords {
