@@ -1,0 +1,17 @@
+-- What a fault of a call that reads and writes pages tells of the flash.
+use Rattle.std.specs.Prelude.{◌≡◌, ℕ, ⊤, Result, Ok, Err}
+use Rattle.ghost_model.specs.core.Causes.{Rose}
+use Rattle.flash_pages.specs.declared.fault.PageFault.{PageFault}
+use Rattle.flash_pages.specs.declared.fault.PageFault.TheVariants.{Flash, Damaged}
+
+-- the count of the flash's faults rose exactly where the flash is blamed
+abbrev pub TellsFault : {T : Type 0} → (before now : ℕ) → Result T PageFault → Type 0
+TellsFault before now (Ok value) = now ≡ before
+TellsFault before now (Err Flash) = Rose before now
+TellsFault before now (Err (Damaged page slot found)) = now ≡ before
+
+-- where the flash is blamed, its last call is the one that failed
+abbrev pub EndsAtFault : {T : Type 0} → (since_fault : ℕ) → Result T PageFault → Type 0
+EndsAtFault since_fault (Ok value) = ⊤
+EndsAtFault since_fault (Err Flash) = since_fault ≡ 0
+EndsAtFault since_fault (Err (Damaged page slot found)) = ⊤

@@ -1,0 +1,4 @@
+pub mod Causes
+pub mod Merging
+pub mod Places
+pub mod Spared

@@ -1,0 +1,157 @@
+-- What a merge gives, as a list that is being written: where it lies, which leases are held, and what the list has so far.
+use Rattle.std.specs.Prelude.{◌≡◌, ℕ, ◌+◌, ◌-◌, ◌*◌, ◌/◌, ◌%◌, ◌^◌, ◌<◌, ◌≤◌, ◌⊎◌, ◌↔◌, Bool, true, ⊤, List, ◌∷◌, length, map, get_or, Option, Some, None, Result, Ok, Err}
+use Rattle.ghost_model.specs.core.Causes.{Rose}
+use Rattle.ghost_model.specs.forms.Runs as runs
+use Rattle.ghost_base.specs.declared.runs.Run.{Run}
+use Rattle.ghost_base.specs.Runs.{run_of}
+use Rattle.edge_traits.specs.Devices.{Device, ChangesOnly}
+use Rattle.page_pool.specs.Pools.{Pool, AreOut, KeepsOthers, others_out}
+use Rattle.flash_pages.specs.declared.fault.PageFault.{PageFault}
+use Rattle.flash_pages.specs.Writing.{IsEntered}
+use Rattle.flash_pages.specs.Writers.{HasPut, next_page}
+use Rattle.id_merge.specs.declared.cursor.Cursor.{Cursor}
+use Rattle.id_merge.specs.declared.cursor.Cursor.TheVariants.{List as OfList, Range}
+use Rattle.id_merge.specs.declared.merge.Merge.{Merge}
+use Rattle.id_merge.specs.Cursors.{cursor_at, id_in, leases_of, left_in, AllAscend, AllAtMost, AllGiven}
+use Rattle.id_merge.specs.Merges.{CanMerge, Remains}
+use Rattle.spill_pass.specs.declared.merging.MergeInto.{MergeInto}
+use Rattle.spill_pass.specs.declared.merging.Turn.{Turn}
+use Rattle.spill_pass.specs.declared.merging.Turn.TheVariants.{Went, Done}
+
+-- the pages of an area for so many identifiers: whole blocks
+abbrev pub area_pages : (rows : ℕ) → ℕ
+area_pages rows = 64 * ((runs.pages_of rows 4 + 63) / 64)
+
+-- an area on a device, from the first page of a block on
+pub record IsArea (device : Device) (first rows : ℕ) : Type 0 where
+  pub block : first % 64 ≡ 0
+  pub there : first + area_pages rows ≤ device.page_count
+  pub small : device.page_count < 2 ^ 32
+
+-- the page after the area that the list is written into
+abbrev pub area_end : MergeInto → ℕ
+area_end into = into.writer.filler.first + area_pages into.rows
+
+-- the lease of the writer, and those of the lists
+abbrev pub leases_held : MergeInto → List ℕ
+leases_held into = into.writer.lease ∷ leases_of into.merge.cursors.items
+
+-- no page of a list's run lies in an area
+abbrev pub LiesOutside : (low high : ℕ) → Cursor → Type 0
+LiesOutside low high (OfList run) =
+    (i : ℕ) → i < run.list.run.count → (runs.page_of (run_of run.list.run) i < low) ⊎ (high ≤ runs.page_of (run_of run.list.run) i)
+LiesOutside low high (Range first last) = ⊤
+
+abbrev pub AllOutside : (low high : ℕ) → List Cursor → Type 0
+AllOutside low high cursors = (i : ℕ) → LiesOutside low high (cursor_at cursors i)
+
+-- how much is to do: the records to be read, and the identifiers that may be found
+abbrev pub left_of : MergeInto → ℕ
+left_of into = left_in into.merge.cursors.items + (into.rows - into.merge.last)
+
+-- how many calls of the flash may be made until the list stands: one a record that is read, and two a page that is written
+abbrev pub calls_left : MergeInto → ℕ
+calls_left into = left_in into.merge.cursors.items + 2 * (runs.pages_of into.rows 4 - into.writer.filler.pages)
+
+-- a merge may be written: its lists lie outside of the area, and it gives no identifier above the rows
+pub record CanBegin (told : Bool) (device : Device) (pool : Pool) (merge : Merge) (first rows lease : ℕ) : Type 0 where
+  pub step : CanMerge told device pool merge
+  pub leases : AreOut pool (lease ∷ leases_of merge.cursors.items)
+  pub at_most : AllAtMost rows merge.cursors.items
+  pub within : merge.last ≤ rows
+  pub area : IsArea device first rows
+  pub outside : AllOutside first (first + area_pages rows) merge.cursors.items
+
+-- a step may be made: of the rows no more are in the list than the merge came to
+pub record IsMerging (told : Bool) (device : Device) (pool : Pool) (into : MergeInto) : Type 0 where
+  pub can : CanBegin told device pool into.merge into.writer.filler.first into.rows into.writer.lease
+  pub width : into.writer.filler.width ≡ 4
+  pub erase : into.writer.filler.erase ≡ true
+  pub count : into.writer.filler.count ≤ into.merge.last
+  pub entered : IsEntered device (next_page into.writer.filler) true
+
+-- an identifier is one of some
+pub record IsOneOf (ids : List ℕ) (id : ℕ) : Type 0 where
+  pub at : ℕ
+  pub within : at < length ids
+  pub is : id ≡ get_or ids at 0
+
+abbrev pub AreAscending : (ids : List ℕ) → Type 0
+AreAscending ids = (i j : ℕ) → i < j → j < length ids → get_or ids i 0 < get_or ids j 0
+
+-- where pages are told: what a merge had still to give when it began, over the pages at that time, is in the list so far or
+-- still to be given. The list ascends, up to what was given last
+pub record Gathers (told : Bool) (start : ℕ → List ℕ) (merge : Merge) (page : ℕ → List ℕ) (pool : Pool) (into : MergeInto) : Type 0 where
+  pub ids : List ℕ
+  pub put : HasPut told page pool into.writer (map runs.number_cell ids)
+  pub ascending : AreAscending ids
+  pub below : (i : ℕ) → i < length ids → get_or ids i 0 ≤ into.merge.last
+  pub all : (id : ℕ) → (IsOneOf ids id ⊎ Remains page into.merge id) ↔ Remains start merge id
+  pub lists : AllAscend page into.merge.cursors.items
+
+-- the list has exactly what the merge had to give when it began, ascending
+pub record IsListOf (start : ℕ → List ℕ) (merge : Merge) (page : ℕ → List ℕ) (run : Run) : Type 0 where
+  pub ids : List ℕ
+  pub stores : runs.Stores page (run_of run) (map runs.number_cell ids)
+  pub ascending : AreAscending ids
+  pub all : (id : ℕ) → IsOneOf ids id ↔ Remains start merge id
+
+abbrev pub GivesList : (told : Bool) (start : ℕ → List ℕ) → Merge → (page : ℕ → List ℕ) → Pool → MergeInto → Result (Option Run) PageFault → Type 0
+GivesList told start merge page pool into (Ok None) = Gathers told start merge page pool into
+GivesList told start merge page pool into (Ok (Some run)) = IsListOf start merge page run
+GivesList told start merge page pool into (Err fault) = ⊤
+
+abbrev pub TurnGives : (told : Bool) (start : ℕ → List ℕ) → Merge → (page : ℕ → List ℕ) → Pool → MergeInto → Result Turn PageFault → Type 0
+TurnGives told start merge page pool into (Ok (Went calls)) = Gathers told start merge page pool into
+TurnGives told start merge page pool into (Ok (Done run)) = IsListOf start merge page run
+TurnGives told start merge page pool into (Err fault) = ⊤
+
+-- the list lies at the beginning of its area, and has no more identifiers than there are rows
+pub record IsPlaced (into : MergeInto) (run : Run) : Type 0 where
+  pub first : run.first ≡ into.writer.filler.first
+  pub width : run.width ≡ 4
+  pub count : run.count ≤ into.rows
+
+-- what is done whatever the answer: of the pages only those of the area changed, of the buffers only those of the leases held,
+-- which are still held
+pub record Goes (told : Bool) (before now : Device) (pool later : Pool) (old new : MergeInto) : Type 0 where
+  pub changes : ChangesOnly old.writer.filler.first (area_end old) before now
+  pub out : later.out ≡ pool.out
+  pub others : KeepsOthers (others_out pool (leases_held old)) pool later
+  pub held : leases_held new ≡ leases_held old
+  pub still : AreOut later (leases_held new)
+  pub given : (since : ℕ) → since ≤ before.calls → AllGiven since before pool old.merge.cursors.items → AllGiven since now later new.merge.cursors.items
+  pub first : new.writer.filler.first ≡ old.writer.filler.first
+  pub rows : new.rows ≡ old.rows
+
+-- the lists have the same identifiers on other pages
+abbrev pub SameIds : (page now : ℕ → List ℕ) → Cursor → Type 0
+SameIds page now (OfList run) = (i : ℕ) → i < run.list.count → id_in now run i ≡ id_in page run i
+SameIds page now (Range first last) = ⊤
+
+abbrev pub KeepsIds : (page now : ℕ → List ℕ) → List Cursor → Type 0
+KeepsIds page now cursors = (i : ℕ) → SameIds page now (cursor_at cursors i)
+
+-- so many calls were made at most
+pub record MadeAtMost (most : ℕ) (before now : Device) : Type 0 where
+  pub calls : now.calls ≤ before.calls + most
+  pub deep_reads : now.deep_reads ≤ before.deep_reads + most
+
+-- what is counted in a turn after which there is more to do
+pub record WentOn (told : Bool) (before now : Device) (later : Pool) (old new : MergeInto) (calls : ℕ) : Type 0 where
+  pub ready : IsMerging told now later new
+  pub fewer : left_of new < left_of old
+  pub few : calls ≤ 2
+  pub at_most : MadeAtMost calls before now
+  pub spent : now.calls + calls_left new ≤ before.calls + calls_left old
+  pub called : 0 < calls → Rose before.calls now.calls
+
+abbrev pub TurnTells : (told : Bool) (before now : Device) (later : Pool) (old new : MergeInto) → Turn → Type 0
+TurnTells told before now later old new (Went calls) = WentOn told before now later old new calls
+TurnTells told before now later old new (Done run) = IsPlaced old run × (now.calls ≤ before.calls + calls_left old)
+
+-- what is spent of the calls that may be made: a fault may cost one more
+abbrev pub Spends : (before now : Device) (old new : MergeInto) → Result (Option Run) PageFault → Type 0
+Spends before now old new (Ok None) = now.calls + calls_left new ≤ before.calls + calls_left old
+Spends before now old new (Ok (Some run)) = now.calls ≤ before.calls + calls_left old
+Spends before now old new (Err fault) = now.calls ≤ before.calls + calls_left old + 1

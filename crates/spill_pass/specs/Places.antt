@@ -1,0 +1,73 @@
+-- The places of lists that lie one behind another in a run.
+use Rattle.std.specs.Prelude.{◌≡◌, ℕ, ◌+◌, ◌-◌, ◌<◌, ◌≤◌, ◌&&◌, Bool, ⊤, List, nat_lt, Option, Some, None, Result, Ok, Err}
+use Rattle.ghost_model.specs.forms.Runs as runs
+use Rattle.ghost_base.specs.declared.runs.ListRef.{ListRef}
+use Rattle.ghost_base.specs.Runs.{run_of}
+use Rattle.edge_traits.specs.Devices.{Device}
+use Rattle.page_pool.specs.Pools.{Pool}
+use Rattle.flash_pages.specs.declared.fault.PageFault.{PageFault}
+use Rattle.flash_pages.specs.declared.fault.PageFault.TheVariants.{Flash, Damaged}
+use Rattle.flash_pages.specs.Runs.{HasRun}
+use Rattle.flash_pages.specs.Reads.{CanRead, WasRead, must_read}
+use Rattle.spill_pass.specs.declared.places.PlaceReader.{PlaceReader}
+
+-- the place that is read next
+abbrev pub place_at : (page : ℕ → List ℕ) → PlaceReader → List ℕ
+place_at page reader = runs.record_at page (run_of reader.places) reader.at
+
+-- the next call reads a page
+abbrev pub reads_place : Pool → PlaceReader → Bool
+reads_place pool reader = nat_lt reader.at reader.places.count && must_read pool reader.lease (runs.page_of (run_of reader.places) reader.at)
+
+-- a place that may come next: of a list that begins where the one before it ended, and ends within the run
+pub record IsNextPlace (reader : PlaceReader) (place : List ℕ) : Type 0 where
+  pub first : runs.number_in place 0 ≡ reader.next
+  pub count : runs.number_in place 4 ≤ reader.lists.count - reader.next
+
+-- the list that a place is of
+pub record IsPlaceOf (place : List ℕ) (list : ListRef) : Type 0 where
+  pub first : list.first ≡ runs.number_in place 0
+  pub count : list.count ≡ runs.number_in place 4
+
+-- by the bytes of the pages: the list of the next place, or that this place may not come next
+abbrev pub GivesPlace : (page : ℕ → List ℕ) → PlaceReader → Result (Option ListRef) PageFault → Type 0
+GivesPlace page before (Ok None) = ⊤
+GivesPlace page before (Ok (Some list)) = IsPlaceOf (place_at page before) list
+GivesPlace page before (Err Flash) = ⊤
+GivesPlace page before (Err (Damaged number slot found)) = IsNextPlace before (place_at page before) → ⊥
+
+-- whatever the pages hold: a list that begins where the one before it ended, and ends within the run
+pub record IsNextList (before now : PlaceReader) (list : ListRef) : Type 0 where
+  pub run : list.run ≡ before.lists
+  pub first : list.first ≡ before.next
+  pub within : before.next + list.count ≤ before.lists.count
+  pub more : before.at < before.places.count
+  pub at : now.at ≡ before.at + 1
+  pub next : now.next ≡ before.next + list.count
+
+pub record SamePlaces (before now : PlaceReader) : Type 0 where
+  pub places : now.places ≡ before.places
+  pub lists : now.lists ≡ before.lists
+  pub lease : now.lease ≡ before.lease
+
+-- a place that is blamed: what a read from that count of calls on gave there may not come next
+pub record DamagesPlace (since : ℕ) (device : Device) (reader : PlaceReader) (number slot found : ℕ) : Type 0 where
+  pub page : number ≡ runs.page_of (run_of reader.places) reader.at
+  pub slot_is : slot ≡ runs.slot_of (run_of reader.places) reader.at
+  pub bytes : List ℕ
+  pub read : WasRead since device (run_of reader.places) reader.at bytes
+  pub found_is : found ≡ runs.found_in bytes
+  pub not_next : IsNextPlace reader bytes → ⊥
+
+abbrev pub BlamesPlace : (since : ℕ) → Device → PlaceReader → {T : Type 0} → Result T PageFault → Type 0
+BlamesPlace since device reader (Ok answer) = ⊤
+BlamesPlace since device reader (Err Flash) = ⊤
+BlamesPlace since device reader (Err (Damaged number slot found)) = DamagesPlace since device reader number slot found
+
+-- a place may be read
+pub record CanReadPlaces (told : Bool) (device : Device) (pool : Pool) (reader : PlaceReader) : Type 0 where
+  pub run : HasRun device (run_of reader.places)
+  pub width : reader.places.width ≡ 8
+  pub place : reader.at ≤ reader.places.count
+  pub within : reader.next ≤ reader.lists.count
+  pub buffer : CanRead told device pool reader.lease

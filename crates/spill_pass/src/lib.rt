@@ -1,0 +1,16 @@
+//! What a merge gives, written to the flash as one ascending list.
+//!
+//! A merge reads its lists through a buffer each; what it gives is put into a run in an area of its own, through one buffer
+//! more. The list stands there whole at the end, and the lists that are read stay as they were. The work goes on in steps of at
+//! most eight calls of the flash each.
+//!
+//! Several such lists can lie one behind another in a run. Their places, where each begins and how many identifiers it has,
+//! are records of eight bytes, and are read back in order.
+#![tactic(auto)]
+
+pub mod merging;
+pub mod places;
+pub mod spared;
+
+pub use merging::MergeInto;
+pub use places::PlaceReader;
