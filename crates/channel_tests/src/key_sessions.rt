@@ -17,35 +17,36 @@ const FIRST: &str =
     "SELECT visit.id, specialty FROM visit, doctor WHERE doc = doctor.id AND specialty = 'cardio' AND purpose = 'flu';";
 
 /// A script, what the host says, and what the session comes to: each frame that is sent, behind the number of the text whose
-/// ask is at hand, each event (W of a WELCOME frame, R of rows, D of DONE, S of a refusal with its code, and ! where a frame is
-/// broken, with its first byte and its place), the states of the replies of the first two texts, and how it ends.
-const SESSIONS: &str = "FIRST: HEAD CATALOG ROWS DONE: 0>HELLO W 1>ASK R2 1>MORE D 0>BYE dd F
-FIRST: HEAD CATALOG 1201001800000001 00000001 63617264696f0000 00000002 63617264696f0000 DONE: 0>HELLO W 1>ASK R2 1>MORE D 0>BYE dd F
-FIRST: 1101000200000000 00 47 1101016d00000000 01 REST 1201000c00000001 00000001 63617264696f0000 1201000c00000001 00000003 63617264696f0000 DONE: 0>HELLO W W 1>ASK R1 1>MORE R1 1>MORE D 0>BYE dd F
-: HEAD CATALOG: 0>HELLO W 0>BYE dd F
-SELECT name FROM patient WHERE name = 'Ann';: HEAD CATALOG: 0>HELLO W 0>BYE dd F
-BOTH: HEAD CATALOG SORRY DAY_ROWS DAY_DONE: 0>HELLO W 1>ASK S1 2>DAY_ASK R4 2>DAY_MORE D 0>BYE hd F
-BOTH: HEAD CATALOG 1201001800: 0>HELLO W 1>ASK ll L
-SELECT specialty FROM doctor; SELECT name FROM patient WHERE age = 30;: HEAD CATALOG ROWS DONE 140100010000000207: 0>HELLO W 1>ALL_ASK R2 1>MORE D 2>AGE_ASK S7 0>BYE dh F
-FIRST: 1201001800000001: 0>HELLO !18@0 pd P18@0
-FIRST: 1101016f00000000: 0>HELLO !17@0 pd P17@0
-FIRST: 1101016e00000000 00 CATALOG: 0>HELLO !17@0 pd P17@0
-FIRST: 1101000200000000 00 58: 0>HELLO !17@0 pd P17@0
-FIRST: HEAD CATALOG 1201001700000001: 0>HELLO W 1>ASK !18@374 pd P18@374
-FIRST: HEAD CATALOG 1201000000000001: 0>HELLO W 1>ASK !18@374 pd P18@374
-FIRST: HEAD CATALOG 1201080400000001: 0>HELLO W 1>ASK !18@374 pd P18@374
-FIRST: HEAD CATALOG 1201001800000002: 0>HELLO W 1>ASK !18@374 pd P18@374
-FIRST: HEAD CATALOG 1202001800000001: 0>HELLO W 1>ASK !18@374 pd P18@374
-FIRST: HEAD CATALOG 1302000400000001: 0>HELLO W 1>ASK !19@374 pd P19@374
-FIRST: HEAD CATALOG 0101000400000000: 0>HELLO W 1>ASK !1@374 pd P1@374
-FIRST: HEAD CATALOG 1201000c00000001 00000001 6300720000000000: 0>HELLO W 1>ASK !18@374 pd P18@374
-FIRST: HEAD CATALOG 1201000c00000001 00000004 63617264696f0000: 0>HELLO W 1>ASK !18@374 pd P18@374
-FIRST: HEAD CATALOG 1201000c00000001 00000000 63617264696f0000: 0>HELLO W 1>ASK !18@374 pd P18@374
-FIRST: HEAD CATALOG 1201000d00000001 00000001 63617264696f0000 00: 0>HELLO W 1>ASK !18@374 pd P18@374
-FIRST: HEAD CATALOG 1301000400000001 00000001: 0>HELLO W 1>ASK !19@374 pd P19@374
-FIRST: HEAD CATALOG 1401000100000001 00: 0>HELLO W 1>ASK !20@374 pd P20@374
-FIRST: HEAD CATALOG ROWS 1301000400000001 00000001: 0>HELLO W 1>ASK R2 1>MORE !19@406 pd P19@406
-FIRST: HEAD CATALOG 1201000c00000001 00000001 63617264696f0000 1201000c00000001 00000001 63617264696f0000: 0>HELLO W 1>ASK R1 1>MORE !18@394 pd P18@394";
+/// ask is at hand, each event (a WELCOME frame, rows with their count, a DONE frame, a refusal with its code, and a broken frame
+/// with its first byte and its place), the states of the replies of the first two texts, a letter each, and how it ends.
+const SESSIONS: &str =
+    "FIRST: HEAD CATALOG ROWS DONE: 0>HELLO welcome 1>ASK rows=2 1>MORE done 0>BYE dd finished
+FIRST: HEAD CATALOG 1201001800000001 00000001 63617264696f0000 00000002 63617264696f0000 DONE: 0>HELLO welcome 1>ASK rows=2 1>MORE done 0>BYE dd finished
+FIRST: 1101000200000000 00 47 1101016d00000000 01 REST 1201000c00000001 00000001 63617264696f0000 1201000c00000001 00000003 63617264696f0000 DONE: 0>HELLO welcome welcome 1>ASK rows=1 1>MORE rows=1 1>MORE done 0>BYE dd finished
+: HEAD CATALOG: 0>HELLO welcome 0>BYE dd finished
+SELECT name FROM patient WHERE name = 'Ann';: HEAD CATALOG: 0>HELLO welcome 0>BYE dd finished
+BOTH: HEAD CATALOG SORRY DAY_ROWS DAY_DONE: 0>HELLO welcome 1>ASK sorry=1 2>DAY_ASK rows=4 2>DAY_MORE done 0>BYE hd finished
+BOTH: HEAD CATALOG 1201001800: 0>HELLO welcome 1>ASK ll link
+SELECT specialty FROM doctor; SELECT name FROM patient WHERE age = 30;: HEAD CATALOG ROWS DONE 140100010000000207: 0>HELLO welcome 1>ALL_ASK rows=2 1>MORE done 2>AGE_ASK sorry=7 0>BYE dh finished
+FIRST: 1201001800000001: 0>HELLO broken=18@0 pd protocol=18@0
+FIRST: 1101016f00000000: 0>HELLO broken=17@0 pd protocol=17@0
+FIRST: 1101016e00000000 00 CATALOG: 0>HELLO broken=17@0 pd protocol=17@0
+FIRST: 1101000200000000 00 58: 0>HELLO broken=17@0 pd protocol=17@0
+FIRST: HEAD CATALOG 1201001700000001: 0>HELLO welcome 1>ASK broken=18@374 pd protocol=18@374
+FIRST: HEAD CATALOG 1201000000000001: 0>HELLO welcome 1>ASK broken=18@374 pd protocol=18@374
+FIRST: HEAD CATALOG 1201080400000001: 0>HELLO welcome 1>ASK broken=18@374 pd protocol=18@374
+FIRST: HEAD CATALOG 1201001800000002: 0>HELLO welcome 1>ASK broken=18@374 pd protocol=18@374
+FIRST: HEAD CATALOG 1202001800000001: 0>HELLO welcome 1>ASK broken=18@374 pd protocol=18@374
+FIRST: HEAD CATALOG 1302000400000001: 0>HELLO welcome 1>ASK broken=19@374 pd protocol=19@374
+FIRST: HEAD CATALOG 0101000400000000: 0>HELLO welcome 1>ASK broken=1@374 pd protocol=1@374
+FIRST: HEAD CATALOG 1201000c00000001 00000001 6300720000000000: 0>HELLO welcome 1>ASK broken=18@374 pd protocol=18@374
+FIRST: HEAD CATALOG 1201000c00000001 00000004 63617264696f0000: 0>HELLO welcome 1>ASK broken=18@374 pd protocol=18@374
+FIRST: HEAD CATALOG 1201000c00000001 00000000 63617264696f0000: 0>HELLO welcome 1>ASK broken=18@374 pd protocol=18@374
+FIRST: HEAD CATALOG 1201000d00000001 00000001 63617264696f0000 00: 0>HELLO welcome 1>ASK broken=18@374 pd protocol=18@374
+FIRST: HEAD CATALOG 1301000400000001 00000001: 0>HELLO welcome 1>ASK broken=19@374 pd protocol=19@374
+FIRST: HEAD CATALOG 1401000100000001 00: 0>HELLO welcome 1>ASK broken=20@374 pd protocol=20@374
+FIRST: HEAD CATALOG ROWS 1301000400000001 00000001: 0>HELLO welcome 1>ASK rows=2 1>MORE broken=19@406 pd protocol=19@406
+FIRST: HEAD CATALOG 1201000c00000001 00000001 63617264696f0000 1201000c00000001 00000001 63617264696f0000: 0>HELLO welcome 1>ASK rows=1 1>MORE broken=18@394 pd protocol=18@394";
 
 /// A linear congruential generator.
 #[derive(Drop)]
@@ -81,12 +82,12 @@ impl Chance {
 fn tell_event(log: &mut Bytes, event: Event) {
     match event {
         Event::Part => return,
-        Event::Welcome => add(log, b"W"),
-        Event::Rows(count) => add_number(log, b"R", count as u64),
-        Event::Done => add(log, b"D"),
-        Event::Sorry(code) => add_number(log, b"S", code as u64),
+        Event::Welcome => add(log, b"welcome"),
+        Event::Rows(count) => add_number(log, b"rows=", count as u64),
+        Event::Done => add(log, b"done"),
+        Event::Sorry(code) => add_number(log, b"sorry=", code as u64),
         Event::Invalid { kind, at } => {
-            add_number(log, b"!", kind as u64);
+            add_number(log, b"broken=", kind as u64);
             add_number(log, b"@", at);
         }
     }
@@ -107,10 +108,10 @@ fn letter(state: ReplyState) -> &'static [u8] {
 /// Adds how a session ends.
 fn tell_end(log: &mut Bytes, cause: Cause) {
     match cause {
-        Cause::Finished => add(log, b" F"),
-        Cause::Link => add(log, b" L"),
+        Cause::Finished => add(log, b" finished"),
+        Cause::Link => add(log, b" link"),
         Cause::Protocol { kind, at } => {
-            add_number(log, b" P", kind as u64);
+            add_number(log, b" protocol=", kind as u64);
             add_number(log, b"@", at);
         }
     }
