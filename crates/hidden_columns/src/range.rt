@@ -7,16 +7,16 @@ ghost use Rattle.ghost_model.specs.core.Database.{is_row_among};
 ghost use Rattle.ghost_base.specs.Views.{value_of};
 ghost use Rattle.ghost_model.specs.forms.Slots.{is_in_range};
 
+use flash_layout::Layout;
 use ghost_base::Value;
-use tree_schema::Catalog;
 
 /// The number of rows of the table that a foreign key names.
-pub(crate) fn rows_of_child(cat: &Catalog, child: Option<u8>) -> Option<u32>
-    ensures rows { result ≡ option_map (layout.count_of cat.now) child }
+pub(crate) fn rows_of_child(laid: &Layout<'_>, child: Option<u8>) -> Option<u32>
+    ensures rows { result ≡ option_map (layout.count_of laid.now) child }
 {
     match child {
         None => None,
-        Some(child) => Some(cat.rows(child as usize).unwrap_or(0)),
+        Some(child) => Some(laid.rows(child as usize)),
     }
 }
 

@@ -96,7 +96,7 @@ fn local_code(outcome: &Result<LocalEnd, LocalFailure>) -> u8
         Ok(LocalEnd::Sink) => 9,
         Ok(LocalEnd::Depot) => 5,
         Ok(LocalEnd::Flash) => 6,
-        Ok(LocalEnd::Damaged { .. }) => 13,
+        Ok(LocalEnd::Damaged(_)) => 13,
         Err(LocalFailure::NoMemory) => 3,
         Err(LocalFailure::Input(_)) => 4,
         Err(LocalFailure::Depot) => 5,

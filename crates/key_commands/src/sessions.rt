@@ -4,9 +4,10 @@ use crate::input_lines::{InputNames, input_line};
 use crate::telling::NO_MEMORY;
 use key_local::{LocalEnd, LocalFailure};
 use key_query::QueryFailure;
-use key_session::{Damage, SessionStatus};
+use key_session::SessionStatus;
 use key_words::{LocalWords, QueryWords};
 use std::alloc::{AllocError, Global};
+use text_lines::Damage;
 
 /// What is told where lines could not be printed.
 const NO_OUTPUT: &str = "the lines could not be printed: see that the output takes them";
@@ -24,9 +25,8 @@ fn damage_line(
     damage: &Damage,
     remedy: &str,
 ) -> Result<String, AllocError> {
-    let Damage { page, slot, found } = *damage;
     format!(in alloc;
-        "{flash} is damaged, and the texts that met it have the word damaged: slot {slot} of page {page} begins with {found}; {remedy}"
+        "{flash} is damaged, and the texts that met it have the word damaged: {damage}; {remedy}"
     )
 }
 
@@ -90,14 +90,7 @@ pub(crate) fn local_end_line(
             )
         }
         LocalEnd::Flash => flash_line(alloc, words.flash),
-        LocalEnd::Damaged { page, slot, found } => {
-            let damage = Damage {
-                page: *page,
-                slot: *slot,
-                found: *found,
-            };
-            damage_line(alloc, words.flash, &damage, ASK_ELSEWHERE)
-        }
+        LocalEnd::Damaged(damage) => damage_line(alloc, words.flash, damage, ASK_ELSEWHERE),
     }
 }
 

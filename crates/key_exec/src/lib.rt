@@ -9,4 +9,4 @@ pub mod job;
 pub mod laws;
 mod lending;
 
-pub use job::{Job, Row, Turn};
+pub use job::{Job, Turn};

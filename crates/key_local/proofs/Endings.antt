@@ -197,8 +197,8 @@ faultless told one (Ok ends.Ok) before after ended depot flash sink = refl
 faultless told one (Ok ends.Sink) before after ended depot flash sink = absurd (sink refl)
 faultless told one (Ok ends.Depot) before after ended depot flash sink = absurd (depot refl)
 faultless told one (Ok ends.Flash) before after ended depot flash sink = absurd (flash refl)
-faultless true one (Ok (ends.Damaged page slot found)) before after ended depot flash sink = let none = ended.undamaged refl in cc
-faultless false one (Ok (ends.Damaged page slot found)) before after ended depot flash sink = refl
+faultless true one (Ok (ends.Damaged damage)) before after ended depot flash sink = let none = ended.undamaged refl in cc
+faultless false one (Ok (ends.Damaged damage)) before after ended depot flash sink = refl
 faultless told one (Err failure.NoMemory) before after ended depot flash sink = refl
 faultless told one (Err failure.Depot) before after ended depot flash sink = absurd (depot refl)
 faultless told one (Err (failure.Input broken)) before after ended depot flash sink = absurd ended

@@ -18,13 +18,13 @@ use Rattle.key_session.specs.Refusing.{first_code}
 use Rattle.key_session.specs.Running.{IsTally, status_of, blames_flash, is_sink as wrote_none, is_damaged as is_damage}
 use Rattle.key_session.specs.Telling.{SessionSide, AreTold}
 use Rattle.key_exec.specs.Blaming.{IsDamaged}
-use Rattle.key_session.specs.declared.counts.Damage.{Damage}
+use Rattle.text_lines.specs.declared.damage.Damage.{Damage}
 use Rattle.key_session.specs.declared.tally.SessionStatus.{SessionStatus}
 use Rattle.key_session.specs.declared.tally.SessionStatus.TheVariants as status
 use Rattle.key_session.specs.declared.tally.Tally.{Tally}
 use Rattle.key_lines.specs.Handing.{Hands, handed}
 use Rattle.local_lines.specs.Lines.{Gives, GivesByTally, ToldTextsAreGiven, is_cut, bytes_given}
-use Rattle.key_local.specs.Running.{RanOver, KeepsLines, damage_at}
+use Rattle.key_local.specs.Running.{RanOver, KeepsLines}
 use Rattle.key_local.specs.Sessions.{LocalSide, local_side, session_side_in, is_sink, is_damaged}
 use Rattle.key_local.specs.declared.ends.LocalEnd.{LocalEnd}
 use Rattle.key_local.specs.declared.ends.LocalEnd.TheVariants as ends
@@ -72,7 +72,7 @@ pub ran_over : (told : Bool) (catalog : Catalog) (database : Database) (texts : 
     → ((damage : Damage) → tally.status ≡ status.Damaged damage → IsDamaged told before.device.page catalog damage.page damage.slot damage.found) → KeepsPages before.device after.device
     → is_sink end ≡ wrote_none tally.status → (end ≡ ends.Ok → tally.status ≡ status.Ok) → (end ≡ ends.Flash → blames_flash tally.status ≡ true)
     → (blames_flash tally.status ≡ true → Rose before.device.calls after.device.calls) → (is_damage tally.status ≡ true → Rose before.device.calls after.device.calls)
-    → ((page slot found : ℕ) → end ≡ ends.Damaged page slot found → tally.status ≡ status.Damaged (damage_at page slot found))
+    → ((damage : Damage) → end ≡ ends.Damaged damage → tally.status ≡ status.Damaged damage)
     → RanOver told catalog database texts name end before after
 ran_over told catalog database texts name end tally before after journal served given is_local finished kept all_kept are_told blamed pages sink whole flash called read damaged =
     let unbroken = served catalog database [] texts journal is_local in
@@ -104,8 +104,8 @@ ran_over told catalog database texts name end tally before after journal served 
           let all = by_tally t in
           let none_found : is_damage tally.status ≡ false = ap is_damage all.status_is ∙ no_damage (wrote_none tally.status) (standing_after catalog (asked_of catalog.schema texts) journal) (list_any is_cut all.gives.given) stays right none in
           false_is_not (sym none_found ∙ damage_found end tally.status damaged found));
-      damaged = λ page slot found is.
-          subst (λ (pages : ℕ → List ℕ). IsDamaged told pages catalog page slot found) (sym pages.page) (blamed (damage_at page slot found) (damaged page slot found is));
+      damaged = λ damage is.
+          subst (λ (pages : ℕ → List ℕ). IsDamaged told pages catalog damage.page damage.slot damage.found) (sym pages.page) (blamed damage (damaged damage is));
     }
 
 -- and so over what the files and their counts are known to be

@@ -1,5 +1,5 @@
 -- How a session with a host in the key's own process can end.
-use Rattle.std.proofs.Common.{◌≡◌, ℕ, Bool, true, false, ◌||◌, List, [], ◌∷◌, map, Option, None, Some, refl, sym, ap, ◌∙◌, subst}
+use Rattle.std.proofs.Common.{◌≡◌, Bool, true, false, ◌||◌, List, [], ◌∷◌, map, Option, None, Some, refl, sym, ap, ◌∙◌, subst}
 use Rattle.std.specs.List.{list_any}
 use Rattle.ghost_model.specs.core.Channel.{Entry, Journal}
 use Rattle.ghost_model.specs.core.Moves.{answers}
@@ -8,10 +8,10 @@ use Rattle.ghost_model.specs.core.Lines.{was_refused, is_refused_by}
 use Rattle.std.specs.Option.{option_or}
 use Rattle.key_session.specs.Refusing.{first_code, code_of}
 use Rattle.key_session.specs.Running.{status_of, status_with, is_sink, blames_flash, is_damaged as is_damage}
-use Rattle.key_session.specs.declared.counts.Damage.{Damage}
+use Rattle.text_lines.specs.declared.damage.Damage.{Damage}
 use Rattle.key_session.specs.declared.tally.SessionStatus.{SessionStatus}
 use Rattle.key_session.specs.declared.tally.SessionStatus.TheVariants as status
-use Rattle.key_local.specs.Running.{is_of_local, damage_at}
+use Rattle.key_local.specs.Running.{is_of_local}
 use Rattle.key_local.specs.Sessions.{is_damaged}
 use Rattle.key_local.specs.declared.ends.LocalEnd.{LocalEnd}
 use Rattle.key_local.specs.declared.ends.LocalEnd.TheVariants as ends
@@ -64,13 +64,13 @@ flash_status false session false going valid none blamed =
     let is : status_of false session false ≡ status.Ok = rw (going, valid, none) refl in cc
 
 -- damage was found, where an end names a slot of which it was found
-pub damage_found : (end : LocalEnd) (one : SessionStatus) → ((page slot found : ℕ) → end ≡ ends.Damaged page slot found → one ≡ status.Damaged (damage_at page slot found))
+pub damage_found : (end : LocalEnd) (one : SessionStatus) → ((damage : Damage) → end ≡ ends.Damaged damage → one ≡ status.Damaged damage)
     → is_damaged end ≡ true → is_damage one ≡ true
 damage_found ends.Ok one is e = cc
 damage_found ends.Sink one is e = cc
 damage_found ends.Depot one is e = cc
 damage_found ends.Flash one is e = cc
-damage_found (ends.Damaged page slot found) one is e = ap is_damage (is page slot found refl)
+damage_found (ends.Damaged damage) one is e = ap is_damage (is damage refl)
 
 -- no damage is found where the pages are told
 pub no_damage : (failed : Bool) (session : Standing) (by_flash : Bool) → session.stopped ≡ false → session.heard.broken ≡ false

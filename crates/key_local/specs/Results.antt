@@ -141,6 +141,6 @@ clears_flash _ = true
 -- whether unbroken inputs and no fault can end so: damage only where the flash does not tell its pages
 abbrev pub is_faultless : (told : Bool) → Result LocalEnd LocalFailure → Bool
 is_faultless told (Ok ends.Ok) = true
-is_faultless told (Ok (ends.Damaged page slot found)) = not told
+is_faultless told (Ok (ends.Damaged damage)) = not told
 is_faultless told (Err failure.NoMemory) = true
 is_faultless told _ = false

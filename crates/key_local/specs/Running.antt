@@ -15,7 +15,7 @@ use Rattle.edge_traits.specs.Written.{grown}
 use Rattle.local_links.specs.Journaling.{told_file}
 use Rattle.local_links.specs.declared.host_link.HostLink.{HostLink}
 use Rattle.key_exec.specs.Blaming.{IsDamaged}
-use Rattle.key_session.specs.declared.counts.Damage.{Damage}
+use Rattle.text_lines.specs.declared.damage.Damage.{Damage}
 use Rattle.key_session.specs.declared.tally.SessionStatus.{SessionStatus}
 use Rattle.key_session.specs.declared.tally.SessionStatus.TheVariants as status
 use Rattle.local_lines.specs.Lines.{Gives, is_cut}
@@ -31,10 +31,6 @@ is_of_local (status.Protocol kind at) = false
 is_of_local (status.Host code) = false
 is_of_local _ = true
 
--- a slot of a page, and what was found in it
-abbrev pub damage_at : (page slot found : ℕ) → Damage
-damage_at page slot found = record { page = page; slot = slot; found = found }
-
 -- whether an end comes only where no append failed: behind `Sink`, which is told first, one may have failed too
 abbrev pub clears_journal : LocalEnd → Bool
 clears_journal ends.Sink = false
@@ -44,7 +40,7 @@ clears_journal _ = true
 -- whether an end comes only where the flash failed in no text: behind `Sink` and `Depot` it may have failed too
 abbrev pub clears_flash : LocalEnd → Bool
 clears_flash ends.Ok = true
-clears_flash (ends.Damaged page slot found) = true
+clears_flash (ends.Damaged damage) = true
 clears_flash _ = false
 
 -- a host that holds the public part of some database of the catalog is linked
@@ -71,4 +67,4 @@ pub record RanOver (told : Bool) (catalog : Catalog) (database : Database) (text
   pub called : end ≡ ends.Flash → Rose before.device.calls after.device.calls
   pub damage_called : is_damaged end ≡ true → Rose before.device.calls after.device.calls
   pub undamaged : told ≡ true → is_damaged end ≡ false
-  pub damaged : (page slot found : ℕ) → end ≡ ends.Damaged page slot found → IsDamaged told after.device.page catalog page slot found
+  pub damaged : (damage : Damage) → end ≡ ends.Damaged damage → IsDamaged told after.device.page catalog damage.page damage.slot damage.found

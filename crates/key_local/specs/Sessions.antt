@@ -19,6 +19,7 @@ use Rattle.edge_traits.specs.Devices.{Device}
 use Rattle.edge_traits.specs.Files.{Files, HasFile, SameBut}
 use Rattle.edge_traits.specs.Written.{grown}
 use Rattle.key_exec.specs.Blaming.{IsDamaged}
+use Rattle.text_lines.specs.declared.damage.Damage.{Damage}
 use Rattle.key_session.specs.Telling.{SessionSide, session_side}
 use Rattle.key_words.specs.Words.{Local}
 use Rattle.local_lines.specs.Lines.{Gives, is_cut}
@@ -70,7 +71,7 @@ is_sink ends.Sink = true
 is_sink _ = false
 
 abbrev pub is_damaged : LocalEnd → Bool
-is_damaged (ends.Damaged page slot found) = true
+is_damaged (ends.Damaged damage) = true
 is_damaged _ = false
 
 -- the file that is named for it has the lines of a journal and no more, where the depot tells its files
@@ -103,7 +104,7 @@ pub record Ran (told : Bool) (one : Subject) (end : LocalEnd) (before after : Lo
   -- pages are told none is
   pub damage_called : is_damaged end ≡ true → Rose (before.device.calls + pages_built (catalog_in one) (hidden_of one.schema one.database)) after.device.calls
   pub undamaged : told ≡ true → is_damaged end ≡ false
-  pub damaged : (page slot found : ℕ) → end ≡ ends.Damaged page slot found → IsDamaged told after.device.page (catalog_in one) page slot found
+  pub damaged : (damage : Damage) → end ≡ ends.Damaged damage → IsDamaged told after.device.page (catalog_in one) damage.page damage.slot damage.found
   -- and the flash has been made for it, under the name that the words say
   pub name : after.device.name ≡ Some one.words.flash
   pub holds : told ≡ true → HoldsSoFar after.device.page (catalog_in one) (hidden_of one.schema one.database)

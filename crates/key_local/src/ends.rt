@@ -4,6 +4,7 @@ ghost use Rattle.std.specs.Prelude.{◌≡◌};
 ghost use Rattle.key_local.specs.Renaming.{as_failure};
 
 use key_inputs::{InputFault, OpenFault};
+use text_lines::Damage;
 use thiserror::Error;
 
 /// How a session ended: the first of these that is so, in the order `Sink`, `Depot`, `Flash`, `Damaged`, `Ok`.
@@ -26,15 +27,8 @@ pub enum LocalEnd {
     Flash,
 
     /// A slot of the flash has no value which may stand there.
-    #[error("the flash is damaged: slot {slot} of page {page} begins with {found}")]
-    Damaged {
-        /// The page.
-        page: u32,
-        /// The slot in it, counted from 0.
-        slot: u32,
-        /// The slot's first eight bytes as a number, with bytes 0 after a shorter one.
-        found: u64,
-    },
+    #[error("the flash is damaged: {0}")]
+    Damaged(Damage),
 }
 
 /// Why there was no session: nothing was printed, and no move was made.

@@ -1,6 +1,6 @@
 //! The session.
 
-ghost use Rattle.std.specs.Prelude.{◌≡◌, ◌≤◌, ℕ, true, false, length};
+ghost use Rattle.std.specs.Prelude.{◌≡◌, ◌≤◌, true, false, length};
 ghost use Rattle.ghost_model.specs.core.Causes.{Rose};
 ghost use Rattle.ghost_model.specs.forms.Flash.{HoldsFilesSoFar};
 ghost use Rattle.ghost_model.specs.core.Honest.{IsCatalogOf};
@@ -16,7 +16,8 @@ ghost use Rattle.local_links.specs.Keeping.{named};
 ghost use Rattle.key_words.specs.Views.{local_view};
 ghost use Rattle.key_session.specs.Running as session;
 ghost use Rattle.key_local.specs.Preparing.{IsHosted};
-ghost use Rattle.key_local.specs.Running.{RanOver, IsSomeHosted, is_of_local, damage_at, clears_journal, clears_flash};
+ghost use Rattle.key_local.specs.Running.{RanOver, IsSomeHosted, is_of_local, clears_journal, clears_flash};
+ghost use Rattle.text_lines.specs.declared.damage.Damage.{Damage};
 ghost use Rattle.key_local.specs.declared.ends.LocalEnd.TheVariants as ends;
 ghost use Rattle.key_local.specs.Sessions.{SameBesides, is_sink, local_side};
 
@@ -26,7 +27,7 @@ use edge_traits::flash::Flash;
 use edge_traits::mem_depot::MemDepot;
 use edge_traits::sink::Sink;
 use ghost_model::schema::schemas_are_trees;
-use key_session::{Damage, Options, SessionStatus, run_session};
+use key_session::{Options, SessionStatus, run_session};
 use key_words::LocalWords;
 use local_lines::laws::told_texts_are_given;
 use local_links::host_link::HostLink;
@@ -47,7 +48,7 @@ fn end_of(status: SessionStatus, append_failed: bool) -> LocalEnd
     ensures flash { result ≡ LocalEnd.Flash → session.blames_flash status ≡ true }
     ensures no_flash { clears_flash result ≡ true → session.spares_flash status ≡ true }
     ensures whole { result ≡ LocalEnd.Ok → status ≡ SessionStatus.Ok }
-    ensures damaged { (page slot found : ℕ) → result ≡ ends.Damaged page slot found → status ≡ SessionStatus.Damaged (damage_at page slot found) }
+    ensures damaged { (damage : Damage) → result ≡ ends.Damaged damage → status ≡ SessionStatus.Damaged damage }
 {
     if let SessionStatus::Sink = status {
         return LocalEnd::Sink;
@@ -62,9 +63,7 @@ fn end_of(status: SessionStatus, append_failed: bool) -> LocalEnd
         SessionStatus::Protocol { .. } => unreachable!(),
         SessionStatus::Host { .. } => unreachable!(),
         SessionStatus::Flash => LocalEnd::Flash,
-        SessionStatus::Damaged(Damage { page, slot, found }) => {
-            LocalEnd::Damaged { page, slot, found }
-        }
+        SessionStatus::Damaged(damage) => LocalEnd::Damaged(damage),
     }
 }
 

@@ -19,7 +19,7 @@ use Rattle.key_session.specs.Damages.{IsSlot, MeetsFirst, AreKept}
 use Rattle.key_session.specs.Reasons.{HasReason, HaveReasons}
 use Rattle.key_session.specs.Telling.{SessionSide, TextTold, reasons_of, bytes_of, bytes_told, IsTold, AreTold, AreLeft}
 use Rattle.key_session.specs.declared.counts.Counts.{Counts}
-use Rattle.key_session.specs.declared.counts.Damage.{Damage}
+use Rattle.text_lines.specs.declared.damage.Damage.{Damage}
 
 some_same : {X : Type 0} (x y : X) → Some x ≡ Some y → x ≡ y
 some_same x y e = cc
@@ -82,7 +82,7 @@ flash_rose before now told.Answered tells e = cc
 flash_rose before now told.Host tells e = cc
 flash_rose before now told.Link tells e = cc
 flash_rose before now told.Protocol tells e = cc
-flash_rose before now (told.Damaged page slot found) tells e = cc
+flash_rose before now (told.Damaged damage) tells e = cc
 
 flash_stayed : (before now : ℕ) (result : Told) → ToldTells before now result → is_flash (reason_of result) ≡ false → now ≡ before
 flash_stayed before now told.Flash tells e = cc
@@ -91,7 +91,7 @@ flash_stayed before now told.Answered tells e = tells
 flash_stayed before now told.Host tells e = tells
 flash_stayed before now told.Link tells e = tells
 flash_stayed before now told.Protocol tells e = tells
-flash_stayed before now (told.Damaged page slot found) tells e = tells
+flash_stayed before now (told.Damaged damage) tells e = tells
 
 no_fall : (most before now : ℕ) → before ≤ most → min (before + 1) most ≤ now → before ≤ now
 no_fall most before now e r = omega (arith, e, r)
@@ -121,7 +121,7 @@ flash_called before now told.Answered called e = cc
 flash_called before now told.Host called e = cc
 flash_called before now told.Link called e = cc
 flash_called before now told.Protocol called e = cc
-flash_called before now (told.Damaged page slot found) called e = cc
+flash_called before now (told.Damaged damage) called e = cc
 
 damage_called : (before now : ℕ) (result : Told) → ToldCalls before now result → is_damage (reason_of result) ≡ true → Rose before now
 damage_called before now told.Flash called e = cc
@@ -130,7 +130,7 @@ damage_called before now told.Answered called e = cc
 damage_called before now told.Host called e = cc
 damage_called before now told.Link called e = cc
 damage_called before now told.Protocol called e = cc
-damage_called before now (told.Damaged page slot found) called e = called
+damage_called before now (told.Damaged damage) called e = called
 
 pub still_no_fall : (most since before now : ℕ) → min since most ≤ before → min before most ≤ now → min since most ≤ now
 still_no_fall most since before now e f = omega (arith, e, f)
@@ -171,7 +171,7 @@ damage_told told.Host = refl
 damage_told told.Link = refl
 damage_told told.Protocol = refl
 damage_told told.Flash = refl
-damage_told (told.Damaged page slot found) = refl
+damage_told (told.Damaged damage) = refl
 
 module _ (pages_told : Bool) (page : ℕ → List ℕ) (catalog : Catalog) where
   slot_told : (result : Told) (damage : Damage) → ToldBlames pages_told page catalog result → damage_in result ≡ Some damage → IsSlot pages_told page catalog damage
@@ -181,7 +181,7 @@ module _ (pages_told : Bool) (page : ℕ → List ℕ) (catalog : Catalog) where
   slot_told told.Link damage blames e = cc
   slot_told told.Protocol damage blames e = cc
   slot_told told.Flash damage blames e = cc
-  slot_told (told.Damaged number slot found) damage blames e = subst (λ (d : Damage). IsSlot pages_told page catalog d) (some_same (record { page = number; slot = slot; found = found }) damage e) blames
+  slot_told (told.Damaged met) damage blames e = subst (λ (d : Damage). IsSlot pages_told page catalog d) (some_same met damage e) blames
 
   -- the damage that was met first is that of a slot
   pub one_damage : (before after : Option Damage) (result : Told) → after ≡ first_damage before (damage_in result) → ToldBlames pages_told page catalog result

@@ -161,7 +161,7 @@ module _ (catalog : Catalog) (texts : List (List ℕ)) (journal : Journal) (plac
   broken_so kept lines accepted state c unended told.Refused are = absurd are
   broken_so kept lines accepted state c unended told.Answered are = absurd are
   broken_so kept lines accepted state c unended told.Flash are = absurd are
-  broken_so kept lines accepted state c unended (told.Damaged page slot found) are = absurd are
+  broken_so kept lines accepted state c unended (told.Damaged damage) are = absurd are
   broken_so kept lines accepted state c unended told.Host are = broken_lines kept lines _ accepted (subst Came are.0 c) are.1
   broken_so kept lines accepted state c unended told.Protocol are = broken_lines kept lines _ accepted (subst Came are.0 c) are.1
   broken_so kept lines accepted state_is.Link c unended told.Link are = broken_lines kept lines _ accepted c are.1
@@ -179,7 +179,7 @@ module _ (catalog : Catalog) (texts : List (List ℕ)) (journal : Journal) (plac
   answered_so kept lines accepted d told.Link are = absurd are
   answered_so kept lines accepted d told.Protocol are = absurd are
   answered_so kept lines accepted d told.Flash are = record { query = query; accepted = accepted; done = d.done; given = are.given; left = are.left; front = are.front; answer = are.are }
-  answered_so kept lines accepted d (told.Damaged page slot found) are = absurd are
+  answered_so kept lines accepted d (told.Damaged damage) are = absurd are
 
   pub answered_undamaged : (kept : List given.Reply) (rows : Hidden) (lines : List (List ℕ)) (result : Told) → AreAnswerLines (suc place) (answer_from catalog.schema rows query kept) lines result → is_damage (reason_of result) ≡ false
   answered_undamaged kept rows lines told.Refused are = refl
@@ -188,7 +188,7 @@ module _ (catalog : Catalog) (texts : List (List ℕ)) (journal : Journal) (plac
   answered_undamaged kept rows lines told.Link are = refl
   answered_undamaged kept rows lines told.Protocol are = refl
   answered_undamaged kept rows lines told.Flash are = refl
-  answered_undamaged kept rows lines (told.Damaged page slot found) are = absurd are
+  answered_undamaged kept rows lines (told.Damaged damage) are = absurd are
 
   pub broken_undamaged : (state : ReplyState) (lines : List (List ℕ)) (result : Told) → AreBrokenLines (suc place) state lines result → is_damage (reason_of result) ≡ false
   broken_undamaged state lines told.Refused are = refl
@@ -197,7 +197,7 @@ module _ (catalog : Catalog) (texts : List (List ℕ)) (journal : Journal) (plac
   broken_undamaged state lines told.Link are = refl
   broken_undamaged state lines told.Protocol are = refl
   broken_undamaged state lines told.Flash are = refl
-  broken_undamaged state lines (told.Damaged page slot found) are = absurd are
+  broken_undamaged state lines (told.Damaged damage) are = absurd are
 
 -- the lines that were printed of the text at a place
 pub told_so : (catalog : Catalog) (kept : Hidden) (texts : List (List ℕ)) (journal : Journal) (place : ℕ) (written : List ℕ) → slice_get texts place ≡ Some written
@@ -265,7 +265,7 @@ module _ (catalog : Catalog) (texts : List (List ℕ)) (journal : Journal) (plac
       of told.Link is = came_broken is.query is.accepted state is.came.0 (cames is.query is.accepted)
       of told.Protocol is = came_broken is.query is.accepted state (protocol_undone state is.came) (cames is.query is.accepted)
       of told.Flash is = came_done is.query is.accepted state is.came (cames is.query is.accepted)
-      of (told.Damaged page slot found) is = came_done is.query is.accepted state is.came (cames is.query is.accepted)
+      of (told.Damaged damage) is = came_done is.query is.accepted state is.came (cames is.query is.accepted)
 
 -- no ask of a settled text is at hand
 none_at_hand : (asks : List NumberedAsk) (schema : Schema) (text : ℕ) (rows : List ℕ) (awaits : Awaits) → is_settled asks text awaits ≡ true → at_hand schema text rows (asked_in awaits) ≡ []

@@ -53,7 +53,7 @@ never_falls since before now result e tells = by result tells
     by told.Host t = subst (λ (n : ℕ). min since last_count ≤ n) (sym t) e
     by told.Link t = subst (λ (n : ℕ). min since last_count ≤ n) (sym t) e
     by told.Protocol t = subst (λ (n : ℕ). min since last_count ≤ n) (sym t) e
-    by (told.Damaged page slot found) t = subst (λ (n : ℕ). min since last_count ≤ n) (sym t) e
+    by (told.Damaged damage) t = subst (λ (n : ℕ). min since last_count ≤ n) (sym t) e
 
 pub pages_stay : (since between now : Device) → KeepsPages since between → KeepsPages between now → KeepsPages since now
 pages_stay since between now first second = kept_trans first second

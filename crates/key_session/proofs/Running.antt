@@ -34,7 +34,7 @@ use Rattle.key_session.specs.Going.{IsGoing, HasGone}
 use Rattle.key_session.specs.Running.{HasRun, IsTally, status_with, protocol_or, host_or, blames_flash, is_damaged, spares_flash}
 use Rattle.key_session.specs.declared.teller.Teller.{Teller}
 use Rattle.key_session.specs.declared.counts.Counts.{Counts}
-use Rattle.key_session.specs.declared.counts.Damage.{Damage}
+use Rattle.text_lines.specs.declared.damage.Damage.{Damage}
 use Rattle.key_session.specs.declared.tally.SessionStatus.{SessionStatus}
 use Rattle.key_session.specs.declared.tally.SessionStatus.TheVariants as way
 use Rattle.key_session.specs.declared.tally.Tally.{Tally}

@@ -5,7 +5,7 @@ use Rattle.ghost_model.specs.core.Lines.{Reason, WasRefused, WasBroken, WasAnswe
 use Rattle.text_lines.specs.declared.text.Told.{Told}
 use Rattle.text_lines.specs.declared.text.Told.TheVariants as told
 use Rattle.key_session.specs.declared.counts.Counts.{Counts}
-use Rattle.key_session.specs.declared.counts.Damage.{Damage}
+use Rattle.text_lines.specs.declared.damage.Damage.{Damage}
 
 abbrev pub reason_of : Told → Reason
 reason_of told.Refused = WasRefused
@@ -14,7 +14,7 @@ reason_of told.Host = WasBroken
 reason_of told.Link = WasBroken
 reason_of told.Protocol = WasBroken
 reason_of told.Flash = MetFault OnFlash
-reason_of (told.Damaged page slot found) = MetFault OnDamage
+reason_of (told.Damaged damage) = MetFault OnDamage
 
 abbrev pub is_refusal : Reason → Bool
 is_refusal WasRefused = true
@@ -47,7 +47,7 @@ one_if test = if test then 1 else 0
 
 -- the damage that is told of a text, and the first of two that may have been met
 abbrev pub damage_in : Told → Option Damage
-damage_in (told.Damaged page slot found) = Some (record { page = page; slot = slot; found = found })
+damage_in (told.Damaged damage) = Some damage
 damage_in _ = None
 
 abbrev pub first_damage : Option Damage → Option Damage → Option Damage

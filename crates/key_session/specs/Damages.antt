@@ -6,7 +6,7 @@ use Rattle.ghost_model.specs.core.Lines.{Reason}
 use Rattle.key_exec.specs.Blaming.{IsDamaged}
 use Rattle.key_session.specs.Counting.{first_of, is_damage, AreCounted}
 use Rattle.key_session.specs.declared.counts.Counts.{Counts}
-use Rattle.key_session.specs.declared.counts.Damage.{Damage}
+use Rattle.text_lines.specs.declared.damage.Damage.{Damage}
 
 -- whatever the pages hold
 abbrev pub IsSlot : (pages_told : Bool) (page : ℕ → List ℕ) → Catalog → Damage → Type 0

@@ -24,7 +24,7 @@ use Rattle.text_lines.specs.Rows.{PrintsSome}
 use Rattle.key_session.specs.Counting.{is_flash, is_damage, AreUndamaged}
 use Rattle.key_session.specs.Damages.{IsSlot, AreKept}
 use Rattle.key_session.specs.Reasons.{HaveReasons}
-use Rattle.key_session.specs.declared.counts.Damage.{Damage}
+use Rattle.text_lines.specs.declared.damage.Damage.{Damage}
 use Rattle.key_session.specs.declared.teller.Teller.{Teller}
 
 -- the side of the outside that a session changes, its link aside: where the lines go, and the flash

@@ -3,18 +3,7 @@
 ghost use Rattle.std.specs.Prelude.{◌≡◌, ◌<◌, ◌≤◌, ◌+◌};
 ghost use Rattle.key_session.specs.Counting.{IsCounted, damage_in, first_damage, reason_of};
 
-use text_lines::Told;
-
-/// A slot of the flash that has no value which may stand there.
-#[derive(Clone, Copy)]
-pub struct Damage {
-    /// The page.
-    pub page: u32,
-    /// The slot in it, counted from 0.
-    pub slot: u32,
-    /// The slot's first eight bytes as a number, with bytes 0 after a shorter one.
-    pub found: u64,
-}
+use text_lines::{Damage, Told};
 
 /// What was counted of the texts that were told.
 #[derive(Clone, Copy)]
@@ -47,10 +36,10 @@ impl Counts {
                 self.faulted += 1;
                 self.by_flash = true;
             }
-            Told::Damaged { page, slot, found } => {
+            Told::Damaged(damage) => {
                 self.faulted += 1;
                 if self.damage.is_none() {
-                    self.damage = Some(Damage { page, slot, found });
+                    self.damage = Some(damage);
                 }
             }
         }

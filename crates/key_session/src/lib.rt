@@ -12,7 +12,6 @@ pub mod tally;
 mod teller;
 mod telling;
 
-pub use counts::Damage;
 pub use options::Options;
 pub use session::run_session;
 pub use tally::{SessionStatus, Tally};

@@ -7,8 +7,9 @@ ghost use Rattle.key_session.specs.Refusing.{first_code};
 ghost use Rattle.key_session.specs.Running as running;
 ghost use Rattle.key_session.specs.Running.{is_sink, status_with};
 
-use crate::counts::{Counts, Damage};
+use crate::counts::Counts;
 use channel_pump::state::Cause;
+use text_lines::Damage;
 
 /// How a session ended: the first of these that is so, in the order `Sink`, `Link`, `Protocol`, `Host`, `Flash`, `Damaged`,
 /// `Ok`.

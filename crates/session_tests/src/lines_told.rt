@@ -6,6 +6,7 @@ use key_inputs::{BrokenTable, RecordNamed, Shown};
 use key_local::{LocalEnd, LocalFailure};
 use key_words::UsageFault;
 use std::alloc::AllocError;
+use text_lines::Damage;
 
 const LOCAL: &str =
     "key local --schema schema --data tables --flash flash --script script --journal journal";
@@ -21,11 +22,11 @@ fn want_of_memory_and_damage_of_local_are_told(rt: HostRuntime) -> Result<(), Al
     for word in LOCAL.split(' ') {
         words.push(String::from_str(rt.alloc(), word)?)?;
     }
-    let damaged = LocalEnd::Damaged {
+    let damaged = LocalEnd::Damaged(Damage {
         page: 79,
         slot: 1,
         found: 4,
-    };
+    });
     let cases = [
         (Ended::NoMemory, 3u8, NO_MEMORY),
         (Ended::Local(Err(LocalFailure::NoMemory)), 3, NO_MEMORY),

@@ -73,4 +73,4 @@ told_begun schema text state query told.Host accepted done begun = cc
 told_begun schema text state query told.Link accepted done begun = cc
 told_begun schema text state query told.Protocol accepted done begun = cc
 told_begun schema text state query told.Flash accepted done begun = record { query = query; accepted = accepted; came = done }
-told_begun schema text state query (told.Damaged page slot found) accepted done begun = record { query = query; accepted = accepted; came = done }
+told_begun schema text state query (told.Damaged damage) accepted done begun = record { query = query; accepted = accepted; came = done }

@@ -19,7 +19,7 @@ pub record PrintsSome (before after : Handed) : Type 0 where
 abbrev pub EndsBy : (left : List Row) → (given : ℕ) → End → Type 0
 EndsBy left given (ended.Whole number) = (left ≡ []) × (number ≡ given)
 EndsBy left given ended.Flash = ⊤
-EndsBy left given (ended.Damaged page slot found) = ⊥
+EndsBy left given (ended.Damaged damage) = ⊥
 
 -- rows from the front were printed, where so many were given before
 pub record GivesEnd (rows : List Row) (count : ℕ) (before after : Handed) (result : End) : Type 0 where
@@ -33,16 +33,16 @@ pub record GivesEnd (rows : List Row) (count : ℕ) (before after : Handed) (res
 abbrev pub EndTells : (before now : ℕ) → End → Type 0
 EndTells before now (ended.Whole number) = now ≡ before
 EndTells before now ended.Flash = Rose before now
-EndTells before now (ended.Damaged page slot found) = now ≡ before
+EndTells before now (ended.Damaged damage) = now ≡ before
 
 -- a flash that is blamed, or a slot of it, was called
 abbrev pub EndCalls : (before now : ℕ) → End → Type 0
 EndCalls before now (ended.Whole number) = ⊤
 EndCalls before now ended.Flash = Rose before now
-EndCalls before now (ended.Damaged page slot found) = Rose before now
+EndCalls before now (ended.Damaged damage) = Rose before now
 
 -- a slot that is blamed is that of a row in the file of a hidden column, whatever the pages hold
 abbrev pub EndBlames : (pages_told : Bool) (page : ℕ → List ℕ) → Catalog → End → Type 0
 EndBlames pages_told page catalog (ended.Whole number) = ⊤
 EndBlames pages_told page catalog ended.Flash = ⊤
-EndBlames pages_told page catalog (ended.Damaged number slot found) = IsDamaged pages_told page catalog number slot found
+EndBlames pages_told page catalog (ended.Damaged damage) = IsDamaged pages_told page catalog damage.page damage.slot damage.found

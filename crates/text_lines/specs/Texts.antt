@@ -32,7 +32,7 @@ AreAnswerLines number rows lines told.Host = ⊥
 AreAnswerLines number rows lines told.Link = ⊥
 AreAnswerLines number rows lines told.Protocol = ⊥
 AreAnswerLines number rows lines told.Flash = AreFlashLines number rows lines
-AreAnswerLines number rows lines (told.Damaged page slot found) = ⊥
+AreAnswerLines number rows lines (told.Damaged damage) = ⊥
 
 -- the lines of an answer with these rows were printed
 pub record TellsAnswer (number : ℕ) (rows : List Row) (before after : Handed) (result : Told) : Type 0 where
@@ -51,7 +51,7 @@ AreBrokenLines number state lines told.Host = (state ≡ state_is.Host) × (line
 AreBrokenLines number state lines told.Link = ((state ≡ state_is.Protocol → ⊥) × (state ≡ state_is.Host → ⊥)) × (lines ≡ broken_line number (codes "link"))
 AreBrokenLines number state lines told.Protocol = (state ≡ state_is.Protocol) × (lines ≡ broken_line number (codes "protocol"))
 AreBrokenLines number state lines told.Flash = ⊥
-AreBrokenLines number state lines (told.Damaged page slot found) = ⊥
+AreBrokenLines number state lines (told.Damaged damage) = ⊥
 
 pub record TellsBroken (number : ℕ) (state : ReplyState) (before after : Handed) (result : Told) : Type 0 where
   pub lines : List (List ℕ)
@@ -96,7 +96,7 @@ ToldTells before now told.Host = now ≡ before
 ToldTells before now told.Link = now ≡ before
 ToldTells before now told.Protocol = now ≡ before
 ToldTells before now told.Flash = Rose before now
-ToldTells before now (told.Damaged page slot found) = now ≡ before
+ToldTells before now (told.Damaged damage) = now ≡ before
 
 -- a flash that is blamed, or a slot of it, was called
 abbrev pub ToldCalls : (before now : ℕ) → Told → Type 0
@@ -106,7 +106,7 @@ ToldCalls before now told.Host = ⊤
 ToldCalls before now told.Link = ⊤
 ToldCalls before now told.Protocol = ⊤
 ToldCalls before now told.Flash = Rose before now
-ToldCalls before now (told.Damaged page slot found) = Rose before now
+ToldCalls before now (told.Damaged damage) = Rose before now
 
 -- why a text is told so, whatever the pages of the flash hold: its reading, and the state of its replies
 pub record IsRefusedText (schema : Schema) (text : List ℕ) : Type 0 where
@@ -126,7 +126,7 @@ is_begun told.Host = false
 is_begun told.Link = false
 is_begun told.Protocol = false
 is_begun told.Flash = true
-is_begun (told.Damaged page slot found) = true
+is_begun (told.Damaged damage) = true
 
 -- the state of the replies of a text whose asks did not all come to their end, by what is told of it
 abbrev pub BrokenBy : ReplyState → Told → Type 0
@@ -136,7 +136,7 @@ BrokenBy state told.Host = state ≡ state_is.Host
 BrokenBy state told.Link = (state ≡ state_is.Protocol → ⊥) × (state ≡ state_is.Host → ⊥)
 BrokenBy state told.Protocol = state ≡ state_is.Protocol
 BrokenBy state told.Flash = ⊥
-BrokenBy state (told.Damaged page slot found) = ⊥
+BrokenBy state (told.Damaged damage) = ⊥
 
 abbrev pub IsToldBy : Schema → (text : List ℕ) → ReplyState → Told → Type 0
 IsToldBy schema text state told.Refused = IsRefusedText schema text
@@ -145,7 +145,7 @@ IsToldBy schema text state told.Host = IsAccepted schema text (state ≡ state_i
 IsToldBy schema text state told.Link = IsAccepted schema text ((state ≡ state_is.Done → ⊥) × ((state ≡ state_is.Protocol → ⊥) × (state ≡ state_is.Host → ⊥)))
 IsToldBy schema text state told.Protocol = IsAccepted schema text (state ≡ state_is.Protocol)
 IsToldBy schema text state told.Flash = IsAccepted schema text (state ≡ state_is.Done)
-IsToldBy schema text state (told.Damaged page slot found) = IsAccepted schema text (state ≡ state_is.Done)
+IsToldBy schema text state (told.Damaged damage) = IsAccepted schema text (state ≡ state_is.Done)
 
 -- a slot that is blamed is that of a row in the file of a hidden column, whatever the pages hold
 abbrev pub ToldBlames : (pages_told : Bool) (page : ℕ → List ℕ) → Catalog → Told → Type 0
@@ -155,4 +155,4 @@ ToldBlames pages_told page catalog told.Host = ⊤
 ToldBlames pages_told page catalog told.Link = ⊤
 ToldBlames pages_told page catalog told.Protocol = ⊤
 ToldBlames pages_told page catalog told.Flash = ⊤
-ToldBlames pages_told page catalog (told.Damaged number slot found) = IsDamaged pages_told page catalog number slot found
+ToldBlames pages_told page catalog (told.Damaged damage) = IsDamaged pages_told page catalog damage.page damage.slot damage.found

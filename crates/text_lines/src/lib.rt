@@ -4,7 +4,9 @@
 //! and every other text the rows of its answer and their number, or a fault of the key's flash behind some of them.
 #![tactic(auto)]
 
+pub mod damage;
 mod rows;
 pub mod text;
 
+pub use damage::Damage;
 pub use text::{Told, print_text};

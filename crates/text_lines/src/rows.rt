@@ -14,6 +14,7 @@ ghost use Rattle.key_exec.specs.Plans.{Suffices};
 ghost use Rattle.key_exec.specs.Reading.{Knows, AreOfAsked};
 ghost use Rattle.text_lines.specs.Rows.{GivesEnd, PrintsSome, EndTells, EndCalls, EndBlames};
 
+use crate::damage::Damage;
 use edge_traits::flash::Flash;
 use edge_traits::sink::Sink;
 use key_exec::{Job, Turn};
@@ -33,7 +34,7 @@ pub enum End {
     /// The flash failed.
     Flash,
     /// A slot has no value that may stand there.
-    Damaged { page: u32, slot: u32, found: u64 },
+    Damaged(Damage),
 }
 
 /// Prints the rows of a query's answer, and answers how they ended.
@@ -69,7 +70,9 @@ pub(crate) fn print_rows<F: Flash, O: Sink>(
             Turn::Line => printer.row(out, job.row()),
             Turn::Done(rows) => return End::Whole(rows),
             Turn::Flash => return End::Flash,
-            Turn::Damaged { page, slot, found } => return End::Damaged { page, slot, found },
+            Turn::Damaged { page, slot, found } => {
+                return End::Damaged(Damage { page, slot, found });
+            }
         }
     }
 }

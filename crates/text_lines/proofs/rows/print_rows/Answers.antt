@@ -105,6 +105,6 @@ returns-in-Damaged-clause-rows g c = λ database knows ascending text read of_as
     c.begin-job.result c.rows.job c.slice.new.self replies
     (handed c.args.printer.now.failed (g.O.Sink.faults c.args.out.now) (g.O.Sink.written c.args.out.now))
     (handed c.rows.printer.failed (g.O.Sink.faults c.rows.out) (g.O.Sink.written c.rows.out))
-    (turn.Damaged c.in-Damaged.page c.in-Damaged.slot c.in-Damaged.found) (ended.Damaged c.in-Damaged.page c.in-Damaged.slot c.in-Damaged.found)
+    (turn.Damaged c.in-Damaged.page c.in-Damaged.slot c.in-Damaged.found) (ended.Damaged (record { page = c.in-Damaged.page; slot = c.in-Damaged.slot; found = c.in-Damaged.found }))
     c.rows.invariant (λ t one. c.in-Damaged.ensures.gives t cat c.args.query.now one)
     (λ rows left gives. gives) database all _ (c.begin-job.ensures.rows database knows.is knows.counts replies text read) c.begin-job.ensures.given
