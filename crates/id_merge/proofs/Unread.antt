@@ -1,5 +1,5 @@
 -- The pages that are still to be read for a list, from one call to the next.
-use Rattle.std.proofs.Common.{◌≡◌, ◌≢◌, ◌∙◌, ℕ, zero, suc, ◌+◌, ◌-◌, ◌*◌, ◌/◌, ◌%◌, ◌<◌, ◌≤◌, ◌⊎◌, inl, inr, Bool, true, false, not, ◌&&◌, nat_lt, nat_eq, if◌then◌else◌, ap, sym, refl, subst, Option, Some, None, Result, Ok, Err, arith}
+use Rattle.std.proofs.Common.{◌≡◌, ◌≢◌, ◌∙◌, ℕ, ◌+◌, ◌-◌, ◌*◌, ◌/◌, ◌%◌, ◌<◌, ◌≤◌, ◌⊎◌, inl, inr, Bool, true, false, not, ◌&&◌, nat_lt, nat_eq, if◌then◌else◌, ap, sym, refl, subst, Option, Some, None, arith}
 use Rattle.std.proofs.lemmas.Bool.{cases_lt, ltb-true, ltb-false, lt-ltb, eqb-true, eqb-false}
 use Rattle.std.proofs.lemmas.Nat.{le-div, div-mul-add, div-add-mod'}
 use Rattle.std.proofs.Math.Nat.{mod-lt}
