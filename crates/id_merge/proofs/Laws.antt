@@ -1,6 +1,7 @@
 -- Laws for those who make a merge, or do other work between its steps.
-use Rattle.std.proofs.Common.{◌≡◌, ◌∙◌, ℕ, zero, suc, ◌+◌, ◌-◌, ◌*◌, ◌/◌, ◌<◌, ◌≤◌, inl, inr, Bool, true, false, if◌then◌else◌, List, [], ◌∷◌, ◌++◌, length, ap, sym, refl, subst, IfSome, Option, None, Some, Result, Ok, Err, arith}
+use Rattle.std.proofs.Common.{◌≡◌, ◌∙◌, ℕ, zero, suc, ◌+◌, ◌-◌, ◌*◌, ◌/◌, ◌<◌, ◌≤◌, inl, inr, Bool, true, false, if◌then◌else◌, nat_lt, List, [], ◌∷◌, ◌++◌, length, ap, sym, refl, subst, IfSome, Option, None, Some, Result, Ok, Err, arith}
 use Rattle.std.specs.Bool.{⊤}
+use Rattle.std.proofs.lemmas.Bool.{ltb-true}
 use Rattle.std.proofs.lemmas.Nat.{div-add-mod', div_below}
 use Rattle.std.proofs.Math.Nat.{mod-lt}
 use Rattle.std.proofs.lemmas.List.Sums.{sum_by-cons}
@@ -17,7 +18,7 @@ use Rattle.flash_pages.specs.Cursors.{IsReady, IsPageOf, will_read}
 use Rattle.flash_pages.specs.Faults.{BlamesNoSlot}
 use Rattle.id_merge.specs.declared.cursor.Cursor.{Cursor}
 use Rattle.id_merge.specs.declared.cursor.Cursor.TheVariants.{List as OfList, Range}
-use Rattle.id_merge.specs.Cursors.{cursor_at, leases_of, left_of, left_in, unread_list, unread_of, unread_in, id_in, id_before, ListAscends, IsOfRows, IsRight, CursorRight, AreRight, CursorReady, AllReady, GoesOn, BlamesOutOfRows}
+use Rattle.id_merge.specs.Cursors.{cursor_at, leases_of, left_of, left_in, at_hand_of, at_hand_in, unread_list, unread_of, unread_in, id_in, id_before, ListAscends, IsOfRows, IsRight, CursorRight, AreRight, CursorReady, AllReady, GoesOn, BlamesOutOfRows}
 use Rattle.id_merge.proofs.Holding.{lease_out, sum_same}
 use Rattle.id_merge.proofs.ListReads.{before_same}
 use Rattle.id_merge.proofs.Unread.{div_mono}
@@ -204,6 +205,10 @@ unread_same pool later cursors same =
 abbrev bit : Bool → ℕ
 bit b = if b then 1 else 0
 
+bit_none : (b : Bool) → (b ≡ true → ⊥) → bit b ≡ 0
+bit_none true none = absurd (none refl)
+bit_none false none = refl
+
 bit_most : (b : Bool) → bit b ≤ 1
 bit_most true = omega arith
 bit_most false = omega arith
@@ -231,7 +236,7 @@ few_unread pool run some within =
     )
 
 -- of lists of identifiers alone, four bytes each
-abbrev IsOfIds : Cursor → Type 0
+abbrev pub IsOfIds : Cursor → Type 0
 IsOfIds (OfList run) = (run.list.run.width ≡ 4) × (run.at ≤ run.list.count)
 IsOfIds (Range low high) = ⊤
 
@@ -261,3 +266,24 @@ few_in_all pool (Range low high ∷ cursors) of =
       sum_by-cons left_of (Range low high) cursors,
       few_in_all pool cursors (λ i. of (suc i)),
     )
+
+-- what lists that are begun have at hand is what is in them
+abbrev pub IsBegun : Cursor → Type 0
+IsBegun (OfList run) = run.last ≡ 0
+IsBegun (Range low high) = ⊥
+
+none_looked_at : (last at : ℕ) → at ≡ 0 → bit (nat_lt last at) ≡ 0
+none_looked_at last at is = bit_none (nat_lt last at) (λ less. omega (arith, is, ltb-true last at less))
+
+pub hand_begun : (last : ℕ) (cursors : List Cursor) → ((i : ℕ) → i < length cursors → IsBegun (cursor_at cursors i)) → at_hand_in last cursors ≡ left_in cursors
+hand_begun last [] begun = refl
+hand_begun last (OfList run ∷ cursors) begun =
+    let here : run.last ≡ 0 = begun zero (omega arith) in
+    omega (
+      arith,
+      sum_by-cons (at_hand_of last) (OfList run) cursors,
+      sum_by-cons left_of (OfList run) cursors,
+      none_looked_at last run.last here,
+      hand_begun last cursors (λ i within. begun (suc i) (omega (arith, within))),
+    )
+hand_begun last (Range low high ∷ cursors) begun = absurd (begun zero (omega arith))
