@@ -1,12 +1,13 @@
 -- The leases of several cursors: each is out, and is none of the others'.
-use Rattle.std.proofs.Common.{◌≡◌, ◌≢◌, ◌∙◌, ℕ, zero, suc, ◌+◌, ◌<◌, true, false, List, [], ◌∷◌, length, ap, sym, refl, subst, get_or, slice_set, arith}
+use Rattle.std.proofs.Common.{◌≡◌, ◌≢◌, ◌∙◌, ℕ, zero, suc, ◌+◌, ◌<◌, true, false, List, [], ◌∷◌, length, sum_by, ap, sym, refl, subst, get_or, slice_set, arith}
+use Rattle.std.proofs.lemmas.List.Sums.{sum_by-cons}
 use Rattle.page_pool.specs.Pools.{Pool, IsOut, AreOut, given, others_out}
 use Rattle.page_pool.proofs.Marks.{other_was_out, other_is_another}
 use Rattle.page_pool.proofs.Leases.{other_out}
 use Rattle.flash_pages.specs.declared.cursor.RunCursor.{RunCursor}
 use Rattle.id_merge.specs.declared.cursor.Cursor.{Cursor}
 use Rattle.id_merge.specs.declared.cursor.Cursor.TheVariants.{List as OfList, Range}
-use Rattle.id_merge.specs.Cursors.{cursor_at, leases_of, left_of, left_in}
+use Rattle.id_merge.specs.Cursors.{cursor_at, leases_of}
 
 lease_of_same : (one other : RunCursor) → OfList one ≡ OfList other → one.lease ≡ other.lease
 lease_of_same one other is = let same : one ≡ other = cc in ap (λ (run : RunCursor). run.lease) same
@@ -69,9 +70,23 @@ leases_set (OfList first ∷ cursors) (suc i) run now is same = ap (λ leases. f
 leases_set (Range low high ∷ cursors) zero run now is same = absurd (cc)
 leases_set (Range low high ∷ cursors) (suc i) run now is same = leases_set cursors i run now is same
 
-pub left_set :
-    (cursors : List Cursor) (i : ℕ) (cursor : Cursor) → i < length cursors
-    → left_in (slice_set cursors i cursor) + left_of (cursor_at cursors i) ≡ left_in cursors + left_of cursor
-left_set [] i cursor within = absurd (omega arith)
-left_set (first ∷ cursors) zero cursor within = omega arith
-left_set (first ∷ cursors) (suc i) cursor within = omega (arith, left_set cursors i cursor (omega arith))
+-- what is counted of each of several cursors, where one of them changes
+pub sum_same :
+    (f g : Cursor → ℕ) (cursors : List Cursor) → ((i : ℕ) → g (cursor_at cursors i) ≡ f (cursor_at cursors i)) → sum_by g cursors ≡ sum_by f cursors
+sum_same f g [] same = refl
+sum_same f g (first ∷ cursors) same =
+    let here : g first ≡ f first = same zero in
+    omega (arith, sum_by-cons f first cursors, sum_by-cons g first cursors, here, sum_same f g cursors (λ i. same (suc i)))
+
+pub sum_set :
+    (f g : Cursor → ℕ) (cursors : List Cursor) (i : ℕ) (cursor : Cursor) → i < length cursors
+    → ((k : ℕ) → k ≢ i → g (cursor_at cursors k) ≡ f (cursor_at cursors k))
+    → sum_by g (slice_set cursors i cursor) + f (cursor_at cursors i) ≡ sum_by f cursors + g cursor
+sum_set f g [] i cursor within same = absurd (omega arith)
+sum_set f g (first ∷ cursors) zero cursor within same =
+    let rest = sum_same f g cursors (λ k. same (suc k) (λ (is : suc k ≡ zero). omega (arith, is))) in
+    omega (arith, sum_by-cons g cursor cursors, sum_by-cons f first cursors, rest)
+sum_set f g (first ∷ cursors) (suc i) cursor within same =
+    let here : g first ≡ f first = same zero (λ (is : zero ≡ suc i). omega (arith, is)) in
+    let rest = sum_set f g cursors i cursor (omega arith) (λ k apart. same (suc k) (λ (is : suc k ≡ suc i). apart (omega (arith, is)))) in
+    omega (arith, sum_by-cons g first (slice_set cursors i cursor), sum_by-cons f first cursors, here, rest)

@@ -1,17 +1,28 @@
 -- Laws for those who make a merge, or do other work between its steps.
-use Rattle.std.proofs.Common.{◌≡◌, ◌∙◌, ℕ, zero, suc, ◌+◌, ◌<◌, ◌≤◌, inl, inr, Bool, true, List, [], ◌∷◌, ◌++◌, ap, sym, refl, subst, IfSome, Option, None, Some, arith}
+use Rattle.std.proofs.Common.{◌≡◌, ◌∙◌, ℕ, zero, suc, ◌+◌, ◌-◌, ◌*◌, ◌/◌, ◌<◌, ◌≤◌, inl, inr, Bool, true, false, if◌then◌else◌, nat_lt, List, [], ◌∷◌, ◌++◌, length, ap, sym, refl, subst, IfSome, Option, None, Some, Result, Ok, Err, arith}
+use Rattle.std.specs.Bool.{⊤}
+use Rattle.std.proofs.lemmas.Bool.{ltb-true}
+use Rattle.std.proofs.lemmas.Nat.{div-add-mod', div_below}
+use Rattle.std.proofs.Math.Nat.{mod-lt}
+use Rattle.std.proofs.lemmas.List.Sums.{sum_by-cons}
 use Rattle.ghost_model.specs.forms.Runs as runs
-use Rattle.ghost_model.specs.forms.Runs.{record_at}
+use Rattle.ghost_model.specs.forms.Runs.{record_at, per_page}
 use Rattle.ghost_base.specs.Runs.{run_of}
 use Rattle.edge_traits.specs.Devices.{Device}
 use Rattle.page_pool.specs.Pools.{Pool, IsOut, AreOut, bytes_at, page_at}
 use Rattle.page_pool.specs.Laws.{SameBuffer}
 use Rattle.flash_pages.specs.declared.cursor.RunCursor.{RunCursor}
-use Rattle.flash_pages.specs.Cursors.{IsReady, IsPageOf}
+use Rattle.flash_pages.specs.declared.fault.PageFault.{PageFault}
+use Rattle.flash_pages.specs.declared.fault.PageFault.TheVariants.{Flash, Damaged}
+use Rattle.flash_pages.specs.Cursors.{IsReady, IsPageOf, will_read}
+use Rattle.flash_pages.specs.Faults.{BlamesNoSlot}
 use Rattle.id_merge.specs.declared.cursor.Cursor.{Cursor}
 use Rattle.id_merge.specs.declared.cursor.Cursor.TheVariants.{List as OfList, Range}
-use Rattle.id_merge.specs.Cursors.{cursor_at, leases_of, id_in, HasAhead, ListAscends, CursorReady, AllReady}
-use Rattle.id_merge.proofs.Holding.{lease_out}
+use Rattle.id_merge.specs.Cursors.{cursor_at, leases_of, left_of, left_in, at_hand_of, at_hand_in, unread_list, unread_of, unread_in, id_in, id_before, ListAscends, IsOfRows, IsRight, CursorRight, AreRight, CursorReady, AllReady, GoesOn, BlamesOutOfRows}
+use Rattle.id_merge.proofs.Holding.{lease_out, sum_same}
+use Rattle.id_merge.proofs.ListReads.{before_same}
+use Rattle.id_merge.proofs.Unread.{div_mono}
+use Rattle.id_merge.proofs.Setting.{unread_other}
 
 -- the leases of cursors that are joined
 pub leases_of-append : (cursors later : List Cursor) → leases_of (cursors ++ later) ≡ leases_of cursors ++ leases_of later
@@ -128,31 +139,151 @@ id_same before now run i same list within =
     (same.pages (runs.page_of (run_of run.list.run) (run.list.first + i))
     (record { place = run.list.first + i; within = omega arith; is = refl }))
 
-pub ascends_same :
-    (before now : Device) (run : RunCursor) → SamePages before now run → run.list.first + run.list.count ≤ run.list.run.count
-    → ListAscends before.page run → ListAscends now.page run
-ascends_same before now run same list was = record {
-  above = λ i from within. omega (arith, id_same before now run i same list within, was.above i from within);
-  order = λ i j from less within.
-      omega (
-        arith,
-        id_same before now run i same list (omega arith),
-        id_same before now run j same list within,
-        was.order i j from less within,
-      );
-  within = λ i from within. omega (arith, id_same before now run i same list within, was.within i from within);
+pub right_same :
+    (before now : Device) (right : ℕ → List ℕ) (run : RunCursor) → SamePages before now run
+    → run.list.first + run.list.count ≤ run.list.run.count → IsRight before.page right run → IsRight now.page right run
+right_same before now right run same list was = record {
+  ascends = was.ascends;
+  same = λ i from within of.
+      let is = id_same before now run i same list within in
+      let P : ℕ → Type 0 = IsOfRows run in
+      is ∙ was.same i from within (subst P is of);
 }
 
-pub ahead_same :
-    (before now : Device) (run : RunCursor) (id : ℕ) → SamePages before now run → run.list.first + run.list.count ≤ run.list.run.count
-    → HasAhead before.page (OfList run) id → HasAhead now.page (OfList run) id
-ahead_same before now run id same list has =
-    elim has [
-      | inl is ↦ inl is
-      | inr left ↦ inr (record {
-        at = left.at;
-        from = left.from;
-        within = left.within;
-        is = left.is ∙ sym (id_same before now run left.at same list left.within);
-      })
+right_one :
+    (told : Bool) (before now : Device) (pool : Pool) (right : ℕ → List ℕ) (cursor : Cursor)
+    → ((run : RunCursor) → cursor ≡ OfList run → SamePages before now run) → CursorReady told before pool cursor
+    → CursorRight before.page right cursor → CursorRight now.page right cursor
+right_one told before now pool right (OfList run) same ready was = right_same before now right run (same run refl) ready.list was
+right_one told before now pool right (Range low high) same ready was = tt
+
+-- the pages stay right after other work, which left those of the lists as they were
+pub all_right_same :
+    (told : Bool) (before now : Device) (pool : Pool) (right : ℕ → List ℕ) (cursors : List Cursor)
+    → ((i : ℕ) (run : RunCursor) → cursor_at cursors i ≡ OfList run → SamePages before now run) → AllReady told before pool cursors
+    → AreRight before.page right cursors → AreRight now.page right cursors
+all_right_same told before now pool right cursors same ready was i =
+    right_one told before now pool right (cursor_at cursors i) (same i) (ready.each i) (was i)
+
+-- pages are right by themselves where the lists ascend
+pub right_alone : (page : ℕ → List ℕ) (run : RunCursor) → ListAscends page run → IsRight page page run
+right_alone page run ascends = record { ascends = ascends; same = λ i from within of. refl }
+
+-- no slot is out of range there
+none_out : (page : ℕ → List ℕ) (run : RunCursor) → run.at < run.list.count → ListAscends page run → IsOfRows run (id_in page run run.at)
+none_out page run within ascends =
+    record { some = omega (arith, ascends.above run.at (omega arith) within); within = ascends.within run.at (omega arith) within }
+
+pub none_blamed :
+    {T : Type 0} (page : ℕ → List ℕ) (cursors : List Cursor) (result : Result T PageFault) → AreRight page page cursors
+    → BlamesOutOfRows page cursors result → BlamesNoSlot result
+none_blamed page cursors (Ok answer) was out = tt
+none_blamed page cursors (Err Flash) was out = tt
+none_blamed page cursors (Err (Damaged number slot found)) was out =
+    let P : Cursor → Type 0 = CursorRight page page in
+    let of_run : IsRight page page out.run = subst P out.is (was out.at) in
+    out.out (none_out page out.run out.within of_run.ascends)
+
+-- where the last identifier is that of the record before the next one, it still is after more records
+pub last_is_before :
+    (told : Bool) (page : ℕ → List ℕ) (before now : RunCursor) → told ≡ true → GoesOn told page before now
+    → before.last ≡ id_before page before before.at → now.last ≡ id_before page now now.at
+last_is_before told page before now tells goes_on was =
+    elim goes_on.stands [
+      | inl stands ↦ stands.last ∙ was ∙ ap (id_before page before) (sym stands.at) ∙ sym (before_same page before now now.at goes_on.list)
+      | inr passed ↦ passed.is tells ∙ sym (before_same page before now now.at goes_on.list)
     ]
+
+-- as many pages are still to be read where the buffers are as they were
+pub unread_same :
+    (pool later : Pool) (cursors : List Cursor)
+    → ((i : ℕ) (run : RunCursor) → cursor_at cursors i ≡ OfList run → SameBuffer pool later run.lease) → unread_in later cursors ≡ unread_in pool cursors
+unread_same pool later cursors same =
+    sum_same (unread_of pool) (unread_of later) cursors (λ i. unread_other (cursor_at cursors i) (same i))
+
+-- few are: one for so many records as a page has, and two more for a list
+abbrev bit : Bool → ℕ
+bit b = if b then 1 else 0
+
+bit_none : (b : Bool) → (b ≡ true → ⊥) → bit b ≡ 0
+bit_none true none = absurd (none refl)
+bit_none false none = refl
+
+bit_most : (b : Bool) → bit b ≤ 1
+bit_most true = omega arith
+bit_most false = omega arith
+
+-- so many records on, the page is no more than that many pages on, and one
+pages_on : (place more n : ℕ) → 0 < n → (place + more) / n ≤ place / n + more / n + 1
+pages_on place more n some =
+    let below : place + more < (place / n + more / n + 2) * n =
+    omega (arith, div-add-mod' place n, div-add-mod' more n, mod-lt place some, mod-lt more some) in
+    omega (arith, div_below (place + more) n (place / n + more / n + 2) some below)
+
+pub few_unread :
+    (pool : Pool) (run : RunCursor) → 0 < per_page run.list.run.width → run.at ≤ run.list.count
+    → unread_list pool run ≤ (run.list.count - run.at) / per_page run.list.run.width + 2
+few_unread pool run some within =
+    let n = per_page run.list.run.width in
+    let here = run.list.first + run.at in
+    let last = run.list.first + (run.list.count - 1) in
+    let goes : last ≤ here + (run.list.count - run.at) = omega (arith, within) in
+    omega (
+      arith,
+      pages_on here (run.list.count - run.at) n some,
+      div_mono last (here + (run.list.count - run.at)) n some goes,
+      bit_most (will_read pool run),
+    )
+
+-- of lists of identifiers alone, four bytes each
+abbrev pub IsOfIds : Cursor → Type 0
+IsOfIds (OfList run) = (run.list.run.width ≡ 4) × (run.at ≤ run.list.count)
+IsOfIds (Range low high) = ⊤
+
+few_of_list : (pool : Pool) (run : RunCursor) → run.list.run.width ≡ 4 → run.at ≤ run.list.count → unread_list pool run ≤ (run.list.count - run.at) / 512 + 2
+few_of_list pool run width within =
+    let P : ℕ → Type 0 = λ n. 0 < n → unread_list pool run ≤ (run.list.count - run.at) / n + 2 in
+    let is : per_page run.list.run.width ≡ 512 = ap per_page width in
+    subst P is (λ some. few_unread pool run some within) (omega arith)
+
+pub few_in_all :
+    (pool : Pool) (cursors : List Cursor) → ((i : ℕ) → IsOfIds (cursor_at cursors i))
+    → unread_in pool cursors ≤ left_in cursors / 512 + 2 * length (leases_of cursors)
+few_in_all pool [] of = omega arith
+few_in_all pool (OfList run ∷ cursors) of =
+    let here = of zero in
+    omega (
+      arith,
+      sum_by-cons (unread_of pool) (OfList run) cursors,
+      sum_by-cons left_of (OfList run) cursors,
+      few_of_list pool run here.0 here.1,
+      few_in_all pool cursors (λ i. of (suc i)),
+    )
+few_in_all pool (Range low high ∷ cursors) of =
+    omega (
+      arith,
+      sum_by-cons (unread_of pool) (Range low high) cursors,
+      sum_by-cons left_of (Range low high) cursors,
+      few_in_all pool cursors (λ i. of (suc i)),
+    )
+
+-- what lists that are begun have at hand is what is in them
+abbrev pub IsBegun : Cursor → Type 0
+IsBegun (OfList run) = run.last ≡ 0
+IsBegun (Range low high) = ⊥
+
+none_looked_at : (last at : ℕ) → at ≡ 0 → bit (nat_lt last at) ≡ 0
+none_looked_at last at is = bit_none (nat_lt last at) (λ less. omega (arith, is, ltb-true last at less))
+
+pub hand_begun : (last : ℕ) (cursors : List Cursor) → ((i : ℕ) → i < length cursors → IsBegun (cursor_at cursors i)) → at_hand_in last cursors ≡ left_in cursors
+hand_begun last [] begun = refl
+hand_begun last (OfList run ∷ cursors) begun =
+    let here : run.last ≡ 0 = begun zero (omega arith) in
+    omega (
+      arith,
+      sum_by-cons (at_hand_of last) (OfList run) cursors,
+      sum_by-cons left_of (OfList run) cursors,
+      none_looked_at last run.last here,
+      hand_begun last cursors (λ i within. begun (suc i) (omega (arith, within))),
+    )
+hand_begun last (Range low high ∷ cursors) begun = absurd (begun zero (omega arith))

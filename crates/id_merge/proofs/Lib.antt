@@ -1,4 +1,5 @@
 pub mod Counts
+pub mod Unread
 pub mod ListReads
 pub mod Holding
 pub mod Setting

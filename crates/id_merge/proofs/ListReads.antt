@@ -1,26 +1,29 @@
 -- What one call on a list does to what its cursor has ahead.
-use Rattle.std.proofs.Common.{◌≡◌, ◌∙◌, ℕ, zero, suc, ◌+◌, ◌-◌, ◌<◌, ◌≤◌, ◌⊎◌, inl, inr, Bool, true, false, List, ◌∷◌, ap, sym, refl, subst, Result, Ok, Err, Option, Some, None, arith}
+use Rattle.std.proofs.Common.{◌≡◌, ◌∙◌, ℕ, zero, suc, ◌+◌, ◌-◌, ◌<◌, ◌≤◌, ◌⊎◌, inl, inr, Bool, true, false, nat_lt, if◌then◌else◌, List, ◌∷◌, ap, sym, refl, subst, Result, Ok, Err, Option, Some, None, arith}
 use Rattle.std.proofs.Common.{IfOk, IfSome, OnErr, MatchOption}
 use Rattle.std.proofs.lemmas.Bool.{cases_order}
+use Rattle.std.proofs.lemmas.Nat.{le-div}
 use Rattle.edge_traits.proofs.DeviceFrames.{kept_trans}
 use Rattle.page_pool.proofs.Leases.{change_trans}
-use Rattle.edge_traits.specs.Devices.{Device}
-use Rattle.page_pool.specs.Pools.{Pool, ChangesPage}
+use Rattle.edge_traits.specs.Devices.{Device, next_if}
+use Rattle.page_pool.specs.Pools.{Pool, ChangesPage, page_at}
 use Rattle.flash_pages.specs.declared.fault.PageFault.{PageFault}
-use Rattle.flash_pages.specs.Cursors.{IsReady, GivesNext}
-use Rattle.flash_pages.specs.Reads.{Reads, WasGiven}
-use Rattle.id_merge.specs.Cursors.{IsAtMost}
-use Rattle.id_merge.specs.Moving.{RunMoves}
+use Rattle.flash_pages.specs.declared.fault.PageFault.TheVariants.{Flash, Damaged}
+use Rattle.flash_pages.specs.Cursors.{IsReady, GivesNext, IsLastInPage, StandsAt, page_next, will_read}
+use Rattle.flash_pages.specs.Reads.{Reads, WasGiven, page_after}
 use Rattle.ghost_model.specs.forms.Runs as runs
-use Rattle.ghost_model.specs.forms.Runs.{ids_from}
+use Rattle.ghost_model.specs.forms.Runs.{ids_from, per_page}
 use Rattle.ghost_base.specs.declared.runs.ListRef.{ListRef}
 use Rattle.ghost_base.specs.Runs.{run_of}
 use Rattle.flash_pages.specs.declared.cursor.RunCursor.{RunCursor}
 use Rattle.flash_pages.specs.Cursors.{SameList, IsNext, GivesId, Passes, PassesTo, ids_left, place}
 use Rattle.id_merge.specs.declared.cursor.Cursor.{Cursor}
 use Rattle.id_merge.specs.declared.cursor.Cursor.TheVariants.{List as OfList}
-use Rattle.id_merge.specs.Cursors.{IsLeft, ListAscends, id_in}
-use Rattle.id_merge.specs.Moving.{Advances}
+use Rattle.id_merge.specs.Cursors.{IsLeft, ListAscends, IsOfRows, IsRight, IsAtMost, Passed, GoesOn, at_hand_of, id_in, id_before, unread_list}
+use Rattle.id_merge.specs.Merges.{MadeOne, MadeNone, FailedOne}
+use Rattle.id_merge.specs.Moving.{Advances, RunMoves, CallIf}
+use Rattle.id_merge.proofs.Counts.{call_of, none_made, one_made}
+use Rattle.id_merge.proofs.Unread.{unread_on, unread_stays, unread_failed}
 
 -- the list's identifiers go by the list alone
 pub id_same : (page : ℕ → List ℕ) (before now : RunCursor) → SameList before now → (i : ℕ) → id_in page now i ≡ id_in page before i
@@ -90,41 +93,61 @@ ascends_on page before now same further within last was = record {
 }
 
 -- what was ahead of it, and is not below an identifier above that of each record passed over, still is
-pub goes_on :
-    (page : ℕ → List ℕ) (low : ℕ) (before now : RunCursor) → SameList before now → before.at < now.at → now.at ≤ before.list.count
-    → now.last ≡ id_in page before (now.at - 1) → before.last < low → now.last < low ⊎ (now.at ≡ before.at + 1)
-    → ListAscends page before → Advances page low (OfList before) (OfList now)
-goes_on page low before now same further within last below passed was = record {
-  ascends = ascends_on page before now same further within last was;
-  fewer = λ id ahead.
-      elim ahead [
-        | inl is ↦ inr (record {
-          at = now.at - 1;
-          from = omega arith;
-          within = omega arith;
-          is = is ∙ last;
-        })
-        | inr left ↦ inr (still_left page before now id same (omega arith) left)
-      ];
-  same = λ id above ahead.
-      elim ahead [
-        | inl is ↦ absurd (omega arith)
-        | inr left ↦ elim (cases_order left.at (now.at - 1)) [
-          | inl same_place ↦ inl (left.is ∙ (ap (id_in page before) same_place ∙ sym last))
-          | inr apart ↦ elim apart [
-            | inl less ↦ elim passed [
-              | inl low_last ↦ absurd (omega (arith, left.is, was.order left.at (now.at - 1) left.from less (omega arith)))
-              | inr one ↦ absurd (omega (arith, left.from))
+pub advances_on :
+    (page right : ℕ → List ℕ) (low : ℕ) (before now : RunCursor) → SameList before now → before.at < now.at → now.at ≤ before.list.count
+    → now.last ≡ id_in page before (now.at - 1) → IsOfRows before now.last → before.last < low → now.last < low ⊎ (now.at ≡ before.at + 1)
+    → IsRight page right before → Advances page right low (OfList before) (OfList now)
+advances_on page right low before now same further within is rows below passed was =
+    let last : now.last ≡ id_in right before (now.at - 1) =
+    let P : ℕ → Type 0 = IsOfRows before in
+    is ∙ was.same (now.at - 1) (omega arith) (omega arith) (subst P is rows) in
+    record {
+      still = record {
+        ascends = ascends_on right before now same further within last was.ascends;
+        same = λ i from inside.
+            let P : ℕ → Type 0 = λ id. IsOfRows now id → id ≡ id_in right now i in
+            subst P (sym (id_same page before now same i))
+            (λ of. was.same i (omega arith) (omega (arith, inside, count_same before now same))
+            (record { some = of.some; within = omega (arith, of.within, same.rows) })
+            ∙ sym (id_same right before now same i));
+      };
+      fewer = λ id ahead.
+          elim ahead [
+            | inl is_last ↦ inr (record {
+              at = now.at - 1;
+              from = omega arith;
+              within = omega arith;
+              is = is_last ∙ last;
+            })
+            | inr left ↦ inr (still_left right before now id same (omega arith) left)
+          ];
+      same = λ id above ahead.
+          elim ahead [
+            | inl is_last ↦ absurd (omega arith)
+            | inr left ↦ elim (cases_order left.at (now.at - 1)) [
+              | inl same_place ↦ inl (left.is ∙ (ap (id_in right before) same_place ∙ sym last))
+              | inr apart ↦ elim apart [
+                | inl less ↦ elim passed [
+                  | inl low_last ↦ absurd (omega (arith, left.is, was.ascends.order left.at (now.at - 1) left.from less (omega arith)))
+                  | inr one ↦ absurd (omega (arith, left.from))
+                ]
+                | inr greater ↦ inr (later_left right before now id same left (omega arith))
+              ]
             ]
-            | inr greater ↦ inr (later_left page before now id same left (omega arith))
-          ]
-        ]
-      ];
-}
+          ];
+    }
 
 -- a cursor that stays has ahead what it had
-pub stays_ahead : (page : ℕ → List ℕ) (low : ℕ) (run : RunCursor) → ListAscends page run → Advances page low (OfList run) (OfList run)
-stays_ahead page low run ascends = record { ascends = ascends; fewer = λ id ahead. ahead; same = λ id above ahead. ahead }
+stays_ahead : (page right : ℕ → List ℕ) (low : ℕ) (run : RunCursor) → IsRight page right run → Advances page right low (OfList run) (OfList run)
+stays_ahead page right low run was = record { still = was; fewer = λ id ahead. ahead; same = λ id above ahead. ahead }
+
+before_is : (page : ℕ → List ℕ) (run : RunCursor) (i : ℕ) → 0 < i → id_before page run i ≡ id_in page run (i - 1)
+before_is page run zero some = absurd (omega arith)
+before_is page run (suc i) some = let e : i ≡ suc i - 1 = omega arith in ap (id_in page run) e
+
+bit_most : (b : Bool) → (if b then 1 else 0) ≤ 1
+bit_most true = omega arith
+bit_most false = omega arith
 
 pub run_stays :
     {T : Type 0} {told : Bool} {before now : Device} {pool later : Pool} (low : ℕ) (old new : RunCursor) {reads : Bool} {number : ℕ} {result : Result T PageFault}
@@ -135,29 +158,47 @@ run_stays {told = told} {before = before} low old new read ready list is = recor
   buffer = read.buffer;
   ready = ready;
   given = read.given;
-  list = list;
-  at = omega (arith, ap (λ (run : RunCursor). run.at) is);
+  goes_on = record {
+    list = list.list;
+    rows = list.rows;
+    lease = list.lease;
+    stands = inl (record { at = ap (λ (run : RunCursor). run.at) is; last = ap (λ (run : RunCursor). run.last) is });
+  };
   at_most = λ most was. let P : RunCursor → Type 0 = λ run. IsAtMost most (OfList run) in subst P (sym is) was;
-  advances = λ tells ascends.
-      let P : RunCursor → Type 0 = λ run. Advances before.page low (OfList old) (OfList run) in
-      subst P (sym is) (stays_ahead before.page low old ascends);
+  hand = λ last.
+      let same : at_hand_of last (OfList new) ≡ at_hand_of last (OfList old) = ap (λ (run : RunCursor). at_hand_of last (OfList run)) is in
+      omega (arith, same);
+  advances = λ tells right was.
+      let P : RunCursor → Type 0 = λ run. Advances before.page right low (OfList old) (OfList run) in
+      subst P (sym is) (stays_ahead before.page right low old was);
 }
 
 run_goes :
     {T : Type 0} {told : Bool} {before now : Device} {pool later : Pool} (low : ℕ) (old new : RunCursor) {reads : Bool} {number : ℕ} {result : Result T PageFault}
     → Reads told before now pool later old.lease reads number result → IsReady told now later new → SameList old new
-    → old.at < new.at → new.at ≤ old.list.count → new.last ≤ old.rows → old.last < low → new.last < low ⊎ (new.at ≡ old.at + 1)
+    → old.at < new.at → new.at ≤ old.list.count → old.last < new.last → new.last ≤ old.rows → old.last < low → new.last < low ⊎ (new.at ≡ old.at + 1)
     → (told ≡ true → new.last ≡ id_in before.page old (new.at - 1))
     → RunMoves told low before now pool later old new
-run_goes {told = told} {before = before} low old new read ready list further within rows below passed last = record {
+run_goes {told = told} {before = before} low old new read ready list further within above rows below passed last = record {
   kept = read.kept;
   buffer = read.buffer;
   ready = ready;
   given = read.given;
-  list = list;
-  at = omega arith;
+  goes_on = record {
+    list = list.list;
+    rows = list.rows;
+    lease = list.lease;
+    stands = inr (record {
+      further = further;
+      above = above;
+      within = rows;
+      is = λ tells. last tells ∙ sym (before_is before.page old new.at (omega arith));
+    });
+  };
   at_most = λ most was. (omega (arith, was.0, list.rows), omega (arith, was.0));
-  advances = λ tells ascends. goes_on before.page low old new list further within (last tells) below passed ascends;
+  hand = λ floor. omega (arith, count_same old new list, bit_most (nat_lt floor new.last));
+  advances = λ tells right was.
+      advances_on before.page right low old new list further within (last tells) (record { some = omega arith; within = rows }) below passed was;
 }
 
 pub pass_moves :
@@ -168,7 +209,7 @@ pub pass_moves :
     → RunMoves told low before now pool later old new
 pass_moves low old new (Ok true) below read ready list passes gives stays fault =
     let p = passes refl in
-    run_goes low old new read ready list p.further p.within p.rows below (inl p.below)
+    run_goes low old new read ready list p.further p.within p.above p.rows below (inl p.below)
     (λ tells. gives refl tells ∙ id_same _ old new list (new.at - 1))
 pass_moves low old new (Ok false) below read ready list passes gives stays fault = run_stays low old new read ready list (stays refl)
 pass_moves low old new (Err e) below read ready list passes gives stays fault = run_stays low old new read ready list fault
@@ -181,22 +222,132 @@ pub next_moves :
     → IfOk result (λ next. IfSome next (λ id. IsNext old id × (new.last ≡ id))) → OnErr result (new ≡ old)
     → RunMoves told low before now pool later old new
 next_moves low old new (Ok (Some id)) below more read ready list gives step in_order fault =
-    run_goes low old new read ready list (omega (arith, step.1)) (omega (arith, step.1)) (omega (arith, in_order.1, in_order.0.within)) below (inr step.1)
+    run_goes low old new read ready list (omega (arith, step.1)) (omega (arith, step.1)) (omega (arith, in_order.1, in_order.0.above))
+    (omega (arith, in_order.1, in_order.0.within)) below (inr step.1)
     (λ tells. in_order.1 ∙ (next_id more (gives tells) ∙ ap (id_in _ old) (omega (arith, step.1))))
 next_moves low old new (Ok None) below more read ready list gives step in_order fault = absurd (omega (arith, step.0))
 next_moves low old new (Err e) below more read ready list gives step in_order fault = run_stays low old new read ready list fault
 
+-- what the call counts, whether it read the page or not
+pub some_records : {told : Bool} {device : Device} {pool : Pool} {run : RunCursor} → IsReady told device pool run → 0 < per_page run.list.run.width
+some_records {run = run} ready = omega (arith, le-div 1 2048 run.list.run.width ready.run.some (omega (arith, ready.run.fits)))
+
+-- only a read fails
+abbrev pub ReadTells : {T : Type 0} → (reads : Bool) → (before now : Device) → (unread left : ℕ) → Result T PageFault → Type 0
+ReadTells reads before now unread left (Ok answer) = CallIf reads before now unread left
+ReadTells reads before now unread left (Err Flash) = (reads ≡ true) × FailedOne before now unread left
+ReadTells reads before now unread left (Err (Damaged number slot found)) = CallIf reads before now unread left
+
+fail_tells :
+    {T : Type 0} {told : Bool} {before now : Device} {pool later : Pool} (old new : RunCursor) (e : PageFault)
+    → old.at < old.list.count → Reads {T = T} told before now pool later old.lease (will_read pool old) (page_next old) (Err e) → new ≡ old
+    → page_at later old.lease ≡ page_after {T = T} (Err e) (page_next old)
+    → ReadTells {T = T} (will_read pool old) before now (unread_list pool old) (unread_list later new) (Err e)
+fail_tells {before = before} {pool = pool} {later = later} old new Flash more read is held = (
+  read.fault.made,
+  record {
+    calls = read.calls ∙ ap (λ (r : Bool). next_if r before.calls) read.fault.made;
+    cause = read.fault.cause;
+    last = read.fault.last;
+    as_many = unread_failed pool later old new is held more read.fault.made;
+  },
+)
+fail_tells {pool = pool} {later = later} old new (Damaged number slot found) more read is held =
+    call_of (unread_list later new) (will_read pool old) read read.fault (unread_stays pool later old new is held)
+
+pub next_tells :
+    {told : Bool} {before now : Device} {pool later : Pool} (old new : RunCursor) (result : Result (Option ℕ) PageFault)
+    → old.at < old.list.count → 0 < per_page old.list.run.width
+    → Reads told before now pool later old.lease (will_read pool old) (page_next old) result → SameList old new
+    → IfOk result (λ next. MatchOption next ((old.at ≡ old.list.count) × (new ≡ old)) (λ _. (old.at < old.list.count) × (new.at ≡ old.at + 1)))
+    → OnErr result (new ≡ old) → page_at later old.lease ≡ page_after result (page_next old)
+    → ReadTells (will_read pool old) before now (unread_list pool old) (unread_list later new) result
+next_tells {pool = pool} {later = later} old new (Ok (Some id)) more some read list step fault held =
+    let here : new.at - 1 ≡ old.at = omega (arith, step.1) in
+    call_of (unread_list later new) (will_read pool old) read read.no_fault
+    (unread_on pool later old new list some (omega (arith, step.1)) (omega (arith, step.1))
+    (ap (λ i. runs.page_of (run_of old.list.run) (old.list.first + i)) here) held)
+next_tells old new (Ok None) more some read list step fault held = absurd (omega (arith, step.0))
+next_tells old new (Err e) more some read list step fault held = fail_tells old new e more read fault held
+
+pub pass_tells :
+    {told : Bool} {before now : Device} {pool later : Pool} (low : ℕ) (old new : RunCursor) (result : Result Bool PageFault)
+    → old.at < old.list.count → 0 < per_page old.list.run.width
+    → Reads told before now pool later old.lease (will_read pool old) (page_next old) result → SameList old new
+    → IfOk result (λ passed. passed ≡ true → Passes old new low) → IfOk result (λ passed. passed ≡ true → IsLastInPage old (new.at - 1))
+    → IfOk result (λ passed. passed ≡ false → new ≡ old)
+    → OnErr result (new ≡ old) → page_at later old.lease ≡ page_after result (page_next old)
+    → ReadTells (will_read pool old) before now (unread_list pool old) (unread_list later new) result
+pass_tells {pool = pool} {later = later} low old new (Ok true) more some read list passes whole stays fault held =
+    let p = passes refl in
+    call_of (unread_list later new) (will_read pool old) read read.no_fault
+    (unread_on pool later old new list some (omega (arith, p.further)) p.within (whole refl).same_page held)
+pass_tells {pool = pool} {later = later} low old new (Ok false) more some read list passes whole stays fault held =
+    call_of (unread_list later new) (will_read pool old) read read.no_fault (unread_stays pool later old new (stays refl) held)
+pass_tells low old new (Err e) more some read list passes whole stays fault held = fail_tells old new e more read fault held
+
+-- without a read, no call
+pub quiet_read :
+    {T : Type 0} {reads : Bool} {before now : Device} {unread left : ℕ} (result : Result T PageFault) → reads ≡ false
+    → ReadTells reads before now unread left result → MadeNone before now unread left
+quiet_read (Ok answer) none tells = none_made none tells
+quiet_read (Err Flash) none tells = absurd (cc)
+quiet_read (Err (Damaged number slot found)) none tells = none_made none tells
+
+pub read_made :
+    {T : Type 0} {reads : Bool} {before now : Device} {unread left : ℕ} (result : Result T PageFault) (answer : T) → result ≡ Ok answer
+    → reads ≡ true → ReadTells reads before now unread left result → MadeOne before now unread left
+read_made {T = T} {reads = reads} {before = before} {now = now} {unread = unread} {left = left} result answer is some tells =
+    let P : Result T PageFault → Type 0 = ReadTells reads before now unread left in
+    one_made some (subst P is tells)
+
 -- two calls, one after the other
 pub advance_trans :
-    (page : ℕ → List ℕ) {low low' : ℕ} {a b c : Cursor} → low ≤ low' → Advances page low a b → Advances page low' b c → Advances page low' a c
-advance_trans page less first second = record {
-  ascends = second.ascends;
+    (page right : ℕ → List ℕ) {low low' : ℕ} {a b c : Cursor} → low ≤ low' → Advances page right low a b → Advances page right low' b c
+    → Advances page right low' a c
+advance_trans page right less first second = record {
+  still = second.still;
   fewer = λ id ahead. first.fewer id (second.fewer id ahead);
   same = λ id above ahead. second.same id above (first.same id (omega arith) ahead);
 }
 
-pub list_trans : (a b c : RunCursor) → SameList a b → SameList b c → SameList a c
-list_trans a b c first second = record { list = second.list ∙ first.list; rows = second.rows ∙ first.rows; lease = second.lease ∙ first.lease }
+pub before_same : (page : ℕ → List ℕ) (before now : RunCursor) (i : ℕ) → now.list ≡ before.list → id_before page now i ≡ id_before page before i
+before_same page before now zero same = refl
+before_same page before now (suc i) same = ap (λ (list : ListRef). runs.id_at page (run_of list.run) (list.first + i)) same
+
+stands_trans :
+    (told : Bool) (page : ℕ → List ℕ) (a b c : RunCursor) → b.list ≡ a.list → b.rows ≡ a.rows → StandsAt a b ⊎ Passed told page a b
+    → StandsAt b c ⊎ Passed told page b c → StandsAt a c ⊎ Passed told page a c
+stands_trans told page a b c list rows (inl first) (inl second) = inl (record { at = second.at ∙ first.at; last = second.last ∙ first.last })
+stands_trans told page a b c list rows (inl first) (inr second) = inr (record {
+  further = omega (arith, first.at, second.further);
+  above = omega (arith, first.last, second.above);
+  within = omega (arith, second.within, rows);
+  is = λ tells. second.is tells ∙ before_same page a b c.at list;
+})
+stands_trans told page a b c list rows (inr first) (inl second) = inr (record {
+  further = omega (arith, second.at, first.further);
+  above = omega (arith, second.last, first.above);
+  within = omega (arith, second.last, first.within);
+  is = λ tells. second.last ∙ first.is tells ∙ ap (id_before page a) (sym second.at);
+})
+stands_trans told page a b c list rows (inr first) (inr second) = inr (record {
+  further = omega (arith, second.further, first.further);
+  above = omega (arith, second.above, first.above);
+  within = omega (arith, second.within, rows);
+  is = λ tells. second.is tells ∙ before_same page a b c.at list;
+})
+
+pub goes_trans :
+    {told : Bool} {page page' : ℕ → List ℕ} (a b c : RunCursor) → page' ≡ page → GoesOn told page a b → GoesOn told page' b c → GoesOn told page a c
+goes_trans {told = told} {page = page} a b c same first second =
+    let P : (ℕ → List ℕ) → Type 0 = λ page. StandsAt b c ⊎ Passed told page b c in
+    record {
+      list = second.list ∙ first.list;
+      rows = second.rows ∙ first.rows;
+      lease = second.lease ∙ first.lease;
+      stands = stands_trans told page a b c first.list first.rows first.stands (subst P same second.stands);
+    }
 
 pub run_trans :
     {told : Bool} {a b c : Device} {p q r : Pool} (low : ℕ) (x y z : RunCursor)
@@ -204,16 +355,17 @@ pub run_trans :
 run_trans {told = told} {a = a} {b = b} {c = c} {p = p} {q = q} {r = r} low x y z first second =
     let Buffer : ℕ → Type 0 = λ lease. ChangesPage q r lease in
     let Given : ℕ → Type 0 = λ lease. (since : ℕ) → since ≤ b.calls → WasGiven since b q lease → WasGiven since c r lease in
-    let Goes : (ℕ → List ℕ) → Type 0 = λ page. ListAscends page y → Advances page low (OfList y) (OfList z) in
+    let Goes : (ℕ → List ℕ) → (right : ℕ → List ℕ) → Type 0 = λ page right. IsRight page right y → Advances page right low (OfList y) (OfList z) in
     record {
       kept = kept_trans first.kept second.kept;
-      buffer = change_trans first.buffer (subst Buffer first.list.lease second.buffer);
+      buffer = change_trans first.buffer (subst Buffer first.goes_on.lease second.buffer);
       ready = second.ready;
-      given = λ since from was. subst Given first.list.lease second.given since (omega (arith, first.kept.never_falls)) (first.given since from was);
-      list = list_trans x y z first.list second.list;
-      at = omega (arith, first.at, second.at);
+      given = λ since from was. subst Given first.goes_on.lease second.given since (omega (arith, first.kept.never_falls)) (first.given since from was);
+      goes_on = goes_trans x y z first.kept.page first.goes_on second.goes_on;
       at_most = λ most was. second.at_most most (first.at_most most was);
-      advances = λ tells ascends.
-          let one = first.advances tells ascends in
-          advance_trans a.page (omega arith) one (subst Goes first.kept.page (second.advances tells) one.ascends);
+      hand = λ last. omega (arith, first.hand last, second.hand last);
+      advances = λ tells right was.
+          let one = first.advances tells right was in
+          let P : (ℕ → List ℕ) → Type 0 = λ page. Goes page right in
+          advance_trans a.page right (omega arith) one (subst P first.kept.page (second.advances tells right) one.still);
     }

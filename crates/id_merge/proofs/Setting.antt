@@ -1,5 +1,5 @@
 -- What a call on one list leaves of several cursors.
-use Rattle.std.proofs.Common.{◌≡◌, ◌≢◌, ◌∙◌, ℕ, ◌-◌, ◌<◌, ◌≤◌, inl, inr, Bool, true, false, List, length, ap, sym, refl, subst, get_or, slice_set, IfSome, IfOk, Option, None, Some, Result, Ok, Err, arith}
+use Rattle.std.proofs.Common.{◌≡◌, ◌≢◌, ◌∙◌, ℕ, ◌+◌, ◌-◌, ◌<◌, ◌≤◌, inl, inr, Bool, true, false, not, ◌&&◌, nat_lt, if◌then◌else◌, List, length, ap, sym, refl, subst, get_or, slice_set, IfSome, IfOk, IfErr, Option, None, Some, Result, Ok, Err, arith}
 use Rattle.std.proofs.lemmas.Bool.{cases_eq}
 use Rattle.std.proofs.lemmas.List.{get_or-set_same, get_or-set_other, get_or_default, length-set}
 use Rattle.edge_traits.specs.Devices.{Device, KeepsPages, GaveSince}
@@ -10,14 +10,16 @@ use Rattle.page_pool.proofs.Leases.{out_kept, outs_kept, change_elsewhere}
 use Rattle.flash_pages.specs.declared.cursor.RunCursor.{RunCursor}
 use Rattle.flash_pages.specs.declared.fault.PageFault.{PageFault}
 use Rattle.flash_pages.specs.declared.fault.PageFault.TheVariants.{Flash, Damaged}
-use Rattle.flash_pages.specs.Cursors.{IsReady, IsPageOf}
+use Rattle.flash_pages.specs.Cursors.{IsReady, IsPageOf, BlamesNext, page_next}
+use Rattle.flash_pages.specs.Holding.{is_apart}
 use Rattle.flash_pages.specs.Reads.{IsFilled, WasGiven}
 use Rattle.ghost_base.specs.Runs.{run_of}
 use Rattle.id_merge.specs.declared.cursor.Cursor.{Cursor}
 use Rattle.id_merge.specs.declared.cursor.Cursor.TheVariants.{List as OfList, Range}
-use Rattle.id_merge.specs.Cursors.{cursor_at, nothing, leases_of, left_of, left_in, Ascends, IsAtMost, CursorReady, AllReady, CursorGiven, AllGiven, SameSource, BlamesLists}
-use Rattle.id_merge.specs.Moving.{Advances, RunMoves, Reaches, BlamesRun}
-use Rattle.id_merge.proofs.Holding.{leases_apart, beside_leases, leases_set, left_set}
+use Rattle.id_merge.specs.Cursors.{cursor_at, nothing, leases_of, page_last, unread_list, unread_of, unread_in, at_hand_of, CursorRight, IsAtMost, CursorReady, AllReady, CursorGiven, AllGiven, SameSource, BlamesLists, DamagesLists}
+use Rattle.id_merge.specs.Merges.{FailTells}
+use Rattle.id_merge.specs.Moving.{Advances, RunMoves, Reaches, CallIf, DamagesRun}
+use Rattle.id_merge.proofs.Holding.{leases_apart, beside_leases, leases_set, sum_set}
 
 -- a buffer that is as it was has what a page has as before
 filled_kept :
@@ -99,12 +101,12 @@ given_other :
 given_other since (OfList run) kept same was = given_still since kept (same run refl) was
 given_other since (Range low high) kept same was = tt
 
-pub same_source : (cursor : Cursor) → SameSource cursor cursor
-same_source (OfList run) = record { list = refl; rows = refl; lease = refl }
-same_source (Range low high) = refl
+pub same_source : (told : Bool) (page : ℕ → List ℕ) (cursor : Cursor) → SameSource told page cursor cursor
+same_source told page (OfList run) = record { list = refl; rows = refl; lease = refl; stands = inl (record { at = refl; last = refl }) }
+same_source told page (Range low high) = refl
 
-pub advance_none : (page : ℕ → List ℕ) (low : ℕ) (cursor : Cursor) → Ascends page cursor → Advances page low cursor cursor
-advance_none page low cursor ascends = record { ascends = ascends; fewer = λ id ahead. ahead; same = λ id above ahead. ahead }
+pub advance_none : (page right : ℕ → List ℕ) (low : ℕ) (cursor : Cursor) → CursorRight page right cursor → Advances page right low cursor cursor
+advance_none page right low cursor was = record { still = was; fewer = λ id ahead. ahead; same = λ id above ahead. ahead }
 
 pub reaches_set :
     {told : Bool} {low : ℕ} {before now : Device} {pool later : Pool} (cursors : List Cursor) (i : ℕ) (run new : RunCursor)
@@ -113,7 +115,7 @@ pub reaches_set :
 reaches_set {told = told} {low = low} {before = before} {now = now} {pool = pool} {later = later} cursors i run new within is ready moves =
     let out : KeepsOut pool later = record { out = moves.buffer.out; size = moves.buffer.size } in
     let others = other_same cursors i run is ready.leases (λ lease apart. change_elsewhere moves.buffer apart) in
-    let leases = leases_set cursors i run new is moves.list.lease in
+    let leases = leases_set cursors i run new is moves.goes_on.lease in
     let Out : List ℕ → Type 0 = λ leases. AreOut later leases in
     let Given : ℕ → Type 0 = λ lease. (since : ℕ) → since ≤ before.calls → WasGiven since before pool run.lease → WasGiven since now later lease in
     record {
@@ -125,28 +127,38 @@ reaches_set {told = told} {low = low} {before = before} {now = now} {pool = pool
           bytes = λ other was. moves.buffer.bytes other (beside_leases pool cursors i other run is was);
           filled = λ other was. moves.buffer.filled other (beside_leases pool cursors i other run is was);
         };
-        ready = record {
-          each = set_each cursors i run new (λ old cursor. CursorReady told now later cursor) within is moves.ready
-              (λ k apart. ready_other told (cursor_at cursors k) moves.kept out (others k apart) (ready.each k));
-          leases = subst Out (sym leases) (outs_kept (leases_of cursors) out ready.leases);
-        };
         given = λ since from was k. set_each cursors i run new (λ old cursor. CursorGiven since before pool old → CursorGiven since now later cursor) within is
-            (subst Given (sym moves.list.lease) moves.given since from)
+            (subst Given (sym moves.goes_on.lease) moves.given since from)
             (λ k apart. given_other since (cursor_at cursors k) moves.kept (others k apart)) k (was k);
         count = length-set cursors i (OfList new);
-        same = set_each cursors i run new SameSource within is moves.list (λ k apart. same_source (cursor_at cursors k));
+        same = set_each cursors i run new (SameSource told before.page) within is moves.goes_on (λ k apart. same_source told before.page (cursor_at cursors k));
         leases = leases;
         at_most = λ most was k. set_each cursors i run new (λ old cursor. IsAtMost most old → IsAtMost most cursor) within is
             (moves.at_most most) (λ k apart at_most. at_most) k (was k);
       };
-      advances = λ tells ascends k. set_each cursors i run new (λ old cursor. Ascends before.page old → Advances before.page low old cursor) within is
-          (moves.advances tells) (λ k apart. advance_none before.page low (cursor_at cursors k)) k (ascends k);
+      ready = record {
+        each = set_each cursors i run new (λ old cursor. CursorReady told now later cursor) within is moves.ready
+            (λ k apart. ready_other told (cursor_at cursors k) moves.kept out (others k apart) (ready.each k));
+        leases = subst Out (sym leases) (outs_kept (leases_of cursors) out ready.leases);
+      };
+      hand = λ last.
+          let whole = sum_set (at_hand_of last) (at_hand_of last) cursors i (OfList new) within (λ k apart. refl) in
+          let was : at_hand_of last (cursor_at cursors i) ≡ at_hand_of last (OfList run) = ap (at_hand_of last) is in
+          omega (arith, whole, was, moves.hand last);
+      advances = λ tells right was k.
+          set_each cursors i run new (λ old cursor. CursorRight before.page right old → Advances before.page right low old cursor) within is
+          (moves.advances tells right) (λ k apart. advance_none before.page right low (cursor_at cursors k)) k (was k);
     }
+
+-- the other cursors stay as they are
+pub others_set :
+    (cursors : List Cursor) (i : ℕ) (cursor : Cursor) → (k : ℕ) → k ≢ i → cursor_at (slice_set cursors i cursor) k ≡ cursor_at cursors k
+others_set cursors i cursor k apart = get_or-set_other cursors i k cursor nothing apart
 
 -- the slot that is blamed is one of a list of theirs
 pub blames_set :
     (since : ℕ) (device : Device) (cursors : List Cursor) (i : ℕ) (new : RunCursor) → i < length cursors → (result : Result Bool PageFault)
-    → BlamesRun since device new result → BlamesLists since device (slice_set cursors i (OfList new)) result
+    → BlamesNext since device new result → BlamesLists since device (slice_set cursors i (OfList new)) result
 blames_set since device cursors i new within (Ok stands) blames = tt
 blames_set since device cursors i new within (Err Flash) blames = tt
 blames_set since device cursors i new within (Err (Damaged number slot found)) blames = record {
@@ -156,29 +168,62 @@ blames_set since device cursors i new within (Err (Damaged number slot found)) b
   blames = blames;
 }
 
+pub damages_set :
+    (page : ℕ → List ℕ) (cursors : List Cursor) (i : ℕ) (new : RunCursor) → i < length cursors → (result : Result Bool PageFault)
+    → DamagesRun page new result → DamagesLists page (slice_set cursors i (OfList new)) result
+damages_set page cursors i new within (Ok stands) damage = tt
+damages_set page cursors i new within (Err Flash) damage = tt
+damages_set page cursors i new within (Err (Damaged number slot found)) damage = record {
+  at = i;
+  run = new;
+  is = get_or-set_same cursors i (OfList new) nothing within;
+  damage = damage;
+}
+
 pub given_at : (since : ℕ) (device : Device) (pool : Pool) (cursors : List Cursor) (i : ℕ) (run : RunCursor) → cursor_at cursors i ≡ OfList run
     → AllGiven since device pool cursors → WasGiven since device pool run.lease
 given_at since device pool cursors i run is given =
     let P : Cursor → Type 0 = λ cursor. CursorGiven since device pool cursor in subst P is (given i)
 
--- what is left of several cursors, where one list's cursor goes on
-left_at : (cursors : List Cursor) (i : ℕ) (run : RunCursor) → cursor_at cursors i ≡ OfList run → left_of (cursor_at cursors i) ≡ run.list.count - run.at
-left_at cursors i run is = ap left_of is
+-- the pages that are still to be read for several cursors, where those for one list's go down
+pub unread_other :
+    {pool later : Pool} (cursor : Cursor) → ((run : RunCursor) → cursor ≡ OfList run → SameBuffer pool later run.lease)
+    → unread_of later cursor ≡ unread_of pool cursor
+unread_other (OfList run) same =
+    ap (λ (page : Option ℕ). (page_last run - page_next run) + (if nat_lt run.at run.list.count && is_apart page (page_next run) then 1 else 0)) (same run refl).filled
+unread_other (Range low high) same = refl
 
-pub left_down :
-    (cursors : List Cursor) (i : ℕ) (run new : RunCursor) → i < length cursors → cursor_at cursors i ≡ OfList run → new.list.count ≡ run.list.count
-    → run.at ≤ new.at → left_in (slice_set cursors i (OfList new)) ≤ left_in cursors
-left_down cursors i run new within is count at = omega (arith, left_set cursors i (OfList new) within, left_at cursors i run is)
+pub unread_set :
+    {told : Bool} {low : ℕ} {before now : Device} {pool later : Pool} (cursors : List Cursor) (i : ℕ) (run new : RunCursor)
+    → i < length cursors → cursor_at cursors i ≡ OfList run → AllReady told before pool cursors → RunMoves told low before now pool later run new
+    → unread_in later (slice_set cursors i (OfList new)) + unread_list pool run ≡ unread_in pool cursors + unread_list later new
+unread_set {pool = pool} {later = later} cursors i run new within is ready moves =
+    let others = other_same cursors i run is ready.leases (λ lease apart. change_elsewhere moves.buffer apart) in
+    let whole = sum_set (unread_of pool) (unread_of later) cursors i (OfList new) within (λ k apart. unread_other (cursor_at cursors k) (others k apart)) in
+    let was : unread_of pool (cursor_at cursors i) ≡ unread_list pool run = ap (unread_of pool) is in
+    omega (arith, whole, was)
 
-pub left_below :
-    (cursors : List Cursor) (i : ℕ) (run new : RunCursor) → i < length cursors → cursor_at cursors i ≡ OfList run → new.list.count ≡ run.list.count
-    → run.at < new.at → new.at ≤ new.list.count → left_in (slice_set cursors i (OfList new)) < left_in cursors
-left_below cursors i run new within is count at end = omega (arith, left_set cursors i (OfList new) within, left_at cursors i run is)
+call_set : (before now : Device) (u v a b : ℕ) (called : Bool) → b + u ≡ a + v → CallIf called before now u v → CallIf called before now a b
+call_set before now u v a b true same made = record { calls = made.calls; faults = made.faults; fewer = omega (arith, same, made.fewer) }
+call_set before now u v a b false same made = record { calls = made.calls; deep_reads = made.deep_reads; faults = made.faults; as_many = omega (arith, same, made.as_many) }
 
-pub where_false :
-    {P Q : Type 0} → (P → Q) → (result : Result Bool PageFault) → IfOk result (λ stands. stands ≡ false → P) → IfOk result (λ stands. stands ≡ false → Q)
-where_false goes (Ok stands) was = λ is. goes (was is)
-where_false goes (Err fault) was = tt
+pub counts_set :
+    (before now : Device) (u v a b : ℕ) (result : Result Bool PageFault) → b + u ≡ a + v
+    → IfOk result (λ stands. CallIf (not stands) before now u v) → IfOk result (λ stands. CallIf (not stands) before now a b)
+counts_set before now u v a b (Ok stands) same made = call_set before now u v a b (not stands) same made
+counts_set before now u v a b (Err fault) same made = tt
+
+pub fails_set :
+    (before now : Device) (u v a b : ℕ) (result : Result Bool PageFault) → b + u ≡ a + v
+    → IfErr result (FailTells before now u v) → IfErr result (FailTells before now a b)
+fails_set before now u v a b (Ok stands) same tells = tt
+fails_set before now u v a b (Err Flash) same tells = record { calls = tells.calls; cause = tells.cause; last = tells.last; as_many = omega (arith, same, tells.as_many) }
+fails_set before now u v a b (Err (Damaged number slot found)) same tells = record {
+  calls = tells.calls;
+  deep_reads = tells.deep_reads;
+  faults = tells.faults;
+  as_many = omega (arith, same, tells.as_many);
+}
 
 pub at_place : (cursors : List Cursor) (i : ℕ) (d cursor : Cursor) → i < length cursors → get_or cursors i d ≡ cursor → cursor_at cursors i ≡ cursor
 at_place cursors i d cursor within is = sym (get_or_default cursors i d nothing within) ∙ is

@@ -1,5 +1,5 @@
 -- What several cursors do, one call after the other, and the least of what they have ahead.
-use Rattle.std.proofs.Common.{◌≡◌, ◌∙◌, ℕ, ◌+◌, ◌<◌, ◌≤◌, ◌⊎◌, inl, inr, Bool, true, false, if◌then◌else◌, max, nat_le, List, ap, sym, refl, subst, IfSome, Option, None, Some, arith}
+use Rattle.std.proofs.Common.{◌≡◌, ◌≢◌, ◌∙◌, ℕ, ◌+◌, ◌<◌, ◌≤◌, ◌⊎◌, inl, inr, Bool, true, false, if◌then◌else◌, max, nat_le, List, ap, sym, refl, subst, IfSome, Option, None, Some, arith}
 use Rattle.std.proofs.lemmas.Bool.{cases_eq, leb-true, leb-false}
 use Rattle.edge_traits.specs.Devices.{Device}
 use Rattle.edge_traits.proofs.DeviceFrames.{kept_trans}
@@ -9,24 +9,26 @@ use Rattle.page_pool.proofs.Leases.{others_trans, others_kept}
 use Rattle.flash_pages.specs.declared.cursor.RunCursor.{RunCursor}
 use Rattle.id_merge.specs.declared.cursor.Cursor.{Cursor}
 use Rattle.id_merge.specs.declared.cursor.Cursor.TheVariants.{List as OfList, Range}
-use Rattle.id_merge.specs.Cursors.{cursor_at, leases_of, Ascends, ListAscends, AllAscend, IsAtMost, HasAhead, SameSource, Moves}
+use Rattle.id_merge.specs.Cursors.{cursor_at, leases_of, CursorRight, AreRight, ListAscends, IsAtMost, AllAtMost, HasAhead, SameSource, Moves}
 use Rattle.id_merge.specs.Merges.{InUnion}
 use Rattle.id_merge.specs.declared.round.Sought.{Sought}
-use Rattle.id_merge.specs.Moving.{sought_at, IsSought, IsNoHigher, AllAdvance, Reaches, Stands, head_from, lesser_of, IsLeastFrom}
-use Rattle.id_merge.proofs.ListReads.{advance_trans, list_trans}
+use Rattle.id_merge.specs.Moving.{sought_at, IsSought, SoughtFrom, HasHead, IsHead, AllAdvance, Reaches, Stands, head_from, lesser_of, IsLeastFrom}
+use Rattle.id_merge.proofs.ListReads.{advance_trans, goes_trans}
 
-source_trans : (a b c : Cursor) → SameSource a b → SameSource b c → SameSource a c
-source_trans (OfList a) (OfList b) (OfList c) first second = list_trans a b c first second
-source_trans (OfList a) (OfList b) (Range low high) first second = absurd second
-source_trans (OfList a) (Range low high) c first second = absurd first
-source_trans (Range low high) b c first second = let P : Cursor → Type 0 = λ cursor. SameSource cursor c in subst P first second
+source_trans :
+    (told : Bool) (page page' : ℕ → List ℕ) (a b c : Cursor) → page' ≡ page → SameSource told page a b → SameSource told page' b c → SameSource told page a c
+source_trans told page page' (OfList a) (OfList b) (OfList c) same first second = goes_trans a b c same first second
+source_trans told page page' (OfList a) (OfList b) (Range low high) same first second = absurd second
+source_trans told page page' (OfList a) (Range low high) c same first second = absurd first
+source_trans told page page' (Range low high) b c same first second =
+    let P : Cursor → Type 0 = λ cursor. SameSource told page' cursor c in subst P first second
 
 moved_out : {told : Bool} {a b : Device} {p q : Pool} {x y : List Cursor} → Moves told a b p q x y → KeepsOut p q
 moved_out moves = record { out = moves.out; size = moves.others.size }
 
 pub moves_trans :
     {told : Bool} {a b c : Device} {p q r : Pool} {x y z : List Cursor} → Moves told a b p q x y → Moves told b c q r y z → Moves told a c p r x z
-moves_trans {p = p} {q = q} {r = r} {x = x} {y = y} {z = z} first second =
+moves_trans {told = told} {a = a} {b = b} {p = p} {q = q} {r = r} {x = x} {y = y} {z = z} first second =
     let same : others_out q (leases_of y) ≡ others_out p (leases_of x) =
     ap (λ leases. others_out q leases) first.leases ∙ others_kept (leases_of x) (moved_out first) in
     let P : List Bool → Type 0 = λ others. KeepsOthers others q r in
@@ -34,32 +36,37 @@ moves_trans {p = p} {q = q} {r = r} {x = x} {y = y} {z = z} first second =
       kept = kept_trans first.kept second.kept;
       out = second.out ∙ first.out;
       others = others_trans first.others (subst P same second.others);
-      ready = second.ready;
       given = λ since from was. second.given since (omega (arith, first.kept.never_falls)) (first.given since from was);
       count = second.count ∙ first.count;
-      same = λ i. source_trans (cursor_at x i) (cursor_at y i) (cursor_at z i) (first.same i) (second.same i);
+      same = λ i. source_trans told a.page b.page (cursor_at x i) (cursor_at y i) (cursor_at z i) first.kept.page (first.same i) (second.same i);
       leases = second.leases ∙ first.leases;
       at_most = λ most was. second.at_most most (first.at_most most was);
     }
 
-pub all_ascend : {page : ℕ → List ℕ} {low : ℕ} (x y : List Cursor) → AllAdvance page low x y → AllAscend page y
-all_ascend x y advances i = (advances i).ascends
+pub all_right : {page right : ℕ → List ℕ} {low : ℕ} (x y : List Cursor) → AllAdvance page right low x y → AreRight page right y
+all_right x y advances i = (advances i).still
+
+pub right_kept :
+    {page page' : ℕ → List ℕ} (right : ℕ → List ℕ) (cursors : List Cursor) → page' ≡ page → AreRight page right cursors → AreRight page' right cursors
+right_kept right cursors same was = let P : (ℕ → List ℕ) → Type 0 = λ page. AreRight page right cursors in subst P (sym same) was
 
 -- what a later call does, by the bytes of the pages before an earlier one
 pub advance_next :
     {told : Bool} {low low' : ℕ} {a b c : Device} {p q r : Pool} (x y z : List Cursor) → Reaches told low a b p q x y
-    → Reaches told low' b c q r y z → told ≡ true → AllAscend a.page x → AllAdvance a.page low' y z
-advance_next {low' = low'} x y z first second tells ascends =
-    let P : (ℕ → List ℕ) → Type 0 = λ page. AllAscend page y → AllAdvance page low' y z in
-    subst P first.moves.kept.page (second.advances tells) (all_ascend x y (first.advances tells ascends))
+    → Reaches told low' b c q r y z → told ≡ true → (right : ℕ → List ℕ) → AreRight a.page right x → AllAdvance a.page right low' y z
+advance_next {low' = low'} x y z first second tells right was =
+    let P : (ℕ → List ℕ) → Type 0 = λ page. AreRight page right y → AllAdvance page right low' y z in
+    subst P first.moves.kept.page (second.advances tells right) (all_right x y (first.advances tells right was))
 
 pub reaches_trans :
     {told : Bool} {low low' : ℕ} {a b c : Device} {p q r : Pool} {x y z : List Cursor} → low ≤ low' → Reaches told low a b p q x y
     → Reaches told low' b c q r y z → Reaches told low' a c p r x z
 reaches_trans {low' = low'} {a = a} {x = x} {y = y} {z = z} less first second = record {
   moves = moves_trans first.moves second.moves;
-  advances = λ tells ascends i.
-      advance_trans a.page less (first.advances tells ascends i) (advance_next x y z first second tells ascends i);
+  ready = second.ready;
+  hand = λ last. omega (arith, first.hand last, second.hand last);
+  advances = λ tells right was i.
+      advance_trans a.page right less (first.advances tells right was i) (advance_next x y z first second tells right was i);
 }
 
 -- the first identifier from `low` on of a cursor that stands there is the least one
@@ -95,10 +102,12 @@ range_head page low first last head false is under over =
     λ id above ahead. omega (arith, ahead.0, ahead.1)
 
 head_least :
-    (page : ℕ → List ℕ) (low : ℕ) (cursor : Cursor) → Stands low cursor → Ascends page cursor → IsLeastFrom low (HasAhead page cursor) (head_from low cursor)
-head_least page low (OfList run) stands ascends = list_head page low run (nat_le low run.last) (leb-true low run.last) (leb-false low run.last) stands ascends
-head_least page low (Range first last) stands ascends =
-    range_head page low first last (max first low) (nat_le (max first low) last) refl (leb-true (max first low) last) (leb-false (max first low) last)
+    (page right : ℕ → List ℕ) (low : ℕ) (cursor : Cursor) → Stands low cursor → CursorRight page right cursor
+    → IsLeastFrom low (HasAhead right cursor) (head_from low cursor)
+head_least page right low (OfList run) stands was =
+    list_head right low run (nat_le low run.last) (leb-true low run.last) (leb-false low run.last) stands was.ascends
+head_least page right low (Range first last) stands was =
+    range_head right low first last (max first low) (nat_le (max first low) last) refl (leb-true (max first low) last) (leb-false (max first low) last)
 
 if_has : (b : Bool) (x : ℕ) (P : ℕ → Type 0) → (b ≡ true → P x) → IfSome (if b then Some x else None) P
 if_has true x P has = has refl
@@ -108,10 +117,41 @@ pub head_above : (low : ℕ) (cursor : Cursor) → IfSome (head_from low cursor)
 head_above low (OfList run) = if_has (nat_le low run.last) run.last (λ id. low ≤ id) (λ is. leb-true low run.last is)
 head_above low (Range first last) = if_has (nat_le (max first low) last) (max first low) (λ id. low ≤ id) (λ is. omega arith)
 
-pub head_no_higher : (most low : ℕ) (cursor : Cursor) → IsAtMost most cursor → IfSome (head_from low cursor) (λ id. id ≤ most)
-head_no_higher most low (OfList run) at_most = if_has (nat_le low run.last) run.last (λ id. id ≤ most) (λ is. at_most.1)
-head_no_higher most low (Range first last) at_most =
-    if_has (nat_le (max first low) last) (max first low) (λ id. id ≤ most) (λ is. omega (arith, leb-true (max first low) last is))
+head_has : (low : ℕ) (cursor : Cursor) → IfSome (head_from low cursor) (HasHead cursor)
+head_has low (OfList run) = if_has (nat_le low run.last) run.last (λ id. id ≡ run.last) (λ is. refl)
+head_has low (Range first last) =
+    if_has (nat_le (max first low) last) (max first low) (λ id. (first ≤ id) × (id ≤ last)) (λ is. (omega arith, leb-true (max first low) last is))
+
+some_then : {A : Type 0} {P Q : A → Type 0} (value : Option A) → ((a : A) → P a → Q a) → IfSome value P → IfSome value Q
+some_then None follows is = tt
+some_then (Some a) follows is = follows a is
+
+-- a head stays where its cursor does, and one more cursor may have one
+pub head_kept :
+    (x y : List Cursor) (i : ℕ) (least : Option ℕ) → ((k : ℕ) → k ≢ i → cursor_at y k ≡ cursor_at x k) → IfSome least (IsHead x i)
+    → IfSome least (IsHead y (i + 1))
+head_kept x y i least others was =
+    some_then least
+    (λ id head.
+    let P : Cursor → Type 0 = λ cursor. HasHead cursor id in
+    record {
+      at = head.at;
+      below = omega (arith, head.below);
+      has = subst P (sym (others head.at (λ same. omega (arith, same, head.below)))) head.has;
+    })
+    was
+
+pub head_here : (low : ℕ) (cursors : List Cursor) (i : ℕ) → IfSome (head_from low (cursor_at cursors i)) (IsHead cursors (i + 1))
+head_here low cursors i =
+    some_then (head_from low (cursor_at cursors i)) (λ id has. record { at = i; below = omega arith; has = has }) (head_has low (cursor_at cursors i))
+
+-- what is at the head of a cursor is no higher than the cursors may have
+head_at_most : (most id : ℕ) (cursor : Cursor) → HasHead cursor id → IsAtMost most cursor → id ≤ most
+head_at_most most id (OfList run) has at_most = omega (arith, has, at_most.1)
+head_at_most most id (Range first last) has at_most = omega (arith, has.1, at_most)
+
+pub is_at_most : (most : ℕ) (cursors : List Cursor) (to id : ℕ) → IsHead cursors to id → AllAtMost most cursors → id ≤ most
+is_at_most most cursors to id head at_most = head_at_most most id (cursor_at cursors head.at) head.has (at_most head.at)
 
 one_has : (P : ℕ → Type 0) (t : Bool) (a b : ℕ) → P a → P b → IfSome (if t then Some a else Some b) P
 one_has P true a b first second = first
@@ -155,12 +195,13 @@ least_kept low P Q None stays was least = λ id above has. least id above (was i
 least_kept low P Q (Some a) stays was least = (least.0, stays a least.0 least.1, λ id above has. least.2 id above (was id has))
 
 pub union_fewer :
-    {page : ℕ → List ℕ} {low : ℕ} (x y : List Cursor) (from to id : ℕ) → AllAdvance page low x y → InUnion page y from to id → InUnion page x from to id
+    {page right : ℕ → List ℕ} {low : ℕ} (x y : List Cursor) (from to id : ℕ) → AllAdvance page right low x y → InUnion right y from to id
+    → InUnion right x from to id
 union_fewer x y from to id advances is = record { at = is.at; low = is.low; high = is.high; has = (advances is.at).fewer id is.has }
 
 pub union_same :
-    {page : ℕ → List ℕ} {low : ℕ} (x y : List Cursor) (from to id : ℕ) → AllAdvance page low x y → low ≤ id → InUnion page x from to id
-    → InUnion page y from to id
+    {page right : ℕ → List ℕ} {low : ℕ} (x y : List Cursor) (from to id : ℕ) → AllAdvance page right low x y → low ≤ id → InUnion right x from to id
+    → InUnion right y from to id
 union_same x y from to id advances above is = record { at = is.at; low = is.low; high = is.high; has = (advances is.at).same id above is.has }
 
 split_last :
@@ -174,20 +215,20 @@ split_last page cursors from i id is =
 
 -- one more cursor of a union
 pub least_step :
-    (page : ℕ → List ℕ) (low : ℕ) (x y : List Cursor) (from i : ℕ) (least result : Option ℕ) → from ≤ i → AllAdvance page low x y
-    → Stands low (cursor_at y i) → result ≡ lesser_of least (head_from low (cursor_at y i)) → IsLeastFrom low (InUnion page x from i) least
-    → IsLeastFrom low (InUnion page y from (i + 1)) result
-least_step page low x y from i least result order advances stands is was =
-    let P : Option ℕ → Type 0 = IsLeastFrom low (InUnion page y from (i + 1)) in
-    let kept = least_kept low (InUnion page x from i) (InUnion page y from i) least (λ id above. union_same x y from i id advances above)
+    (page right : ℕ → List ℕ) (low : ℕ) (x y : List Cursor) (from i : ℕ) (least result : Option ℕ) → from ≤ i → AllAdvance page right low x y
+    → Stands low (cursor_at y i) → result ≡ lesser_of least (head_from low (cursor_at y i)) → IsLeastFrom low (InUnion right x from i) least
+    → IsLeastFrom low (InUnion right y from (i + 1)) result
+least_step page right low x y from i least result order advances stands is was =
+    let P : Option ℕ → Type 0 = IsLeastFrom low (InUnion right y from (i + 1)) in
+    let kept = least_kept low (InUnion right x from i) (InUnion right y from i) least (λ id above. union_same x y from i id advances above)
     (λ id. union_fewer x y from i id advances) was in
     subst P (sym is)
-    (least_of_two low (InUnion page y from i) (HasAhead page (cursor_at y i)) (InUnion page y from (i + 1)) least (head_from low (cursor_at y i))
-    (split_last page y from i)
+    (least_of_two low (InUnion right y from i) (HasAhead right (cursor_at y i)) (InUnion right y from (i + 1)) least (head_from low (cursor_at y i))
+    (split_last right y from i)
     (λ id in_it. record { at = in_it.at; low = in_it.low; high = omega (arith, in_it.high); has = in_it.has })
     (λ id has. record { at = i; low = order; high = omega arith; has = has })
     kept
-    (head_least page low (cursor_at y i) stands (all_ascend x y advances i)))
+    (head_least page right low (cursor_at y i) stands (all_right x y advances i)))
 
 pub has_step :
     (P : ℕ → Type 0) (low : ℕ) (least result : Option ℕ) (cursor : Cursor) → result ≡ lesser_of least (head_from low cursor)
@@ -199,6 +240,9 @@ pub sought_of : (low : ℕ) (P : ℕ → Type 0) (least : Option ℕ) (result : 
 sought_of low P None result is least = let Q : Sought → Type 0 = IsSought low P in subst Q (sym is) least
 sought_of low P (Some id) result is least = let Q : Sought → Type 0 = IsSought low P in subst Q (sym is) least
 
-pub no_higher_of : (most : ℕ) (least : Option ℕ) (result : Sought) → result ≡ sought_at least → IfSome least (λ id. id ≤ most) → IsNoHigher most result
-no_higher_of most None result is least = let Q : Sought → Type 0 = IsNoHigher most in subst Q (sym is) least
-no_higher_of most (Some id) result is least = let Q : Sought → Type 0 = IsNoHigher most in subst Q (sym is) least
+pub from_of :
+    (low : ℕ) (cursors : List Cursor) (to : ℕ) (least : Option ℕ) (result : Sought) → result ≡ sought_at least → IfSome least (λ id. low ≤ id)
+    → IfSome least (IsHead cursors to) → SoughtFrom low cursors to result
+from_of low cursors to None result is from head = let Q : Sought → Type 0 = SoughtFrom low cursors to in subst Q (sym is) tt
+from_of low cursors to (Some id) result is from head =
+    let Q : Sought → Type 0 = SoughtFrom low cursors to in subst Q (sym is) (record { from = from; head = head })
