@@ -1,0 +1,4 @@
+pub mod Frames
+pub mod LevelFiles
+pub mod Starts
+pub mod DirectoryRecords

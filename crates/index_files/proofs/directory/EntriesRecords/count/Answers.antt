@@ -1,0 +1,8 @@
+use Rattle.std.proofs.Common.{sym, ◌∙◌}
+use Rattle.index_files.specs.Files.{ranks_of}
+use Rattle.index_files.proofs.DirectoryRecords.{records_count}
+use Rattle.index_files.proofs.directory.EntriesRecords.count.Goals as goal
+
+pub returns : goal.returns
+returns g c =
+    c.count.ensures ∙ sym (records_count (g.H.Records.records c.args.self.now.heads.now) (ranks_of c.args.self.now.starts.now))

@@ -1,0 +1,5 @@
+pub mod Files
+pub mod Directory
+pub mod Faults
+pub mod Laws
+pub mod Writing
