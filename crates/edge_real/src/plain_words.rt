@@ -1,5 +1,8 @@
 //! Words of the command line as they may be printed.
 
+ghost use Rattle.std.specs.Prelude.{◌≡◌, true, false};
+ghost use Rattle.std.specs.Char.{is_control};
+
 use std::alloc::{AllocError, Global};
 
 /// The words, each with a question mark in the place of each control character.
@@ -21,6 +24,10 @@ fn plain_word(alloc: Global, word: &str) -> Result<String, AllocError> {
 }
 
 /// The letter, or a question mark where it is a control character.
-fn plain_letter(letter: char) -> char {
+fn plain_letter(letter: char) -> char
+    ensures plain { is_control result ≡ false }
+    ensures same { is_control letter ≡ false → result ≡ letter }
+    ensures mark { is_control letter ≡ true → result ≡ 63 }
+{
     if letter.is_control() { '?' } else { letter }
 }

@@ -1,5 +1,7 @@
 //! Long work told on a terminal, as it goes on.
 
+ghost use Rattle.std.specs.Prelude.{◌≡◌, ◌<◌, ◌+◌, ◌*◌, ◌/◌, IfSome};
+
 use crate::file_name::FileName;
 use std::io::{Eprint, IsTerminal};
 use std::rt::HostRuntime;
@@ -22,12 +24,18 @@ pub(crate) struct Tenths {
 
 impl Tenths {
     /// Before the first page.
-    pub(crate) fn none() -> Tenths {
+    pub(crate) fn none() -> Tenths
+        ensures none { result.reached ≡ 0 }
+    {
         Tenths { reached: 0 }
     }
 
     /// The tenths that are done with this page of so many, where they are more than before.
-    pub(crate) fn next(&mut self, page: u32, pages: u32) -> Option<u64> {
+    pub(crate) fn next(&mut self, page: u32, pages: u32) -> Option<u64>
+        ensures tenths { IfSome result (λ tenths. tenths ≡ (page + 1) * 10 / pages) }
+        ensures rises { IfSome result (λ tenths. self.old.reached < tenths) }
+        ensures reached { IfSome result (λ tenths. self.new.reached ≡ tenths) }
+    {
         if pages == 0 {
             return None;
         }
