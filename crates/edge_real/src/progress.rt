@@ -59,6 +59,6 @@ pub(crate) fn tell_file<E: Eprint>(to: &Option<E>, deed: &str, name: &str) {
 /// Tells how many tenths of a device's pages are done, where there is a terminal.
 pub(crate) fn tell_tenths<E: Eprint>(to: &Option<E>, deed: &str, tenths: u64) {
     if let Some(to) = to {
-        let _told = eprintln!(to; "{deed} {tenths} tenths of the device's pages");
+        let _told = eprintln!(to; "{deed} {tenths}0 percent of the device's pages");
     }
 }

@@ -1,11 +1,11 @@
 //! A sink that remembers which texts were refused.
 
-ghost use Rattle.std.specs.Prelude.{◌≡◌};
+ghost use Rattle.std.specs.Prelude.{◌≡◌, IfOk};
 
 use edge_traits::Failed;
 use edge_traits::sink::Sink;
 use spj_parse::Refusal;
-use std::alloc::Global;
+use std::alloc::{AllocError, Global};
 
 /// The most texts that are remembered: as many as a script may have.
 const MOST_HEARD: usize = 64;
@@ -57,14 +57,14 @@ pub(crate) struct HeardSink<O> {
 }
 
 impl<O: Sink + Drop> HeardSink<O> {
-    /// This sink, before its first line.
-    pub(crate) fn new(alloc: Global, out: O) -> HeardSink<O>
-        ensures out { result.out ≡ out }
+    /// This sink, before its first line. What is remembered has its room from now on.
+    pub(crate) fn new(alloc: Global, out: O) -> Result<HeardSink<O>, AllocError>
+        ensures out { IfOk result (λ sink. sink.out ≡ out) }
     {
-        HeardSink {
+        Ok(HeardSink {
             out,
-            refused: Vec::new(alloc),
-        }
+            refused: Vec::with_capacity(alloc, MOST_HEARD)?,
+        })
     }
 
     /// The texts that were refused, in the order of their lines.

@@ -68,7 +68,7 @@ fn run(rt: &HostRuntime, words: &mut Vec<String>) -> io::Result<Ended> {
     };
     let mut flash = ToldFlash::new(FileFlash::new(rt.alloc(), rt), terminal(rt));
     let mut link = TcpLink::new(rt);
-    let mut out = HeardSink::new(rt.alloc(), StdSink::new(rt.alloc(), rt)?);
+    let mut out = HeardSink::new(rt.alloc(), StdSink::new(rt.alloc(), rt)?)?;
     let ended = key_main(
         rt.alloc(),
         words,
