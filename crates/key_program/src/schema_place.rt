@@ -41,7 +41,7 @@ fn token_of<'a>(schema: &'a [u8], broken: &BrokenSchema) -> Option<Token<'a>> {
         BrokenSchema::DuplicateTable(named)
         | BrokenSchema::NoId(named)
         | BrokenSchema::TwoParents(named)
-        | BrokenSchema::Cycle(named) => table_name(&mut Cursor::of(schema), named.table),
+        | BrokenSchema::Cycle(named) => table_name(schema, named.table),
         BrokenSchema::DuplicateColumn(named) | BrokenSchema::UnknownTable(named) => {
             column_name(schema, named.table, named.column)
         }
@@ -49,28 +49,52 @@ fn token_of<'a>(schema: &'a [u8], broken: &BrokenSchema) -> Option<Token<'a>> {
     }
 }
 
-/// Goes behind the next token of a sort, as often as `count` says.
-fn pass(cursor: &mut Cursor<'_>, mark: Mark, count: usize) -> Option<()> {
-    for _ in 0..count {
-        while cursor.next()?.mark != mark {}
-    }
-    Some(())
-}
-
-/// The name of a table of a schema that is in the grammar, by the table's place, and goes behind it.
-fn table_name<'a>(cursor: &mut Cursor<'a>, table: usize) -> Option<Token<'a>> {
-    pass(cursor, Mark::Table, table.saturating_add(1))?;
-    cursor.next()
+/// The name of a table of a schema that is in the grammar, by the table's place.
+fn table_name(schema: &[u8], table: usize) -> Option<Token<'_>> {
+    Tokens::of(schema).behind(Mark::Table, table)
 }
 
 /// The name of a column of a schema that is in the grammar, by the places of its table and of the column in it. A comma
 /// stands there between two columns and nowhere else.
 fn column_name(schema: &[u8], table: usize, column: usize) -> Option<Token<'_>> {
-    let mut cursor = Cursor::of(schema);
-    table_name(&mut cursor, table)?;
-    cursor.next()?;
-    pass(&mut cursor, Mark::Comma, column)?;
-    cursor.next()
+    let mut tokens = Tokens::of(schema);
+    tokens.behind(Mark::Table, table)?;
+    match column.checked_sub(1) {
+        None => tokens.behind(Mark::Open, 0),
+        Some(earlier) => tokens.behind(Mark::Comma, earlier),
+    }
+}
+
+/// The tokens of a schema that were not given yet, of which there are at most so many.
+#[derive(Drop)]
+struct Tokens<'a> {
+    cursor: Cursor<'a>,
+    most: usize,
+}
+
+impl<'a> Tokens<'a> {
+    /// All tokens of a schema.
+    fn of(schema: &'a [u8]) -> Tokens<'a> {
+        Tokens {
+            cursor: Cursor::of(schema),
+            most: schema.len(),
+        }
+    }
+
+    /// The token behind the next one of a sort that stands behind `earlier` more of that sort.
+    fn behind(&mut self, mark: Mark, earlier: usize) -> Option<Token<'a>> {
+        let mut left = earlier;
+        for _ in 0..self.most {
+            let token = self.cursor.next()?;
+            if token.mark == mark {
+                if left == 0 {
+                    return self.cursor.next();
+                }
+                left -= 1;
+            }
+        }
+        None
+    }
 }
 
 /// What was counted of a schema while it is searched for what is beyond the limits.
