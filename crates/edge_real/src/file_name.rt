@@ -17,7 +17,7 @@ pub struct FileName {
 
 impl FileName {
     /// The name, or its first bytes where it is longer.
-    pub(crate) fn of(name: &str) -> FileName {
+    pub fn of(name: &str) -> FileName {
         let mut places = [0; MOST_NAME];
         for (place, byte) in places.iter_mut().zip(name.as_bytes().iter()) {
             *place = *byte;

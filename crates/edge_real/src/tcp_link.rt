@@ -50,7 +50,7 @@ pub enum Cause {
 }
 
 impl Cause {
-    /// The cause that an error of this kind has.
+    /// The cause that an error of this kind has. A name that leads to no address has an error of no kind.
     fn of(kind: io::ErrorKind) -> Cause {
         match kind {
             io::ErrorKind::ConnectionRefused => Cause::Refused,
@@ -62,7 +62,8 @@ impl Cause {
             io::ErrorKind::InvalidInput
             | io::ErrorKind::HostUnreachable
             | io::ErrorKind::NetworkUnreachable
-            | io::ErrorKind::TimedOut => Cause::NoAddress,
+            | io::ErrorKind::TimedOut
+            | io::ErrorKind::Uncategorized => Cause::NoAddress,
             io::ErrorKind::PermissionDenied => Cause::NotAllowed,
             _ => Cause::Other,
         }
@@ -80,7 +81,7 @@ impl Display for Cause {
             Cause::NoAddress =>
                 "the address is none, or cannot be reached: give one with its port, as 127.0.0.1:4711",
             Cause::NotAllowed => "the system does not allow it: give a port from 1024 on",
-            Cause::Other => "the network failed",
+            Cause::Other => "the network failed: see that this machine has one, and ask again",
         })
     }
 }

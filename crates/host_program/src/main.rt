@@ -3,9 +3,13 @@
 
 use edge_real::dir_depot::DirDepot;
 use edge_real::file_fault::FileFault;
+use edge_real::plain_words::plain_words;
+use edge_real::progress::terminal;
 use edge_real::std_sink::StdSink;
 use edge_real::tcp_link::{Cause, TcpLink};
+use edge_real::told_depot::ToldDepot;
 use host_commands::{HostStatus, host_main, line_of};
+use std::alloc::{AllocError, Global};
 use std::io::ErrorKind;
 use std::process::ExitCode;
 use std::{env, io};
@@ -38,13 +42,13 @@ fn run(rt: &HostRuntime, words: &mut Vec<String>) -> io::Result<HostStatus> {
     for word in env::args(rt)? {
         words.push(word)?;
     }
-    let mut depot = DirDepot::new(rt);
+    let mut depot = ToldDepot::new(DirDepot::new(rt), terminal(rt));
     let mut link = TcpLink::new(rt);
     let mut out = StdSink::new(rt.alloc(), rt)?;
     let status = host_main(rt.alloc(), words, &mut depot, &mut link, &mut out);
     if status != HostStatus::Ok {
         tell(rt, words, &status);
-        tell_file(rt, depot.first_fault());
+        tell_file(rt, depot.depot.first_fault());
         tell_move(rt, link.first_cause());
     }
     Ok(status)
@@ -52,10 +56,15 @@ fn run(rt: &HostRuntime, words: &mut Vec<String>) -> io::Result<HostStatus> {
 
 /// Prints on standard error how the program ended.
 fn tell(rt: &HostRuntime, words: &[String], status: &HostStatus) {
-    let _printed = match line_of(rt.alloc(), words, status) {
+    let _printed = match plain_line(rt.alloc(), words, status) {
         Ok(line) => eprintln!(rt; "{line}"),
         Err(_) => eprintln!(rt; "{status}"),
     };
+}
+
+/// The line that tells how the program ended, made of words without control characters.
+fn plain_line(alloc: Global, words: &[String], status: &HostStatus) -> Result<String, AllocError> {
+    line_of(alloc, &plain_words(alloc, words)?, status)
 }
 
 /// Prints on standard error the file that could not be read, if it could not.

@@ -1,13 +1,27 @@
 //! The program of the key. What its commands do lies in `key_commands` and the crates below; here are the real files, the
-//! real device, the network and the real output.
+//! real device, the network and the real output, and what is told on standard error.
 #![tactic(auto)]
 
+mod heard_sink;
+mod kept_depot;
+mod place;
+mod refusals;
+mod schema_place;
+mod table_line;
+mod telling;
+
+use crate::heard_sink::HeardSink;
+use crate::kept_depot::{KeptDepot, KeptText};
+use crate::refusals::tell_refusals;
+use crate::telling::{Inputs, inputs_of, tell, tell_file, tell_input, tell_move};
 use edge_real::dir_depot::DirDepot;
-use edge_real::file_fault::FileFault;
 use edge_real::file_flash::FileFlash;
+use edge_real::progress::terminal;
 use edge_real::std_sink::StdSink;
-use edge_real::tcp_link::{Cause, TcpLink};
-use key_commands::{Ended, key_main, line_of};
+use edge_real::tcp_link::TcpLink;
+use edge_real::told_depot::ToldDepot;
+use edge_real::told_flash::ToldFlash;
+use key_commands::{Ended, key_main};
 use key_words::UsageFault;
 use std::io::ErrorKind;
 use std::process::ExitCode;
@@ -36,16 +50,25 @@ fn not_read(error: &io::Error) -> Ended {
     }
 }
 
-/// Reads the words of the command line, does what they say, and prints on standard error what did not go well. An error
-/// tells that they could not be read, and nothing was printed.
+/// Reads the words of the command line, does what they say, and prints on standard error which texts were refused and what
+/// did not go well. An error tells that they could not be read, and nothing was printed.
 fn run(rt: &HostRuntime, words: &mut Vec<String>) -> io::Result<Ended> {
     for word in env::args(rt)? {
         words.push(word)?;
     }
-    let mut depot = DirDepot::new(rt);
-    let mut out = StdSink::new(rt.alloc(), rt)?;
-    let mut flash = FileFlash::new(rt.alloc(), rt);
+    let Inputs {
+        schema,
+        tables,
+        script,
+    } = inputs_of(rt.alloc(), words);
+    let mut depot = KeptDepot {
+        depot: ToldDepot::new(DirDepot::new(rt), terminal(rt)),
+        schema: KeptText::of(rt.alloc(), schema),
+        script: KeptText::of(rt.alloc(), script),
+    };
+    let mut flash = ToldFlash::new(FileFlash::new(rt.alloc(), rt), terminal(rt));
     let mut link = TcpLink::new(rt);
+    let mut out = HeardSink::new(rt.alloc(), StdSink::new(rt.alloc(), rt)?)?;
     let ended = key_main(
         rt.alloc(),
         words,
@@ -54,32 +77,12 @@ fn run(rt: &HostRuntime, words: &mut Vec<String>) -> io::Result<Ended> {
         &mut link,
         &mut out,
     );
+    tell_refusals(rt, &depot.script, out.refused());
     if ended.exit_code() != 0 {
         tell(rt, words, &ended);
-        tell_file(rt, depot.first_fault());
+        tell_file(rt, depot.depot.depot.first_fault());
         tell_move(rt, link.first_cause());
+        tell_input(rt, &mut depot, tables, &ended);
     }
     Ok(ended)
-}
-
-/// Prints on standard error how a command ended.
-fn tell(rt: &HostRuntime, words: &[String], ended: &Ended) {
-    let _printed = match line_of(rt.alloc(), words, ended) {
-        Ok(line) => eprintln!(rt; "{line}"),
-        Err(_) => eprintln!(rt; "out of memory"),
-    };
-}
-
-/// Prints on standard error the file that could not be read or written, if one could not.
-fn tell_file(rt: &HostRuntime, fault: Option<FileFault>) {
-    if let Some(fault) = fault {
-        let _printed = eprintln!(rt; "{fault}");
-    }
-}
-
-/// Prints on standard error why a move on the link failed, if one did.
-fn tell_move(rt: &HostRuntime, cause: Option<Cause>) {
-    if let Some(cause) = cause {
-        let _printed = eprintln!(rt; "{cause}");
-    }
 }

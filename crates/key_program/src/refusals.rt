@@ -1,0 +1,114 @@
+//! What is told of refused texts.
+
+use crate::heard_sink::Refused;
+use crate::kept_depot::KeptText;
+use crate::place::{Place, Word, token_from};
+use edge_real::file_name::FileName;
+use spj_parse::{Refusal, Texts};
+
+/// A text of a script.
+#[derive(Clone, Copy)]
+struct TextAt<'a> {
+    /// Its bytes.
+    text: &'a [u8],
+
+    /// Where it begins in the script.
+    at: usize,
+}
+
+/// Prints on standard error what each refusal means, where it stands, and what to write.
+pub(crate) fn tell_refusals(rt: &HostRuntime, script: &KeptText<'_>, refused: &[Refused]) {
+    for one in refused {
+        match text_of(script.bytes(), one.text) {
+            Some(found) => tell_found(rt, script, one, &found),
+            None => tell_lost(rt, one),
+        }
+    }
+}
+
+/// Prints what the refusal of a text means that was found in the script.
+fn tell_found(rt: &HostRuntime, script: &KeptText<'_>, refused: &Refused, found: &TextAt<'_>) {
+    let number = refused.text;
+    let name = FileName::of(script.name());
+    let token = token_from(found.text, offset_of(&refused.refusal));
+    let place = Place::of(script.bytes(), found.at.saturating_add(token.at));
+    let numbers = place.numbers();
+    let _told = match remedy(&refused.refusal) {
+        None => {
+            let word = Word(token);
+            eprintln!(rt; "{name}, {numbers}: text {number} cannot go on with {word}\n{place}")
+        }
+        Some(remedy) => eprintln!(rt; "{name}, {numbers}: text {number} {remedy}"),
+    };
+}
+
+/// Prints what the refusal of a text means that is not at hand.
+fn tell_lost(rt: &HostRuntime, refused: &Refused) {
+    let number = refused.text;
+    let _told = match remedy(&refused.refusal) {
+        None => {
+            let at = offset_of(&refused.refusal);
+            eprintln!(rt; "text {number} cannot go on as it does at byte {at}")
+        }
+        Some(remedy) => eprintln!(rt; "text {number} {remedy}"),
+    };
+}
+
+/// The offset of a refusal in its text, 0 where it has none.
+fn offset_of(refusal: &Refusal) -> usize {
+    match refusal {
+        Refusal::Syntax { at } => *at,
+        _ => 0,
+    }
+}
+
+/// What a refusal means and what to write, for all but that of the syntax.
+fn remedy(refusal: &Refusal) -> Option<&'static str> {
+    match refusal {
+        Refusal::Syntax { .. } => None,
+        Refusal::Limit => Some(
+            "is too large: write at most 4096 bytes, 12 tables, 32 columns, 16 conditions with a value (BETWEEN has two), and 32 bytes a name",
+        ),
+        Refusal::UnknownTable => Some(
+            "names a table that is not there: write behind FROM, and before a point, the names of the schema's tables",
+        ),
+        Refusal::UnknownColumn => Some(
+            "names a column that its tables do not have: write a column of a table in FROM, or that table in FROM too",
+        ),
+        Refusal::Ambiguous => Some(
+            "has a table twice in FROM, or a column that several of its tables have: write each table once, and such a column with its table, as visit.id",
+        ),
+        Refusal::KindMismatch => Some(
+            "compares a number with a text: write a number, as 5, for an INTEGER column and a text, as 'flu', for a CHAR column",
+        ),
+        Refusal::BadLiteral => Some(
+            "has a value that its column cannot have: write a number within 64 bits, or a text no longer than the column's n",
+        ),
+        Refusal::NotLinked => Some(
+            "does not link its tables: write, for each table in FROM that another one there references, a condition as doc = doctor.id, and compare no other two columns",
+        ),
+    }
+}
+
+/// The text of a number, and where it begins.
+fn text_of(script: &[u8], number: u32) -> Option<TextAt<'_>> {
+    let mut texts = Texts::new(script);
+    let mut from = 0;
+    for _ in 1..number {
+        let earlier = texts.next()?;
+        from = found_from(script, earlier, from)?.saturating_add(earlier.len());
+    }
+    let text = texts.next()?;
+    let at = found_from(script, text, from)?;
+    Some(TextAt { text, at })
+}
+
+/// Where a text stands first from a place on. Between two texts there are only white space and `;`, so it is that text.
+fn found_from(script: &[u8], text: &[u8], from: usize) -> Option<usize> {
+    for at in from..script.len() {
+        if script.get(at..)?.starts_with(text) {
+            return Some(at);
+        }
+    }
+    None
+}

@@ -1,0 +1,99 @@
+//! What is told of a command that did not end well.
+
+use crate::kept_depot::KeptDepot;
+use crate::schema_place::tell_place;
+use crate::table_line::tell_line;
+use edge_real::file_fault::FileFault;
+use edge_real::plain_words::plain_words;
+use edge_real::tcp_link::Cause;
+use edge_traits::depot::Depot;
+use key_commands::{Ended, line_of};
+use key_inputs::InputFault;
+use key_load::LoadFailure;
+use key_local::LocalFailure;
+use key_plain::PlainFault;
+use key_query::QueryFailure;
+use key_words::{KeyWords, read_words};
+use std::alloc::{AllocError, Global};
+
+/// The files that a command reads: the schema's, the folder of the tables', and the script's, empty where there is none.
+#[derive(Clone, Copy)]
+pub(crate) struct Inputs<'a> {
+    /// The schema's file.
+    pub(crate) schema: &'a str,
+
+    /// The folder of the tables' files.
+    pub(crate) tables: &'a str,
+
+    /// The script's file.
+    pub(crate) script: &'a str,
+}
+
+/// The files that the command of these words reads.
+pub(crate) fn inputs_of(alloc: Global, words: &[String]) -> Inputs<'_> {
+    let (schema, tables, script) = match read_words(alloc, words) {
+        Ok(KeyWords::Plain(said)) => (said.schema, said.tables, said.script),
+        Ok(KeyWords::Load(said)) => (said.schema, said.tables, ""),
+        Ok(KeyWords::Local(said)) => (said.schema, said.tables, said.script),
+        Ok(KeyWords::Query(said)) => ("", "", said.script),
+        Err(_) => ("", "", ""),
+    };
+    Inputs {
+        schema,
+        tables,
+        script,
+    }
+}
+
+/// Prints on standard error how a command ended.
+pub(crate) fn tell(rt: &HostRuntime, words: &[String], ended: &Ended) {
+    let _printed = match plain_line(rt.alloc(), words, ended) {
+        Ok(line) => eprintln!(rt; "{line}"),
+        Err(_) => eprintln!(rt; "out of memory"),
+    };
+}
+
+/// The line that tells how a command ended, made of words without control characters.
+fn plain_line(alloc: Global, words: &[String], ended: &Ended) -> Result<String, AllocError> {
+    line_of(alloc, &plain_words(alloc, words)?, ended)
+}
+
+/// Prints on standard error the file that could not be read or written, if one could not.
+pub(crate) fn tell_file(rt: &HostRuntime, fault: Option<FileFault>) {
+    if let Some(fault) = fault {
+        let _printed = eprintln!(rt; "{fault}");
+    }
+}
+
+/// Prints on standard error why a move on the link failed, if one did.
+pub(crate) fn tell_move(rt: &HostRuntime, cause: Option<Cause>) {
+    if let Some(cause) = cause {
+        let _printed = eprintln!(rt; "{cause}");
+    }
+}
+
+/// Prints on standard error where the rule of an input is broken, if one is: in a schema the place, in a table's file the
+/// line.
+pub(crate) fn tell_input<D: Depot + Drop>(
+    rt: &HostRuntime,
+    depot: &mut KeptDepot<'_, D>,
+    tables: &str,
+    ended: &Ended,
+) {
+    match fault_of(ended) {
+        Some(InputFault::Schema(broken)) => tell_place(rt, &depot.schema, &broken),
+        Some(InputFault::Table(broken)) => tell_line(rt, &mut depot.depot, tables, &broken),
+        _ => {}
+    }
+}
+
+/// The rule of an input that is broken, if one is.
+fn fault_of(ended: &Ended) -> Option<InputFault> {
+    match ended {
+        Ended::Plain(Err(PlainFault::Input(fault)))
+        | Ended::Load(Err(LoadFailure::Input(fault)))
+        | Ended::Local(Err(LocalFailure::Input(fault)))
+        | Ended::Query(Err(QueryFailure::Input(fault))) => Some(*fault),
+        _ => None,
+    }
+}
