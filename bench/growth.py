@@ -1,0 +1,154 @@
+#!/usr/bin/env python3
+"""Measures how time, memory and calls of the flash grow with the rows, and draws it.
+
+    growth.py PROGRAM VISITS[,VISITS..] OUT [FOLDER]
+    growth.py --draw OUT
+
+PROGRAM is the built key's program. OUT gets growth.csv, the figures of this run, and their pictures time.svg, memory.svg
+and flash.svg; --draw draws those of a growth.csv that is there. FOLDER (a temporary one, where none is named) gets the
+clinics and all that is written. Time and peak memory stand beside those of sqlite3, where it is there; each is the least
+of three runs. Calls of the flash are counted from outside, by `strace`, where it is there: the program makes one call of
+the system for a page that it reads or writes, and one for a block that it makes blank. README.md says what is compared.
+"""
+import csv
+import os
+import re
+import shutil
+import subprocess
+import sys
+import tempfile
+from collections import Counter, namedtuple
+
+from beside import INDEXES, SQLITE, build_indexes, import_into, into_file, run, turns
+from chart import Line, Panel, chart
+from clinic import write_clinic
+from load_beside_sqlite import import_and_index
+from session_beside_sqlite import import_index_and_answer
+
+STRACE = shutil.which('strace')
+BUFFERS = (8, 32, 64)
+KINDS = {('pread64', 2048): 'pages read', ('pwrite64', 2048): 'pages written', ('pwrite64', 131072): 'blocks made blank'}
+CALL = re.compile(r'(?:\d+ +)?(pread64|pwrite64)\(.* = (\d+)$')
+OURS, THEIRS = '#1c4f9c', '#8a4b08'
+COLORS = {8: '#c00000', 32: OURS, 64: '#2a7a2a'}
+
+# A figure: of which number of visits, command and program it is, what was measured, and how much it was.
+Figure = namedtuple('Figure', 'visits command program what amount')
+
+
+def spent(visits, command, both):
+    """The figures of what a command took, and of what sqlite3 took for it."""
+    for program, one in zip(('key_program', 'sqlite3'), both):
+        if one:
+            for what, amount in (('seconds', one.seconds), ('CPU seconds', one.cpu), ('peak KiB', one.peak)):
+                yield Figure(visits, command, program, what, round(amount, 4))
+
+
+def counted(visits, command, words, folder):
+    """How often a command called the flash, counted from outside."""
+    log = os.path.join(folder, 'calls')
+    traced = [STRACE, '-f', '--seccomp-bpf', '-s', '0', '-e', 'trace=pread64,pwrite64', '-o', log]
+    run(traced + words, subprocess.DEVNULL)
+    with open(log) as lines:
+        found = Counter((it[1], int(it[2])) for it in map(CALL.match, lines) if it)
+    for kind, what in KINDS.items():
+        yield Figure(visits, command, 'key_program', what, found[kind])
+
+
+def measure(program, visits, folder):
+    """All figures over a clinic with so many visits."""
+    write_clinic(folder, visits)
+    name = lambda of: os.path.join(folder, of)
+    base, script = name('base.db'), name('script.sql')
+    inputs = ['--schema', name('schema.sql'), '--data', name('tables')]
+    load = [program, 'load', *inputs, '--flash', name('flash'), '--visible', name('visible')]
+    local = [program, 'local', *inputs, '--flash', name('flash'), '--script', script]
+    with open(script) as file:
+        given = '.mode tabs\n' + file.read()
+    if SQLITE:
+        import_into(base, folder)
+        build_indexes(base, INDEXES)
+    yield from spent(visits, 'plain', turns(lambda: into_file([program, 'plain', *inputs, '--script', script], name('out')),
+                                            lambda: into_file([SQLITE, base], name('sqlite.out'), given)))
+    yield from spent(visits, 'load', turns(lambda: run(load, subprocess.DEVNULL), lambda: import_and_index(base, folder)))
+    yield from spent(visits, 'local', turns(lambda: into_file(local, name('out')),
+                                            lambda: import_index_and_answer(base, folder, given, name('sqlite.out'))))
+    if STRACE:
+        yield from counted(visits, 'load', load, folder)
+        for buffers in BUFFERS:
+            words = local + ['--buffers', str(buffers)]
+            yield from counted(visits, 'local --buffers %d' % buffers, words, folder)
+
+
+def line_of(figures, label, color, is_broken, *key):
+    """The line of the figures with this command, program and measure."""
+    points = [(it.visits, it.amount) for it in figures if (it.command, it.program, it.what) == key and it.amount > 0]
+    return [Line(label, color, is_broken, points)] if points else []
+
+
+def beside(figures, what, unit, factor):
+    """A panel for each command: ours beside sqlite3's."""
+    scaled = [it._replace(amount=it.amount * factor) for it in figures]
+    labels = (('plain', 'plain, forty texts'), ('load', 'load'), ('local', 'local, forty texts'))
+    panels = [Panel(label, unit, line_of(scaled, 'this program', OURS, False, command, 'key_program', what)
+                    + line_of(scaled, 'sqlite3', THEIRS, True, command, 'sqlite3', what)) for command, label in labels]
+    return [panel for panel in panels if panel.lines]
+
+
+def flash_panels(figures):
+    read = []
+    for buffers in BUFFERS:
+        command = 'local --buffers %d' % buffers
+        read += line_of(figures, '%d page buffers' % buffers, COLORS[buffers], buffers != 32, command, 'key_program', 'pages read')
+    made = line_of(figures, 'pages written', OURS, False, 'load', 'key_program', 'pages written')
+    made += line_of(figures, 'blocks made blank', THEIRS, True, 'load', 'key_program', 'blocks made blank')
+    panels = Panel('pages that forty texts read', 'calls', read), Panel('load', 'calls', made)
+    return [panel for panel in panels if panel.lines]
+
+
+def draw(figures, out):
+    """Writes the pictures of figures."""
+    pictures = {'time': ('Seconds on a processor', beside(figures, 'CPU seconds', 'seconds', 1)),
+                'memory': ('Peak memory', beside(figures, 'peak KiB', 'MiB', 1 / 1024)),
+                'flash': ('Calls of the flash, counted from outside', flash_panels(figures))}
+    for name, (headline, panels) in pictures.items():
+        if panels:
+            with open(os.path.join(out, name + '.svg'), 'w') as file:
+                file.write(chart(headline, panels))
+
+
+def read_figures(out):
+    with open(os.path.join(out, 'growth.csv'), newline='') as file:
+        return [Figure(int(visits), command, program, what, float(amount))
+                for visits, command, program, what, amount in list(csv.reader(file))[1:]]
+
+
+def write_figures(program, sizes, out, folder):
+    with open(os.path.join(out, 'growth.csv'), 'w', newline='') as file:
+        lines = csv.writer(file, lineterminator='\n')
+        lines.writerow(Figure._fields)
+        for visits in sizes:
+            for figure in measure(program, visits, folder):
+                lines.writerow(figure)
+                file.flush()
+                print(*figure, flush=True)
+
+
+def main():
+    if len(sys.argv) not in (3, 4, 5) or (sys.argv[1] == '--draw') != (len(sys.argv) == 3):
+        sys.exit(__doc__)
+    if sys.argv[1] == '--draw':
+        return draw(read_figures(sys.argv[2]), sys.argv[2])
+    program, sizes, out = os.path.abspath(sys.argv[1]), [int(it) for it in sys.argv[2].split(',')], sys.argv[3]
+    os.makedirs(out, exist_ok=True)
+    folder = sys.argv[4] if len(sys.argv) == 5 else tempfile.mkdtemp(prefix='clinic')
+    try:
+        write_figures(program, sizes, out, folder)
+    finally:
+        if len(sys.argv) < 5:
+            shutil.rmtree(folder)
+    draw(read_figures(out), out)
+
+
+if __name__ == '__main__':
+    main()
