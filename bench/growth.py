@@ -7,8 +7,9 @@
 PROGRAM is the built key's program. OUT gets growth.csv, the figures of this run, and their pictures time.svg, memory.svg
 and flash.svg; --draw draws those of a growth.csv that is there. FOLDER (a temporary one, where none is named) gets the
 clinics and all that is written. Time and peak memory stand beside those of sqlite3, where it is there; each is the least
-of three runs. Calls of the flash are counted from outside, by `strace`, where it is there: the program makes one call of
-the system for a page that it reads or writes, and one for a block that it makes blank. README.md says what is compared.
+of three runs. Calls of the flash are counted from outside, by `strace`, where it is there: reading and writing a page are
+one call of the system each, and the making of the device, which is one call of the flash, is one for each block that it
+makes blank. README.md says what is compared.
 """
 import csv
 import os
