@@ -1,17 +1,22 @@
 #!/usr/bin/env python3
 """Measures how time, memory and calls of the flash grow with the rows, and draws it.
 
-    growth.py PROGRAM VISITS[,VISITS..] OUT [FOLDER]
-    growth.py --draw OUT
+    growth.py measure PROGRAM VISITS[,VISITS..] OUT [FOLDER]
+    growth.py calls PROGRAM VISITS[,VISITS..] OUT [FOLDER]
+    growth.py draw OUT
 
 PROGRAM is the built key's program. OUT gets growth.csv, the figures of this run, and their pictures time.svg, memory.svg
-and flash.svg; --draw draws those of a growth.csv that is there. FOLDER (a temporary one, where none is named) gets the
-clinics and all that is written. Time and peak memory stand beside those of sqlite3, where it is there; each is the least
-of three runs. Calls of the flash are counted from outside, by `strace`, where it is there: reading and writing a page are
-one call of the system each, and the making of the device, which is one call of the flash, is one for each block that it
-makes blank. README.md says what is compared.
+and flash.svg. `calls` takes only the calls of the flash anew, which are the same on every machine, and leaves the other
+figures of a growth.csv that is there; `draw` draws it. FOLDER (a temporary one, where none is named) gets the clinics and
+all that is written.
+
+Time and peak memory stand beside those of sqlite3, where it is there; each is the least of three runs. Calls of the flash
+are counted from outside, by `strace`, where it is there: reading and writing a page are one call of the system each, and
+the making of the device, which is one call of the flash, is one for each block that it makes blank. README.md says what is
+compared.
 """
 import csv
+import itertools
 import os
 import re
 import shutil
@@ -56,29 +61,42 @@ def counted(visits, command, words, folder):
         yield Figure(visits, command, 'key_program', what, found[kind])
 
 
+def words_of(program, folder):
+    """The words of `load` and `local` over a clinic, and those that they share with `plain`."""
+    name = lambda of: os.path.join(folder, of)
+    inputs = ['--schema', name('schema.sql'), '--data', name('tables')]
+    load = [program, 'load', *inputs, '--flash', name('flash'), '--visible', name('visible')]
+    local = [program, 'local', *inputs, '--flash', name('flash'), '--script', name('script.sql')]
+    return inputs, load, local
+
+
+def count_calls(program, visits, folder):
+    """The calls of the flash over a clinic with so many visits."""
+    write_clinic(folder, visits)
+    _, load, local = words_of(program, folder)
+    yield from counted(visits, 'load', load, folder)
+    for buffers in BUFFERS:
+        yield from counted(visits, 'local --buffers %d' % buffers, local + ['--buffers', str(buffers)], folder)
+
+
 def measure(program, visits, folder):
     """All figures over a clinic with so many visits."""
     write_clinic(folder, visits)
     name = lambda of: os.path.join(folder, of)
-    base, script = name('base.db'), name('script.sql')
-    inputs = ['--schema', name('schema.sql'), '--data', name('tables')]
-    load = [program, 'load', *inputs, '--flash', name('flash'), '--visible', name('visible')]
-    local = [program, 'local', *inputs, '--flash', name('flash'), '--script', script]
-    with open(script) as file:
+    inputs, load, local = words_of(program, folder)
+    base, plain = name('base.db'), [program, 'plain', *inputs, '--script', name('script.sql')]
+    with open(name('script.sql')) as file:
         given = '.mode tabs\n' + file.read()
     if SQLITE:
         import_into(base, folder)
         build_indexes(base, INDEXES)
-    yield from spent(visits, 'plain', turns(lambda: into_file([program, 'plain', *inputs, '--script', script], name('out')),
+    yield from spent(visits, 'plain', turns(lambda: into_file(plain, name('out')),
                                             lambda: into_file([SQLITE, base], name('sqlite.out'), given)))
     yield from spent(visits, 'load', turns(lambda: run(load, subprocess.DEVNULL), lambda: import_and_index(base, folder)))
     yield from spent(visits, 'local', turns(lambda: into_file(local, name('out')),
                                             lambda: import_index_and_answer(base, folder, given, name('sqlite.out'))))
     if STRACE:
-        yield from counted(visits, 'load', load, folder)
-        for buffers in BUFFERS:
-            words = local + ['--buffers', str(buffers)]
-            yield from counted(visits, 'local --buffers %d' % buffers, words, folder)
+        yield from count_calls(program, visits, folder)
 
 
 def line_of(figures, label, color, is_broken, *key):
@@ -124,31 +142,43 @@ def read_figures(out):
                 for visits, command, program, what, amount in list(csv.reader(file))[1:]]
 
 
-def write_figures(program, sizes, out, folder):
+def write_figures(figures, out):
+    """Writes the figures, each as soon as it is there, and prints it too."""
     with open(os.path.join(out, 'growth.csv'), 'w', newline='') as file:
         lines = csv.writer(file, lineterminator='\n')
         lines.writerow(Figure._fields)
-        for visits in sizes:
-            for figure in measure(program, visits, folder):
-                lines.writerow(figure)
-                file.flush()
-                print(*figure, flush=True)
+        for figure in figures:
+            lines.writerow(figure._replace(amount='%.10g' % figure.amount))
+            file.flush()
+            print(*figure, flush=True)
+
+
+def take(how, program, sizes, out, named):
+    """Takes figures over clinics of these sizes, writes them and draws them."""
+    os.makedirs(out, exist_ok=True)
+    kept = []
+    if how is count_calls and os.path.exists(os.path.join(out, 'growth.csv')):
+        kept = [it for it in read_figures(out) if it.what not in KINDS.values()]
+    folder = named[0] if named else tempfile.mkdtemp(prefix='clinic')
+    try:
+        write_figures(itertools.chain(kept, *(how(program, visits, folder) for visits in sizes)), out)
+    finally:
+        if not named:
+            shutil.rmtree(folder)
+    draw(read_figures(out), out)
 
 
 def main():
-    if len(sys.argv) not in (3, 4, 5) or (sys.argv[1] == '--draw') != (len(sys.argv) == 3):
+    words, ways = sys.argv[1:], {'measure': measure, 'calls': count_calls}
+    if words[:1] == ['calls'] and not STRACE:
+        sys.exit('there is no strace')
+    if len(words) == 2 and words[0] == 'draw':
+        draw(read_figures(words[1]), words[1])
+    elif len(words) in (4, 5) and words[0] in ways:
+        sizes = [int(it) for it in words[2].split(',')]
+        take(ways[words[0]], os.path.abspath(words[1]), sizes, words[3], words[4:])
+    else:
         sys.exit(__doc__)
-    if sys.argv[1] == '--draw':
-        return draw(read_figures(sys.argv[2]), sys.argv[2])
-    program, sizes, out = os.path.abspath(sys.argv[1]), [int(it) for it in sys.argv[2].split(',')], sys.argv[3]
-    os.makedirs(out, exist_ok=True)
-    folder = sys.argv[4] if len(sys.argv) == 5 else tempfile.mkdtemp(prefix='clinic')
-    try:
-        write_figures(program, sizes, out, folder)
-    finally:
-        if len(sys.argv) < 5:
-            shutil.rmtree(folder)
-    draw(read_figures(out), out)
 
 
 if __name__ == '__main__':
