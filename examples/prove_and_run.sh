@@ -35,9 +35,9 @@ prove_and_run() {
 
 tell_how_long() {
     cat <<END
---- The first time, all sources are read, which takes a minute or two, and then each crate that a program stands on is
---- proved and built, one after another: for the two programs that takes half an hour or more. After that, what
---- did not change is only run. The lines of rt itself go to
+--- The first time, all sources are read, which takes some minutes, and then each crate that a program stands on is
+--- proved and built, one after another: for the two programs that takes the better part of an hour. Each crate is named
+--- as its turn comes. After that, what did not change is only run. The lines of rt itself go to
 --- $log.
 END
 }

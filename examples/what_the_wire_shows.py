@@ -7,9 +7,10 @@ JOURNAL is the file that `local --journal` wrote (docs/CHANNEL.md). Printed are 
 ask in words, with the rows, the count or the code that came back; all moves in their order; and what is nowhere in it.
 
     --lines FILE       the lines that `local` printed: how many rows came, and how many were printed
-    --script FILE      the script besides: the same for each text, and which rows were of use where their id is selected
+    --script FILE      the script besides: the same for each text, and which rows the key kept where their id is selected
     --beside JOURNAL2  where the two journals differ, or that they do not
-    --svg FILE         writes all moves, and what is nowhere on the wire, as a picture
+    --svg FILE         writes all this as a picture: the moves from top to bottom, and beside them what is nowhere on the
+                       wire, what the key kept and whether the two journals differ
 
 Status 0; 1 where the two journals differ; 2 where a file is refused, with one line on standard error that says where
 and why.
@@ -24,7 +25,9 @@ sys.dont_write_bytecode = True
 from journal import Refused, amount, read_journal, row_words, shown
 
 BROKEN = ('link', 'protocol', 'host', 'flash', 'damaged')
-ROW = 26
+MOST_DRAWN = 1000
+ROW, TOP, KEY, HOST, BESIDE = 26, 96, 70, 730, 780
+BLUE, BROWN, RED = '#1c4f9c', '#8a4b08', '#c00000'
 
 
 def size_of(wire, sender):
@@ -163,98 +166,134 @@ def asks_of_texts(wire, texts, name):
     return found
 
 
-def tell_kept(rows, selected, asks):
-    """Of each asked table whose identifier is selected: which rows stand behind a printed one, and which do not."""
-    for ask in asks:
-        places = [at for at, (table, it) in enumerate(selected) if (table.name, it.name) == (ask.table.name, 'id')]
-        if places and all(len(row) == len(selected) for row in rows):
-            kept = {row[places[0]] for row in rows}
-            came = [str(row) for row, _ in ask.rows]
-            some, rest = [it for it in came if it in kept], [it for it in came if it not in kept]
-            parts = ask.table.name, shown(some, 12) or 'none', shown(rest, 12) or 'none'
-            print('    of %s it kept %s; of no use were %s' % parts)
+def kept_of(rows, selected, asks):
+    """Of each table whose identifier is selected: which rows stand behind a printed one, and which of those that came do
+    not."""
+    came = {ask.table.name: [str(row) for row, _ in ask.rows] for ask in asks}
+    for place, (table, column) in enumerate(selected):
+        if column.name == 'id' and all(len(row) == len(selected) for row in rows):
+            kept = dict.fromkeys(row[place] for row in rows)
+            rest = [row for row in came.get(table.name, []) if row not in kept]
+            some = shown(list(kept), 12) or 'none'
+            if table.name in came:
+                yield '    of %s it kept %s; of no use were %s' % (table.name, some, shown(rest, 12) or 'none')
+            else:
+                yield '    of %s, of which it asked nothing, it found %s among %s' % (
+                    table.name, some, amount(table.rows, 'row'))
 
 
-def tell_lines(wire, lines, script):
+def kept_words(wire, lines, script):
+    """What came and what was printed, in all and text by text, in lines."""
     texts = read_lines(lines)
     came, printed = sum(len(ask.rows) for ask in wire.asks), sum(len(rows) for rows, _ in texts)
-    print('\nWhat the key kept')
-    print('  %s came over the wire, %s printed.' % (amount(came, 'row'), amount(printed, 'row')))
+    words = ['  %s came over the wire, %s printed.' % (amount(came, 'row'), amount(printed, 'row'))]
     found = asks_of_texts(wire, texts, script) if script else [([], []) for _ in texts]
     for number, ((rows, word), (selected, asks)) in enumerate(zip(texts, found), 1):
         parts = ['%s of %s' % (amount(len(ask.rows), 'row'), ask.table.name) for ask in asks]
         told = '%s came, ' % ' and '.join(parts) if parts else 'nothing was asked, ' if script and not word else ''
         told += '%s printed' % amount(len(rows), 'row') if word is None or word in BROKEN else 'refused: %s' % word
-        print('  text %d: %s%s' % (number, told, ', then it broke off: %s' % word if word in BROKEN else ''))
-        tell_kept(rows, selected, asks if word is None else [])
-    print('  Which of the rows that came stand behind the printed ones was decided in the key, after they had come.')
+        words.append('  text %d: %s%s' % (number, told, ', then it broke off: %s' % word if word in BROKEN else ''))
+        words += kept_of(rows, selected, asks) if word is None else []
+    return words + ['  Which of the rows that came stand behind the printed ones was decided in the key, after they',
+                    '  had come.']
 
 
-def tell_beside(wire, other, name, name2):
-    """Tells where two journals differ, and returns whether they do."""
-    print('\nBeside %s' % name2)
+def unlike_moves(wire, other):
+    """The places of the moves of the first journal that the second one has not."""
+    return [place for place, line in enumerate(wire.lines) if [line] != other.lines[place:place + 1]]
+
+
+def beside_words(wire, other, name, name2):
+    """Where two journals differ, or that they do not, in lines."""
     if wire.lines == other.lines:
-        print('  The two journals are the same, byte for byte: %s.' % amount(len(wire.lines), 'move'))
-        return False
-    pairs = list(zip(wire.moves, other.moves))
-    unlike = [place for place, (one, two) in enumerate(zip(wire.lines, other.lines)) if one != two]
-    first = unlike[0] if unlike else len(pairs)
-    print('  They differ: %s and %s; of the first %d, %d differ.' % (
-        amount(len(wire.lines), 'move'), amount(len(other.lines), 'move'), len(pairs), len(unlike)))
+        return ['  The two journals are the same, byte for byte: %s.' % amount(len(wire.lines), 'move')]
+    both = min(len(wire.lines), len(other.lines))
+    unlike = [place for place in unlike_moves(wire, other) if place < both]
+    first = unlike[0] if unlike else both
+    words = ['  They differ: %s and %s; of the first %d, %d differ.' % (
+        amount(len(wire.lines), 'move'), amount(len(other.lines), 'move'), both, len(unlike))]
     for file, journal in ((name, wire), (name2, other)):
         move = journal.moves[first].words if first < len(journal.moves) else 'none'
-        print('  Move %d of %s: %s' % (first + 1, file, move))
-    return True
+        words.append('  Move %d of %s: %s' % (first + 1, file, move))
+    return words
 
 
 def put_text(x, y, words, more=''):
-    return '<text x="%d" y="%d"%s>%s</text>' % (x, y, more, html.escape(words))
+    return '<text x="%d" y="%d"%s xml:space="preserve">%s</text>' % (x, y, more, html.escape(words))
 
 
-def put_move(place, move):
+def put_move(place, move, is_unlike):
     """The picture of a move: an arrow, and above it what it says."""
-    y, words = 96 + ROW * place, move.words if len(move.words) < 98 else move.words[:96] + '..'
-    start, end = (70, 730) if move.sender == 'key' else (730, 70)
+    y, words = TOP + ROW * place, move.words if len(move.words) < 98 else move.words[:96] + '..'
+    start, end = (KEY, HOST) if move.sender == 'key' else (HOST, KEY)
     size = ' (%s)' % amount(move.size, 'byte') if move.size else ''
     tip = end - 8 if end > start else end + 8
-    return [put_text(400, y - 5, words + size, ' text-anchor="middle"'),
+    color = RED if is_unlike else BLUE if move.sender == 'key' else BROWN
+    return [put_text(400, y - 5, words + size, ' text-anchor="middle"' + (' fill="%s"' % RED if is_unlike else '')),
             '<path d="M%d %dH%dM%d %dL%d %dL%d %d" stroke="%s" fill="none"/>' % (
-                start, y, end, tip, y - 4, end, y, tip, y + 4, '#1c4f9c' if move.sender == 'key' else '#8a4b08')]
+                start, y, end, tip, y - 4, end, y, tip, y + 4, color)]
 
 
-def picture(wire):
-    hidden = hidden_columns(wire) or ['(no column is hidden)' if wire.catalog else '(no catalog came)']
-    low, box = 96 + ROW * len(wire.moves), max(300, 40 + 7 * max(len(name) for name in hidden))
-    wide, high = 800 + box, max(low + 20, 190 + 20 * len(hidden))
-    size = 'width="%d" height="%d"' % (wide, high)
-    parts = ['<svg xmlns="http://www.w3.org/2000/svg" %s font-family="sans-serif" font-size="12">' % size,
-             '<rect %s fill="white"/>' % size,
-             put_text(400, 24, 'On the wire, in time from top to bottom', ' text-anchor="middle" font-size="15"'),
-             put_text(70, 50, 'key', ' text-anchor="middle" font-weight="bold"'),
-             put_text(730, 50, 'host', ' text-anchor="middle" font-weight="bold"'),
-             '<path d="M70 58V%dM730 58V%d" stroke="gray"/>' % (low, low)]
-    for place, move in enumerate(wire.moves):
-        parts += put_move(place, move)
-    frame = '<rect x="780" y="58" width="%d" height="%d" fill="#f4f4f4" stroke="black"/>'
-    parts += [frame % (box, 90 + 20 * len(hidden)),
-              put_text(795, 80, 'Nowhere on the wire', ' font-weight="bold"'), put_text(795, 100, 'the values of')]
-    parts += [put_text(805, 122 + 20 * place, name) for place, name in enumerate(hidden)]
-    parts += [put_text(795, 134 + 20 * len(hidden), 'nor which of the rows that came were of use')]
-    return '\n'.join(parts + ['</svg>', ''])
+def put_moves(wire, unlike):
+    """The picture of the moves, and the height to which it comes."""
+    drawn = wire.moves[:MOST_DRAWN]
+    rest = len(wire.moves) - len(drawn)
+    low = TOP + ROW * (len(drawn) + (rest > 0))
+    parts = [put_text(400, 24, 'On the wire, in time from top to bottom', ' text-anchor="middle" font-size="15"'),
+             put_text(KEY, 50, 'key', ' text-anchor="middle" font-weight="bold"'),
+             put_text(HOST, 50, 'host', ' text-anchor="middle" font-weight="bold"'),
+             '<path d="M%d 58V%dM%d 58V%d" stroke="gray"/>' % (KEY, low, HOST, low)]
+    for place, move in enumerate(drawn):
+        parts += put_move(place, move, place in unlike)
+    if rest:
+        parts.append(put_text(400, low - 5, 'and %s, which are not drawn' % amount(rest, 'more move'),
+                              ' text-anchor="middle"'))
+    return parts, low
+
+
+def put_boxes(boxes):
+    """The picture of what stands beside the moves, each box a headline and its lines; and how wide and high it is."""
+    wide = max(300, 30 + max(7 * len(line) for _, lines in boxes for line in lines))
+    parts, y = [], 58
+    for headline, lines in boxes:
+        parts += ['<rect x="%d" y="%d" width="%d" height="%d" fill="#f4f4f4" stroke="black"/>' % (
+            BESIDE, y, wide, 40 + 20 * len(lines)), put_text(BESIDE + 15, y + 22, headline, ' font-weight="bold"')]
+        parts += [put_text(BESIDE + 15, y + 42 + 20 * place, line) for place, line in enumerate(lines)]
+        y += 60 + 20 * len(lines)
+    return parts, wide, y
+
+
+def picture(wire, boxes, unlike):
+    moves, low = put_moves(wire, unlike)
+    hidden = ['the values of', *('  ' + name for name in hidden_columns(wire)),
+              'nor which of the rows that came were of use']
+    nowhere = hidden if len(hidden) > 2 else ['(no column is hidden)' if wire.catalog else '(no catalog came)']
+    told = [(headline, [line[2:] for line in lines]) for headline, lines in boxes]
+    if unlike:
+        told[-1][1].append('Red: the moves that the other journal has not.')
+    beside, wide, end = put_boxes([('Nowhere on the wire', nowhere), *told])
+    size = 'width="%d" height="%d"' % (BESIDE + wide + 20, max(low + 20, end))
+    return '\n'.join(['<svg xmlns="http://www.w3.org/2000/svg" %s font-family="sans-serif" font-size="12">' % size,
+                      '<rect %s fill="white"/>' % size, *moves, *beside, '</svg>', ''])
 
 
 def tell(words):
     wire = read_journal(words.journal)
     other = read_journal(words.beside) if words.beside else None
+    boxes = []
     for part in (tell_sums, tell_catalog, tell_asks, tell_moves, tell_nowhere):
         part(wire)
     if words.lines:
-        tell_lines(wire, words.lines, words.script)
-    differ = tell_beside(wire, other, words.journal, words.beside) if other else False
+        boxes.append(('What the key kept', kept_words(wire, words.lines, words.script)))
+    if other:
+        boxes.append(('Beside %s' % words.beside, beside_words(wire, other, words.journal, words.beside)))
+    for headline, lines in boxes:
+        print('\n%s' % headline, *lines, sep='\n')
+    unlike = set(unlike_moves(wire, other)) if other else set()
     if words.svg:
         with open(words.svg, 'w') as file:
-            file.write(picture(wire))
-    return 1 if differ else 0
+            file.write(picture(wire, boxes, unlike))
+    return 1 if other and wire.lines != other.lines else 0
 
 
 def main():
