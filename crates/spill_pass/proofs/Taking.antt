@@ -1,8 +1,7 @@
 -- What is left where a list was taken into the group at hand: one lease more is out, and its buffer holds no page.
-use Rattle.std.proofs.Common.{◌≡◌, ◌∙◌, ℕ, zero, suc, ◌+◌, ◌-◌, ◌<◌, ◌≤◌, Bool, true, false, nat_lt, if◌then◌else◌, List, [], ◌∷◌, ◌++◌, length, sum, get_or, slice_set, Option, None, ap, sym, refl, subst, arith}
+use Rattle.std.proofs.Common.{◌≡◌, ◌∙◌, ℕ, zero, suc, ◌+◌, ◌-◌, ◌/◌, ◌<◌, ◌≤◌, Bool, true, false, nat_lt, if◌then◌else◌, List, [], ◌∷◌, ◌++◌, length, sum, get_or, slice_set, Option, None, ap, sym, refl, subst, arith}
 use Rattle.std.specs.Prelude.{IfSome}
 use Rattle.std.proofs.lemmas.Bool.Decides.{nat_tests}
-use Rattle.std.proofs.Math.Nat.{div-le_self}
 use Rattle.std.proofs.lemmas.List.{append-nil, get_or-set_other}
 use Rattle.std.proofs.lemmas.List.Sums.{sum_by-append, sum_by-cons}
 use Rattle.ghost_model.specs.forms.Runs.{per_page}
@@ -23,6 +22,7 @@ use Rattle.id_merge.specs.declared.cursor.Cursor.TheVariants.{List as OfList, Ra
 use Rattle.id_merge.specs.declared.merge.Merge.{Merge}
 use Rattle.id_merge.specs.Cursors.{cursor_at, leases_of, CursorGiven, CursorReady, IsAtMost, at_hand_of, at_hand_in, unread_of, unread_in, unread_list}
 use Rattle.id_merge.specs.Merges.{at_hand}
+use Rattle.id_merge.proofs.Unread.{div_mono}
 use Rattle.id_merge.proofs.Laws.{leases_of-append, each_pushed, few_unread}
 use Rattle.spill_pass.specs.declared.groups.Groups.{Groups}
 use Rattle.spill_pass.specs.Lists.{IsReadable, ListOutside}
@@ -268,7 +268,7 @@ taken_hand list old new run rows begins more =
 pub taken_unread :
     {pool later : Pool} (list : ListRef) (old : Groups) (merge : Merge) (run : RunCursor) → AreOut pool (groups_held old) → Begins list old.into.rows run
     → later ≡ leased pool run.lease → IsFree pool run.lease → HasOneMore old.into.merge merge run → 0 < per_page list.run.width
-    → unread_in later merge.cursors.items ≤ unread_in pool old.into.merge.cursors.items + list.count + 2
+    → unread_in later merge.cursors.items ≤ unread_in pool old.into.merge.cursors.items + list.count / per_page list.run.width + 2
 taken_unread {pool = pool} {later = later} list old merge run are begins is free more some =
     let cursors = old.into.merge.cursors.items in
     let P : ListRef → Type 0 = λ l. 0 < per_page l.run.width in
@@ -278,14 +278,10 @@ taken_unread {pool = pool} {later = later} list old merge run are begins is free
     ∙ sum_by-append (unread_of (leased pool run.lease)) cursors (OfList run ∷ [])
     ∙ ap (λ n. unread_in (leased pool run.lease) cursors + n) (sum_by-cons (unread_of (leased pool run.lease)) (OfList run) []) in
     let few = few_unread (leased pool run.lease) run (subst P (sym begins.list_is) some) (omega (arith, begins.at_is)) in
-    omega (
-      arith,
-      whole,
-      unread_all_taken pool run.lease cursors free (lists_out pool old are),
-      few,
-      div-le_self (run.list.count - run.at) (per_page run.list.run.width),
-      ap (λ (l : ListRef). l.count) begins.list_is,
-    )
+    let less : (run.list.count - run.at) / per_page run.list.run.width ≤ list.count / per_page list.run.width =
+    let Q : ListRef → Type 0 = λ l. (l.count - run.at) / per_page l.run.width ≤ list.count / per_page list.run.width in
+    subst Q (sym begins.list_is) (div_mono (list.count - run.at) list.count (per_page list.run.width) some (omega arith)) in
+    omega (arith, whole, unread_all_taken pool run.lease cursors free (lists_out pool old are), few, less)
 
 pub taken_grouping :
     {told : Bool} {device : Device} {pool later : Pool} (list : ListRef) (old : Groups) (merge : Merge) (run : RunCursor) → IsGrouping told device pool old

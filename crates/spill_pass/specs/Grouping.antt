@@ -1,5 +1,5 @@
 -- Lists that are merged group by group: where what is written lies, which leases are held, and what stands so far.
-use Rattle.std.specs.Prelude.{◌≡◌, ℕ, ◌+◌, ◌*◌, ◌<◌, ◌≤◌, ◌⊎◌, ◌↔◌, ◌++◌, Bool, true, ⊤, List, [], ◌∷◌, length, map, get_or, Result, Ok, Err}
+use Rattle.std.specs.Prelude.{◌≡◌, ℕ, ◌+◌, ◌-◌, ◌*◌, ◌/◌, ◌<◌, ◌≤◌, ◌⊎◌, ◌↔◌, ◌++◌, Bool, true, ⊤, List, [], ◌∷◌, length, map, get_or, Result, Ok, Err}
 use Rattle.std.specs.List.{concat}
 use Rattle.ghost_model.specs.core.Causes.{Rose}
 use Rattle.ghost_model.specs.forms.Runs as runs
@@ -18,7 +18,7 @@ use Rattle.spill_pass.specs.declared.groups.GroupTurn.{GroupTurn}
 use Rattle.spill_pass.specs.declared.groups.GroupTurn.TheVariants.{Went, Listed}
 use Rattle.spill_pass.specs.declared.groups.PlacedLists.{PlacedLists}
 use Rattle.spill_pass.specs.Lists.{InList, IsReadable, ListOutside}
-use Rattle.spill_pass.specs.Merging.{IsArea, IsMerging, Gathers, AreAscending, IsOneOf, AllOutside, MadeAtMost, leases_held, area_pages, area_end, left_of}
+use Rattle.spill_pass.specs.Merging.{IsArea, IsMerging, Gathers, AreAscending, IsOneOf, AllOutside, MadeAtMost, leases_held, area_pages, area_end, left_of, calls_left}
 
 -- the leases of the places' writer, of the lists' writer and of the lists at hand
 abbrev pub groups_held : Groups → List ℕ
@@ -35,6 +35,11 @@ ids_at_hand groups = groups.into.writer.filler.count + at_hand groups.into.merge
 -- the page after the area of the places
 abbrev pub places_end : Groups → ℕ
 places_end groups = groups.places.filler.first + area_pages groups.size
+
+-- how many calls of the flash may be made until the lists taken so far stand with their places: one a page that is read, and
+-- two a page that is written
+abbrev pub calls_to_come : Pool → Groups → ℕ
+calls_to_come pool groups = calls_left pool groups.into + 2 * (runs.pages_of groups.size 4 - groups.places.filler.pages)
 
 -- an empty group, and nothing written
 pub record IsBegun (lists_page places_page most lists_most lists_held places_held : ℕ) (groups : Groups) : Type 0 where
@@ -110,7 +115,8 @@ pub record TookMore (told : Bool) (device : Device) (pool later : Pool) (list : 
   pub goes : GoesOn device device pool later old new
   pub lists : lists_at_hand new ≡ lists_at_hand old + 1
   pub ids : ids_at_hand new ≡ ids_at_hand old + list.count
-  pub left : left_of later new.into ≤ left_of pool old.into + 2 * list.count + 2
+  pub left : left_of later new.into ≤ left_of pool old.into + list.count + list.count / runs.per_page list.run.width + 2
+  pub calls : calls_to_come later new ≤ calls_to_come pool old + list.count / runs.per_page list.run.width + 2
   pub placed : new.places.filler.count ≡ old.places.filler.count
   pub none_found : new.into.merge.last ≡ 0
 

@@ -5,6 +5,8 @@ use Rattle.page_pool.proofs.Leases.{outs_kept, change_keeps_out}
 use Rattle.id_merge.specs.declared.merge.Merge.{Merge}
 use Rattle.id_merge.specs.Cursors.{leases_of, unread_in}
 use Rattle.spill_pass.specs.Grouping.{groups_held, places_end}
+use Rattle.flash_pages.specs.Writers.{fills}
+use Rattle.spill_pass.proofs.Writing.{few_put_calls, bit_most}
 use Rattle.spill_pass.proofs.Grouping.{places_below}
 use Rattle.spill_pass.proofs.Closing.{put_goes, closed_goes, closed_grouping, can_place, place_reach, none_hand}
 use Rattle.spill_pass.proofs.Taking.{outs_of_two}
@@ -75,6 +77,27 @@ returns-clause-tells g c =
       placed = put.more.count;
       none_found = last;
     }
+
+pub returns-clause-spent : goal.returns-clause-spent
+returns-clause-spent g c =
+    let old = c.args.self.now in
+    let is = c.requires.grouping in
+    let put = c.in_ok-put.ensures in
+    let gives = c.end.ensures.given ∙ ap (λ (m : Merge). all_given c.put.new.pool (leases_of m.cursors.items)) c.replace-merge.ensures.value in
+    let after = c.replace-merge.new.dest in
+    let none = ap (λ (m : Merge). m.cursors.items) c.replace-merge.ensures.after ∙ c.no_lists.ensures.cursors in
+    let unions = ap (λ (m : Merge). m.unions.items) c.replace-merge.ensures.after ∙ c.no_lists.ensures.unions in
+    let last = ap (λ (m : Merge). m.last) c.replace-merge.ensures.after ∙ c.no_lists.ensures.last in
+    omega (
+      arith,
+      put.writes.at_most,
+      put.more.pages,
+      few_put_calls old.places.filler,
+      bit_most (fills old.places.filler),
+      ap (λ cs. unread_in c.end.new.pool cs) none,
+      places_below old is,
+      c.requires.place,
+    )
 
 pub returns-clause-closes : goal.returns-clause-closes
 returns-clause-closes g c = λ told right first lists was.
