@@ -1,5 +1,5 @@
 -- What a turn came to, and calls counted over several of them.
-use Rattle.std.proofs.Common.{◌≡◌, ℕ, ◌+◌, ◌<◌, ◌≤◌, inl, inr, Bool, List, subst, Ok, arith}
+use Rattle.std.proofs.Common.{◌≡◌, ℕ, ◌+◌, ◌<◌, ◌≤◌, inl, inr, Bool, List, [], Option, Some, None, subst, Ok, arith}
 use Rattle.std.proofs.lemmas.Bool.{cases_lt}
 use Rattle.ghost_model.specs.core.Causes.{Rose}
 use Rattle.ghost_base.specs.declared.runs.Run.{Run}
@@ -9,25 +9,49 @@ use Rattle.id_merge.specs.declared.merge.Merge.{Merge}
 use Rattle.spill_pass.specs.declared.merging.MergeInto.{MergeInto}
 use Rattle.spill_pass.specs.declared.merging.Turn.{Turn}
 use Rattle.spill_pass.specs.declared.merging.Turn.TheVariants.{Went, Done}
-use Rattle.spill_pass.specs.Merging.{Gathers, IsListOf, TurnGives, TurnTells, WentOn}
+use Rattle.spill_pass.specs.Merging.{Gathers, GathersAll, IsListOf, AdvanceGives, TurnGives, AdvanceTells, TurnTells, WentOn, CameToEnd}
 
 pub went_gives :
-    {told : Bool} {start page : ℕ → List ℕ} {merge : Merge} {pool : Pool} {into : MergeInto} {turn : Turn} {calls : ℕ} → turn ≡ Went calls
-    → TurnGives told start merge page pool into (Ok turn) → Gathers told start merge page pool into
-went_gives {told = told} {start = start} {page = page} {merge = merge} {pool = pool} {into = into} is gives =
-    let P : Turn → Type 0 = λ turn. TurnGives told start merge page pool into (Ok turn) in subst P is gives
+    {told : Bool} {right page : ℕ → List ℕ} {merge : Merge} {pool : Pool} {into : MergeInto} {turn : Turn} {calls : ℕ} → turn ≡ Went calls
+    → TurnGives told right merge page pool into (Ok turn) → Gathers told right merge [] page pool into
+went_gives {told = told} {right = right} {page = page} {merge = merge} {pool = pool} {into = into} is gives =
+    let P : Turn → Type 0 = λ turn. TurnGives told right merge page pool into (Ok turn) in subst P is gives
 
 pub done_gives :
-    (told : Bool) {start page : ℕ → List ℕ} {merge : Merge} (pool : Pool) (into : MergeInto) {turn : Turn} {run : Run} → turn ≡ Done run
-    → TurnGives told start merge page pool into (Ok turn) → IsListOf start merge page run
-done_gives told {start = start} {page = page} {merge = merge} pool into is gives =
-    let P : Turn → Type 0 = λ turn. TurnGives told start merge page pool into (Ok turn) in subst P is gives
+    (told : Bool) {right page : ℕ → List ℕ} {merge : Merge} (pool : Pool) (into : MergeInto) {turn : Turn} {run : Run} → turn ≡ Done run
+    → TurnGives told right merge page pool into (Ok turn) → IsListOf right merge page run
+done_gives told {right = right} {page = page} {merge = merge} pool into is gives =
+    let P : Turn → Type 0 = λ turn. TurnGives told right merge page pool into (Ok turn) in subst P is gives
 
 pub went_tells :
-    {told : Bool} {before now : Device} {later : Pool} {old new : MergeInto} {turn : Turn} {calls : ℕ} → turn ≡ Went calls
-    → TurnTells told before now later old new turn → WentOn told before now later old new calls
-went_tells {told = told} {before = before} {now = now} {later = later} {old = old} {new = new} is tells =
-    let P : Turn → Type 0 = λ turn. TurnTells told before now later old new turn in subst P is tells
+    {told : Bool} {before now : Device} {pool later : Pool} {old new : MergeInto} {turn : Turn} {calls : ℕ} → turn ≡ Went calls
+    → TurnTells told before now pool later old new turn → WentOn told before now pool later old new calls
+went_tells {told = told} {before = before} {now = now} {pool = pool} {later = later} {old = old} {new = new} is tells =
+    let P : Turn → Type 0 = λ turn. TurnTells told before now pool later old new turn in subst P is tells
+
+pub some_gives :
+    {told : Bool} {right page : ℕ → List ℕ} {merge : Merge} {earlier : List ℕ} {pool : Pool} {into : MergeInto} {answer : Option ℕ} {calls : ℕ}
+    → answer ≡ Some calls → AdvanceGives told right merge earlier page pool into (Ok answer) → Gathers told right merge earlier page pool into
+some_gives {told = told} {right = right} {page = page} {merge = merge} {earlier = earlier} {pool = pool} {into = into} is gives =
+    let P : Option ℕ → Type 0 = λ answer. AdvanceGives told right merge earlier page pool into (Ok answer) in subst P is gives
+
+pub none_gives :
+    {told : Bool} {right page : ℕ → List ℕ} {merge : Merge} {earlier : List ℕ} {pool : Pool} {into : MergeInto} {answer : Option ℕ}
+    → answer ≡ None → AdvanceGives told right merge earlier page pool into (Ok answer) → GathersAll told right merge earlier page pool into
+none_gives {told = told} {right = right} {page = page} {merge = merge} {earlier = earlier} {pool = pool} {into = into} is gives =
+    let P : Option ℕ → Type 0 = λ answer. AdvanceGives told right merge earlier page pool into (Ok answer) in subst P is gives
+
+pub some_tells :
+    {told : Bool} {before now : Device} {pool later : Pool} {old new : MergeInto} {answer : Option ℕ} {calls : ℕ} → answer ≡ Some calls
+    → AdvanceTells told before now pool later old new answer → WentOn told before now pool later old new calls
+some_tells {told = told} {before = before} {now = now} {pool = pool} {later = later} {old = old} {new = new} is tells =
+    let P : Option ℕ → Type 0 = λ answer. AdvanceTells told before now pool later old new answer in subst P is tells
+
+pub none_tells :
+    {told : Bool} {before now : Device} {pool later : Pool} {old new : MergeInto} {answer : Option ℕ} → answer ≡ None
+    → AdvanceTells told before now pool later old new answer → CameToEnd told before now pool later old new
+none_tells {told = told} {before = before} {now = now} {pool = pool} {later = later} {old = old} {new = new} is tells =
+    let P : Option ℕ → Type 0 = λ answer. AdvanceTells told before now pool later old new answer in subst P is tells
 
 -- a count that rose in one of two parts rose in both together
 pub rose_again :

@@ -33,48 +33,50 @@ still_out {later = later} {old = old} lease moves are =
     let P : List ℕ → Type 0 = λ leases. AreOut later (lease ∷ leases) in
     subst P (sym moves.leases) (outs_kept (lease ∷ leases_of old) (moves_out moves) are)
 
+outside_same : (told : Bool) (page : ℕ → List ℕ) (low high : ℕ) (before now : Cursor) → SameSource told page before now → LiesOutside low high before → LiesOutside low high now
+outside_same told page low high (OfList before) (OfList now) same outside =
+    let P : ListRef → Type 0 = λ list. (i : ℕ) → i < list.run.count → (page_of (run_of list.run) i < low) ⊎ (high ≤ page_of (run_of list.run) i) in
+    subst P (sym same.list) outside
+outside_same told page low high (OfList before) (Range first last) same outside = absurd same
+outside_same told page low high (Range first last) now same outside =
+    let P : Cursor → Type 0 = λ cursor. LiesOutside low high cursor in
+    subst P (sym same) tt
+
 -- a step of the merge
 pub stepped :
     {told : Bool} {before now : Device} {pool later : Pool} (old : MergeInto) (merge : Merge) → AreOut pool (leases_held old)
     → Moves told before now pool later old.merge.cursors.items merge.cursors.items
     → Goes told before now pool later old (record { merge = merge; writer = old.writer; rows = old.rows })
-stepped old merge are moves = record {
+stepped {told = told} {before = before} old merge are moves = record {
   changes = changes_kept moves.kept old.writer.filler.first (area_end old);
   out = moves.out;
   others = others_move old.writer.lease (leases_of old.merge.cursors.items) moves.others;
   held = ap (λ leases. old.writer.lease ∷ leases) moves.leases;
   still = still_out old.writer.lease moves are;
   given = moves.given;
+  outside = λ low high is i. outside_same told before.page low high (cursor_at old.merge.cursors.items i) (cursor_at merge.cursors.items i) (moves.same i) (is i);
+  count = moves.count;
   first = refl;
   rows = refl;
 }
 
-outside_same : (low high : ℕ) (before now : Cursor) → SameSource before now → LiesOutside low high before → LiesOutside low high now
-outside_same low high (OfList before) (OfList now) same outside =
-    let P : ListRef → Type 0 = λ list. (i : ℕ) → i < list.run.count → (page_of (run_of list.run) i < low) ⊎ (high ≤ page_of (run_of list.run) i) in
-    subst P (sym same.list) outside
-outside_same low high (OfList before) (Range first last) same outside = absurd same
-outside_same low high (Range first last) now same outside =
-    let P : Cursor → Type 0 = λ cursor. LiesOutside low high cursor in
-    subst P (sym same) tt
-
 pub merging_step :
     {told : Bool} {before now : Device} {pool later : Pool} (old : MergeInto) (merge : Merge) → IsMerging told before pool old
     → Moves told before now pool later old.merge.cursors.items merge.cursors.items → CanMerge told now later merge
-    → old.merge.last ≤ merge.last → merge.last ≤ old.rows
+    → merge.last ≤ old.rows
     → IsMerging told now later (record { merge = merge; writer = old.writer; rows = old.rows })
-merging_step old merge is moves can further within = record {
+merging_step {told = told} {before = before} old merge is moves can within = record {
   can = record {
     step = can;
     leases = still_out old.writer.lease moves is.can.leases;
     at_most = moves.at_most old.rows is.can.at_most;
     within = within;
     area = record { block = is.can.area.block; there = omega (arith, moves.kept.page_count, is.can.area.there); small = omega (arith, moves.kept.page_count, is.can.area.small) };
-    outside = λ i. outside_same old.writer.filler.first (area_end old) (cursor_at old.merge.cursors.items i) (cursor_at merge.cursors.items i) (moves.same i) (is.can.outside i);
+    outside = λ i. outside_same told before.page old.writer.filler.first (area_end old) (cursor_at old.merge.cursors.items i) (cursor_at merge.cursors.items i) (moves.same i) (is.can.outside i);
   };
   width = is.width;
   erase = is.erase;
-  count = omega (arith, is.count, further);
+  count = is.count;
   entered = λ erase other from to. ap (λ f. f other) moves.kept.blank ∙ is.entered erase other from to;
 }
 
@@ -89,6 +91,8 @@ goes_none {device = device} {pool = pool} into are = record {
   held = refl;
   still = are;
   given = λ since from given. given;
+  outside = λ low high is. is;
+  count = refl;
   first = refl;
   rows = refl;
 }
@@ -109,18 +113,20 @@ goes_trans {pool = pool} {then = then} {later = later} {old = old} {mid = mid} o
       held = two.held ∙ one.held;
       still = two.still;
       given = λ since from given. two.given since (omega (arith, from, one.changes.never_falls)) (one.given since from given);
+      outside = λ low high is. two.outside low high (one.outside low high is);
+      count = two.count ∙ one.count;
       first = two.first ∙ one.first;
       rows = two.rows ∙ one.rows;
     }
 
 -- the last page
-finish_changes :
+pub finish_changes :
     (wait : Bool) {before now : Device} {low page high end : ℕ} → ChangesOnly page high before now → low ≤ page → (wait ≡ true → high ≤ end)
     → (wait ≡ false → KeepsPages before now) → ChangesOnly low end before now
 finish_changes true {low = low} {end = end} changes from to kept = changes_wider changes low end from (to refl)
 finish_changes false {low = low} {end = end} changes from to kept = changes_kept (kept refl) low end
 
-some_wait : (held : ℕ) → nat_lt 0 held ≡ true → 0 < held
+pub some_wait : (held : ℕ) → nat_lt 0 held ≡ true → 0 < held
 some_wait held waits = grind (arith, nat_tests)
 
 pub finish_in_area :
@@ -130,7 +136,7 @@ pub finish_in_area :
     → ChangesOnly into.writer.filler.first (area_end into) before now
 finish_in_area {into = into} is changes kept =
     finish_changes (waits into.writer.filler) changes (omega arith)
-    (λ wait. page_in_area is (omega (arith, pages_below is, some_wait into.writer.filler.held wait, is.count, is.can.within)))
+    (λ wait. page_in_area is (omega (arith, pages_below is, some_wait into.writer.filler.held wait, is.count)))
     kept
 
 pub same_pool : {pool later : Pool} (lease : ℕ) → later ≡ pool → ChangesPage pool later lease

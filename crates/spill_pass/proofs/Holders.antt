@@ -19,7 +19,7 @@ abbrev pub HasOut : Pool → Cursor → Type 0
 HasOut pool (OfList run) = IsOut pool run.lease
 HasOut pool (Range low high) = ⊤
 
-out_before : (pool : Pool) (lease : ℕ) (cursor : Cursor) → HasOut (given pool lease) cursor → HasOut pool cursor
+pub out_before : (pool : Pool) (lease : ℕ) (cursor : Cursor) → HasOut (given pool lease) cursor → HasOut pool cursor
 out_before pool lease (OfList run) is = record { within = is.within; out = other_was_out pool.out lease run.lease is.out }
 out_before pool lease (Range low high) is = tt
 

@@ -5,3 +5,9 @@ pub mod Gathered
 pub mod Counted
 pub mod PlaceCells
 pub mod SparedLemmas
+pub mod Grouping
+pub mod Closing
+pub mod Taking
+pub mod Listing
+pub mod Finishing
+pub mod Turning

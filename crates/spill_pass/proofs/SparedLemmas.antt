@@ -1,5 +1,5 @@
 -- What a merge that is written keeps where the pages and buffers that it uses stay as they were.
-use Rattle.std.proofs.Common.{◌≡◌, ◌∙◌, ℕ, ◌+◌, ◌*◌, ◌%◌, ◌≤◌, inl, inr, Bool, ap, arith}
+use Rattle.std.proofs.Common.{◌≡◌, ◌∙◌, ℕ, ◌+◌, ◌*◌, ◌%◌, ◌≤◌, Bool, ap, arith}
 use Rattle.ghost_model.specs.forms.Runs.{number_in}
 use Rattle.ghost_base.specs.Runs.{run_of}
 use Rattle.edge_traits.specs.Devices.{Device}
@@ -12,10 +12,10 @@ use Rattle.flash_pages.proofs.LeaseFrames.{ready_kept, put_kept}
 use Rattle.id_merge.specs.declared.cursor.Cursor.{Cursor}
 use Rattle.id_merge.specs.declared.cursor.Cursor.TheVariants.{List as OfList, Range}
 use Rattle.id_merge.specs.Cursors.{cursor_at, leases_of, CursorReady}
-use Rattle.spill_pass.specs.Merging.{SameIds, KeepsIds, area_pages, leases_held}
+use Rattle.spill_pass.specs.Merging.{SameIds, area_pages, leases_held}
 use Rattle.spill_pass.specs.Spared.{KeepsRun, KeepsBuffer, StaysMerging, StillGathers}
 use Rattle.spill_pass.proofs.Writing.{pages_below}
-use Rattle.spill_pass.proofs.Gathered.{ascends_still, remains_still, ids_back}
+use Rattle.spill_pass.proofs.Gathered.{right_still}
 
 ready_spared :
     (told : Bool) (before now : Device) {pool later : Pool} (cursor : Cursor) → now.page_count ≡ before.page_count
@@ -33,7 +33,7 @@ ids_spared told before now pool (OfList run) pages ready = λ i within.
 ids_spared told before now pool (Range low high) pages ready = tt
 
 -- the page that is written next, and what is left of its block, lie in the area
-next_within :
+pub next_within :
     (first pages held count rows : ℕ) → first % 64 ≡ 0 → pages * 512 + held ≡ count → count ≤ rows
     → (first + pages ≤ first + area_pages rows) × (block_end (first + pages) ≤ first + area_pages rows)
 next_within first pages held count rows block whole few = (omega arith, omega arith)
@@ -42,7 +42,7 @@ pub stays_merging : StaysMerging
 stays_merging told before now pool later into spares is =
     let cursors = into.merge.cursors.items in
     let ends = next_within into.writer.filler.first into.writer.filler.pages into.writer.filler.held into.writer.filler.count into.rows
-    is.can.area.block (pages_below is) (omega (arith, is.count, is.can.within)) in
+    is.can.area.block (pages_below is) is.count in
     record {
       can = record {
         step = record {
@@ -70,27 +70,17 @@ stays_merging told before now pool later into spares is =
     }
 
 pub still_gathers : StillGathers
-still_gathers told start merge before now pool later into spares is was =
+still_gathers told right merge earlier before now pool later into spares is was =
     let cursors = into.merge.cursors.items in
     let ends = next_within into.writer.filler.first into.writer.filler.pages into.writer.filler.held into.writer.filler.count into.rows
-    is.can.area.block (pages_below is) (omega (arith, is.count, is.can.within)) in
-    let same : KeepsIds before.page now.page cursors =
-    λ i. ids_spared told before now pool (cursor_at cursors i) (spares.lists i) (is.can.step.cursors.each i) in
-    let back : KeepsIds now.page before.page cursors = λ i. ids_back before.page now.page (cursor_at cursors i) (same i) in
+    is.can.area.block (pages_below is) is.count in
     record {
       ids = was.ids;
       put = put_kept into.writer (λ is_told number from to. (spares.area number from (omega (arith, to, ends.0))).bytes) spares.writer was.put;
       ascending = was.ascending;
       below = was.below;
-      all = λ id. (
-        λ has. elim has [
-          | inl one ↦ (was.all id).0 (inl one)
-          | inr remains ↦ (was.all id).0 (inr (remains_still now.page before.page into.merge id back remains))
-        ],
-        λ wanted. elim ((was.all id).1 wanted) [
-          | inl one ↦ inl one
-          | inr remains ↦ inr (remains_still before.page now.page into.merge id same remains)
-        ],
-      );
-      lists = ascends_still before.page now.page cursors same was.lists;
+      all = was.all;
+      lists =
+          right_still before.page now.page right cursors
+          (λ i. ids_spared told before now pool (cursor_at cursors i) (spares.lists i) (is.can.step.cursors.each i)) was.lists;
     }

@@ -1,20 +1,25 @@
 -- What a call of the writer leaves: its area holds the page that is written, and the lists and their buffers stay.
-use Rattle.std.proofs.Common.{◌≡◌, ◌∙◌, ℕ, ◌+◌, ◌*◌, ◌%◌, ◌<◌, ◌≤◌, ◌⊎◌, inl, inr, Bool, true, false, List, ◌∷◌, nat_eq, if◌then◌else◌, ap, sym, refl, subst, arith}
+use Rattle.std.proofs.Common.{◌≡◌, ◌∙◌, ℕ, suc, ◌+◌, ◌-◌, ◌*◌, ◌%◌, ◌<◌, ◌≤◌, ◌⊎◌, inl, inr, Bool, true, false, ◌&&◌, List, [], ◌∷◌, Option, nat_eq, nat_lt, sum_by, if◌then◌else◌, ap, sym, refl, subst, arith}
 use Rattle.std.proofs.lemmas.Bool.Decides.{nat_tests}
+use Rattle.std.proofs.lemmas.List.Sums.{sum_by-cons}
 use Rattle.ghost_model.specs.forms.Runs.{page_of, number_in}
 use Rattle.ghost_base.specs.Runs.{run_of}
 use Rattle.edge_traits.specs.Devices.{Device, ChangesOnly}
-use Rattle.page_pool.specs.Pools.{Pool, AreOut, ChangesPage}
+use Rattle.page_pool.specs.Pools.{Pool, AreOut, ChangesPage, page_at}
 use Rattle.page_pool.proofs.Leases.{out_kept, outs_kept, change_keeps_out, change_elsewhere, change_keeps_others}
+use Rattle.flash_pages.specs.declared.filler.RunFiller.{RunFiller}
 use Rattle.flash_pages.specs.declared.writer.RunWriter.{RunWriter}
-use Rattle.flash_pages.specs.Writing.{IsEntered, reach}
-use Rattle.flash_pages.specs.Writers.{SameRun, next_page}
+use Rattle.flash_pages.specs.declared.cursor.RunCursor.{RunCursor}
+use Rattle.flash_pages.specs.Cursors.{page_next}
+use Rattle.flash_pages.specs.Holding.{is_apart}
+use Rattle.flash_pages.specs.Writing.{IsEntered, reach, erases, page_calls}
+use Rattle.flash_pages.specs.Writers.{SameRun, next_page, fills, put_calls}
 use Rattle.flash_pages.proofs.RunFrames.{record_kept}
 use Rattle.flash_pages.proofs.LeaseFrames.{ready_kept, given_kept}
 use Rattle.flash_pages.proofs.Fillings.{whole_pages}
 use Rattle.id_merge.specs.declared.cursor.Cursor.{Cursor}
 use Rattle.id_merge.specs.declared.cursor.Cursor.TheVariants.{List as OfList, Range}
-use Rattle.id_merge.specs.Cursors.{cursor_at, leases_of, CursorReady, CursorGiven}
+use Rattle.id_merge.specs.Cursors.{cursor_at, leases_of, CursorReady, CursorGiven, page_last, unread_list, unread_of, unread_in}
 use Rattle.spill_pass.specs.declared.merging.MergeInto.{MergeInto}
 use Rattle.spill_pass.specs.Merging.{area_pages, area_end, leases_held, LiesOutside, CanBegin, IsMerging, Goes, SameIds, KeepsIds}
 use Rattle.spill_pass.proofs.Holders.{IsAnother, each_another}
@@ -58,7 +63,7 @@ ids_cursor told {before = before} {now = now} pool (OfList run) changes outside 
     (outside_page (page_of (run_of run.list.run) (run.list.first + i)) changes (outside (run.list.first + i) (omega (arith, ready.list)))))
 ids_cursor told pool (Range first last) changes outside ready = tt
 
-given_cursor :
+pub given_cursor :
     {lease : ℕ} {pool later : Pool} (since : ℕ) (before now : Device) (cursor : Cursor)
     → ((at number : ℕ) (bytes : List ℕ) → before.gave at number bytes ≡ true → now.gave at number bytes ≡ true)
     → ChangesPage pool later lease → IsAnother lease cursor → CursorGiven since before pool cursor → CursorGiven since now later cursor
@@ -88,6 +93,8 @@ wrote {before = before} {now = now} {pool = pool} {later = later} old writer are
       still = subst P (sym lease) (outs_kept (leases_held old) (change_keeps_out buffer) are);
       given = λ since from given i.
           given_cursor since before now (cursor_at old.merge.cursors.items i) changes.gave buffer (each_another pool old.writer.lease old.merge.cursors.items i are) (given i);
+      outside = λ low high is. is;
+      count = refl;
       first = first;
       rows = refl;
     }
@@ -95,7 +102,7 @@ wrote {before = before} {now = now} {pool = pool} {later = later} old writer are
 pub merging_on :
     {told : Bool} {before now : Device} {pool later : Pool} (old : MergeInto) (writer : RunWriter) → IsMerging told before pool old
     → ChangesOnly old.writer.filler.first (area_end old) before now → ChangesPage pool later old.writer.lease
-    → writer.lease ≡ old.writer.lease → SameRun old.writer.filler writer.filler → writer.filler.count ≤ old.merge.last
+    → writer.lease ≡ old.writer.lease → SameRun old.writer.filler writer.filler → writer.filler.count ≤ old.rows
     → IsEntered now (next_page writer.filler) writer.filler.erase
     → IsMerging told now later (record { merge = old.merge; writer = writer; rows = old.rows })
 merging_on {told = told} {before = before} {now = now} {pool = pool} {later = later} old writer is changes buffer lease same count entered =
@@ -125,6 +132,46 @@ merging_on {told = told} {before = before} {now = now} {pool = pool} {later = la
       count = count;
       entered = subst E (same.erase ∙ is.erase) entered;
     }
+
+-- as many pages are still to be read where the buffers of the lists hold the same pages
+pub unread_list_same : (pool later : Pool) (run : RunCursor) → page_at later run.lease ≡ page_at pool run.lease → unread_list later run ≡ unread_list pool run
+unread_list_same pool later run same =
+    ap (λ (held : Option ℕ). (page_last run - page_next run) + (if nat_lt run.at run.list.count && is_apart held (page_next run) then 1 else 0)) same
+
+unread_cursor : {lease : ℕ} (pool later : Pool) (cursor : Cursor) → ChangesPage pool later lease → IsAnother lease cursor → unread_of later cursor ≡ unread_of pool cursor
+unread_cursor pool later (OfList run) buffer apart = unread_list_same pool later run (change_elsewhere buffer apart).filled
+unread_cursor pool later (Range first last) buffer apart = refl
+
+unread_all :
+    {lease : ℕ} {pool later : Pool} (cursors : List Cursor) → ChangesPage pool later lease → ((i : ℕ) → IsAnother lease (cursor_at cursors i))
+    → unread_in later cursors ≡ unread_in pool cursors
+unread_all [] buffer apart = refl
+unread_all {pool = pool} {later = later} (cursor ∷ cursors) buffer apart =
+    sum_by-cons (unread_of later) cursor cursors
+    ∙ ap (λ n. n + sum_by (unread_of later) cursors) (unread_cursor pool later cursor buffer (apart 0))
+    ∙ ap (λ n. unread_of pool cursor + n) (unread_all cursors buffer (λ i. apart (suc i)))
+    ∙ sym (sum_by-cons (unread_of pool) cursor cursors)
+
+pub unread_still :
+    {pool later : Pool} (lease : ℕ) (cursors : List Cursor) → AreOut pool (lease ∷ leases_of cursors) → ChangesPage pool later lease
+    → unread_in later cursors ≡ unread_in pool cursors
+unread_still {pool = pool} lease cursors are buffer = unread_all cursors buffer (λ i. each_another pool lease cursors i are)
+
+-- a record that fills its page makes two calls at most
+few_page_calls : (erases : Bool) → (if erases then 2 else 1) ≤ 2
+few_page_calls true = omega arith
+few_page_calls false = omega arith
+
+pub bit_most : (b : Bool) → (if b then 1 else 0) ≤ 1
+bit_most true = omega arith
+bit_most false = omega arith
+
+few_if : (fills : Bool) (calls : ℕ) → calls ≤ 2 → (if fills then calls else 0) ≤ 2 * (if fills then 1 else 0)
+few_if true calls few = omega arith
+few_if false calls few = omega arith
+
+pub few_put_calls : (filler : RunFiller) → put_calls filler ≤ 2 * (if fills filler then 1 else 0)
+few_put_calls filler = few_if (fills filler) (page_calls (next_page filler) filler.erase) (few_page_calls (erases (next_page filler) filler.erase))
 
 -- the records that were put fill fewer pages than there are for the rows
 pub page_in_area :

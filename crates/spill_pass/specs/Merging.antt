@@ -1,10 +1,10 @@
 -- What a merge gives, as a list that is being written: where it lies, which leases are held, and what the list has so far.
-use Rattle.std.specs.Prelude.{◌≡◌, ℕ, ◌+◌, ◌-◌, ◌*◌, ◌/◌, ◌%◌, ◌^◌, ◌<◌, ◌≤◌, ◌⊎◌, ◌↔◌, Bool, true, ⊤, List, ◌∷◌, length, map, get_or, Option, Some, None, Result, Ok, Err}
+use Rattle.std.specs.Prelude.{◌≡◌, ℕ, ◌+◌, ◌-◌, ◌*◌, ◌/◌, ◌%◌, ◌^◌, ◌<◌, ◌≤◌, ◌⊎◌, ◌↔◌, ◌++◌, Bool, true, ⊤, List, [], ◌∷◌, length, map, get_or, Option, Some, None, Result, Ok, Err}
 use Rattle.ghost_model.specs.core.Causes.{Rose}
 use Rattle.ghost_model.specs.forms.Runs as runs
 use Rattle.ghost_base.specs.declared.runs.Run.{Run}
 use Rattle.ghost_base.specs.Runs.{run_of}
-use Rattle.edge_traits.specs.Devices.{Device, ChangesOnly}
+use Rattle.edge_traits.specs.Devices.{Device, KeepsPages, ChangesOnly}
 use Rattle.page_pool.specs.Pools.{Pool, AreOut, KeepsOthers, others_out}
 use Rattle.flash_pages.specs.declared.fault.PageFault.{PageFault}
 use Rattle.flash_pages.specs.Writing.{IsEntered}
@@ -12,8 +12,8 @@ use Rattle.flash_pages.specs.Writers.{HasPut, next_page}
 use Rattle.id_merge.specs.declared.cursor.Cursor.{Cursor}
 use Rattle.id_merge.specs.declared.cursor.Cursor.TheVariants.{List as OfList, Range}
 use Rattle.id_merge.specs.declared.merge.Merge.{Merge}
-use Rattle.id_merge.specs.Cursors.{cursor_at, id_in, leases_of, left_in, AllAscend, AllAtMost, AllGiven}
-use Rattle.id_merge.specs.Merges.{CanMerge, Remains}
+use Rattle.id_merge.specs.Cursors.{cursor_at, id_in, leases_of, AreRight, AllAtMost, AllGiven}
+use Rattle.id_merge.specs.Merges.{CanMerge, Remains, unread, at_hand}
 use Rattle.spill_pass.specs.declared.merging.MergeInto.{MergeInto}
 use Rattle.spill_pass.specs.declared.merging.Turn.{Turn}
 use Rattle.spill_pass.specs.declared.merging.Turn.TheVariants.{Went, Done}
@@ -45,13 +45,13 @@ LiesOutside low high (Range first last) = ⊤
 abbrev pub AllOutside : (low high : ℕ) → List Cursor → Type 0
 AllOutside low high cursors = (i : ℕ) → LiesOutside low high (cursor_at cursors i)
 
--- how much is to do: the records to be read, and the identifiers that may be found
-abbrev pub left_of : MergeInto → ℕ
-left_of into = left_in into.merge.cursors.items + (into.rows - into.merge.last)
+-- how much is to do: the pages to be read, and the identifiers that may be found
+abbrev pub left_of : Pool → MergeInto → ℕ
+left_of pool into = unread pool into.merge + at_hand into.merge
 
--- how many calls of the flash may be made until the list stands: one a record that is read, and two a page that is written
-abbrev pub calls_left : MergeInto → ℕ
-calls_left into = left_in into.merge.cursors.items + 2 * (runs.pages_of into.rows 4 - into.writer.filler.pages)
+-- how many calls of the flash may be made until the list stands: one a page that is read, and two a page that is written
+abbrev pub calls_left : Pool → MergeInto → ℕ
+calls_left pool into = unread pool into.merge + 2 * (runs.pages_of into.rows 4 - into.writer.filler.pages)
 
 -- a merge may be written: its lists lie outside of the area, and it gives no identifier above the rows
 pub record CanBegin (told : Bool) (device : Device) (pool : Pool) (merge : Merge) (first rows lease : ℕ) : Type 0 where
@@ -62,12 +62,16 @@ pub record CanBegin (told : Bool) (device : Device) (pool : Pool) (merge : Merge
   pub area : IsArea device first rows
   pub outside : AllOutside first (first + area_pages rows) merge.cursors.items
 
--- a step may be made: of the rows no more are in the list than the merge came to
+-- there is room for what may be found: no more is written than the merge came to, or there is room for all that is at hand
+abbrev pub HasRoom : MergeInto → Type 0
+HasRoom into = (into.writer.filler.count ≤ into.merge.last) ⊎ (into.writer.filler.count + at_hand into.merge ≤ into.rows)
+
+-- a step may be made: no more is written than there are rows
 pub record IsMerging (told : Bool) (device : Device) (pool : Pool) (into : MergeInto) : Type 0 where
   pub can : CanBegin told device pool into.merge into.writer.filler.first into.rows into.writer.lease
   pub width : into.writer.filler.width ≡ 4
   pub erase : into.writer.filler.erase ≡ true
-  pub count : into.writer.filler.count ≤ into.merge.last
+  pub count : into.writer.filler.count ≤ into.rows
   pub entered : IsEntered device (next_page into.writer.filler) true
 
 -- an identifier is one of some
@@ -79,32 +83,42 @@ pub record IsOneOf (ids : List ℕ) (id : ℕ) : Type 0 where
 abbrev pub AreAscending : (ids : List ℕ) → Type 0
 AreAscending ids = (i j : ℕ) → i < j → j < length ids → get_or ids i 0 < get_or ids j 0
 
--- where pages are told: what a merge had still to give when it began, over the pages at that time, is in the list so far or
--- still to be given. The list ascends, up to what was given last
-pub record Gathers (told : Bool) (start : ℕ → List ℕ) (merge : Merge) (page : ℕ → List ℕ) (pool : Pool) (into : MergeInto) : Type 0 where
+-- where pages are told: what a merge had still to give when it began, by right pages, is in the list so far or still to be
+-- given. The list ascends, up to what was given last, and stands behind what was written earlier
+pub record Gathers (told : Bool) (right : ℕ → List ℕ) (merge : Merge) (earlier : List ℕ) (page : ℕ → List ℕ) (pool : Pool) (into : MergeInto) : Type 0 where
   pub ids : List ℕ
-  pub put : HasPut told page pool into.writer (map runs.number_cell ids)
+  pub put : HasPut told page pool into.writer (map runs.number_cell (earlier ++ ids))
   pub ascending : AreAscending ids
   pub below : (i : ℕ) → i < length ids → get_or ids i 0 ≤ into.merge.last
-  pub all : (id : ℕ) → (IsOneOf ids id ⊎ Remains page into.merge id) ↔ Remains start merge id
-  pub lists : AllAscend page into.merge.cursors.items
+  pub all : (id : ℕ) → (IsOneOf ids id ⊎ Remains right into.merge id) ↔ Remains right merge id
+  pub lists : AreRight page right into.merge.cursors.items
 
 -- the list has exactly what the merge had to give when it began, ascending
-pub record IsListOf (start : ℕ → List ℕ) (merge : Merge) (page : ℕ → List ℕ) (run : Run) : Type 0 where
+pub record IsListOf (right : ℕ → List ℕ) (merge : Merge) (page : ℕ → List ℕ) (run : Run) : Type 0 where
   pub ids : List ℕ
   pub stores : runs.Stores page (run_of run) (map runs.number_cell ids)
   pub ascending : AreAscending ids
-  pub all : (id : ℕ) → IsOneOf ids id ↔ Remains start merge id
+  pub all : (id : ℕ) → IsOneOf ids id ↔ Remains right merge id
 
-abbrev pub GivesList : (told : Bool) (start : ℕ → List ℕ) → Merge → (page : ℕ → List ℕ) → Pool → MergeInto → Result (Option Run) PageFault → Type 0
-GivesList told start merge page pool into (Ok None) = Gathers told start merge page pool into
-GivesList told start merge page pool into (Ok (Some run)) = IsListOf start merge page run
-GivesList told start merge page pool into (Err fault) = ⊤
+abbrev pub GivesList : (told : Bool) (right : ℕ → List ℕ) → Merge → (page : ℕ → List ℕ) → Pool → MergeInto → Result (Option Run) PageFault → Type 0
+GivesList told right merge page pool into (Ok None) = Gathers told right merge [] page pool into
+GivesList told right merge page pool into (Ok (Some run)) = IsListOf right merge page run
+GivesList told right merge page pool into (Err fault) = ⊤
 
-abbrev pub TurnGives : (told : Bool) (start : ℕ → List ℕ) → Merge → (page : ℕ → List ℕ) → Pool → MergeInto → Result Turn PageFault → Type 0
-TurnGives told start merge page pool into (Ok (Went calls)) = Gathers told start merge page pool into
-TurnGives told start merge page pool into (Ok (Done run)) = IsListOf start merge page run
-TurnGives told start merge page pool into (Err fault) = ⊤
+-- after a step of the merge: what it had is in the list so far or still to be given, and nothing is where it answers the end
+pub record GathersAll (told : Bool) (right : ℕ → List ℕ) (merge : Merge) (earlier : List ℕ) (page : ℕ → List ℕ) (pool : Pool) (into : MergeInto) : Type 0 where
+  pub gathers : Gathers told right merge earlier page pool into
+  pub none : (id : ℕ) → Remains right into.merge id → ⊥
+
+abbrev pub AdvanceGives : (told : Bool) (right : ℕ → List ℕ) → Merge → (earlier : List ℕ) (page : ℕ → List ℕ) → Pool → MergeInto → Result (Option ℕ) PageFault → Type 0
+AdvanceGives told right merge earlier page pool into (Ok (Some calls)) = Gathers told right merge earlier page pool into
+AdvanceGives told right merge earlier page pool into (Ok None) = GathersAll told right merge earlier page pool into
+AdvanceGives told right merge earlier page pool into (Err fault) = ⊤
+
+abbrev pub TurnGives : (told : Bool) (right : ℕ → List ℕ) → Merge → (page : ℕ → List ℕ) → Pool → MergeInto → Result Turn PageFault → Type 0
+TurnGives told right merge page pool into (Ok (Went calls)) = Gathers told right merge [] page pool into
+TurnGives told right merge page pool into (Ok (Done run)) = IsListOf right merge page run
+TurnGives told right merge page pool into (Err fault) = ⊤
 
 -- the list lies at the beginning of its area, and has no more identifiers than there are rows
 pub record IsPlaced (into : MergeInto) (run : Run) : Type 0 where
@@ -121,6 +135,8 @@ pub record Goes (told : Bool) (before now : Device) (pool later : Pool) (old new
   pub held : leases_held new ≡ leases_held old
   pub still : AreOut later (leases_held new)
   pub given : (since : ℕ) → since ≤ before.calls → AllGiven since before pool old.merge.cursors.items → AllGiven since now later new.merge.cursors.items
+  pub outside : (low high : ℕ) → AllOutside low high old.merge.cursors.items → AllOutside low high new.merge.cursors.items
+  pub count : length new.merge.cursors.items ≡ length old.merge.cursors.items
   pub first : new.writer.filler.first ≡ old.writer.filler.first
   pub rows : new.rows ≡ old.rows
 
@@ -138,20 +154,40 @@ pub record MadeAtMost (most : ℕ) (before now : Device) : Type 0 where
   pub deep_reads : now.deep_reads ≤ before.deep_reads + most
 
 -- what is counted in a turn after which there is more to do
-pub record WentOn (told : Bool) (before now : Device) (later : Pool) (old new : MergeInto) (calls : ℕ) : Type 0 where
+pub record WentOn (told : Bool) (before now : Device) (pool later : Pool) (old new : MergeInto) (calls : ℕ) : Type 0 where
   pub ready : IsMerging told now later new
-  pub fewer : left_of new < left_of old
+  pub fewer : left_of later new < left_of pool old
   pub few : calls ≤ 2
   pub at_most : MadeAtMost calls before now
-  pub spent : now.calls + calls_left new ≤ before.calls + calls_left old
+  pub spent : now.calls + calls_left later new ≤ before.calls + calls_left pool old
   pub called : 0 < calls → Rose before.calls now.calls
+  pub unions : new.merge.unions ≡ old.merge.unions
+  pub written : old.writer.filler.count ≤ new.writer.filler.count
+  pub room : new.writer.filler.count + at_hand new.merge ≤ old.writer.filler.count + at_hand old.merge
 
-abbrev pub TurnTells : (told : Bool) (before now : Device) (later : Pool) (old new : MergeInto) → Turn → Type 0
-TurnTells told before now later old new (Went calls) = WentOn told before now later old new calls
-TurnTells told before now later old new (Done run) = IsPlaced old run × (now.calls ≤ before.calls + calls_left old)
+-- what is counted where the merge has nothing left: no call was made, and no more is written
+pub record CameToEnd (told : Bool) (before now : Device) (pool later : Pool) (old new : MergeInto) : Type 0 where
+  pub ready : IsMerging told now later new
+  pub calls : now.calls ≡ before.calls
+  pub deep_reads : now.deep_reads ≡ before.deep_reads
+  pub kept : KeepsPages before now
+  pub writer : new.writer ≡ old.writer
+  pub unions : new.merge.unions ≡ old.merge.unions
+  pub fewer : left_of later new ≤ left_of pool old
+  pub spent : calls_left later new ≤ calls_left pool old
+  pub written : old.writer.filler.count ≤ new.writer.filler.count
+  pub room : new.writer.filler.count + at_hand new.merge ≤ old.writer.filler.count + at_hand old.merge
+
+abbrev pub AdvanceTells : (told : Bool) (before now : Device) (pool later : Pool) (old new : MergeInto) → Option ℕ → Type 0
+AdvanceTells told before now pool later old new (Some calls) = WentOn told before now pool later old new calls
+AdvanceTells told before now pool later old new None = CameToEnd told before now pool later old new
+
+abbrev pub TurnTells : (told : Bool) (before now : Device) (pool later : Pool) (old new : MergeInto) → Turn → Type 0
+TurnTells told before now pool later old new (Went calls) = WentOn told before now pool later old new calls
+TurnTells told before now pool later old new (Done run) = IsPlaced old run × (now.calls ≤ before.calls + calls_left pool old)
 
 -- what is spent of the calls that may be made: a fault may cost one more
-abbrev pub Spends : (before now : Device) (old new : MergeInto) → Result (Option Run) PageFault → Type 0
-Spends before now old new (Ok None) = now.calls + calls_left new ≤ before.calls + calls_left old
-Spends before now old new (Ok (Some run)) = now.calls ≤ before.calls + calls_left old
-Spends before now old new (Err fault) = now.calls ≤ before.calls + calls_left old + 1
+abbrev pub Spends : (before now : Device) (pool later : Pool) (old new : MergeInto) → Result (Option Run) PageFault → Type 0
+Spends before now pool later old new (Ok None) = now.calls + calls_left later new ≤ before.calls + calls_left pool old
+Spends before now pool later old new (Ok (Some run)) = now.calls ≤ before.calls + calls_left pool old
+Spends before now pool later old new (Err fault) = now.calls ≤ before.calls + calls_left pool old + 1

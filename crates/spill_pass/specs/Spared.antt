@@ -39,6 +39,6 @@ StaysMerging =
 
 abbrev pub StillGathers : Type 0
 StillGathers =
-    (told : Bool) (start : ℕ → List ℕ) (merge : Merge) (before now : Device) (pool later : Pool) (into : MergeInto)
+    (told : Bool) (right : ℕ → List ℕ) (merge : Merge) (earlier : List ℕ) (before now : Device) (pool later : Pool) (into : MergeInto)
     → Spares before now pool later into → IsMerging told before pool into
-    → Gathers told start merge before.page pool into → Gathers told start merge now.page later into
+    → Gathers told right merge earlier before.page pool into → Gathers told right merge earlier now.page later into

@@ -5,12 +5,15 @@
 //! most eight calls of the flash each.
 //!
 //! Several such lists can lie one behind another in a run. Their places, where each begins and how many identifiers it has,
-//! are records of eight bytes, and are read back in order.
+//! are records of eight bytes, and are read back in order. `Groups` writes them: it takes lists into a group, merges the group
+//! behind the lists of the groups before it, and begins an empty one.
 #![tactic(auto)]
 
+pub mod groups;
 pub mod merging;
 pub mod places;
 pub mod spared;
 
+pub use groups::Groups;
 pub use merging::MergeInto;
 pub use places::PlaceReader;

@@ -1,0 +1,44 @@
+use Rattle.spill_pass.proofs.Grouping.{goes_on}
+use Rattle.spill_pass.proofs.Going.{finish_in_area}
+use Rattle.spill_pass.proofs.Finishing.{can_finish, finish_lists_goes, finish_places_goes, finish_places_in_area, finished_lists}
+use Rattle.spill_pass.proofs.groups.Groups.finish.Goals as goal
+
+pub finish-requires-2-clause-can : goal.finish-requires-2-clause-can
+finish-requires-2-clause-can g c = λ wait.
+    let is = c.requires.grouping in
+    let one = c.finish.ensures in
+    can_finish c.args.self.now (g.F.Flash.state c.finish.new.flash) is (finish_in_area is.merging one.writes.others one.unwritten) wait
+
+pub returns-in_err-lists-clause-goes : goal.returns-in_err-lists-clause-goes
+returns-in_err-lists-clause-goes g c =
+    let f = c.finish.ensures in
+    finish_lists_goes c.args.self.now c.finish.new.self c.requires.grouping f.writes.others f.unwritten f.buffers f.same
+
+pub returns-in_err-places-clause-goes : goal.returns-in_err-places-clause-goes
+returns-in_err-places-clause-goes g c =
+    let old = c.args.self.now in
+    let is = c.requires.grouping in
+    let one = c.finish.ensures in
+    let two = c.finish-2.ensures in
+    let goes = finish_lists_goes old c.finish.new.self is one.writes.others one.unwritten one.buffers one.same in
+    goes_on goes
+    (finish_places_goes old (record { merge = old.into.merge; writer = c.finish.new.self; rows = old.into.rows }) c.finish-2.new.self is goes.still two.writes.others two.unwritten two.buffers two.same)
+
+pub returns-clause-goes : goal.returns-clause-goes
+returns-clause-goes g c =
+    let old = c.args.self.now in
+    let is = c.requires.grouping in
+    let one = c.finish.ensures in
+    let two = c.finish-2.ensures in
+    let goes = finish_lists_goes old c.finish.new.self is one.writes.others one.unwritten one.buffers one.same in
+    goes_on goes
+    (finish_places_goes old (record { merge = old.into.merge; writer = c.finish.new.self; rows = old.into.rows }) c.finish-2.new.self is goes.still two.writes.others two.unwritten two.buffers two.same)
+
+pub returns-clause-stores : goal.returns-clause-stores
+returns-clause-stores g c = λ told right first lists was.
+    let old = c.args.self.now in
+    let is = c.requires.grouping in
+    let one = c.in_ok-lists.ensures in
+    let two = c.in_ok-places.ensures in
+    finished_lists old c.in_ok-lists.lists c.in_ok-places.places told is c.requires.none_found (finish_in_area is.merging one.writes.others one.unwritten)
+    (finish_places_in_area old is two.writes.others two.unwritten) one.buffers one.run (one.stores told) (two.stores told) was
