@@ -30,7 +30,7 @@ declared : (o : Option Column) → hidden_or_none o ≡ true → (held : Column)
 declared None h = absurd (cc (h))
 declared (Some held) h = (held, refl, refl)
 
-width_of_kind : (o : Option Column) → cell_width (kind_or_none o) ≡ width_or_none o
+pub width_of_kind : (o : Option Column) → cell_width (kind_or_none o) ≡ width_or_none o
 width_of_kind None = refl
 width_of_kind (Some column) = refl
 

@@ -3,9 +3,11 @@ use Rattle.std.proofs.Common.{◌≡◌, refl, ap, sym, ◌∙◌, subst, ℕ, z
 use Rattle.std.specs.Global.{Global}
 use Rattle.std.specs.List.{range_with_len, list_any}
 use Rattle.std.proofs.lemmas.Option.{slice_get-get_or}
-use Rattle.std.proofs.lemmas.List.{length-map, get_or-map, append-nil}
+use Rattle.std.proofs.lemmas.List.{length-map, get_or-map, append-nil, get_or_append_left, get_or-append-add}
 use Rattle.std.proofs.lemmas.List.Elements.{filter-append}
-use Rattle.std.proofs.lemmas.List.FromFn.{length-range_with_len}
+use Rattle.std.specs.List.{All}
+use Rattle.std.proofs.lemmas.List.Elements.{All-get_or, All-from_get_or}
+use Rattle.std.proofs.lemmas.List.FromFn.{length-range_with_len, fill_by_all}
 use Rattle.ghost_model.specs.core.Schema.{Schema, parent, ancestor}
 use Rattle.ghost_model.specs.core.Values.{Number, Database}
 use Rattle.ghost_model.specs.core.Channel.{Catalog}
@@ -21,8 +23,9 @@ use Rattle.ghost_model.proofs.MeaningLemmas.OneRow.{both_true}
 use Rattle.ghost_model.proofs.MeaningLemmas.Leading.{first_step, along, onwards, rows_lead}
 use Rattle.ghost_model.proofs.FlashLemmas.Keys.{lead_alike}
 use Rattle.index_lists.specs.Ranks.{identifier_of, of_referred}
-use Rattle.index_lists.specs.Laws.{LeadAs}
-use Rattle.flash_build.specs.Levels.{AreKeys, AreLed, items_of, numbers_record, numbers_records}
+use Rattle.index_lists.specs.Laws.{LeadAs, LevelsCompose}
+use Rattle.flash_build.proofs.Writes.{below_next}
+use Rattle.flash_build.specs.Levels.{AreKeys, AreLed, RankedAbove, items_of, numbers_record, numbers_records}
 
 no_step : (schema : Schema) (from to : ℕ) → ancestor schema 0 to ≡ Some from → to ≡ from
 unfolding ancestor
@@ -124,6 +127,20 @@ module _ (cat : Catalog) (hidden : Hidden) (from below : ℕ) (keys : List ℤ) 
             omega (arith, good, same, other);
       }
 
+  -- ranks go the same way
+  pub ranks_up : LevelsCompose → IsTree cat.schema → IsHidden cat hidden → parent cat.schema below ≡ Some from → (table : ℕ) → IsAtOrBelow cat.schema below table
+      → (own ranks : List ℕ) → RankedAbove cat hidden table own below ranks → RankedAbove cat hidden table own from (of_referred ranks (map identifier_of keys))
+  ranks_up compose tree part up table under own ranks were =
+      let identifiers = map identifier_of keys in
+      record {
+        reached = of_referred were.reached identifiers;
+        lead = lead_up tree part up table under were.reached were.lead;
+        same = ap (λ (rs : List ℕ). of_referred rs identifiers) were.same
+            ∙ compose own were.reached identifiers
+            (All-from_get_or (λ k. 0 < k) identifiers 0 (λ k low. let b = key_bounds k (omega (arith, low, size)) in let a = b.0 in omega (arith, a)))
+            (All-from_get_or (λ k. k ≤ length were.reached) identifiers 0 (λ k low. let b = key_bounds k (omega (arith, low, size)) in let a = b.1 in omega (arith, a, were.lead.long)));
+      }
+
 -- the rows themselves
 ids_get : (a n k : ℕ) → k < n → get_or (range_with_len a n) k 0 ≡ a + k
 ids_get a zero k low = absurd (omega (arith, low))
@@ -151,6 +168,29 @@ lead_itself cat hidden tree part table =
           let is = ids_get 1 n k (omega (arith, low, size)) in
           omega (arith, same, is, low, size);
     }
+
+-- the same by numbers one higher
+records_over :
+    {X : Type 0} (f g : ℕ → X) (a n : ℕ) → ((k : ℕ) → a ≤ k → k < a + n → f k ≡ g (k + 1)) → map f (range_with_len a n) ≡ map g (range_with_len (a + 1) n)
+records_over f g a zero same = refl
+records_over f g a (suc n) same =
+    let here = same a (omega arith) (omega arith) in
+    let rest = records_over f g (a + 1) n (λ k low high. same k (omega (arith, low)) (omega (arith, high))) in
+    λ i. here i ∷ rest i
+
+-- a table's own rows have their own ranks
+pub of_themselves : (own : List ℕ) (n : ℕ) → length own ≡ n → own ≡ of_referred own (ids n)
+of_themselves own n size =
+    fill_by_all (λ k. get_or own k 0) own n 0 size (λ k low. refl)
+    ∙ records_over (λ k. get_or own k 0) (λ k. get_or own (k - 1) 0) 0 n (λ k low high. let e : k ≡ k + 1 - 1 = omega arith in ap (λ j. get_or own j 0) e)
+
+pub ranked_itself : (cat : Catalog) (hidden : Hidden) → IsTree cat.schema → (part : IsHidden cat hidden) → (table : ℕ) (own : List ℕ) → length own ≡ count_of cat table
+    → RankedAbove cat hidden table own table own
+ranked_itself cat hidden tree part table own size = record {
+  reached = ids (count_of cat table);
+  lead = lead_itself cat hidden tree part table;
+  same = of_themselves own (count_of cat table) size;
+}
 
 -- columns that are led to, one after others
 pub led_on :
@@ -191,14 +231,6 @@ led_record cat hidden from (table ∷ tables) (column ∷ columns) a place low =
     ap (λ o. number_cell (unwrap_or o 0)) (sym here) in
     let rest = led_record cat hidden from tables columns a.1 place low in
     λ i. one i ++ rest i
-
-records_over :
-    (f g : ℕ → List ℕ) (a n : ℕ) → ((k : ℕ) → a ≤ k → k < a + n → f k ≡ g (k + 1)) → map f (range_with_len a n) ≡ map g (range_with_len (a + 1) n)
-records_over f g a zero same = refl
-records_over f g a (suc n) same =
-    let here = same a (omega arith) (omega arith) in
-    let rest = records_over f g (a + 1) n (λ k low high. same k (omega (arith, low)) (omega (arith, high))) in
-    λ i. here i ∷ rest i
 
 pub led_records :
     (cat : Catalog) (hidden : Hidden) (table : ℕ) (columns : List (List ℕ)) → AreLed cat hidden table (descendants_of cat.schema table) columns
@@ -302,3 +334,22 @@ led_none cat hidden from other all new is under were =
     let tables = descendants_next (is_below cat.schema from) other false under in
     subst (λ (vs : List (Vec ℕ Global)). AreLed cat hidden from (filter (is_below cat.schema from) (layout_below (other + 1))) (map items_of vs)) (sym is)
     (subst (λ (ts : List ℕ). AreLed cat hidden from ts (map items_of all)) (sym tables) were)
+
+-- one level more, whose rows are ranked
+pub ranked_more :
+    (cat : Catalog) (hidden : Hidden) (table : ℕ) (own tables : List ℕ) (all new : List (Vec ℕ Global)) (v : Vec ℕ Global) (level : ℕ) → new ≡ all ++ v ∷ [] → length all ≡ level
+    → ((k : ℕ) → k < level → RankedAbove cat hidden table own (get_or tables k 0) (get_or (map items_of all) k []))
+    → RankedAbove cat hidden table own (get_or tables level 0) v.items
+    → (k : ℕ) → k < level + 1 → RankedAbove cat hidden table own (get_or tables k 0) (get_or (map items_of new) k [])
+ranked_more cat hidden table own tables all new v level is size were one =
+    let columns = ap (map items_of) is ∙ vectors_next all v in
+    let many = length-map all items_of in
+    let e : length (map items_of all) + 0 ≡ level = omega (arith, many, size) in
+    let last : v.items ≡ get_or (map items_of all ++ v.items ∷ []) level [] =
+    sym (ap (λ n. get_or (map items_of all ++ v.items ∷ []) n []) (sym e) ∙ get_or-append-add (map items_of all) (v.items ∷ []) 0 []) in
+    subst (λ (cs : List (List ℕ)). (k : ℕ) → k < level + 1 → RankedAbove cat hidden table own (get_or tables k 0) (get_or cs k [])) (sym columns)
+    (below_next (λ k. RankedAbove cat hidden table own (get_or tables k 0) (get_or (map items_of all ++ v.items ∷ []) k [])) level
+    (λ k low.
+    subst (λ (ranks : List ℕ). RankedAbove cat hidden table own (get_or tables k 0) ranks)
+    (sym (get_or_append_left (map items_of all) (v.items ∷ []) [] k (omega (arith, low, many, size)))) (were k low))
+    (subst (λ (ranks : List ℕ). RankedAbove cat hidden table own (get_or tables level 0) ranks) last one))

@@ -5,3 +5,9 @@ pub mod Leading
 pub mod NumberRecords
 pub mod TableFiles
 pub mod CatalogPages
+pub mod Entries
+pub mod TextOrder
+pub mod HiddenValues
+pub mod IndexPlaces
+pub mod IdEntries
+pub mod ValueEntries

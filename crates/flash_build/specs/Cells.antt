@@ -5,7 +5,7 @@ use Rattle.ghost_model.specs.core.Schema.{Kind}
 use Rattle.csv_split.specs.declared.cells.Cells.{Cells}
 use Rattle.csv_split.specs.declared.cells.Cells.TheVariants as cells
 use Rattle.ghost_model.specs.core.Values.{Value, Row, Rows}
-use Rattle.ghost_model.specs.core.Database.{row_numbered, is_of_kind}
+use Rattle.ghost_model.specs.core.Database.{row_numbered, is_text, is_of_kind}
 use Rattle.ghost_model.specs.forms.Cells.{cell_width, encode_cell}
 
 abbrev pub cell_at : Kind → (place : ℕ) → Row → List ℕ
@@ -27,3 +27,7 @@ abbrev pub ReadAsNumbers : Option Cells → (numbers : List ℤ) → Type 0
 ReadAsNumbers None numbers = numbers ≡ []
 ReadAsNumbers (Some (cells.Numbers held)) numbers = numbers ≡ held.items
 ReadAsNumbers (Some (cells.Texts held)) numbers = numbers ≡ []
+
+-- each of some byte lists is a text of at most so many characters
+abbrev pub AreTexts : (most : ℕ) → (texts : List (List ℕ)) → Type 0
+AreTexts most texts = (place : ℕ) (text : List ℕ) → slice_get texts place ≡ Some text → IsTrue (is_text most text)

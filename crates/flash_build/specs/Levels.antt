@@ -1,5 +1,5 @@
 -- What rows lead to, as numbers in memory: the foreign keys of a table, and the rows of tables below to which its rows lead.
-use Rattle.std.specs.Prelude.{◌≡◌, ℕ, ◌+◌, ◌<◌, ℤ, ⊤, List, [], ◌∷◌, length, map, flat_map, Some, slice_index, IsTrue}
+use Rattle.std.specs.Prelude.{◌≡◌, ℕ, ◌+◌, ◌<◌, ℤ, ⊤, List, [], ◌∷◌, length, map, flat_map, Some, slice_index, get_or, IsTrue}
 use Rattle.std.specs.List.{All}
 use Rattle.std.specs.Global.{Vec}
 use Rattle.ghost_model.specs.core.Values.{Number}
@@ -9,7 +9,7 @@ use Rattle.ghost_model.specs.core.Split.{Hidden}
 use Rattle.ghost_model.specs.forms.Layout.{below, count_of}
 use Rattle.ghost_model.specs.forms.Runs.{number_cell}
 use Rattle.ghost_model.specs.forms.Flash.{IsHidden}
-use Rattle.index_lists.specs.Ranks.{identifier_of}
+use Rattle.index_lists.specs.Ranks.{identifier_of, of_referred}
 use Rattle.index_lists.specs.Laws.{LeadAs}
 
 -- the foreign keys of a table's rows to the table below it
@@ -37,3 +37,14 @@ numbers_record columns row = flat_map (λ column. number_cell (slice_index colum
 
 abbrev pub numbers_records : (columns : List (List ℕ)) → (rows : ℕ) → List (List ℕ)
 numbers_records columns rows = map (numbers_record columns) (below rows)
+
+-- the ranks of the rows of a table above, by those of a table's own rows: each row has the rank of the row that it leads to
+pub record RankedAbove (cat : Catalog) (hidden : Hidden) (table : ℕ) (own : List ℕ) (from : ℕ) (ranks : List ℕ) : Type 0 where
+  pub reached : List ℕ
+  pub lead : LeadAs cat hidden from table reached
+  pub same : ranks ≡ of_referred own reached
+
+-- the ranks of the rows of some tables, by those of a table's own rows
+pub record AreRankedAbove (cat : Catalog) (hidden : Hidden) (table : ℕ) (own : List ℕ) (tables : List ℕ) (all : List (List ℕ)) : Type 0 where
+  pub count : length all ≡ length tables
+  pub each : (level : ℕ) → level < length tables → RankedAbove cat hidden table own (slice_index tables level) (get_or all level [])

@@ -1,11 +1,12 @@
 //! The whole of a new flash.
 
 ghost use Rattle.std.specs.Prelude.{◌≡◌, ◌<◌, ◌≤◌, ◌+◌, ◌*◌, ℕ, List, true, false, Some, Err, OnOk};
-ghost use Rattle.ghost_model.specs.forms.Flash.{HoldsFilesSoFar, HoldsSoFar};
+ghost use Rattle.ghost_model.specs.forms.Flash.{HoldsFiles, Holds};
 ghost use Rattle.ghost_model.specs.forms.Layout as layout;
 ghost use Rattle.ghost_model.specs.forms.Work as work;
 ghost use Rattle.edge_traits.specs.Devices.{Counts, IsErased};
 ghost use Rattle.ghost_model.specs.forms.Flash.{IsHidden};
+ghost use Rattle.flash_build.specs.Building.{load_calls};
 ghost use Rattle.flash_build.specs.Faults.{BuildCause, EndsAtFault, IsLargeEnough};
 ghost use Rattle.flash_build.specs.Sealing.{HoldsFrom, SpellsNoCatalog};
 ghost use Rattle.flash_build.specs.declared.faults.BuildFault.TheVariants as fault;
@@ -35,7 +36,7 @@ pub fn make_and_build<F: Flash>(
 ) -> Result<(), BuildFault>
     requires part { IsHidden cat.now hidden.now }
     requires blocks { blocks ≤ 60000000 }
-    ensures holds { OnOk result (F.told ≡ true → HoldsFilesSoFar (F.state flash.new).page cat.now hidden.now) }
+    ensures holds { OnOk result (F.told ≡ true → HoldsFiles (F.state flash.new).page cat.now hidden.now) }
     ensures named { OnOk result ((F.state flash.new).name ≡ Some name.now) }
     ensures never_other { layout.need cat.now ≤ 64 * blocks → (other : List ℕ) → (F.state flash.new).name ≡ Some other → other ≡ name.now }
     ensures pages { OnOk result ((F.state flash.new).page_count ≡ 64 * blocks) }
@@ -45,8 +46,8 @@ pub fn make_and_build<F: Flash>(
     ensures large_enough { layout.need cat.now ≤ 64 * blocks → IsLargeEnough result }
     ensures unsealed { layout.need cat.now ≤ 64 * blocks → 0 < (F.state flash.new).page_count → F.told ≡ true → SpellsNoCatalog (F.state flash.new).page }
     ensures page_0 { layout.need cat.now ≤ 64 * blocks → 0 < (F.state flash.new).page_count → (F.state flash.new).blank 0 ≡ true }
-    ensures exact { OnOk result (Counts (1 + work.file_pages_so_far cat.now hidden.now) (F.state flash.old).calls (F.state flash.new).calls) }
-    ensures at_most { (F.state flash.new).calls ≤ (F.state flash.old).calls + (1 + work.file_pages_so_far cat.now hidden.now) }
+    ensures exact { OnOk result (Counts (1 + work.file_pages cat.now hidden.now) (F.state flash.old).calls (F.state flash.new).calls) }
+    ensures at_most { (F.state flash.new).calls ≤ (F.state flash.old).calls + (1 + work.file_pages cat.now hidden.now) }
     ensures deep_reads { (F.state flash.new).deep_reads ≡ (F.state flash.old).deep_reads }
     ensures cause { BuildCause (F.state flash.old).faults (F.state flash.new).faults result }
     ensures last { EndsAtFault (F.state flash.new).since_fault result }
@@ -78,7 +79,7 @@ pub fn load_flash<F: Flash>(
 ) -> Result<(), BuildFault>
     requires part { IsHidden cat.now hidden.now }
     requires blocks { blocks ≤ 60000000 }
-    ensures holds { OnOk result (F.told ≡ true → HoldsSoFar (F.state flash.new).page cat.now hidden.now) }
+    ensures holds { OnOk result (F.told ≡ true → Holds (F.state flash.new).page cat.now hidden.now) }
     ensures named { OnOk result ((F.state flash.new).name ≡ Some name.now) }
     ensures never_other { layout.need cat.now ≤ 64 * blocks → (other : List ℕ) → (F.state flash.new).name ≡ Some other → other ≡ name.now }
     ensures pages { OnOk result ((F.state flash.new).page_count ≡ 64 * blocks) }
@@ -86,10 +87,10 @@ pub fn load_flash<F: Flash>(
     ensures untouched { 64 * blocks < layout.need cat.now → F.state flash.new ≡ F.state flash.old }
     ensures large_enough { layout.need cat.now ≤ 64 * blocks → IsLargeEnough result }
     ensures unsealed { layout.need cat.now ≤ 64 * blocks → 0 < (F.state flash.new).page_count → F.told ≡ true → (F.state flash.new).blank 0 ≡ true → SpellsNoCatalog (F.state flash.new).page }
-    ensures files_first { layout.need cat.now ≤ 64 * blocks → 0 < (F.state flash.new).page_count → F.told ≡ true → (F.state flash.new).blank 0 ≡ false → HoldsFilesSoFar (F.state flash.new).page cat.now hidden.now }
+    ensures files_first { layout.need cat.now ≤ 64 * blocks → 0 < (F.state flash.new).page_count → F.told ≡ true → (F.state flash.new).blank 0 ≡ false → HoldsFiles (F.state flash.new).page cat.now hidden.now }
     ensures page_0_last { layout.need cat.now ≤ 64 * blocks → 0 < (F.state flash.new).page_count → F.told ≡ true → (F.state flash.new).blank 0 ≡ false → HoldsFrom 1 (F.state flash.new).page cat.now }
-    ensures exact { OnOk result (Counts (work.pages_built cat.now hidden.now) (F.state flash.old).calls (F.state flash.new).calls) }
-    ensures at_most { (F.state flash.new).calls ≤ (F.state flash.old).calls + work.pages_built cat.now hidden.now }
+    ensures exact { OnOk result (Counts (load_calls cat.now hidden.now) (F.state flash.old).calls (F.state flash.new).calls) }
+    ensures at_most { (F.state flash.new).calls ≤ (F.state flash.old).calls + load_calls cat.now hidden.now }
     ensures deep_reads { (F.state flash.new).deep_reads ≡ (F.state flash.old).deep_reads }
     ensures cause { BuildCause (F.state flash.old).faults (F.state flash.new).faults result }
     ensures last { EndsAtFault (F.state flash.new).since_fault result }

@@ -2,7 +2,7 @@
 
 ghost use Rattle.std.specs.Prelude.{◌≡◌, ◌<◌, ◌≤◌, ◌+◌, ◌-◌, true, false, OnOk, OnErr};
 ghost use Rattle.ghost_model.specs.core.Causes.{HasCause};
-ghost use Rattle.ghost_model.specs.forms.Flash.{HoldsCatalog, HoldsFilesSoFar, catalog_page};
+ghost use Rattle.ghost_model.specs.forms.Flash.{HoldsCatalog, HoldsFiles, catalog_page};
 ghost use Rattle.ghost_model.specs.forms.Layout as layout;
 ghost use Rattle.ghost_model.specs.core.Split.{Hidden};
 ghost use Rattle.ghost_model.specs.forms.Work as work;
@@ -73,7 +73,7 @@ pub fn seal<F: Flash>(cat: &Catalog, flash: &mut F) -> Result<(), Failed>
     ensures holds { OnOk result (F.told ≡ true → HoldsCatalog (F.state flash.new).page cat.now) }
     ensures unsealed { F.told ≡ true → (F.state flash.new).blank 0 ≡ true → SpellsNoCatalog (F.state flash.new).page }
     ensures page_0_last { F.told ≡ true → (F.state flash.new).blank 0 ≡ false → HoldsFrom 1 (F.state flash.new).page cat.now }
-    ensures files { (hidden : Hidden) → HoldsFilesSoFar (F.state flash.old).page cat.now hidden → HoldsFilesSoFar (F.state flash.new).page cat.now hidden }
+    ensures files { (hidden : Hidden) → HoldsFiles (F.state flash.old).page cat.now hidden → HoldsFiles (F.state flash.new).page cat.now hidden }
     ensures others { ChangesOnly 0 (work.catalog_pages cat.now) (F.state flash.old) (F.state flash.new) }
     ensures exact { OnOk result (Counts (work.catalog_pages cat.now) (F.state flash.old).calls (F.state flash.new).calls) }
     ensures at_most { (F.state flash.new).calls ≤ (F.state flash.old).calls + work.catalog_pages cat.now }

@@ -1,7 +1,7 @@
 -- How a loading ended, from what its parts did.
 use Rattle.std.proofs.Common.{◌≡◌, ◌⊎◌, inl, inr, ℕ, ◌≤◌, ◌<◌, ◌*◌, Bool, true, false, List, Some, Result, Ok, Err, OnOk, refl, ap, subst, ◌∙◌}
 use Rattle.ghost_model.specs.core.Database.{IsDatabase}
-use Rattle.ghost_model.specs.forms.Flash.{HoldsCatalog, HoldsFilesSoFar, HoldsSoFar}
+use Rattle.ghost_model.specs.forms.Flash.{HoldsCatalog, HoldsFiles, Holds}
 use Rattle.ghost_model.specs.forms.Layout.{need}
 use Rattle.ghost_model.specs.core.Schema.{Schema}
 use Rattle.ghost_model.specs.core.Split.{Hidden, hidden_of}
@@ -22,7 +22,7 @@ use Rattle.key_load.specs.declared.preparing.Prepared.{Prepared}
 
 -- where the catalog was written, the flash holds it and what it held before
 pub sealed : {T E : Type 0} (result : Result T E) (told : Bool) (page : ℕ → List ℕ) (cat : Catalog) (hidden : Hidden) → OnOk result (told ≡ true → HoldsCatalog page cat)
-    → (told ≡ true → HoldsFilesSoFar page cat hidden) → OnOk result (told ≡ true → HoldsSoFar page cat hidden)
+    → (told ≡ true → HoldsFiles page cat hidden) → OnOk result (told ≡ true → Holds page cat hidden)
 sealed (Ok value) told page cat hidden catalog files = λ t. record { catalog = catalog t; files = files t }
 sealed (Err fault) told page cat hidden catalog files = tt
 
@@ -42,7 +42,7 @@ pub failed : {T : Type 0} (result : Result T LoadFailure) (told : Bool) (one : L
     → (fault ≡ failure.Depot → Builds told one after)
     → (fault ≡ failure.Flash → (after.files ≡ before.files) ⊎ WritesFile told one before after)
     → (0 < after.device.page_count → after.device.blank 0 ≡ false → HasHostFile one before after)
-    → (0 < after.device.page_count → after.device.blank 0 ≡ false → told ≡ true → HoldsFilesSoFar after.device.page (catalog_in one) (hidden_of one.schema one.database))
+    → (0 < after.device.page_count → after.device.blank 0 ≡ false → told ≡ true → HoldsFiles after.device.page (catalog_in one) (hidden_of one.schema one.database))
     → EndsLoading {T = T} told one (Err fault) before after
 failed result told one before after failure.NoMemory of enough builds files file holds = inr enough
 failed result told one before after failure.Depot of enough builds files file holds = builds refl
@@ -125,8 +125,8 @@ module _ (schema : Schema) (database : Database) (words : Load) (prepared : Prep
       subst (P (catalog_for schema database)) are.hidden (subst (λ (cat : Catalog). P cat prepared.hidden) are.cat holds)
 
   pub files_stand : IsPrepared schema database words.blocks prepared → (page : ℕ → List ℕ)
-      → HoldsFilesSoFar page prepared.cat prepared.hidden → HoldsFilesSoFar page (catalog_for schema database) (hidden_of schema database)
-  files_stand are page holds = of_database are (HoldsFilesSoFar page) holds
+      → HoldsFiles page prepared.cat prepared.hidden → HoldsFiles page (catalog_for schema database) (hidden_of schema database)
+  files_stand are page holds = of_database are (HoldsFiles page) holds
 
   -- what was prepared was built
   pub built : (told : Bool) → IsPrepared schema database words.blocks prepared → need prepared.cat ≤ 64 * prepared.blocks
@@ -152,13 +152,13 @@ module _ (schema : Schema) (database : Database) (words : Load) (prepared : Prep
   pub stands : (told : Bool) → IsPrepared schema database words.blocks prepared → (before after : LoadSide)
       → need prepared.cat ≤ 64 * prepared.blocks
       → after.device.name ≡ Some words.flash
-      → (told ≡ true → HoldsSoFar after.device.page prepared.cat prepared.hidden)
+      → (told ≡ true → Holds after.device.page prepared.cat prepared.hidden)
       → after.device.page_count ≡ 64 * prepared.blocks
       → after.files ≡ with_file before.files words.visible prepared.image.items
       → Stands told (loading schema database words) before after
   stands told are before after enough name holds pages file = record {
     name = name;
-    holds = λ t. of_database are (HoldsSoFar after.device.page) (holds t);
+    holds = λ t. of_database are (Holds after.device.page) (holds t);
     pages = pages ∙ ap (λ blocks. 64 * blocks) are.blocks;
     enough = large_enough are enough;
     file = host_file are before after file;

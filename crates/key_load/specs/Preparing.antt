@@ -1,6 +1,6 @@
 -- What was prepared of a database, and what stands of it on the flash.
 use Rattle.std.specs.Prelude.{◌≡◌, ℕ, ◌*◌, Bool, true, List, Option, Some}
-use Rattle.ghost_model.specs.forms.Flash.{HoldsFilesSoFar}
+use Rattle.ghost_model.specs.forms.Flash.{HoldsFiles}
 use Rattle.ghost_model.specs.core.Schema.{Schema}
 use Rattle.ghost_model.specs.core.Split.{public_of, hidden_of, image}
 use Rattle.ghost_model.specs.core.Values.{Database}
@@ -18,4 +18,4 @@ pub record IsPrepared (schema : Schema) (database : Database) (asked : Option �
 pub record IsBuilt (told : Bool) (prepared : Prepared) (flash : List ℕ) (device : Device) : Type 0 where
   pub name : device.name ≡ Some flash
   pub pages : device.page_count ≡ 64 * prepared.blocks
-  pub holds : told ≡ true → HoldsFilesSoFar device.page prepared.cat prepared.hidden
+  pub holds : told ≡ true → HoldsFiles device.page prepared.cat prepared.hidden

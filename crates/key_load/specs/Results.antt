@@ -2,7 +2,7 @@
 use Rattle.std.specs.Prelude.{◌≡◌, ◌⊎◌, ℕ, ◌≤◌, ◌<◌, Bool, true, false, List, Option, Some, Result, Ok, Err, ⊤}
 use Rattle.ghost_model.specs.core.Channel.{Catalog}
 use Rattle.ghost_model.specs.core.Database.{IsDatabase, database_of}
-use Rattle.ghost_model.specs.forms.Flash.{HoldsFilesSoFar, HoldsSoFar}
+use Rattle.ghost_model.specs.forms.Flash.{HoldsFiles, Holds}
 use Rattle.ghost_model.specs.forms.Layout.{need}
 use Rattle.ghost_model.specs.core.Schema.{Schema}
 use Rattle.ghost_model.specs.core.Split.{public_of, hidden_of, image}
@@ -65,12 +65,12 @@ pub record Builds (told : Bool) (one : Loading) (after : LoadSide) : Type 0 wher
   pub enough : need (catalog_in one) ≤ pages_in one
   pub name : after.device.name ≡ Some one.words.flash
   pub pages : after.device.page_count ≡ pages_in one
-  pub holds : told ≡ true → HoldsFilesSoFar after.device.page (catalog_in one) (hidden_of one.schema one.database)
+  pub holds : told ≡ true → HoldsFiles after.device.page (catalog_in one) (hidden_of one.schema one.database)
 
 -- both ends' files stand
 pub record Stands (told : Bool) (one : Loading) (before after : LoadSide) : Type 0 where
   pub name : after.device.name ≡ Some one.words.flash
-  pub holds : told ≡ true → HoldsSoFar after.device.page (catalog_in one) (hidden_of one.schema one.database)
+  pub holds : told ≡ true → Holds after.device.page (catalog_in one) (hidden_of one.schema one.database)
   pub pages : after.device.page_count ≡ pages_in one
   pub enough : need (catalog_in one) ≤ pages_in one
   pub file : HasHostFile one before after
@@ -98,7 +98,7 @@ pub record LeavesUnsealed (told : Bool) (one : Loading) (before after : LoadSide
   pub file : 0 < after.device.page_count → after.device.blank 0 ≡ false → HasHostFile one before after
   pub holds :
       0 < after.device.page_count → after.device.blank 0 ≡ false → told ≡ true
-      → HoldsFilesSoFar after.device.page (catalog_in one) (hidden_of one.schema one.database)
+      → HoldsFiles after.device.page (catalog_in one) (hidden_of one.schema one.database)
 
 -- how a loading of tables that were read ended
 abbrev pub EndsLoading : {T : Type 0} → (told : Bool) → Loading → Result T LoadFailure → (before after : LoadSide) → Type 0

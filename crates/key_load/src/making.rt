@@ -2,7 +2,7 @@
 
 ghost use Rattle.std.specs.Prelude.{◌≡◌, ◌⊎◌, ◌<◌, ◌≤◌, ◌*◌, true, false, Some, Err, OnOk, ℕ, List};
 ghost use Rattle.ghost_model.specs.core.Causes.{Rose};
-ghost use Rattle.ghost_model.specs.forms.Flash.{HoldsCatalog, HoldsFilesSoFar, HoldsSoFar};
+ghost use Rattle.ghost_model.specs.forms.Flash.{HoldsCatalog, HoldsFiles, Holds};
 ghost use Rattle.ghost_model.specs.forms.Layout as layout;
 ghost use Rattle.ghost_model.specs.core.Split.{Hidden};
 ghost use Rattle.edge_traits.specs.Devices.{IsErased};
@@ -34,7 +34,7 @@ pub(crate) fn make_both<D: Depot, F: Flash>(
     requires part { IsHidden prepared.now.cat prepared.now.hidden }
     requires enough { layout.need prepared.now.cat ≤ 64 * prepared.now.blocks }
     requires most { prepared.now.blocks ≤ most_blocks }
-    ensures holds { OnOk result (F.told ≡ true → HoldsSoFar (F.state flash.new).page prepared.now.cat prepared.now.hidden) }
+    ensures holds { OnOk result (F.told ≡ true → Holds (F.state flash.new).page prepared.now.cat prepared.now.hidden) }
     ensures named { OnOk result ((F.state flash.new).name ≡ Some words.now.flash.now) }
     ensures never_other { (other : List ℕ) → (F.state flash.new).name ≡ Some other → other ≡ words.now.flash.now }
     ensures pages { OnOk result ((F.state flash.new).page_count ≡ 64 * prepared.now.blocks) }
@@ -43,7 +43,7 @@ pub(crate) fn make_both<D: Depot, F: Flash>(
     ensures unsealed { 0 < (F.state flash.new).page_count → F.told ≡ true → (F.state flash.new).blank 0 ≡ true → SpellsNoCatalog (F.state flash.new).page }
     ensures sealed_last { 0 < (F.state flash.new).page_count → (F.state flash.new).blank 0 ≡ false → D.contents depot.new ≡ with_file (D.contents depot.old) words.now.visible.now prepared.now.image.items }
     ensures page_0 { leaves_page_0 result ≡ true → 0 < (F.state flash.new).page_count → (F.state flash.new).blank 0 ≡ true }
-    ensures files_first { 0 < (F.state flash.new).page_count → (F.state flash.new).blank 0 ≡ false → F.told ≡ true → HoldsFilesSoFar (F.state flash.new).page prepared.now.cat prepared.now.hidden }
+    ensures files_first { 0 < (F.state flash.new).page_count → (F.state flash.new).blank 0 ≡ false → F.told ≡ true → HoldsFiles (F.state flash.new).page prepared.now.cat prepared.now.hidden }
     ensures built_first { (D.contents depot.new ≡ D.contents depot.old) ⊎ IsBuilt F.told prepared.now words.now.flash.now (F.state flash.new) }
     ensures depot_last { result ≡ Err failure.Depot → IsBuilt F.told prepared.now words.now.flash.now (F.state flash.new) }
     ensures flash_file { result ≡ Err failure.Flash → (D.contents depot.new ≡ D.contents depot.old) ⊎ (D.contents depot.new ≡ with_file (D.contents depot.old) words.now.visible.now prepared.now.image.items) }
@@ -83,7 +83,7 @@ fn write_both<D: Depot, F: Flash>(
     requires erased { IsErased F.told 0 layout.public_pages (F.state flash.old) }
     requires unsealed { 0 < (F.state flash.old).page_count → F.told ≡ true → SpellsNoCatalog (F.state flash.old).page }
     ensures catalog { OnOk result (F.told ≡ true → HoldsCatalog (F.state flash.new).page prepared.now.cat) }
-    ensures files { (hidden : Hidden) → HoldsFilesSoFar (F.state flash.old).page prepared.now.cat hidden → HoldsFilesSoFar (F.state flash.new).page prepared.now.cat hidden }
+    ensures files { (hidden : Hidden) → HoldsFiles (F.state flash.old).page prepared.now.cat hidden → HoldsFiles (F.state flash.new).page prepared.now.cat hidden }
     ensures named { (F.state flash.new).name ≡ (F.state flash.old).name }
     ensures pages { (F.state flash.new).page_count ≡ (F.state flash.old).page_count }
     ensures file { OnOk result (D.contents depot.new ≡ with_file (D.contents depot.old) words.now.visible.now prepared.now.image.items) }

@@ -5,14 +5,14 @@ use Rattle.std.proofs.lemmas.Bool.{cases_lt}
 use Rattle.ghost_model.specs.core.Causes.{Rose, last_count}
 use Rattle.ghost_model.specs.core.Channel.{Catalog}
 use Rattle.ghost_model.specs.core.Database.{IsDatabase}
-use Rattle.ghost_model.specs.forms.Flash.{HoldsSoFar}
+use Rattle.ghost_model.specs.forms.Flash.{HoldsFiles, HoldsFilesSoFar, Holds}
 use Rattle.ghost_model.specs.forms.Layout.{need}
 use Rattle.ghost_model.specs.core.Printed.{printed}
 use Rattle.ghost_model.specs.core.Schema.{Schema}
 use Rattle.ghost_model.specs.core.Split.{Hidden, hidden_of}
 use Rattle.ghost_model.specs.core.Texts.{texts_of}
 use Rattle.ghost_model.specs.core.Values.{Database}
-use Rattle.ghost_model.specs.forms.Work.{pages_built}
+use Rattle.flash_build.specs.Building.{load_calls}
 use Rattle.edge_traits.specs.Devices.{Counts, KeepsPages}
 use Rattle.edge_traits.specs.Written.{grown}
 use Rattle.key_inputs.specs.Openings.{Opening}
@@ -48,9 +48,13 @@ gives_since schema database texts failed before middle after faults sink written
 
 -- what was written of a database's hidden part is of the catalog's database
 pub part_stands : (page : ℕ → List ℕ) (catalog : Catalog) (schema : Schema) (database : Database) (hidden : Hidden) → catalog ≡ catalog_for schema database → hidden ≡ hidden_of schema database
-    → HoldsSoFar page catalog hidden → HoldsSoFar page catalog (hidden_of catalog.schema database)
+    → Holds page catalog hidden → Holds page catalog (hidden_of catalog.schema database)
 part_stands page catalog schema database hidden same is holds =
-    subst (HoldsSoFar page catalog) (is ∙ sym (ap (λ (c : Catalog). hidden_of c.schema database) same)) holds
+    subst (Holds page catalog) (is ∙ sym (ap (λ (c : Catalog). hidden_of c.schema database) same)) holds
+
+-- column files and subtree key tables are among all files
+pub so_far : {page : ℕ → List ℕ} {catalog : Catalog} {hidden : Hidden} → HoldsFiles page catalog hidden → HoldsFilesSoFar page catalog hidden
+so_far holds = record { columns = holds.columns; subtrees = holds.subtrees }
 
 -- a call after those that were counted
 rose_after : (before more now later : ℕ) → Counts more before now → Rose now later → Rose (before + more) later
@@ -65,8 +69,8 @@ pub ran_of : (told : Bool) (schema : Schema) (database : Database) (texts : List
     → catalog ≡ catalog_for schema database → RanOver told catalog database texts words.journal end middle after
     → middle.device.faults ≡ before.device.faults → middle.append_faults ≡ before.append_faults → middle.sink_faults ≡ before.sink_faults → middle.written ≡ before.written
     → HasLines middle.files words.journal []
-    → middle.device.name ≡ Some words.flash → Counts (pages_built catalog (hidden_of schema database)) before.device.calls middle.device.calls
-    → (told ≡ true → HoldsSoFar middle.device.page catalog (hidden_of schema database))
+    → middle.device.name ≡ Some words.flash → Counts (load_calls catalog (hidden_of schema database)) before.device.calls middle.device.calls
+    → (told ≡ true → Holds middle.device.page catalog (hidden_of schema database))
     → middle.device.page_count ≡ need catalog → KeepsPages middle.device after.device
     → Ran told (subject schema database texts words) end before after
 ran_of told schema database texts words end catalog before middle after same ran faults appends sink written empty named counts there pages kept =
@@ -82,15 +86,15 @@ ran_of told schema database texts words end catalog before middle after same ran
       printed_all = λ t whole. mine.printed_all t whole ∙ ap (λ (held : Option (List ℕ)). grown held (printed schema texts database)) written;
       cut = λ t is. mine.cut t is;
       more_calls = λ is.
-          let built = subst (λ (c : Catalog). Counts (pages_built c (hidden_of schema database)) before.device.calls middle.device.calls) same counts in
-          rose_after before.device.calls (pages_built (catalog_for schema database) (hidden_of schema database)) middle.device.calls after.device.calls built (mine.called is);
+          let built = subst (λ (c : Catalog). Counts (load_calls c (hidden_of schema database)) before.device.calls middle.device.calls) same counts in
+          rose_after before.device.calls (load_calls (catalog_for schema database) (hidden_of schema database)) middle.device.calls after.device.calls built (mine.called is);
       damage_called = λ is.
-          let built = subst (λ (c : Catalog). Counts (pages_built c (hidden_of schema database)) before.device.calls middle.device.calls) same counts in
-          rose_after before.device.calls (pages_built (catalog_for schema database) (hidden_of schema database)) middle.device.calls after.device.calls built (mine.damage_called is);
+          let built = subst (λ (c : Catalog). Counts (load_calls c (hidden_of schema database)) before.device.calls middle.device.calls) same counts in
+          rose_after before.device.calls (load_calls (catalog_for schema database) (hidden_of schema database)) middle.device.calls after.device.calls built (mine.damage_called is);
       undamaged = mine.undamaged;
       damaged = mine.damaged;
-      holds = λ t. subst (λ (page : ℕ → List ℕ). HoldsSoFar page (catalog_for schema database) (hidden_of schema database)) (sym kept.page)
-          (subst (λ (c : Catalog). HoldsSoFar middle.device.page c (hidden_of schema database)) same (there t));
+      holds = λ t. subst (λ (page : ℕ → List ℕ). Holds page (catalog_for schema database) (hidden_of schema database)) (sym kept.page)
+          (subst (λ (c : Catalog). Holds middle.device.page c (hidden_of schema database)) same (there t));
       name = kept.name ∙ named;
       pages = kept.page_count ∙ (pages ∙ ap need same);
     }
@@ -98,27 +102,27 @@ ran_of told schema database texts words end catalog before middle after same ran
 -- what was made for the session
 pub made_of : (told : Bool) (schema : Schema) (database : Database) (texts : List (List ℕ)) (words : Local) (catalog : Catalog) (hidden : Hidden) (after : LocalSide)
     → catalog ≡ catalog_for schema database → hidden ≡ hidden_of schema database → after.device.name ≡ Some words.flash
-    → (told ≡ true → HoldsSoFar after.device.page catalog hidden)
+    → (told ≡ true → Holds after.device.page catalog hidden)
     → after.device.page_count ≡ need catalog → IsMade told (subject schema database texts words) after
 made_of told schema database texts words catalog hidden after same is named there pages = record {
   name = named;
-  holds = λ t. subst (HoldsSoFar after.device.page (catalog_for schema database)) is
-      (subst (λ (c : Catalog). HoldsSoFar after.device.page c hidden) same (there t));
+  holds = λ t. subst (Holds after.device.page (catalog_for schema database)) is
+      (subst (λ (c : Catalog). Holds after.device.page c hidden) same (there t));
   pages = pages ∙ ap need same;
 }
 
 -- the making failed
 pub unmade : (told : Bool) (schema : Schema) (database : Database) (texts : List (List ℕ)) (words : Local) (catalog : Catalog) (hidden : Hidden) (before after : LocalSide) (fault : LocalFailure)
     → catalog ≡ catalog_for schema database → hidden ≡ hidden_of schema database → IsOfMaking {T = Unit {0}} (Err fault)
-    → after.device.calls ≤ before.device.calls + pages_built catalog hidden
+    → after.device.calls ≤ before.device.calls + load_calls catalog hidden
     → EndsLocal told (subject schema database texts words) (Err fault) before after
 unmade told schema database texts words catalog hidden before after failure.NoMemory same is of few = tt
 unmade told schema database texts words catalog hidden before after failure.Depot same is of few = absurd of
 unmade told schema database texts words catalog hidden before after (failure.Input broken) same is of few = of
 unmade told schema database texts words catalog hidden before after failure.Flash same is of few =
     record {
-      few_calls = subst (λ (part : Hidden). after.device.calls ≤ before.device.calls + pages_built (catalog_for schema database) part) is
-          (subst (λ (c : Catalog). after.device.calls ≤ before.device.calls + pages_built c hidden) same few);
+      few_calls = subst (λ (part : Hidden). after.device.calls ≤ before.device.calls + load_calls (catalog_for schema database) part) is
+          (subst (λ (c : Catalog). after.device.calls ≤ before.device.calls + load_calls c hidden) same few);
     }
 
 abbrev inputs_of : Opened → (files : List (List ℕ)) → PlainInput

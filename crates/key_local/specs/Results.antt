@@ -1,13 +1,13 @@
 -- What a call of `local` did, by its result.
 use Rattle.std.specs.Prelude.{◌≡◌, ◌⊎◌, ℕ, ◌+◌, ◌≤◌, Bool, true, false, not, List, Some, Result, Ok, Err, ⊤}
 use Rattle.ghost_model.specs.core.Database.{IsDatabase, database_of}
-use Rattle.ghost_model.specs.forms.Flash.{HoldsSoFar}
+use Rattle.ghost_model.specs.forms.Flash.{Holds}
 use Rattle.ghost_model.specs.forms.Layout.{need}
 use Rattle.ghost_model.specs.core.Schema.{Schema}
 use Rattle.ghost_model.specs.core.Split.{hidden_of}
 use Rattle.ghost_model.specs.core.Texts.{texts_of}
 use Rattle.ghost_model.specs.core.Values.{Database}
-use Rattle.ghost_model.specs.forms.Work.{pages_built}
+use Rattle.flash_build.specs.Building.{load_calls}
 use Rattle.key_inputs.specs.Openings.{Opening, Spelled, Broken}
 use Rattle.key_inputs.specs.Views.{rule_of}
 use Rattle.key_words.specs.Words.{Local}
@@ -21,12 +21,12 @@ use Rattle.key_local.specs.declared.ends.LocalFailure.TheVariants as failure
 -- where the flash failed while it was made: its calls have risen by no more than those of a whole making, one for the
 -- device and one for each page that is written
 pub record IsUnmade (one : Subject) (before after : LocalSide) : Type 0 where
-  pub few_calls : after.device.calls ≤ before.device.calls + pages_built (catalog_in one) (hidden_of one.schema one.database)
+  pub few_calls : after.device.calls ≤ before.device.calls + load_calls (catalog_in one) (hidden_of one.schema one.database)
 
 -- the flash was made, and holds the hidden part
 pub record IsMade (told : Bool) (one : Subject) (after : LocalSide) : Type 0 where
   pub name : after.device.name ≡ Some one.words.flash
-  pub holds : told ≡ true → HoldsSoFar after.device.page (catalog_in one) (hidden_of one.schema one.database)
+  pub holds : told ≡ true → Holds after.device.page (catalog_in one) (hidden_of one.schema one.database)
   pub pages : after.device.page_count ≡ need (catalog_in one)
 
 -- flash and files are as before

@@ -5,7 +5,7 @@ use Rattle.std.specs.List.{list_any}
 use Rattle.ghost_model.specs.core.Causes.{Rose}
 use Rattle.ghost_model.specs.core.Channel.{Catalog, Journal}
 use Rattle.ghost_model.specs.core.Database.{row_counts}
-use Rattle.ghost_model.specs.forms.Flash.{HoldsSoFar}
+use Rattle.ghost_model.specs.forms.Flash.{Holds}
 use Rattle.ghost_model.specs.forms.Layout.{need}
 use Rattle.ghost_model.specs.core.Moves.{lines}
 use Rattle.ghost_model.specs.core.NextMove.{IsFinished}
@@ -13,7 +13,7 @@ use Rattle.ghost_model.specs.core.Printed.{printed}
 use Rattle.ghost_model.specs.core.Schema.{Schema}
 use Rattle.ghost_model.specs.core.Split.{hidden_of}
 use Rattle.ghost_model.specs.core.Values.{Database}
-use Rattle.ghost_model.specs.forms.Work.{pages_built}
+use Rattle.flash_build.specs.Building.{load_calls}
 use Rattle.session_laws.specs.Local.{IsLocal}
 use Rattle.edge_traits.specs.Devices.{Device}
 use Rattle.edge_traits.specs.Files.{Files, HasFile, SameBut}
@@ -99,13 +99,13 @@ pub record Ran (told : Bool) (one : Subject) (end : LocalEnd) (before after : Lo
   -- the flash is blamed only where it failed a text
   pub cut : (t : told ≡ true) → end ≡ ends.Flash → list_any is_cut (gives t).given ≡ true
   -- and by a call of the session, after those of the making
-  pub more_calls : end ≡ ends.Flash → Rose (before.device.calls + pages_built (catalog_in one) (hidden_of one.schema one.database)) after.device.calls
+  pub more_calls : end ≡ ends.Flash → Rose (before.device.calls + load_calls (catalog_in one) (hidden_of one.schema one.database)) after.device.calls
   -- and a slot only by a call of the session, and where it is one of a hidden column and has no value of it, so where the
   -- pages are told none is
-  pub damage_called : is_damaged end ≡ true → Rose (before.device.calls + pages_built (catalog_in one) (hidden_of one.schema one.database)) after.device.calls
+  pub damage_called : is_damaged end ≡ true → Rose (before.device.calls + load_calls (catalog_in one) (hidden_of one.schema one.database)) after.device.calls
   pub undamaged : told ≡ true → is_damaged end ≡ false
   pub damaged : (damage : Damage) → end ≡ ends.Damaged damage → IsDamaged told after.device.page (catalog_in one) damage.page damage.slot damage.found
   -- and the flash has been made for it, under the name that the words say
   pub name : after.device.name ≡ Some one.words.flash
-  pub holds : told ≡ true → HoldsSoFar after.device.page (catalog_in one) (hidden_of one.schema one.database)
+  pub holds : told ≡ true → Holds after.device.page (catalog_in one) (hidden_of one.schema one.database)
   pub pages : after.device.page_count ≡ need (catalog_in one)

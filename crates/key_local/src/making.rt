@@ -2,9 +2,9 @@
 
 ghost use Rattle.std.specs.Prelude.{◌≡◌, ◌≤◌, ◌<◌, ◌+◌, ◌^◌, [], true, Some, Err, OnOk, option_map, ℕ, List};
 ghost use Rattle.ghost_model.specs.core.Causes.{HasCause, Rose};
-ghost use Rattle.ghost_model.specs.forms.Flash.{HoldsSoFar};
+ghost use Rattle.ghost_model.specs.forms.Flash.{Holds};
 ghost use Rattle.ghost_model.specs.forms.Layout as layout;
-ghost use Rattle.ghost_model.specs.forms.Work as work;
+ghost use Rattle.flash_build.specs.Building.{load_calls};
 ghost use Rattle.ghost_model.specs.forms.Flash.{IsHidden};
 ghost use Rattle.edge_traits.specs.Devices.{Counts};
 ghost use Rattle.key_local.specs.Making.{IsOfMaking};
@@ -30,13 +30,13 @@ pub(crate) fn make_flash<F: Flash>(
     name: &str,
 ) -> Result<(), LocalFailure>
     requires part { IsHidden cat.now hidden }
-    ensures holds { OnOk result (F.told ≡ true → HoldsSoFar (F.state flash.new).page cat.now hidden) }
+    ensures holds { OnOk result (F.told ≡ true → Holds (F.state flash.new).page cat.now hidden) }
     ensures pages { OnOk result ((F.state flash.new).page_count ≡ layout.need cat.now) }
     ensures named { OnOk result ((F.state flash.new).name ≡ Some name.now) }
     ensures never_other { (other : List ℕ) → (F.state flash.new).name ≡ Some other → other ≡ name.now }
-    ensures exact { OnOk result (Counts (work.pages_built cat.now hidden) (F.state flash.old).calls (F.state flash.new).calls) }
+    ensures exact { OnOk result (Counts (load_calls cat.now hidden) (F.state flash.old).calls (F.state flash.new).calls) }
     ensures small { layout.need cat.now < 2 ^ 32 }
-    ensures few_calls { (F.state flash.new).calls ≤ (F.state flash.old).calls + work.pages_built cat.now hidden }
+    ensures few_calls { (F.state flash.new).calls ≤ (F.state flash.old).calls + load_calls cat.now hidden }
     ensures kinds { IsOfMaking result }
     ensures flash { result ≡ Err failure.Flash → Rose (F.state flash.old).faults (F.state flash.new).faults }
     ensures no_flash { (result ≡ Err failure.Flash → ⊥) → (F.state flash.new).faults ≡ (F.state flash.old).faults }

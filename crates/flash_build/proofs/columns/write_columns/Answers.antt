@@ -8,17 +8,17 @@ use Rattle.flash_build.proofs.columns.write_columns.Goals as goal
 
 pub write_column-requires-clause-can : goal.write_column-requires-clause-can
 write_column-requires-clause-can g c =
-    can_fill_column c.args.cat.now c.args.table c.loop-column.column
-    (omega (arith, c.loop-column-test.true, c.columns-column-end.ensures, ap (λ s. layout.column_count s c.args.table) c.schema.ensures.value)) c.requires.can c.loop-column.invariant.wrote.others
+    can_fill_column c.args.laid.now c.args.table c.loop-column.column
+    (omega (arith, c.loop-column-test.true, c.columns-column-end.ensures.count)) c.requires.can c.loop-column.invariant.wrote.others
 
 pub returns-in_err-write_column-clause-wrote : goal.returns-in_err-write_column-clause-wrote
 returns-in_err-write_column-clause-wrote g c =
-    let cat = c.args.cat.now in
+    let cat = c.args.laid.now in
     let column = c.loop-column.column in
     let same : c.from_residual.result ≡ Err c.in_err-write_column.field-0.0 = search rules in
     let ends =
     column_ends cat c.args.table column (layout.column_count cat.schema c.args.table)
-    (omega (arith, c.loop-column-test.true, c.columns-column-end.ensures, ap (λ s. layout.column_count s c.args.table) c.schema.ensures.value)) in
+    (omega (arith, c.loop-column-test.true, c.columns-column-end.ensures.count)) in
     let step = wrote_after (Err c.in_err-write_column.field-0.0) (omega arith) (omega arith) c.loop-column.invariant.wrote c.in_err-write_column.ensures.wrote in
     subst (λ r. Wrote (sums.table_begin cat c.args.table) (sums.subtree_begin cat c.args.table) (layout.columns_pages cat c.args.table)
     (g.F.Flash.state c.args.flash.now) (g.F.Flash.state c.write_column.new.flash) r) (sym same)
@@ -26,13 +26,13 @@ returns-in_err-write_column-clause-wrote g c =
 
 pub loop-column-preserved : goal.loop-column-preserved
 loop-column-preserved g c =
-    let cat = c.args.cat.now in
+    let cat = c.args.laid.now in
     let column = c.loop-column.column in
     let was = c.loop-column.invariant in
     let step = c.in_ok-write_column.ensures in
-    let next = c.a_catalog_has_a_layout.ensures.layout.order.next_column c.args.table column in
+    let next = c.layout_laws.ensures.layout.order.next_column c.args.table column in
     record {
-      stores = columns_more cat c.args.hidden.now c.args.table column c.a_catalog_has_a_layout.ensures.layout.tree was.stores step.wrote.others step.stores;
+      stores = columns_more cat c.args.hidden.now c.args.table column c.layout_laws.ensures.layout.tree was.stores step.wrote.others step.stores;
       wrote =
           written_as refl (omega (arith, next)) (sym next)
           (written_more (omega arith) (omega arith) was.wrote (written step.wrote));
@@ -40,6 +40,6 @@ loop-column-preserved g c =
 
 pub returns-clause-stores : goal.returns-clause-stores
 returns-clause-stores g c = λ told column h.
-    let there = c.a_catalog_has_a_layout.ensures.layout.order.there_are c.args.table column h in
+    let there = c.layout_laws.ensures.layout.order.there_are c.args.table column h in
     c.loop-column.invariant.stores told column
-    (omega (arith, there.1, c.columns-column-end.ensures, ap (λ s. layout.column_count s c.args.table) c.schema.ensures.value, c.loop-column.auto.column-end, c.loop-column-test.false)) h
+    (omega (arith, there.1, c.columns-column-end.ensures.count, c.loop-column.auto.column-end, c.loop-column-test.false)) h

@@ -3,4 +3,4 @@ use Rattle.flash_build.proofs.columns.write_columns.Given as goal
 
 abbrev pub invariant-loop-column : goal.invariant-loop-column
 invariant-loop-column g l =
-    ColumnsWritten g.F.Flash.told l.fn.cat l.fn.hidden l.fn.table (g.F.Flash.state l.fn.flash) (g.F.Flash.state l.flash) l.column
+    ColumnsWritten g.F.Flash.told l.fn.laid l.fn.hidden l.fn.table (g.F.Flash.state l.fn.flash) (g.F.Flash.state l.flash) l.column

@@ -10,7 +10,7 @@ returns-in_err-write_later_pages-clause-unsealed g c = λ told blank.
 pub returns-in_err-write_later_pages-clause-files : goal.returns-in_err-write_later_pages-clause-files
 returns-in_err-write_later_pages-clause-files g c = λ hidden holds.
     let later = c.write_later_pages.ensures in
-    c.holdings_are_kept.ensures.files_so_far (g.F.Flash.state c.args.flash.now).page (g.F.Flash.state c.write_later_pages.new.flash).page
+    c.holdings_are_kept.ensures.files (g.F.Flash.state c.args.flash.now).page (g.F.Flash.state c.write_later_pages.new.flash).page
     c.args.cat.now hidden c.a_catalog_has_a_layout.ensures.layout.tree
     (λ at from before. (later.others.above at (omega (arith, later.few, from))).bytes) holds
 
@@ -21,7 +21,7 @@ returns-clause-holds g c =
 pub returns-clause-files : goal.returns-clause-files
 returns-clause-files g c = λ hidden holds.
     let later = c.write_later_pages.ensures in
-    c.holdings_are_kept.ensures.files_so_far (g.F.Flash.state c.args.flash.now).page (g.F.Flash.state c.write_catalog_page.new.flash).page
+    c.holdings_are_kept.ensures.files (g.F.Flash.state c.args.flash.now).page (g.F.Flash.state c.write_catalog_page.new.flash).page
     c.args.cat.now hidden c.a_catalog_has_a_layout.ensures.layout.tree
     (λ at from before.
     (c.write_catalog_page.ensures.others.above at (omega (arith, from))).bytes ∙ (later.others.above at (omega (arith, later.few, from))).bytes) holds

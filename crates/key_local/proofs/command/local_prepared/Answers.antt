@@ -1,12 +1,12 @@
 use Rattle.std.proofs.Common.{ℕ, List, refl, sym, ◌∙◌, subst}
-use Rattle.ghost_model.specs.forms.Flash.{HoldsSoFar}
+use Rattle.ghost_model.specs.forms.Flash.{Holds}
 use Rattle.ghost_model.specs.core.Split.{Hidden}
-use Rattle.ghost_model.specs.forms.Work.{pages_built}
+use Rattle.flash_build.specs.Building.{load_calls}
 use Rattle.edge_traits.specs.Devices.{Counts}
 use Rattle.ghost_model.specs.core.Texts.{texts_of}
 use Rattle.key_words.specs.Views.{local_view}
 use Rattle.key_local.specs.Sessions.{local_side}
-use Rattle.key_local.proofs.Endings.{part_stands, made_of, ran_of}
+use Rattle.key_local.proofs.Endings.{part_stands, so_far, made_of, ran_of}
 use Rattle.key_local.proofs.Keeping.{besides_joined}
 use Rattle.key_local.proofs.command.local_prepared.Goals as goal
 
@@ -19,10 +19,10 @@ returns-clause-ends g c = λ schema database same hidden stored hosted.
     (local_side (g.F.Flash.state c.args.flash.now) (g.D.Depot.contents c.args.depot.now) (g.D.Depot.append_faults c.args.depot.now) (g.O.Sink.faults c.args.out.now) (g.O.Sink.written c.args.out.now))
     (local_side (g.F.Flash.state c.make_flash.new.flash) (g.D.Depot.contents c.begin_journal.new.depot) (g.D.Depot.append_faults c.begin_journal.new.depot) (g.O.Sink.faults c.args.out.now) (g.O.Sink.written c.args.out.now))
     _ same
-    (c.run.ensures.ran database stored hosted (λ t. (part_stands page cat schema database c.args.prepared.hidden same hidden (made.holds t)).files))
+    (c.run.ensures.ran database stored hosted (λ t. so_far (part_stands page cat schema database c.args.prepared.hidden same hidden (made.holds t)).files))
     (made.no_flash (λ e. let bad : ⊥ = cc in bad)) c.begin_journal.ensures.appends refl refl c.in-Ok-begin_journal.ensures.begun made.named
-    (subst (λ (part : Hidden). Counts (pages_built cat part) (g.F.Flash.state c.args.flash.now).calls (g.F.Flash.state c.make_flash.new.flash).calls) hidden made.exact)
-    (λ t. subst (HoldsSoFar page cat) hidden (made.holds t)) made.pages c.run.ensures.pages
+    (subst (λ (part : Hidden). Counts (load_calls cat part) (g.F.Flash.state c.args.flash.now).calls (g.F.Flash.state c.make_flash.new.flash).calls) hidden made.exact)
+    (λ t. subst (Holds page cat) hidden (made.holds t)) made.pages c.run.ensures.pages
 
 pub returns-clause-others : goal.returns-clause-others
 returns-clause-others g c = besides_joined _ _ _ _ c.begin_journal.ensures.others c.run.ensures.others
