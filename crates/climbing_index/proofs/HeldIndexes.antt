@@ -1,12 +1,12 @@
 -- A search over an index that pages hold finds by the column's values.
-use Rattle.std.proofs.Common.{◌≡◌, refl, sym, ap, ◌∙◌, ℕ, suc, ◌+◌, ◌<◌, Bool, true, ◌&&◌, nat_le, inl, inr, List, [], ◌∷◌, length, take, drop, get_or, Option, Some, None, slice_get, is_some, arith}
+use Rattle.std.proofs.Common.{◌≡◌, refl, sym, ap, ◌∙◌, ℕ, suc, ◌^◌, ◌<◌, ◌≤◌, Bool, true, false, ◌&&◌, nat_le, inl, inr, List, [], ◌∷◌, length, take, drop, get_or, Option, Some, None, slice_get, is_some, arith}
+use Rattle.std.specs.Prelude.{if◌then◌else◌}
 use Rattle.std.specs.Option.{option_map}
 use Rattle.std.specs.Cmp.Lexicographic.{slice_cmp}
 use Rattle.std.specs.Ordering.{nat_cmp}
 use Rattle.std.proofs.Math.Seq.{take-append_seam}
 use Rattle.std.proofs.lemmas.Map.Keys.{Less-from_sorted}
 use Rattle.std.proofs.lemmas.List.Elements.{Contains-get_or}
-use Rattle.std.proofs.lemmas.List.FromFn.{get_or-map-range_with_len}
 use Rattle.std.proofs.lemmas.Option.{slice_get-get_or}
 use Rattle.ghost_model.specs.core.Schema as schema
 use Rattle.ghost_model.specs.core.Channel.{Catalog}
@@ -17,7 +17,7 @@ use Rattle.ghost_model.specs.laws.LayoutLaws.{LieAsSummed, AreFew, LayoutIsSmall
 use Rattle.ghost_model.specs.laws.FlashLaws.{CellsFit, HiddenCellsFit}
 use Rattle.ghost_model.specs.laws.RunLaws.{NumbersAreRead}
 use Rattle.ghost_model.specs.forms.Runs.{record_at, number_in}
-use Rattle.ghost_model.specs.forms.Layout.{is_hidden, width_at, count_of, levels_of, index_directory, index_level}
+use Rattle.ghost_model.specs.forms.Layout.{is_hidden, width_at, count_of, levels_of, above_of, index_directory, index_level, id_level}
 use Rattle.ghost_model.specs.forms.Flash.{hidden_cells, directory_record, value_lists}
 use Rattle.ghost_model.specs.forms.Slots as slots
 use Rattle.ghost_base.specs.Views.{kind_of}
@@ -25,23 +25,25 @@ use Rattle.ghost_base.specs.declared.kind.Kind.{Kind}
 use Rattle.climbing_index.specs.declared.directory.LevelFile.{LevelFile}
 use Rattle.climbing_index.specs.declared.index.ClimbingIndex.{ClimbingIndex}
 use Rattle.climbing_index.specs.Directories.{spells, are_places, entry_stands}
-use Rattle.climbing_index.specs.Indexes.{IsIndexOf}
-use Rattle.climbing_index.specs.Searches.{header_stands}
-use Rattle.climbing_index.specs.Laws.{HoldsEntriesBut, HeldIndexesHaveEntries, IsOfValues, SearchesFindByValues}
+use Rattle.climbing_index.specs.declared.index.IdIndex.{IdIndex}
+use Rattle.climbing_index.specs.Indexes.{IsIndexOf, IsIdIndexOf}
+use Rattle.climbing_index.specs.Searches.{HasIndex, entries_told, header_bytes, header_count, header_stands, rows_of}
+use Rattle.climbing_index.specs.Holding.{HoldsIndexBut}
+use Rattle.climbing_index.specs.Laws.{IsOfValues, SearchesFindByValues}
 use Rattle.climbing_index.proofs.LevelFiles.{how_many, at_level, its_level}
 
-pub have_entries : HeldIndexesHaveEntries
-unfolding record_at
-have_entries page cat hidden table column holds few = record {
-  are_values = holds.are_values;
-  few = few;
-  header = inl (holds.header.has.each 0 (omega arith));
-  entries = λ entry low.
-      let e : 0 + entry ≡ entry = omega arith in
-      inl
-      (holds.entries.places.has.each entry low
-      ∙ get_or-map-range_with_len (directory_record holds.values (levels_of cat.schema table) (value_lists cat hidden table column holds.values)) 0 (length holds.values) entry entry [] low e);
-}
+-- so few entries are told
+told_few : (page : ℕ → List ℕ) (index : ClimbingIndex) (cells : List (List ℕ)) → HasIndex page index cells → (k : ℕ) → length cells < 2 ^ k
+    → entries_told page index < 2 ^ k
+told_few page index cells has k few =
+    elim has.header [
+      | inl same ↦ (let most = at_most (header_stands (rows_of index) (header_bytes page index)) (header_count page index) in omega (arith, same, most, few))
+      | inr wrong ↦ (let none : entries_told page index ≡ 0 = ap (λ b. if b then header_count page index else 0) wrong in omega (arith, none, few))
+    ]
+  where
+    at_most : (b : Bool) (n : ℕ) → (if b then n else 0) ≤ n
+    at_most true n = omega arith
+    at_most false n = omega arith
 
 -- the words of an index are those of the layout's slots
 abbrev by_kind : Option schema.Kind → List ℕ → Bool
@@ -64,6 +66,20 @@ same_places cat (level ∷ levels) (table ∷ tables) size counts bytes =
     ap (λ n. nat_le (slots.list_end bytes) n && are_places levels (drop 8 bytes)) here
     ∙ ap (λ b. nat_le (slots.list_end bytes) (count_of cat table) && b) rest
 
+-- and those of an id index
+pub same_id_entry : (cat : Catalog) → LieAsSummed cat → (table : ℕ) → table < length cat.schema → (index : IdIndex) → IsIdIndexOf cat table index
+    → (bytes : List ℕ) → entry_stands index.directory bytes ≡ slots.may_stand cat (slots.IdDirectory table) bytes
+same_id_entry cat laid table there index is bytes =
+    let levels = index.directory.levels.items in
+    let count = length (above_of cat.schema table) in
+    let size = how_many (id_level cat table) count levels is.levels_are in
+    let places = same_places cat levels (above_of cat.schema table) size
+    (λ level one at.
+    let low = its_level (id_level cat table) count levels is.levels_are level one at in
+    ap (λ r. r.count) (at_level (id_level cat table) count levels is.levels_are level one at ∙ laid.id_level table level there low)) in
+    ap (λ n. spells index.directory.kind (take n bytes) && are_places levels (drop n bytes)) is.cell_is
+    ∙ (ap (λ k. spells k (take 0 bytes) && are_places levels (drop 0 bytes)) is.kind_is ∙ places bytes)
+
 module _ (cat : Catalog) (laid : LieAsSummed cat) (table column : ℕ) (hidden_is : is_hidden cat.schema table column ≡ true)
     (index : ClimbingIndex) (is : IsIndexOf cat table column index) where
   pub same_entry : (bytes : List ℕ) → entry_stands index.directory bytes ≡ slots.may_stand cat (slots.IndexDirectory table column) bytes
@@ -83,8 +99,8 @@ module _ (cat : Catalog) (laid : LieAsSummed cat) (table column : ℕ) (hidden_i
       (places (drop (width_at cat.schema table column) bytes)))
 
   module _ (page : ℕ → List ℕ) (hidden : Hidden) (few : AreFew cat) (fit : CellsFit cat hidden) (read : NumbersAreRead) (values : List (List ℕ))
-      (holds : HoldsEntriesBut page cat hidden table column values) where
-    value_width : (entry : ℕ) → entry < length values → length (get_or values entry []) ≡ width_at cat.schema table column
+      (holds : HoldsIndexBut page cat hidden table column values) where
+    pub value_width : (entry : ℕ) → entry < length values → length (get_or values entry []) ≡ width_at cat.schema table column
     value_width entry low =
         let value = get_or values entry [] in
         let cells = hidden_cells cat.schema hidden table column in
@@ -96,22 +112,24 @@ module _ (cat : Catalog) (laid : LieAsSummed cat) (table column : ℕ) (hidden_i
         let rows = few.rows table in
         let size = holds.few in
         let w = width_at cat.schema table column in
+        let has : HasIndex page index values = record {
+          header = elim holds.header [
+            | inl e ↦ inl (ap (λ r. number_in (record_at page r 0) 0) is.header_is ∙ (ap (λ b. number_in b 0) e ∙ read (length values) (omega (arith, rows, size))))
+            | inr wrong ↦ inr ((λ i. header_stands (is.run_is i).count (record_at page (is.header_is i) 0)) ∙ wrong)
+          ];
+          entries = λ entry low.
+              elim (holds.entries entry low) [
+                | inl e ↦ inl ((λ i. take (is.cell_is i) (record_at page (is.run_is i) entry))
+                    ∙ (ap (take w) e
+                    ∙ (ap (λ n. take n (directory_record values (levels_of cat.schema table) (value_lists cat hidden table column values) entry)) (sym (value_width entry low))
+                    ∙ take-append_seam (get_or values entry []) _)))
+                | inr wrong ↦ inr (ap (λ r. entry_stands index.directory (record_at page r entry)) is.run_is
+                    ∙ (same_entry (record_at page (index_directory cat table column) entry) ∙ wrong))
+              ];
+        } in
         record {
-          has = record {
-            header = elim holds.header [
-              | inl e ↦ inl (ap (λ r. number_in (record_at page r 0) 0) is.header_is ∙ (ap (λ b. number_in b 0) e ∙ read (length values) (omega (arith, rows, size))))
-              | inr wrong ↦ inr ((λ i. header_stands (is.run_is i).count (record_at page (is.header_is i) 0)) ∙ wrong)
-            ];
-            entries = λ entry low.
-                elim (holds.entries entry low) [
-                  | inl e ↦ inl ((λ i. take (is.cell_is i) (record_at page (is.run_is i) entry))
-                      ∙ (ap (take w) e
-                      ∙ (ap (λ n. take n (directory_record values (levels_of cat.schema table) (value_lists cat hidden table column values) entry)) (sym (value_width entry low))
-                      ∙ take-append_seam (get_or values entry []) _)))
-                  | inr wrong ↦ inr (ap (λ r. entry_stands index.directory (record_at page r entry)) is.run_is
-                      ∙ (same_entry (record_at page (index_directory cat table column) entry) ∙ wrong))
-                ];
-          };
+          has = has;
+          few = λ k low. told_few page index values has k low;
           ascend = λ entry later less low. Less-from_sorted (slice_cmp nat_cmp) values entry later [] holds.are_values.ascending less low;
         }
 

@@ -3,8 +3,12 @@ pub mod LevelFiles
 pub mod ReadableFiles
 pub mod Narrowing
 pub mod Frames
+pub mod Pages
 pub mod Between
 pub mod Finding
+pub mod ListPlaces
+pub mod WholeIndexes
 pub mod HeldIndexes
+pub mod ListedValues
 pub mod Cuts
 pub mod BlamedSlots

@@ -83,6 +83,11 @@ abbrev pub BlamesRecord : (since : ℕ) → Device → runs.Run → (List ℕ �
 BlamesRecord since device run stands place Flash = ⊤
 BlamesRecord since device run stands place (Damaged number slot found) = BlamesSlot since device run stands place number slot found
 
+-- the slot that is blamed is one of that page
+abbrev pub BlamesPage : (page : ℕ) → PageFault → Type 0
+BlamesPage page Flash = ⊤
+BlamesPage page (Damaged number slot found) = number ≡ page
+
 -- what a call gives, by the bytes of the pages
 abbrev pub GivesEntry : (ℕ → List ℕ) → Directory → (entry : ℕ) (bytes : List ℕ) → Result Unit PageFault → Type 0
 GivesEntry page directory entry bytes (Ok _) = bytes ≡ entry_bytes page directory entry

@@ -1,51 +1,157 @@
--- Laws of indexes: where pages hold a column's index, a search finds by the column's values.
-use Rattle.std.specs.Prelude.{◌≡◌, ◌⊎◌, ℕ, ◌<◌, ◌≤◌, true, false, List, length}
+-- Laws of indexes: what pages that hold an index have in its slots, that searches find by the column's values, that lists
+-- are those of values and identifiers, and that a slot that is blamed is a damaged one.
+use Rattle.std.specs.Prelude.{◌≡◌, ℕ, ◌+◌, ◌^◌, ◌<◌, true, false, List, [], length, get_or, slice_get, slice_index, Some, option_map}
+use Rattle.ghost_model.specs.core.Schema.{is_empty}
+use Rattle.ghost_model.specs.core.Values.{Database}
+use Rattle.ghost_model.specs.core.Database.{IsDatabase, row_counts}
 use Rattle.ghost_model.specs.core.Channel.{Catalog}
-use Rattle.ghost_model.specs.core.Split.{Hidden}
+use Rattle.ghost_model.specs.core.Split.{Hidden, hidden_of}
 use Rattle.ghost_model.specs.laws.LayoutLaws.{IsLimited}
-use Rattle.ghost_model.specs.forms.Layout.{is_hidden, count_of, index_header, index_directory, levels_of}
-use Rattle.ghost_model.specs.forms.Runs.{record_at, number_cell}
-use Rattle.ghost_model.specs.forms.Flash.{GoesWith, HoldsIndex, AreValues, hidden_cells, directory_record, value_lists}
-use Rattle.ghost_model.specs.forms.Slots.{IndexHeader, IndexDirectory, may_stand, IsDamagedSlot}
+use Rattle.ghost_model.specs.forms.Layout.{is_hidden, count_of, levels_of, above_of}
+use Rattle.ghost_model.specs.forms.Runs.{id_at, ids_from}
+use Rattle.ghost_model.specs.forms.Flash.{GoesWith, HoldsIndex, HoldsIdIndexes}
+use Rattle.ghost_model.specs.forms.Slots.{IsDamagedSlot, is_row}
+use Rattle.ghost_base.specs.Runs.{run_of}
+use Rattle.ghost_base.specs.declared.runs.ListRef.{ListRef}
 use Rattle.flash_pages.specs.declared.fault.PageFault.TheVariants.{Damaged}
+use Rattle.climbing_index.specs.declared.directory.Directory.{Directory}
 use Rattle.climbing_index.specs.declared.index.ClimbingIndex.{ClimbingIndex}
-use Rattle.climbing_index.specs.Indexes.{IsIndexOf}
-use Rattle.climbing_index.specs.Searches.{AllAscend, HasIndex, FailsIn}
+use Rattle.climbing_index.specs.declared.index.IdIndex.{IdIndex}
+use Rattle.climbing_index.specs.Directories.{FailsAt, GivesListed, entry_stands, file_of}
+use Rattle.climbing_index.specs.Holding.{HoldsIndexWhole, HoldsIndexBut, HoldsIdIndexWhole, HoldsIdIndexBut, values_at, ids_at}
+use Rattle.climbing_index.specs.Indexes.{IsIndexOf, IsIdIndexOf}
+use Rattle.climbing_index.specs.Searches.{AllAscend, HasIndex, FailsIn, most_entries, header_count, rows_of}
 
--- Pages have the header and the directory of these values, but for slots that are out of range by themselves.
-pub record HoldsEntriesBut (page : ℕ → List ℕ) (cat : Catalog) (hidden : Hidden) (table column : ℕ) (values : List (List ℕ)) : Type 0 where
-  pub are_values : AreValues (hidden_cells cat.schema hidden table column) values
-  pub few : length values ≤ count_of cat table
-  pub header :
-      (record_at page (index_header cat table column) 0 ≡ number_cell (length values))
-      ⊎ (may_stand cat (IndexHeader table column) (record_at page (index_header cat table column) 0) ≡ false)
-  pub entries :
-      (entry : ℕ) → entry < length values
-      → (record_at page (index_directory cat table column) entry
-      ≡ directory_record values (levels_of cat.schema table) (value_lists cat hidden table column values) entry)
-      ⊎ (may_stand cat (IndexDirectory table column) (record_at page (index_directory cat table column) entry) ≡ false)
+-- a database of a catalog within the limits, whose numbers of rows are the catalog's
+pub record IsOf (cat : Catalog) (database : Database) : Type 0 where
+  pub limited : IsLimited cat
+  pub is : IsDatabase cat.schema database
+  pub counts : row_counts database ≡ cat.counts
 
--- an index that is held is held so, with no slot out of range
-abbrev pub HeldIndexesHaveEntries : Type 0
-HeldIndexesHaveEntries =
-    (page : ℕ → List ℕ) (cat : Catalog) (hidden : Hidden) (table column : ℕ) (holds : HoldsIndex page cat hidden table column)
-    → length holds.values ≤ count_of cat table → HoldsEntriesBut page cat hidden table column holds.values
+-- where pages hold an index of a database, each of its slots has the right record, which is in its range
+abbrev pub HeldIndexesAreWhole : Type 0
+HeldIndexesAreWhole =
+    (page : ℕ → List ℕ) (cat : Catalog) (database : Database) → IsOf cat database
+    → (table column : ℕ) → is_hidden cat.schema table column ≡ true
+    → (holds : HoldsIndex page cat (hidden_of cat.schema database) table column)
+    → HoldsIndexWhole page cat (hidden_of cat.schema database) table column holds.values
 
--- and a search over it finds by these values
+abbrev pub HeldIdIndexesAreWhole : Type 0
+HeldIdIndexesAreWhole =
+    (page : ℕ → List ℕ) (cat : Catalog) (database : Database) → IsOf cat database
+    → HoldsIdIndexes page cat (hidden_of cat.schema database)
+    → (table : ℕ) → table < length cat.schema → is_empty (above_of cat.schema table) ≡ false
+    → HoldsIdIndexWhole page cat (hidden_of cat.schema database) table
+
+-- pages that have an index whole have it but for slots out of range: there are none
+pub record WholeIndexesAreHeldBut : Type 0 where
+  pub index :
+      (page : ℕ → List ℕ) (cat : Catalog) (hidden : Hidden) (table column : ℕ) (values : List (List ℕ))
+      → HoldsIndexWhole page cat hidden table column values → HoldsIndexBut page cat hidden table column values
+  pub id_index :
+      (page : ℕ → List ℕ) (cat : Catalog) (hidden : Hidden) (table : ℕ)
+      → HoldsIdIndexWhole page cat hidden table → HoldsIdIndexBut page cat hidden table
+
+-- a search over an index finds by these values
 pub record IsOfValues (page : ℕ → List ℕ) (index : ClimbingIndex) (values : List (List ℕ)) : Type 0 where
   pub has : HasIndex page index values
   pub ascend : AllAscend values
+  -- and it reads as few pages as their number asks for
+  pub few : (k : ℕ) → length values < 2 ^ k → most_entries true page index < 2 ^ k
 
 abbrev pub SearchesFindByValues : Type 0
 SearchesFindByValues =
     (page : ℕ → List ℕ) (cat : Catalog) (hidden : Hidden) → IsLimited cat → GoesWith cat hidden
     → (table column : ℕ) → is_hidden cat.schema table column ≡ true
-    → (values : List (List ℕ)) → HoldsEntriesBut page cat hidden table column values
+    → (values : List (List ℕ)) → HoldsIndexBut page cat hidden table column values
     → (index : ClimbingIndex) → IsIndexOf cat table column index → IsOfValues page index values
 
--- what a search or a list blames a slot for is damage, as the layout's slots have it
-abbrev pub DamageIsOfSlots : Type 0
-DamageIsOfSlots =
-    (page : ℕ → List ℕ) (cat : Catalog) (table column : ℕ) → is_hidden cat.schema table column ≡ true
-    → (index : ClimbingIndex) → IsIndexOf cat table column index → (number slot found : ℕ)
-    → FailsIn page index (Damaged number slot found) → IsDamagedSlot cat page number slot found
+-- a list has these identifiers on the pages; and the same but for slots that are out of range by themselves
+pub record HasList (page : ℕ → List ℕ) (list : ListRef) (identifiers : List ℕ) : Type 0 where
+  pub count : list.count ≡ length identifiers
+  pub ids : ids_from page (run_of list.run) list.first list.count ≡ identifiers
+
+pub record HasListBut (page : ℕ → List ℕ) (cat : Catalog) (from : ℕ) (list : ListRef) (identifiers : List ℕ) : Type 0 where
+  pub count : list.count ≡ length identifiers
+  pub each :
+      (place : ℕ) → place < list.count → is_row cat from (id_at page (run_of list.run) (list.first + place)) ≡ true
+      → id_at page (run_of list.run) (list.first + place) ≡ slice_index identifiers place
+
+-- it is the list of an entry at a level, as a call gives it
+pub record IsListOf (page : ℕ → List ℕ) (directory : Directory) (entry level : ℕ) (list : ListRef) : Type 0 where
+  pub listed : GivesListed page directory entry level list
+  pub run : option_map file_of (slice_get directory.levels.items level) ≡ Some (run_of list.run)
+
+-- the lists of an index are those of its values
+pub record ListsAreOfValues : Type 0 where
+  pub whole :
+      (page : ℕ → List ℕ) (cat : Catalog) (database : Database) → IsOf cat database
+      → (table column : ℕ) → is_hidden cat.schema table column ≡ true
+      → (values : List (List ℕ)) → HoldsIndexWhole page cat (hidden_of cat.schema database) table column values
+      → (index : ClimbingIndex) → IsIndexOf cat table column index
+      → (entry level : ℕ) → entry < length values → level < length (levels_of cat.schema table)
+      → (list : ListRef) → IsListOf page index.directory entry level list
+      → HasList page list (get_or (values_at cat (hidden_of cat.schema database) table column values level) entry [])
+  pub but :
+      (page : ℕ → List ℕ) (cat : Catalog) (database : Database) → IsOf cat database
+      → (table column : ℕ) → is_hidden cat.schema table column ≡ true
+      → (values : List (List ℕ)) → HoldsIndexBut page cat (hidden_of cat.schema database) table column values
+      → (index : ClimbingIndex) → IsIndexOf cat table column index
+      → (entry level : ℕ) → entry < length values → level < length (levels_of cat.schema table)
+      → (list : ListRef) → IsListOf page index.directory entry level list
+      → HasListBut page cat (slice_index (levels_of cat.schema table) level) list
+      (get_or (values_at cat (hidden_of cat.schema database) table column values level) entry [])
+
+-- those of an id index are those of the table's identifiers; its levels are counted from the parent on
+pub record ListsAreOfIdentifiers : Type 0 where
+  pub whole :
+      (page : ℕ → List ℕ) (cat : Catalog) (database : Database) → IsOf cat database → (table : ℕ) → table < length cat.schema
+      → HoldsIdIndexWhole page cat (hidden_of cat.schema database) table → (index : IdIndex) → IsIdIndexOf cat table index
+      → (entry level : ℕ) → entry < count_of cat table → level < length (above_of cat.schema table)
+      → (list : ListRef) → IsListOf page index.directory entry level list
+      → HasList page list (get_or (ids_at cat (hidden_of cat.schema database) table level) entry [])
+  pub but :
+      (page : ℕ → List ℕ) (cat : Catalog) (database : Database) → IsOf cat database → (table : ℕ) → table < length cat.schema
+      → HoldsIdIndexBut page cat (hidden_of cat.schema database) table → (index : IdIndex) → IsIdIndexOf cat table index
+      → (entry level : ℕ) → entry < count_of cat table → level < length (above_of cat.schema table)
+      → (list : ListRef) → IsListOf page index.directory entry level list
+      → HasListBut page cat (slice_index (above_of cat.schema table) level) list
+      (get_or (ids_at cat (hidden_of cat.schema database) table level) entry [])
+
+-- what is blamed is damage, as the layout's slots have it: by a search, by a list of an entry that the header tells, and by
+-- a list of an id index
+pub record DamageIsOfSlots : Type 0 where
+  pub search :
+      (page : ℕ → List ℕ) (cat : Catalog) (table column : ℕ) → is_hidden cat.schema table column ≡ true
+      → (index : ClimbingIndex) → IsIndexOf cat table column index → (number slot found : ℕ)
+      → FailsIn page index (Damaged number slot found) → IsDamagedSlot cat page number slot found
+  pub list :
+      (page : ℕ → List ℕ) (cat : Catalog) (table column : ℕ) → is_hidden cat.schema table column ≡ true
+      → (index : ClimbingIndex) → IsIndexOf cat table column index
+      → (entry : ℕ) → entry < rows_of index → entry < header_count page index → (number slot found : ℕ)
+      → FailsAt page (run_of index.directory.run) (entry_stands index.directory) entry (Damaged number slot found)
+      → IsDamagedSlot cat page number slot found
+  pub id_list :
+      (page : ℕ → List ℕ) (cat : Catalog) (table : ℕ) → table < length cat.schema → is_empty (above_of cat.schema table) ≡ false
+      → (index : IdIndex) → IsIdIndexOf cat table index → (entry : ℕ) → entry < count_of cat table → (number slot found : ℕ)
+      → FailsAt page (run_of index.directory.run) (entry_stands index.directory) entry (Damaged number slot found)
+      → IsDamagedSlot cat page number slot found
+
+-- and where pages have an index whole, nothing is blamed
+pub record WholeIndexesHaveNoDamage : Type 0 where
+  pub search :
+      (page : ℕ → List ℕ) (cat : Catalog) (hidden : Hidden) → IsLimited cat
+      → (table column : ℕ) → is_hidden cat.schema table column ≡ true
+      → (values : List (List ℕ)) → HoldsIndexWhole page cat hidden table column values
+      → (index : ClimbingIndex) → IsIndexOf cat table column index → (number slot found : ℕ)
+      → FailsIn page index (Damaged number slot found) → ⊥
+  pub list :
+      (page : ℕ → List ℕ) (cat : Catalog) (hidden : Hidden) (table column : ℕ) → is_hidden cat.schema table column ≡ true
+      → (values : List (List ℕ)) → HoldsIndexWhole page cat hidden table column values
+      → (index : ClimbingIndex) → IsIndexOf cat table column index → (entry : ℕ) → entry < length values → (number slot found : ℕ)
+      → FailsAt page (run_of index.directory.run) (entry_stands index.directory) entry (Damaged number slot found) → ⊥
+  pub id_list :
+      (page : ℕ → List ℕ) (cat : Catalog) (hidden : Hidden) (table : ℕ) → table < length cat.schema
+      → HoldsIdIndexWhole page cat hidden table → (index : IdIndex) → IsIdIndexOf cat table index
+      → (entry : ℕ) → entry < count_of cat table → (number slot found : ℕ)
+      → FailsAt page (run_of index.directory.run) (entry_stands index.directory) entry (Damaged number slot found) → ⊥

@@ -1,5 +1,5 @@
 -- Searches among the entries of a climbing index. Cells are ordered by their bytes.
-use Rattle.std.specs.Prelude.{◌≡◌, ◌⊎◌, ℕ, ◌+◌, ◌-◌, ◌*◌, ◌/◌, ◌^◌, ◌<◌, ◌≤◌, min, ⊤, Bool, true, false, not, ◌&&◌, ◌||◌, ◌==◌, nat_le, nat_lt, List, [], length, take, get_or, is_some, Option, Some, None, if◌then◌else◌}
+use Rattle.std.specs.Prelude.{◌≡◌, ◌⊎◌, ℕ, ◌+◌, ◌-◌, ◌*◌, ◌/◌, ◌^◌, ◌<◌, ◌≤◌, min, ⊤, Bool, true, false, not, ◌&&◌, ◌||◌, ◌==◌, nat_le, nat_lt, List, [], length, take, get_or, is_some, Option, Some, None, Result, Ok, Err, if◌then◌else◌}
 use Rattle.std.specs.Cmp.Lexicographic.{slice_cmp}
 use Rattle.std.specs.Ordering.{nat_cmp}
 use Rattle.std.specs.declared.cmp.Ordering.{Ordering}
@@ -9,11 +9,15 @@ use Rattle.ghost_model.specs.core.Database.{is_of_kind}
 use Rattle.ghost_model.specs.forms.Cells.{encode_cell}
 use Rattle.ghost_model.specs.forms.Runs.{record_at, page_of, number_in}
 use Rattle.edge_traits.specs.Devices.{Device}
+use Rattle.page_pool.specs.Pools.{Pool}
 use Rattle.ghost_base.specs.Runs.{run_of}
 use Rattle.ghost_base.specs.Views.{kind_of, value_of}
 use Rattle.ghost_base.specs.declared.kind.Kind.{Kind}
 use Rattle.flash_pages.specs.declared.fault.PageFault.{PageFault}
 use Rattle.flash_pages.specs.declared.fault.PageFault.TheVariants.{Flash, Damaged}
+use Rattle.flash_pages.specs.Cursors.{IsPageOf}
+use Rattle.flash_pages.specs.Holding.{is_apart}
+use Rattle.flash_pages.specs.Reads.{must_read}
 use Rattle.climbing_index.specs.declared.directory.Directory.{Directory}
 use Rattle.climbing_index.specs.declared.index.ClimbingIndex.{ClimbingIndex}
 use Rattle.climbing_index.specs.declared.search.Bound.{Bound}
@@ -195,9 +199,15 @@ abbrev pub left_in : (rows : ℕ) → Search → ℕ
 left_in rows New = 2 * rows + 1
 left_in rows (Among looking) = width_left looking
 
--- Calls. The numbers of entries that the header may tell are below 2^k; a search then makes at most so many calls more.
-abbrev pub HasFewer : (told : Bool) → (ℕ → List ℕ) → ClimbingIndex → (k : ℕ) → Type 0
-HasFewer told page index k = (count : ℕ) → count ≤ rows_of index → (told ≡ true → count ≡ header_count page index) → count < 2 ^ k
+-- The number of entries: as many as the header tells, none where what it has is out of range. Where pages are not told
+-- there may be one for each row.
+abbrev pub entries_told : (ℕ → List ℕ) → ClimbingIndex → ℕ
+entries_told page index = if header_stands (rows_of index) (header_bytes page index) then header_count page index else 0
+
+abbrev pub most_entries : (told : Bool) → (ℕ → List ℕ) → ClimbingIndex → ℕ
+most_entries told page index = if told then entries_told page index else rows_of index
+
+-- Calls. The number of entries is below 2^k; a search then makes at most so many calls more.
 
 pub record SpansLeft (looking : Looking) (left : ℕ) : Type 0 where
   pub i : ℕ
@@ -226,6 +236,66 @@ pub record HasRest (k : ℕ) (search : Search) (left : ℕ) : Type 0 where
   pub rest : ℕ
   pub calls_left : CallsLeft k search rest
   pub within : rest ≤ left
+
+-- Pages in the buffer. A page of an index is that of the header or one with room for an entry.
+abbrev pub IsIndexPage : ClimbingIndex → (number : ℕ) → Type 0
+IsIndexPage index number = IsPageOf (run_of index.header) number ⊎ IsPageOf (run_of index.directory.run) number
+
+-- a buffer has a page of an index
+pub record HoldsPageOf (index : ClimbingIndex) (held : Option ℕ) : Type 0 where
+  pub number : ℕ
+  pub holds : held ≡ Some number
+  pub of_index : IsIndexPage index number
+
+-- a search that has begun left a page of the index there
+abbrev pub HasLeftPage : ClimbingIndex → Search → (held : Option ℕ) → Type 0
+HasLeftPage index New held = ⊤
+HasLeftPage index (Among looking) held = HoldsPageOf index held
+
+-- another page than it had, one of the index
+pub record HasOtherPage (index : ClimbingIndex) (before now : Option ℕ) : Type 0 where
+  pub number : ℕ
+  pub holds : now ≡ Some number
+  pub other : is_apart before number ≡ true
+  pub of_index : IsIndexPage index number
+
+-- the page that it had, which is one of the index where the search had begun with one
+pub record HasSamePage (index : ClimbingIndex) (search : Search) (before now : Option ℕ) : Type 0 where
+  pub same : now ≡ before
+  pub of_index : HasLeftPage index search before → HoldsPageOf index now
+
+-- the page that a fault leaves there: that of the slot that is blamed
+abbrev pub page_blamed : PageFault → Option ℕ
+page_blamed Flash = None
+page_blamed (Damaged number slot found) = Some number
+
+-- what a step of a search leaves there
+abbrev pub LeavesPage : ClimbingIndex → Search → (before now : Option ℕ) → Step → Type 0
+LeavesPage index search before now More = HasOtherPage index before now
+LeavesPage index search before now (Found group) = HasSamePage index search before now
+
+abbrev pub StepLeaves : ClimbingIndex → Search → (before now : Option ℕ) → Result Step PageFault → Type 0
+StepLeaves index search before now (Ok step) = LeavesPage index search before now step
+StepLeaves index search before now (Err fault) = now ≡ page_blamed fault
+
+-- and a whole search
+abbrev pub FindLeaves : ClimbingIndex → (now : Option ℕ) → Result Group PageFault → Type 0
+FindLeaves index now (Ok group) = HoldsPageOf index now
+FindLeaves index now (Err fault) = now ≡ page_blamed fault
+
+-- how many calls a read makes
+abbrev pub calls_if : (reads : Bool) → ℕ
+calls_if reads = if reads then 1 else 0
+
+-- Whether a step read a page: where it goes on it did, where it has found it did not. Where it blames a slot, it did unless
+-- the slot's page stood in the buffer.
+abbrev pub was_read_for : Pool → (lease : ℕ) → PageFault → Bool
+was_read_for pool lease Flash = true
+was_read_for pool lease (Damaged number slot found) = must_read pool lease number
+
+abbrev pub step_reads : Pool → (lease : ℕ) → Result Step PageFault → Bool
+step_reads pool lease (Ok step) = is_more step
+step_reads pool lease (Err fault) = was_read_for pool lease fault
 
 -- what a slot is blamed for
 pub record HasBadEntry (page : ℕ → List ℕ) (index : ClimbingIndex) (number slot found : ℕ) : Type 0 where

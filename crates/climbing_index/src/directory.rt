@@ -4,7 +4,7 @@ ghost use Rattle.std.specs.Prelude.{◌≡◌, ◌<◌, ◌≤◌, ◌+◌, ◌*
 ghost use Rattle.ghost_base.specs.Runs.{run_of};
 ghost use Rattle.page_pool.specs.Pools.{page_at};
 ghost use Rattle.flash_pages.specs.Reads.{Reads, CanRead, WasGiven, must_read, page_after};
-ghost use Rattle.climbing_index.specs.Directories.{IsReadable, GivesEntry, GivesList, BlamesRecord, GivesPlace, entry_page, entry_stands, are_places, spells, most_cell, file_of};
+ghost use Rattle.climbing_index.specs.Directories.{IsReadable, GivesEntry, GivesList, BlamesRecord, BlamesPage, GivesPlace, entry_page, entry_stands, are_places, spells, most_cell, file_of};
 
 use crate::damage::damage;
 use arrayvec::ArrayVec;
@@ -113,6 +113,7 @@ impl Directory {
         ensures gives { F.told ≡ true → GivesEntry (F.state flash.old).page self.now entry out.new result }
         ensures stands { OnOk result (entry_stands self.now out.new ≡ true) }
         ensures blames { (since : ℕ) → since ≤ (F.state flash.old).calls → WasGiven since (F.state flash.old) pool.old lease.now → IfErr result (λ fault. BlamesRecord since (F.state flash.new) (run_of self.now.run) (entry_stands self.now) entry fault) }
+        ensures page { IfErr result (BlamesPage (entry_page self.now entry)) }
         ensures readable { IsReadable (F.state flash.new) self.now }
         ensures holds { page_at pool.new lease.now ≡ page_after result (entry_page self.now entry) }
         ensures read { Reads F.told (F.state flash.old) (F.state flash.new) pool.old pool.new lease.now (must_read pool.old lease.now (entry_page self.now entry)) (entry_page self.now entry) result }
@@ -148,6 +149,7 @@ impl Directory {
         ensures run { IfOk result (λ list. option_map file_of (slice_get self.now.levels.items level) ≡ Some (run_of list.run)) }
         ensures within { IfOk result (λ list. list.first + list.count ≤ list.run.count) }
         ensures blames { (since : ℕ) → since ≤ (F.state flash.old).calls → WasGiven since (F.state flash.old) pool.old lease.now → IfErr result (λ fault. BlamesRecord since (F.state flash.new) (run_of self.now.run) (entry_stands self.now) entry fault) }
+        ensures page { IfErr result (BlamesPage (entry_page self.now entry)) }
         ensures readable { IsReadable (F.state flash.new) self.now }
         ensures holds { page_at pool.new lease.now ≡ page_after result (entry_page self.now entry) }
         ensures read { Reads F.told (F.state flash.old) (F.state flash.new) pool.old pool.new lease.now (must_read pool.old lease.now (entry_page self.now entry)) (entry_page self.now entry) result }

@@ -1,13 +1,32 @@
 //! Laws of indexes.
 
-ghost use Rattle.climbing_index.specs.Laws.{HeldIndexesHaveEntries, SearchesFindByValues, DamageIsOfSlots};
+ghost use Rattle.climbing_index.specs.Laws.{HeldIndexesAreWhole, HeldIdIndexesAreWhole, WholeIndexesAreHeldBut, SearchesFindByValues, ListsAreOfValues, ListsAreOfIdentifiers, DamageIsOfSlots, WholeIndexesHaveNoDamage};
 
-/// An index that pages hold has its entries there.
-pub fn held_indexes_have_entries()
-    ensures entries { HeldIndexesHaveEntries }
+/// Where pages hold an index of a database, each of its slots has the right record, which is in its range.
+pub fn held_indexes_are_whole()
+    ensures index { HeldIndexesAreWhole }
+    ensures id_index { HeldIdIndexesAreWhole }
+{
+    ghost_model::layout::layout_is_small();
+    ghost_model::layout::files_lie_as_summed();
+    ghost_model::layout::files_lie_in_order();
+    ghost_model::layout::levels_are_ancestors();
+    ghost_model::flash::hidden_cells_fit();
+    ghost_model::flash::hidden_parts_go_with_catalogs();
+    ghost_model::flash::hidden_values_of_databases();
+    ghost_model::flash::records_are_as_wide();
+    ghost_model::flash::lists_partition();
+    ghost_model::flash::id_lists_partition();
+    ghost_model::runs::numbers_are_read();
+}
+
+/// An index whose slots have the right records is held but for slots that are out of range: there are none.
+pub fn whole_indexes_are_held_but()
+    ensures but { WholeIndexesAreHeldBut }
 {}
 
-/// A search over it finds by the values of the column.
+/// A search over an index that is held, but for slots that are out of range by themselves, finds by the values of the
+/// column.
 pub fn searches_find_by_values()
     ensures values { SearchesFindByValues }
 {
@@ -17,9 +36,36 @@ pub fn searches_find_by_values()
     ghost_model::runs::numbers_are_read();
 }
 
-/// What a search blames a slot for is damage.
+/// The lists of such an index are those of its values, and those of an id index are those of the table's identifiers.
+pub fn lists_are_of_entries()
+    ensures values { ListsAreOfValues }
+    ensures identifiers { ListsAreOfIdentifiers }
+{
+    whole_indexes_are_held_but();
+    ghost_model::layout::layout_is_small();
+    ghost_model::layout::files_lie_as_summed();
+    ghost_model::layout::files_lie_in_order();
+    ghost_model::layout::levels_are_ancestors();
+    ghost_model::flash::hidden_cells_fit();
+    ghost_model::flash::hidden_parts_go_with_catalogs();
+    ghost_model::flash::records_are_as_wide();
+    ghost_model::flash::lists_partition();
+    ghost_model::flash::id_lists_partition();
+    ghost_model::runs::numbers_are_read();
+}
+
+/// What a search or a list blames a slot for is damage.
 pub fn damage_is_of_slots()
     ensures damaged { DamageIsOfSlots }
 {
     ghost_model::layout::files_lie_as_summed();
+}
+
+/// Where pages have an index whole, nothing is blamed.
+pub fn whole_indexes_have_no_damage()
+    ensures none { WholeIndexesHaveNoDamage }
+{
+    ghost_model::layout::layout_is_small();
+    ghost_model::layout::files_lie_as_summed();
+    ghost_model::runs::numbers_are_read();
 }

@@ -1,5 +1,5 @@
 -- Pages that hold a database's subtree key tables have in the slot of each row those that it leads to.
-use Rattle.std.proofs.Common.{◌≡◌, refl, sym, ap, ◌∙◌, subst, ℕ, zero, suc, ◌+◌, ◌-◌, ◌^◌, ◌<◌, ◌≤◌, Bool, true, false, cond, ◌&&◌, ◌||◌, nat_le, List, [], ◌∷◌, ◌++◌, length, map, take, drop, filter, flat_map, get_or, Option, Some, None, slice_get, unwrap_or, arith}
+use Rattle.std.proofs.Common.{◌≡◌, refl, sym, ap, ◌∙◌, subst, ℕ, zero, suc, ◌+◌, ◌-◌, ◌^◌, ◌<◌, ◌≤◌, Bool, true, false, cond, ◌&&◌, ◌||◌, nat_le, inl, inr, List, [], ◌∷◌, ◌++◌, length, map, take, drop, filter, flat_map, get_or, Option, Some, None, slice_get, unwrap_or, arith}
 use Rattle.std.specs.Prelude.{◌==◌, if◌then◌else◌}
 use Rattle.std.specs.List.{range_with_len, list_any, AllByRecursion, slice_range}
 use Rattle.std.specs.Int.{from_be_bytes, w32}
@@ -24,7 +24,7 @@ use Rattle.ghost_model.proofs.MeaningLemmas.Leading.{place_within, get_within}
 use Rattle.ghost_model.proofs.FlashLemmas.Values.{count_there}
 use Rattle.subtree_keys.specs.declared.table.SubtreeTable.{SubtreeTable}
 use Rattle.subtree_keys.specs.Tables.{identifiers, are_rows_of, row_spelled, IsTableOf, slot_row}
-use Rattle.subtree_keys.specs.Laws.{rows_spelled, row_on, LeadsTo, HasRow, TablesGiveRows, HeldTablesAreRight, TablesAreOfSlots}
+use Rattle.subtree_keys.specs.Laws.{rows_spelled, row_on, LeadsTo, HasRow, HoldsTableBut, TablesGiveRows, HeldTablesAreHeldBut, TablesAreRightButForDamage, TablesAreOfSlots}
 
 -- the words of a table's numbers of rows are those of the layout's slots
 same_test : (cat : Catalog) (tables bytes : List ℕ) → are_rows_of (map (count_of cat) tables) bytes ≡ are_rows cat tables bytes
@@ -165,24 +165,53 @@ module _ (cat : Catalog) (database : Database) (limited : IsLimited cat) (is : I
             ∙ ap (λ o. o ∷ map (leads_to cat.schema (hidden_of cat.schema database) table identifier) tables) (sym here.is_led)));
       }
 
+  -- the record of the row does
+  spelled_row : table < length cat.schema → Spells (descendants_of cat.schema table) (subtree_record cat.schema (hidden_of cat.schema database) table identifier)
+  spelled_row there =
+      spells (descendants_of cat.schema table)
+      (all_found Reaches (is_below cat.schema table) 0 (length cat.schema) (λ to low high under. reaches to (omega (arith, high)) under))
+
+  given_row : table < length cat.schema
+      → rows_spelled cat (descendants_of cat.schema table) (subtree_record cat.schema (hidden_of cat.schema database) table identifier)
+      ≡ Some (identifiers (descendants_of cat.schema table) (subtree_record cat.schema (hidden_of cat.schema database) table identifier))
+  given_row there =
+      ap (λ b. if b then Some (identifiers (descendants_of cat.schema table) (subtree_record cat.schema (hidden_of cat.schema database) table identifier)) else None)
+      (spelled_row there).tested
+
+  pub right_but : (page : ℕ → List ℕ) → table < length cat.schema → HoldsTableBut page cat (hidden_of cat.schema database) table
+      → (rows : List ℕ) → row_on page cat table identifier ≡ Some rows → LeadsTo cat (hidden_of cat.schema database) table identifier rows
+  right_but page there holds rows e =
+      let hidden = hidden_of cat.schema database in
+      let tables = descendants_of cat.schema table in
+      let bytes = subtree_record cat.schema hidden table identifier in
+      let same : identifier - 1 + 1 ≡ identifier = omega (arith, some) in
+      elim (holds (identifier - 1) (omega (arith, some, within))) [
+        | inl is ↦ (let on : row_on page cat table identifier ≡ Some (identifiers tables bytes) =
+            ap (rows_spelled cat tables) (is ∙ ap (subtree_record cat.schema hidden table) same) ∙ given_row there in
+            let both : Some (identifiers tables bytes) ≡ Some rows = sym on ∙ e in
+            let one : identifiers tables bytes ≡ rows = cc in
+            subst (LeadsTo cat (hidden_of cat.schema database) table identifier) one (spelled_row there).ids_are)
+        | inr wrong ↦ (let none : row_on page cat table identifier ≡ None =
+            ap (λ b. if b then Some (identifiers tables (record_at page (subtree_table cat table) (identifier - 1))) else None) wrong in
+            let clash = sym none ∙ e in
+            absurd (cc (clash)))
+      ]
+
   pub has_row : (page : ℕ → List ℕ) → HoldsSubtrees page cat (hidden_of cat.schema database) → table < length cat.schema
       → is_empty (descendants_of cat.schema table) ≡ false → HasRow page cat (hidden_of cat.schema database) table identifier
   has_row page holds there below =
       let hidden = hidden_of cat.schema database in
       let tables = descendants_of cat.schema table in
-      let all : AllByRecursion Reaches tables = all_found Reaches (is_below cat.schema table) 0 (length cat.schema) (λ to low high under. reaches to (omega (arith, high)) under) in
-      let good : Spells tables (subtree_record cat.schema hidden table identifier) = spells tables all in
       let stores = holds table there below in
       let same : 1 + (identifier - 1) ≡ identifier = omega (arith, some) in
       let record_is : record_at page (subtree_table cat table) (identifier - 1) ≡ subtree_record cat.schema hidden table identifier =
       stores.has.each (identifier - 1) (omega (arith, some, within))
       ∙ get_or-map-range_with_len (subtree_record cat.schema hidden table) 1 (count_of cat table) (identifier - 1) identifier [] (omega (arith, some, within)) same in
       let on : row_on page cat table identifier ≡ Some (identifiers tables (subtree_record cat.schema hidden table identifier)) =
-      ap (rows_spelled cat tables) record_is
-      ∙ ap (λ b. if b then Some (identifiers tables (subtree_record cat.schema hidden table identifier)) else None) good.tested in
+      ap (rows_spelled cat tables) record_is ∙ given_row there in
       record {
         rows = identifiers tables (subtree_record cat.schema hidden table identifier);
-        led = good.ids_are;
+        led = (spelled_row there).ids_are;
         on_pages = on;
         in_slot = λ keys of. tables_are page cat table keys of identifier ∙ on;
       }
@@ -191,10 +220,11 @@ pub give_rows : LayoutIsSmall → LevelsAreAncestors → RowsLeadToRows → Rows
 give_rows small levels lead alike wide read page cat database limited is counts holds table there below identifier some within =
     has_row cat database limited is counts (small.few cat limited) levels lead alike wide read table identifier some within page holds there below
 
-pub are_right : TablesGiveRows → HeldTablesAreRight
-are_right give page cat database limited is counts holds table there below identifier some within rows e =
-    let has : HasRow page cat (hidden_of cat.schema database) table identifier =
-    give page cat database limited is counts holds table there below identifier some within in
-    let same : Some has.rows ≡ Some rows = sym has.on_pages ∙ e in
-    let one : has.rows ≡ rows = cc in
-    subst (LeadsTo cat (hidden_of cat.schema database) table identifier) one has.led
+pub are_right : LayoutIsSmall → LevelsAreAncestors → RowsLeadToRows → RowsLeadByHiddenValues → RecordsAreAsWide → NumbersAreRead → TablesAreRightButForDamage
+are_right small levels lead alike wide read page cat database limited is counts table there holds identifier some within rows e =
+    right_but cat database limited is counts (small.few cat limited) levels lead alike wide read table identifier some within page there holds rows e
+
+pub held_but : HeldTablesAreHeldBut
+held_but page cat hidden holds table there below place low =
+    let e : 1 + place ≡ place + 1 = omega arith in
+    inl ((holds table there below).has.each place low ∙ get_or-map-range_with_len (subtree_record cat.schema hidden table) 1 (count_of cat table) place (place + 1) [] low e)

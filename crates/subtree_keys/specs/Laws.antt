@@ -1,5 +1,5 @@
 -- Laws of subtree key tables: where pages hold a database's, the slot of each row has the rows that it leads to.
-use Rattle.std.specs.Prelude.{◌≡◌, ℕ, ◌+◌, ◌-◌, ◌<◌, ◌≤◌, false, if◌then◌else◌, List, length, map, Option, Some, None}
+use Rattle.std.specs.Prelude.{◌≡◌, ◌⊎◌, ℕ, ◌+◌, ◌-◌, ◌<◌, ◌≤◌, false, if◌then◌else◌, List, length, map, Option, Some, None}
 use Rattle.ghost_model.specs.core.Schema.{is_empty}
 use Rattle.ghost_model.specs.core.Values.{Database}
 use Rattle.ghost_model.specs.core.Channel.{Catalog}
@@ -8,8 +8,8 @@ use Rattle.ghost_model.specs.core.Split.{Hidden, hidden_of}
 use Rattle.ghost_model.specs.laws.LayoutLaws.{IsLimited}
 use Rattle.ghost_model.specs.forms.Runs.{record_at, page_of, slot_of, found_in}
 use Rattle.ghost_model.specs.forms.Layout.{count_of, descendants_of, subtree_table}
-use Rattle.ghost_model.specs.forms.Flash.{HoldsSubtrees, leads_to}
-use Rattle.ghost_model.specs.forms.Slots.{Subtrees, IsDamagedIn, are_rows}
+use Rattle.ghost_model.specs.forms.Flash.{HoldsSubtrees, leads_to, subtree_record}
+use Rattle.ghost_model.specs.forms.Slots.{Subtrees, IsDamagedIn, are_rows, in_slot, may_stand}
 use Rattle.subtree_keys.specs.declared.table.SubtreeTable.{SubtreeTable}
 use Rattle.subtree_keys.specs.Tables.{IsTableOf, identifiers, slot_row}
 
@@ -42,17 +42,31 @@ TablesGiveRows =
     → (identifier : ℕ) → 1 ≤ identifier → identifier ≤ count_of cat table
     → HasRow page cat (hidden_of cat.schema database) table identifier
 
+-- pages hold the subtree key table of a table but for slots that are out of range by themselves
+abbrev pub HoldsTableBut : (ℕ → List ℕ) → Catalog → Hidden → (table : ℕ) → Type 0
+HoldsTableBut page cat hidden table =
+    (place : ℕ) → place < count_of cat table
+    → (in_slot page cat (Subtrees table) place ≡ subtree_record cat.schema hidden table (place + 1))
+    ⊎ (may_stand cat (Subtrees table) (in_slot page cat (Subtrees table) place) ≡ false)
+
+-- those that hold all such tables hold each so: no slot is out of range
+abbrev pub HeldTablesAreHeldBut : Type 0
+HeldTablesAreHeldBut =
+    (page : ℕ → List ℕ) (cat : Catalog) (hidden : Hidden) → HoldsSubtrees page cat hidden
+    → (table : ℕ) → table < length cat.schema → is_empty (descendants_of cat.schema table) ≡ false
+    → HoldsTableBut page cat hidden table
+
 -- a subtree key table may have damaged slots, but each slot that spells identifiers has those that its row leads to
 abbrev pub IsTableBut : (ℕ → List ℕ) → Catalog → Hidden → (table : ℕ) → Type 0
 IsTableBut page cat hidden table =
     (identifier : ℕ) → 1 ≤ identifier → identifier ≤ count_of cat table
     → (rows : List ℕ) → row_on page cat table identifier ≡ Some rows → LeadsTo cat hidden table identifier rows
 
-abbrev pub HeldTablesAreRight : Type 0
-HeldTablesAreRight =
+abbrev pub TablesAreRightButForDamage : Type 0
+TablesAreRightButForDamage =
     (page : ℕ → List ℕ) (cat : Catalog) (database : Database) → IsLimited cat → IsDatabase cat.schema database
-    → row_counts database ≡ cat.counts → HoldsSubtrees page cat (hidden_of cat.schema database)
-    → (table : ℕ) → table < length cat.schema → is_empty (descendants_of cat.schema table) ≡ false
+    → row_counts database ≡ cat.counts → (table : ℕ) → table < length cat.schema
+    → HoldsTableBut page cat (hidden_of cat.schema database) table
     → IsTableBut page cat (hidden_of cat.schema database) table
 
 -- what the table's own words say is what the pages have

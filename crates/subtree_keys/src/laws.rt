@@ -1,6 +1,6 @@
 //! Laws of subtree key tables.
 
-ghost use Rattle.subtree_keys.specs.Laws.{TablesGiveRows, HeldTablesAreRight, TablesAreOfSlots, DamageIsOfSlots};
+ghost use Rattle.subtree_keys.specs.Laws.{TablesGiveRows, HeldTablesAreHeldBut, TablesAreRightButForDamage, TablesAreOfSlots, DamageIsOfSlots};
 
 /// Where pages hold the subtree key tables of a database, the slot of each row has the rows that it leads to.
 pub fn tables_give_rows()
@@ -14,11 +14,22 @@ pub fn tables_give_rows()
     ghost_model::runs::numbers_are_read();
 }
 
-/// Where pages hold the subtree key tables of a database, a slot that has rows has those that its row leads to.
-pub fn held_tables_are_right()
-    ensures right { HeldTablesAreRight }
+/// Pages that hold all subtree key tables hold each of them but for slots that are out of range: there are none.
+pub fn held_tables_are_held_but()
+    ensures but { HeldTablesAreHeldBut }
+{}
+
+/// Where pages hold the subtree key table of a table but for slots that are out of range by themselves, a slot that has rows
+/// has those that its row leads to.
+pub fn tables_are_right_but_for_damage()
+    ensures right { TablesAreRightButForDamage }
 {
-    tables_give_rows();
+    ghost_model::layout::layout_is_small();
+    ghost_model::layout::levels_are_ancestors();
+    ghost_model::meaning::rows_lead_to_rows();
+    ghost_model::flash::rows_lead_by_hidden_values();
+    ghost_model::flash::records_are_as_wide();
+    ghost_model::runs::numbers_are_read();
 }
 
 /// The slot of a table is that of the layout.
