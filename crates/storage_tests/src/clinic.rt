@@ -32,10 +32,10 @@ struct Parts {
     hidden: Hidden,
 }
 
-/// The clinic's files in memory.
-fn files(alloc: Global) -> Result<Vec<Vec<u8>>, AllocError> {
+/// Files in memory.
+fn in_memory(alloc: Global, texts: &[&[u8]]) -> Result<Vec<Vec<u8>>, AllocError> {
     let mut files = Vec::new(alloc);
-    for text in FILES {
+    for text in texts {
         let file = Vec::from_slice(alloc, text)?;
         let Ok(()) = files.push(file) else {
             return Err(AllocError);
@@ -54,12 +54,12 @@ fn parts_of(alloc: Global, schema: Schema, tables: Tables) -> Option<Parts>
     Some(Parts { cat, hidden })
 }
 
-/// Those of the clinic.
-fn clinic(alloc: Global) -> Option<Parts>
+/// Those of the files of a schema's tables.
+fn parts(alloc: Global, schema: &str, texts: &[&[u8]]) -> Option<Parts>
     ensures part { IfSome result (λ parts. IsHidden parts.cat parts.hidden) }
 {
-    let schema = read_schema(CLINIC.as_bytes()).ok()?;
-    let files = files(alloc).ok()?;
+    let schema = read_schema(schema.as_bytes()).ok()?;
+    let files = in_memory(alloc, texts).ok()?;
     if files.len() != schema.tables() {
         return None;
     }
@@ -69,15 +69,18 @@ fn clinic(alloc: Global) -> Option<Parts>
 
 /// A catalog, a device, and page buffers.
 #[derive(Drop)]
-struct Loaded {
-    cat: Catalog,
-    flash: MemFlash,
-    pool: PagePool,
+pub(crate) struct Loaded {
+    /// The catalog.
+    pub cat: Catalog,
+    /// The device.
+    pub flash: MemFlash,
+    /// Page buffers.
+    pub pool: PagePool,
 }
 
-/// The clinic on a device that was loaded with it.
-fn load(alloc: Global) -> Option<Loaded> {
-    let parts = clinic(alloc)?;
+/// The files of a schema's tables on a device that was loaded with them.
+pub(crate) fn loaded(alloc: Global, schema: &str, texts: &[&[u8]]) -> Option<Loaded> {
+    let parts = parts(alloc, schema, texts)?;
     let mut flash = MemFlash::new(alloc, 14, &[]).ok()?;
     load_flash(alloc, &parts.cat, &parts.hidden, &mut flash, "key", 14).ok()?;
     Some(Loaded {
@@ -85,6 +88,11 @@ fn load(alloc: Global) -> Option<Loaded> {
         flash,
         pool: PagePool::new(alloc, 8).ok()?,
     })
+}
+
+/// The clinic on a device that was loaded with it.
+fn load(alloc: Global) -> Option<Loaded> {
+    loaded(alloc, CLINIC, &FILES)
 }
 
 /// Whether a page has these bytes, and 0xFF after them.
@@ -97,7 +105,7 @@ fn has(flash: &MemFlash, page: u32, front: &[u8]) -> bool {
 }
 
 #[test]
-fn the_clinic_stands_on_seven_pages(rt: HostRuntime) {
+fn the_clinic_stands_on_its_pages(rt: HostRuntime) {
     let Some(loaded) = load(rt.alloc()) else {
         assert!(rt; false);
         return;
@@ -105,6 +113,13 @@ fn the_clinic_stands_on_seven_pages(rt: HostRuntime) {
     assert!(rt; has(&loaded.flash, 0, &catalog_bytes(CLINIC, &[3, 2, 4])));
     for (page, front) in [
         (64u32, b"FRESES".as_slice()),
+        (65, b"\0\0\0\x02"),
+        (
+            66,
+            b"ES\0\0\0\0\0\0\0\x02\0\0\0\0\0\0\0\x03FR\0\0\0\x02\0\0\0\x01\0\0\0\x03\0\0\0\x01",
+        ),
+        (67, b"\0\0\0\x02\0\0\0\x03\0\0\0\x01"),
+        (68, b"\0\0\0\x02\0\0\0\x03\0\0\0\x04\0\0\0\x01"),
         (71, b"Ann\0\0\0\0\0Bob\0\0\0\0\0"),
         (78, b"flu\0\0\0\0\0check\0\0\0flu\0\0\0\0\0flu\0\0\0\0\0"),
         (
@@ -119,13 +134,17 @@ fn the_clinic_stands_on_seven_pages(rt: HostRuntime) {
             81,
             b"\0\0\0\x01\0\0\0\x01\0\0\0\x03\0\0\0\x02\0\0\0\x03\0\0\0\x01\0\0\0\x02\0\0\0\x02",
         ),
+        (
+            83,
+            b"check\0\0\0\0\0\0\0\0\0\0\x01flu\0\0\0\0\0\0\0\0\x01\0\0\0\x03",
+        ),
     ] {
         assert!(rt; has(&loaded.flash, page, front), "page {page}");
     }
     let blank = (0..128)
         .filter(|page| has(&loaded.flash, *page, b""))
         .count();
-    assert!(rt; blank == 121 && loaded.flash.script.calls == 8);
+    assert!(rt; blank == 100 && loaded.flash.script.calls == 29);
 }
 
 /// The file of a column, where it is hidden and the device has the catalog's pages.
@@ -139,7 +158,7 @@ fn file_on(flash: &MemFlash, cat: &Catalog, table: usize, column: usize) -> Opti
 }
 
 /// The value of a column in a row, where there is such a row and column.
-fn value(
+pub(crate) fn value(
     loaded: &mut Loaded,
     table: usize,
     column: usize,
