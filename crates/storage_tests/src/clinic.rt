@@ -55,7 +55,7 @@ fn parts_of(alloc: Global, schema: Schema, tables: Tables) -> Option<Parts>
 }
 
 /// Those of the files of a schema's tables.
-fn parts(alloc: Global, schema: &str, texts: &[&[u8]]) -> Option<Parts>
+fn parts_of(alloc: Global, schema: &str, texts: &[&[u8]]) -> Option<Parts>
     ensures part { IfSome result (λ parts. IsHidden parts.cat parts.hidden) }
 {
     let schema = read_schema(schema.as_bytes()).ok()?;
@@ -79,8 +79,8 @@ pub(crate) struct Loaded {
 }
 
 /// The files of a schema's tables on a device that was loaded with them.
-pub(crate) fn loaded(alloc: Global, schema: &str, texts: &[&[u8]]) -> Option<Loaded> {
-    let parts = parts(alloc, schema, texts)?;
+pub(crate) fn load_tables(alloc: Global, schema: &str, texts: &[&[u8]]) -> Option<Loaded> {
+    let parts = parts_of(alloc, schema, texts)?;
     let mut flash = MemFlash::new(alloc, 14, &[]).ok()?;
     load_flash(alloc, &parts.cat, &parts.hidden, &mut flash, "key", 14).ok()?;
     Some(Loaded {
@@ -92,7 +92,7 @@ pub(crate) fn loaded(alloc: Global, schema: &str, texts: &[&[u8]]) -> Option<Loa
 
 /// The clinic on a device that was loaded with it.
 fn load(alloc: Global) -> Option<Loaded> {
-    loaded(alloc, CLINIC, &FILES)
+    load_tables(alloc, CLINIC, &FILES)
 }
 
 /// Whether a page has these bytes, and 0xFF after them.

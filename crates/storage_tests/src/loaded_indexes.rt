@@ -6,7 +6,7 @@ ghost use Rattle.ghost_model.specs.forms.Layout as layout;
 ghost use Rattle.climbing_index.specs.Indexes.{IsReadable, IsIdReadable};
 ghost use Rattle.subtree_keys.specs.Tables as tables;
 
-use crate::clinic::{Loaded, loaded, value};
+use crate::clinic::{Loaded, load_tables, value};
 use climbing_index::{ClimbingIndex, Group, IdIndex};
 use edge_traits::flash::Flash;
 use edge_traits::mem_flash::MemFlash;
@@ -195,7 +195,7 @@ fn has_lists(found: &mut Loaded, table: usize, column: usize, text: &str) -> boo
 #[test]
 fn each_value_and_identifier_has_its_rows(rt: HostRuntime) {
     for (files, indexes) in LISTS {
-        let Some(mut found) = loaded(rt.alloc(), CHAIN, &files) else {
+        let Some(mut found) = load_tables(rt.alloc(), CHAIN, &files) else {
             assert!(rt; false);
             continue;
         };
@@ -299,7 +299,7 @@ const SPOILT: [(Reader, u32, u32, usize); 5] = [
 
 #[test]
 fn each_slot_that_is_spoilt_is_blamed(rt: HostRuntime) {
-    let Some(mut found) = loaded(rt.alloc(), CHAIN, &ALIKE) else {
+    let Some(mut found) = load_tables(rt.alloc(), CHAIN, &ALIKE) else {
         assert!(rt; false);
         return;
     };
