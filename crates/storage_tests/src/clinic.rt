@@ -55,7 +55,7 @@ fn parts_of(alloc: Global, schema: Schema, tables: Tables) -> Option<Parts>
 }
 
 /// Those of the files of a schema's tables.
-fn parts_of(alloc: Global, schema: &str, texts: &[&[u8]]) -> Option<Parts>
+fn read_parts(alloc: Global, schema: &str, texts: &[&[u8]]) -> Option<Parts>
     ensures part { IfSome result (λ parts. IsHidden parts.cat parts.hidden) }
 {
     let schema = read_schema(schema.as_bytes()).ok()?;
@@ -80,7 +80,7 @@ pub(crate) struct Loaded {
 
 /// The files of a schema's tables on a device that was loaded with them.
 pub(crate) fn load_tables(alloc: Global, schema: &str, texts: &[&[u8]]) -> Option<Loaded> {
-    let parts = parts_of(alloc, schema, texts)?;
+    let parts = read_parts(alloc, schema, texts)?;
     let mut flash = MemFlash::new(alloc, 14, &[]).ok()?;
     load_flash(alloc, &parts.cat, &parts.hidden, &mut flash, "key", 14).ok()?;
     Some(Loaded {
