@@ -21,8 +21,10 @@ pub(crate) struct Place<'a> {
 impl<'a> Place<'a> {
     /// The place of this offset in a text, or its end where the text has no such place.
     pub(crate) fn of(text: &'a [u8], at: usize) -> Place<'a> {
-        let (before, behind) = text.split_at(at.min(text.len()));
-        Place { before, behind }
+        Place {
+            before: text.get(..at).unwrap_or(text),
+            behind: text.get(at..).unwrap_or(&[]),
+        }
     }
 
     /// The number of its line, from 1.
@@ -75,9 +77,11 @@ impl Display for Numbers {
 impl<'a> Display for Place<'a> {
     fn fmt<W: Write>(&self, f: &mut Formatter<W>) -> Result<(), FormatError> {
         let front = self.front();
-        let (_, near) = front.split_at(front.len().saturating_sub(MOST_BEFORE));
+        let near = front
+            .get(front.len().saturating_sub(MOST_BEFORE)..)
+            .unwrap_or(front);
         let back = self.back();
-        let (next, _) = back.split_at(back.len().min(MOST_BEHIND));
+        let next = back.get(..MOST_BEHIND).unwrap_or(back);
         write!(f, "    {}{}\n    ", Bytes(near), Bytes(next))?;
         for _ in near {
             f.write_char(' ')?;
@@ -121,8 +125,12 @@ impl<'a> Display for Word<'a> {
                 f.write_str("a text that has no closing ' or a byte outside 0x20 to 0x7E")
             }
             _ => {
-                let (shown, rest) = bytes.split_at(bytes.len().min(MOST_BEHIND));
-                let dots = if rest.is_empty() { "" } else { "..." };
+                let shown = bytes.get(..MOST_BEHIND).unwrap_or(bytes);
+                let dots = if shown.len() == bytes.len() {
+                    ""
+                } else {
+                    "..."
+                };
                 write!(f, "{}{dots}", Bytes(shown))
             }
         }

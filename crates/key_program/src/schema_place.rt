@@ -90,7 +90,7 @@ impl<'a> Tokens<'a> {
                 if left == 0 {
                     return self.cursor.next();
                 }
-                left -= 1;
+                left = left.saturating_sub(1);
             }
         }
         None
