@@ -17,8 +17,6 @@ mod lines_and_files;
 #[cfg(test)]
 mod links;
 #[cfg(test)]
-mod loaded_indexes;
-#[cfg(test)]
 mod places;
 #[cfg(test)]
 mod ranks;
