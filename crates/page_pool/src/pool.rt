@@ -57,8 +57,8 @@ impl Model for PagePool {
 
     ghost view = { λ pool. record { pages = pool.pages.items; out = pool.out.items; filled = pool.filled.items } };
 
-    // There is one mark and one note a buffer, and there are at most 64 buffers.
-    ghost invariant = { λ pool. (vec_len pool.out ≡ vec_len pool.pages) × (vec_len pool.filled ≡ vec_len pool.pages) × (vec_len pool.pages ≤ 64) };
+    // There is one mark and one note a buffer, and there are 8 to 64 buffers.
+    ghost invariant = { λ pool. (vec_len pool.out ≡ vec_len pool.pages) × (vec_len pool.filled ≡ vec_len pool.pages) × (8 ≤ vec_len pool.pages) × (vec_len pool.pages ≤ 64) };
 }
 
 /// The first buffer that is not out.
@@ -91,9 +91,11 @@ impl PagePool {
         })
     }
 
-    /// The number of buffers.
+    /// The number of buffers, which is 8 to 64.
     pub fn size(&self) -> u32
         ensures size { result ≡ length self.now.pages }
+        ensures least { 8 ≤ result }
+        ensures most { result ≤ 64 }
     {
         self.pages.len() as u32
     }
