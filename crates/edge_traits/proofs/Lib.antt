@@ -8,3 +8,4 @@ pub mod DeviceFrames
 pub mod PageLemmas
 pub mod ToldEntries
 pub mod Takes
+pub mod CountLemmas

@@ -4,11 +4,12 @@ use Rattle.std.specs.List.{list_any}
 use Rattle.std.proofs.lemmas.Grind.{common_steps, flat_map-append}
 use Rattle.std.proofs.Math.Seq.{take-add}
 use Rattle.std.proofs.lemmas.Bool.{lt-ltb, le-ltb}
-use Rattle.ghost_model.specs.core.Channel.{Move, Answer, Piece, End, Failed, Entry, Journal}
+use Rattle.ghost_model.specs.core.Channel.{Move, Answer, Made, Port, Piece, End, Failed, Entry, Journal}
 use Rattle.ghost_model.specs.core.Channel as channel
 use Rattle.ghost_model.specs.core.Moves.{piece_of, answers, taken}
 use Rattle.ghost_model.specs.core.NextMove.{is_stop}
 use Rattle.edge_traits.specs.Links.{entry, gave}
+use Rattle.edge_traits.specs.Counting.{is_failure, has_failed}
 use Rattle.edge_traits.specs.Filling.{AreTakes, Fills}
 
 -- so far `have` bytes came, and neither the end nor a failure
@@ -55,6 +56,26 @@ stop_push (first ∷ more) made going =
     let parts = no_stop first more going in
     ap (λ b. b || list_any is_stop (answers (more ++ made ∷ []))) parts.0 ∙ stop_push more made parts.1
 
+-- where nothing stopped nothing failed
+no_failure : (answer : Answer) → is_stop answer ≡ false → is_failure answer ≡ false
+no_failure Made going = refl
+no_failure (Port port) going = refl
+no_failure (Piece bytes) going = refl
+no_failure End going = cc
+no_failure Failed going = cc
+
+none_failed : (journal : Journal) → list_any is_stop (answers journal) ≡ false → has_failed journal ≡ false
+none_failed [] going = refl
+none_failed (first ∷ more) going =
+    let parts = no_stop first more going in
+    ap (λ b. b || has_failed more) (no_failure first.answer parts.0) ∙ none_failed more parts.1
+
+fail_push : (journal : Journal) (made : Entry) → list_any is_stop (answers journal) ≡ false → has_failed (journal ++ made ∷ []) ≡ is_failure made.answer
+fail_push [] made going = or_false (is_failure made.answer)
+fail_push (first ∷ more) made going =
+    let parts = no_stop first more going in
+    ap (λ b. b || has_failed (more ++ made ∷ [])) (no_failure first.answer parts.0) ∙ fail_push more made parts.1
+
 sized : (have most : ℕ) (buffer : List ℕ) (journal : Journal) → have ≤ most → length buffer ≡ most → take have buffer ≡ taken journal → length (taken journal) ≡ have
 sized have most buffer journal within size front =
     let long : length (take have buffer) ≡ have = grind (arith, common_steps) in
@@ -90,6 +111,8 @@ full E Went most have first before buffer so whole =
       counted = sym size;
       ended = so.going ∙ sym (le-ltb have most whole);
       failed = tt;
+      calm = none_failed so.journal so.going;
+      broken = tt;
     }
 
 -- one take more, which gave nothing
@@ -100,6 +123,7 @@ record Stops (Later : Journal → Type 0) (most have : ℕ) (answer : Answer) (b
   pub front : take (length (taken journal)) buffer ≡ taken journal
   pub size : length (taken journal) ≡ have
   pub stops : list_any is_stop (answers journal) ≡ is_stop answer
+  pub fails : has_failed journal ≡ is_failure answer
 
 stops_by : (Went Later : Journal → Type 0) (most have first before : ℕ) (answer : Answer) (old new : List ℕ) → FillsSoFar Went most have first before old
     → ((journal : Journal) → Went journal → Later (journal ++ entry (channel.Take (most - have)) answer ∷ []))
@@ -115,6 +139,7 @@ stops_by Went Later most have first before answer old new so joins none kept =
       front = ap (λ t. take (length t) new) all ∙ ap (λ n. take n new) size ∙ kept ∙ so.front ∙ sym all;
       size = ap length all ∙ size;
       stops = stop_push so.journal (entry (channel.Take (most - have)) answer) so.going;
+      fails = fail_push so.journal (entry (channel.Take (most - have)) answer) so.going;
     }
 
 -- the stream ended
@@ -131,6 +156,8 @@ ended E Went Later most have first before old new so joins more kept =
       counted = sym end.size;
       ended = end.stops ∙ sym (lt-ltb have most more);
       failed = tt;
+      calm = end.fails;
+      broken = tt;
     }
 
 -- a take failed
@@ -148,4 +175,6 @@ failed E Went Later most have first before old new (Err error) is so joins kept 
       counted = tt;
       ended = tt;
       failed = end.stops;
+      calm = tt;
+      broken = end.fails;
     }

@@ -8,6 +8,7 @@ pub mod Marks
 pub mod Pages
 pub mod MemDevices
 pub mod Links
+pub mod Counting
 pub mod Told
 pub mod MemLinks
 pub mod Filling

@@ -11,3 +11,4 @@ pub mod Settled
 pub mod Honest
 pub mod Finished
 pub mod Ending
+pub mod Bounded

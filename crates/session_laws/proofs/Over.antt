@@ -73,7 +73,7 @@ later_back text (one ∷ later) =
     ])
 
 -- a whole frame fits where it came
-whole_only : (a b c d : Bool) (x y : ℕ) → (if a then Lacking x else if not b then Invalid else if c then Lacking y else if d then Complete else Invalid) ≡ Complete
+pub whole_only : (a b c d : Bool) (x y : ℕ) → (if a then Lacking x else if not b then Invalid else if c then Lacking y else if d then Complete else Invalid) ≡ Complete
     → (b ≡ true) × (c ≡ false) × (d ≡ true)
 whole_only true b c d x y e = let bad : ⊥ = cc in absurd bad
 whole_only false false c d x y e = let bad : ⊥ = cc in absurd bad
@@ -81,7 +81,7 @@ whole_only false true true d x y e = let bad : ⊥ = cc in absurd bad
 whole_only false true false false x y e = let bad : ⊥ = cc in absurd bad
 whole_only false true false true x y e = (refl, refl, refl)
 
-count_rows : (width count : ℕ) (bytes : List ℕ) → length (rows_from width count bytes) ≡ count
+pub count_rows : (width count : ℕ) (bytes : List ℕ) → length (rows_from width count bytes) ≡ count
 unfolding rows_from
 count_rows width zero bytes = refl
 count_rows width (suc count) bytes = let e = count_rows width count (drop width bytes) in omega (arith, e)

@@ -3,3 +3,4 @@ pub mod TextEnds
 pub mod TextCases
 pub mod HonestSessions
 pub mod Local
+pub mod Bounds
