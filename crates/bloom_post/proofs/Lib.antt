@@ -1,0 +1,3 @@
+pub mod PageBits
+pub mod LeasedBits
+pub mod Taking
