@@ -107,35 +107,11 @@ zero_more pool filter i count are within is unset bit low =
       | inr there ↦ bits_elsewhere pool filter i (replicate count 0) bit are within (omega arith) there ∙ unset bit (omega arith)
     ]
 
--- the bits of an identifier that was added are set
-has_first : (size id : ℕ) → has_bit size id (id % size) ≡ true
-has_first size id = or_left _ _ (eq-eqb (id % size) (id % size) refl)
-
-has_second : (size id : ℕ) → has_bit size id (spread 2654435761 id % size) ≡ true
-has_second size id = or_right _ _ (or_left _ _ (eq-eqb (spread 2654435761 id % size) (spread 2654435761 id % size) refl))
-
-has_third : (size id : ℕ) → has_bit size id (spread 2246822519 id % size) ≡ true
-has_third size id =
-    or_right _ _ (or_right _ _ (or_left _ _ (eq-eqb (spread 2246822519 id % size) (spread 2246822519 id % size) refl)))
-
-bit_of_member :
+-- a bit of an identifier that was added is set
+pub bit_of_member :
     (pool : Pool) (filter ids : List ℕ) (id bit : ℕ) → StandsFor pool filter ids → Contains ids id → bit < size_of (length filter)
     → has_bit (size_of (length filter)) id bit ≡ true → is_set pool filter bit ≡ true
 bit_of_member pool filter ids id bit stands has within is =
     stands.bits bit within
     ∙ list_any_at (λ (other : ℕ). has_bit (size_of (length filter)) other bit) ids has.0 id has.1
     (ap (λ (other : ℕ). has_bit (size_of (length filter)) other bit) has.2 ∙ is)
-
-all_three : (x y z : Bool) → x ≡ true → y ≡ true → z ≡ true → (x && (y && (z && true))) ≡ true
-all_three x y z first second third =
-    ap (λ (t : Bool). t && (y && (z && true))) first ∙ ap (λ (t : Bool). t && (z && true)) second ∙ ap (λ (t : Bool). t && true) third
-
-pub member_may_be :
-    (pool : Pool) (filter ids : List ℕ) (id : ℕ) → 0 < size_of (length filter) → StandsFor pool filter ids → Contains ids id
-    → list_all (is_set pool filter) (bits_of (size_of (length filter)) id) ≡ true
-member_may_be pool filter ids id some stands has =
-    let size = size_of (length filter) in
-    all_three _ _ _
-    (bit_of_member pool filter ids id (id % size) stands has (mod_below id size some) (has_first size id))
-    (bit_of_member pool filter ids id (spread 2654435761 id % size) stands has (mod_below (spread 2654435761 id) size some) (has_second size id))
-    (bit_of_member pool filter ids id (spread 2246822519 id % size) stands has (mod_below (spread 2246822519 id) size some) (has_third size id))

@@ -5,6 +5,7 @@
 #![tactic(auto)]
 
 mod bits;
+pub mod examples;
 pub mod filter;
 
 pub use filter::Filter;
