@@ -1,0 +1,4 @@
+pub mod PageBits
+pub mod LeasedBits
+pub mod Taking
+pub mod Filling
