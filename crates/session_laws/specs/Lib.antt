@@ -4,3 +4,4 @@ pub mod TextCases
 pub mod HonestSessions
 pub mod Local
 pub mod Bounds
+pub mod RowByRow
