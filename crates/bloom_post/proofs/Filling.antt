@@ -1,9 +1,9 @@
 -- The identifiers from 1 to 40,000 have each of 32,768 bits as the first of one of them.
-use Rattle.std.proofs.Common.{◌≡◌, ℕ, zero, suc, ◌*◌, ◌%◌, ◌<◌, ◌≤◌, ◌∙◌, ap, sym, true, List, length, eq-eqb, arith}
+use Rattle.std.proofs.Common.{◌≡◌, ℕ, zero, suc, ◌%◌, ◌<◌, ◌≤◌, ◌∙◌, ap, sym, true, List, length, eq-eqb, arith}
 use Rattle.std.specs.List.{Contains}
 use Rattle.std.proofs.lemmas.Bool.{or_left}
 use Rattle.page_pool.specs.Pools.{Pool}
-use Rattle.bloom_post.specs.Places.{size_of, has_bit}
+use Rattle.bloom_post.specs.Places.{size_of}
 use Rattle.bloom_post.specs.Filters.{StandsFor, is_set}
 use Rattle.bloom_post.proofs.LeasedBits.{bit_of_member}
 

@@ -1,42 +1,44 @@
 -- The bits of a filter, and what a write to the buffer of one of its leases leaves.
-use Rattle.std.proofs.Common.{◌≡◌, ◌≢◌, ℕ, zero, suc, ◌+◌, ◌*◌, ◌/◌, ◌%◌, ◌<◌, ◌∙◌, ap, sym, subst, inl, inr, Bool, true, false, ◌||◌, ◌&&◌, refl, List, [], ◌∷◌, length, get_or, replicate, nat_eq, eq-eqb, ne_eqb, arith}
-use Rattle.std.specs.List.{list_any, list_all, Contains}
+use Rattle.std.proofs.Common.{◌≡◌, ◌≢◌, ℕ, zero, suc, ◌+◌, ◌/◌, ◌%◌, ◌<◌, ◌∙◌, ap, sym, subst, inl, inr, Bool, true, false, ◌||◌, refl, List, [], length, get_or, replicate, nat_eq, eq-eqb, ne_eqb, arith}
+use Rattle.std.specs.List.{Contains}
 use Rattle.std.proofs.lemmas.List.{get_or-set_same, get_or-set_other}
 use Rattle.std.proofs.lemmas.List.Folds.{list_any_at}
-use Rattle.std.proofs.lemmas.Bool.{cases_eq, or_left, or_right}
-use Rattle.std.proofs.lemmas.Nat.{mod_below}
+use Rattle.std.proofs.lemmas.Bool.{cases_eq}
 use Rattle.std.proofs.lemmas.Nat.Bits.{bit_at-zero}
 use Rattle.std.specs.Int.{bit_at}
-use Rattle.page_pool.specs.Pools.{Pool, AreOut, KeepsOthers, bytes_at, written, others_out}
+use Rattle.page_pool.specs.Pools.{Pool, IsOut, AreOut, KeepsOthers, bytes_at, written, others_out}
 use Rattle.page_pool.specs.Laws.{KeepsOut}
-use Rattle.page_pool.proofs.Leases.{member_out, members_apart, written_changes, change_keeps_others, others_kept, others_same, others_trans, outs_kept}
-use Rattle.bloom_post.specs.Places.{size_of, bits_of, has_bit, spread, is_bit}
-use Rattle.bloom_post.specs.Filters.{ChangesOnly, StandsFor, is_set}
+use Rattle.page_pool.proofs.Leases.{member_out, members_apart, written_changes, change_keeps_others, others_kept, others_trans, outs_kept}
+use Rattle.bloom_post.specs.Places.{size_of, has_bit, is_bit}
+use Rattle.bloom_post.specs.Filters.{KeepsBeside, StandsFor, is_set}
 
--- one change after another
-pub changes_keep_out : {before now : Pool} {leases : List ℕ} → ChangesOnly leases before now → KeepsOut before now
-changes_keep_out changes = record { out = changes.out; size = changes.kept.size }
+-- the buffer of a lease is written
+pub lease_out :
+    (pool : Pool) (leases : List ℕ) (i lease : ℕ) → lease ≡ get_or leases i 0 → i < length leases → AreOut pool leases → IsOut pool lease
+lease_out pool leases i lease at within are = subst (λ other. IsOut pool other) (sym at) (member_out pool leases i 0 within are)
 
-pub changes_outs : {before now : Pool} (leases : List ℕ) → ChangesOnly leases before now → AreOut before leases → AreOut now leases
-changes_outs leases changes are = outs_kept leases (changes_keep_out changes) are
+pub written_beside :
+    (pool : Pool) (leases : List ℕ) (i lease : ℕ) (bytes : List ℕ) → lease ≡ get_or leases i 0 → i < length leases
+    → KeepsBeside leases pool (written pool lease bytes)
+written_beside pool leases i lease bytes at within =
+    subst (λ other. KeepsBeside leases pool (written pool other bytes)) (sym at) (record {
+      out = refl;
+      kept = change_keeps_others leases i 0 within (written_changes pool (get_or leases i 0) bytes);
+    })
 
-pub changes_none : (leases : List ℕ) (pool : Pool) → ChangesOnly leases pool pool
-changes_none leases pool = record { out = refl; kept = others_same (others_out pool leases) pool }
+-- and the others are kept by one write after another
+pub beside_keeps_out : {before now : Pool} {leases : List ℕ} → KeepsBeside leases before now → KeepsOut before now
+beside_keeps_out keeps = record { out = keeps.out; size = keeps.kept.size }
 
-pub changes_trans : {a b c : Pool} (leases : List ℕ) → ChangesOnly leases a b → ChangesOnly leases b c → ChangesOnly leases a c
-changes_trans {b = b} {c = c} leases first second = record {
+pub beside_outs : {before now : Pool} (leases : List ℕ) → KeepsBeside leases before now → AreOut before leases → AreOut now leases
+beside_outs leases keeps are = outs_kept leases (beside_keeps_out keeps) are
+
+pub beside_trans : {a b c : Pool} (leases : List ℕ) → KeepsBeside leases a b → KeepsBeside leases b c → KeepsBeside leases a c
+beside_trans {b = b} {c = c} leases first second = record {
   out = second.out ∙ first.out;
   kept =
       others_trans first.kept
-      (subst (λ (others : List Bool). KeepsOthers others b c) (others_kept leases (changes_keep_out first)) second.kept);
-}
-
-pub changes_written :
-    (leases : List ℕ) (pool : Pool) (i : ℕ) (bytes : List ℕ) → i < length leases
-    → ChangesOnly leases pool (written pool (get_or leases i 0) bytes)
-changes_written leases pool i bytes within = record {
-  out = refl;
-  kept = change_keeps_others leases i 0 within (written_changes pool (get_or leases i 0) bytes);
+      (subst (λ (others : List Bool). KeepsOthers others b c) (others_kept leases (beside_keeps_out first)) second.kept);
 }
 
 -- bits in the buffer that was written, and in the others
@@ -115,3 +117,14 @@ bit_of_member pool filter ids id bit stands has within is =
     stands.bits bit within
     ∙ list_any_at (λ (other : ℕ). has_bit (size_of (length filter)) other bit) ids has.0 id has.1
     (ap (λ (other : ℕ). has_bit (size_of (length filter)) other bit) has.2 ∙ is)
+
+-- the bits stay where the bytes do
+pub bits_stay :
+    (before now : Pool) (filter ids : List ℕ)
+    → ((i : ℕ) → i < length filter → bytes_at now (get_or filter i 0) ≡ bytes_at before (get_or filter i 0))
+    → StandsFor before filter ids → StandsFor now filter ids
+unfolding is_set
+bits_stay before now filter ids same stands = record {
+  bits = λ bit within.
+      ap (λ (page : List ℕ). is_bit page (bit % 16384)) (same (bit / 16384) (omega (arith, within))) ∙ stands.bits bit within;
+}

@@ -1,9 +1,6 @@
 -- Filters and identifiers computed.
-use Rattle.std.specs.Prelude.{◌≡◌, ℕ, ◌<◌, ◌≤◌, true, List, [], ◌∷◌, length, map}
-use Rattle.std.specs.List.{Contains}
-use Rattle.page_pool.specs.Pools.{Pool}
+use Rattle.std.specs.Prelude.{◌≡◌, [], ◌∷◌, map}
 use Rattle.bloom_post.specs.Places.{pages_of, size_of, bits_of}
-use Rattle.bloom_post.specs.Filters.{StandsFor, is_set}
 
 pub record SizesOfFilters : Type 0 where
   pub pages : map pages_of (8 ∷ 9 ∷ 11 ∷ 32 ∷ 64 ∷ []) ≡ 2 ∷ 2 ∷ 3 ∷ 10 ∷ 20 ∷ []
@@ -16,9 +13,3 @@ pub record BitsOfIdentifiers : Type 0 where
   pub of_ten_pages : bits_of 163840 40000 ≡ 40000 ∷ 49252 ∷ 9522 ∷ []
   pub of_twenty_pages : bits_of 327680 1000000 ≡ 16960 ∷ 51664 ∷ 139748 ∷ []
   pub highest : bits_of 327680 4294967295 ≡ 65535 ∷ 72840 ∷ 172355 ∷ []
-
--- a filter of two pages for identifiers among which are those from 1 to 40,000 has every bit set
-abbrev pub FillsTwoPages : Type 0
-FillsTwoPages =
-    (pool : Pool) (filter ids : List ℕ) → length filter ≡ 2 → ((id : ℕ) → 1 ≤ id → id ≤ 40000 → Contains ids id)
-    → StandsFor pool filter ids → (bit : ℕ) → bit < 32768 → is_set pool filter bit ≡ true

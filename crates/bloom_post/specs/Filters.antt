@@ -1,5 +1,5 @@
 -- What a filter stands for. A filter is the list of its leases.
-use Rattle.std.specs.Prelude.{◌≡◌, ℕ, ◌*◌, ◌/◌, ◌%◌, ◌<◌, Bool, List, length, get_or}
+use Rattle.std.specs.Prelude.{◌≡◌, ℕ, ◌/◌, ◌%◌, ◌<◌, Bool, List, length, get_or}
 use Rattle.std.specs.List.{list_any}
 use Rattle.page_pool.specs.Pools.{Pool, KeepsOthers, bytes_at, others_out}
 use Rattle.bloom_post.specs.Places.{size_of, has_bit, is_bit}
@@ -14,6 +14,6 @@ pub record StandsFor (pool : Pool) (filter : List ℕ) (ids : List ℕ) : Type 0
       (bit : ℕ) → bit < size_of (length filter) → is_set pool filter bit ≡ list_any (λ id. has_bit (size_of (length filter)) id bit) ids
 
 -- the same buffers are out, and those beside these leases' are as they were
-pub record ChangesOnly (leases : List ℕ) (before now : Pool) : Type 0 where
+pub record KeepsBeside (leases : List ℕ) (before now : Pool) : Type 0 where
   pub out : now.out ≡ before.out
   pub kept : KeepsOthers (others_out before leases) before now

@@ -5,7 +5,7 @@
 #![tactic(auto)]
 
 mod bits;
-pub mod examples;
 pub mod filter;
+pub mod laws;
 
 pub use filter::Filter;
