@@ -7,3 +7,4 @@ mod StepLemmas
 mod TellLemmas
 mod FromLemmas
 mod AskLemmas
+mod CellLemmas
