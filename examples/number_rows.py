@@ -11,8 +11,8 @@ compared as texts, so 7 and 07 are two keys.
 The k-th row of a file gets the identifier k, and each foreign key the number that its row got. The other fields stay
 as they are. Printed is how many rows each table has. Nothing is written where something is refused: a key that stands
 twice, a reference to a key that no row has, a field that is no value of its column (docs/DATA.md). Then one line on
-standard error names the file, the record, counted from 1 with the header, and the column, and the status is 1. The
-whole of the schema's rules is judged by `load`, as is the size of the files.
+standard error names the file, the line and the column, and the status is 1. The whole of the schema's rules is judged by
+`load`, as is the size of the files.
 """
 import argparse
 import collections
@@ -22,6 +22,7 @@ import re
 import sys
 
 TOKEN = re.compile(r'[ \t\n\r]*([A-Za-z_][A-Za-z0-9_]*|[0-9]+|[(),;]|\Z)')
+SPACE = re.compile(r'[ \t\n\r]*')
 INTEGER = re.compile(r'[+-]?[0-9]+')
 MOST_ROWS = 1000000
 Column = collections.namedtuple('Column', 'name size child')
@@ -50,15 +51,19 @@ class Schema:
         """The token that comes next, in lower case."""
         found = TOKEN.match(self.text, self.at)
         if not found:
-            raise Refused('%s, byte %d: this is no part of a schema' % (self.name, self.at))
+            raise self.refused(self.at + len(SPACE.match(self.text, self.at)[0]), 'this is no part of a schema')
         self.end = found.end()
         return found[1].lower()
+
+    def refused(self, at, what):
+        lines = self.text[:at].split('\n')
+        return Refused('%s, line %d, column %d: %s' % (self.name, len(lines), len(lines[-1]) + 1, what))
 
     def skip(self, *words):
         """Goes past these tokens, which have to come next."""
         for word in words:
             if self.token() != word:
-                raise Refused("%s, byte %d: '%s' should stand here" % (self.name, self.end - len(self.token()), word))
+                raise self.refused(self.end - len(self.token()), "'%s' should stand here" % word)
             self.at = self.end
 
     def has(self, *words):
@@ -70,7 +75,7 @@ class Schema:
     def take(self, pattern, what):
         word = self.token()
         if not re.fullmatch(pattern, word):
-            raise Refused('%s, byte %d: %s should stand here' % (self.name, self.end - len(word), what))
+            raise self.refused(self.end - len(word), '%s should stand here' % what)
         self.at = self.end
         return word
 
@@ -102,9 +107,14 @@ class Schema:
         return Column(name, size, child)
 
 
-def fault(file, record, column, what):
+def fault(file, line, column, what):
     where = ', column %s' % column if column else ''
-    return Refused('%s, record %d%s: %s' % (file, record, where, what))
+    return Refused('%s, line %d%s: %s' % (file, line, where, what))
+
+
+def plain(text):
+    """A text without control characters: a question mark in the place of each."""
+    return ''.join(it if it.isprintable() else '?' for it in text)
 
 
 def shown(field):
@@ -114,45 +124,47 @@ def shown(field):
 
 
 def records(name):
-    """The records of a file, each with its number; an empty line is none."""
+    """The records of a file, each with the line on which it begins, from 1; an empty line is none."""
     csv.field_size_limit(sys.maxsize)
     with open(name, encoding='latin-1', newline='') as file:
         if file.read(3) != '\xef\xbb\xbf':
             file.seek(0)
-        number = 0
+        line, reader = 1, csv.reader(file)
         try:
-            for record in filter(None, csv.reader(file)):
-                number += 1
-                yield number, record
+            for record in reader:
+                if record:
+                    yield line, record
+                line = reader.line_num + 1
         except csv.Error as error:
-            raise fault(name, number + 1, None, str(error))
+            raise fault(name, line, None, str(error))
 
 
 def rows(name, columns):
-    """The rows of a file, each with its record's number, its fields in the order of the schema."""
+    """The rows of a file, each with its record's line, its fields in the order of the schema."""
     found = records(name)
-    header = [field.lower() for field in next(found, (1, []))[1]]
+    line, header = next(found, (1, []))
+    header = [field.lower() for field in header]
     names = [column.name for column in columns]
     if sorted(header) != sorted(names):
-        raise fault(name, 1, None, 'the header should have these names: %s' % ','.join(names))
+        raise fault(name, line, None, 'the header should have these names: %s' % ','.join(names))
     places = [header.index(it) for it in names]
-    for number, record in found:
+    for number, (line, record) in enumerate(found, 1):
         if len(record) != len(names):
-            raise fault(name, number, None, 'it has %d fields, and the table %d columns' % (len(record), len(names)))
-        if number > MOST_ROWS + 1:
-            raise fault(name, number, None, 'a table has at most %d rows' % MOST_ROWS)
-        yield number, [record[place] for place in places]
+            raise fault(name, line, None, 'it has %d fields, and the table %d columns' % (len(record), len(names)))
+        if number > MOST_ROWS:
+            raise fault(name, line, None, 'a table has at most %d rows' % MOST_ROWS)
+        yield line, [record[place] for place in places]
 
 
 def read_keys(name, columns):
     """The number of each key of a file."""
-    keys = {}
-    for number, (key, *_) in rows(name, columns):
+    keys, lines = {}, {}
+    for line, (key, *_) in rows(name, columns):
         if key == '':
-            raise fault(name, number, 'id', 'the key is empty')
+            raise fault(name, line, 'id', 'the key is empty')
         if key in keys:
-            raise fault(name, number, 'id', 'the key %s stands in record %d already' % (shown(key), keys[key] + 1))
-        keys[key] = len(keys) + 1
+            raise fault(name, line, 'id', 'the key %s stands in line %d already' % (shown(key), lines[key]))
+        keys[key], lines[key] = len(keys) + 1, line
     return keys
 
 
@@ -172,16 +184,16 @@ def wrong(column, field):
 
 def numbered(name, columns, keys):
     """The rows of a file with their new identifiers and foreign keys."""
-    for number, row in rows(name, columns):
-        row[0] = str(number - 1)
+    for number, (line, row) in enumerate(rows(name, columns), 1):
+        row[0] = str(number)
         for place, column in enumerate(columns[1:], 1):
             if column.child:
                 if row[place] not in keys[column.child]:
                     key = 'key %s' % shown(row[place]) if row[place] else 'empty key'
-                    raise fault(name, number, column.name, 'there is no %s with the %s' % (column.child, key))
+                    raise fault(name, line, column.name, 'there is no %s with the %s' % (column.child, key))
                 row[place] = str(keys[column.child][row[place]])
             elif wrong(column, row[place]):
-                raise fault(name, number, column.name, wrong(column, row[place]))
+                raise fault(name, line, column.name, wrong(column, row[place]))
         yield row
 
 
@@ -210,9 +222,9 @@ def main():
     try:
         number_rows(**vars(words.parse_args()))
     except OSError as error:
-        sys.exit('%s: %s' % (error.filename, error.strerror))
+        sys.exit(plain('%s: %s' % (error.filename, error.strerror)))
     except Refused as error:
-        sys.exit(str(error))
+        sys.exit(plain(str(error)))
 
 
 if __name__ == '__main__':

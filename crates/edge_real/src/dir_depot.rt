@@ -70,7 +70,7 @@ impl<R: Files + Drop> DirDepot<R> {
             self.first = Some(FileFault {
                 deed,
                 name: FileName::of(name),
-                reason: Reason::of(error.kind()),
+                reason: Reason::of(deed, error.kind()),
             });
         }
     }

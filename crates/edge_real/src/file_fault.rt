@@ -10,6 +10,9 @@ pub enum Reason {
     /// There is no such file, or no such folder.
     NotThere,
 
+    /// There is no such folder in which it could be written.
+    NoFolder,
+
     /// The system does not allow it.
     NotAllowed,
 
@@ -27,10 +30,13 @@ pub enum Reason {
 }
 
 impl Reason {
-    /// The reason that an error of this kind has.
-    pub(crate) fn of(kind: ErrorKind) -> Reason {
+    /// The reason that an error of this kind has, where this was to be done.
+    pub(crate) fn of(deed: Deed, kind: ErrorKind) -> Reason {
         match kind {
-            ErrorKind::NotFound | ErrorKind::NotADirectory => Reason::NotThere,
+            ErrorKind::NotFound | ErrorKind::NotADirectory => match deed {
+                Deed::Read => Reason::NotThere,
+                Deed::Write => Reason::NoFolder,
+            },
             ErrorKind::PermissionDenied | ErrorKind::ReadOnlyFilesystem => Reason::NotAllowed,
             ErrorKind::IsADirectory => Reason::Folder,
             ErrorKind::StorageFull | ErrorKind::QuotaExceeded => Reason::NoRoom,
@@ -44,6 +50,7 @@ impl Display for Reason {
     fn fmt<W: Write>(&self, f: &mut Formatter<W>) -> Result<(), FormatError> {
         f.write_str(match self {
             Reason::NotThere => ": it is not there",
+            Reason::NoFolder => ": its folder is not there",
             Reason::NotAllowed => ": the system does not allow it",
             Reason::Folder => ": it is a folder",
             Reason::NoRoom => ": there is no room",

@@ -1,4 +1,5 @@
 pub mod Fields
+pub mod FileLineLemmas
 pub mod OpeningLaws
 pub mod Placing
 pub mod ReadFiles

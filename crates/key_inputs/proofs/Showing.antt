@@ -10,7 +10,8 @@ use Rattle.edge_traits.specs.Files.{Files}
 use Rattle.key_inputs.specs.Openings.{TableRule, table_file}
 use Rattle.key_inputs.specs.Rules.{table_rule}
 use Rattle.key_inputs.specs.Views.{TellsRule, AreFiles, rule_in, rule_or, name_at}
-use Rattle.key_inputs.specs.Naming.{IsNamedBy, IsShownBy, IsSpelledIn, OfTable, OfField, OfKey, ShowsField, ShowsKey}
+use Rattle.key_inputs.specs.Naming.{IsNamedBy, IsShownBy, IsSpelledIn, OfTable, OfField, OfKey, OfRecord, ShowsField, ShowsKey, TellsLine}
+use Rattle.csv_split.specs.declared.faults.Place.{Place}
 use Rattle.key_inputs.specs.declared.shown.Shown.{Shown}
 use Rattle.key_inputs.specs.declared.broken_table.BrokenTable.{BrokenTable}
 use Rattle.key_inputs.specs.declared.broken_table.BrokenTable.TheVariants as broken
@@ -36,20 +37,46 @@ value_of_file files folder schema table file field value found is shows other he
     let same : file ≡ other = cc (both) in
     subst (λ f. ShowsField f field.at value) same shows
 
+line_of_file : (files : Files) (folder : List ℕ) (schema : Schema) (table : ℕ) (file : List ℕ) (at : Place) (line : Option ℕ)
+    → map.get files (table_file folder (name_at schema table)) ≡ Some file → at.table ≡ table → TellsLine file at line
+    → (other : List ℕ) → map.get files (table_file folder (name_at schema at.table)) ≡ Some other → TellsLine other at line
+line_of_file files folder schema table file at line found is tells other here =
+    let both : Some file ≡ Some other = sym found ∙ ap (λ t. map.get files (table_file folder (name_at schema t))) (sym is) ∙ here in
+    let same : file ≡ other = cc (both) in
+    subst (λ f. TellsLine f at line) same tells
+
 broken_in_file : (files : Files) (folder : List ℕ) (schema : Schema) (table : ℕ) (file : List ℕ) (told : BrokenTable)
     → map.get files (table_file folder (name_at schema table)) ≡ Some file → IsOfFile table (table_rule told)
-    → IsNamedBy schema told → OfField (ShowsField file) told → IsShownBy files folder schema told
-broken_in_file files folder schema table file (broken.FileLimit named) found of names shows = record { names = names; value = tt; key = tt }
-broken_in_file files folder schema table file (broken.Header named) found of names shows = record { names = names; value = tt; key = tt }
-broken_in_file files folder schema table file (broken.RowLimit named) found of names shows = record { names = names; value = tt; key = tt }
-broken_in_file files folder schema table file (broken.FieldCount named) found of names shows = record { names = names; value = tt; key = tt }
-broken_in_file files folder schema table file (broken.BadId field value) found of names shows =
-    record { names = names; value = value_of_file files folder schema table file field value found of shows; key = tt }
-broken_in_file files folder schema table file (broken.BadInt field value) found of names shows =
-    record { names = names; value = value_of_file files folder schema table file field value found of shows; key = tt }
-broken_in_file files folder schema table file (broken.BadChars field value) found of names shows =
-    record { names = names; value = value_of_file files folder schema table file field value found of shows; key = tt }
-broken_in_file files folder schema table file (broken.BadReference field child value) found of names shows = absurd of
+    → IsNamedBy schema told → OfField (ShowsField file) told → OfRecord (TellsLine file) told → IsShownBy files folder schema told
+broken_in_file files folder schema table file (broken.FileLimit named) found of names shows lines = record { names = names; value = tt; line = tt; key = tt }
+broken_in_file files folder schema table file (broken.Header named) found of names shows lines =
+    record { names = names; value = tt; line = line_of_file files folder schema table file named.at named.line found of lines; key = tt }
+broken_in_file files folder schema table file (broken.RowLimit named) found of names shows lines =
+    record { names = names; value = tt; line = line_of_file files folder schema table file named.at named.line found of lines; key = tt }
+broken_in_file files folder schema table file (broken.FieldCount named) found of names shows lines =
+    record { names = names; value = tt; line = line_of_file files folder schema table file named.at named.line found of lines; key = tt }
+broken_in_file files folder schema table file (broken.BadId field value) found of names shows lines =
+    record {
+      names = names;
+      value = value_of_file files folder schema table file field value found of shows;
+      line = line_of_file files folder schema table file field.at field.line found of lines;
+      key = tt;
+    }
+broken_in_file files folder schema table file (broken.BadInt field value) found of names shows lines =
+    record {
+      names = names;
+      value = value_of_file files folder schema table file field value found of shows;
+      line = line_of_file files folder schema table file field.at field.line found of lines;
+      key = tt;
+    }
+broken_in_file files folder schema table file (broken.BadChars field value) found of names shows lines =
+    record {
+      names = names;
+      value = value_of_file files folder schema table file field value found of shows;
+      line = line_of_file files folder schema table file field.at field.line found of lines;
+      key = tt;
+    }
+broken_in_file files folder schema table file (broken.BadReference field child value) found of names shows lines = absurd of
 
 rule_first : (told : Option load.LoadFault) (rule : load.LoadFault) (faults : List load.LoadFault) → load.TellsFirst told faults
     → Some (TableRule rule) ≡ rule_or told → load.IsFirst rule faults
@@ -61,17 +88,18 @@ rule_first (Some other) rule faults first is =
 pub shown_of_file : (files : Files) (folder : List ℕ) (schema : Schema) (table : ℕ) (file : List ℕ) (told : Option load.LoadFault) (error : OpenFault)
     → map.get files (table_file folder (name_at schema table)) ≡ Some file
     → load.TellsFirst told (load.file_faults table (columns_of schema table) file) → rule_in error ≡ rule_or told
-    → OfTable (IsNamedBy schema) error → OfTable (OfField (ShowsField file)) error → OfTable (IsShownBy files folder schema) error
-shown_of_file files folder schema table file told open_fault.NoMemory found first rule names shows = tt
-shown_of_file files folder schema table file told open_fault.Depot found first rule names shows = tt
-shown_of_file files folder schema table file told (open_fault.Input fault.SchemaBytes) found first rule names shows = tt
-shown_of_file files folder schema table file told (open_fault.Input (fault.Schema other)) found first rule names shows = tt
-shown_of_file files folder schema table file told (open_fault.Input (fault.Table one)) found first rule names shows =
+    → OfTable (IsNamedBy schema) error → OfTable (OfField (ShowsField file)) error → OfTable (OfRecord (TellsLine file)) error
+    → OfTable (IsShownBy files folder schema) error
+shown_of_file files folder schema table file told open_fault.NoMemory found first rule names shows lines = tt
+shown_of_file files folder schema table file told open_fault.Depot found first rule names shows lines = tt
+shown_of_file files folder schema table file told (open_fault.Input fault.SchemaBytes) found first rule names shows lines = tt
+shown_of_file files folder schema table file told (open_fault.Input (fault.Schema other)) found first rule names shows lines = tt
+shown_of_file files folder schema table file told (open_fault.Input (fault.Table one)) found first rule names shows lines =
     broken_in_file files folder schema table file one found
     (of_file table (columns_of schema table) file (table_rule one) (rule_first told (table_rule one) (load.file_faults table (columns_of schema table) file) first rule))
-    names shows
-shown_of_file files folder schema table file told (open_fault.Input fault.ScriptBytes) found first rule names shows = tt
-shown_of_file files folder schema table file told (open_fault.Input fault.ScriptTexts) found first rule names shows = tt
+    names shows lines
+shown_of_file files folder schema table file told (open_fault.Input fault.ScriptBytes) found first rule names shows lines = tt
+shown_of_file files folder schema table file told (open_fault.Input fault.ScriptTexts) found first rule names shows lines = tt
 
 same_files : (one other : List (List ℕ)) → each Some one ≡ each Some other → one ≡ other
 same_files [] [] h = refl
@@ -96,6 +124,7 @@ broken_key files folder schema read tables (broken.BadChars field value) are is 
 broken_key files folder schema read tables (broken.BadReference field child value) are is of names shows = record {
   names = names;
   value = tt;
+  line = tt;
   key = λ other there.
       let same : read ≡ other = same_files read other (sym are ∙ there) in
       subst (λ (database : Database). ShowsKey database field.at value) (is ∙ ap (database_of schema) same) shows;

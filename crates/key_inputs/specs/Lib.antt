@@ -1,3 +1,4 @@
+pub mod FileLines
 pub mod Naming
 pub mod Openings
 pub mod OpeningLaws

@@ -1,5 +1,5 @@
 -- The names and the value that a fault shows: those of the schema and of the file at the place where the rule is broken.
-use Rattle.std.specs.Prelude.{◌≡◌, ◌≢◌, ℕ, ◌-◌, nat_le, List, [], length, take, slice_get, Option, Some, None, option_map, option_and_then, Ok, if◌then◌else◌, ⊤}
+use Rattle.std.specs.Prelude.{◌≡◌, ◌≢◌, ℕ, ◌-◌, nat_le, List, [], length, take, slice_get, Option, Some, None, IfSome, option_map, option_and_then, Ok, if◌then◌else◌, ⊤}
 use Rattle.std.specs.FinMap as map
 use Rattle.ghost_model.specs.core.Schema.{Schema, Column, column_at}
 use Rattle.ghost_model.specs.readings.SchemaReading.{schema_reading}
@@ -11,6 +11,7 @@ use Rattle.csv_split.specs.declared.faults.Place.{Place}
 use Rattle.csv_split.specs.declared.faults.LoadFault.{LoadFault}
 use Rattle.csv_split.specs.declared.faults.LoadFault.TheVariants as load_fault
 use Rattle.edge_traits.specs.Files.{Files}
+use Rattle.key_inputs.specs.FileLines.{BeginsOn}
 use Rattle.key_inputs.specs.Openings.{table_file}
 use Rattle.key_inputs.specs.Views.{AreFiles, name_at}
 use Rattle.key_inputs.specs.declared.shown.Front.{Front}
@@ -91,6 +92,17 @@ OfField says (broken.BadInt field value) = says field.at value
 OfField says (broken.BadChars field value) = says field.at value
 OfField says _ = ⊤
 
+-- what is said of a record's place and of the line that is told, where the fault is found in the file
+abbrev pub OfRecord : (Place → Option ℕ → Type 0) → BrokenTable → Type 0
+OfRecord says (broken.FileLimit named) = ⊤
+OfRecord says (broken.Header named) = says named.at named.line
+OfRecord says (broken.RowLimit named) = says named.at named.line
+OfRecord says (broken.FieldCount named) = says named.at named.line
+OfRecord says (broken.BadId field value) = says field.at field.line
+OfRecord says (broken.BadInt field value) = says field.at field.line
+OfRecord says (broken.BadChars field value) = says field.at field.line
+OfRecord says (broken.BadReference field child value) = ⊤
+
 -- what is said of a foreign key's place and of the value that is shown
 abbrev pub OfKey : (Place → Shown → Type 0) → BrokenTable → Type 0
 OfKey says (broken.BadReference field child value) = says field.at value
@@ -104,10 +116,25 @@ field_at file at = option_and_then (λ fields. slice_get fields at.column) (slic
 abbrev pub ShowsField : (file : List ℕ) → Place → Shown → Type 0
 ShowsField file at value = value ≢ Unread → option_map shown (field_at file at) ≡ Some value
 
+-- a line that is told is the one on which the record begins
+abbrev pub TellsLine : (file : List ℕ) → Place → Option ℕ → Type 0
+TellsLine file at line = IfSome line (BeginsOn file at.rec)
+
 -- the value is that of a row of the tables, a number in decimal
 abbrev pub ShowsKey : Database → Place → Shown → Type 0
 ShowsKey tables at value =
     (held : Value) → value_at_row tables at.table (at.rec - 1) at.column ≡ Some held → value ≡ shown (field_text held)
+
+-- where the record of a fault stands
+abbrev pub record_place : LoadFault → Option Place
+record_place (load_fault.Header at) = Some at
+record_place (load_fault.RowLimit at) = Some at
+record_place (load_fault.FieldCount at) = Some at
+record_place (load_fault.BadId at) = Some at
+record_place (load_fault.BadInt at) = Some at
+record_place (load_fault.BadChars at) = Some at
+record_place (load_fault.BadReference at) = Some at
+record_place _ = None
 
 -- where one field breaks the rule of its column
 abbrev pub field_place : LoadFault → Option Place
@@ -122,12 +149,19 @@ pub record IsAt (told : LoadFault) (given : Shown) (at : Place) (value : Shown) 
   pub place : field_place told ≡ Some at
   pub value_given : value ≡ given
 
--- a broken rule of a table's file shows the names of a schema, and the value of the file, which lies in a folder, or of
--- the rows that the files spell
+-- a fault stands in a record, and this line is told
+pub record IsIn (told : LoadFault) (given : Option ℕ) (at : Place) (line : Option ℕ) : Type 0 where
+  pub place : record_place told ≡ Some at
+  pub line_given : line ≡ given
+
+-- a broken rule of a table's file shows the names of a schema, and the line and the value of the file, which lies in a
+-- folder, or the value of the rows that the files spell
 pub record IsShownBy (files : Files) (folder : List ℕ) (schema : Schema) (told : BrokenTable) : Type 0 where
   pub names : IsNamedBy schema told
   pub value : OfField (λ at value. (file : List ℕ) → map.get files (table_file folder (name_at schema at.table)) ≡ Some file
       → ShowsField file at value) told
+  pub line : OfRecord (λ at line. (file : List ℕ) → map.get files (table_file folder (name_at schema at.table)) ≡ Some file
+      → TellsLine file at line) told
   pub key : OfKey (λ at value. (read : List (List ℕ)) → AreFiles files folder schema read
       → ShowsKey (database_of schema read) at value) told
 

@@ -83,7 +83,7 @@ pub enum BrokenSchema {
     Cycle(TableNamed),
 
     /// Other than one table has no parent.
-    #[error("{roots} tables have no parent")]
+    #[error("{roots} tables are named by no foreign key, and one alone must be")]
     NotOneRoot { roots: usize },
 }
 

@@ -17,11 +17,27 @@ pub struct RecordNamed {
 
     /// The name of the table.
     pub table: Shown,
+
+    /// The line of the file, from 1, on which it begins; none of a whole file, and where it was not found again.
+    pub line: Option<u32>,
 }
 
 impl Display for RecordNamed {
     fn fmt<W: Write>(&self, f: &mut Formatter<W>) -> Result<(), FormatError> {
-        write!(f, "{}.csv, record {}", self.table, self.at.rec)
+        write!(f, "{}.csv, {}", self.table, Spot(self.line, self.at.rec))
+    }
+}
+
+/// The line on which a record begins, or where that is not known the record's number.
+#[derive(Clone, Copy)]
+struct Spot(Option<u32>, u32);
+
+impl Display for Spot {
+    fn fmt<W: Write>(&self, f: &mut Formatter<W>) -> Result<(), FormatError> {
+        match self.0 {
+            Some(line) => write!(f, "line {line}"),
+            None => write!(f, "record {}", self.1),
+        }
     }
 }
 
@@ -36,14 +52,20 @@ pub struct FieldNamed {
 
     /// The name of the column.
     pub column: Shown,
+
+    /// The line of the file, from 1, on which its record begins; none where it was not found again, as that of a foreign
+    /// key is not.
+    pub line: Option<u32>,
 }
 
 impl Display for FieldNamed {
     fn fmt<W: Write>(&self, f: &mut Formatter<W>) -> Result<(), FormatError> {
         write!(
             f,
-            "{}.csv, record {}, column {} ({})",
-            self.table, self.at.rec, self.at.column, self.column
+            "{}.csv, {}, column {}",
+            self.table,
+            Spot(self.line, self.at.rec),
+            self.column
         )
     }
 }
@@ -56,7 +78,7 @@ pub enum BrokenTable {
     FileLimit(RecordNamed),
 
     /// The first record does not name the columns, or is missing.
-    #[error("{0}: the first record must name the table's columns in their order")]
+    #[error("{0}: the first line must name the table's columns in their order")]
     Header(RecordNamed),
 
     /// There is one more row than a table may have.
@@ -64,7 +86,7 @@ pub enum BrokenTable {
     RowLimit(RecordNamed),
 
     /// A record has not one field for each column.
-    #[error("{0}: the record must have one field for each column")]
+    #[error("{0}: the row must have one field for each column")]
     FieldCount(RecordNamed),
 
     /// The identifier is not the row's number.

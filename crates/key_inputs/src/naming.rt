@@ -1,13 +1,14 @@
 //! The names of a schema and the value of a field, put into a fault of a table's file.
 
-ghost use Rattle.std.specs.Prelude.{◌≡◌};
+ghost use Rattle.std.specs.Prelude.{◌≡◌, Some};
 ghost use Rattle.csv_split.specs.Faults.{told};
-ghost use Rattle.key_inputs.specs.Naming.{IsAt, IsFieldNamedBy, IsNamedBy, IsRecordNamedBy, OfField, OfKey, OfTable, ShowsField, ShowsKey, child_name_at, column_name_at, field_place, name_of_child, shown};
+ghost use Rattle.key_inputs.specs.Naming.{IsAt, IsFieldNamedBy, IsIn, IsNamedBy, IsRecordNamedBy, OfField, OfKey, OfRecord, OfTable, ShowsField, ShowsKey, TellsLine, child_name_at, column_name_at, field_place, name_of_child, record_place, shown};
 ghost use Rattle.key_inputs.specs.Views.{name_at, rule_in, rule_or};
 
 use crate::broken_table::{BrokenTable, FieldNamed, RecordNamed};
 use crate::faults::{InputFault, OpenFault};
 use crate::field_values::{field_in, value_in};
+use crate::file_lines::line_of_record;
 use crate::shown::Shown;
 use csv_split::{LoadFault, Place, Tables};
 use std::alloc::Global;
@@ -24,10 +25,12 @@ pub(crate) fn fault_of_file(
     ensures not_depot { result ≡ OpenFault.Depot → ⊥ }
     ensures names { OfTable (IsNamedBy schema.now) result }
     ensures value { OfTable (OfField (ShowsField file.now)) result }
+    ensures line { OfTable (OfRecord (TellsLine file.now)) result }
 {
+    let line = line_of_fault(alloc, file, &fault);
     match place_of(&fault) {
-        Some(at) => with_names(schema, fault, field_in(alloc, file, &at)),
-        None => with_names(schema, fault, Shown::Unread),
+        Some(at) => with_names(schema, fault, field_in(alloc, file, &at), line),
+        None => with_names(schema, fault, Shown::Unread, line),
     }
 }
 
@@ -39,8 +42,28 @@ pub(crate) fn fault_of_keys(schema: &Schema, tables: &Tables, fault: LoadFault) 
     ensures value { OfTable (OfKey (ShowsKey tables.now)) result }
 {
     match place_of(&fault) {
-        Some(at) => with_names(schema, fault, value_in(tables, &at)),
-        None => with_names(schema, fault, Shown::Unread),
+        Some(at) => with_names(schema, fault, value_in(tables, &at), None),
+        None => with_names(schema, fault, Shown::Unread, None),
+    }
+}
+
+/// The line of a file on which the record of a fault begins.
+fn line_of_fault(alloc: Global, file: &[u8], fault: &LoadFault) -> Option<u32>
+    ensures line { (at : Place) → record_place fault.now ≡ Some at → TellsLine file.now at result }
+{
+    match record_of(fault) {
+        Some(at) => line_of_record(alloc, file, at.rec),
+        None => None,
+    }
+}
+
+/// Where the record of a fault stands.
+fn record_of(fault: &LoadFault) -> Option<Place>
+    ensures place { result ≡ record_place fault.now }
+{
+    match fault {
+        LoadFault::Header(at) | LoadFault::RowLimit(at) | LoadFault::FieldCount(at) => Some(*at),
+        _ => place_of(fault),
     }
 }
 
@@ -57,34 +80,36 @@ fn place_of(fault: &LoadFault) -> Option<Place>
     }
 }
 
-/// A fault with the names of a schema, and with the value of the field that breaks the rule, where it is one field's.
-fn with_names(schema: &Schema, fault: LoadFault, value: Shown) -> OpenFault
+/// A fault with the names of a schema, with the value of the field that breaks the rule, where it is one field's, and with
+/// the line of its record.
+fn with_names(schema: &Schema, fault: LoadFault, value: Shown, line: Option<u32>) -> OpenFault
     ensures rule { rule_in result ≡ rule_or (told fault) }
     ensures not_depot { result ≡ OpenFault.Depot → ⊥ }
     ensures names { OfTable (IsNamedBy schema.now) result }
     ensures field { OfTable (OfField (IsAt fault value)) result }
     ensures key { OfTable (OfKey (IsAt fault value)) result }
+    ensures line { OfTable (OfRecord (IsIn fault line)) result }
 {
     let broken = match fault {
         LoadFault::NoMemory => return OpenFault::NoMemory,
-        LoadFault::FileLimit(at) => BrokenTable::FileLimit(record_named(schema, at)),
-        LoadFault::Header(at) => BrokenTable::Header(record_named(schema, at)),
-        LoadFault::RowLimit(at) => BrokenTable::RowLimit(record_named(schema, at)),
-        LoadFault::FieldCount(at) => BrokenTable::FieldCount(record_named(schema, at)),
+        LoadFault::FileLimit(at) => BrokenTable::FileLimit(record_named(schema, at, line)),
+        LoadFault::Header(at) => BrokenTable::Header(record_named(schema, at, line)),
+        LoadFault::RowLimit(at) => BrokenTable::RowLimit(record_named(schema, at, line)),
+        LoadFault::FieldCount(at) => BrokenTable::FieldCount(record_named(schema, at, line)),
         LoadFault::BadId(at) => {
-            let field = field_named(schema, at);
+            let field = field_named(schema, at, line);
             BrokenTable::BadId { field, value }
         }
         LoadFault::BadInt(at) => {
-            let field = field_named(schema, at);
+            let field = field_named(schema, at, line);
             BrokenTable::BadInt { field, value }
         }
         LoadFault::BadChars(at) => {
-            let field = field_named(schema, at);
+            let field = field_named(schema, at, line);
             BrokenTable::BadChars { field, value }
         }
         LoadFault::BadReference(at) => {
-            let field = field_named(schema, at);
+            let field = field_named(schema, at, line);
             let child = child_name(schema, &at);
             BrokenTable::BadReference {
                 field,
@@ -96,23 +121,30 @@ fn with_names(schema: &Schema, fault: LoadFault, value: Shown) -> OpenFault
     OpenFault::Input(InputFault::Table(broken))
 }
 
-/// A record with the name of its table.
-fn record_named(schema: &Schema, at: Place) -> RecordNamed
+/// A record with the name of its table and its line.
+fn record_named(schema: &Schema, at: Place, line: Option<u32>) -> RecordNamed
     ensures place { result.at ≡ at }
+    ensures line { result.line ≡ line }
     ensures name { IsRecordNamedBy schema.now result }
 {
     let table = table_name(schema, usize::from(at.table));
-    RecordNamed { at, table }
+    RecordNamed { at, table, line }
 }
 
-/// A field with the names of its table and its column.
-fn field_named(schema: &Schema, at: Place) -> FieldNamed
+/// A field with the names of its table and its column, and the line of its record.
+fn field_named(schema: &Schema, at: Place, line: Option<u32>) -> FieldNamed
     ensures place { result.at ≡ at }
+    ensures line { result.line ≡ line }
     ensures names { IsFieldNamedBy schema.now result }
 {
     let table = table_name(schema, usize::from(at.table));
     let column = column_name(schema, &at);
-    FieldNamed { at, table, column }
+    FieldNamed {
+        at,
+        table,
+        column,
+        line,
+    }
 }
 
 /// The name of a table, empty where there is no such table.

@@ -174,7 +174,11 @@ fn too_long(schema: &Schema, table: usize) -> InputFault
         column: 0,
     };
     let table = table_name(schema, table);
-    InputFault::Table(BrokenTable::FileLimit(RecordNamed { at, table }))
+    InputFault::Table(BrokenTable::FileLimit(RecordNamed {
+        at,
+        table,
+        line: None,
+    }))
 }
 
 /// The name of the file of a table's rows.

@@ -56,22 +56,23 @@ fn words_that_no_case_can_have_are_told(rt: HostRuntime) -> Result<(), AllocErro
 /// What is told of a whole file, and of the row after the last.
 #[test]
 fn limits_of_a_file_are_told(rt: HostRuntime) -> Result<(), AllocError> {
-    let named = |rec: u32| RecordNamed {
+    let named = |rec: u32, line: Option<u32>| RecordNamed {
         at: Place {
             table: 2,
             rec,
             column: 0,
         },
         table: Shown::of(b"visit"),
+        line,
     };
     let cases = [
         (
-            BrokenTable::FileLimit(named(0)),
+            BrokenTable::FileLimit(named(0, None)),
             "visit.csv: the file has more than 67108864 bytes",
         ),
         (
-            BrokenTable::RowLimit(named(1_000_002)),
-            "visit.csv, record 1000002: the table has more than 1000000 rows",
+            BrokenTable::RowLimit(named(1_000_002, Some(1_000_003))),
+            "visit.csv, line 1000003: the table has more than 1000000 rows",
         ),
     ];
     for (broken, line) in cases.iter() {

@@ -4,7 +4,7 @@ use Rattle.ghost_model.specs.refusals.LoadFaults.{TellsFirst, file_faults}
 use Rattle.csv_split.specs.Faults.{told}
 use Rattle.edge_traits.specs.Files.{HasFile}
 use Rattle.key_inputs.specs.Openings.{table_file}
-use Rattle.key_inputs.specs.Naming.{OfField, OfTable, ShowsField}
+use Rattle.key_inputs.specs.Naming.{OfField, OfRecord, OfTable, ShowsField, TellsLine}
 use Rattle.key_inputs.specs.Views.{name_at}
 use Rattle.key_inputs.proofs.Showing.{shown_of_file}
 use Rattle.key_inputs.proofs.opening.open_table.Goals as goal
@@ -20,3 +20,4 @@ returns-clause-names g c files h =
     (subst (λ bytes. TellsFirst (told c.in-Err-read_table.fault) (file_faults c.args.table (columns_of c.args.schema.now c.args.table) bytes)) c.deref.ensures.value c.in-Err-read_table.ensures.judged)
     c.fault_of_file.ensures.rule c.fault_of_file.ensures.names
     (subst (λ bytes. OfTable (OfField (ShowsField bytes)) c.fault_of_file.result) c.deref-in-Err-read_table.ensures.value c.fault_of_file.ensures.value)
+    (subst (λ bytes. OfTable (OfRecord (TellsLine bytes)) c.fault_of_file.result) c.deref-in-Err-read_table.ensures.value c.fault_of_file.ensures.line)
