@@ -1,6 +1,6 @@
 -- One more text was told.
-use Rattle.std.proofs.Common.{◌≡◌, ◌≤◌, ℕ, zero, suc, ◌+◌, ◌⊎◌, inl, inr, arith, Bool, true, false, ◌||◌, List, [], ◌∷◌, ◌++◌, length, map, drop, refl, sym, ap, ◌∙◌, subst, append-nil, length-append, Option, Some, None, slice_get}
-use Rattle.std.specs.Prelude.{if◌then◌else◌, count_by, min, is_some}
+use Rattle.std.proofs.Common.{◌≡◌, ◌≤◌, ◌<◌, ℕ, zero, suc, ◌+◌, ◌⊎◌, inl, inr, arith, Bool, true, false, ◌||◌, List, [], ◌∷◌, ◌++◌, length, map, drop, refl, sym, ap, ◌∙◌, subst, append-nil, length-append, Option, Some, None, slice_get}
+use Rattle.std.specs.Prelude.{if◌then◌else◌, count_by, min, is_some, flat_map}
 use Rattle.std.specs.List.{list_any, concat}
 use Rattle.std.proofs.lemmas.Grind.{flat_map-append}
 use Rattle.std.proofs.lemmas.List.Folds.{list_any-append}
@@ -16,7 +16,8 @@ use Rattle.text_lines.specs.declared.text.Told.{Told}
 use Rattle.text_lines.specs.declared.text.Told.TheVariants as told
 use Rattle.key_session.specs.Counting.{damage_in, first_damage, first_of, reason_of, is_refusal, is_fault, is_flash, is_damage, one_if, IsCounted, AreCounted, AreUndamaged}
 use Rattle.key_session.specs.Damages.{IsSlot, MeetsFirst, AreKept}
-use Rattle.key_session.specs.Reasons.{HasReason, HaveReasons}
+use Rattle.key_session.specs.Reasons.{HasReason, HaveReasons, HasLines, HaveLines}
+use Rattle.std.proofs.lemmas.Option.{slice_get_within}
 use Rattle.key_session.specs.Telling.{SessionSide, TextTold, reasons_of, bytes_of, bytes_told, IsTold, AreTold, AreLeft}
 use Rattle.key_session.specs.declared.counts.Counts.{Counts}
 use Rattle.text_lines.specs.declared.damage.Damage.{Damage}
@@ -163,6 +164,42 @@ pub damage_called_more : (since before now : ℕ) (old new : Counts) (result : T
 damage_called_more since before now old new result counted stayed called stays calls e =
     rose_more since before now (is_some old.damage) (is_damage (reason_of result)) stayed called stays (damage_called before now result calls) (sym counted.found ∙ e)
 
+-- one more text has its lines
+pub one_lines : PiecesJoin → (catalog : Catalog) (texts : List (List ℕ)) (journal : Journal) (reasons : List Reason) (reason : Reason) (since between now : Handed) (one : List (List ℕ))
+    → HaveLines catalog texts journal reasons since between → HasLines catalog texts journal (length reasons) reason one → Hands (concat one) between now
+    → HaveLines catalog texts journal (reasons ++ reason ∷ []) since now
+one_lines join catalog texts journal reasons reason since between now one are is hands =
+    let long : length are.lines ≡ length reasons = are.as_many in
+    let longer : length (are.lines ++ one ∷ []) ≡ length are.lines + 1 = length-append are.lines (one ∷ []) in
+    let more : length (reasons ++ reason ∷ []) ≡ length reasons + 1 = length-append reasons (reason ∷ []) in
+    let bytes : flat_map concat (are.lines ++ one ∷ []) ≡ flat_map concat are.lines ++ concat one =
+    flat_map-append concat are.lines (one ∷ []) ∙ ap (λ (bs : List ℕ). flat_map concat are.lines ++ bs) (append-nil (concat one)) in
+    record {
+      lines = are.lines ++ one ∷ [];
+      as_many = omega (arith, long, longer, more);
+      each = λ place it mine e f.
+          by place it mine (last_or_before reasons reason place it e) (last_or_before are.lines one place mine f);
+      handed_on = subst (λ (bs : List ℕ). Hands bs since now) (sym bytes) (join.two (flat_map concat are.lines) (concat one) since between now are.handed_on hands);
+    }
+  where
+    by : (place : ℕ) (it : Reason) (mine : List (List ℕ)) → (slice_get reasons place ≡ Some it) ⊎ ((place ≡ length reasons) × (reason ≡ it))
+        → (slice_get are.lines place ≡ Some mine) ⊎ ((place ≡ length are.lines) × (one ≡ mine)) → HasLines catalog texts journal place it mine
+    by place it mine (inl e) (inl f) = are.each place it mine e f
+    by place it mine (inr e) (inr f) =
+        subst (λ (r : Reason). HasLines catalog texts journal place r mine) e.1
+        (subst (λ (ls : List (List ℕ)). HasLines catalog texts journal place reason ls) f.1
+        (subst (λ (n : ℕ). HasLines catalog texts journal n reason one) (sym e.0) is))
+    by place it mine (inl e) (inr f) =
+        let within : place < length reasons = slice_get_within reasons place it e in
+        let at : place ≡ length are.lines = f.0 in
+        let many : length are.lines ≡ length reasons = are.as_many in
+        absurd (omega (arith, within, at, many))
+    by place it mine (inr e) (inl f) =
+        let within : place < length are.lines = slice_get_within are.lines place mine f in
+        let at : place ≡ length reasons = e.0 in
+        let many : length are.lines ≡ length reasons = are.as_many in
+        absurd (omega (arith, within, at, many))
+
 -- the damage that is told of a text is that of a slot
 damage_told : (result : Told) → is_some (damage_in result) ≡ is_damage (reason_of result)
 damage_told told.Refused = refl
@@ -213,30 +250,35 @@ module _ (pages_told : Bool) (page : ℕ → List ℕ) (catalog : Catalog) where
     first_is = is ∙ ap (λ (first : Option Damage). first_damage first (damage_in result)) met.first_is ∙ sym (first_more met.damages (damage_in result));
   }
 
-  -- one more text has a reason
-  pub one_reason : (texts : List (List ℕ)) (journal : Journal) (count : ℕ) (old new : Counts) (since between now : ℕ) (result : Told)
-      → HaveReasons catalog texts journal count (λ reasons. AreKept pages_told page catalog reasons old) since between → HasReason catalog texts journal count (reason_of result)
+  -- one more text has a reason, and lines for it
+  pub one_reason : PiecesJoin → (texts : List (List ℕ)) (journal : Journal) (count : ℕ) (old new : Counts) (since between now : ℕ) (result : Told)
+      (first middle last : Handed) (lines : List (List ℕ))
+      → (are : HaveReasons catalog texts journal count (λ reasons. AreKept pages_told page catalog reasons old) since between) → HasReason catalog texts journal count (reason_of result)
       → ToldTells between now result → IsCounted (reason_of result) old new
       → new.damage ≡ first_damage old.damage (damage_in result) → ToldBlames pages_told page catalog result
-      → HaveReasons catalog texts journal (count + 1) (λ reasons. AreKept pages_told page catalog reasons new) since now
-  one_reason texts journal count old new since between now result are is tells counted first blames =
+      → HaveLines catalog texts journal are.reasons first middle → HasLines catalog texts journal count (reason_of result) lines → Hands (concat lines) middle last
+      → (more : HaveReasons catalog texts journal (count + 1) (λ reasons. AreKept pages_told page catalog reasons new) since now) × HaveLines catalog texts journal more.reasons first last
+  one_reason join texts journal count old new since between now result first middle last lines are is tells counted met blames have has hands =
       let long : length are.reasons ≡ count = are.as_many in
-      let longer : length (are.reasons ++ reason_of result ∷ []) ≡ length are.reasons + 1 = length-append are.reasons (reason_of result ∷ []) in
-      record {
-        reasons = are.reasons ++ reason_of result ∷ [];
-        as_many = omega (arith, long, longer);
-        each = λ place it e.
-            elim (last_or_before are.reasons (reason_of result) place it e) [
-              | inl f ↦ are.each place it f
-              | inr f ↦ subst (λ (x : Reason). HasReason catalog texts journal place x) f.1 (subst (λ (n : ℕ). HasReason catalog texts journal n (reason_of result)) (sym (f.0 ∙ long)) is)
-            ];
-        blamed = blamed_more are.reasons since between now result tells are.blamed;
-        unblamed = unblamed_more are.reasons since between now result tells are.unblamed;
-        counted = record {
-          counted = counted_more are.reasons (reason_of result) old new are.counted.counted counted;
-          met = met_more are.reasons old.damage new.damage result first blames are.counted.met;
-        };
-      }
+      let longer : length (are.reasons ++ reason_of result ∷ []) ≡ length are.reasons + 1 = length-append are.reasons (reason_of result ∷ []) in (
+        record {
+          reasons = are.reasons ++ reason_of result ∷ [];
+          as_many = omega (arith, long, longer);
+          each = λ place it e.
+              elim (last_or_before are.reasons (reason_of result) place it e) [
+                | inl f ↦ are.each place it f
+                | inr f ↦ subst (λ (x : Reason). HasReason catalog texts journal place x) f.1 (subst (λ (n : ℕ). HasReason catalog texts journal n (reason_of result)) (sym (f.0 ∙ long)) is)
+              ];
+          blamed = blamed_more are.reasons since between now result tells are.blamed;
+          unblamed = unblamed_more are.reasons since between now result tells are.unblamed;
+          counted = record {
+            counted = counted_more are.reasons (reason_of result) old new are.counted.counted counted;
+            met = met_more are.reasons old.damage new.damage result met blames are.counted.met;
+          };
+        },
+        one_lines join catalog texts journal are.reasons (reason_of result) first middle last lines have
+            (subst (λ (n : ℕ). HasLines catalog texts journal n (reason_of result) lines) (sym long) has) hands,
+      )
 
 pub one_told : PiecesJoin → (catalog : Catalog) (kept : Hidden) (texts : List (List ℕ)) (journal : Journal) (count : ℕ) (old new : Counts) (since between now : SessionSide) (result : Told) (lines : List (List ℕ))
     → AreTold catalog kept texts journal count (λ reasons. AreUndamaged reasons old) since between

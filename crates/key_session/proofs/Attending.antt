@@ -117,6 +117,7 @@ module _ (over : OverTextsAreSettled) (order : TextsComeInOrder) (decided : Text
         prints = telling.prints;
         damaged = telling.damaged;
         reasons = telling.reasons;
+        lines = telling.lines;
         told = telling.told;
       };
       settled = λ text from upto. before_settled text (omega (arith, upto, low));

@@ -12,7 +12,7 @@ use Rattle.ghost_model.specs.core.NextMove.{Awaits, AwaitsCatalog, AwaitsReply, 
 use Rattle.ghost_model.specs.core.Split.{Hidden}
 use Rattle.ghost_model.specs.core.Replies as given
 use Rattle.ghost_model.specs.core.Replies.{replies, answer_from}
-use Rattle.ghost_model.specs.core.Lines.{AreLinesFor, BrokenLines, ended_of, all_done, broken_word, is_refused_by, session_text}
+use Rattle.ghost_model.specs.core.Lines.{WasBroken, AreLinesFor, BrokenLines, ended_of, all_done, broken_word, is_refused_by, session_text}
 use Rattle.ghost_model.specs.core.Printed.{word_line}
 use Rattle.channel_pump.specs.Marks as marks
 use Rattle.channel_pump.specs.Marks.{is_refusal, awaited, state_of}
@@ -22,11 +22,12 @@ use Rattle.channel_session.specs.Sessions.{asked_in}
 use Rattle.session_laws.specs.TextEnds.{not_ended, is_settled, heard_in, is_settled_in}
 use Rattle.session_laws.specs.TextCases.{is_refused_in, IsDecided, Outcome, IsDone, ByHost, ByLink, ByFrame}
 use Rattle.session_replies.specs.Kept.{is_refused, at_hand, all_of, done_of, stored_as}
-use Rattle.text_lines.specs.Texts.{IsToldBy, Why, is_refused as why_refused, is_answered, is_broken, AreBrokenLines, AreAnswerLines}
+use Rattle.text_lines.specs.Texts.{broken_line, IsToldBy, Why, is_refused as why_refused, is_answered, is_broken, AreBrokenLines, AreAnswerLines}
 use Rattle.text_lines.specs.declared.text.Told.{Told}
 use Rattle.text_lines.specs.declared.text.Told.TheVariants as told
 use Rattle.key_session.specs.Counting.{reason_of, is_damage}
-use Rattle.key_session.specs.Reasons.{IsReason, CameTo}
+use Rattle.text_lines.specs.Telling.{AreLinesOf}
+use Rattle.key_session.specs.Reasons.{IsReason, CameTo, AreSomeLines}
 use Rattle.key_session.specs.Telling.{IsTold}
 
 same_ending : (ending : Ending) → marks.is_refused ending ≡ is_refused_by ending
@@ -266,6 +267,39 @@ module _ (catalog : Catalog) (texts : List (List ℕ)) (journal : Journal) (plac
       of told.Protocol is = came_broken is.query is.accepted state (protocol_undone state is.came) (cames is.query is.accepted)
       of told.Flash is = came_done is.query is.accepted state is.came (cames is.query is.accepted)
       of (told.Damaged damage) is = came_done is.query is.accepted state is.came (cames is.query is.accepted)
+
+  -- and its lines, whatever the pages hold
+  lines_by : (state : ReplyState) (word : List ℕ) (lines : List (List ℕ)) → lines ≡ broken_line (suc place) word → (query : Query) → IsBrokenBy catalog texts journal place written query word
+      → AreSomeLines WasBroken catalog texts journal (suc place) written lines
+  lines_by state word lines are query came = are ∙ ap (broken_line (suc place)) (sym came.1)
+
+  link_word : (query : Query) (state : ReplyState) → Came catalog texts journal place written query state → (state ≡ state_is.Done → ⊥) → (state ≡ state_is.Protocol → ⊥) → (state ≡ state_is.Host → ⊥)
+      → IsBrokenBy catalog texts journal place written query (codes "link")
+  link_word query state_is.Link c undone no_frame no_host = c
+  link_word query state_is.Done c undone no_frame no_host = absurd (undone refl)
+  link_word query state_is.Host c undone no_frame no_host = absurd (no_host refl)
+  link_word query state_is.Protocol c undone no_frame no_host = absurd (no_frame refl)
+  link_word query state_is.Awaited c undone no_frame no_host = absurd c
+
+  pub lines_so : (state : ReplyState) → state ≡ state_of (asked_of catalog.schema texts) (suc place) (standing_after catalog (asked_of catalog.schema texts) journal)
+      → ((query : Query) → reading catalog.schema written ≡ Ok query → IsDecided catalog texts journal (suc place) query)
+      → ((query : Query) → reading catalog.schema written ≡ Ok query → Outcome catalog texts journal (suc place) query)
+      → (lines : List (List ℕ)) (result : Told) → IsToldBy catalog.schema written state result → AreLinesOf catalog.schema (suc place) written lines result
+      → AreSomeLines (reason_of result) catalog texts journal (suc place) written lines
+  lines_so state is_state decided outcome lines result by are = of result by are
+    where
+      cames : (query : Query) → reading catalog.schema written ≡ Ok query → Came catalog texts journal place written query state
+      cames query accepted = came catalog texts journal place written query (decided query accepted) (outcome query accepted) state is_state
+
+      of : (result : Told) → IsToldBy catalog.schema written state result → AreLinesOf catalog.schema (suc place) written lines result
+          → AreSomeLines (reason_of result) catalog texts journal (suc place) written lines
+      of told.Refused is are = are
+      of told.Answered is are = are
+      of told.Flash is are = are
+      of (told.Damaged damage) is are = are
+      of told.Host is are = lines_by state (codes "host") lines are is.query (subst (Came catalog texts journal place written is.query) is.came (cames is.query is.accepted))
+      of told.Protocol is are = lines_by state (codes "protocol") lines are is.query (subst (Came catalog texts journal place written is.query) is.came (cames is.query is.accepted))
+      of told.Link is are = lines_by state (codes "link") lines are is.query (link_word is.query state (cames is.query is.accepted) is.came.0 is.came.1.0 is.came.1.1)
 
 -- no ask of a settled text is at hand
 none_at_hand : (asks : List NumberedAsk) (schema : Schema) (text : ℕ) (rows : List ℕ) (awaits : Awaits) → is_settled asks text awaits ≡ true → at_hand schema text rows (asked_in awaits) ≡ []

@@ -1,13 +1,13 @@
 -- One more move of a session.
 use Rattle.std.proofs.Common.{◌≡◌, ◌≤◌, ◌<◌, ℕ, suc, ◌+◌, arith, Bool, true, false, List, [], ◌∷◌, ◌++◌, length, refl, sym, ap, ◌∙◌, Option, Some, None}
 use Rattle.std.proofs.lemmas.Option.{slice_get_within}
-use Rattle.std.specs.Prelude.{is_some, option_map}
+use Rattle.std.specs.Prelude.{is_some, option_map, not, ◌&&◌, slice_get}
 use Rattle.ghost_model.specs.core.Channel.{Catalog, Journal}
 use Rattle.ghost_model.specs.refusals.SchemaFaults.{MeansSchema}
 use Rattle.ghost_model.specs.core.Asks.{NumberedAsk, asked_of}
 use Rattle.ghost_model.specs.core.Moves.{taken}
 use Rattle.ghost_model.specs.core.NextMove.{Awaits, AwaitsCatalog, AwaitsReply, AwaitsNothing, EndedAsk, Heard, hear_all}
-use Rattle.ghost_model.specs.core.Lines.{Reason, WasRefused, WasBroken, WasAnswered, MetFault, ended_of, all_done}
+use Rattle.ghost_model.specs.core.Lines.{Reason, WasRefused, WasBroken, WasAnswered, MetFault, ended_of, all_done, was_refused, broken_word}
 use Rattle.ghost_model.specs.core.Split.{hidden_of}
 use Rattle.channel_pump.specs.Progress.{Tells, ended_on}
 use Rattle.channel_pump.specs.declared.state.Event.{Event}
@@ -20,7 +20,9 @@ use Rattle.session_replies.specs.Kept.{IsKept, Fits, none_heard}
 use Rattle.session_replies.specs.declared.replies.Replies.{Replies}
 use Rattle.std.specs.Option.{option_or}
 use Rattle.key_session.specs.Refusing.{code_of, first_code, code_on}
-use Rattle.key_session.specs.Reasons.{CameTo, IsReason}
+use Rattle.session_laws.specs.TextCases.{TextsAreDecided, IsDecided, is_refused_in}
+use Rattle.text_lines.specs.Texts.{broken_line}
+use Rattle.key_session.specs.Reasons.{CameTo, IsReason, AreSomeLines}
 use Rattle.key_session.specs.Telling.{SessionSide}
 use Rattle.key_session.specs.Going.{IsGoing, IsAttended, HasGone}
 use Rattle.key_session.specs.declared.teller.Teller.{Teller}
@@ -81,11 +83,44 @@ reason_still catalog texts journal later number written same WasBroken is = came
 reason_still catalog texts journal later number written same WasAnswered is = came_still true catalog texts journal later number written same is
 reason_still catalog texts journal later number written same (MetFault fault) is = came_still true catalog texts journal later number written same is
 
-pub going_on : EndedTextsStay → ReasonsStay → (pages_told : Bool) (catalog : Catalog) (texts : List (List ℕ)) (journal more : Journal) (since now : SessionSide) (teller : Teller) (replies new : Replies)
+-- a settled text whose asks did not all come to their end was refused by the host, whose word is told of it ever after
+host_word : (refused settled : Bool) → settled ≡ true → (not refused && settled) ≡ false → refused ≡ true
+host_word true settled e f = refl
+host_word false true e f = cc
+host_word false false e f = cc
+
+word_by : (ends : List EndedAsk) (journal later : Journal) → was_refused ends ≡ true → broken_word ends later ≡ broken_word ends journal
+word_by ends journal later e = rw e refl
+
+word_still : TextsAreDecided → (catalog : Catalog) (texts : List (List ℕ)) (journal later : Journal) (place : ℕ) (written : List ℕ) → slice_get texts place ≡ Some written
+    → is_settled_in catalog texts journal (suc place) ≡ true
+    → ended_of catalog (asked_of catalog.schema texts) later (suc place) ≡ ended_of catalog (asked_of catalog.schema texts) journal (suc place)
+    → CameTo false catalog texts journal (suc place) written
+    → broken_word (ended_of catalog (asked_of catalog.schema texts) later (suc place)) later ≡ broken_word (ended_of catalog (asked_of catalog.schema texts) journal (suc place)) journal
+word_still decided catalog texts journal later place written stands settled same came =
+    let is = decided catalog texts journal place written came.query stands came.accepted in
+    let refused : was_refused (ended_of catalog (asked_of catalog.schema texts) journal (suc place)) ≡ true =
+    is.refused ∙ host_word (is_refused_in catalog texts journal (suc place)) (is_settled_in catalog texts journal (suc place)) settled (sym is.done ∙ came.done) in
+    ap (λ (ends : List EndedAsk). broken_word ends later) same
+    ∙ word_by (ended_of catalog (asked_of catalog.schema texts) journal (suc place)) journal later refused
+
+-- the lines of a text stay as long as what its asks came to
+lines_still : TextsAreDecided → (catalog : Catalog) (texts : List (List ℕ)) (journal later : Journal) (place : ℕ) (written again : List ℕ) → slice_get texts place ≡ Some written → slice_get texts place ≡ Some again
+    → is_settled_in catalog texts journal (suc place) ≡ true
+    → ended_of catalog (asked_of catalog.schema texts) later (suc place) ≡ ended_of catalog (asked_of catalog.schema texts) journal (suc place)
+    → (reason : Reason) (lines : List (List ℕ)) → IsReason reason catalog texts journal (suc place) again
+    → AreSomeLines reason catalog texts journal (suc place) written lines → AreSomeLines reason catalog texts later (suc place) written lines
+lines_still decided catalog texts journal later place written again stands over settled same WasRefused lines is are = are
+lines_still decided catalog texts journal later place written again stands over settled same WasAnswered lines is are = are
+lines_still decided catalog texts journal later place written again stands over settled same (MetFault fault) lines is are = are
+lines_still decided catalog texts journal later place written again stands over settled same WasBroken lines is are =
+    are ∙ ap (broken_line (suc place)) (sym (word_still decided catalog texts journal later place again over settled same is))
+
+pub going_on : EndedTextsStay → ReasonsStay → TextsAreDecided → (pages_told : Bool) (catalog : Catalog) (texts : List (List ℕ)) (journal more : Journal) (since now : SessionSide) (teller : Teller) (replies new : Replies)
     → (going : IsGoing pages_told catalog texts journal since now teller replies)
     → IsKept catalog (heard_in catalog texts (journal ++ more)) (teller.count + 1) going.top new
     → IsGoing pages_told catalog texts (journal ++ more) since now teller new
-going_on stay reasons pages_told catalog texts journal more since now teller replies new going kept = record {
+going_on stay reasons decided pages_told catalog texts journal more since now teller replies new going kept = record {
   top = going.top;
   telling = record {
     left = going.telling.left;
@@ -115,6 +150,23 @@ going_on stay reasons pages_told catalog texts journal more since now teller rep
       unblamed = going.telling.reasons.unblamed;
       counted = going.telling.reasons.counted;
     };
+    lines = record {
+      lines = going.telling.lines.lines;
+      as_many = going.telling.lines.as_many;
+      each = λ place reason one e f.
+          let has = going.telling.lines.each place reason one e f in
+          let is = going.telling.reasons.each place reason e in
+          let many : length going.telling.reasons.reasons ≡ teller.count = going.telling.reasons.as_many in
+          let within : place < length going.telling.reasons.reasons = slice_get_within going.telling.reasons.reasons place reason e in
+          let settled = going.settled (suc place) (omega arith) (omega (arith, many, within)) in
+          record {
+            written = has.written;
+            stands = has.stands;
+            lines_are = lines_still decided catalog texts journal (journal ++ more) place has.written is.written has.stands is.stands settled
+                (stay catalog texts journal more (suc place) settled).ends reason one is.is_reason has.lines_are;
+          };
+      handed_on = going.telling.lines.handed_on;
+    };
     told = λ database knows.
         let are = going.telling.told database knows in
         record {
@@ -141,7 +193,7 @@ going_on stay reasons pages_told catalog texts journal more since now teller rep
   onward = λ text un. going.onward text (unsettled_before stay catalog texts journal more text un);
 }
 
-pub gone_on : EndedTextsStay → ReasonsStay → RepliesFit → (schema_text : List ℕ) (catalog : Catalog) → MeansSchema schema_text catalog.schema
+pub gone_on : EndedTextsStay → ReasonsStay → TextsAreDecided → RepliesFit → (schema_text : List ℕ) (catalog : Catalog) → MeansSchema schema_text catalog.schema
     → (goes moves later : Journal → Type 0) (pages_told : Bool) (at : List ℕ) (texts : List (List ℕ)) (since before now : SessionSide) (exchange new_exchange : Exchange) (old teller : Teller) (replies middle new : Replies)
     (refusal new_refusal : Option ℕ) (event : Event) (is_awaited : Bool)
     → (gone : HasGone goes pages_told catalog at texts since before exchange old replies refusal)
@@ -156,13 +208,13 @@ pub gone_on : EndedTextsStay → ReasonsStay → RepliesFit → (schema_text : L
     → is_awaited ≡ is_some (asked_in (heard_in catalog texts gone.journal).awaits)
     → new_refusal ≡ option_or refusal (code_on is_awaited event)
     → HasGone later pages_told catalog at texts since now new_exchange teller new new_refusal
-gone_on stay reasons fit schema_text catalog meant goes moves later pages_told at texts since before now exchange new_exchange old teller replies middle new refusal new_refusal event is_awaited gone joins attended moved hears awaited refusal_is =
+gone_on stay reasons decided fit schema_text catalog meant goes moves later pages_told at texts since before now exchange new_exchange old teller replies middle new refusal new_refusal event is_awaited gone joins attended moved hears awaited refusal_is =
     let more : Journal = moved.made ∷ [] in
     record {
       journal = gone.journal ++ more;
       went = joins more gone.went moved.went;
       live = moved.live;
-      going = going_on stay reasons pages_told catalog texts gone.journal more since now teller middle new attended.going
+      going = going_on stay reasons decided pages_told catalog texts gone.journal more since now teller middle new attended.going
           (hears (heard_in catalog texts (gone.journal ++ more)) attended.going.top moved.tells moved.same_ask moved.greeting attended.begun
           (λ text. fit catalog schema_text texts (taken (gone.journal ++ more)) text meant) attended.going.telling.kept);
       refusal_is = refusal_more catalog new_exchange.page event (heard_in catalog texts gone.journal) (heard_in catalog texts (gone.journal ++ more)) refusal new_refusal is_awaited moved.tells gone.refusal_is awaited refusal_is;

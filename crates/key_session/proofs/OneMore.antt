@@ -1,7 +1,9 @@
 -- A teller after one more text.
-use Rattle.std.proofs.Common.{◌≡◌, ◌≤◌, ℕ, suc, ◌+◌, arith, Bool, true, false, List, ◌∷◌, refl, sym, ap, ◌∙◌, subst, Some, Ok, slice_get}
+use Rattle.std.proofs.Common.{◌≡◌, ◌≤◌, ℕ, suc, ◌+◌, arith, Bool, true, false, List, [], ◌∷◌, ◌++◌, refl, sym, ap, ◌∙◌, subst, Some, Ok, slice_get}
 use Rattle.edge_traits.proofs.DeviceFrames.{kept_trans}
 use Rattle.std.specs.Prelude.{min}
+use Rattle.std.specs.List.{concat}
+use Rattle.ghost_model.specs.core.Lines.{Reason}
 use Rattle.ghost_model.specs.core.Causes.{last_count}
 use Rattle.ghost_model.specs.core.Values.{Database}
 use Rattle.ghost_model.specs.core.Channel.{Catalog, Journal}
@@ -27,15 +29,16 @@ use Rattle.key_lines.specs.Handing.{PiecesJoin}
 use Rattle.key_exec.specs.Laws.{WholeRepliesAreOfAsked}
 use Rattle.key_exec.specs.Reading.{Knows, AreOfAsked}
 use Rattle.text_lines.specs.Rows.{PrintsSome}
-use Rattle.text_lines.specs.Texts.{TellsText, ToldTells, ToldCalls, ToldBlames, IsToldBy, Why}
+use Rattle.text_lines.specs.Texts.{ToldTells, ToldBlames, Why}
+use Rattle.text_lines.specs.Telling.{HasTold, AreLinesOf}
 use Rattle.text_lines.specs.declared.text.Told.{Told}
 use Rattle.text_lines.specs.declared.text.Told.TheVariants as told
 use Rattle.key_session.specs.Counting.{damage_in, first_damage, reason_of, IsCounted, AreUndamaged}
 use Rattle.key_session.specs.Damages.{AreKept}
-use Rattle.key_session.specs.Reasons.{HaveReasons, HasReason}
+use Rattle.key_session.specs.Reasons.{HaveReasons, HasReason, HaveLines, HasLines}
 use Rattle.key_session.specs.Telling.{SessionSide, IsTold, AreTold, AreLeft, CameOut, IsTelling}
 use Rattle.key_session.specs.declared.teller.Teller.{Teller}
-use Rattle.key_session.proofs.Coming.{told_so, done_so, all_is_done, reason_so}
+use Rattle.key_session.proofs.Coming.{told_so, done_so, all_is_done, reason_so, lines_so}
 use Rattle.key_session.proofs.OfAsked.{replies_of_asked}
 use Rattle.key_session.proofs.Adding.{one_told, one_reason, one_damage, called_more, damage_called_more, still_no_fall, next_of, next_number, left_more, some_more}
 
@@ -58,6 +61,9 @@ never_falls since before now result e tells = by result tells
 pub pages_stay : (since between now : Device) → KeepsPages since between → KeepsPages between now → KeepsPages since now
 pages_stay since between now first second = kept_trans first second
 
+no_fall : (most before now : ℕ) → before ≤ now → min before most ≤ now
+no_fall most before now up = omega (arith, up)
+
 -- what is kept of a text that is done
 kept_is_done : (catalog : Catalog) (texts : List (List ℕ)) (journal : Journal) (low top text : ℕ) (replies : Replies) → IsKept catalog (heard_in catalog texts journal) low top replies → low ≤ text
     → is_refused_in catalog texts journal text ≡ false → is_settled_in catalog texts journal text ≡ true
@@ -76,38 +82,42 @@ pub tell_one : PiecesJoin → TextsAreDecided → StoredAreGiven → RepliesAsce
     → IsKept catalog (heard_in catalog texts journal) (old.count + 1 + 1) top after
     → state ≡ state_of (asked_of catalog.schema texts) (old.count + 1) (standing_after catalog (asked_of catalog.schema texts) journal)
     → stored ≡ kept before (old.count + 1)
-    → ((database : Database) → Knows pages_told between.flash.page catalog database → (state ≡ state_is.Done → are_ascending (replies_in stored) ≡ true)
-    → (state ≡ state_is.Done → (query : Query) → reading catalog.schema written ≡ Ok query → AreOfAsked catalog.schema query (replies_in stored))
-    → TellsText catalog.schema (hidden_of catalog.schema database) (replies_in stored) (old.count + 1) written state between.sink now.sink result)
-    → PrintsSome between.sink now.sink → KeepsPages between.flash now.flash
-    → min between.flash.calls last_count ≤ now.flash.calls → ToldCalls between.flash.calls now.flash.calls result → ToldTells between.flash.faults now.flash.faults result
+    → HasTold pages_told catalog (old.count + 1) written state (replies_in stored) between.flash now.flash between.sink now.sink result
     → IsCounted (reason_of result) old.counts new.counts
-    → IsToldBy catalog.schema written state result
-    → new.counts.damage ≡ first_damage old.counts.damage (damage_in result) → ToldBlames pages_told now.flash.page catalog result
+    → new.counts.damage ≡ first_damage old.counts.damage (damage_in result)
     → IsTelling pages_told catalog texts journal top since now new after
-tell_one join decided same ascend whole pages_told catalog texts journal top since between now old new before after written state stored result telling next more came kept_now is_state is_stored tells prints pages calls called faults counted by first blames = record {
+tell_one join decided same ascend whole pages_told catalog texts journal top since between now old new before after written state stored result telling next more came kept_now is_state is_stored ends counted first = record {
   left = subst (λ (n : ℕ). AreLeft texts new.texts n) (sym more) (left_more texts old.count old.texts new.texts written telling.left next);
   kept = subst (λ (n : ℕ). IsKept catalog (heard_in catalog texts journal) (n + 1) top after) (sym more) kept_now;
   near = (let near : top ≤ old.count + 2 = telling.near in omega (arith, near, more));
-  pages = pages_stay since.flash between.flash now.flash telling.pages pages;
-  calls = still_no_fall last_count since.flash.calls between.flash.calls now.flash.calls telling.calls calls;
-  called = called_more since.flash.calls between.flash.calls now.flash.calls old.counts new.counts result counted telling.calls telling.called calls called;
-  damage_called = damage_called_more since.flash.calls between.flash.calls now.flash.calls old.counts new.counts result counted telling.calls telling.damage_called calls called;
-  faults = never_falls since.flash.faults between.flash.faults now.flash.faults result telling.faults faults;
-  prints = some_more join since.sink between.sink now.sink telling.prints prints;
+  pages = pages_stay since.flash between.flash now.flash telling.pages ends.kept;
+  calls = still_no_fall last_count since.flash.calls between.flash.calls now.flash.calls telling.calls (no_fall last_count between.flash.calls now.flash.calls ends.kept.never_falls);
+  called = called_more since.flash.calls between.flash.calls now.flash.calls old.counts new.counts result counted telling.calls telling.called
+      (no_fall last_count between.flash.calls now.flash.calls ends.kept.never_falls) ends.called;
+  damage_called = damage_called_more since.flash.calls between.flash.calls now.flash.calls old.counts new.counts result counted telling.calls telling.damage_called
+      (no_fall last_count between.flash.calls now.flash.calls ends.kept.never_falls) ends.called;
+  faults = never_falls since.flash.faults between.flash.faults now.flash.faults result telling.faults ends.faults;
+  prints = some_more join since.sink between.sink now.sink telling.prints (record { piece = concat ends.lines; handed = ends.handed_on });
   damaged = one_damage pages_told since.flash.page catalog old.counts.damage new.counts.damage result first
       blames_now telling.damaged;
-  reasons = subst (λ (n : ℕ). HaveReasons catalog texts journal n (λ reasons. AreKept pages_told since.flash.page catalog reasons new.counts) since.flash.faults now.flash.faults) (sym more)
-      (one_reason pages_told since.flash.page catalog texts journal old.count old.counts new.counts since.flash.faults between.flash.faults now.flash.faults result telling.reasons has_reason faults counted first blames_now);
+  reasons = record {
+    reasons = both_now.0.reasons;
+    as_many = both_now.0.as_many ∙ sym more;
+    each = both_now.0.each;
+    blamed = both_now.0.blamed;
+    unblamed = both_now.0.unblamed;
+    counted = both_now.0.counted;
+  };
+  lines = both_now.1;
   told = λ database knows.
-      let lines = tells database (subst (λ (p : ℕ → List ℕ). Knows pages_told p catalog database) (sym telling.pages.page) knows) ascends of_asked in
+      let lines = tells database (subst (λ (p : ℕ → List ℕ). Knows pages_told p catalog database) (sym telling.pages.page) knows) in
       subst (λ (n : ℕ). AreTold catalog (hidden_of catalog.schema database) texts journal n (λ reasons. AreUndamaged reasons new.counts) since now) (sym more)
-      (one_told join catalog (hidden_of catalog.schema database) texts journal old.count old.counts new.counts since between now result lines.lines
-      (telling.told database knows) (is_told database lines) lines.handed faults counted);
+      (one_told join catalog (hidden_of catalog.schema database) texts journal old.count old.counts new.counts since between now result ends.lines
+      (telling.told database knows) (is_told database lines) ends.handed_on ends.faults counted);
 }
   where
     blames_now : ToldBlames pages_told since.flash.page catalog result
-    blames_now = subst (λ (p : ℕ → List ℕ). ToldBlames pages_told p catalog result) (pages.page ∙ telling.pages.page) blames
+    blames_now = subst (λ (p : ℕ → List ℕ). ToldBlames pages_told p catalog result) (ends.kept.page ∙ telling.pages.page) ends.blames
 
     number : suc old.count ≡ old.count + 1
     number = sym (next_number old.count)
@@ -148,15 +158,35 @@ tell_one join decided same ascend whole pages_told catalog texts journal top sin
       is_reason = reason_so catalog texts journal old.count written state here_is
           (λ query accepted. decided catalog texts journal old.count written query here accepted)
           (λ query accepted. came old.count written query (next_number old.count) here accepted)
-          result by;
+          result ends.by;
     }
 
-    is_told : (database : Database) → (lines : TellsText catalog.schema (hidden_of catalog.schema database) (replies_in stored) (old.count + 1) written state between.sink now.sink result)
-        → IsTold catalog (hidden_of catalog.schema database) texts journal old.count (record { reason = reason_of result; lines = lines.lines })
-    is_told database lines =
+    tells : (database : Database) → Knows pages_told between.flash.page catalog database
+        → Why catalog.schema (hidden_of catalog.schema database) (replies_in stored) (old.count + 1) written state ends.lines result
+    tells database knows = ends.why database knows ascends of_asked
+
+    is_told : (database : Database) → Why catalog.schema (hidden_of catalog.schema database) (replies_in stored) (old.count + 1) written state ends.lines result
+        → IsTold catalog (hidden_of catalog.schema database) texts journal old.count (record { reason = reason_of result; lines = ends.lines })
+    is_told database why =
         told_so catalog (hidden_of catalog.schema database) texts journal old.count written here
         (λ query accepted. decided catalog texts journal old.count written query here accepted)
         (λ query accepted. came old.count written query (next_number old.count) here accepted)
         (replies_in stored) state here_is
         are_given
-        lines.lines result (subst (λ (n : ℕ). Why catalog.schema (hidden_of catalog.schema database) (replies_in stored) n written state lines.lines result) (sym number) lines.why)
+        ends.lines result (subst (λ (n : ℕ). Why catalog.schema (hidden_of catalog.schema database) (replies_in stored) n written state ends.lines result) (sym number) why)
+
+    has_lines : HasLines catalog texts journal old.count (reason_of result) ends.lines
+    has_lines = record {
+      written = written;
+      stands = here;
+      lines_are = lines_so catalog texts journal old.count written state here_is
+          (λ query accepted. decided catalog texts journal old.count written query here accepted)
+          (λ query accepted. came old.count written query (next_number old.count) here accepted)
+          ends.lines result ends.by (subst (λ (n : ℕ). AreLinesOf catalog.schema n written ends.lines result) (sym number) ends.are);
+    }
+
+    both_now : (more : HaveReasons catalog texts journal (old.count + 1) (λ reasons. AreKept pages_told since.flash.page catalog reasons new.counts) since.flash.faults now.flash.faults)
+        × HaveLines catalog texts journal more.reasons since.sink now.sink
+    both_now =
+        one_reason pages_told since.flash.page catalog join texts journal old.count old.counts new.counts since.flash.faults between.flash.faults now.flash.faults result
+        since.sink between.sink now.sink ends.lines telling.reasons has_reason ends.faults counted first blames_now telling.lines has_lines ends.handed_on

@@ -73,6 +73,7 @@ at_first join pages_told catalog texts since teller replies all none counts kept
         met = record { damages = []; by_reason = refl; each = λ place damage e. cc; first_is = ap (λ (c : Counts). c.damage) counts };
       };
     };
+    lines = record { lines = []; as_many = refl; each = λ place reason one e f. cc; handed_on = join.none since.sink };
     told = λ database knows. record {
       told = [];
       as_many = sym none;
@@ -254,6 +255,7 @@ has_run outcomes went link_before link_now pages_told catalog at texts since mid
         status_is = status_is ∙ ap (λ (b : Bool). status_with now.sink.failed (standing_after catalog (asked_of catalog.schema texts) gone.journal) b teller.counts.damage) last.reasons.counted.counted.by_flash;
       };
     };
+    lines = last.lines;
     damaged = λ damage e.
         last.damaged damage
         (damaged_so now.sink.failed (standing_after catalog (asked_of catalog.schema texts) gone.journal).stopped (standing_after catalog (asked_of catalog.schema texts) gone.journal).heard.broken _ _ _ teller.counts.by_flash teller.counts.damage damage

@@ -1,15 +1,17 @@
 -- Why each text of a session has its lines, whatever the pages of the flash hold: it is refused, or its asks did not all
 -- come to their end, or they did and it was answered or met a fault of the flash. The flash's count of faults tells of the
 -- texts that it ended: it rose at least as often, and where it ended none it is as it was.
-use Rattle.std.specs.Prelude.{◌≡◌, ℕ, suc, ◌+◌, ◌≤◌, min, Bool, true, false, List, length, count_by, slice_get, Some, Ok, is_err}
-use Rattle.std.specs.List.{list_any}
+use Rattle.std.specs.Prelude.{◌≡◌, ℕ, suc, ◌+◌, ◌≤◌, min, Bool, true, false, List, length, flat_map, count_by, slice_get, Some, Ok, is_err}
+use Rattle.std.specs.List.{concat, list_any}
 use Rattle.ghost_model.specs.core.Causes.{last_count}
 use Rattle.ghost_model.specs.core.Schema.{Schema}
 use Rattle.ghost_model.specs.core.Query.{Query}
 use Rattle.ghost_model.specs.readings.QueryReading.{reading}
 use Rattle.ghost_model.specs.core.Channel.{Catalog, Journal}
-use Rattle.ghost_model.specs.core.Lines.{Reason, WasRefused, WasBroken, WasAnswered, MetFault, ended_of, all_done}
-use Rattle.text_lines.specs.Texts.{IsRefusedText}
+use Rattle.ghost_model.specs.core.Lines.{Reason, WasRefused, WasBroken, WasAnswered, MetFault, ended_of, all_done, broken_word, fault_word}
+use Rattle.key_lines.specs.Handing.{Handed, Hands}
+use Rattle.text_lines.specs.Texts.{IsRefusedText, broken_line}
+use Rattle.text_lines.specs.Telling.{AreRefusalLines, AreCountedLines, AreCutLines}
 use Rattle.key_session.specs.Counting.{is_flash}
 use Rattle.ghost_model.specs.core.Asks.{asked_of}
 
@@ -43,3 +45,26 @@ pub record HaveReasons (catalog : Catalog) (texts : List (List ℕ)) (journal : 
   pub blamed : min (before + count_by is_flash reasons) last_count ≤ now
   pub unblamed : list_any is_flash reasons ≡ false → now ≡ before
   pub counted : Counted reasons
+
+-- The lines of a text for a reason, whatever the pages hold: its refusal's; the word of what ended its asks; some rows, and
+-- their number or the word of a fault behind them.
+abbrev pub AreSomeLines : Reason → Catalog → (texts : List (List ℕ)) → Journal → (number : ℕ) → (written : List ℕ) → (lines : List (List ℕ)) → Type 0
+AreSomeLines WasRefused catalog texts journal number written lines = AreRefusalLines catalog.schema number written lines
+AreSomeLines WasBroken catalog texts journal number written lines =
+    lines ≡ broken_line number (broken_word (ended_of catalog (asked_of catalog.schema texts) journal number) journal)
+AreSomeLines WasAnswered catalog texts journal number written lines = AreCountedLines number lines
+AreSomeLines (MetFault fault) catalog texts journal number written lines = AreCutLines number (fault_word fault) lines
+
+-- the text at a place has these lines for a reason; the text at place 0 has number 1
+pub record HasLines (catalog : Catalog) (texts : List (List ℕ)) (journal : Journal) (place : ℕ) (reason : Reason) (lines : List (List ℕ)) : Type 0 where
+  pub written : List ℕ
+  pub stands : slice_get texts place ≡ Some written
+  pub lines_are : AreSomeLines reason catalog texts journal (suc place) written lines
+
+-- the texts with these reasons, from the front, have lines for them, and these were handed to the sink one after another
+pub record HaveLines (catalog : Catalog) (texts : List (List ℕ)) (journal : Journal) (reasons : List Reason) (before after : Handed) : Type 0 where
+  pub lines : List (List (List ℕ))
+  pub as_many : length lines ≡ length reasons
+  pub each : (place : ℕ) (reason : Reason) (one : List (List ℕ)) → slice_get reasons place ≡ Some reason → slice_get lines place ≡ Some one
+      → HasLines catalog texts journal place reason one
+  pub handed_on : Hands (flat_map concat lines) before after

@@ -14,7 +14,7 @@ use Rattle.key_exec.specs.Reading.{Knows}
 use Rattle.key_session.specs.Answering.{AnswersWhereSound}
 use Rattle.key_session.specs.Counting.{is_refusal, is_fault, is_flash, is_damage}
 use Rattle.key_session.specs.Damages.{IsSlot, MeetsFirst}
-use Rattle.key_session.specs.Reasons.{HaveReasons, is_refused_text}
+use Rattle.key_session.specs.Reasons.{HaveReasons, HaveLines, is_refused_text}
 use Rattle.key_session.specs.Refusing.{first_code}
 use Rattle.key_session.specs.Telling.{SessionSide, AreTold}
 use Rattle.text_lines.specs.declared.damage.Damage.{Damage}
@@ -95,6 +95,8 @@ pub record HasRun (goes : Journal → Type 0) (link_before link_now : ℕ) (page
   pub refused : tally.refused ≡ count_by (is_refused_text catalog.schema) texts
   pub reasons : HaveReasons catalog texts journal (length texts)
       (λ reasons. IsTallied pages_told since.flash.page catalog now.sink.failed (standing_after catalog (asked_of catalog.schema texts) journal) reasons tally) since.flash.faults now.flash.faults
+  -- and these lines, whatever the pages hold
+  pub lines : HaveLines catalog texts journal reasons.reasons since.sink now.sink
   pub damaged : (damage : Damage) → tally.status ≡ status.Damaged damage → IsSlot pages_told since.flash.page catalog damage
   pub told : (database : Database) → Knows pages_told since.flash.page catalog database
       → AreTold catalog (hidden_of catalog.schema database) texts journal (length texts)

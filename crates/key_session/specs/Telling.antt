@@ -23,7 +23,7 @@ use Rattle.key_exec.specs.Reading.{Knows}
 use Rattle.text_lines.specs.Rows.{PrintsSome}
 use Rattle.key_session.specs.Counting.{is_flash, is_damage, AreUndamaged}
 use Rattle.key_session.specs.Damages.{IsSlot, AreKept}
-use Rattle.key_session.specs.Reasons.{HaveReasons}
+use Rattle.key_session.specs.Reasons.{HaveReasons, HaveLines}
 use Rattle.text_lines.specs.declared.damage.Damage.{Damage}
 use Rattle.key_session.specs.declared.teller.Teller.{Teller}
 
@@ -93,6 +93,7 @@ pub record IsTelling (pages_told : Bool) (catalog : Catalog) (texts : List (List
   pub prints : PrintsSome since.sink now.sink
   pub damaged : (damage : Damage) → teller.counts.damage ≡ Some damage → IsSlot pages_told since.flash.page catalog damage
   pub reasons : HaveReasons catalog texts journal teller.count (λ reasons. AreKept pages_told since.flash.page catalog reasons teller.counts) since.flash.faults now.flash.faults
+  pub lines : HaveLines catalog texts journal reasons.reasons since.sink now.sink
   pub told : (database : Database) → Knows pages_told since.flash.page catalog database
       → AreTold catalog (hidden_of catalog.schema database) texts journal teller.count (λ reasons. AreUndamaged reasons teller.counts) since now
 

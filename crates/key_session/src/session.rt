@@ -30,7 +30,7 @@ use key_lines::printer::pieces_join;
 use page_pool::PagePool;
 use reply_laws::stores::replies_fit;
 use session_laws::honest_sessions::{honest_lines_are_printed, honest_sessions_are_smooth};
-use session_laws::text_cases::texts_have_outcomes;
+use session_laws::text_cases::{texts_are_decided, texts_have_outcomes};
 use session_laws::text_ends::{ended_texts_stay, reasons_stay};
 use session_replies::Replies;
 use tree_schema::Catalog;
@@ -62,6 +62,7 @@ fn converse<F: Flash, L: Link, O: Sink>(
     a_catalog_is_short(cat);
     replies_fit();
     reasons_stay();
+    texts_are_decided();
     ended_texts_stay();
     moves_join();
     let mut refusal = None;

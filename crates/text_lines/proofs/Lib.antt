@@ -1,2 +1,4 @@
 pub mod Printing
-pub mod Answering
+pub mod Pools
+pub mod Slicing
+pub mod Ending

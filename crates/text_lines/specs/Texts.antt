@@ -34,12 +34,6 @@ AreAnswerLines number rows lines told.Protocol = ⊥
 AreAnswerLines number rows lines told.Flash = AreFlashLines number rows lines
 AreAnswerLines number rows lines (told.Damaged damage) = ⊥
 
--- the lines of an answer with these rows were printed
-pub record TellsAnswer (number : ℕ) (rows : List Row) (before after : Handed) (result : Told) : Type 0 where
-  pub lines : List (List ℕ)
-  pub handed : Hands (concat lines) before after
-  pub are : AreAnswerLines number rows lines result
-
 -- the line of what ended the asks of a text, by the state of its replies
 abbrev pub broken_line : (number : ℕ) (word : List ℕ) → List (List ℕ)
 broken_line number word = word_line number word ∷ []
@@ -82,12 +76,6 @@ pub data Why (schema : Schema) (kept : Hidden) (given : List Reply) (number : �
   is_answered : IsAnswer schema kept given number text state lines result → Why schema kept given number text state lines result
   is_broken : IsBroken schema number text state lines result → Why schema kept given number text state lines result
 
--- the lines of a text were printed
-pub record TellsText (schema : Schema) (kept : Hidden) (given : List Reply) (number : ℕ) (text : List ℕ) (state : ReplyState) (before after : Handed) (result : Told) : Type 0 where
-  pub lines : List (List ℕ)
-  pub handed : Hands (concat lines) before after
-  pub why : Why schema kept given number text state lines result
-
 -- the flash is blamed exactly where its count of faults rose
 abbrev pub ToldTells : (before now : ℕ) → Told → Type 0
 ToldTells before now told.Refused = now ≡ before
@@ -117,26 +105,6 @@ pub record IsAccepted (schema : Schema) (text : List ℕ) (Came : Type 0) : Type
   pub query : Query
   pub accepted : reading schema text ≡ Ok query
   pub came : Came
-
--- whether an answer was begun
-abbrev pub is_begun : Told → Bool
-is_begun told.Refused = false
-is_begun told.Answered = true
-is_begun told.Host = false
-is_begun told.Link = false
-is_begun told.Protocol = false
-is_begun told.Flash = true
-is_begun (told.Damaged damage) = true
-
--- the state of the replies of a text whose asks did not all come to their end, by what is told of it
-abbrev pub BrokenBy : ReplyState → Told → Type 0
-BrokenBy state told.Refused = ⊥
-BrokenBy state told.Answered = ⊥
-BrokenBy state told.Host = state ≡ state_is.Host
-BrokenBy state told.Link = (state ≡ state_is.Protocol → ⊥) × (state ≡ state_is.Host → ⊥)
-BrokenBy state told.Protocol = state ≡ state_is.Protocol
-BrokenBy state told.Flash = ⊥
-BrokenBy state (told.Damaged damage) = ⊥
 
 abbrev pub IsToldBy : Schema → (text : List ℕ) → ReplyState → Told → Type 0
 IsToldBy schema text state told.Refused = IsRefusedText schema text

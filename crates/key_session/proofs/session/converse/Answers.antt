@@ -27,7 +27,7 @@ moves-preserved g c =
       (c.attend.ensures.suffices, c.attend.ensures.idle),
       (λ texts since live going.
           let gone = c.moves.invariant.1 texts since live going in
-          gone_on c.ended_texts_stay.ensures c.reasons_stay.ensures c.replies_fit.ensures _ c.args.cat.now c.a_catalog_is_short.ensures.catalog.meant
+          gone_on c.ended_texts_stay.ensures c.reasons_stay.ensures c.texts_are_decided.ensures c.replies_fit.ensures _ c.args.cat.now c.a_catalog_is_short.ensures.catalog.meant
           (WentBy (λ journal. g.L.Link.went c.args.link.now journal c.moves.link) (g.L.Link.faults c.args.link.now) (g.L.Link.faults c.moves.link))
           (WentBy (λ journal. g.L.Link.went c.moves.link journal c.step-event.new.link) (g.L.Link.faults c.moves.link) (g.L.Link.faults c.step-event.new.link))
           (WentBy (λ journal. g.L.Link.went c.args.link.now journal c.step-event.new.link) (g.L.Link.faults c.args.link.now) (g.L.Link.faults c.step-event.new.link))
