@@ -16,7 +16,7 @@ use Rattle.host_exec.specs.Steps.{steps_left}
 use Rattle.host_exec.specs.Replies.{source_of}
 use Rattle.ghost_model.specs.forms.Catalog.{catalog_bytes}
 use Rattle.host_exec.specs.Hosts.{StandsAs}
-use Rattle.host_exec.specs.Sessions.{has_stopped, Ends, Turns, Serves, SaidAll, SaidRefusing, AreFramesToBye, IsOneFrame, is_farewell}
+use Rattle.host_exec.specs.Sessions.{has_stopped, Ends, Turns, NamesFrame, Serves, SaidAll, SaidRefusing, AreFramesToBye, IsOneFrame, is_farewell}
 use Rattle.host_exec.specs.Refusals.{AreGiven, times, host_sends_refusing, bad_request_refusing}
 use Rattle.host_exec.specs.declared.host.Host.{Host}
 use Rattle.host_exec.specs.declared.session.Served.{Served}
@@ -81,16 +81,17 @@ calm_all held refused journal ended none farewell said = record {
 
 serves_as : (Went : Journal → Type 0) (journal : Journal) (ended : Served) (before now : ℕ) (refused : List Bool) (Stood : Holding → (file : List ℕ) → Type 0) (Holder : Holding → Type 0)
     → Went journal → Ends ended (has_stopped journal) before now → (is_farewell ended ≡ true → AreFramesToBye (taken journal))
-    → min (before + times refused) last_count ≤ now → (times refused ≡ 0 → now ≡ before)
+    → ((kind at : ℕ) → ended ≡ served.BadRequest kind at → NamesFrame (taken journal) kind at) → min (before + times refused) last_count ≤ now → (times refused ≡ 0 → now ≡ before)
     → ((held : Holding) (file : List ℕ) → Stood held file → SaidRefusing held refused journal ended) → ((held : Holding) → Holder held → (file : List ℕ) × Stood held file)
     → Serves Went [] ended before now Holder
-serves_as Went journal ended before now refused Stood Holder went ends farewell refusals none said holds = record {
+serves_as Went journal ended before now refused Stood Holder went ends farewell named refusals none said holds = record {
   journal = journal;
   front = journal;
   closes = sym (append-nil journal);
   went = went;
   ends = ends;
   farewell = farewell;
+  named = named;
   refused = refused;
   refusals = refusals;
   none = none;
@@ -163,6 +164,16 @@ turns_on Went Goes Both at size before between now flag Stood Stands old new so 
       going_on held file so.refused made.refused so.journal made.journal old new going (made.said held file going.stand (stands held file going.stand stood going.stands));
 }
 
+as_named : (bytes : List ℕ) (kind at other place : ℕ) → served.BadRequest kind at ≡ served.BadRequest other place → NamesFrame bytes kind at → NamesFrame bytes other place
+as_named bytes kind at other place e so =
+    subst (λ (k : ℕ). NamesFrame bytes k place) (same_kind kind at other place e) (subst (λ (p : ℕ). NamesFrame bytes kind p) (same_place kind at other place e) so)
+  where
+    same_kind : (kind at other place : ℕ) → served.BadRequest kind at ≡ served.BadRequest other place → kind ≡ other
+    same_kind kind at other place e = cc
+
+    same_place : (kind at other place : ℕ) → served.BadRequest kind at ≡ served.BadRequest other place → at ≡ place
+    same_place kind at other place e = cc
+
 no_farewell : {P : Type 0} → false ≡ true → P
 no_farewell e = cc
 
@@ -174,7 +185,7 @@ pub turns_lost : (Went Goes Both : Journal → Type 0) (at before between now : 
     → Serves Both [] served.Link before now Holder
 turns_lost Went Goes Both at before between now Stood Stands Holder old new so made joins second stands holds =
     let stopped : has_stopped (so.journal ++ made.journal) ≡ true = stops_joins so.journal made.journal so.going ∙ made.stops in
-    serves_as Both (so.journal ++ made.journal) served.Link before now (so.refused ++ made.refused ∷ []) Stood Holder (joins so.journal made.journal so.went made.went) stopped (λ e. no_farewell e)
+    serves_as Both (so.journal ++ made.journal) served.Link before now (so.refused ++ made.refused ∷ []) Stood Holder (joins so.journal made.journal so.went made.went) stopped (λ e. no_farewell e) (λ kind at e. cc)
     (more_times before between now so.refused made.refused second so.refusals made.refuses) (no_times before between now so.refused made.refused so.none made.refuses)
     (λ held file stood. (let going = so.said held file stood in
     ended_lost held file so.refused made.refused so.journal made.journal old going (made.said held file going.stand (stands held file going.stand stood going.stands)) stopped)) holds
@@ -188,6 +199,14 @@ pub turns_bad : (Went Goes Both : Journal → Type 0) (at kind before between no
 turns_bad Went Goes Both at kind before between now Stood Stands Holder old new so made joins same running stands holds =
     serves_as Both (so.journal ++ made.journal) (served.BadRequest kind at) before now so.refused Stood Holder (joins so.journal made.journal so.went made.went)
     (stops_joins so.journal made.journal so.going ∙ made.stops) (λ e. no_farewell e)
+    (λ other place e. as_named (taken (so.journal ++ made.journal)) kind at other place e (record {
+      front = so.cut.frames;
+      fits = so.cut.fits;
+      size = ap length (sym so.cut.spelled) ∙ so.counted;
+      rest = taken made.journal;
+      joined = taken_joins so.journal made.journal ∙ ap (λ (bs : List ℕ). bs ++ taken made.journal) so.cut.spelled;
+      begins = made.named kind refl;
+    }))
     (subst (λ (n : ℕ). min (before + times so.refused) last_count ≤ n) (sym same) so.refusals) (λ none. same ∙ so.none none)
     (λ held file stood. (let going = so.said held file stood in
     ended_bad held file so.refused so.journal made.journal old kind at going (made.said held file going.stand (stands held file going.stand stood going.stands))
@@ -196,13 +215,13 @@ turns_bad Went Goes Both at kind before between now Stood Stands Holder old new 
 pub turns_bye : (Went : Journal → Type 0) (at before now : ℕ) (Stood : Holding → (file : List ℕ) → Type 0) (Holder : Holding → Type 0) (last : Host)
     → TurnsSoFar Went at before now Stood last → now ≡ before → last.stage ≡ stage.Over → ((held : Holding) → Holder held → (file : List ℕ) × Stood held file) → Serves Went [] served.Bye before now Holder
 turns_bye Went at before now Stood Holder last so same over holds =
-    serves_as Went so.journal served.Bye before now so.refused Stood Holder so.went (so.going, same) (λ _. so.cut.last over) so.refusals so.none
+    serves_as Went so.journal served.Bye before now so.refused Stood Holder so.went (so.going, same) (λ _. so.cut.last over) (λ kind place e. cc) so.refusals so.none
     (λ held file stood. ended_well held file so.refused so.journal last served.Bye (so.said held file stood) refl) holds
 
 pub turns_depot : (Went : Journal → Type 0) (at before now : ℕ) (Stood : Holding → (file : List ℕ) → Type 0) (Holder : Holding → Type 0) (last : Host)
     → TurnsSoFar Went at before now Stood last → Rose before now → last.stage ≡ stage.Over → ((held : Holding) → Holder held → (file : List ℕ) × Stood held file) → Serves Went [] served.Depot before now Holder
 turns_depot Went at before now Stood Holder last so rose over holds =
-    serves_as Went so.journal served.Depot before now so.refused Stood Holder so.went (so.going, rose) (λ _. so.cut.last over) so.refusals so.none
+    serves_as Went so.journal served.Depot before now so.refused Stood Holder so.went (so.going, rose) (λ _. so.cut.last over) (λ kind place e. cc) so.refusals so.none
     (λ held file stood. ended_well held file so.refused so.journal last served.Depot (so.said held file stood) refl) holds
 
 stops_closed : (journal : Journal) → has_stopped (journal ++ entry Close Made ∷ []) ≡ has_stopped journal
@@ -251,6 +270,7 @@ serves_closed Went Both ended before now Holder so joins = record {
   went = joins so.journal so.went;
   ends = ends_closed ended (has_stopped so.journal) _ before now (stops_closed so.journal) so.ends;
   farewell = λ is. (let end = so.farewell is in record { front = end.front; fits = end.fits; last = taken_closed so.journal ∙ end.last });
+  named = λ kind at e. subst (λ (bs : List ℕ). NamesFrame bs kind at) (sym (taken_closed so.journal)) (so.named kind at e);
   refused = so.refused;
   refusals = so.refusals;
   none = so.none;

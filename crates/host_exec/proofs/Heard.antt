@@ -6,15 +6,18 @@ use Rattle.std.proofs.lemmas.Bool.{lt-ltb, le-ltb, eqb-true}
 use Rattle.std.proofs.lemmas.Grind.{flat_map-append}
 use Rattle.std.proofs.Math.Seq.{take-append_seam, take-length}
 use Rattle.std.proofs.lemmas.List.{nil_from_length}
+use Rattle.ghost_model.specs.core.Causes.{Rose}
 use Rattle.ghost_model.specs.core.Channel.{Frame, Move, Entry, Journal}
 use Rattle.ghost_model.specs.forms.Frames.{Got, Found, Short, Bad, AreBytes, frame_bytes, got_of, payload_of, size_in, kind_in, header_allowed, payload_allowed, payload_in, frame_in}
 use Rattle.ghost_model.specs.core.Host.{Holding, Stand, answer_to}
 use Rattle.ghost_model.specs.core.Moves.{taken, sent, sent_by, piece_of}
 use Rattle.ghost_model.proofs.ChannelLemmas.{found_begins, size_is_read}
 use Rattle.ghost_model.proofs.SessionLemmas.Limits.{append_bytes}
+use Rattle.edge_traits.specs.Counting.{WentCounting}
 use Rattle.edge_traits.specs.Filling.{AreTakes, Fills}
+use Rattle.edge_traits.proofs.CountLemmas.{tell_same, tell_rose}
 use Rattle.host_exec.specs.Hosts.{IsAnswered}
-use Rattle.host_exec.specs.Sessions.{Came, Lost, LinkCounts, IsWhole, HeardAs, IsRefused}
+use Rattle.host_exec.specs.Sessions.{Came, Lost, IsWhole, HeardAs, IsRefused}
 use Rattle.host_exec.specs.declared.host.Host.{Host}
 use Rattle.host_exec.proofs.Going.{out_of_place, taken_joins, stops_joins}
 
@@ -78,14 +81,34 @@ not_filled Went most error buffer fills = record {
   };
 }
 
--- a count that stayed did so however the session went on
-pub link_stays : (lost : Bool) (before now : ℕ) → now ≡ before → LinkCounts lost before now
-link_stays true before now same = inr same
-link_stays false before now same = same
+-- a filling, with what it did to the link's count
+pub counted_well : {E : Type 0} (Went : Journal → Type 0) (most count before now : ℕ) (buffer : List ℕ) → now ≡ before → Fills {E = E} Went most (Ok count) buffer
+    → Fills {E = E} (λ journal. WentCounting Went before now journal) most (Ok count) buffer
+counted_well Went most count before now buffer same fills = record {
+  journal = fills.journal;
+  went = record { gone = fills.went; counts = tell_same before now fills.journal fills.calm same };
+  takes = fills.takes;
+  front = fills.front;
+  counted = fills.counted;
+  ended = fills.ended;
+  failed = tt;
+  calm = fills.calm;
+  broken = tt;
+}
 
--- first a call that stayed, and then another
-pub link_more : (lost : Bool) (before between now : ℕ) → between ≡ before → LinkCounts lost between now → LinkCounts lost before now
-link_more lost before between now same counts = subst (λ (n : ℕ). LinkCounts lost n now) same counts
+pub counted_in_vain : {E : Type 0} (Went : Journal → Type 0) (most before now : ℕ) (error : E) (buffer : List ℕ) → before ≤ now → Rose before now
+    → Fills {E = E} Went most (Err error) buffer → Fills {E = E} (λ journal. WentCounting Went before now journal) most (Err error) buffer
+counted_in_vain Went most before now error buffer up rose fills = record {
+  journal = fills.journal;
+  went = record { gone = fills.went; counts = tell_rose before now fills.journal fills.broken up rose };
+  takes = fills.takes;
+  front = fills.front;
+  counted = tt;
+  ended = tt;
+  failed = fills.failed;
+  calm = tt;
+  broken = fills.broken;
+}
 
 pub came_more : (First Second Both : Journal → Type 0) (front back : List ℕ) (stopped : Bool) → ((one other : Journal) → First one → Second other → Both (one ++ other))
     → Came First front false → Came Second back stopped → Came Both (front ++ back) stopped
@@ -148,6 +171,28 @@ missing_is false false true e x y kind missing frame is = inr (refl, same y miss
     same a b e = cc
 missing_is false false false true x y kind missing frame is = absurd (found_never frame missing is)
 missing_is false false false false x y kind missing frame is = absurd (bad_never kind missing is)
+
+bad_is : (b c d e : Bool) (x y kind other : ℕ) (frame : Frame) → pick b c d e x y kind frame ≡ Bad other → kind ≡ other
+bad_is true c d e x y kind other frame is = absurd (bad_never other x (sym is))
+bad_is false true d e x y kind other frame is = same kind other is
+  where
+    same : (a b : ℕ) → Bad a ≡ Bad b → a ≡ b
+    same a b e = cc
+bad_is false false true e x y kind other frame is = absurd (bad_never other y (sym is))
+bad_is false false false true x y kind other frame is = absurd (never frame other is)
+  where
+    never : (frame : Frame) (other : ℕ) → Found frame ≡ Bad other → ⊥
+    never frame other e = cc
+bad_is false false false false x y kind other frame is = same kind other is
+  where
+    same : (a b : ℕ) → Bad a ≡ Bad b → a ≡ b
+    same a b e = cc
+
+-- bytes that break a rule are told by the first of them
+pub bad_begins : (bytes : List ℕ) (kind : ℕ) → got_of bytes ≡ Bad kind → kind_in bytes ≡ kind
+bad_begins bytes kind bad =
+    bad_is (nat_lt (length bytes) 8) (not (header_allowed bytes)) (nat_lt (length bytes) (8 + size_in bytes)) (payload_allowed (kind_in bytes) (payload_in bytes))
+    (8 - length bytes) (8 + size_in bytes - length bytes) (kind_in bytes) kind (frame_in bytes) bad
 
 -- what a whole header lacks is the payload that it names
 lacks : (bytes : List ℕ) (missing : ℕ) → 8 ≤ length bytes → got_of bytes ≡ Short missing → (length bytes < 8 + size_in bytes) × (8 + size_in bytes - length bytes ≡ missing)

@@ -8,7 +8,7 @@ use Rattle.ghost_model.specs.core.Host as host
 use Rattle.ghost_model.specs.core.Channel as channel
 use Rattle.ghost_model.specs.core.Moves.{taken, sent}
 use Rattle.host_exec.specs.Hosts.{StandsAs}
-use Rattle.host_exec.specs.Sessions.{Came, Lost, HeardAs, IsOneFrame, IsRefused, BreaksOff, Says, Speaks, Turns}
+use Rattle.host_exec.specs.Sessions.{Came, Lost, BeginsAs, HeardAs, IsOneFrame, IsRefused, BreaksOff, Says, Speaks, Turns}
 use Rattle.host_exec.specs.Refusals.{sends_refusing}
 use Rattle.host_exec.specs.Saying.{Stands}
 use Rattle.host_exec.specs.Replies.{source_of}
@@ -28,6 +28,7 @@ turn_none Went count Stood after lost = record {
   stops = lost.came.stops;
   counted = λ e. cc;
   cut = λ e. cc;
+  named = λ kind e. cc;
   refused = false;
   refuses = refl;
   said = λ held file stand stood. record {
@@ -36,15 +37,19 @@ turn_none Went count Stood after lost = record {
   };
 }
 
+same_kind : (kind other : ℕ) → turn.Bad kind ≡ turn.Bad other → kind ≡ other
+same_kind kind other e = cc
+
 -- what came is out of its place
 pub turn_bad : (Went : Journal → Type 0) (count : ℕ) (Stood : Holding → (file : List ℕ) → Stand → Type 0) (after : Host) (bytes : List ℕ) (kind : ℕ) → Came Went bytes false
-    → ((held : Holding) (file : List ℕ) (stand : Stand) → Stood held file stand → IsRefused held stand bytes kind) → Turns Went (turn.Bad kind) count count Stood after
-turn_bad Went count Stood after bytes kind came refused = record {
+    → BeginsAs kind bytes → ((held : Holding) (file : List ℕ) (stand : Stand) → Stood held file stand → IsRefused held stand bytes kind) → Turns Went (turn.Bad kind) count count Stood after
+turn_bad Went count Stood after bytes kind came first refused = record {
   journal = came.journal;
   went = came.went;
   stops = came.stops;
   counted = λ e. cc;
   cut = λ e. cc;
+  named = λ other e. subst (λ (bs : List ℕ). BeginsAs other bs) (sym came.taken_is) (subst (λ (k : ℕ). BeginsAs k bytes) (same_kind kind other e) first);
   refused = false;
   refuses = refl;
   said = λ held file stand stood. record {
@@ -114,6 +119,7 @@ turn_made First Second Both before now size flag Stood Owed mid after bytes join
     spelled = taken_all came.journal speaks.journal bytes came.taken_is speaks.takes ∙ one.spelled;
     last = λ is. one.last (over is);
   };
+  named = λ kind e. cc;
   refused = speaks.refused;
   refuses = speaks.counted;
   said = λ held file stand stood.
@@ -161,6 +167,7 @@ turn_unsaid First Second Both before now Stood Owed mid after bytes joins came s
   stops = stops_joins came.journal speaks.journal came.stops ∙ speaks.stops;
   counted = λ e. cc;
   cut = λ e. cc;
+  named = λ kind e. cc;
   refused = speaks.refused;
   refuses = speaks.counted;
   said = λ held file stand stood.

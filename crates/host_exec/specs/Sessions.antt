@@ -1,11 +1,11 @@
 -- A whole session of a host over a link: what it took, what it sent, and how it ended.
-use Rattle.std.specs.Prelude.{◌≡◌, ◌≤◌, ◌⊎◌, ℕ, ◌+◌, min, All, MatchBool, Bool, true, false, not, List, [], ◌∷◌, ◌++◌, length, drop, flat_map, Option, Some, None}
+use Rattle.std.specs.Prelude.{◌≡◌, ◌≤◌, ℕ, ◌+◌, min, All, MatchBool, Bool, true, false, not, List, [], ◌∷◌, ◌++◌, length, drop, flat_map, Option, Some, None}
 use Rattle.std.specs.List.{list_any, concat}
 use Rattle.ghost_model.specs.core.Causes.{Rose, last_count}
 use Rattle.ghost_model.specs.core.Channel as channel
 use Rattle.ghost_model.specs.core.Channel.{Frame, Close, Made, Journal}
 use Rattle.edge_traits.specs.Links.{entry}
-use Rattle.ghost_model.specs.forms.Frames.{IsFrame, Short, Found, got_of, frame_bytes}
+use Rattle.ghost_model.specs.forms.Frames.{IsFrame, Short, Found, got_of, frame_bytes, kind_in}
 use Rattle.ghost_model.specs.core.Host.{Holding, Stand, Response, said_to, frames_of, bad_from, bad_request, host_sends, answer_to, answer_as}
 use Rattle.ghost_model.specs.core.Host as host
 use Rattle.ghost_model.specs.core.Moves.{taken, sent, answers}
@@ -58,6 +58,11 @@ pub record IsOneFrame (bytes : List ℕ) (after : Host) : Type 0 where
   pub fits : IsFrame frame
   pub spelled : bytes ≡ frame_bytes frame
   pub last : after.stage ≡ stage.Over → frame ≡ channel.ByeFrame
+
+-- bytes have a whole header, of this kind
+pub record BeginsAs (kind : ℕ) (bytes : List ℕ) : Type 0 where
+  pub long : 8 ≤ length bytes
+  pub first : kind_in bytes ≡ kind
 
 -- a frame of a key was answered
 pub record HeardAs (held : Holding) (file : List ℕ) (stand : Stand) (bytes : List ℕ) (after : Host) : Type 0 where
@@ -167,6 +172,7 @@ pub record Turns (Went : Journal → Type 0) (made : Turn) (before now : ℕ) (S
   pub stops : has_stopped journal ≡ is_lost made
   pub counted : is_answered made ≡ true → length (taken journal) ≡ size_of made
   pub cut : is_answered made ≡ true → IsOneFrame (taken journal) after
+  pub named : (kind : ℕ) → made ≡ turn.Bad kind → BeginsAs kind (taken journal)
   pub refused : Bool
   pub refuses : MatchBool refused (Rose before now) (now ≡ before)
   pub said : (held : Holding) (file : List ℕ) (stand : Stand) → Stood held file stand → TurnSaid made refused held file stand journal after
@@ -221,11 +227,14 @@ pub record AreFramesToBye (bytes : List ℕ) : Type 0 where
   pub fits : All IsFrame front
   pub last : bytes ≡ flat_map frame_bytes front ++ frame_bytes channel.ByeFrame
 
--- what happened to a link's count of failed calls: it is as before, or the session was lost, since a call failed or
--- since the stream ended
-abbrev pub LinkCounts : (lost : Bool) → (before now : ℕ) → Type 0
-LinkCounts true before now = Rose before now ⊎ (now ≡ before)
-LinkCounts false before now = now ≡ before
+-- of some bytes the ones behind whole frames, of this size, have a whole header of this kind
+pub record NamesFrame (bytes : List ℕ) (kind at : ℕ) : Type 0 where
+  pub front : List Frame
+  pub fits : All IsFrame front
+  pub size : length (flat_map frame_bytes front) ≡ at
+  pub rest : List ℕ
+  pub joined : bytes ≡ flat_map frame_bytes front ++ rest
+  pub begins : BeginsAs kind rest
 
 -- a session was served by these moves, of which the last close the link. It went as the host's file says, but for the
 -- answers that were refused: each of them raised the count of the depot's faults, which else stayed
@@ -236,6 +245,7 @@ pub record Serves (Went : Journal → Type 0) (closing : Journal) (ended : Serve
   pub went : Went journal
   pub ends : Ends ended (has_stopped journal) before now
   pub farewell : is_farewell ended ≡ true → AreFramesToBye (taken journal)
+  pub named : (kind at : ℕ) → ended ≡ BadRequest kind at → NamesFrame (taken journal) kind at
   pub refused : List Bool
   pub refusals : min (before + times refused) last_count ≤ now
   pub none : times refused ≡ 0 → now ≡ before

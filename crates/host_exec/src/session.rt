@@ -1,14 +1,15 @@
 //! A whole session of a host over a link.
 
-ghost use Rattle.std.specs.Prelude.{◌≡◌, ◌≤◌, ◌<◌, ◌+◌, ◌*◌, ◌^◌, ◌⊎◌, ◌||◌, ℕ, List, [], Some, true, false, not, is_ok, is_some, is_none, length, take, IfSome, IfNone, IfOk, MatchBool, MatchOption};
+ghost use Rattle.std.specs.Prelude.{◌≡◌, ◌≤◌, ◌<◌, ◌+◌, ◌*◌, ◌^◌, ◌⊎◌, ◌||◌, ℕ, List, [], Some, true, false, is_ok, is_some, length, take, IfSome, IfNone, IfOk, MatchBool, MatchOption};
 ghost use Rattle.ghost_model.specs.core.Causes.{Rose};
 ghost use Rattle.ghost_model.specs.core.Channel as channel;
 ghost use Rattle.ghost_model.specs.forms.Frames.{AreBytes};
 ghost use Rattle.ghost_model.specs.core.Host.{Holding, Stand};
+ghost use Rattle.edge_traits.specs.Counting.{WentCounting};
 ghost use Rattle.edge_traits.specs.Files.{file_of};
 ghost use Rattle.host_exec.specs.Saying.{owes, rests};
 ghost use Rattle.host_exec.specs.Hosts.{Holds, StandsAs, IsSameHost, RefusedAs, SaysAs, name_of, steps_of};
-ghost use Rattle.host_exec.specs.Sessions.{Came, Lost, is_bad, IsWhole, HeardAs, IsRefused, Speaks, Turns, Serves, closed, HoldsIn, is_answered, is_lost, was_refused, size_of, IsOneFrame, LinkCounts};
+ghost use Rattle.host_exec.specs.Sessions.{Came, Lost, is_bad, IsWhole, BeginsAs, HeardAs, IsRefused, Speaks, Turns, Serves, closed, HoldsIn, is_answered, was_refused, size_of, IsOneFrame};
 
 use crate::host::Host;
 use crate::stage::{Said, Stage};
@@ -58,8 +59,7 @@ fn are_bytes(_bytes: &[u8])
 
 /// Takes until a buffer is full; answers whether that went well.
 fn fill_whole<L: Link>(link: &mut L, buf: &mut [u8]) -> bool
-    ensures link { LinkCounts (not result) (L.faults link.old) (L.faults link.new) }
-    ensures came { MatchBool result (Came (λ journal. L.went link.old journal link.new) buf.new false) (Lost (λ journal. L.went link.old journal link.new)) }
+    ensures came { MatchBool result (Came (λ journal. WentCounting (λ one. L.went link.old one link.new) (L.faults link.old) (L.faults link.new) journal) buf.new false) (Lost (λ journal. WentCounting (λ one. L.went link.old one link.new) (L.faults link.old) (L.faults link.new) journal)) }
 {
     match fill(link, buf) {
         Ok(count) => count == buf.len(),
@@ -73,8 +73,7 @@ fn take_bytes<L: Link>(link: &mut L, page: &mut [u8; FRAME_BYTES]) -> Option<usi
     ensures short { IfSome result (λ size. size ≤ 2048) }
     ensures long { IfSome result (λ size. 8 ≤ size) }
     ensures whole { IfSome result (λ size. IsWhole (take size page.new)) }
-    ensures link { LinkCounts (is_none result) (L.faults link.old) (L.faults link.new) }
-    ensures came { MatchOption result (Lost (λ journal. L.went link.old journal link.new)) (λ size. Came (λ journal. L.went link.old journal link.new) (take size page.new) false) }
+    ensures came { MatchOption result (Lost (λ journal. WentCounting (λ one. L.went link.old one link.new) (L.faults link.old) (L.faults link.new) journal)) (λ size. Came (λ journal. WentCounting (λ one. L.went link.old one link.new) (L.faults link.old) (L.faults link.new) journal) (take size page.new) false) }
 {
     let (header, rest) = page.split_at_mut(8);
     if !fill_whole(link, header) {
@@ -102,6 +101,7 @@ impl Host {
         ensures same { IsSameHost self.old self.new }
         ensures fewer { IfNone result (steps_of self.new < steps_of self.old) }
         ensures cut { IsWhole bytes.now → IfNone result (IsOneFrame bytes.now self.new) }
+        ensures named { IfSome result (λ kind. BeginsAs kind bytes.now) }
         ensures heard { IsWhole bytes.now → (held : Holding) (file : List ℕ) (stand : Stand) → Holds held file self.old → StandsAs self.old file [] stand
             → MatchOption result (HeardAs held file stand bytes.now self.new) (λ kind. IsRefused held stand bytes.now kind) }
     {
@@ -161,9 +161,8 @@ impl Host {
         ensures granted { D.sure depot.old (name_of self.old) → IfOk result (λ refused. refused ≡ false) }
         ensures nearer { steps_of self.new ≤ steps_of self.old }
         ensures over { self.new.stage ≡ Stage.Over → self.old.stage ≡ Stage.Over }
-        ensures link { LinkCounts (not (is_ok result)) (L.faults link.old) (L.faults link.new) }
         ensures told { IfOk result (λ refused. MatchBool refused (Rose (D.faults depot.old) (D.faults depot.new)) (D.faults depot.new ≡ D.faults depot.old)) }
-        ensures speaks { Speaks (λ journal. L.went link.old journal link.new) (is_ok result) (D.faults depot.old) (D.faults depot.new)
+        ensures speaks { Speaks (λ journal. WentCounting (λ one. L.went link.old one link.new) (L.faults link.old) (L.faults link.new) journal) (is_ok result) (D.faults depot.old) (D.faults depot.new)
             (λ file owed stand. (file_of (D.contents depot.old) (name_of self.old) ≡ Some file) × StandsAs self.old file owed stand) self.old self.new }
     {
         let mut refused = false;
@@ -198,10 +197,9 @@ impl Host {
         ensures granted { D.sure depot.old (name_of self.old) → was_refused result ≡ false }
         ensures fewer { is_answered result ≡ true → steps_of self.new < steps_of self.old }
         ensures short { size_of result ≤ 2048 }
-        ensures link { LinkCounts (is_lost result) (L.faults link.old) (L.faults link.new) }
         ensures untouched { is_bad result ≡ true → D.faults depot.new ≡ D.faults depot.old }
         ensures told { is_answered result ≡ true → MatchBool (was_refused result) (Rose (D.faults depot.old) (D.faults depot.new)) (D.faults depot.new ≡ D.faults depot.old) }
-        ensures turns { Turns (λ journal. L.went link.old journal link.new) result (D.faults depot.old) (D.faults depot.new)
+        ensures turns { Turns (λ journal. WentCounting (λ one. L.went link.old one link.new) (L.faults link.old) (L.faults link.new) journal) result (D.faults depot.old) (D.faults depot.new)
             (λ held file stand. (file_of (D.contents depot.old) (name_of self.old) ≡ Some file) × Holds held file self.old × StandsAs self.old file [] stand) self.new }
     {
         let size = match take_bytes(link, page) {
@@ -229,9 +227,7 @@ impl Host {
         ensures stays_sure { D.sure depot.old (name_of self.old) → D.sure depot.new (name_of self.new) }
         ensures calm { D.sure depot.old (name_of self.old) → D.faults depot.new ≡ D.faults depot.old }
         ensures granted { D.sure depot.old (name_of self.old) → result ≡ Served.Depot → ⊥ }
-        ensures link_same { (result ≡ Served.Link → ⊥) → L.faults link.new ≡ L.faults link.old }
-        ensures link_rose { result ≡ Served.Link → LinkCounts true (L.faults link.old) (L.faults link.new) }
-        ensures serves { Serves (λ journal. L.went link.old journal link.new) [] result (D.faults depot.old) (D.faults depot.new)
+        ensures serves { Serves (λ journal. WentCounting (λ one. L.went link.old one link.new) (L.faults link.old) (L.faults link.new) journal) [] result (D.faults depot.old) (D.faults depot.new)
             (λ held. HoldsIn (λ file. file_of (D.contents depot.old) (name_of self.old) ≡ Some file) held self.old) }
     {
         let _bytes = catalog_len(&self.catalog);
@@ -258,8 +254,8 @@ impl Host {
     ///
     /// The frames of the key may be cut anywhere. Each frame of the host is one send. Where a reading of the file fails, a
     /// refusal stands in the place of the frame that would have come, which ends that ask; the session goes on, and the
-    /// frames of the key are judged so. Over a depot that is sure of the file nothing is refused. `Link` comes where a move
-    /// failed or the stream ended; else the link's count of failed calls is as before.
+    /// frames of the key are judged so. Over a depot that is sure of the file nothing is refused. `Link` comes exactly where a
+    /// move failed or the stream ended; the link's count of failed calls rises exactly where a move failed.
     pub fn serve<L: Link, D: Depot>(&mut self, link: &mut L, depot: &mut D) -> Served
         requires begins { self.old.stage ≡ Stage.Greeting }
         ensures same { IsSameHost self.old self.new }
@@ -269,9 +265,7 @@ impl Host {
         ensures stays_sure { D.sure depot.old (name_of self.old) → D.sure depot.new (name_of self.new) }
         ensures calm { D.sure depot.old (name_of self.old) → D.faults depot.new ≡ D.faults depot.old }
         ensures granted { D.sure depot.old (name_of self.old) → result ≡ Served.Depot → ⊥ }
-        ensures link_same { (result ≡ Served.Link → ⊥) → L.faults link.new ≡ L.faults link.old }
-        ensures link_rose { result ≡ Served.Link → LinkCounts true (L.faults link.old) (L.faults link.new) }
-        ensures serves { Serves (λ journal. L.went link.old journal link.new) closed result (D.faults depot.old) (D.faults depot.new)
+        ensures serves { Serves (λ journal. WentCounting (λ one. L.went link.old one link.new) (L.faults link.old) (L.faults link.new) journal) closed result (D.faults depot.old) (D.faults depot.new)
             (λ held. HoldsIn (λ file. file_of (D.contents depot.old) (name_of self.old) ≡ Some file) held self.old) }
     {
         let served = self.take_turns(link, depot);

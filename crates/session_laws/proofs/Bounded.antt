@@ -1,6 +1,6 @@
 -- How many frames can come, whatever the other end sends.
-use Rattle.std.proofs.Common.{◌≡◌, ◌≢◌, ℕ, zero, suc, ◌+◌, ◌-◌, ◌*◌, ◌/◌, ◌%◌, ◌≤◌, ◌<◌, ◌⊎◌, inl, inr, Bool, true, false, ◌&&◌, List, [], ◌∷◌, ◌++◌, length, map, take, drop, filter, sym, ◌∙◌, ap, subst, refl, arith, eqb-true, append-nil, append_assoc, length-append, Some, slice_get, nat_lt, nat_le, slice_index, if◌then◌else◌, add-one}
-use Rattle.std.specs.Prelude.{◌==◌, flat_map, sum, bytes_eq}
+use Rattle.std.proofs.Common.{◌≡◌, ◌≢◌, ℕ, zero, suc, ◌+◌, ◌-◌, ◌*◌, ◌/◌, ◌%◌, ◌≤◌, ◌<◌, ◌⊎◌, inl, inr, Bool, true, false, ◌&&◌, List, [], ◌∷◌, ◌++◌, length, map, take, drop, filter, sym, ◌∙◌, ap, subst, refl, arith, eqb-true, append-nil, append_assoc, length-append, Some, slice_get, nat_lt, nat_le, if◌then◌else◌}
+use Rattle.std.specs.Prelude.{◌==◌, flat_map, bytes_eq}
 use Rattle.std.proofs.lemmas.Grind.{flat_map-append}
 use Rattle.std.proofs.lemmas.Bool.{ltb-true, ltb-false, leb-true}
 use Rattle.std.proofs.lemmas.Bool.Decides.{nat_tests}
@@ -12,11 +12,11 @@ use Rattle.ghost_model.specs.core.Schema.{Kind}
 use Rattle.ghost_model.specs.core.Channel.{Catalog, Frame, HelloFrame, AskFrame, MoreFrame, ByeFrame, WelcomeFrame, RowsFrame, DoneFrame, SorryFrame, Journal}
 use Rattle.ghost_model.specs.forms.Catalog.{catalog_bytes}
 use Rattle.ghost_model.specs.forms.Frames.{frame_in, frame_of_parts, frame_bytes, kind_in, size_in, version_in, serial_in, payload_in, frame_version, serial_of}
-use Rattle.ghost_model.specs.core.Asks.{NumberedAsk, RowCells, rows_from, rows_in, row_width, kinds_of}
+use Rattle.ghost_model.specs.core.Asks.{NumberedAsk, RowCells, rows_in, row_width, kinds_of}
 use Rattle.ghost_model.specs.core.Moves.{taken, sent}
-use Rattle.ghost_model.specs.core.NextMove.{Awaits, AwaitsCatalog, AwaitsReply, AwaitsNothing, Ending, Answered, Refused, EndedAsk, ended, Heard, Verdict, Lacking, Complete, Invalid, are_cells, rows_fit, reply_size_fits, header_fits, payload_fits, verdict, FrameOutcome, after_frame, ask_next, still, of_later_texts, last_identifier, ended_by, heard_as, hear, hear_all, at_first, heard, IsProperWith}
+use Rattle.ghost_model.specs.core.NextMove.{Awaits, AwaitsCatalog, AwaitsReply, AwaitsNothing, Ending, Answered, Refused, EndedAsk, ended, Heard, Verdict, Lacking, Complete, Invalid, are_cells, rows_fit, reply_size_fits, header_fits, payload_fits, verdict, after_frame, ask_next, still, of_later_texts, last_identifier, ended_by, heard_as, hear, hear_all, at_first, heard, IsProperWith}
 use Rattle.ghost_model.specs.laws.ChannelLaws.{IsDue}
-use Rattle.ghost_model.proofs.ChannelLemmas.Tests.{false_is_not, BothHold, both_hold, hold_both}
+use Rattle.ghost_model.proofs.ChannelLemmas.Tests.{false_is_not, BothHold, both_hold}
 use Rattle.ghost_model.proofs.ChannelLemmas.Sending.{sent_is_due}
 use Rattle.ghost_model.proofs.SessionLemmas.Answered.{filter_joined}
 use Rattle.ghost_laws.proofs.ScanLemmas.HeardRows.{replied_in, payload_whole, size_whole}

@@ -1,11 +1,10 @@
 -- A session of the clinic in which the host sends its three doctors one row a frame: the reply has as many frames as one
 -- can have, and so the key sends as many.
-use Rattle.std.specs.Prelude.{◌≡◌, ℕ, ◌+◌, List, [], ◌∷◌, length, codes}
+use Rattle.std.specs.Prelude.{◌≡◌, ℕ, List, [], ◌∷◌, length, codes}
 use Rattle.ghost_model.specs.core.Channel.{Frame, HelloFrame, AskFrame, MoreFrame, ByeFrame, Journal}
 use Rattle.ghost_model.specs.core.Asks.{NumberedAsk, asked_of}
 use Rattle.ghost_model.specs.core.Moves.{sent, taken}
 use Rattle.ghost_model.specs.core.NextMove.{heard, IsProper, IsFinished}
-use Rattle.ghost_model.specs.forms.Catalog.{catalog_bytes}
 use Rattle.ghost_model.specs.examples.Clinic.{clinic_catalog, clinic_schema}
 use Rattle.ghost_model.specs.examples.Channel.{hex, dialled, sends, takes, welcomed, closed}
 use Rattle.session_laws.specs.Bounds.{reply_in, welcomes_in, most_replied}

@@ -1,12 +1,13 @@
-use Rattle.std.proofs.Common.{◌≡◌, ◌+◌, ◌++◌, rules, ap, sym, subst, ◌∙◌, length, take, append_assoc, length-append, arith, true, false}
+use Rattle.std.proofs.Common.{◌≡◌, ◌+◌, ◌++◌, rules, ap, sym, subst, ◌∙◌, length, take, append_assoc, length-append, arith, false}
 use Rattle.channel_codec.specs.Views.{frame_view, got_view}
+use Rattle.edge_traits.proofs.CountLemmas.{counting_more}
 use Rattle.host_exec.specs.Sessions.{IsWhole}
-use Rattle.host_exec.proofs.Heard.{came_as, link_more, came_more, lost_more, front_of, whole_header, whole_frame, found_not_short, bad_not_short}
+use Rattle.host_exec.proofs.Heard.{came_as, came_more, lost_more, front_of, whole_header, whole_frame, found_not_short, bad_not_short}
 use Rattle.host_exec.proofs.session.take_bytes.Goals as goal
 
 pub returns-then-not-fill_whole-2-clause-came : goal.returns-then-not-fill_whole-2-clause-came
 returns-then-not-fill_whole-2-clause-came g c =
-    lost_more _ _ _ c.fill_whole.new.buf (λ one other first second. g.met.L.Link.joins _ _ _ one other first second) c.if-not-fill_whole.ensures.came c.if-not-fill_whole-2.ensures.came
+    lost_more _ _ _ c.fill_whole.new.buf (λ one other first second. counting_more _ _ _ _ _ _ (λ a b x y. g.met.L.Link.joins _ _ _ a b x y) one other first second) c.if-not-fill_whole.ensures.came c.if-not-fill_whole-2.ensures.came
 
 pub returns-else-not-fill_whole-2-clause-whole : goal.returns-else-not-fill_whole-2-clause-whole
 returns-else-not-fill_whole-2-clause-whole g c =
@@ -32,7 +33,7 @@ returns-else-not-fill_whole-2-clause-came g c =
     ap (take (8 + c.in-Short.missing)) (sym (append_assoc header payload later))
     ∙ front_of (8 + c.in-Short.missing) (header ++ payload) later (length-append header payload ∙ (let e : length header + length payload ≡ 8 + c.in-Short.missing = omega (arith, one, other) in e)) in
     came_as _ _ _ false (sym front)
-    (came_more _ _ _ header payload false (λ one other first second. g.met.L.Link.joins _ _ _ one other first second) c.if-not-fill_whole.ensures.came c.if-not-fill_whole-2.ensures.came)
+    (came_more _ _ _ header payload false (λ one other first second. counting_more _ _ _ _ _ _ (λ a b x y. g.met.L.Link.joins _ _ _ a b x y) one other first second) c.if-not-fill_whole.ensures.came c.if-not-fill_whole-2.ensures.came)
 
 pub returns-in-Frame : goal.returns-in-Frame
 returns-in-Frame g c =
@@ -44,7 +45,6 @@ returns-in-Frame g c =
       long = omega arith;
       whole = subst IsWhole (sym front)
           (whole_header header one c.are_bytes.ensures (found_not_short header (frame_view c.in-Frame.field-0) (sym (c.frame_of.ensures) ∙ ap got_view c.in-Frame.is)));
-      link = c.if-not-fill_whole.ensures.link;
       came = came_as _ _ _ false (sym front) c.if-not-fill_whole.ensures.came;
     }
 
@@ -58,12 +58,5 @@ returns-in-Bad g c =
       long = omega arith;
       whole = subst IsWhole (sym front)
           (whole_header header one c.are_bytes.ensures (bad_not_short header c.in-Bad.field-0 (sym (c.frame_of.ensures) ∙ ap got_view c.in-Bad.is)));
-      link = c.if-not-fill_whole.ensures.link;
       came = came_as _ _ _ false (sym front) c.if-not-fill_whole.ensures.came;
     }
-
-pub returns-then-not-fill_whole-2-clause-link : goal.returns-then-not-fill_whole-2-clause-link
-returns-then-not-fill_whole-2-clause-link g c = link_more true _ _ _ c.if-not-fill_whole.ensures.link c.if-not-fill_whole-2.ensures.link
-
-pub returns-else-not-fill_whole-2-clause-link : goal.returns-else-not-fill_whole-2-clause-link
-returns-else-not-fill_whole-2-clause-link g c = link_more false _ _ _ c.if-not-fill_whole.ensures.link c.if-not-fill_whole-2.ensures.link

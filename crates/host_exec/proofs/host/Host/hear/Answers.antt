@@ -1,7 +1,7 @@
 use Rattle.std.proofs.Common.{◌≡◌, refl, ap, sym, ◌∙◌}
 use Rattle.ghost_model.specs.forms.Frames.{Found, got_of}
 use Rattle.channel_codec.specs.Views.{frame_view, got_view}
-use Rattle.host_exec.proofs.Heard.{was_heard, was_refused}
+use Rattle.host_exec.proofs.Heard.{was_heard, was_refused, bad_begins}
 use Rattle.host_exec.proofs.Going.{rule_broken}
 use Rattle.host_exec.proofs.host.Host.hear.Goals as goal
 
@@ -27,6 +27,12 @@ returns-else-feed-clause-heard c whole held file stand holds stands =
     let got : got_of c.args.bytes.now ≡ Found (frame_view c.in-Frame.frame) = sym (c.frame_of.ensures) ∙ ap got_view c.in-Frame.is in
     was_refused held stand c.args.bytes.now (frame_view c.in-Frame.frame) c.kind_in.result whole got c.kind_in.ensures
     (c.if-feed.ensures.answered held file stand holds (c.feed.ensures.silent file stand stands) stands)
+
+pub returns-else-feed-clause-named : goal.returns-else-feed-clause-named
+returns-else-feed-clause-named c = record { long = c.requires.long; first = sym c.kind_in.ensures }
+
+pub returns-in-Bad-clause-named : goal.returns-in-Bad-clause-named
+returns-in-Bad-clause-named c = record { long = c.requires.long; first = bad_begins c.args.bytes.now c.in-Bad.kind (sym (c.frame_of.ensures) ∙ ap got_view c.in-Bad.is) }
 
 pub returns-in-Bad-clause-heard : goal.returns-in-Bad-clause-heard
 returns-in-Bad-clause-heard c whole held file stand holds stands = rule_broken held stand c.args.bytes.now c.in-Bad.kind (sym (c.frame_of.ensures) ∙ ap got_view c.in-Bad.is)

@@ -1,6 +1,7 @@
 use Rattle.std.proofs.Common.{◌≡◌, inl, inr, ap, sym, subst, ◌∙◌, refl, arith, [], false, MatchBool}
 use Rattle.ghost_model.specs.core.Causes.{Rose}
 use Rattle.edge_traits.specs.Files.{file_of}
+use Rattle.edge_traits.proofs.CountLemmas.{counting_more, counting_none, made_well, made_in_vain}
 use Rattle.host_exec.specs.Hosts.{name_of}
 use Rattle.host_exec.proofs.Speaking.{speaks_on, speaks_in_vain, speaks_all, told_more, same_more, owing_now, not_over_resting, granted_calm, neither}
 use Rattle.host_exec.proofs.host.Host.speak.Goals as goal
@@ -16,11 +17,10 @@ frames-init g c = record {
   never_falls = omega arith;
   nearer = omega arith;
   over = λ is. is;
-  link = refl;
   told = refl;
   speaks = record {
     journal = [];
-    went = g.met.L.Link.stays _;
+    went = counting_none _ _ (g.met.L.Link.stays _);
     takes = refl;
     going = refl;
     fresh = λ serial place count is. (refl, is);
@@ -43,11 +43,11 @@ frames-preserved g c =
       never_falls = (let a = so.never_falls in let b = c.say.ensures.never_falls in omega (arith, a, b));
       nearer = (let a = so.nearer in let b = c.in-Some.ensures.fewer in omega (arith, a, b));
       over = λ is. absurd (not_over_resting _ c.in-Some.ensures.rests is);
-      link = c.in-Ok.ensures.cause.other ∙ so.link;
       told = subst (λ b. MatchBool b (Rose (g.D.Depot.faults c.args.depot.now) (g.D.Depot.faults c.say.new.depot)) (g.D.Depot.faults c.say.new.depot ≡ g.D.Depot.faults c.args.depot.now)) (sym c.either-refused.ensures.value)
           (told_more c.frames.refused c.in-Some.said.refused _ _ _ so.never_falls c.say.ensures.never_falls so.told c.in-Some.ensures.told);
       speaks = speaks_on _ _ _ _ _ _ _ _ c.say.new.self c.in-Some.said.size c.say.new.out c.split_at.result.0.now so.speaks
-          (λ journal went. g.met.L.Link.joins _ _ _ journal _ went c.in-Ok.ensures.moved) so.never_falls c.say.ensures.never_falls c.split_at.ensures.front
+          (λ journal went. counting_more _ _ _ _ _ _ (λ a b x y. g.met.L.Link.joins _ _ _ a b x y) journal _ went
+          (made_well _ _ _ _ c.in-Ok.ensures.moved refl c.in-Ok.ensures.cause.other)) so.never_falls c.say.ensures.never_falls c.split_at.ensures.front
           (owing_now _ _ c.in-Some.is c.say.ensures.owed) c.in-Some.ensures.rests
           (elim c.in-Some.ensures.said [
             | inl refused ↦ inl refused
@@ -63,7 +63,8 @@ pub returns-in-Err-clause-speaks : goal.returns-in-Err-clause-speaks
 returns-in-Err-clause-speaks g c =
     let so = c.frames.invariant in
     speaks_in_vain _ _ _ _ _ _ _ _ c.say.new.self c.in-Some.said.size c.say.new.out c.split_at.result.0.now so.speaks
-    (λ journal went. g.met.L.Link.joins _ _ _ journal _ went c.in-Err.ensures.moved) so.never_falls c.say.ensures.never_falls c.split_at.ensures.front
+    (λ journal went. counting_more _ _ _ _ _ _ (λ a b x y. g.met.L.Link.joins _ _ _ a b x y) journal _ went
+    (made_in_vain _ _ _ _ c.in-Err.ensures.moved refl c.in-Err.ensures.cause.never_falls c.in-Err.ensures.cause.failed)) so.never_falls c.say.ensures.never_falls c.split_at.ensures.front
     (owing_now _ _ c.in-Some.is c.say.ensures.owed)
     (elim c.in-Some.ensures.said [
       | inl refused ↦ inl refused
@@ -84,11 +85,6 @@ returns-in-Err-clause-calm g c is =
 
 pub returns-in-Err-clause-over : goal.returns-in-Err-clause-over
 returns-in-Err-clause-over g c over = absurd (not_over_resting _ c.in-Some.ensures.rests over)
-
-pub returns-in-Err-clause-link : goal.returns-in-Err-clause-link
-returns-in-Err-clause-link g c =
-    let so = c.frames.invariant in
-    inl (subst (λ n. Rose n (g.L.Link.faults c.send.new.self)) so.link c.in-Err.ensures.cause.failed)
 
 pub returns-in-None-clause-stays_sure : goal.returns-in-None-clause-stays_sure
 returns-in-None-clause-stays_sure g c is = c.say.ensures.stays_sure (c.frames.invariant.sure is)

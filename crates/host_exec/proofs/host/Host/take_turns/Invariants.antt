@@ -1,5 +1,6 @@
 use Rattle.std.proofs.Common.{◌≡◌, ◌≤◌, ◌+◌, ◌*◌, Some, MatchBool, false}
 use Rattle.ghost_model.specs.core.Causes.{Rose}
+use Rattle.edge_traits.specs.Counting.{WentCounting}
 use Rattle.edge_traits.specs.Files.{file_of}
 use Rattle.host_exec.specs.Hosts.{IsSameHost, Holds, name_of, steps_of}
 use Rattle.host_exec.specs.declared.stage.Stage.TheVariants as stage
@@ -17,9 +18,8 @@ invariant-turns g l = record {
   never_falls : g.D.Depot.faults l.fn.depot ≤ g.D.Depot.faults l.depot;
   running : l.self.stage ≡ stage.Over → ⊥;
   fits : l.at + 2048 * steps_of l.self ≤ 18446744073709551615;
-  link : g.L.Link.faults l.link ≡ g.L.Link.faults l.fn.link;
   told : MatchBool l.failed (Rose (g.D.Depot.faults l.fn.depot) (g.D.Depot.faults l.depot)) (g.D.Depot.faults l.depot ≡ g.D.Depot.faults l.fn.depot);
-  turns : TurnsSoFar (λ journal. g.L.Link.went l.fn.link journal l.link) l.at (g.D.Depot.faults l.fn.depot) (g.D.Depot.faults l.depot)
+  turns : TurnsSoFar (λ journal. WentCounting (λ one. g.L.Link.went l.fn.link one l.link) (g.L.Link.faults l.fn.link) (g.L.Link.faults l.link) journal) l.at (g.D.Depot.faults l.fn.depot) (g.D.Depot.faults l.depot)
       (λ held file. (file_of (g.D.Depot.contents l.fn.depot) (name_of l.fn.self) ≡ Some file) × Holds held file l.fn.self) l.self;
 }
 
