@@ -1,5 +1,5 @@
 -- The tables that a plan tests or selects of are FROM tables, and rows of the top table lead to a row of each.
-use Rattle.std.proofs.Common.{◌≡◌, ◌∙◌, ℕ, zero, suc, ◌-◌, ◌<◌, ◌≤◌, inl, inr, Bool, true, false, not, ◌&&◌, ◌||◌, nat_eq, nat_lt, List, [], ◌∷◌, ◌++◌, length, get_or, slice_get, slice_set, slice_index, map, take, filter, flat_map, replicate, Option, Some, None, option_and_then, if◌then◌else◌, sym, subst, refl, ap, ap₂, arith}
+use Rattle.std.proofs.Common.{◌≡◌, ◌∙◌, ℕ, zero, suc, ◌-◌, ◌<◌, ◌≤◌, inl, inr, Bool, true, false, not, ◌&&◌, ◌||◌, nat_eq, nat_lt, List, [], ◌∷◌, ◌++◌, length, get_or, slice_get, slice_set, slice_index, take, filter, flat_map, replicate, Option, Some, None, option_and_then, if◌then◌else◌, sym, subst, refl, ap, ap₂, arith}
 use Rattle.std.specs.List.{list_all, list_any}
 use Rattle.std.proofs.lemmas.Bool.{eqb-true, eqb-false}
 use Rattle.std.proofs.lemmas.Bool.Decides.{nat_tests}
@@ -22,7 +22,6 @@ use Rattle.ghost_laws.specs.Followed.{IsFollowed, AcceptedQueriesAreFollowed, is
 use Rattle.ghost_laws.specs.Scans.{known_along, stands_along, holds_or_asked_along, is_kept_row}
 use Rattle.ghost_laws.proofs.ScanLemmas.Accepted.{pass_each}
 use Rattle.spj_parse.specs.Resolved.{IsMeant, joins_of, join_to, join_with, join_by, keys_between, is_comparison}
-use Rattle.ghost_base.specs.Views.{value_of}
 use Rattle.candidate_rows.specs.declared.plan.Hop.{Hop}
 use Rattle.candidate_rows.specs.declared.plan.Test.{Test}
 use Rattle.candidate_rows.specs.declared.plan.Check.{Check}

@@ -8,3 +8,4 @@ mod TellLemmas
 mod FromLemmas
 mod AskLemmas
 mod CellLemmas
+mod NumberLemmas

@@ -1,3 +1,4 @@
+pub mod Numbered
 pub mod Orders
 pub mod Plans
 pub mod Working

@@ -37,7 +37,7 @@ returns-in-Some-row_of-clause-cells c = λ e column.
     ∙ ap₂ (λ segments bytes. reply_about c.args.table (replies_in (stored_from segments bytes))) (sym c.deref.ensures.value) (sym c.deref-2.ensures.value)
     ∙ c.in-Some.ensures.found in
     let cells : value_at c.deref-in-Some-row_of.result.now (values_in (map kind_of c.deref-in-Some-row_of-2.result.now) c.behind.result.now) column
-        ≡ value_at segment.ask.columns.items (values_in kinds (drop 4 c.in-Some-row_of.row.now)) column =
+    ≡ value_at segment.ask.columns.items (values_in kinds (drop 4 c.in-Some-row_of.row.now)) column =
     rw (c.deref-in-Some-row_of.ensures.0, c.deref-in-Some-row_of-2.ensures.0, c.behind.ensures) refl in
     cells
     ∙ ap (option_and_then (λ row. value_at (ask_view segment.ask).columns (values_in kinds (row_in row.now).cells) column)) (sym c.in-Some-row_of.is)
