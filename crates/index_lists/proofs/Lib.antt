@@ -8,3 +8,4 @@ pub mod Leading
 pub mod Heads
 pub mod HeadedRows
 pub mod OwnOrder
+pub mod KeyOrders
