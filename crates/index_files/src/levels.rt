@@ -42,6 +42,29 @@ impl<'r> Records for RankedRows<'r> {
     }
 }
 
+/// The identifiers of rows that are counted from 0 and stand in order, each a record of four bytes.
+#[derive(Drop)]
+pub(crate) struct OrderedRows<'r> {
+    /// The rows.
+    pub rows: &'r [u32],
+    ghost few: { length rows.now < 2 ^ 32 },
+    ghost small: { All (λ row. row + 1 < 2 ^ 32) rows.now },
+}
+
+impl<'r> Records for OrderedRows<'r> {
+    ghost records = { λ source. map number_cell (identifiers_of source.rows.now) };
+
+    fn count(&self) -> u32 {
+        self.rows.len() as u32
+    }
+
+    fn record<'a>(&'a self, i: u32, room: &'a mut [u8; 256]) -> &'a [u8] {
+        let id = self.rows[i as usize] + 1;
+        room[..4].copy_from_slice(&id.to_be_bytes());
+        &room[..4]
+    }
+}
+
 /// How many pages a level file with so many identifiers has.
 fn pages_of_level(rows: usize) -> u32
     requires few { rows < 2 ^ 32 }
@@ -50,7 +73,26 @@ fn pages_of_level(rows: usize) -> u32
     ((rows + (IDS_PER_PAGE - 1)) / IDS_PER_PAGE) as u32
 }
 
-/// Writes the file of a level from a page on: the lists of all entries, one after another.
+/// Writes the file of a level from a page on, given its rows in order: the lists of all entries, one after another.
+fn write_ordered<F: Flash>(
+    flash: &mut F,
+    buf: &mut [u8; 2048],
+    rows: &[u32],
+    ranks: &[u32],
+    entries: u32,
+    first: u32,
+) -> Result<(), IndexFault>
+    requires few { length ranks.now < 2 ^ 32 }
+    requires order { identifiers_of rows.now ≡ concat (lists_of ranks.now entries) }
+    requires ranked { All (λ rank. rank < entries) ranks.now }
+    requires can { CanFill (F.state flash.old) first (pages_of (length ranks.now) 4) }
+    ensures stores { OnOk result (F.told ≡ true → Stores (F.state flash.new).page (record { first = first; count = length ranks.now; width = 4 }) (list_records (lists_of ranks.now entries))) }
+    ensures writes { Writes first (first + pages_of (length ranks.now) 4) (pages_of (length ranks.now) 4) (F.state flash.old) (F.state flash.new) result }
+{
+    write_records(flash, buf, &OrderedRows { rows }, first, 4)
+}
+
+/// Writes the file of a level from a page on: the lists of all entries, one after another. The rows may be told in order.
 fn write_level<F: Flash>(
     alloc: Global,
     flash: &mut F,
