@@ -1,11 +1,11 @@
 //! The level files.
 
-ghost use Rattle.std.specs.Prelude.{◌≡◌, ◌<◌, ◌≤◌, ◌+◌, ◌-◌, ◌^◌, ℕ, [], true, length, map, get_or, OnOk};
+ghost use Rattle.std.specs.Prelude.{◌≡◌, ◌<◌, ◌≤◌, ◌+◌, ◌-◌, ◌^◌, ℕ, [], true, length, map, get_or, IfSome, OnOk};
 ghost use Rattle.std.specs.List.{All};
 ghost use Rattle.ghost_model.specs.forms.Flash.{list_records};
 ghost use Rattle.ghost_model.specs.forms.Runs.{Stores, number_cell, pages_of};
 ghost use Rattle.flash_pages.specs.Filling.{CanFill};
-ghost use Rattle.index_lists.specs.Lists.{lists_of};
+ghost use Rattle.index_lists.specs.Lists.{AreListed, identifiers_of, lists_of};
 ghost use Rattle.index_files.specs.Files.{counts_of, level_file, level_pages, ranks_of};
 ghost use Rattle.index_files.specs.Writing.{Writes};
 
@@ -83,7 +83,7 @@ fn write_ordered<F: Flash>(
     first: u32,
 ) -> Result<(), IndexFault>
     requires few { length ranks.now < 2 ^ 32 }
-    requires order { identifiers_of rows.now ≡ concat (lists_of ranks.now entries) }
+    requires order { AreListed ranks.now entries rows.now }
     requires ranked { All (λ rank. rank < entries) ranks.now }
     requires can { CanFill (F.state flash.old) first (pages_of (length ranks.now) 4) }
     ensures stores { OnOk result (F.told ≡ true → Stores (F.state flash.new).page (record { first = first; count = length ranks.now; width = 4 }) (list_records (lists_of ranks.now entries))) }
@@ -94,6 +94,29 @@ fn write_ordered<F: Flash>(
 
 /// Writes the file of a level from a page on: the lists of all entries, one after another. The rows may be told in order.
 fn write_level<F: Flash>(
+    alloc: Global,
+    flash: &mut F,
+    buf: &mut [u8; 2048],
+    ranks: &[u32],
+    order: Option<&[u32]>,
+    entries: u32,
+    first: u32,
+) -> Result<(), IndexFault>
+    requires few { length ranks.now < 2 ^ 32 }
+    requires order { IfSome order (λ rows. AreListed ranks.now entries rows.now) }
+    requires ranked { All (λ rank. rank < entries) ranks.now }
+    requires can { CanFill (F.state flash.old) first (pages_of (length ranks.now) 4) }
+    ensures stores { OnOk result (F.told ≡ true → Stores (F.state flash.new).page (record { first = first; count = length ranks.now; width = 4 }) (list_records (lists_of ranks.now entries))) }
+    ensures writes { Writes first (first + pages_of (length ranks.now) 4) (pages_of (length ranks.now) 4) (F.state flash.old) (F.state flash.new) result }
+{
+    if let Some(rows) = order {
+        return write_ordered(flash, buf, rows, ranks, entries, first);
+    }
+    write_ranked(alloc, flash, buf, ranks, entries, first)
+}
+
+/// Writes the file of a level from a page on, given the ranks of its rows: the lists of all entries, one after another.
+fn write_ranked<F: Flash>(
     alloc: Global,
     flash: &mut F,
     buf: &mut [u8; 2048],
@@ -113,15 +136,17 @@ fn write_level<F: Flash>(
     }
 }
 
-/// Writes the files of all levels one after another from a page on.
+/// Writes the files of all levels one after another from a page on, given the rows of the first level in order.
 pub(crate) fn write_levels<F: Flash>(
     alloc: Global,
     flash: &mut F,
     buf: &mut [u8; 2048],
     levels: &[Vec<u32>],
+    rows: &[u32],
     entries: u32,
     begin: u32,
 ) -> Result<(), IndexFault>
+    requires rows { 0 < length levels.now → AreListed (get_or (ranks_of levels.now) 0 []) entries rows.now }
     requires few { All (λ ranks. length ranks.items < 2 ^ 32) levels.now }
     requires ranked { All (λ ranks. All (λ rank. rank < entries) ranks.items) levels.now }
     requires can { CanFill (F.state flash.old) begin (level_pages (counts_of (ranks_of levels.now))) }
@@ -129,8 +154,9 @@ pub(crate) fn write_levels<F: Flash>(
     ensures writes { Writes begin (begin + level_pages (counts_of (ranks_of levels.now))) (level_pages (counts_of (ranks_of levels.now))) (F.state flash.old) (F.state flash.new) result }
 {
     let mut first = begin;
+    let mut order = Some(rows);
     for ranks in levels {
-        write_level(alloc, flash, buf, ranks, entries, first)?;
+        write_level(alloc, flash, buf, ranks, order.take(), entries, first)?;
         first += pages_of_level(ranks.len());
     }
     Ok(())

@@ -4,7 +4,7 @@ use Rattle.ghost_model.specs.forms.Runs.{number_cell}
 use Rattle.index_lists.specs.Lists.{lists_of}
 use Rattle.index_files.proofs.Frames.{on_ok, stores_as}
 use Rattle.index_files.proofs.LevelFiles.{runs_same, rows_records}
-use Rattle.index_files.proofs.levels.write_level.Goals as goal
+use Rattle.index_files.proofs.levels.write_ranked.Goals as goal
 
 pub write_records-requires-clause-widths : goal.write_records-requires-clause-widths
 write_records-requires-clause-widths g c = λ i low.
