@@ -12,3 +12,4 @@ pub mod IndexPlaces
 pub mod IdEntries
 pub mod ValueEntries
 pub mod FirstLevels
+pub mod TextHeads

@@ -20,7 +20,7 @@ use edge_traits::flash::Flash;
 use flash_layout::Layout;
 use index_files::NoHeads;
 use index_files::laws::level_files_of_tables;
-use index_lists::laws::{id_lists_by_ranks, key_orders_are_lists};
+use index_lists::laws::{id_lists_by_ranks, key_orders_are_lists, levels_compose};
 use index_lists::{Numbers, order_rows};
 use std::alloc::{AllocError, Global};
 
@@ -56,6 +56,7 @@ fn id_rows(
     layout_laws(laid);
     ghost_model::layout::levels_are_ancestors();
     key_orders_are_lists();
+    levels_compose();
     let all = id_ranks(alloc, laid, hidden, table)?;
     let keys = keys_of(laid, hidden, laid.above(table)[0], table);
     let rows = order_rows(alloc, &Numbers { numbers: keys })?;

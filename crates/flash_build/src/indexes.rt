@@ -71,9 +71,7 @@ fn write_ranked<F: Flash>(
     };
     match level_ranks(alloc, laid, hidden, table, ranks) {
         Err(_) => Err(BuildFault::NoMemory),
-        Ok(all) => {
-            write_entries(alloc, flash, buf, &heads, &all, &rows, directory, own.first)
-        },
+        Ok(all) => { write_entries(alloc, flash, buf, &heads, &all, &rows, directory, own.first) },
     }
 }
 
