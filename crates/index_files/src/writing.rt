@@ -7,6 +7,7 @@ ghost use Rattle.ghost_model.specs.forms.Runs as runs;
 ghost use Rattle.ghost_base.specs.Runs.{run_of};
 ghost use Rattle.edge_traits.specs.Devices.{Counts, ChangesOnly};
 ghost use Rattle.flash_pages.specs.Filling.{CanFill};
+ghost use Rattle.index_lists.specs.Lists.{AreListed};
 ghost use Rattle.index_files.specs.Faults.{IndexCause, EndsAtFault};
 ghost use Rattle.index_files.specs.Files.{AreLevels, ranks_of, counts_of, level_pages};
 ghost use Rattle.index_files.specs.Writing.{Writes};
@@ -56,9 +57,9 @@ fn write_directory<F: Flash, H: Records>(
 /// Writes the directory of an index and, from page `begin` on, its level files, each page once.
 ///
 /// The directory has a record for each entry: its head, and eight bytes for each level. `levels` has, for each level, the
-/// ranks of its rows: the number of the entry in whose list the row stands. `directory` has as many records as there are
-/// entries; its pages and those from `begin` on are blank. It takes four bytes for each entry a level while the directory is
-/// written, and eight for each row of one level at a time.
+/// ranks of its rows: the number of the entry in whose list the row stands; `rows` are those of the first level in order,
+/// counted from 0. `directory` has as many records as there are entries; its pages and those from `begin` on are blank. It
+/// takes four bytes for each entry a level while the directory is written, and eight for each row of one later level at a time.
 ///
 /// Where the flash fails, nothing more is written.
 pub fn write_lists<F: Flash, H: Records>(
@@ -67,6 +68,7 @@ pub fn write_lists<F: Flash, H: Records>(
     buf: &mut [u8; 2048],
     heads: &H,
     levels: &[Vec<u32>],
+    rows: &[u32],
     directory: Run,
     begin: u32,
 ) -> Result<(), IndexFault>
@@ -76,6 +78,7 @@ pub fn write_lists<F: Flash, H: Records>(
     requires widths { (entry : ℕ) → entry < length (H.records heads.now) → length (get_or (H.records heads.now) entry []) + 8 * length levels.now ≡ directory.width }
     requires few { All (λ ranks. length ranks.items < 2 ^ 32) levels.now }
     requires ranked { All (λ ranks. All (λ rank. rank < directory.count) ranks.items) levels.now }
+    requires rows { 0 < length levels.now → AreListed (get_or (ranks_of levels.now) 0 []) directory.count rows.now }
     requires order { runs.run_end (run_of directory) ≤ begin }
     requires can { CanFill (F.state flash.old) directory.first (runs.run_pages (run_of directory)) }
     requires can_levels { CanFill (F.state flash.old) begin (level_pages (counts_of (ranks_of levels.now))) }
@@ -88,5 +91,5 @@ pub fn write_lists<F: Flash, H: Records>(
     ensures last { EndsAtFault (F.state flash.new).since_fault result }
 {
     write_directory(alloc, flash, buf, heads, levels, directory)?;
-    write_levels(alloc, flash, buf, levels, directory.count, begin)
+    write_levels(alloc, flash, buf, levels, rows, directory.count, begin)
 }

@@ -5,4 +5,7 @@ pub mod ByRanks
 pub mod Counts
 pub mod NamedRows
 pub mod Leading
-pub mod NumberRows
+pub mod Heads
+pub mod HeadedRows
+pub mod OwnOrder
+pub mod KeyOrders

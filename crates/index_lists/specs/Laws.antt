@@ -1,5 +1,5 @@
 -- What is computed by ranks, level by level, are the lists that an index holds.
-use Rattle.std.specs.Prelude.{◌≡◌, ℕ, suc, ◌+◌, ◌-◌, ◌<◌, ◌≤◌, ℤ, pos, List, ◌++◌, length, map, Some, slice_index, get_or, IsTrue}
+use Rattle.std.specs.Prelude.{◌≡◌, ℕ, suc, ◌+◌, ◌-◌, ◌^◌, ◌<◌, ◌≤◌, ℤ, pos, List, ◌++◌, length, map, Some, slice_index, get_or, IsTrue}
 use Rattle.std.specs.List.{All}
 use Rattle.ghost_model.specs.core.Channel.{Catalog}
 use Rattle.ghost_model.specs.core.Schema.{parent}
@@ -12,8 +12,9 @@ use Rattle.ghost_model.specs.laws.MeaningLaws.{IsAtOrBelow}
 use Rattle.ghost_model.specs.forms.Runs.{number_cell}
 use Rattle.ghost_model.specs.forms.Layout.{count_of}
 use Rattle.ghost_model.specs.forms.Flash.{IsHidden, ids, hidden_cells, leads_to, value_lists, id_lists, list_place, AreValues}
-use Rattle.index_lists.specs.Ranks.{AreRanks, identifier_of, of_referred}
-use Rattle.index_lists.specs.Lists.{lists_of, start_of}
+use Rattle.index_lists.specs.Ranks.{AreRanks, identifier_of, number_cells, of_referred}
+use Rattle.index_lists.specs.Numbering.{InOrder}
+use Rattle.index_lists.specs.Lists.{AreListed, lists_of, start_of}
 
 -- each row of a table leads to a row of a table below it, or to itself
 pub record LeadAs (cat : Catalog) (hidden : Hidden) (from table : ℕ) (reached : List ℕ) : Type 0 where
@@ -83,3 +84,10 @@ RowsLeadByKeys =
     (cat : Catalog) (hidden : Hidden) → IsTree cat.schema → IsHidden cat hidden
     → (table child : ℕ) → parent cat.schema child ≡ Some table → (keys : List ℤ) → AreKeys cat hidden table child keys
     → KeysLead cat hidden table child keys
+
+-- rows that stand in the order of their foreign keys are the lists of the rows that these name, one after another
+abbrev pub KeyOrdersAreLists : Type 0
+KeyOrdersAreLists =
+    (keys : List ℤ) (count : ℕ) (rows : List ℕ) → count < 2 ^ 32
+    → All (λ key. IsTrue (is_row_among count (Number key))) keys → InOrder (number_cells keys) rows
+    → AreListed (map (λ identifier. identifier - 1) (map identifier_of keys)) count rows

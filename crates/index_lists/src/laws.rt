@@ -1,6 +1,8 @@
 //! The laws of lists by ranks.
 
-ghost use Rattle.index_lists.specs.Laws.{ValueListsByRanks, IdListsByRanks, LevelsCompose, ListsStandBetween, RowsLeadToThemselves, RowsLeadByKeys, LeadsGoOn};
+ghost use Rattle.index_lists.specs.Laws.{ValueListsByRanks, IdListsByRanks, LevelsCompose, ListsStandBetween, RowsLeadToThemselves, RowsLeadByKeys, LeadsGoOn, KeyOrdersAreLists};
+
+use ghost_base::laws::cell_order_is_value_order;
 
 /// The ranks of a column's rows, taken to a level, make the lists of the column's values there.
 pub fn value_lists_by_ranks()
@@ -36,3 +38,10 @@ pub fn rows_lead_by_keys()
 pub fn leads_go_on()
     ensures { LeadsGoOn }
 {}
+
+/// Rows that stand in the order of their foreign keys are the lists of the rows that these name, one after another.
+pub fn key_orders_are_lists()
+    ensures { KeyOrdersAreLists }
+{
+    cell_order_is_value_order();
+}

@@ -10,11 +10,11 @@ pub mod column;
 pub mod laws;
 pub mod levels;
 pub mod lists;
-pub mod numbers;
+pub mod ordering;
 pub mod ranking;
 
-pub use column::{Column, Numbers};
+pub use column::{Column, Numbers, head_of};
 pub use levels::{places_referred, ranks_above};
 pub use lists::{list_starts, rows_by_rank};
-pub use numbers::rank_numbers;
-pub use ranking::{Ranking, rank_column};
+pub use ordering::order_rows;
+pub use ranking::{Ranking, rank_column, rank_numbers, rank_ordered};

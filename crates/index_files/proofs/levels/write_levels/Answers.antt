@@ -13,7 +13,7 @@ write_level-requires-clause-can g c =
     let low : c.loop-ranks.ranks-index < length c.args.levels.now = omega (arith, c.loop-ranks-test.true, c.loop-ranks.auto.ranks-index-end) in
     can_as refl (ap (λ rs. pages_of (length rs) 4) (sym c.deref.ensures.value))
     (can_fill_level c.args.levels.now c.args.entries c.args.begin c.loop-ranks.first c.loop-ranks.ranks-index c.ranks-item.result c.ranks-item.is low
-    c.loop-ranks.invariant c.requires.can)
+    c.loop-ranks.invariant.levels c.requires.can)
 
 pub returns-in_err-write_level-clause-writes : goal.returns-in_err-write_level-clause-writes
 returns-in_err-write_level-clause-writes g c =
@@ -28,7 +28,7 @@ returns-in_err-write_level-clause-writes g c =
     let step =
     subst (λ rs. Writes first (first + pages_of (length rs) 4) (pages_of (length rs) 4) middle now (Err e)) c.deref.ensures.value c.in_err-write_level.ensures.writes in
     subst (λ r. Writes c.args.begin (c.args.begin + all) all (g.F.Flash.state c.args.flash.now) now r) (sym same)
-    (levels_fail levels c.args.entries c.args.begin first c.loop-ranks.ranks-index c.ranks-item.result c.ranks-item.is low c.loop-ranks.invariant e step)
+    (levels_fail levels c.args.entries c.args.begin first c.loop-ranks.ranks-index c.ranks-item.result c.ranks-item.is low c.loop-ranks.invariant.levels e step)
 
 pub overflow_add-first : goal.overflow_add-first
 overflow_add-first g c =
@@ -39,7 +39,7 @@ overflow_add-first g c =
       arith,
       pages,
       next_fits c.args.levels.now c.args.entries c.args.begin c.loop-ranks.first c.loop-ranks.ranks-index c.ranks-item.result c.ranks-item.is low
-          c.loop-ranks.invariant c.requires.can,
+          c.loop-ranks.invariant.levels c.requires.can,
     )
 
 pub loop-ranks-preserved : goal.loop-ranks-preserved
@@ -59,5 +59,9 @@ loop-ranks-preserved g c =
     let stores =
     subst (λ rs. g.F.Flash.told ≡ true → Stores now.page (record { first = first; count = length rs; width = 4 }) (list_records (lists_of rs c.args.entries)))
     c.deref.ensures.value c.in_ok-write_level.ensures.stores in
-    subst (λ n. LevelsWritten g.F.Flash.told (ranks_of levels) c.args.entries c.args.begin (first + n) before now (c.loop-ranks.ranks-index + 1)) (sym pages)
-    (levels_more levels c.args.entries c.args.begin first c.loop-ranks.ranks-index ranks c.ranks-item.is low c.loop-ranks.invariant (written step) stores)
+    record {
+      levels =
+          subst (λ n. LevelsWritten g.F.Flash.told (ranks_of levels) c.args.entries c.args.begin (first + n) before now (c.loop-ranks.ranks-index + 1)) (sym pages)
+          (levels_more levels c.args.entries c.args.begin first c.loop-ranks.ranks-index ranks c.ranks-item.is low c.loop-ranks.invariant.levels (written step) stores);
+      order = search rules;
+    }
