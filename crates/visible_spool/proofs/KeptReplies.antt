@@ -1,0 +1,17 @@
+-- What stays of a reply where other pages change.
+use Rattle.std.proofs.Common.{◌≡◌, ℕ, ◌<◌, ◌≤◌, List}
+use Rattle.edge_traits.specs.Devices.{Device}
+use Rattle.flash_pages.proofs.RunFrames.{records_kept, run_kept}
+use Rattle.visible_spool.specs.declared.reply.Reply.{Reply}
+use Rattle.visible_spool.specs.Replies.{IsReadable, HoldsRows}
+use Rattle.visible_spool.specs.Laws.{RepliesAreKept, RepliesStayReadable, RepliesAreSpared}
+
+pub reply_kept : RepliesAreKept
+reply_kept page now reply rows same holds = record { has = records_kept same holds.has; are = holds.are }
+
+pub reply_readable : RepliesStayReadable
+reply_readable before now reply same is = record { has = run_kept same is.has; sound = is.sound }
+
+pub reply_spared : RepliesAreSpared
+reply_spared page now low high reply rows lies same holds =
+    reply_kept page now reply rows (λ place within. let at = lies place within in same _ at.0 at.1) holds

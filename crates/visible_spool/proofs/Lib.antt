@@ -1,0 +1,10 @@
+pub mod RowBytes
+pub mod Places
+pub mod RowsHere
+pub mod Readable
+pub mod Narrowing
+pub mod Identifiers
+pub mod Frames
+pub mod Finding
+pub mod KeptReplies
+pub mod HandLemmas

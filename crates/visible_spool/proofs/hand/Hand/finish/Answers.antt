@@ -1,0 +1,25 @@
+use Rattle.std.proofs.Common.{◌≡◌, ◌∙◌, ◌<◌, ◌≤◌, ◌+◌, refl, ℕ, List, true, arith}
+use Rattle.edge_traits.proofs.DeviceFrames.{changes_wider}
+use Rattle.visible_spool.specs.Hands.{area_end}
+use Rattle.visible_spool.proofs.HandLemmas.{finish_can, finish_changes, ended_readable}
+use Rattle.visible_spool.proofs.hand.Hand.finish.Goals as goal
+
+pub finish-requires-clause-can : goal.finish-requires-clause-can
+finish-requires-clause-can g c = λ waits. finish_can (g.F.Flash.state c.args.flash.now) c.args.self.now c.requires.can waits
+
+pub returns-in-Err-clause-others : goal.returns-in-Err-clause-others
+returns-in-Err-clause-others g c =
+    finish_changes (g.F.Flash.state c.args.flash.now) (g.F.Flash.state c.finish.new.flash) c.args.self.now c.requires.can c.finish.ensures.unwritten c.finish.ensures.writes.others
+
+pub returns-in-Ok-clause-others : goal.returns-in-Ok-clause-others
+returns-in-Ok-clause-others g c =
+    finish_changes (g.F.Flash.state c.args.flash.now) (g.F.Flash.state c.finish.new.flash) c.args.self.now c.requires.can c.finish.ensures.unwritten c.finish.ensures.writes.others
+
+pub returns-in-Ok-clause-holds : goal.returns-in-Ok-clause-holds
+returns-in-Ok-clause-holds g c = λ told rows was. record { has = (c.in-Ok.ensures.stores told rows was.put).has; are = was.are }
+
+pub returns-in-Ok-clause-readable : goal.returns-in-Ok-clause-readable
+returns-in-Ok-clause-readable g c =
+    let run = c.in-Ok.ensures.run in
+    ended_readable (g.F.Flash.state c.args.flash.now) (g.F.Flash.state c.finish.new.flash) c.args.self.now _ c.requires.can c.finish.ensures.writes.others.page_count
+    (record { first = run.first; count = run.count; width = run.width; rows = refl; cells = refl; kinds = refl })

@@ -1,0 +1,96 @@
+use Rattle.std.proofs.Common.{◌≡◌, ◌<◌, ◌+◌, ◌^◌, subst, sym, ap, ℕ, true, List, Option, Ok, arith}
+use Rattle.ghost_model.specs.core.Asks.{RowCells}
+use Rattle.page_pool.specs.Pools.{page_at}
+use Rattle.visible_spool.specs.declared.search.Step.{Step}
+use Rattle.visible_spool.specs.Replies.{HoldsRows}
+use Rattle.visible_spool.specs.Searches.{IsSought, IsFewer, StepFinds, StepStands, is_more, calls_if, step_calls}
+use Rattle.visible_spool.proofs.Finding.{HasFound, call_left, one_call}
+use Rattle.visible_spool.proofs.Frames.{then_pages, calm, answered, faulted, failed, quiet}
+use Rattle.visible_spool.proofs.reply.Reply.find.Goals as goal
+
+pub step-requires-clause-ready : goal.step-requires-clause-ready
+step-requires-clause-ready g c = c.steps.invariant.frame.reads.ready
+
+pub returns-in-Err-clause-finds : goal.returns-in-Err-clause-finds
+returns-in-Err-clause-finds g c = λ told rows holds.
+    let same = c.steps.invariant.frame.reads.kept.page in
+    c.in-Err.ensures.whole told rows (subst (λ (p : ℕ → List ℕ). HoldsRows p c.args.self.now rows) (sym same) holds)
+
+pub returns-in-Err-clause-found : goal.returns-in-Err-clause-found
+returns-in-Err-clause-found g c = λ since low was.
+    let rises = c.steps.invariant.frame.reads.kept.never_falls in
+    c.in-Err.ensures.blames since (omega (arith, low, rises)) (c.steps.invariant.frame.reads.given since low was)
+
+pub returns-in-Err-clause-read : goal.returns-in-Err-clause-read
+returns-in-Err-clause-read g c = λ k fewer.
+    let told = g.F.Flash.told in
+    let before = g.F.Flash.state c.args.flash.now in
+    let here = g.F.Flash.state c.steps.flash in
+    let after = g.F.Flash.state c.step.new.flash in
+    let has : HasFound told before here c.args.pool.now c.steps.pool c.args.lease.now k c.steps.search = c.steps.invariant.reads k fewer in
+    let enough = has.enough in
+    let calls = step_calls (page_at c.steps.pool c.args.lease.now) (page_at c.step.new.pool c.args.lease.now) (failed Step c.in-Err.fault) in
+    let few = call_left calls has.rest (c.in-Err.ensures.some k has.rest fewer has.calls_left) in
+    then_pages told before here after c.args.pool.now c.steps.pool c.step.new.pool c.args.lease.now has.made (calls_if calls) (k + 3) (failed (Option RowCells) c.in-Err.fault)
+    (omega (arith, enough, few)) has.reads
+    (faulted Step (Option RowCells) told here after c.steps.pool c.step.new.pool c.args.lease.now (calls_if calls) c.in-Err.fault c.in-Err.ensures.read)
+
+pub returns-in-Ok-Found-clause-finds : goal.returns-in-Ok-Found-clause-finds
+returns-in-Ok-Found-clause-finds g c = λ told rows holds.
+    let same = c.steps.invariant.frame.reads.kept.page in
+    subst (StepFinds rows c.args.id) c.in-Ok-Found.field-0-is
+    (c.in-Ok-Found.ensures.finds told rows (subst (λ (p : ℕ → List ℕ). HoldsRows p c.args.self.now rows) (sym same) holds) (c.steps.invariant.sought told rows holds))
+
+pub returns-in-Ok-Found-clause-found : goal.returns-in-Ok-Found-clause-found
+returns-in-Ok-Found-clause-found g c = λ since low was.
+    let rises = c.steps.invariant.frame.reads.kept.never_falls in
+    subst (StepStands since (g.F.Flash.state c.step.new.flash) c.args.self.now c.args.id) c.in-Ok-Found.field-0-is
+    (c.in-Ok-Found.ensures.stands since (omega (arith, low, rises)) (c.steps.invariant.frame.reads.given since low was))
+
+pub returns-in-Ok-Found-clause-read : goal.returns-in-Ok-Found-clause-read
+returns-in-Ok-Found-clause-read g c = λ k fewer.
+    let told = g.F.Flash.told in
+    let before = g.F.Flash.state c.args.flash.now in
+    let here = g.F.Flash.state c.steps.flash in
+    let after = g.F.Flash.state c.step.new.flash in
+    let has : HasFound told before here c.args.pool.now c.steps.pool c.args.lease.now k c.steps.search = c.steps.invariant.reads k fewer in
+    let enough = has.enough in
+    let calls = step_calls (page_at c.steps.pool c.args.lease.now) (page_at c.step.new.pool c.args.lease.now) (Ok c.in-Ok-Found.field-0) in
+    let few = call_left calls has.rest (c.in-Ok-Found.ensures.some k has.rest fewer has.calls_left) in
+    answered told before after c.args.pool.now c.step.new.pool c.args.lease.now (k + 3) c.in-Ok-Found.found
+    (then_pages told before here after c.args.pool.now c.steps.pool c.step.new.pool c.args.lease.now has.made (calls_if calls) (k + 3) quiet (omega (arith, enough, few)) has.reads
+    (calm told here after c.steps.pool c.step.new.pool c.args.lease.now (calls_if calls) c.in-Ok-Found.field-0 c.in-Ok-Found.ensures.read))
+
+pub steps-preserved : goal.steps-preserved
+steps-preserved g c =
+    let told = g.F.Flash.told in
+    let before = g.F.Flash.state c.args.flash.now in
+    let here = g.F.Flash.state c.steps.flash in
+    let after = g.F.Flash.state c.step.new.flash in
+    let was = c.steps.invariant in
+    let same = was.frame.reads.kept.page in
+    let step = c.in-Ok-More.ensures in
+    let calls = step_calls (page_at c.steps.pool c.args.lease.now) (page_at c.step.new.pool c.args.lease.now) (Ok c.in-Ok-More.field-0) in
+    let one = one_call calls in
+    let read = calm told here after c.steps.pool c.step.new.pool c.args.lease.now (calls_if calls) c.in-Ok-More.field-0 step.read in
+    record {
+      readable = step.readable;
+      search = step.search;
+      sought = λ is rows holds. step.sought is rows (subst (λ (p : ℕ → List ℕ). HoldsRows p c.args.self.now rows) (sym same) holds) (was.sought is rows holds);
+      frame = record {
+        made = was.frame.made + 1;
+        reads = then_pages told before here after c.args.pool.now c.steps.pool c.step.new.pool c.args.lease.now was.frame.made (calls_if calls) (was.frame.made + 1) quiet (omega (arith, one)) was.frame.reads read;
+      };
+      reads = λ k fewer.
+          let has : HasFound told before here c.args.pool.now c.steps.pool c.args.lease.now k c.steps.search = was.reads k fewer in
+          let more : IsFewer k c.step.new.search has.rest = step.fewer k has.rest fewer has.calls_left (ap is_more c.in-Ok-More.field-0-is) in
+          let enough = has.enough in
+          let less = more.less in
+          record {
+            made = has.made + 1;
+            rest = more.rest;
+            reads = then_pages told before here after c.args.pool.now c.steps.pool c.step.new.pool c.args.lease.now has.made (calls_if calls) (has.made + 1) quiet (omega (arith, one)) has.reads read;
+            calls_left = more.calls_left;
+            enough = omega (arith, enough, less);
+          };
+    }

@@ -1,0 +1,41 @@
+use Rattle.std.proofs.Common.{◌≡◌, ◌∙◌, subst, sym, ℕ, true, List}
+use Rattle.visible_spool.specs.Replies.{HoldsRows}
+use Rattle.visible_spool.specs.Searches.{TurnFinds, TurnLeaves, LeavesElsewhere, IsSoughtAmong, LooksLeft}
+use Rattle.page_pool.specs.Pools.{page_at}
+use Rattle.visible_spool.proofs.Narrowing.{looks_kept}
+use Rattle.visible_spool.proofs.reply.Reply.step.Goals as goal
+
+pub returns-in-Ok-Over-clause-finds : goal.returns-in-Ok-Over-clause-finds
+returns-in-Ok-Over-clause-finds g c = λ told rows holds was.
+    let pages = (g.F.Flash.state c.args.flash.now).page in
+    subst (TurnFinds c.args.self.now rows c.args.id) c.in-Ok-Over.field-0-is
+    (c.in-Ok-Over.ensures.finds g.F.Flash.told pages rows told c.requires.ready.filled holds (c.begun-looking.ensures.sought pages rows holds was))
+
+pub returns-in-Ok-Narrowed-clause-sought : goal.returns-in-Ok-Narrowed-clause-sought
+returns-in-Ok-Narrowed-clause-sought g c = λ told rows holds was.
+    let pages = (g.F.Flash.state c.args.flash.now).page in
+    c.advance.ensures.sought told rows holds
+    (subst (TurnFinds c.args.self.now rows c.args.id) c.in-Ok-Narrowed.field-0-is
+    (c.in-Ok-Narrowed.ensures.finds g.F.Flash.told pages rows told c.requires.ready.filled holds (c.begun-looking.ensures.sought pages rows holds was)))
+    was
+
+pub returns-in-Ok-Narrowed-clause-finds : goal.returns-in-Ok-Narrowed-clause-finds
+returns-in-Ok-Narrowed-clause-finds g c = λ told rows holds was.
+    let pages = (g.F.Flash.state c.args.flash.now).page in
+    c.advance.ensures.finds told rows holds
+    (subst (TurnFinds c.args.self.now rows c.args.id) c.in-Ok-Narrowed.field-0-is
+    (c.in-Ok-Narrowed.ensures.finds g.F.Flash.told pages rows told c.requires.ready.filled holds (c.begun-looking.ensures.sought pages rows holds was)))
+
+pub returns-in-Ok-Narrowed-clause-fewer : goal.returns-in-Ok-Narrowed-clause-fewer
+returns-in-Ok-Narrowed-clause-fewer g c = λ k left few calls.
+    let held = page_at c.args.pool.now c.args.lease.now in
+    let n : LeavesElsewhere c.args.self.now held c.begun-looking.result c.in-Ok-Narrowed.next =
+    subst (TurnLeaves c.args.self.now held c.begun-looking.result) c.in-Ok-Narrowed.field-0-is c.in-Ok-Narrowed.ensures.leaves in
+    c.advance.ensures.fewer k left (looks_kept c.begun-looking.result c.in-Ok-Narrowed.next left n.low n.high n.guesses (c.begun-looking.ensures.fewer k left few calls))
+
+pub returns-in-Ok-Narrowed-clause-some : goal.returns-in-Ok-Narrowed-clause-some
+returns-in-Ok-Narrowed-clause-some g c = λ k left few calls.
+    let held = page_at c.args.pool.now c.args.lease.now in
+    let n : LeavesElsewhere c.args.self.now held c.begun-looking.result c.in-Ok-Narrowed.next =
+    subst (TurnLeaves c.args.self.now held c.begun-looking.result) c.in-Ok-Narrowed.field-0-is c.in-Ok-Narrowed.ensures.leaves in
+    c.advance.ensures.some left (looks_kept c.begun-looking.result c.in-Ok-Narrowed.next left n.low n.high n.guesses (c.begun-looking.ensures.fewer k left few calls))

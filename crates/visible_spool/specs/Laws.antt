@@ -1,0 +1,34 @@
+-- Laws of replies: what stays of them where other pages change.
+use Rattle.std.specs.Prelude.{◌≡◌, ℕ, ◌<◌, ◌≤◌, List}
+use Rattle.ghost_model.specs.forms.Runs.{page_of}
+use Rattle.ghost_base.specs.Runs.{run_of}
+use Rattle.edge_traits.specs.Devices.{Device}
+use Rattle.visible_spool.specs.declared.reply.Reply.{Reply}
+use Rattle.visible_spool.specs.Replies.{IsReadable, HoldsRows}
+
+-- the pages of a reply's rows have the same bytes
+abbrev pub KeepsReply : (page now : ℕ → List ℕ) → Reply → Type 0
+KeepsReply page now reply =
+    (place : ℕ) → place < reply.run.count → now (page_of (run_of reply.run) place) ≡ page (page_of (run_of reply.run) place)
+
+abbrev pub RepliesAreKept : Type 0
+RepliesAreKept =
+    (page now : ℕ → List ℕ) (reply : Reply) (rows : List (List ℕ)) → KeepsReply page now reply
+    → HoldsRows page reply rows → HoldsRows now reply rows
+
+-- a reply may be read as long as the device has as many pages
+abbrev pub RepliesStayReadable : Type 0
+RepliesStayReadable = (before now : Device) (reply : Reply) → now.page_count ≡ before.page_count → IsReadable before reply → IsReadable now reply
+
+-- the pages of a reply's rows lie from one page on and below another
+abbrev pub LiesWithin : (low high : ℕ) → Reply → Type 0
+LiesWithin low high reply =
+    (place : ℕ) → place < reply.run.count
+    → (low ≤ page_of (run_of reply.run) place) × (page_of (run_of reply.run) place < high)
+
+-- and so where no page there changed
+abbrev pub RepliesAreSpared : Type 0
+RepliesAreSpared =
+    (page now : ℕ → List ℕ) (low high : ℕ) (reply : Reply) (rows : List (List ℕ)) → LiesWithin low high reply
+    → ((number : ℕ) → low ≤ number → number < high → now number ≡ page number)
+    → HoldsRows page reply rows → HoldsRows now reply rows

@@ -1,0 +1,5 @@
+pub mod Replies
+pub mod Searches
+pub mod Laws
+pub mod Halves
+pub mod Hands

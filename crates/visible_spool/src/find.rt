@@ -1,0 +1,65 @@
+//! A row by its identifier, and all identifiers.
+
+ghost use Rattle.std.specs.Prelude.{◌≡◌, ◌<◌, ◌≤◌, ◌+◌, ◌^◌, ℕ, Bool, true, List, map, IfSome};
+ghost use Rattle.ghost_base.specs.Runs.{run_of};
+ghost use Rattle.edge_traits.specs.Devices.{Device};
+ghost use Rattle.page_pool.specs.Pools.{Pool, page_at};
+ghost use Rattle.flash_pages.specs.Reads.{ReadsPages, CanRead, WasGiven};
+ghost use Rattle.flash_pages.specs.Cursors.{IsReady, IsPageOf, ids_left};
+ghost use Rattle.visible_spool.specs.Replies.{IsReadable, HoldsRows, Finds, WasFound, id_of_bytes};
+
+use crate::reply::Reply;
+use crate::row::SpoolRow;
+use crate::search::{Search, Step};
+use edge_traits::flash::Flash;
+use flash_pages::cursor::RunCursor;
+use flash_pages::fault::PageFault;
+use ghost_base::runs::ListRef;
+use page_pool::{Lease, PagePool};
+
+impl Reply {
+    /// The row of an identifier, and none exactly where the reply has none.
+    ///
+    /// Of a reply with less than 2^k rows it reads at most k + 3 pages.
+    pub fn find<F: Flash>(
+        &self,
+        flash: &mut F,
+        pool: &mut PagePool,
+        lease: &Lease,
+        id: u32,
+    ) -> Result<Option<SpoolRow>, PageFault>
+        requires readable { IsReadable (F.state flash.old) self.now }
+        requires ready { CanRead F.told (F.state flash.old) pool.old lease.now }
+        ensures finds { F.told ≡ true → (rows : List (List ℕ)) → HoldsRows (F.state flash.old).page self.now rows → Finds rows id result }
+        ensures found { (since : ℕ) → since ≤ (F.state flash.old).calls → WasGiven since (F.state flash.old) pool.old lease.now → WasFound since (F.state flash.new) self.now id result }
+        ensures readable { IsReadable (F.state flash.new) self.now }
+        ensures read { (k : ℕ) → self.now.run.count < 2 ^ k → ReadsPages F.told (F.state flash.old) (F.state flash.new) pool.old pool.new lease.now (k + 3) result }
+    {
+        let mut search = Search::New;
+        'steps: loop {
+            match self.step(flash, pool, lease, &mut search, id) {
+                Err(fault) => return Err(fault),
+                Ok(Step::Found(found)) => return Ok(found),
+                Ok(Step::More) => {}
+            }
+        }
+    }
+
+    /// The identifiers of the rows, in their order.
+    pub fn ids(&self, lease: Lease) -> RunCursor
+        ensures lease { result.lease ≡ lease }
+        ensures rows { result.rows ≡ self.now.rows }
+        ensures at { result.at ≡ 0 }
+        ensures last { result.last ≡ 0 }
+        ensures ids { (page : ℕ → List ℕ) (rows : List (List ℕ)) → HoldsRows page self.now rows → ids_left page result ≡ map id_of_bytes rows }
+        ensures ready { (told : Bool) (device : Device) (pool : Pool) → IsReadable device self.now → CanRead told device pool lease → IfSome (page_at pool lease) (IsPageOf (run_of self.now.run)) → IsReady told device pool result }
+    {
+        ghost_model::runs::identifiers_of_records();
+        let list = ListRef {
+            run: self.run,
+            first: 0,
+            count: self.run.count,
+        };
+        RunCursor::begin(list, self.rows, lease)
+    }
+}
