@@ -1,6 +1,6 @@
 -- What holds of a pass where it took a list, or found none left, and where it went on with its groups.
 use Rattle.std.proofs.Common.{◌≡◌, ◌∙◌, ℕ, zero, suc, ◌+◌, ◌*◌, ◌/◌, ◌<◌, ◌≤◌, ◌⊎◌, inl, inr, Bool, true, false, List, ◌∷◌, length, if◌then◌else◌, ap, sym, refl, subst, arith}
-use Rattle.std.specs.Prelude.{⊤, Option, Some, None}
+use Rattle.std.specs.Prelude.{⊤, Option, Some, None, Result, Ok, Err}
 use Rattle.std.proofs.lemmas.Nat.{div_below}
 use Rattle.ghost_model.specs.core.Causes.{Rose}
 use Rattle.ghost_model.specs.forms.Runs.{page_of, per_page}
@@ -10,13 +10,16 @@ use Rattle.edge_traits.specs.Devices.{Device, KeepsPages, SamePage}
 use Rattle.edge_traits.proofs.DeviceFrames.{same_kept, kept_same}
 use Rattle.page_pool.specs.Pools.{Pool, AreOut, ChangesPage, free_count}
 use Rattle.page_pool.proofs.Leases.{change_keeps_out}
-use Rattle.id_merge.specs.Cursors.{cursor_at, leases_of}
+use Rattle.flash_pages.specs.declared.fault.PageFault.{PageFault}
+use Rattle.flash_pages.specs.declared.fault.PageFault.TheVariants.{Flash, Damaged}
+use Rattle.id_merge.specs.declared.cursor.Cursor.{Cursor}
+use Rattle.id_merge.specs.Cursors.{BlamesLists, cursor_at, leases_of}
 use Rattle.spill_pass.specs.declared.groups.Groups.{Groups}
 use Rattle.spill_pass.specs.declared.groups.PlacedLists.{PlacedLists}
 use Rattle.spill_pass.specs.Grouping.{AreRunsOf, Made, IsGrouping, GoesOn, ChangesAreas, CanTake, TookMore, WentOn, ListStands, groups_held, lists_at_hand, ids_at_hand, places_end}
 use Rattle.spill_pass.specs.Lists.{ListOutside}
 use Rattle.spill_pass.specs.Merging.{MadeAtMost, area_end, area_pages, left_of}
-use Rattle.spill_pass.specs.Passing.{IsPassing, PassGoes, ArePairs, IsComplete, MadeFew, PassWent, PassEnds, pass_held, pass_left}
+use Rattle.spill_pass.specs.Passing.{BlamesPass, IsPassing, PassGoes, ArePairs, IsComplete, MadeFew, PassWent, PassEnds, pass_held, pass_left}
 use Rattle.spill_pass.specs.Sources.{Source, SameSource, SparesSource, UsesOutside, GaveList, LooksUp}
 use Rattle.spill_pass.proofs.Holders.{same_beside}
 use Rattle.spill_pass.proofs.PassFrames.{buffers_same, few_leases, grouping_spared, lists_apart, pass_of_groups, pass_of_source, source_spares, unread_beside}
@@ -306,3 +309,11 @@ went_less source old new went = omega (arith, went.lists, went.fewer)
 
 pub made_two : {calls : ℕ} {before now : Device} → Made calls before now → MadeFew calls before now
 made_two made = record { few = omega (arith, made.few); at_most = made.at_most; called = made.called }
+
+-- a slot of a list at hand is blamed
+pub lists_blamed :
+    {T : Type 0} (blamed : ℕ → ℕ → ℕ → Type 0) (since : ℕ) (device : Device) (cursors : List Cursor) (result : Result T PageFault)
+    → BlamesLists since device cursors result → BlamesPass blamed since device cursors result
+lists_blamed blamed since device cursors (Ok answer) blames = tt
+lists_blamed blamed since device cursors (Err Flash) blames = tt
+lists_blamed blamed since device cursors (Err (Damaged number slot found)) blames = inr blames

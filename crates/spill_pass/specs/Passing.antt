@@ -1,10 +1,13 @@
 -- A pass over lists: what it has taken and what is still to come, which leases are held, and what it leaves.
-use Rattle.std.specs.Prelude.{◌≡◌, ℕ, ◌+◌, ◌*◌, ◌<◌, ◌≤◌, ◌⊎◌, Bool, true, false, if◌then◌else◌, ⊤, List, ◌∷◌, length, Option, Some, None}
+use Rattle.std.specs.Prelude.{◌≡◌, ℕ, ◌+◌, ◌*◌, ◌<◌, ◌≤◌, ◌⊎◌, Bool, true, false, if◌then◌else◌, ⊤, List, ◌∷◌, length, Option, Some, None, Result, Ok, Err}
 use Rattle.ghost_model.specs.core.Causes.{Rose}
 use Rattle.edge_traits.specs.Devices.{Device}
 use Rattle.page_pool.specs.Pools.{Pool, AreOut, KeepsOthers, others_out, free_count}
 use Rattle.flash_pages.specs.Reads.{WasGiven}
-use Rattle.id_merge.specs.Cursors.{AllGiven}
+use Rattle.flash_pages.specs.declared.fault.PageFault.{PageFault}
+use Rattle.flash_pages.specs.declared.fault.PageFault.TheVariants.{Flash, Damaged}
+use Rattle.id_merge.specs.declared.cursor.Cursor.{Cursor}
+use Rattle.id_merge.specs.Cursors.{AllGiven, BlamesList}
 use Rattle.spill_pass.specs.declared.groups.Groups.{Groups}
 use Rattle.spill_pass.specs.declared.groups.PlacedLists.{PlacedLists}
 use Rattle.spill_pass.specs.declared.passes.PassTurn.{PassTurn}
@@ -93,3 +96,9 @@ pub record PassEnds (before now : Device) (old : Groups) (placed : PlacedLists) 
 abbrev pub PassTells : (told : Bool) (before now : Device) (pool later : Pool) (source rest : Source) (old new : Groups) (fan : ℕ) (was merging : Bool) → PassTurn → Type 0
 PassTells told before now pool later source rest old new fan was merging (Went calls) = PassWent told before now pool later source rest old new fan was merging calls
 PassTells told before now pool later source rest old new fan was merging (Placed placed calls) = PassEnds before now old placed calls
+
+-- a slot that is blamed is one that the source blames, or one of the lists at hand
+abbrev pub BlamesPass : (blamed : ℕ → ℕ → ℕ → Type 0) → (since : ℕ) → Device → List Cursor → {T : Type 0} → Result T PageFault → Type 0
+BlamesPass blamed since device cursors (Ok answer) = ⊤
+BlamesPass blamed since device cursors (Err Flash) = ⊤
+BlamesPass blamed since device cursors (Err (Damaged number slot found)) = blamed number slot found ⊎ BlamesList since device cursors number slot found

@@ -39,7 +39,7 @@ pub trait ListSource {
     ) -> Result<Option<ListRef>, PageFault>
         requires ready { ready F.told (F.state flash.old) pool.old self.old }
         ensures gives { F.told ≡ true → (right : ℕ → List ℕ) → (rows : ℕ) → (lists : List (List ℕ)) → has_lists (F.state flash.old).page right rows self.old lists → GivesLists (has_lists (F.state flash.new).page right rows self.new) (F.state flash.new).page right rows lists result }
-        ensures blames { (since : ℕ) → since ≤ (F.state flash.old).calls → WasGiven since (F.state flash.old) pool.old (source self.old).lease → BlamesSource (blamed since (F.state flash.new) self.old) result }
+        ensures blames { (since : ℕ) → since ≤ (F.state flash.old).calls → WasGiven since (F.state flash.old) pool.old (source self.old).lease → BlamesSource (blamed since (F.state flash.new) self.new) result }
         ensures gave { IfOk result (GaveNext (F.state flash.new) (source self.old) (source self.new)) }
         ensures looks { LooksUp (F.state flash.old) (F.state flash.new) pool.old pool.new (source self.old).lease (calls pool.old self.old) (source self.old) (source self.new) result }
         ensures ready { ready F.told (F.state flash.new) pool.new self.new };
