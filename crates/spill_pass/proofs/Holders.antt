@@ -31,7 +31,7 @@ each_out pool (OfList run ∷ cursors) (suc i) are = out_before pool run.lease (
 each_out pool (Range low high ∷ cursors) zero are = tt
 each_out pool (Range low high ∷ cursors) (suc i) are = each_out pool cursors i are
 
-another : (pool : Pool) (lease : ℕ) (cursor : Cursor) → HasOut (given pool lease) cursor → IsAnother lease cursor
+pub another : (pool : Pool) (lease : ℕ) (cursor : Cursor) → HasOut (given pool lease) cursor → IsAnother lease cursor
 another pool lease (OfList run) is = other_is_another pool.out lease run.lease is.out
 another pool lease (Range low high) is = tt
 

@@ -11,3 +11,7 @@ pub mod Taking
 pub mod Listing
 pub mod Finishing
 pub mod Turning
+pub mod PlaceLaws
+pub mod PlaceGiving
+pub mod PassFrames
+pub mod PassTaking

@@ -4,3 +4,6 @@ pub mod Places
 pub mod Spared
 pub mod Lists
 pub mod Grouping
+pub mod Sources
+pub mod PlaceLaws
+pub mod Passing

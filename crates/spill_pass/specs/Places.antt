@@ -1,15 +1,19 @@
 -- The places of lists that lie one behind another in a run.
-use Rattle.std.specs.Prelude.{◌≡◌, ℕ, ◌+◌, ◌-◌, ◌<◌, ◌≤◌, ◌&&◌, Bool, ⊤, List, nat_lt, Option, Some, None, Result, Ok, Err}
+use Rattle.std.specs.Prelude.{◌≡◌, ℕ, ◌+◌, ◌-◌, ◌^◌, ◌<◌, ◌≤◌, ◌++◌, ◌∷◌, ◌&&◌, ◌||◌, Bool, ⊤, List, [], length, get_or, nat_le, nat_lt, Option, Some, None, Result, Ok, Err, IfSome}
 use Rattle.ghost_model.specs.forms.Runs as runs
+use Rattle.ghost_base.specs.declared.runs.Run.{Run}
 use Rattle.ghost_base.specs.declared.runs.ListRef.{ListRef}
 use Rattle.ghost_base.specs.Runs.{run_of}
 use Rattle.edge_traits.specs.Devices.{Device}
-use Rattle.page_pool.specs.Pools.{Pool}
+use Rattle.page_pool.specs.Pools.{Pool, page_at}
 use Rattle.flash_pages.specs.declared.fault.PageFault.{PageFault}
 use Rattle.flash_pages.specs.declared.fault.PageFault.TheVariants.{Flash, Damaged}
 use Rattle.flash_pages.specs.Runs.{HasRun}
+use Rattle.flash_pages.specs.Cursors.{IsPageOf}
 use Rattle.flash_pages.specs.Reads.{CanRead, WasRead, must_read}
 use Rattle.spill_pass.specs.declared.places.PlaceReader.{PlaceReader}
+use Rattle.spill_pass.specs.Lists.{IsOrdered}
+use Rattle.spill_pass.specs.Sources.{Source}
 
 -- the place that is read next
 abbrev pub place_at : (page : ℕ → List ℕ) → PlaceReader → List ℕ
@@ -64,6 +68,10 @@ BlamesPlace since device reader (Ok answer) = ⊤
 BlamesPlace since device reader (Err Flash) = ⊤
 BlamesPlace since device reader (Err (Damaged number slot found)) = DamagesPlace since device reader number slot found
 
+-- the page that stands in its buffer, if there is one, is one of the places
+abbrev pub HoldsPlaces : Pool → PlaceReader → Type 0
+HoldsPlaces pool reader = IfSome (page_at pool reader.lease) (IsPageOf (run_of reader.places))
+
 -- a place may be read
 pub record CanReadPlaces (told : Bool) (device : Device) (pool : Pool) (reader : PlaceReader) : Type 0 where
   pub run : HasRun device (run_of reader.places)
@@ -71,3 +79,42 @@ pub record CanReadPlaces (told : Bool) (device : Device) (pool : Pool) (reader :
   pub place : reader.at ≤ reader.places.count
   pub within : reader.next ≤ reader.lists.count
   pub buffer : CanRead told device pool reader.lease
+
+-- a page of the areas that a run of records of that width fills
+abbrev pub is_of : Run → (width page : ℕ) → Bool
+is_of run width page = nat_le run.first page && nat_lt page (run.first + runs.pages_of run.count width)
+
+-- a reader as a source of lists
+abbrev pub source_of : PlaceReader → Source
+source_of reader = record {
+  lists_left = reader.places.count - reader.at;
+  ids_left = reader.lists.count - reader.next;
+  lease = reader.lease;
+  uses = λ page. is_of reader.places 8 page || is_of reader.lists 4 page;
+}
+
+-- its next list may be asked for
+pub record CanGive (told : Bool) (device : Device) (pool : Pool) (reader : PlaceReader) : Type 0 where
+  pub places : CanReadPlaces told device pool reader
+  pub lists : HasRun device (run_of reader.lists)
+  pub width : reader.lists.width ≡ 4
+  pub few : reader.lists.count < 2 ^ 32
+  pub holds : HoldsPlaces pool reader
+
+-- a place of the first list, with its identifiers by right pages
+pub record HasPlace (page right : ℕ → List ℕ) (rows : ℕ) (places lists : Run) (at next : ℕ) (first : List ℕ) : Type 0 where
+  pub within : at < places.count
+  pub inside : next + length first ≤ lists.count
+  pub place : runs.record_at page (run_of places) at ≡ runs.number_cell next ++ runs.number_cell (length first)
+  pub ordered : IsOrdered page right rows (record { run = lists; first = next; count = length first })
+  pub ids : (i : ℕ) → i < length first → runs.id_at right (run_of lists) (next + i) ≡ get_or first i 0
+
+-- the places from one on are those of the lists
+abbrev pub HasPlaces : (page right : ℕ → List ℕ) (rows : ℕ) (places lists : Run) (at next : ℕ) → List (List ℕ) → Type 0
+HasPlaces page right rows places lists at next [] = at ≡ places.count
+HasPlaces page right rows places lists at next (first ∷ rest) = HasPlace page right rows places lists at next first × HasPlaces page right rows places lists (at + 1) (next + length first) rest
+
+pub record ReaderHas (page right : ℕ → List ℕ) (rows : ℕ) (reader : PlaceReader) (ids : List (List ℕ)) : Type 0 where
+  pub places_width : reader.places.width ≡ 8
+  pub lists_width : reader.lists.width ≡ 4
+  pub has : HasPlaces page right rows reader.places reader.lists reader.at reader.next ids

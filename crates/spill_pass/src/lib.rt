@@ -10,10 +10,16 @@
 #![tactic(auto)]
 
 pub mod groups;
+pub mod lists;
+pub mod passes;
 pub mod merging;
+pub mod placed;
 pub mod places;
+pub mod source;
 pub mod spared;
 
 pub use groups::Groups;
 pub use merging::MergeInto;
+pub use passes::Pass;
 pub use places::PlaceReader;
+pub use source::ListSource;

@@ -1,13 +1,13 @@
 //! The places of lists that lie one behind another in a run.
 
-ghost use Rattle.std.specs.Prelude.{◌≡◌, ◌≤◌, ◌++◌, Bool, true, ℕ, IfOk, IfErr, OnErr, MatchOption};
+ghost use Rattle.std.specs.Prelude.{◌≡◌, ◌^◌, ◌<◌, ◌≤◌, ◌++◌, Bool, true, ℕ, IfOk, IfErr, OnErr, MatchOption};
 ghost use Rattle.ghost_model.specs.forms.Runs.{page_of, number_cell, number_in};
 ghost use Rattle.ghost_base.specs.Runs.{run_of};
 ghost use Rattle.edge_traits.specs.Devices.{Device};
-ghost use Rattle.page_pool.specs.Pools.{Pool};
+ghost use Rattle.page_pool.specs.Pools.{Pool, IsOut};
 ghost use Rattle.flash_pages.specs.Reads.{Reads, CanRead, WasGiven};
 ghost use Rattle.flash_pages.specs.Runs.{HasRun};
-ghost use Rattle.spill_pass.specs.Places.{CanReadPlaces, GivesPlace, IsNextList, SamePlaces, DamagesPlace, BlamesPlace, reads_place};
+ghost use Rattle.spill_pass.specs.Places.{CanReadPlaces, GivesPlace, IsNextList, SamePlaces, DamagesPlace, BlamesPlace, HoldsPlaces, reads_place};
 
 use edge_traits::flash::Flash;
 use flash_pages::cells::{found_of, number_at};
@@ -80,6 +80,7 @@ impl PlaceReader {
         ensures blames { (since : ℕ) → since ≤ (F.state flash.old).calls → WasGiven since (F.state flash.old) pool.old self.old.lease → BlamesPlace since (F.state flash.new) self.old result }
         ensures ready { CanReadPlaces F.told (F.state flash.new) pool.new self.new }
         ensures same { SamePlaces self.old self.new }
+        ensures holds { HoldsPlaces pool.old self.old → HoldsPlaces pool.new self.new }
         ensures read { Reads F.told (F.state flash.old) (F.state flash.new) pool.old pool.new self.old.lease (reads_place pool.old self.old) (page_of (run_of self.old.places) self.old.at) result }
     {
         if self.at >= self.places.count {
@@ -104,6 +105,23 @@ impl PlaceReader {
             first,
             count,
         }))
+    }
+
+    /// Whether the next call reads a page.
+    pub fn will_read(&self, pool: &PagePool) -> bool
+        requires width { self.now.places.width ≡ 8 }
+        requires within { self.now.at < self.now.places.count → page_of (run_of self.now.places) self.now.at < 2 ^ 32 }
+        requires out { IsOut pool.now self.now.lease }
+        ensures reads { result ≡ reads_place pool.now self.now }
+    {
+        if self.at >= self.places.count {
+            return false;
+        }
+        let page = self.places.first + self.at / per_page(self.places.width);
+        match pool.filled_from(&self.lease) {
+            None => true,
+            Some(held) => held != page,
+        }
     }
 
     /// Gives the lease back.

@@ -1,0 +1,319 @@
+-- What holds of a pass where it took a list, or found none left, and where it went on with its groups.
+use Rattle.std.proofs.Common.{◌≡◌, ◌∙◌, ℕ, zero, suc, ◌+◌, ◌*◌, ◌/◌, ◌<◌, ◌≤◌, ◌⊎◌, inl, inr, Bool, true, false, List, ◌∷◌, length, if◌then◌else◌, ap, sym, refl, subst, arith}
+use Rattle.std.specs.Prelude.{⊤, Option, Some, None, Result, Ok, Err}
+use Rattle.std.proofs.lemmas.Nat.{div_below}
+use Rattle.ghost_model.specs.core.Causes.{Rose}
+use Rattle.ghost_model.specs.forms.Runs.{page_of, per_page}
+use Rattle.ghost_base.specs.declared.runs.ListRef.{ListRef}
+use Rattle.ghost_base.specs.Runs.{run_of}
+use Rattle.edge_traits.specs.Devices.{Device, KeepsPages, SamePage}
+use Rattle.edge_traits.proofs.DeviceFrames.{same_kept, kept_same}
+use Rattle.page_pool.specs.Pools.{Pool, AreOut, ChangesPage, free_count}
+use Rattle.page_pool.proofs.Leases.{change_keeps_out}
+use Rattle.flash_pages.specs.declared.fault.PageFault.{PageFault}
+use Rattle.flash_pages.specs.declared.fault.PageFault.TheVariants.{Flash, Damaged}
+use Rattle.id_merge.specs.declared.cursor.Cursor.{Cursor}
+use Rattle.id_merge.specs.Cursors.{BlamesLists, cursor_at, leases_of}
+use Rattle.spill_pass.specs.declared.groups.Groups.{Groups}
+use Rattle.spill_pass.specs.declared.groups.PlacedLists.{PlacedLists}
+use Rattle.spill_pass.specs.Grouping.{AreRunsOf, Made, IsGrouping, GoesOn, ChangesAreas, CanTake, TookMore, WentOn, ListStands, groups_held, lists_at_hand, ids_at_hand, places_end}
+use Rattle.spill_pass.specs.Lists.{ListOutside}
+use Rattle.spill_pass.specs.Merging.{MadeAtMost, area_end, area_pages, left_of}
+use Rattle.spill_pass.specs.Passing.{BlamesPass, IsPassing, PassGoes, ArePairs, IsComplete, MadeFew, PassWent, PassEnds, pass_held, pass_left}
+use Rattle.spill_pass.specs.Sources.{Source, SameSource, SparesSource, UsesOutside, GaveList, LooksUp}
+use Rattle.spill_pass.proofs.Holders.{same_beside}
+use Rattle.spill_pass.proofs.PassFrames.{buffers_same, few_leases, grouping_spared, lists_apart, pass_of_groups, pass_of_source, source_spares, unread_beside}
+
+no_truth : false ≡ true → ⊥
+no_truth e = cc
+
+beside_still : (page low high low' high' : ℕ) → low' ≡ low → high' ≡ high → (page < low) ⊎ (high ≤ page) → (page < low') ⊎ (high' ≤ page)
+beside_still page low high low' high' same same_high (inl below) = inl (omega arith)
+beside_still page low high low' high' same same_high (inr above) = inr (omega arith)
+
+-- a source that uses no more lies outside of the same area
+pub outside_still :
+    {low high low' high' : ℕ} (source rest : Source) → low' ≡ low → high' ≡ high → ((page : ℕ) → rest.uses page ≡ true → source.uses page ≡ true)
+    → UsesOutside low high source → UsesOutside low' high' rest
+outside_still {low = low} {high = high} {low' = low'} {high' = high'} source rest same same_high uses outside =
+    λ page is. beside_still page low high low' high' same same_high (outside page (uses page is))
+
+pairs_fewer : (source rest : Source) (groups : Groups) → rest.lists_left ≤ source.lists_left → ArePairs source groups → ArePairs rest groups
+pairs_fewer source rest groups fewer (inl few) = inl (omega (arith, few, fewer))
+pairs_fewer source rest groups fewer (inr (half, (none, end))) = inr (half, (none, omega (arith, end, fewer)))
+
+-- a call on the source
+pub passing_source :
+    {told : Bool} {before now : Device} {pool later : Pool} (source rest : Source) (groups : Groups) (fan : ℕ) → KeepsPages before now
+    → ChangesPage pool later source.lease → SameSource source rest → IsPassing told before pool source groups fan false
+    → AreOut later (pass_held rest groups) → IsPassing told now later rest groups fan false
+passing_source {told = told} {before = before} {now = now} {pool = pool} {later = later} source rest groups fan kept changes same is still = record {
+  grouping =
+      grouping_spared told before now groups (source_spares source groups kept changes is.leases) (λ page from to. same_kept kept page) is.grouping;
+  leases = still;
+  buffers = omega (arith, is.buffers, ap (λ out. free_count (record later { out = out })) changes.out);
+  lists_outside = outside_still source rest refl refl same.uses is.lists_outside;
+  places_outside = outside_still source rest refl refl same.uses is.places_outside;
+  room = omega (arith, is.room, same.ids);
+  few = is.few;
+  fan_most = is.fan_most;
+  fan_least = is.fan_least;
+  begins = is.begins;
+  complete = λ e. absurd (no_truth e);
+  pairs = pairs_fewer source rest groups same.lists is.pairs;
+}
+
+-- the list may be taken
+pub can_take :
+    {device : Device} (source rest : Source) (groups : Groups) (list : ListRef)
+    → GaveList device source rest list → UsesOutside groups.into.writer.filler.first (area_end groups.into) source
+    → UsesOutside groups.places.filler.first (places_end groups) source → ids_at_hand groups + source.ids_left ≤ groups.into.rows
+    → groups.into.merge.last ≡ 0 → CanTake device list groups
+can_take source rest groups list gave lists places room none = record {
+  readable = gave.readable;
+  from_lists = λ i within. lists (page_of (run_of list.run) i) (gave.used i within);
+  from_places = λ i within. places (page_of (run_of list.run) i) (gave.used i within);
+  room = omega (arith, gave.ids, room);
+  none_found = none;
+}
+
+-- a buffer is free for it
+pub is_free :
+    {told : Bool} {device : Device} {pool : Pool} (source : Source) (groups : Groups) (fan : ℕ) → IsPassing told device pool source groups fan false
+    → lists_at_hand groups < fan → 0 < free_count pool
+is_free source groups fan is less = omega (arith, is.buffers, few_leases groups.into.merge.cursors.items, less)
+
+pairs_taken :
+    (device : Device) (source rest : Source) (old new : Groups) (list : ListRef) → GaveList device source rest list
+    → lists_at_hand new ≡ lists_at_hand old + 1 → new.places.filler.count ≡ old.places.filler.count → new.size ≡ old.size
+    → ArePairs source old → ArePairs rest new
+pairs_taken device source rest old new list gave more placed size (inl few) = inl (omega (arith, few, gave.lists, more, placed, size))
+pairs_taken device source rest old new list gave more placed size (inr (half, (none, end))) = absurd (omega (arith, end, gave.lists))
+
+pub passing_taken :
+    {told : Bool} {before now : Device} {pool mid later : Pool} (source rest : Source) (old new : Groups) (fan : ℕ) (list : ListRef)
+    → IsPassing told before pool source old fan false → IsPassing told now mid rest old fan false → GaveList now source rest list
+    → lists_at_hand old < fan → TookMore told now mid later list old new → AreOut later (pass_held rest new)
+    → PassGoes now now mid later rest rest old new
+    → IsPassing told now later rest new fan false
+passing_taken {now = now} {mid = mid} {later = later} source rest old new fan list first is gave less more still goes = record {
+  grouping = more.grouping;
+  leases = still;
+  buffers = omega (arith, is.buffers, buffers_same mid later (pass_held rest old) (pass_held rest new) is.leases still goes.beside);
+  lists_outside =
+      outside_still rest rest goes.lists_first (omega (arith, goes.lists_first, ap (λ n. area_pages n) goes.rows)) (λ page is. is) is.lists_outside;
+  places_outside =
+      outside_still rest rest goes.places_first (omega (arith, goes.places_first, ap (λ n. area_pages n) goes.size)) (λ page is. is) is.places_outside;
+  room = omega (arith, first.room, gave.ids, more.ids, goes.rows);
+  few = omega (arith, more.lists, less);
+  fan_most = is.fan_most;
+  fan_least = is.fan_least;
+  begins = λ e. more.none_found;
+  complete = λ e. absurd (no_truth e);
+  pairs = pairs_taken now source rest old new list gave more.lists more.placed goes.size first.pairs;
+}
+
+-- less is left to do
+pub taken_less :
+    {told : Bool} {now : Device} {pool mid later : Pool} (source rest : Source) (old new : Groups) (list : ListRef)
+    → ChangesPage pool mid source.lease → AreOut pool (pass_held source old) → GaveList now source rest list
+    → TookMore told now mid later list old new → pass_left later rest new false < pass_left pool source old false
+taken_less {pool = pool} {mid = mid} {later = later} source rest old new list changes are gave more =
+    let few : list.count / per_page list.run.width ≤ list.count =
+    let P : ℕ → Type 0 = λ w. list.count / (2048 / w) ≤ list.count in subst P (sym gave.width) (omega arith) in
+    omega (
+      arith,
+      few,
+      more.left,
+      more.lists,
+      gave.lists,
+      gave.ids,
+      unread_beside source.lease old.into.merge.cursors.items changes (lists_apart pool source old are),
+    )
+
+pub looked_less :
+    {pool later : Pool} (source rest : Source) (groups : Groups) → ChangesPage pool later source.lease → AreOut pool (pass_held source groups)
+    → SameSource source rest → pass_left later rest groups false ≤ pass_left pool source groups false
+looked_less {pool = pool} source rest groups changes are same =
+    omega (arith, same.lists, same.ids, unread_beside source.lease groups.into.merge.cursors.items changes (lists_apart pool source groups are))
+
+-- the source keeps what it has where the groups change
+pub source_spared :
+    {before now : Device} {pool later : Pool} (source : Source) (old new : Groups) → UsesOutside old.into.writer.filler.first (area_end old.into) source
+    → UsesOutside old.places.filler.first (places_end old) source → GoesOn before now pool later old new → AreOut pool (pass_held source old)
+    → PassGoes before now pool later source source old new → SparesSource before now pool later source
+source_spared source old new lists places goes are passes = record {
+  page_count = goes.changes.page_count;
+  pages = λ page is. (goes.changes.stays page (lists page is) (places page is)).bytes;
+  out = passes.still.0;
+  buffer = same_beside source.lease (groups_held old) are goes.others;
+}
+
+-- the merge of the group at hand went on
+pairs_same : (source : Source) (old new : Groups) → lists_at_hand new ≡ lists_at_hand old → new.places.filler.count ≡ old.places.filler.count → new.size ≡ old.size → ArePairs source old → ArePairs source new
+pairs_same source old new lists placed size (inl few) = inl (omega (arith, few, lists, placed, size))
+pairs_same source old new lists placed size (inr (half, (none, end))) = inr (omega (arith, half, placed, size), (omega (arith, none, lists), end))
+
+complete_same : (source : Source) (old new : Groups) → lists_at_hand new ≡ lists_at_hand old → IsComplete source old → IsComplete source new
+complete_same source old new lists (inl two) = inl (omega (arith, two, lists))
+complete_same source old new lists (inr (one, end)) = inr (omega (arith, one, lists), end)
+
+pub passing_went :
+    {told : Bool} {before now : Device} {pool later : Pool} (source : Source) (old new : Groups) (fan : ℕ)
+    → IsPassing told before pool source old fan true → WentOn told now pool later old new → PassGoes before now pool later source source old new
+    → IsPassing told now later source new fan true
+passing_went {pool = pool} {later = later} source old new fan is went goes = record {
+  grouping = went.grouping;
+  leases = goes.still;
+  buffers = omega (arith, is.buffers, buffers_same pool later (pass_held source old) (pass_held source new) is.leases goes.still goes.beside);
+  lists_outside =
+      outside_still source source goes.lists_first (omega (arith, goes.lists_first, ap (λ n. area_pages n) goes.rows)) (λ page is. is) is.lists_outside;
+  places_outside =
+      outside_still source source goes.places_first (omega (arith, goes.places_first, ap (λ n. area_pages n) goes.size)) (λ page is. is) is.places_outside;
+  room = omega (arith, is.room, went.ids, goes.rows);
+  few = omega (arith, went.lists, is.few);
+  fan_most = is.fan_most;
+  fan_least = is.fan_least;
+  begins = λ e. absurd (no_truth (sym e));
+  complete = λ e. complete_same source old new went.lists (is.complete refl);
+  pairs = pairs_same source old new went.lists went.placed goes.size is.pairs;
+}
+
+-- a group of two lists or more became one list, or the last one did
+pairs_listed :
+    (source : Source) (old new : Groups) → lists_at_hand new ≡ 0 → new.places.filler.count ≡ old.places.filler.count + 1 → new.size ≡ old.size
+    → IsComplete source old → ArePairs source old → ArePairs source new
+pairs_listed source old new none placed size (inl two) (inl few) = inl (omega (arith, two, few, none, placed, size))
+pairs_listed source old new none placed size (inl two) (inr (half, (no_list, end))) = absurd (omega (arith, two, no_list))
+pairs_listed source old new none placed size (inr (one, end)) (inl few) = inr (omega (arith, one, few, placed, size), (none, end))
+pairs_listed source old new none placed size (inr (one, end)) (inr (half, (no_list, ends))) = absurd (omega (arith, one, no_list))
+
+pub passing_listed :
+    {told : Bool} {before now : Device} {pool later : Pool} (source : Source) (old new : Groups) (fan : ℕ)
+    → IsPassing told before pool source old fan true → ListStands told now pool later old new → PassGoes before now pool later source source old new
+    → IsPassing told now later source new fan false
+passing_listed {pool = pool} {later = later} source old new fan is stands goes = record {
+  grouping = stands.grouping;
+  leases = goes.still;
+  buffers = omega (arith, is.buffers, buffers_same pool later (pass_held source old) (pass_held source new) is.leases goes.still goes.beside);
+  lists_outside =
+      outside_still source source goes.lists_first (omega (arith, goes.lists_first, ap (λ n. area_pages n) goes.rows)) (λ page is. is) is.lists_outside;
+  places_outside =
+      outside_still source source goes.places_first (omega (arith, goes.places_first, ap (λ n. area_pages n) goes.size)) (λ page is. is) is.places_outside;
+  room = omega (arith, is.room, stands.ids, goes.rows);
+  few = omega (arith, stands.lists);
+  fan_most = is.fan_most;
+  fan_least = is.fan_least;
+  begins = λ e. stands.none_found;
+  complete = λ e. absurd (no_truth e);
+  pairs = pairs_listed source old new stands.lists stands.placed goes.size (is.complete refl) is.pairs;
+}
+
+-- some lists are at hand
+some_lists : (source : Source) (groups : Groups) → IsComplete source groups → 0 < lists_at_hand groups
+some_lists source groups (inl two) = omega (arith, two)
+some_lists source groups (inr (one, end)) = omega (arith, one)
+
+-- there is room for the place of the group's list
+place_room : (source : Source) (groups : Groups) → 0 < lists_at_hand groups → ArePairs source groups → 2 * groups.places.filler.count < groups.size
+place_room source groups some (inl few) = omega (arith, some, few)
+place_room source groups some (inr (half, (none, end))) = absurd (omega (arith, some, none))
+
+pub place_fits :
+    {told : Bool} {device : Device} {pool : Pool} (source : Source) (groups : Groups) (fan : ℕ) → IsPassing told device pool source groups fan true
+    → 2 * groups.places.filler.count < groups.size
+place_fits source groups fan is = place_room source groups (some_lists source groups (is.complete refl)) is.pairs
+
+pub listed_less :
+    {told : Bool} {now : Device} {pool later : Pool} (source : Source) (old new : Groups) → IsComplete source old → ListStands told now pool later old new
+    → pass_left later source new false < pass_left pool source old true
+listed_less source old new complete stands = omega (arith, some_lists source old complete, stands.lists, stands.fewer)
+
+-- so many calls were made
+pub made_three : {before now : Device} (calls : ℕ) → calls ≡ 3 → MadeAtMost 3 before now → Rose before.calls now.calls → MadeFew calls before now
+made_three calls is most rose = record {
+  few = omega (arith, is);
+  at_most = record { calls = omega (arith, is, most.calls); deep_reads = omega (arith, is, most.deep_reads) };
+  called = λ some. rose;
+}
+
+pub made_four : {before now : Device} (calls : ℕ) → calls ≡ 4 → MadeAtMost 4 before now → Rose before.calls now.calls → MadeFew calls before now
+made_four calls is most rose = record {
+  few = omega (arith, is);
+  at_most = record { calls = omega (arith, is, most.calls); deep_reads = omega (arith, is, most.deep_reads) };
+  called = λ some. rose;
+}
+
+pub made_none : {before now : Device} (calls : ℕ) → calls ≡ 0 → MadeAtMost 0 before now → MadeFew calls before now
+made_none calls is most = record {
+  few = omega (arith, is);
+  at_most = record { calls = omega (arith, is, most.calls); deep_reads = omega (arith, is, most.deep_reads) };
+  called = λ some. absurd (omega (arith, is, some));
+}
+
+-- the group at hand is complete
+pub passing_complete :
+    {told : Bool} {device : Device} {pool : Pool} (source : Source) (groups : Groups) (fan : ℕ) → IsPassing told device pool source groups fan false
+    → IsComplete source groups → IsPassing told device pool source groups fan true
+passing_complete source groups fan is complete = record {
+  grouping = is.grouping;
+  leases = is.leases;
+  buffers = is.buffers;
+  lists_outside = is.lists_outside;
+  places_outside = is.places_outside;
+  room = is.room;
+  few = is.few;
+  fan_most = is.fan_most;
+  fan_least = is.fan_least;
+  begins = λ e. absurd (no_truth (sym e));
+  complete = λ e. complete;
+  pairs = is.pairs;
+}
+
+one_or_more : (n left : ℕ) → 0 < n → left ≡ 0 → (2 ≤ n) ⊎ ((n ≡ 1) × (left ≡ 0))
+one_or_more zero left some none = absurd (omega (arith, some))
+one_or_more (suc zero) left some none = inr (refl, none)
+one_or_more (suc (suc n)) left some none = inl (omega arith)
+
+pub some_complete : (source : Source) (groups : Groups) → 0 < lists_at_hand groups → source.lists_left ≡ 0 → IsComplete source groups
+some_complete source groups some none = one_or_more (lists_at_hand groups) source.lists_left some none
+
+-- no call was made
+pub went_none : {told : Bool} {device : Device} {pool : Pool} (source : Source) (groups : Groups) (fan : ℕ) → IsPassing told device pool source groups fan true
+    → PassWent told device device pool pool source source groups groups fan false true 0
+went_none source groups fan is = record {
+  made = made_none 0 refl (record { calls = omega arith; deep_reads = omega arith });
+  passing = is;
+  fewer = omega arith;
+}
+
+-- the lists of all groups stand
+half_of : (source : Source) (groups : Groups) → ArePairs source groups → 2 * groups.places.filler.count ≤ groups.size + 1
+half_of source groups (inl few) = omega (arith, few)
+half_of source groups (inr (half, rest)) = half
+
+pub pass_ends :
+    {told : Bool} {before now : Device} {pool : Pool} (source : Source) (old : Groups) (fan : ℕ) (placed : PlacedLists) (calls : ℕ) (merging : Bool)
+    → IsPassing told before pool source old fan merging → AreRunsOf old placed → MadeFew calls before now → PassEnds before now old placed calls
+pass_ends source old fan placed calls merging is runs made = record {
+  made = made;
+  runs = runs;
+  half = omega (arith, half_of source old is.pairs, runs.places_count);
+  ids = omega (arith, is.grouping.room, runs.lists_count);
+}
+
+pub went_less :
+    {told : Bool} {now : Device} {pool later : Pool} (source : Source) (old new : Groups) → WentOn told now pool later old new
+    → pass_left later source new true < pass_left pool source old true
+went_less source old new went = omega (arith, went.lists, went.fewer)
+
+pub made_two : {calls : ℕ} {before now : Device} → Made calls before now → MadeFew calls before now
+made_two made = record { few = omega (arith, made.few); at_most = made.at_most; called = made.called }
+
+-- a slot of a list at hand is blamed
+pub lists_blamed :
+    {T : Type 0} (blamed : ℕ → ℕ → ℕ → Type 0) (since : ℕ) (device : Device) (cursors : List Cursor) (result : Result T PageFault)
+    → BlamesLists since device cursors result → BlamesPass blamed since device cursors result
+lists_blamed blamed since device cursors (Ok answer) blames = tt
+lists_blamed blamed since device cursors (Err Flash) blames = tt
+lists_blamed blamed since device cursors (Err (Damaged number slot found)) blames = inr blames

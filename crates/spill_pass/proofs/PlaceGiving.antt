@@ -1,0 +1,87 @@
+-- The list that a place gives, by right pages.
+use Rattle.std.proofs.Common.{◌≡◌, ◌∙◌, ℕ, zero, suc, ◌+◌, ◌-◌, ◌/◌, ◌%◌, ◌^◌, ◌<◌, ◌≤◌, ◌++◌, Bool, true, false, List, [], ◌∷◌, length, get_or, ap, sym, refl, subst, arith}
+use Rattle.std.specs.Prelude.{Option, Some, None, Result, Ok, Err, IfOk, MatchOption}
+use Rattle.std.proofs.lemmas.Nat.{from_be_bytes-to_be_bytes_4}
+use Rattle.ghost_model.specs.forms.Runs.{record_at, number_in, number_cell, id_at}
+use Rattle.ghost_base.specs.declared.runs.Run.{Run}
+use Rattle.ghost_base.specs.declared.runs.ListRef.{ListRef}
+use Rattle.ghost_base.specs.Runs.{run_of}
+use Rattle.flash_pages.specs.declared.fault.PageFault.{PageFault}
+use Rattle.flash_pages.specs.declared.fault.PageFault.TheVariants.{Flash, Damaged}
+use Rattle.spill_pass.specs.declared.places.PlaceReader.{PlaceReader}
+use Rattle.spill_pass.specs.Lists.{IsOrdered, id_of}
+use Rattle.spill_pass.specs.Places.{GivesPlace, IsNextList, IsPlaceOf, HasPlace, HasPlaces, ReaderHas, SamePlaces, place_at}
+use Rattle.spill_pass.specs.Sources.{GivesLists, GivesFirst}
+
+second_number : (a n : ℕ) → n < 2 ^ 32 → number_in (number_cell a ++ number_cell n) 4 ≡ n
+unfolding number_in
+second_number a n fits = from_be_bytes-to_be_bytes_4 n fits
+
+abbrev listed : Run → ℕ → ℕ → ListRef
+listed run first count = record { run = run; first = first; count = count }
+
+-- the list is that of the first place
+list_is :
+    (page right : ℕ → List ℕ) (rows : ℕ) (before now : PlaceReader) (list : ListRef) (first : List ℕ) → before.lists.count < 2 ^ 32
+    → IsPlaceOf (place_at page before) list → IsNextList before now list
+    → HasPlace page right rows before.places before.lists before.at before.next first
+    → listed before.lists before.next (length first) ≡ list
+list_is page right rows before now list first small place next has =
+    let count : list.count ≡ length first = place.count ∙ ap (λ c. number_in c 4) has.place ∙ second_number before.next (length first) (omega (arith, has.inside, small)) in
+    ap (λ r. listed r before.next (length first)) (sym next.run)
+    ∙ ap (λ f. listed list.run f (length first)) (sym next.first)
+    ∙ ap (λ n. listed list.run list.first n) (sym count)
+
+same_has :
+    (page now right : ℕ → List ℕ) (rows : ℕ) (before new : PlaceReader) (rest : List (List ℕ)) → SamePlaces before new
+    → (at next : ℕ) → new.at ≡ at → new.next ≡ next → now ≡ page
+    → HasPlaces page right rows before.places before.lists at next rest → HasPlaces now right rows new.places new.lists new.at new.next rest
+same_has page now right rows before new rest same at next at_is next_is pages has =
+    let A : (ℕ → List ℕ) → Type 0 = λ p. HasPlaces p right rows new.places new.lists new.at new.next rest in
+    let B : Run → Type 0 = λ r. HasPlaces page right rows r new.lists new.at new.next rest in
+    let C : Run → Type 0 = λ r. HasPlaces page right rows before.places r new.at new.next rest in
+    let D : ℕ → Type 0 = λ n. HasPlaces page right rows before.places before.lists n new.next rest in
+    let E : ℕ → Type 0 = λ n. HasPlaces page right rows before.places before.lists at n rest in
+    subst A (sym pages) (subst B (sym same.places) (subst C (sym same.lists) (subst D (sym at_is) (subst E (sym next_is) has))))
+
+gives_first :
+    (page now right : ℕ → List ℕ) (rows : ℕ) (before new : PlaceReader) (list : ListRef) (lists : List (List ℕ)) → now ≡ page
+    → before.lists.count < 2 ^ 32 → IsPlaceOf (place_at page before) list → IsNextList before new list → SamePlaces before new
+    → ReaderHas page right rows before lists → GivesFirst (ReaderHas now right rows new) now right rows lists list
+gives_first page now right rows before new list [] pages small place next same has = absurd (omega (arith, next.more, has.has))
+gives_first page now right rows before new list (first ∷ rest) pages small place next same has =
+    let is = list_is page right rows before new list first small place next has.has.0 in
+    let count = ap (λ (l : ListRef). l.count) is in
+    let P : ListRef → Type 0 = IsOrdered page right rows in
+    let Q : (ℕ → List ℕ) → Type 0 = λ p. IsOrdered p right rows list in
+    let R : ListRef → Type 0 = λ l. (i : ℕ) → i < l.count → id_of right l i ≡ get_or first i 0 in
+    record {
+      first = first;
+      rest = rest;
+      is = refl;
+      ordered = subst Q (sym pages) (subst P is has.has.0.ordered);
+      count = sym count;
+      ids = subst R is has.has.0.ids;
+      has_rest = record {
+        places_width = ap (λ (r : Run). r.width) same.places ∙ has.places_width;
+        lists_width = ap (λ (r : Run). r.width) same.lists ∙ has.lists_width;
+        has =
+            same_has page now right rows before new rest same (before.at + 1) (before.next + length first) next.at
+            (next.next ∙ ap (λ n. before.next + n) (sym count)) pages has.has.1;
+      };
+    }
+
+none_left : (page right : ℕ → List ℕ) (rows : ℕ) (before : PlaceReader) (lists : List (List ℕ)) → before.at ≡ before.places.count → ReaderHas page right rows before lists → lists ≡ []
+none_left page right rows before [] end has = refl
+none_left page right rows before (first ∷ rest) end has = absurd (omega (arith, has.has.0.within, end))
+
+pub gives_list :
+    (page now right : ℕ → List ℕ) (rows : ℕ) (before new : PlaceReader) (lists : List (List ℕ)) (result : Result (Option ListRef) PageFault)
+    → now ≡ page → GivesPlace page before result
+    → IfOk result (λ list. MatchOption list ((before.at ≡ before.places.count) × (new ≡ before)) (IsNextList before new))
+    → SamePlaces before new → before.lists.count < 2 ^ 32 → ReaderHas page right rows before lists
+    → GivesLists (ReaderHas now right rows new) now right rows lists result
+gives_list page now right rows before new lists (Ok None) pages gives step same small has = none_left page right rows before lists step.0 has
+gives_list page now right rows before new lists (Ok (Some list)) pages gives step same small has =
+    gives_first page now right rows before new list lists pages small gives step same has
+gives_list page now right rows before new lists (Err fault) pages gives step same small has = tt
