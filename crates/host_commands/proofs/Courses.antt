@@ -1,10 +1,13 @@
 -- The courses of a call of the host's program.
-use Rattle.std.proofs.Common.{◌≡◌, ◌⊎◌, ℕ, Bool, false, List, Option, None, Some, inl, inr, refl, sym, ◌∙◌, ap, subst}
+use Rattle.std.proofs.Common.{◌≡◌, ◌⊎◌, ℕ, Bool, true, false, List, [], ◌∷◌, Option, None, Some, inl, inr, refl, sym, ◌∙◌, ap, subst}
+use Rattle.std.specs.List.{list_any}
 use Rattle.ghost_model.specs.core.Causes.{Rose}
 use Rattle.ghost_model.specs.laws.CatalogLaws.{CatalogsHaveOneSpelling}
-use Rattle.ghost_model.specs.core.Channel.{Catalog, Journal}
+use Rattle.ghost_model.specs.core.Channel.{Catalog, Journal, Answer, Made, Port, Piece, End, Failed}
 use Rattle.ghost_model.specs.core.Host.{Holding, host_of, bad_request}
-use Rattle.ghost_model.specs.core.Moves.{taken}
+use Rattle.ghost_model.specs.core.Moves.{answers, taken}
+use Rattle.ghost_model.specs.core.NextMove.{is_stop}
+use Rattle.edge_traits.specs.Counting.{is_failure, WentCounting}
 use Rattle.ghost_model.specs.core.Split.{Public, SpellsImage, cells_of_tables}
 use Rattle.edge_traits.specs.Files.{Files, file_of}
 use Rattle.edge_traits.specs.Written.{grown}
@@ -16,9 +19,13 @@ use Rattle.host_exec.specs.Sessions as sessions
 use Rattle.host_exec.specs.declared.host.Host.{Host}
 use Rattle.host_exec.specs.declared.session.Served.{Served}
 use Rattle.host_exec.specs.declared.session.Served.TheVariants as served
-use Rattle.host_commands.specs.Hosting.{Course, Unopened, Unheard, Unprinted, Uncalled, Accepted, moves_of, port_line, Hosts, Ends, EndsEarly, EndsSession, HoldsImage, Completes}
+use Rattle.host_commands.specs.Hosting.{Course, Unopened, Unheard, Unprinted, Uncalled, Accepted, moves_of, port_line, Hosts, Ends, EndsEarly, EndsSession, HoldsImage, Completes, is_end, BlamesLink}
 use Rattle.host_commands.specs.Words.{Names}
-use Rattle.host_commands.specs.Statuses.{after_session, is_early}
+use Rattle.host_commands.specs.Statuses.{after_session, is_early, not_read, not_begun}
+use Rattle.host_commands.specs.declared.words.WordsFault.{WordsFault}
+use Rattle.host_commands.specs.declared.words.WordsFault.TheVariants as words
+use Rattle.host_exec.specs.declared.serving.BeginFault.{BeginFault}
+use Rattle.host_exec.specs.declared.serving.BeginFault.TheVariants as begin
 use Rattle.host_commands.specs.declared.status.HostStatus.{HostStatus}
 use Rattle.host_commands.specs.declared.status.HostStatus.TheVariants as status
 
@@ -32,6 +39,7 @@ served_by Goes ended before now Stood so = record {
   went = refl;
   ends = so.ends;
   farewell = so.farewell;
+  named = so.named;
   refused = so.refused;
   refusals = so.refusals;
   none = so.none;
@@ -60,6 +68,7 @@ served_as Goes ended before now Stood Holder so stands = record {
   went = so.went;
   ends = so.ends;
   farewell = so.farewell;
+  named = so.named;
   refused = so.refused;
   refusals = so.refusals;
   none = so.none;
@@ -88,9 +97,89 @@ hosts_as Went at ended printed prints before now Stood Holder so stands = record
   ends = ends_as so.course ended before now Stood Holder so.ends stands;
 }
 
--- a status that is not that of the link comes of no session that ended so
-pub not_lost : (ended : Served) (answer : HostStatus) → answer ≡ after_session ended → (answer ≡ status.Link → ⊥) → ended ≡ served.Link → ⊥
-not_lost ended answer is other lost = other (is ∙ ap after_session lost)
+-- ---- whom a course blames
+
+-- an answer that stops a session is a failure or the end of the stream
+stopped_by : (given : List Answer) → list_any is_stop given ≡ true → (list_any is_failure given ≡ true) ⊎ (list_any is_end given ≡ true)
+stopped_by [] e = cc
+stopped_by (Made ∷ given) e = stopped_by given e
+stopped_by (Port port ∷ given) e = stopped_by given e
+stopped_by (Piece bytes ∷ given) e = stopped_by given e
+stopped_by (End ∷ given) e = inr refl
+stopped_by (Failed ∷ given) e = inl refl
+
+going_on : (given : List Answer) → list_any is_stop given ≡ false → (list_any is_failure given ≡ false) × (list_any is_end given ≡ false)
+going_on [] e = (refl, refl)
+going_on (Made ∷ given) e = going_on given e
+going_on (Port port ∷ given) e = going_on given e
+going_on (Piece bytes ∷ given) e = going_on given e
+going_on (End ∷ given) e = cc
+going_on (Failed ∷ given) e = cc
+
+-- the status is that of the link exactly where a move failed or the stream ended
+abbrev IsOfStop : HostStatus → Bool → Type 0
+IsOfStop ended stopped = (ended ≡ status.Link → stopped ≡ true) × ((ended ≡ status.Link → ⊥) → stopped ≡ false)
+
+stop_of_session : (served_so : Served) (stopped : Bool) (before now : ℕ) → sessions.Ends served_so stopped before now → IsOfStop (after_session served_so) stopped
+stop_of_session served.Bye stopped before now ends = (λ e. cc, λ _. ends.0)
+stop_of_session served.Depot stopped before now ends = (λ e. cc, λ _. ends.0)
+stop_of_session served.Link stopped before now ends = (λ _. ends, λ other. absurd (other refl))
+stop_of_session (served.BadRequest kind at) stopped before now ends = (λ e. cc, λ _. ends)
+
+never_early : (ended : HostStatus) (before now : ℕ) → EndsEarly ended before now → ended ≡ status.Link → ⊥
+never_early status.Ok before now ends is = ends
+never_early status.Usage before now ends is = cc
+never_early status.NoMemory before now ends is = cc
+never_early status.Sink before now ends is = ends
+never_early status.Depot before now ends is = cc
+never_early status.Link before now ends is = ends
+never_early status.BadVisibleFile before now ends is = cc
+never_early (status.BadRequest kind at) before now ends is = ends
+
+stop_of : (course : Course) (at : List ℕ) (ended : HostStatus) (before now : ℕ) (Stood : Holding → Type 0) → Ends course ended before now Stood
+    → IsOfStop ended (has_stopped (moves_of at course))
+stop_of Unopened at ended before now Stood ends = (λ e. absurd (never_early ended before now ends e), λ _. refl)
+stop_of Unheard at ended before now Stood ends = (λ _. refl, λ other. absurd (other ends.0))
+stop_of (Unprinted port) at ended before now Stood ends = (λ e. (let bad : status.Sink ≡ status.Link = sym ends.0 ∙ e in cc), λ _. refl)
+stop_of (Uncalled port) at ended before now Stood ends = (λ _. refl, λ other. absurd (other ends.0))
+stop_of (Accepted port session) at ended before now Stood ends =
+    let so = ends.serves in
+    subst (λ (a : HostStatus). IsOfStop a (has_stopped session)) (sym ends.answers)
+    (subst (λ (j : Journal). IsOfStop (after_session ends.served) (has_stopped j)) so.went (stop_of_session ends.served (has_stopped so.journal) before now so.ends))
+
+pub blames : (Went : Journal → Type 0) (at : List ℕ) (ended : HostStatus) (printed prints : Option (List ℕ)) (before now : ℕ) (Stood : Holding → Type 0) (faults_before faults_now : ℕ)
+    → Hosts (λ journal. WentCounting Went faults_before faults_now journal) at ended printed prints before now Stood → BlamesLink Went ended faults_before faults_now
+blames Went at ended printed prints before now Stood faults_before faults_now so =
+    let stop = stop_of so.course at ended before now Stood so.ends in
+    let journal : Journal = moves_of at so.course in
+    record {
+      journal = journal;
+      went = so.went.gone;
+      blamed = λ is.
+          elim (stopped_by (answers (moves_of at so.course)) (stop.0 is)) [
+            | inl failed ↦ inl (so.went.counts.rose failed)
+            | inr end ↦ inr end
+          ];
+      spared = λ other. (let none = going_on (answers (moves_of at so.course)) (stop.1 other) in (so.went.counts.same none.0, none.1));
+    }
+
+-- no move was made, and the status is another
+pub blames_nothing : (Went : Journal → Type 0) (ended : HostStatus) (count : ℕ) → Went [] → (ended ≡ status.Link → ⊥) → BlamesLink Went ended count count
+blames_nothing Went ended count stays other = record { journal = []; went = stays; blamed = λ is. absurd (other is); spared = λ _. (refl, refl) }
+
+pub not_read_so : (fault : WordsFault) → not_read fault ≡ status.Link → ⊥
+not_read_so words.NoMemory is = cc
+not_read_so words.Usage is = cc
+
+pub not_begun_so : (fault : BeginFault) → not_begun fault ≡ status.Link → ⊥
+not_begun_so begin.Depot is = cc
+not_begun_so begin.BadVisibleFile is = cc
+not_begun_so begin.NoMemory is = cc
+
+-- without the count
+pub completes_plain : (Went : Journal → Type 0) (faults_before faults_now : ℕ) (held : Holding) (ended : HostStatus)
+    → Completes (λ journal. WentCounting Went faults_before faults_now journal) held ended → Completes Went held ended
+completes_plain Went faults_before faults_now held ended so = record { journal = so.journal; went = so.went.gone; well = so.well }
 
 -- ---- where all was well
 

@@ -1,9 +1,10 @@
 -- How a call of the host's program went: how far it came, what it printed, and how it ended.
-use Rattle.std.specs.Prelude.{◌≡◌, ◌⊎◌, ℕ, false, List, [], ◌∷◌, ◌++◌, Option, None, codes, decimal}
+use Rattle.std.specs.Prelude.{◌≡◌, ◌⊎◌, ℕ, Bool, true, false, List, [], ◌∷◌, ◌++◌, Option, None, codes, decimal}
+use Rattle.std.specs.List.{list_any}
 use Rattle.ghost_model.specs.core.Causes.{Rose}
-use Rattle.ghost_model.specs.core.Channel.{Catalog, Journal, Listen, Accept, Made, Port, Failed}
+use Rattle.ghost_model.specs.core.Channel.{Catalog, Answer, Journal, Listen, Accept, Made, Port, End, Failed}
 use Rattle.ghost_model.specs.core.Host.{Holding, host_of, bad_request}
-use Rattle.ghost_model.specs.core.Moves.{taken}
+use Rattle.ghost_model.specs.core.Moves.{answers, taken}
 use Rattle.ghost_model.specs.core.Split.{Public, SpellsImage}
 use Rattle.edge_traits.specs.Links.{entry}
 use Rattle.edge_traits.specs.Written.{grown, GrowsByFront}
@@ -69,6 +70,21 @@ pub record Hosts (Went : Journal → Type 0) (at : List ℕ) (ended : HostStatus
   pub went : Went (moves_of at course)
   pub tells : Prints course printed prints
   pub ends : Ends course ended before now Stood
+
+abbrev pub is_end : Answer → Bool
+is_end End = true
+is_end _ = false
+
+-- whether the key's stream ended. After the key's farewell nothing is taken, so where it did it ended early
+abbrev pub has_ended : Journal → Bool
+has_ended journal = list_any is_end (answers journal)
+
+-- the status is that of the link exactly where its count of failed calls rose or the key's stream ended early
+pub record BlamesLink (Went : Journal → Type 0) (ended : HostStatus) (before now : ℕ) : Type 0 where
+  pub journal : Journal
+  pub went : Went journal
+  pub blamed : ended ≡ status.Link → Rose before now ⊎ (has_ended journal ≡ true)
+  pub spared : (ended ≡ status.Link → ⊥) → (now ≡ before) × (has_ended journal ≡ false)
 
 -- a host holds what the public part holds whose visible image its file is
 pub record HoldsImage (found : (file : List ℕ) → Type 0) (held : Holding) : Type 0 where

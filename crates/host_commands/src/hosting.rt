@@ -5,12 +5,13 @@ ghost use Rattle.ghost_model.specs.core.Causes.{Rose};
 ghost use Rattle.ghost_model.specs.core.Channel.{Catalog};
 ghost use Rattle.ghost_model.specs.core.Host.{host_of};
 ghost use Rattle.ghost_model.specs.core.Split.{Public, SpellsImage};
+ghost use Rattle.edge_traits.specs.Counting.{WentCounting};
 ghost use Rattle.edge_traits.specs.Files.{file_of};
 ghost use Rattle.host_exec.specs.Checked.{IsNoImage};
 ghost use Rattle.host_exec.specs.Hosts.{name_of};
 ghost use Rattle.host_exec.specs.Sessions.{HoldsIn};
 ghost use Rattle.host_exec.specs.declared.stage.Stage.TheVariants as stage;
-ghost use Rattle.host_commands.specs.Hosting.{Hosts, HoldsImage, Completes};
+ghost use Rattle.host_commands.specs.Hosting.{Hosts, BlamesLink, HoldsImage, Completes};
 ghost use Rattle.host_commands.specs.Statuses.{is_early, may_follow_fault};
 ghost use Rattle.host_commands.specs.Words.{Names, reading};
 
@@ -34,14 +35,14 @@ fn host_one<D: Depot, L: Link, O: Sink>(
     out: &mut O,
 ) -> HostStatus
     requires begins { host.old.stage ≡ stage.Greeting }
-    ensures hosts { Hosts (λ journal. L.went link.old journal link.new) at.now result (O.written out.old) (O.written out.new) (D.faults depot.old) (D.faults depot.new)
+    ensures hosts { Hosts (λ journal. WentCounting (λ one. L.went link.old one link.new) (L.faults link.old) (L.faults link.new) journal) at.now result (O.written out.old) (O.written out.new) (D.faults depot.old) (D.faults depot.new)
         (λ held. HoldsIn (λ file. file_of (D.contents depot.old) (name_of host.old) ≡ Some file) held host.old) }
     ensures late { is_early result ≡ false }
     ensures sink { result ≡ HostStatus.Sink → Rose (O.faults out.old) (O.faults out.new) }
     ensures no_sink { (result ≡ HostStatus.Sink → ⊥) → O.faults out.new ≡ O.faults out.old }
     ensures depot { result ≡ HostStatus.Depot → Rose (D.faults depot.old) (D.faults depot.new) }
     ensures no_depot { may_follow_fault result ≡ false → D.faults depot.new ≡ D.faults depot.old }
-    ensures no_link { (result ≡ HostStatus.Link → ⊥) → L.faults link.new ≡ L.faults link.old }
+    ensures link { BlamesLink (λ journal. L.went link.old journal link.new) result (L.faults link.old) (L.faults link.new) }
     ensures never_falls { D.faults depot.old ≤ D.faults depot.new }
     ensures appends { D.append_faults depot.new ≡ D.append_faults depot.old }
     ensures same { D.contents depot.new ≡ D.contents depot.old }
@@ -65,7 +66,8 @@ fn host_one<D: Depot, L: Link, O: Sink>(
 /// Does what the words say, of which the first is the program's name: opens the visible file, listens, prints `port p`
 /// and LF with the port that it got, accepts one key, serves it and ends.
 ///
-/// A fault of the output ends it before it accepts. Memory is taken before it listens alone.
+/// A fault of the output ends it before it accepts. Memory is taken before it listens alone. The status is `Link` exactly
+/// where a call on the link failed, which its count shows, or the key's stream ended ahead of its farewell.
 pub fn host_main<D: Depot, L: Link, O: Sink>(
     alloc: Global,
     words: &[String],
@@ -76,7 +78,7 @@ pub fn host_main<D: Depot, L: Link, O: Sink>(
     ensures usage { result ≡ HostStatus.Usage → reading (map string_bytes words.now) ≡ None }
     ensures other_words { reading (map string_bytes words.now) ≡ None → (result ≡ HostStatus.Usage) ⊎ (result ≡ HostStatus.NoMemory) }
     ensures hosts { (names : Names) → reading (map string_bytes words.now) ≡ Some names
-        → Hosts (λ journal. L.went link.old journal link.new) names.at result (O.written out.old) (O.written out.new) (D.faults depot.old) (D.faults depot.new)
+        → Hosts (λ journal. WentCounting (λ one. L.went link.old one link.new) (L.faults link.old) (L.faults link.new) journal) names.at result (O.written out.old) (O.written out.new) (D.faults depot.old) (D.faults depot.new)
         (HoldsImage (λ file. file_of (D.contents depot.old) names.visible ≡ Some file)) }
     ensures bad_file { (names : Names) → (file : List ℕ) → reading (map string_bytes words.now) ≡ Some names → file_of (D.contents depot.old) names.visible ≡ Some file
         → result ≡ HostStatus.BadVisibleFile → IsNoImage file }
@@ -88,7 +90,7 @@ pub fn host_main<D: Depot, L: Link, O: Sink>(
     ensures no_sink { (result ≡ HostStatus.Sink → ⊥) → O.faults out.new ≡ O.faults out.old }
     ensures depot { result ≡ HostStatus.Depot → Rose (D.faults depot.old) (D.faults depot.new) }
     ensures no_depot { may_follow_fault result ≡ false → D.faults depot.new ≡ D.faults depot.old }
-    ensures no_link { (result ≡ HostStatus.Link → ⊥) → L.faults link.new ≡ L.faults link.old }
+    ensures link { BlamesLink (λ journal. L.went link.old journal link.new) result (L.faults link.old) (L.faults link.new) }
     ensures never_falls { D.faults depot.old ≤ D.faults depot.new }
     ensures complete { (names : Names) → (file : List ℕ) → (catalog : Catalog) → (public : Public) → reading (map string_bytes words.now) ≡ Some names
         → file_of (D.contents depot.old) names.visible ≡ Some file → SpellsImage catalog public file

@@ -1,6 +1,6 @@
 -- How long a channel can become, whatever the other end sends. To an ask of a table of N rows no more than N + 1 valid
--- frames come; what the WELCOME frames carry, joined, begins the catalog's bytes, and each carries some of them; and the
--- key sends one frame at most for each valid frame that came, and HELLO.
+-- frames come; what the WELCOME frames carry, joined, begins the catalog's bytes, and there are no more of them than of
+-- these bytes; and the key sends one frame at most for each valid frame that came, and HELLO.
 use Rattle.std.specs.Prelude.{◌≡◌, ℕ, suc, ◌+◌, ◌≤◌, Bool, true, false, ◌==◌, List, [], ◌++◌, length, map, filter, flat_map, sum, slice_get, Some, ⊤}
 use Rattle.ghost_model.specs.core.Channel.{Catalog, row_count_in, Frame, WelcomeFrame, Journal}
 use Rattle.ghost_model.specs.forms.Catalog.{catalog_bytes}
