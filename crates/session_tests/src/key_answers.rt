@@ -1,6 +1,6 @@
 //! The key's answer of a query over the clinic.
 
-use crate::clinic::{CATALOG, ask_for, device};
+use crate::clinic::{CATALOG, ask_for, device, failing_device};
 use channel_pump::state::ReplyState;
 use edge_traits::flash::{AttachFault, Flash};
 use edge_traits::mem_sink::MemSink;
@@ -52,5 +52,38 @@ fn an_answer_is_printed_through_eight_buffers(rt: HostRuntime) -> Result<(), Att
         assert!(rt; pool.lease().is_some());
     }
     assert!(rt; pool.lease().is_none());
+    Ok(())
+}
+
+#[test]
+fn each_call_that_fails_gives_all_buffers_back(rt: HostRuntime) -> Result<(), AttachFault> {
+    let cat = read_catalog(CATALOG).expect(&rt, "the catalog");
+    let mut store = ReplyStore::new(rt.alloc(), &cat)?;
+    store.begin_ask(cat.schema(), &ask_for(2));
+    store.push_rows(DAYS);
+    for call in 2..6u64 {
+        let mut flash = failing_device(rt.alloc(), &[call])?;
+        assert!(rt; need(&cat) <= flash.pages());
+        let mut out = MemSink::new(rt.alloc(), 99, 99, &[])?;
+        let mut printer = Printer::new();
+        let mut pool = PagePool::new(rt.alloc(), 8)?;
+        let told = print_text(
+            &mut printer,
+            &mut out,
+            &cat,
+            Plan::Scan,
+            1,
+            VISITS,
+            ReplyState::Done,
+            &store,
+            &mut pool,
+            &mut flash,
+        );
+        assert!(rt; matches!(told, Told::Flash), "{call}");
+        assert!(rt; flash.script.calls == call && out.bytes() == b"! 1 flash\n", "{call}");
+        for _ in 0..8u32 {
+            assert!(rt; pool.lease().is_some(), "{call}");
+        }
+    }
     Ok(())
 }
