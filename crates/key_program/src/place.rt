@@ -1,5 +1,11 @@
 //! A place in a text, told by its line and shown by a caret.
 
+ghost use Rattle.std.specs.Prelude.{◌≡◌, ◌+◌, ◌<◌, ◌^◌, false, not, length, filter, reverse, take, take_while, drop, IfSome};
+ghost use Rattle.std.specs.Char.{is_control};
+ghost use Rattle.tree_schema.specs.Marks.{token_of};
+ghost use Rattle.key_program.specs.Places as places;
+ghost use Rattle.key_program.specs.Places.{column_behind, line_behind};
+
 use std::fmt::{Display, Error as FormatError, Formatter, Write};
 use tree_schema::{Cursor, Mark, Token};
 
@@ -20,7 +26,10 @@ pub(crate) struct Place<'a> {
 
 impl<'a> Place<'a> {
     /// The place of this offset in a text, or its end where the text has no such place.
-    pub(crate) fn of(text: &'a [u8], at: usize) -> Place<'a> {
+    pub(crate) fn of(text: &'a [u8], at: usize) -> Place<'a>
+        ensures before { result.before.now ≡ take at text.now }
+        ensures behind { result.behind.now ≡ drop at text.now }
+    {
         Place {
             before: text.get(..at).unwrap_or(text),
             behind: text.get(at..).unwrap_or(&[]),
@@ -28,17 +37,24 @@ impl<'a> Place<'a> {
     }
 
     /// The number of its line, from 1.
-    fn line(&self) -> usize {
-        self.before
-            .iter()
-            .filter(|byte| **byte == b'\n')
-            .count()
-            .saturating_add(1)
+    fn line(&self) -> usize
+        ensures line { result ≡ line_behind self.now.before.now }
+    {
+        lines_in(self.before) + 1
     }
 
-    /// What stands in its line before it.
-    fn front(&self) -> &'a [u8] {
-        self.before.rsplit(is_line_end).next().unwrap_or(&[])
+    /// Its column, from 1 and in bytes.
+    fn column(&self) -> usize
+        ensures column { result ≡ column_behind self.now.before.now }
+    {
+        bytes_behind_line(self.before) + 1
+    }
+
+    /// What stands in its line before it, of which there are so many bytes at most.
+    fn front(&self, most: usize) -> &'a [u8] {
+        let shown = bytes_behind_line(self.before).min(most);
+        let from = self.before.len().saturating_sub(shown);
+        self.before.get(from..).unwrap_or(&[])
     }
 
     /// What stands in its line from it on.
@@ -47,16 +63,48 @@ impl<'a> Place<'a> {
     }
 
     /// The line and the column, from 1 and in bytes, as they are told.
-    pub(crate) fn numbers(self) -> Numbers {
+    pub(crate) fn numbers(self) -> Numbers
+        ensures line { result.line ≡ line_behind self.entry.before.now }
+        ensures column { result.column ≡ column_behind self.entry.before.now }
+    {
         Numbers {
             line: self.line(),
-            column: self.front().len().saturating_add(1),
+            column: self.column(),
         }
     }
 }
 
+/// How many lines end in these bytes.
+fn lines_in(before: &[u8]) -> usize
+    ensures lines { result ≡ length (filter places.is_line_feed before.now) }
+    ensures room { result + 1 < 2 ^ 64 }
+{
+    before.iter().filter(|byte| is_line_feed(**byte)).count()
+}
+
+/// How many of these bytes stand behind the last end of a line.
+fn bytes_behind_line(before: &[u8]) -> usize
+    ensures bytes { result ≡ length (take_while (λ byte. not (places.is_line_end byte)) (reverse before.now)) }
+    ensures room { result + 1 < 2 ^ 64 }
+{
+    before
+        .iter()
+        .rev()
+        .take_while(|byte| !is_line_end(byte))
+        .count()
+}
+
+/// Whether a byte is a line feed, by which lines are counted.
+fn is_line_feed(byte: u8) -> bool
+    ensures { result ≡ places.is_line_feed byte }
+{
+    byte == b'\n'
+}
+
 /// Whether a byte ends a line.
-fn is_line_end(byte: &u8) -> bool {
+fn is_line_end(byte: &u8) -> bool
+    ensures { result ≡ places.is_line_end byte.now }
+{
     *byte == b'\n' || *byte == b'\r'
 }
 
@@ -76,10 +124,7 @@ impl Display for Numbers {
 /// The part of the line round the place, and below it a caret under the place.
 impl<'a> Display for Place<'a> {
     fn fmt<W: Write>(&self, f: &mut Formatter<W>) -> Result<(), FormatError> {
-        let front = self.front();
-        let near = front
-            .get(front.len().saturating_sub(MOST_BEFORE)..)
-            .unwrap_or(front);
+        let near = self.front(MOST_BEFORE);
         let back = self.back();
         let next = back.get(..MOST_BEHIND).unwrap_or(back);
         write!(f, "    {}{}\n    ", Bytes(near), Bytes(next))?;
@@ -104,7 +149,9 @@ impl<'a> Display for Bytes<'a> {
 }
 
 /// The character that is shown for a byte.
-fn shown(byte: u8) -> char {
+fn shown(byte: u8) -> char
+    ensures plain { is_control result ≡ false }
+{
     match byte {
         b' '..=b'~' => byte as char,
         b'\t' => ' ',
@@ -138,13 +185,13 @@ impl<'a> Display for Word<'a> {
 }
 
 /// The first token of a text that begins at an offset or later, or its end.
-pub(crate) fn token_from(text: &[u8], at: usize) -> Token<'_> {
+pub(crate) fn token_from(text: &[u8], at: usize) -> Token<'_>
+    ensures token { IfSome (places.token_from text.now at) (λ token. token ≡ token_of result) }
+{
     let mut cursor = Cursor::of(text);
-    for _ in 0..text.len() {
-        match cursor.next() {
-            Some(token) if token.at >= at => return token,
-            Some(_) => {}
-            None => break,
+    while let Some(token) = cursor.next() {
+        if token.at >= at {
+            return token;
         }
     }
     Token {

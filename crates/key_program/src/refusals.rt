@@ -1,5 +1,8 @@
 //! What is told of refused texts.
 
+ghost use Rattle.std.specs.Prelude.{◌≡◌, ◌-◌, Some, IfSome, true, drop, length, slice_get, take};
+ghost use Rattle.ghost_model.specs.core.Texts.{texts_of};
+
 use crate::heard_sink::Refused;
 use crate::kept_depot::KeptText;
 use crate::place::{Place, Word, token_from};
@@ -91,7 +94,10 @@ fn remedy(refusal: &Refusal) -> Option<&'static str> {
 }
 
 /// The text of a number, and where it begins.
-fn text_of(script: &[u8], number: u32) -> Option<TextAt<'_>> {
+fn text_of(script: &[u8], number: u32) -> Option<TextAt<'_>>
+    ensures text { IfSome result (λ found. slice_get (texts_of script.now) (number - 1) ≡ Some found.text.now) }
+    ensures place { IfSome result (λ found. take (length found.text.now) (drop found.at script.now) ≡ found.text.now) }
+{
     let mut texts = Texts::new(script);
     let mut from = 0;
     for _ in 1..number {
@@ -104,11 +110,25 @@ fn text_of(script: &[u8], number: u32) -> Option<TextAt<'_>> {
 }
 
 /// Where a text stands first from a place on. Between two texts there are only white space and `;`, so it is that text.
-fn found_from(script: &[u8], text: &[u8], from: usize) -> Option<usize> {
+fn found_from(script: &[u8], text: &[u8], from: usize) -> Option<usize>
+    ensures place { IfSome result (λ at. take (length text.now) (drop at script.now) ≡ text.now) }
+{
     for at in from..script.len() {
-        if script.get(at..)?.starts_with(text) {
+        if stands_at(script, text, at) {
             return Some(at);
         }
     }
     None
+}
+
+/// Whether a text stands at a place.
+fn stands_at(script: &[u8], text: &[u8], at: usize) -> bool
+    ensures place { result ≡ true → take (length text.now) (drop at script.now) ≡ text.now }
+{
+    if at > script.len() || text.len() > script.len() - at {
+        return false;
+    }
+    let (_, rest) = script.split_at(at);
+    let (front, _) = rest.split_at(text.len());
+    front == text
 }

@@ -29,8 +29,19 @@ pub(crate) fn tell_place(rt: &HostRuntime, schema: &KeptText<'_>, broken: &Broke
             let word = Word(token);
             eprintln!(rt; "{name}, {numbers}, at {word}:\n{place}")
         }
-        None => eprintln!(rt; "{name}: REFERENCES of another table must name each table but one"),
+        None => {
+            let remedy = remedy(broken);
+            eprintln!(rt; "{name}: {remedy}")
+        }
     };
+}
+
+/// What to write where a schema has not one table that no foreign key names.
+fn remedy(broken: &BrokenSchema) -> &'static str {
+    match broken {
+        BrokenSchema::NotOneRoot { roots: 0 } => "write CREATE TABLE for each table",
+        _ => "REFERENCES of another table must name each table but one",
+    }
 }
 
 /// The token at which a schema breaks a rule, if it is one.
