@@ -11,3 +11,4 @@ pub mod HandLemmas
 pub mod AreaLemmas
 pub mod SpoolLemmas
 pub mod Spooling
+pub mod SparedSpool

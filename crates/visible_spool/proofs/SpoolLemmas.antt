@@ -1,5 +1,5 @@
 -- A reply that is begun in its area, and the half of its text.
-use Rattle.std.proofs.Common.{◌≡◌, ◌∙◌, ap, sym, subst, refl, ℕ, ◌+◌, ◌%◌, ◌^◌, ◌<◌, ◌≤◌, Bool, true, false, ◌&&◌, ◌==◌, List, length, map, IsTrue, if◌then◌else◌, nat_eq, arith}
+use Rattle.std.proofs.Common.{◌≡◌, ◌∙◌, ap, sym, subst, ℕ, ◌+◌, ◌%◌, ◌^◌, ◌<◌, ◌≤◌, Bool, true, false, ◌&&◌, ◌==◌, List, IsTrue, if◌then◌else◌, arith}
 use Rattle.std.specs.List.{list_all}
 use Rattle.std.proofs.lemmas.Bool.Decides.{nat_tests}
 use Rattle.ghost_model.specs.core.Schema.{Kind}
@@ -8,14 +8,12 @@ use Rattle.ghost_model.specs.forms.Runs.{pages_of}
 use Rattle.edge_traits.specs.Devices.{Device}
 use Rattle.visible_spool.specs.declared.reply.Reply.{Reply}
 use Rattle.visible_spool.specs.declared.area.Area.{Area}
-use Rattle.visible_spool.specs.declared.half.Half.{Half}
 use Rattle.visible_spool.specs.declared.sides.Side.{Side}
-use Rattle.visible_spool.specs.declared.sides.Sides.{Sides}
 use Rattle.visible_spool.specs.Replies.{is_narrow, kinds_of}
 use Rattle.visible_spool.specs.Halves.{no_half}
 use Rattle.visible_spool.specs.Hands.{CanBegin, area_end}
 use Rattle.visible_spool.specs.Areas.{IsArea, first_of, end_of, is_even}
-use Rattle.visible_spool.specs.Sides.{IsTakenUp, is_marked, mark_in, replies_in, replies_of, side_of}
+use Rattle.visible_spool.specs.Sides.{IsTakenUp, mark_in, replies_in}
 use Rattle.visible_spool.proofs.AreaLemmas.{fewer_pages}
 
 pub same_number : (n : ℕ) → (n == n) ≡ true

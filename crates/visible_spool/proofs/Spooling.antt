@@ -1,9 +1,7 @@
 -- What holds of the spool between its calls.
-use Rattle.std.proofs.Common.{◌≡◌, ◌∙◌, ap, sym, subst, refl, ℕ, ◌+◌, ◌^◌, ◌<◌, ◌≤◌, Bool, true, false, ◌&&◌, ◌==◌, List, [], length, get_or, if◌then◌else◌, arith}
+use Rattle.std.proofs.Common.{◌≡◌, ◌∙◌, ap, sym, subst, refl, ℕ, ◌<◌, ◌≤◌, Bool, true, false, ◌&&◌, ◌==◌, List, [], length, get_or, arith}
 use Rattle.std.specs.Prelude.{Result}
 use Rattle.std.proofs.lemmas.Bool.Decides.{nat_tests}
-use Rattle.ghost_model.specs.forms.Layout.{in_blocks}
-use Rattle.ghost_model.specs.forms.Runs.{pages_of}
 use Rattle.edge_traits.specs.Devices.{Device}
 use Rattle.edge_traits.proofs.DeviceFrames.{changes_wider}
 use Rattle.page_pool.specs.Pools.{Pool, IsOut}
@@ -15,13 +13,15 @@ use Rattle.visible_spool.specs.declared.area.Area.{Area}
 use Rattle.visible_spool.specs.declared.hand.Hand.{Hand}
 use Rattle.visible_spool.specs.declared.sides.Sides.{Sides}
 use Rattle.visible_spool.specs.declared.spool.Spool.{Spool}
-use Rattle.visible_spool.specs.Areas.{IsArea, AreAreas, first_of, end_of, no_area}
-use Rattle.visible_spool.specs.Sides.{side_of, is_marked}
+use Rattle.visible_spool.specs.Areas.{IsArea, first_of, end_of, no_area}
+use Rattle.visible_spool.specs.Sides.{side_of, is_marked, replies_of}
+use Rattle.visible_spool.specs.Halves.{reply_of}
+use Rattle.visible_spool.specs.Laws.{LiesWithin}
 use Rattle.visible_spool.specs.Hands.{CanPut, HasRows, area_end}
-use Rattle.visible_spool.specs.Spools.{IsHeld, IsSpooling, PushedIf, HasPushed, SpoolWrites, area_at, is_at, last_of}
+use Rattle.visible_spool.specs.Spools.{IsHeld, IsSpooling, PushedIf, SpoolWrites, area_at, is_at}
 use Rattle.visible_spool.proofs.SpoolLemmas.{area_within}
 
-area_kept : (before now : Device) (area : Area) → now.page_count ≡ before.page_count → IsArea before area → IsArea now area
+pub area_kept : (before now : Device) (area : Area) → now.page_count ≡ before.page_count → IsArea before area → IsArea now area
 area_kept before now area same is = record {
   even_block = is.even_block;
   odd_block = is.odd_block;
@@ -155,3 +155,15 @@ held_begun device spool text table reply et eb er there holder first rows visibl
       width = omega (arith, width, ew, ev);
       can = λ unmarked. can;
     }
+
+-- a reply that was ended lies in its area
+pub lies_as : {device : Device} (spool : Spool) (text table : ℕ) → IsHeld device spool → IsArea device (area_at spool spool.hand.table) → spool.hand.text ≡ text
+    → spool.hand.table ≡ table → (sides : Sides)
+    → LiesWithin spool.hand.reply.run.first (area_end spool.hand.reply) (reply_of (replies_of sides spool.hand.text) spool.hand.table)
+    → LiesWithin (first_of (area_at spool table) text) (end_of (area_at spool table) text) (reply_of (replies_of sides text) table)
+lies_as spool text table is area et eb sides lies =
+    let first = is.first in
+    let end = area_within (area_at spool spool.hand.table) spool.hand.text spool.hand.reply area.narrow is.first is.rows is.wide is.width in
+    let P : ℕ → ℕ → Type 0 = λ n t. LiesWithin (first_of (area_at spool t) n) (end_of (area_at spool t) n) (reply_of (replies_of sides n) t) in
+    let here : P spool.hand.text spool.hand.table = λ place there. let at = lies place there in (omega (arith, at.0, first), omega (arith, at.1, end)) in
+    subst (λ t. P text t) eb (subst (λ n. P n spool.hand.table) et here)

@@ -6,3 +6,4 @@ pub mod Hands
 pub mod Areas
 pub mod Sides
 pub mod Spools
+pub mod SpoolLaws

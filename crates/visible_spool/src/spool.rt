@@ -1,16 +1,20 @@
 //! The spool: rows of replies are pushed to the half of their text.
 
-ghost use Rattle.std.specs.Prelude.{◌≡◌, ◌<◌, ◌≤◌, ◌++◌, ◌∷◌, [], ◌^◌, ℕ, Bool, true, false, List, length, map, drop, OnOk, OnErr};
+ghost use Rattle.std.specs.Prelude.{◌≡◌, ◌<◌, ◌≤◌, ◌+◌, ◌++◌, ◌∷◌, [], ◌^◌, ℕ, Bool, true, false, List, length, map, drop, IfSome, OnOk, OnErr};
 ghost use Rattle.ghost_model.specs.forms.Runs.{number_in};
 ghost use Rattle.ghost_model.specs.core.NextMove.{are_cells};
 ghost use Rattle.ghost_model.specs.forms.Layout as layout;
 ghost use Rattle.ghost_base.specs.Views.{kind_of};
 ghost use Rattle.edge_traits.specs.Devices.{Device};
-ghost use Rattle.page_pool.specs.Pools.{Pool, IsOut, ChangesPage};
-ghost use Rattle.visible_spool.specs.Replies.{HoldsRows, IsReadable, kinds_of};
+ghost use Rattle.page_pool.specs.Pools.{Pool, IsOut, ChangesPage, page_at};
+ghost use Rattle.ghost_base.specs.Runs.{run_of};
+ghost use Rattle.flash_pages.specs.Reads.{ReadsPages, CanRead, WasGiven};
+ghost use Rattle.flash_pages.specs.Cursors.{IsReady, IsPageOf, ids_left};
+ghost use Rattle.visible_spool.specs.Replies.{Finds, HoldsRows, IsReadable, WasFound, id_of_bytes, kinds_of};
 ghost use Rattle.visible_spool.specs.Halves.{reply_of};
 ghost use Rattle.visible_spool.specs.Areas.{AreAreasOf, AreAreas, first_of, end_of};
 ghost use Rattle.visible_spool.specs.Sides.{Changes, is_marked, replies_of};
+ghost use Rattle.visible_spool.specs.Laws.{LiesWithin};
 ghost use Rattle.visible_spool.specs.Hands.{HasRows, area_end};
 ghost use Rattle.visible_spool.specs.Spools.{IsSpooling, IsHeld, IsAsked, IsNextRow, HasPushed, KeepsSides, SpoolWrites, area_at, is_at, last_of};
 
@@ -18,10 +22,12 @@ use crate::area::{Area, areas_of};
 use crate::half::Half;
 use crate::hand::Hand;
 use crate::reply::Reply;
+use crate::row::SpoolRow;
 use crate::sides::Sides;
 use arrayvec::ArrayVec;
 use edge_traits::flash::Flash;
 use flash_layout::Layout;
+use flash_pages::cursor::RunCursor;
 use flash_pages::fault::PageFault;
 use flash_pages::writer::RunWriter;
 use ghost_base::Kind;
@@ -230,6 +236,7 @@ impl Spool {
         requires some { 0 < self.old.hand.text }
         ensures kept { (rows : List (List ℕ)) → HasRows F.told (F.state flash.old).page pool.old self.old.hand rows → is_marked self.new.sides self.old.hand.text ≡ false → OnOk result (F.told ≡ true → HoldsRows (F.state flash.new).page (reply_of (replies_of self.new.sides self.old.hand.text) self.old.hand.table) rows) }
         ensures readable { is_marked self.new.sides self.old.hand.text ≡ false → IsReadable (F.state flash.new) (reply_of (replies_of self.new.sides self.old.hand.text) self.old.hand.table) }
+        ensures lies { is_marked self.new.sides self.old.hand.text ≡ false → LiesWithin self.old.hand.reply.run.first (area_end self.old.hand.reply) (reply_of (replies_of self.new.sides self.old.hand.text) self.old.hand.table) }
         ensures others { (table : ℕ) → (table ≡ self.old.hand.table → ⊥) → reply_of (replies_of self.new.sides self.old.hand.text) table ≡ reply_of (replies_of self.old.sides self.old.hand.text) table }
         ensures stays { OnOk result (is_marked self.new.sides self.old.hand.text ≡ is_marked self.old.sides self.old.hand.text) }
         ensures marked { OnErr result (is_marked self.new.sides self.old.hand.text ≡ true) }
@@ -269,6 +276,7 @@ impl Spool {
         requires some { 0 < text }
         ensures kept { is_at self.old text table ≡ true → (rows : List (List ℕ)) → HasPushed F.told (F.state flash.old).page pool.old self.old text table rows → is_marked self.new.sides text ≡ false → OnOk result (F.told ≡ true → HoldsRows (F.state flash.new).page (reply_of (replies_of self.new.sides text) table) rows) }
         ensures readable { is_at self.old text table ≡ true → is_marked self.new.sides text ≡ false → IsReadable (F.state flash.new) (reply_of (replies_of self.new.sides text) table) }
+        ensures lies { is_at self.old text table ≡ true → is_marked self.new.sides text ≡ false → LiesWithin (first_of (area_at self.old table) text) (end_of (area_at self.old table) text) (reply_of (replies_of self.new.sides text) table) }
         ensures none { is_at self.old text table ≡ false → self.new ≡ self.old }
         ensures others { (other : ℕ) → (other ≡ table → ⊥) → reply_of (replies_of self.new.sides text) other ≡ reply_of (replies_of self.old.sides text) other }
         ensures stays { OnOk result (is_marked self.new.sides text ≡ is_marked self.old.sides text) }
@@ -284,6 +292,40 @@ impl Spool {
             return Ok(());
         }
         self.close(flash, pool)
+    }
+
+    /// The row of an identifier in the reply of a text for a table: `Reply::find`.
+    pub fn find<F: Flash>(
+        &self,
+        flash: &mut F,
+        pool: &mut PagePool,
+        lease: &Lease,
+        text: u32,
+        table: usize,
+        id: u32,
+    ) -> Result<Option<SpoolRow>, PageFault>
+        requires there { table < MAX_TABLES }
+        requires readable { IsReadable (F.state flash.old) (reply_of (replies_of self.now.sides text) table) }
+        requires ready { CanRead F.told (F.state flash.old) pool.old lease.now }
+        ensures finds { F.told ≡ true → (rows : List (List ℕ)) → HoldsRows (F.state flash.old).page (reply_of (replies_of self.now.sides text) table) rows → Finds rows id result }
+        ensures found { (since : ℕ) → since ≤ (F.state flash.old).calls → WasGiven since (F.state flash.old) pool.old lease.now → WasFound since (F.state flash.new) (reply_of (replies_of self.now.sides text) table) id result }
+        ensures readable { IsReadable (F.state flash.new) (reply_of (replies_of self.now.sides text) table) }
+        ensures read { (k : ℕ) → (reply_of (replies_of self.now.sides text) table).run.count < 2 ^ k → ReadsPages F.told (F.state flash.old) (F.state flash.new) pool.old pool.new lease.now (k + 3) result }
+    {
+        self.half(text).find(flash, pool, lease, table, id)
+    }
+
+    /// The identifiers of the rows in the reply of a text for a table: `Reply::ids`.
+    pub fn ids(&self, text: u32, table: usize, lease: Lease) -> RunCursor
+        requires there { table < MAX_TABLES }
+        ensures lease { result.lease ≡ lease }
+        ensures rows { result.rows ≡ (reply_of (replies_of self.now.sides text) table).rows }
+        ensures at { result.at ≡ 0 }
+        ensures last { result.last ≡ 0 }
+        ensures ids { (page : ℕ → List ℕ) (rows : List (List ℕ)) → HoldsRows page (reply_of (replies_of self.now.sides text) table) rows → ids_left page result ≡ map id_of_bytes rows }
+        ensures ready { (told : Bool) (device : Device) (pool : Pool) → IsReadable device (reply_of (replies_of self.now.sides text) table) → CanRead told device pool lease → IfSome (page_at pool lease) (IsPageOf (run_of (reply_of (replies_of self.now.sides text) table).run)) → IsReady told device pool result }
+    {
+        self.half(text).ids(table, lease)
     }
 
     /// Gives the lease back.

@@ -1,4 +1,4 @@
-use Rattle.std.proofs.Common.{◌≡◌, ap, subst}
+use Rattle.std.proofs.Common.{ap, subst}
 use Rattle.flash_layout.specs.Limits.{HasLayout}
 use Rattle.ghost_model.specs.forms.Runs as runs
 use Rattle.visible_spool.proofs.AreaLemmas.{its_area, its_pages}

@@ -1,4 +1,4 @@
-use Rattle.std.proofs.Common.{◌≡◌, ◌∙◌, ap, arith}
+use Rattle.std.proofs.Common.{arith}
 use Rattle.visible_spool.proofs.AreaLemmas.{one_area_more}
 use Rattle.visible_spool.proofs.area.areas_of.Goals as goal
 

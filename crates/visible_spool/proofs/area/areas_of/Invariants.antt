@@ -1,4 +1,4 @@
-use Rattle.std.proofs.Common.{◌≡◌, ◌≤◌}
+use Rattle.std.proofs.Common.{◌≤◌}
 use Rattle.arrayvec.specs.ArrayVec.{array_vec_len}
 use Rattle.visible_spool.proofs.AreaLemmas.{AreAreasBefore}
 use Rattle.visible_spool.proofs.area.areas_of.Given as goal

@@ -1,4 +1,4 @@
-use Rattle.std.proofs.Common.{◌≡◌, ◌≤◌, ◌^◌, ◌<◌, subst, sym, refl, ℕ}
+use Rattle.std.proofs.Common.{◌≤◌, subst, sym, refl}
 use Rattle.ghost_model.specs.core.Channel.{Catalog}
 use Rattle.ghost_model.specs.forms.Layout as layout
 use Rattle.page_pool.specs.Pools.{IsOut}

@@ -1,4 +1,4 @@
-use Rattle.std.proofs.Common.{◌≡◌, ◌∙◌, ◌≤◌, ap, sym, ℕ, List, map, arith}
+use Rattle.std.proofs.Common.{◌∙◌, ◌≤◌, ap, map, arith}
 use Rattle.ghost_base.specs.Views.{kind_of}
 use Rattle.visible_spool.specs.declared.area.Area.{Area}
 use Rattle.visible_spool.specs.Areas.{first_of}

@@ -1,10 +1,9 @@
-use Rattle.std.proofs.Common.{◌≡◌, ◌∙◌, ◌≤◌, ◌^◌, ◌<◌, ◌++◌, ◌∷◌, [], ap, sym, subst, ℕ, List, true, false, drop, map, arith}
-use Rattle.ghost_base.specs.Views.{kind_of}
+use Rattle.std.proofs.Common.{◌∙◌, ◌++◌, ◌∷◌, [], ap, List, drop, arith}
 use Rattle.ghost_model.specs.core.Schema.{Kind}
 use Rattle.ghost_model.specs.core.NextMove.{are_cells}
 use Rattle.visible_spool.specs.declared.area.Area.{Area}
 use Rattle.visible_spool.specs.Sides.{is_marked}
-use Rattle.visible_spool.specs.Spools.{IsHeld, IsSpooling, area_at, is_at}
+use Rattle.visible_spool.specs.Spools.{IsSpooling, area_at, is_at}
 use Rattle.visible_spool.proofs.Spooling.{some_text, writes_in_area, writes_as, same_area, still_at, now_pushed}
 use Rattle.visible_spool.proofs.spool.Spool.push.Goals as goal
 

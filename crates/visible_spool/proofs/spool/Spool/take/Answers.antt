@@ -1,4 +1,4 @@
-use Rattle.std.proofs.Common.{◌≡◌, ◌∙◌, ◌≤◌, subst, sym, ap, ℕ, List, [], length}
+use Rattle.std.proofs.Common.{◌∙◌, ◌≤◌, subst, sym, ap, List, length}
 use Rattle.page_pool.specs.Pools.{IsOut}
 use Rattle.visible_spool.specs.declared.area.Area.{Area}
 use Rattle.visible_spool.specs.Areas.{AreAreas}

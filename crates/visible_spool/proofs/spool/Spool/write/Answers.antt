@@ -1,4 +1,3 @@
-use Rattle.std.proofs.Common.{◌≡◌, sym}
 use Rattle.page_pool.proofs.Leases.{change_keeps_out}
 use Rattle.visible_spool.proofs.Spooling.{spooling_on, held_on, some_text}
 use Rattle.visible_spool.proofs.spool.Spool.write.Goals as goal
