@@ -1,5 +1,5 @@
 -- The reply at hand: its next page lies in its area, and what a row more makes of its rows.
-use Rattle.std.proofs.Common.{◌≡◌, ◌∙◌, ap, sym, subst, refl, ℕ, ◌+◌, ◌-◌, ◌*◌, ◌/◌, ◌%◌, ◌<◌, ◌≤◌, ◌⊎◌, inl, inr, Bool, true, false, nat_eq, nat_lt, List, [], ◌∷◌, ◌++◌, length, take, drop, map, get_or, IsTrue, if◌then◌else◌, arith}
+use Rattle.std.proofs.Common.{◌≡◌, ◌∙◌, ap, sym, subst, refl, ℕ, ◌+◌, ◌/◌, ◌%◌, ◌<◌, ◌≤◌, ◌⊎◌, inl, inr, Bool, true, false, nat_eq, nat_lt, List, [], ◌∷◌, ◌++◌, length, take, drop, map, get_or, IsTrue, if◌then◌else◌, arith}
 use Rattle.std.proofs.lemmas.Bool.{cases_lt}
 use Rattle.std.proofs.lemmas.Bool.Decides.{nat_tests}
 use Rattle.std.proofs.lemmas.Nat.{le-div}
@@ -14,13 +14,13 @@ use Rattle.ghost_model.specs.forms.Runs.{pages_of, number_in, per_page}
 use Rattle.ghost_model.specs.forms.Layout.{in_blocks}
 use Rattle.edge_traits.specs.Devices.{Device, KeepsPages, ChangesOnly}
 use Rattle.edge_traits.proofs.DeviceFrames.{changes_wider, changes_kept}
-use Rattle.flash_pages.specs.declared.filler.RunFiller.{RunFiller}
 use Rattle.flash_pages.specs.Writing.{IsEntered, reach}
 use Rattle.flash_pages.specs.Writers.{CanWrite, next_page, waits}
 use Rattle.flash_pages.proofs.Fillings.{whole_pages, page_left}
 use Rattle.visible_spool.specs.declared.reply.Reply.{Reply}
 use Rattle.visible_spool.specs.declared.hand.Hand.{Hand}
-use Rattle.visible_spool.specs.Replies.{AreRows, IsReadable, IsSound, id_of, id_of_bytes, is_narrow, kinds_of}
+use Rattle.visible_spool.specs.Replies.{AreRows, IsReadable, id_of, id_of_bytes, is_narrow, kinds_of}
+use Rattle.visible_spool.specs.Laws.{LiesWithin}
 use Rattle.visible_spool.specs.Hands.{CanBegin, CanPut, IsReplyOf, area_end}
 use Rattle.visible_spool.proofs.Places.{row_has_page}
 
@@ -200,6 +200,21 @@ ended_readable before now hand reply can same is =
         kinds = subst (λ (k : List Kind). IsTrue (list_all is_narrow k)) (sym (kinds_same reply hand.reply is.cells is.kinds)) begins.kinds;
       };
     }
+
+-- and its rows lie in its area
+pub ended_within : (device : Device) (hand : Hand) (reply : Reply) → CanPut device hand → IsReplyOf hand reply → LiesWithin hand.reply.run.first (area_end hand.reply) reply
+ended_within device hand reply can is = λ place here.
+    let begins = can.begins in
+    let some = some_rows_in hand.reply begins.wide begins.narrow in
+    let count = is.count in
+    let few = can.few in
+    let within = can.within in
+    let width : reply.run.width ≡ hand.reply.run.width = is.width ∙ can.width in
+    let first = is.first in
+    let begin = can.first in
+    let at = row_has_page hand.reply.rows place (per_page hand.reply.run.width) some (omega (arith, here, count, few, within)) in
+    let e : place / per_page reply.run.width ≡ place / per_page hand.reply.run.width = ap (λ w. place / per_page w) width in
+    (omega (arith, first, begin), omega (arith, at, e, first, begin))
 
 -- a reply may be written as long as the device has as many pages
 pub begin_kept : (before now : Device) (reply : Reply) → now.page_count ≡ before.page_count → CanBegin before reply → CanBegin now reply

@@ -1,5 +1,5 @@
 -- The identifiers of all rows.
-use Rattle.std.proofs.Common.{◌≡◌, ◌∙◌, ap, sym, subst, ℕ, ◌+◌, ◌-◌, ◌≤◌, List, length, map, take, arith}
+use Rattle.std.proofs.Common.{◌≡◌, ◌∙◌, ap, ℕ, List, length, map, arith}
 use Rattle.std.proofs.lemmas.List.{take_all}
 use Rattle.ghost_model.specs.forms.Runs.{ids_from}
 use Rattle.ghost_model.specs.laws.RunLaws.{IdentifiersOfRecords}

@@ -1,9 +1,5 @@
 -- What stays of a reply where other pages change.
-use Rattle.std.proofs.Common.{◌≡◌, ℕ, ◌<◌, ◌≤◌, List}
-use Rattle.edge_traits.specs.Devices.{Device}
 use Rattle.flash_pages.proofs.RunFrames.{records_kept, run_kept}
-use Rattle.visible_spool.specs.declared.reply.Reply.{Reply}
-use Rattle.visible_spool.specs.Replies.{IsReadable, HoldsRows}
 use Rattle.visible_spool.specs.Laws.{RepliesAreKept, RepliesStayReadable, RepliesAreSpared}
 
 pub reply_kept : RepliesAreKept

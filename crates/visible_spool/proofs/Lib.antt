@@ -8,3 +8,7 @@ pub mod Frames
 pub mod Finding
 pub mod KeptReplies
 pub mod HandLemmas
+pub mod AreaLemmas
+pub mod SpoolLemmas
+pub mod Spooling
+pub mod SparedSpool

@@ -1,5 +1,5 @@
 -- The pages that are left: where an identifier may stand, and how many looks there are.
-use Rattle.std.proofs.Common.{◌≡◌, ◌∙◌, ap, sym, refl, ℕ, zero, suc, ◌+◌, ◌-◌, ◌*◌, ◌/◌, ◌^◌, ◌<◌, ◌≤◌, ◌⊎◌, inl, inr, min, List, length, pow-suc, arith}
+use Rattle.std.proofs.Common.{◌≡◌, ◌∙◌, ap, refl, ℕ, zero, suc, ◌+◌, ◌-◌, ◌*◌, ◌/◌, ◌^◌, ◌<◌, ◌≤◌, ◌⊎◌, inl, inr, min, List, pow-suc, arith}
 use Rattle.std.proofs.lemmas.Bool.{cases_lt}
 use Rattle.std.proofs.lemmas.Nat.{le-div}
 use Rattle.std.proofs.Math.Nat.{div-mul-le_self}
@@ -7,8 +7,8 @@ use Rattle.ghost_model.specs.forms.Runs.{pages_of}
 use Rattle.visible_spool.specs.declared.reply.Reply.{Reply}
 use Rattle.visible_spool.specs.declared.search.Looking.{Looking}
 use Rattle.visible_spool.specs.declared.search.Search.TheVariants.{Among}
-use Rattle.visible_spool.specs.Replies.{HoldsRows, id_of}
-use Rattle.visible_spool.specs.Searches.{IsSoughtAmong, LooksLeft, IsFewer, LeavesElsewhere, rows_in, width_left}
+use Rattle.visible_spool.specs.Replies.{HoldsRows}
+use Rattle.visible_spool.specs.Searches.{IsSoughtAmong, LooksLeft, IsFewer, rows_in, width_left}
 use Rattle.visible_spool.proofs.Places.{row_has_page}
 use Rattle.visible_spool.proofs.RowsHere.{above_place, below_end}
 

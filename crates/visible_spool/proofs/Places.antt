@@ -1,7 +1,7 @@
 -- The places of the rows of a page.
 use Rattle.std.proofs.Common.{◌≡◌, ◌∙◌, ap, sym, ℕ, ◌+◌, ◌-◌, ◌*◌, ◌/◌, ◌<◌, ◌≤◌, inl, inr, arith}
 use Rattle.std.proofs.lemmas.Bool.{cases_lt}
-use Rattle.std.proofs.lemmas.Nat.{le-div, div_below, div-mul-add}
+use Rattle.std.proofs.lemmas.Nat.{le-div, div-mul-add}
 use Rattle.std.proofs.Math.Nat.{div-mul-le_self}
 
 pub in_page : (place page n : ℕ) → page * n ≤ place → place < page * n + n → place / n ≡ page

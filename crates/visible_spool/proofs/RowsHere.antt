@@ -1,16 +1,14 @@
 -- Where pages have the rows of a reply: what a page tells of an identifier is so of the rows.
-use Rattle.std.proofs.Common.{◌≡◌, ◌≢◌, ◌∙◌, ap, sym, subst, refl, ℕ, zero, suc, ◌+◌, ◌-◌, ◌*◌, ◌/◌, ◌%◌, ◌<◌, ◌≤◌, Bool, true, false, ◌&&◌, nat_lt, nat_le, List, [], length, drop, get_or, inl, inr, arith}
+use Rattle.std.proofs.Common.{◌≡◌, ◌∙◌, ap, sym, ℕ, zero, suc, ◌+◌, ◌-◌, ◌*◌, ◌/◌, ◌%◌, ◌<◌, ◌≤◌, Bool, true, false, ◌&&◌, nat_lt, nat_le, List, [], length, drop, get_or, inl, inr, arith}
 use Rattle.std.proofs.lemmas.Bool.{cases_lt}
 use Rattle.std.proofs.lemmas.Bool.Decides.{nat_tests}
 use Rattle.ghost_model.specs.core.NextMove.{are_cells}
 use Rattle.ghost_model.specs.core.Asks.{row_in}
 use Rattle.ghost_model.specs.forms.Runs.{record_at, cell_in}
-use Rattle.ghost_base.specs.Runs.{run_of}
 use Rattle.visible_spool.specs.declared.reply.Reply.{Reply}
-use Rattle.visible_spool.specs.declared.search.Looking.{Looking}
-use Rattle.visible_spool.specs.Replies.{HoldsRows, AreRows, HasNone, IsRowOf, id_of, id_of_bytes, is_placed, may_stand, kinds_of}
-use Rattle.visible_spool.specs.Searches.{Ascend, HasNoneAmong, IsSoughtAmong, rows_in, row_at, id_at}
-use Rattle.visible_spool.proofs.Places.{in_page, before_page, by_page, from_page}
+use Rattle.visible_spool.specs.Replies.{HoldsRows, AreRows, HasNone, IsRowOf, id_of, id_of_bytes, may_stand, kinds_of}
+use Rattle.visible_spool.specs.Searches.{Ascend, HasNoneAmong, rows_in, row_at, id_at}
+use Rattle.visible_spool.proofs.Places.{in_page, by_page, from_page}
 
 -- identifiers climb by one at least
 climbs_up : (most : ℕ) (rows : List (List ℕ)) (place : ℕ) → ((p : ℕ) → p < length rows → 0 < id_of rows p)

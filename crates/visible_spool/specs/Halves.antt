@@ -1,5 +1,6 @@
 -- The replies of one text, by their tables.
-use Rattle.std.specs.Prelude.{◌≡◌, ℕ, ◌^◌, ◌<◌, List, [], get_or}
+use Rattle.std.specs.Prelude.{◌≡◌, ℕ, ◌^◌, ◌<◌, List, [], get_or, replicate}
+use Rattle.ghost_base.specs.declared.kind.Kind.TheVariants.{Integer}
 use Rattle.edge_traits.specs.Devices.{Device}
 use Rattle.visible_spool.specs.declared.reply.Reply.{Reply}
 use Rattle.visible_spool.specs.declared.half.Half.{Half}
@@ -7,7 +8,11 @@ use Rattle.visible_spool.specs.Replies.{IsReadable, HoldsRows}
 
 -- a reply of no rows
 abbrev pub no_reply : Reply
-no_reply = record { run = record { first = 0; count = 0; width = 4 }; rows = 0; cells = 0; kinds = [] }
+no_reply = record { run = record { first = 0; count = 0; width = 4 }; rows = 0; cells = 0; kinds = replicate 24 Integer }
+
+-- no rows for any table
+abbrev pub no_half : Half
+no_half = record { replies = replicate 12 no_reply }
 
 -- the reply of a table
 abbrev pub reply_of : Half → (table : ℕ) → Reply

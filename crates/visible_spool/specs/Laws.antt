@@ -5,6 +5,7 @@ use Rattle.ghost_base.specs.Runs.{run_of}
 use Rattle.edge_traits.specs.Devices.{Device}
 use Rattle.visible_spool.specs.declared.reply.Reply.{Reply}
 use Rattle.visible_spool.specs.Replies.{IsReadable, HoldsRows}
+use Rattle.visible_spool.specs.Halves.{HasNoReply, no_half}
 
 -- the pages of a reply's rows have the same bytes
 abbrev pub KeepsReply : (page now : ℕ → List ℕ) → Reply → Type 0
@@ -32,3 +33,7 @@ RepliesAreSpared =
     (page now : ℕ → List ℕ) (low high : ℕ) (reply : Reply) (rows : List (List ℕ)) → LiesWithin low high reply
     → ((number : ℕ) → low ≤ number → number < high → now number ≡ page number)
     → HoldsRows page reply rows → HoldsRows now reply rows
+
+-- where no row of a text came, there is no reply for any table
+abbrev pub TextsWithoutRows : Type 0
+TextsWithoutRows = (table : ℕ) → table < 12 → HasNoReply no_half table

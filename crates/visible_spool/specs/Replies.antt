@@ -1,11 +1,11 @@
 -- The reply to an ask as it stands in the spool, and what a look-up in it gives.
-use Rattle.std.specs.Prelude.{◌≡◌, ◌≢◌, ℕ, ◌+◌, ◌-◌, ◌^◌, ◌<◌, ◌≤◌, ◌&&◌, ⊤, Bool, true, false, nat_lt, nat_le, List, [], length, map, take, drop, get_or, Option, Some, None, Result, Ok, Err, IsTrue}
+use Rattle.std.specs.Prelude.{◌≡◌, ◌≢◌, ℕ, ◌+◌, ◌-◌, ◌<◌, ◌≤◌, ◌&&◌, ⊤, Bool, true, false, nat_lt, nat_le, List, [], length, map, take, drop, get_or, Option, Some, None, Result, Ok, Err, IsTrue}
 use Rattle.std.specs.List.{list_all}
 use Rattle.ghost_model.specs.core.Schema.{Kind}
 use Rattle.ghost_model.specs.core.Asks.{RowCells, row_in}
 use Rattle.ghost_model.specs.core.NextMove.{are_cells}
 use Rattle.ghost_model.specs.forms.Cells.{cell_width}
-use Rattle.ghost_model.specs.forms.Runs.{HasRecords, record_at, page_of, slot_of, number_in, found_in}
+use Rattle.ghost_model.specs.forms.Runs.{HasRecords, page_of, slot_of, number_in, found_in}
 use Rattle.ghost_base.specs.Runs.{run_of}
 use Rattle.ghost_base.specs.Views.{kind_of}
 use Rattle.edge_traits.specs.Devices.{Device}

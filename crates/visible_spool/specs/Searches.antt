@@ -1,7 +1,5 @@
 -- A look-up in a reply, page by page: what one page tells of an identifier, and which pages are left.
-use Rattle.std.specs.Prelude.{◌≡◌, ◌≢◌, ℕ, ◌+◌, ◌-◌, ◌*◌, ◌/◌, ◌%◌, ◌^◌, ◌<◌, ◌≤◌, ◌⊎◌, ⊤, Bool, true, false, nat_lt, List, length, drop, Option, Some, None, Result, Ok, Err, IfSome, if◌then◌else◌}
-use Rattle.ghost_model.specs.core.Asks.{RowCells}
-use Rattle.ghost_model.specs.core.NextMove.{are_cells}
+use Rattle.std.specs.Prelude.{◌≡◌, ◌≢◌, ℕ, ◌+◌, ◌-◌, ◌/◌, ◌%◌, ◌^◌, ◌<◌, ◌≤◌, ◌⊎◌, ⊤, Bool, true, false, nat_lt, List, length, Option, Some, None, Result, Ok, Err, IfSome, if◌then◌else◌}
 use Rattle.ghost_model.specs.forms.Runs.{cell_in, number_in, per_page, pages_of}
 use Rattle.edge_traits.specs.Devices.{Device}
 use Rattle.flash_pages.specs.Holding.{is_apart}
@@ -17,7 +15,7 @@ use Rattle.visible_spool.specs.declared.search.Step.{Step}
 use Rattle.visible_spool.specs.declared.search.Step.TheVariants.{More, Found}
 use Rattle.visible_spool.specs.declared.search.Turn.{Turn}
 use Rattle.visible_spool.specs.declared.search.Turn.TheVariants.{Over, Narrowed}
-use Rattle.visible_spool.specs.Replies.{HoldsRows, HasNone, IsFound, FoundStands, IsRowOf, id_of, is_placed, kinds_of, may_stand}
+use Rattle.visible_spool.specs.Replies.{IsFound, FoundStands, id_of, may_stand}
 
 -- how many rows a page takes, and how many pages a reply has; the page of a place, counted from the reply's first page
 abbrev pub rows_in : Reply → ℕ

@@ -7,7 +7,7 @@ ghost use Rattle.edge_traits.specs.Devices.{Device};
 ghost use Rattle.flash_pages.specs.Reads.{ReadsPages, CanRead, WasGiven};
 ghost use Rattle.flash_pages.specs.Cursors.{IsReady, IsPageOf, ids_left};
 ghost use Rattle.visible_spool.specs.Replies.{IsReadable, HoldsRows, Finds, WasFound, id_of_bytes};
-ghost use Rattle.visible_spool.specs.Halves.{reply_of, HasNoReply};
+ghost use Rattle.visible_spool.specs.Halves.{reply_of, no_half, HasNoReply};
 
 use crate::reply::Reply;
 use crate::row::SpoolRow;
@@ -29,6 +29,7 @@ pub struct Half {
 impl Half {
     /// No rows for any table.
     pub fn none() -> Half
+        ensures half { result ≡ no_half }
         ensures none { (table : ℕ) → table < MAX_TABLES → HasNoReply result table }
     {
         let run = Run {

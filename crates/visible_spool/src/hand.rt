@@ -7,6 +7,7 @@ ghost use Rattle.ghost_model.specs.forms.Runs.{number_in};
 ghost use Rattle.edge_traits.specs.Devices.{Device, ChangesOnly};
 ghost use Rattle.page_pool.specs.Pools.{Pool, IsOut, ChangesPage};
 ghost use Rattle.visible_spool.specs.Replies.{IsReadable, HoldsRows, kinds_of};
+ghost use Rattle.visible_spool.specs.Laws.{LiesWithin};
 ghost use Rattle.visible_spool.specs.Hands.{CanBegin, CanPut, HasRows, SameHand, IsReplyOf, area_end};
 
 use crate::reply::Reply;
@@ -98,6 +99,7 @@ impl Hand {
         ensures holds { IfOk result (λ reply. F.told ≡ true → (rows : List (List ℕ)) → HasRows F.told (F.state flash.old).page pool.old self.old rows → HoldsRows (F.state flash.new).page reply rows) }
         ensures readable { IfOk result (IsReadable (F.state flash.new)) }
         ensures reply { IfOk result (IsReplyOf self.old) }
+        ensures lies { IfOk result (LiesWithin self.old.reply.run.first (area_end self.old.reply)) }
         ensures same { SameHand self.old self.new }
         ensures none { OnOk result (self.new.text ≡ 0) }
         ensures failed { OnErr result (self.new ≡ self.old) }

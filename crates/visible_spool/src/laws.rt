@@ -1,6 +1,7 @@
 //! Laws of replies.
 
-ghost use Rattle.visible_spool.specs.Laws.{RepliesAreKept, RepliesStayReadable, RepliesAreSpared};
+ghost use Rattle.visible_spool.specs.Laws.{RepliesAreKept, RepliesStayReadable, RepliesAreSpared, TextsWithoutRows};
+ghost use Rattle.visible_spool.specs.SpoolLaws.{StaysSpooling, StillPushed};
 
 /// Rows stay where their pages stay.
 pub fn replies_are_kept()
@@ -15,4 +16,15 @@ pub fn replies_stay_readable()
 /// Rows stay where no page between two of their half changed.
 pub fn replies_are_spared()
     ensures spared { RepliesAreSpared }
+{}
+
+/// A text of which no row came has no reply for any table.
+pub fn texts_without_rows()
+    ensures none { TextsWithoutRows }
+{}
+
+/// What is at hand in the spool stays where its area and its buffer stay.
+pub fn the_spool_is_spared()
+    ensures stays { StaysSpooling }
+    ensures pushed { StillPushed }
 {}

@@ -4,6 +4,7 @@
 //! A row is written as it comes, its identifier in four bytes and the asked cells; the identifiers of a reply ascend.
 #![tactic(auto)]
 
+pub mod area;
 mod cells;
 pub mod find;
 pub mod half;
@@ -13,7 +14,10 @@ pub mod laws;
 pub mod reply;
 pub mod row;
 pub mod search;
+pub mod sides;
+pub mod spool;
 
 pub use half::Half;
 pub use reply::Reply;
 pub use row::SpoolRow;
+pub use spool::Spool;

@@ -1,7 +1,5 @@
-use Rattle.std.proofs.Common.{◌≡◌, ◌∙◌, ◌<◌, ◌≤◌, ◌+◌, refl, ℕ, List, true, arith}
-use Rattle.edge_traits.proofs.DeviceFrames.{changes_wider}
-use Rattle.visible_spool.specs.Hands.{area_end}
-use Rattle.visible_spool.proofs.HandLemmas.{finish_can, finish_changes, ended_readable}
+use Rattle.std.proofs.Common.{refl}
+use Rattle.visible_spool.proofs.HandLemmas.{finish_can, finish_changes, ended_readable, ended_within}
 use Rattle.visible_spool.proofs.hand.Hand.finish.Goals as goal
 
 pub finish-requires-clause-can : goal.finish-requires-clause-can
@@ -22,4 +20,10 @@ pub returns-in-Ok-clause-readable : goal.returns-in-Ok-clause-readable
 returns-in-Ok-clause-readable g c =
     let run = c.in-Ok.ensures.run in
     ended_readable (g.F.Flash.state c.args.flash.now) (g.F.Flash.state c.finish.new.flash) c.args.self.now _ c.requires.can c.finish.ensures.writes.others.page_count
+    (record { first = run.first; count = run.count; width = run.width; rows = refl; cells = refl; kinds = refl })
+
+pub returns-in-Ok-clause-lies : goal.returns-in-Ok-clause-lies
+returns-in-Ok-clause-lies g c =
+    let run = c.in-Ok.ensures.run in
+    ended_within (g.F.Flash.state c.args.flash.now) c.args.self.now _ c.requires.can
     (record { first = run.first; count = run.count; width = run.width; rows = refl; cells = refl; kinds = refl })

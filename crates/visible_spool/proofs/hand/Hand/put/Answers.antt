@@ -1,4 +1,4 @@
-use Rattle.std.proofs.Common.{◌≡◌, ◌∙◌, ◌<◌, ◌≤◌, ◌+◌, ◌^◌, ℕ, Bool, List, subst, true, arith}
+use Rattle.std.proofs.Common.{◌∙◌, Bool, subst, arith}
 use Rattle.edge_traits.proofs.DeviceFrames.{changes_wider}
 use Rattle.visible_spool.specs.Hands.{area_end}
 use Rattle.flash_pages.specs.Writing.{IsEntered}

@@ -1,4 +1,4 @@
-use Rattle.std.proofs.Common.{◌≡◌, ◌∙◌, subst, ℕ, ◌-◌, arith}
+use Rattle.std.proofs.Common.{◌∙◌, subst}
 use Rattle.visible_spool.specs.declared.search.Looking.{Looking}
 use Rattle.visible_spool.specs.Searches.{TurnNarrows, IsNarrowed}
 use Rattle.visible_spool.proofs.Narrowing.{fewer_left}

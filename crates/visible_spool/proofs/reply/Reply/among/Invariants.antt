@@ -1,4 +1,4 @@
-use Rattle.std.proofs.Common.{◌≡◌, ◌<◌, ◌≤◌, ◌+◌, ◌-◌, ℕ}
+use Rattle.std.proofs.Common.{◌<◌, ◌≤◌, ◌+◌, ◌-◌, ℕ}
 use Rattle.visible_spool.specs.Searches.{Ascend, id_at}
 use Rattle.visible_spool.proofs.reply.Reply.among.Given as goal
 

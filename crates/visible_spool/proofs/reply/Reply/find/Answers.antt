@@ -1,9 +1,9 @@
-use Rattle.std.proofs.Common.{◌≡◌, ◌<◌, ◌+◌, ◌^◌, subst, sym, ap, ℕ, true, List, Option, Ok, arith}
+use Rattle.std.proofs.Common.{◌+◌, subst, sym, ap, ℕ, List, Option, Ok, arith}
 use Rattle.ghost_model.specs.core.Asks.{RowCells}
 use Rattle.page_pool.specs.Pools.{page_at}
 use Rattle.visible_spool.specs.declared.search.Step.{Step}
 use Rattle.visible_spool.specs.Replies.{HoldsRows}
-use Rattle.visible_spool.specs.Searches.{IsSought, IsFewer, StepFinds, StepStands, is_more, calls_if, step_calls}
+use Rattle.visible_spool.specs.Searches.{IsFewer, StepFinds, StepStands, is_more, calls_if, step_calls}
 use Rattle.visible_spool.proofs.Finding.{HasFound, call_left, one_call}
 use Rattle.visible_spool.proofs.Frames.{then_pages, calm, answered, faulted, failed, quiet}
 use Rattle.visible_spool.proofs.reply.Reply.find.Goals as goal

@@ -1,8 +1,7 @@
-use Rattle.std.proofs.Common.{◌≡◌, ◌∙◌, ap, sym, ℕ, ◌+◌, ◌-◌, List, length, map, take, arith}
+use Rattle.std.proofs.Common.{◌≡◌, ◌∙◌, ap, ◌+◌, ◌-◌, arith}
 use Rattle.ghost_base.specs.declared.runs.ListRef.{ListRef}
 use Rattle.ghost_base.specs.Runs.{run_of}
 use Rattle.ghost_model.specs.forms.Runs.{ids_from}
-use Rattle.visible_spool.specs.Replies.{id_of_bytes}
 use Rattle.visible_spool.proofs.Identifiers.{all_ids}
 use Rattle.visible_spool.proofs.reply.Reply.ids.Goals as goal
 

@@ -1,4 +1,4 @@
-use Rattle.std.proofs.Common.{◌≡◌, ◌∙◌, ◌+◌, ◌<◌, ◌≤◌, ◌^◌, Fits, w32, ℕ, List, arith}
+use Rattle.std.proofs.Common.{◌∙◌, arith}
 use Rattle.visible_spool.proofs.Readable.{page_there}
 use Rattle.visible_spool.proofs.reply.Reply.look.Goals as goal
 

@@ -1,4 +1,4 @@
-use Rattle.std.proofs.Common.{◌≡◌, ◌∙◌, ap, ◌+◌, ◌-◌, ◌≤◌, ℕ, List, arith}
+use Rattle.std.proofs.Common.{◌≡◌, ◌∙◌, ap, ◌+◌, ◌-◌, arith}
 use Rattle.visible_spool.proofs.reply.Reply.look_at.Goals as goal
 
 pub returns-clause-finds : goal.returns-clause-finds

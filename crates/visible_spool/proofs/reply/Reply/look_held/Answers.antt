@@ -1,4 +1,4 @@
-use Rattle.std.proofs.Common.{◌≡◌, ◌∙◌, subst, sym, ℕ, true, List, Option}
+use Rattle.std.proofs.Common.{◌≡◌, ◌∙◌, subst, sym, ℕ, true, Option}
 use Rattle.std.specs.Prelude.{IfSome}
 use Rattle.page_pool.specs.Pools.{bytes_at}
 use Rattle.visible_spool.proofs.reply.Reply.look_held.Goals as goal

@@ -1,4 +1,4 @@
-use Rattle.std.proofs.Common.{◌≡◌, ◌≤◌, ◌<◌, sym, refl, arith, ℕ, List}
+use Rattle.std.proofs.Common.{refl, arith}
 use Rattle.visible_spool.proofs.Narrowing.{ends_left}
 use Rattle.visible_spool.proofs.reply.Reply.looking.Goals as goal
 

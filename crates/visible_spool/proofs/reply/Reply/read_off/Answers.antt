@@ -1,8 +1,7 @@
-use Rattle.std.proofs.Common.{◌≡◌, ◌∙◌, ap, sym, subst, refl, ℕ, ◌+◌, ◌*◌, ◌/◌, ◌<◌, ◌≤◌, List, length, arith}
-use Rattle.ghost_model.specs.core.Asks.{RowCells, row_in}
+use Rattle.std.proofs.Common.{◌∙◌, ap, sym, subst, refl, ◌+◌, ◌*◌, arith}
+use Rattle.ghost_model.specs.core.Asks.{row_in}
 use Rattle.edge_traits.specs.Devices.{GaveSince}
-use Rattle.flash_pages.specs.declared.fault.PageFault.{PageFault}
-use Rattle.visible_spool.specs.Replies.{IsRowOf, IsFlash, Blames, StandsIn}
+use Rattle.visible_spool.specs.Replies.{IsRowOf, Blames}
 use Rattle.visible_spool.specs.Searches.{row_at}
 use Rattle.visible_spool.proofs.Readable.{IsPage, page_of_rows, its_page}
 use Rattle.visible_spool.proofs.RowsHere.{rows_from, rows_to, nowhere, row_found, not_wrong}

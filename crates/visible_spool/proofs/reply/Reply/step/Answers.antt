@@ -1,6 +1,5 @@
-use Rattle.std.proofs.Common.{◌≡◌, ◌∙◌, subst, sym, ℕ, true, List}
-use Rattle.visible_spool.specs.Replies.{HoldsRows}
-use Rattle.visible_spool.specs.Searches.{TurnFinds, TurnLeaves, LeavesElsewhere, IsSoughtAmong, LooksLeft}
+use Rattle.std.proofs.Common.{subst}
+use Rattle.visible_spool.specs.Searches.{TurnFinds, TurnLeaves, LeavesElsewhere}
 use Rattle.page_pool.specs.Pools.{page_at}
 use Rattle.visible_spool.proofs.Narrowing.{looks_kept}
 use Rattle.visible_spool.proofs.reply.Reply.step.Goals as goal

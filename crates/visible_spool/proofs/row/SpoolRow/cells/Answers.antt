@@ -1,4 +1,4 @@
-use Rattle.std.proofs.Common.{◌≡◌, ◌≤◌, ap, sym, ◌∙◌, take}
+use Rattle.std.proofs.Common.{ap, sym, ◌∙◌}
 use Rattle.visible_spool.proofs.RowBytes.{behind_four}
 use Rattle.visible_spool.proofs.row.SpoolRow.cells.Goals as goal
 

@@ -1,4 +1,4 @@
-use Rattle.std.proofs.Common.{◌≡◌, ◌≤◌, ap, sym, ◌∙◌, take}
+use Rattle.std.proofs.Common.{ap, sym, ◌∙◌}
 use Rattle.visible_spool.proofs.RowBytes.{first_four}
 use Rattle.visible_spool.proofs.row.SpoolRow.identifier.Goals as goal
 
