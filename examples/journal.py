@@ -28,6 +28,11 @@ def amount(count, word):
     return '%d %s%s' % (count, word, '' if count == 1 else 's')
 
 
+def plain(text):
+    """A text without control characters: a question mark in the place of each."""
+    return ''.join(it if it.isprintable() else '?' for it in text)
+
+
 def shown(parts, most):
     more = len(parts) - most
     return ', '.join(parts[:most]) + (' and %d more' % more if more > 0 else '')

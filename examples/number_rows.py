@@ -21,6 +21,9 @@ import os
 import re
 import sys
 
+sys.dont_write_bytecode = True
+from journal import plain
+
 TOKEN = re.compile(r'[ \t\n\r]*([A-Za-z_][A-Za-z0-9_]*|[0-9]+|[(),;]|\Z)')
 SPACE = re.compile(r'[ \t\n\r]*')
 INTEGER = re.compile(r'[+-]?[0-9]+')
@@ -110,11 +113,6 @@ class Schema:
 def fault(file, line, column, what):
     where = ', column %s' % column if column else ''
     return Refused('%s, line %d%s: %s' % (file, line, where, what))
-
-
-def plain(text):
-    """A text without control characters: a question mark in the place of each."""
-    return ''.join(it if it.isprintable() else '?' for it in text)
 
 
 def shown(field):

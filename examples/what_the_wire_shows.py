@@ -22,7 +22,7 @@ import sys
 import textwrap
 
 sys.dont_write_bytecode = True
-from journal import Refused, amount, read_journal, row_words, shown
+from journal import Refused, amount, plain, read_journal, row_words, shown
 
 BROKEN = ('link', 'protocol', 'host', 'flash', 'damaged')
 MOST_DRAWN = 1000
@@ -286,7 +286,8 @@ def tell(words):
     if words.lines:
         boxes.append(('What the key kept', kept_words(wire, words.lines, words.script)))
     if other:
-        boxes.append(('Beside %s' % words.beside, beside_words(wire, other, words.journal, words.beside)))
+        name, name2 = plain(words.journal), plain(words.beside)
+        boxes.append(('Beside %s' % name2, beside_words(wire, other, name, name2)))
     for headline, lines in boxes:
         print('\n%s' % headline, *lines, sep='\n')
     unlike = set(unlike_moves(wire, other)) if other else set()
@@ -307,9 +308,9 @@ def main():
     try:
         return tell(given)
     except OSError as fault:
-        print('%s: %s' % (fault.filename, fault.strerror), file=sys.stderr)
+        print(plain('%s: %s' % (fault.filename, fault.strerror)), file=sys.stderr)
     except Refused as fault:
-        print(fault, file=sys.stderr)
+        print(plain(str(fault)), file=sys.stderr)
     return 2
 
 

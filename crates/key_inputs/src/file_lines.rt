@@ -28,7 +28,10 @@ fn begins_on(alloc: Global, file: &[u8], rec: u32, line: u32) -> bool
 {
     let up_to = first_lines(file, line);
     let before = first_lines(file, line.saturating_sub(1));
-    match (spells_many(alloc, up_to, rec), spells_many(alloc, before, rec)) {
+    match (
+        spells_many(alloc, up_to, rec),
+        spells_many(alloc, before, rec),
+    ) {
         (Some(true), Some(false)) => true,
         _ => false,
     }

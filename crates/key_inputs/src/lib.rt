@@ -13,8 +13,8 @@ pub mod laws;
 pub mod names;
 mod naming;
 pub mod opening;
-mod schema_names;
 mod record_search;
+mod schema_names;
 pub mod script;
 pub mod shown;
 
