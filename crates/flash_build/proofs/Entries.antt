@@ -119,7 +119,7 @@ module _ (cat : Catalog) (hidden : Hidden) (table : ℕ) (own : List ℕ) where
   }
 
 -- the places of rows
-places_of : (n : ℕ) (rows : List ℕ) → ((k : ℕ) → k < length rows → (0 < get_or rows k 0) × (get_or rows k 0 ≤ n))
+pub places_of : (n : ℕ) (rows : List ℕ) → ((k : ℕ) → k < length rows → (0 < get_or rows k 0) × (get_or rows k 0 ≤ n))
     → of_referred (below n) rows ≡ map (λ row. row - 1) rows
 places_of n [] each = refl
 places_of n (row ∷ rows) each =

@@ -69,7 +69,7 @@ default_same (x ∷ xs) zero d e low = refl
 default_same (x ∷ xs) (suc k) d e low = default_same xs k d e (omega (arith, low))
 
 module _ (cat : Catalog) (hidden : Hidden) (from below : ℕ) (keys : List ℤ) (are : AreKeys cat hidden from below keys) where
-  key_bounds : (p : ℕ) → p < count_of cat from → (1 ≤ get_or (map identifier_of keys) p 0) × (get_or (map identifier_of keys) p 0 ≤ count_of cat below)
+  pub key_bounds : (p : ℕ) → p < count_of cat from → (1 ≤ get_or (map identifier_of keys) p 0) × (get_or (map identifier_of keys) p 0 ≤ count_of cat below)
   key_bounds p low =
       let within : p < length keys = omega (arith, low, are.long) in
       let good = among_bounds (count_of cat below) (slice_index_or keys p (pos 0)) (are.named p (pos 0) within) in

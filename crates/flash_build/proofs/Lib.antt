@@ -11,3 +11,5 @@ pub mod HiddenValues
 pub mod IndexPlaces
 pub mod IdEntries
 pub mod ValueEntries
+pub mod FirstLevels
+pub mod TextHeads

@@ -1,9 +1,10 @@
 -- The records of a column file's source.
-use Rattle.std.specs.Prelude.{ℕ, List}
-use Rattle.ghost_model.specs.core.Database.{rows_of}
-use Rattle.ghost_base.specs.Views.{kind_of}
+use Rattle.std.specs.Prelude.{ℕ, List, map}
+use Rattle.ghost_model.specs.forms.Cells.{padded}
+use Rattle.index_lists.specs.Ranks.{number_cells}
 use Rattle.flash_build.specs.declared.source.ColumnCells.{ColumnCells}
-use Rattle.flash_build.specs.Cells.{cells_at}
+use Rattle.flash_build.specs.declared.source.ColumnCells.TheVariants as source
 
 abbrev pub cells_of : ColumnCells → List (List ℕ)
-cells_of source = cells_at (kind_of source.kind) source.place (rows_of source.hidden.now.hidden source.table)
+cells_of (source.Numbers column) = number_cells column.numbers.now
+cells_of (source.Texts column) = map (padded column.width) column.texts.now.texts

@@ -1,13 +1,11 @@
 //! The column files of a table.
 
 ghost use Rattle.std.specs.Prelude.{◌≡◌, ◌<◌, ◌+◌, ℕ, true, [], length, get_or, OnOk};
-ghost use Rattle.ghost_model.specs.core.Asks as asks;
 ghost use Rattle.ghost_model.specs.forms.Flash.{hidden_cells};
 ghost use Rattle.ghost_model.specs.forms.Layout as layout;
 ghost use Rattle.ghost_model.specs.laws.LayoutSums as sums;
 ghost use Rattle.ghost_model.specs.forms.Runs.{Stores};
 ghost use Rattle.flash_pages.specs.Filling.{CanFill};
-ghost use Rattle.ghost_base.specs.Views.{kind_of};
 ghost use Rattle.flash_build.specs.Sources.{cells_of};
 ghost use Rattle.flash_build.specs.Building.{Wrote};
 ghost use Rattle.ghost_model.specs.forms.Flash.{IsHidden};
@@ -16,23 +14,14 @@ use crate::faults::BuildFault;
 use crate::keys::hidden_before;
 use crate::places::{columns, layout_laws};
 use crate::source::ColumnCells;
+use crate::texts::TextCells;
 use crate::writing::write_records;
-use csv_split::Hidden;
+use csv_split::{Cells, Hidden};
 use edge_traits::flash::Flash;
 use flash_layout::Layout;
-use ghost_base::Kind;
+use index_lists::Numbers;
 
-/// What a column holds; where there is no such column, texts of no bytes.
-fn kind_at(laid: &Layout<'_>, table: usize, column: usize) -> Kind
-    ensures kind { kind_of result ≡ asks.kind_at laid.now.schema table column }
-{
-    match laid.kind(table, column) {
-        None => Kind::Chars(0),
-        Some(kind) => kind,
-    }
-}
-
-/// The cells of a hidden column.
+/// The cells of a hidden column, as they lie in memory.
 pub(crate) fn column_cells<'h>(
     laid: &Layout<'_>,
     hidden: &'h Hidden,
@@ -50,12 +39,11 @@ pub(crate) fn column_cells<'h>(
     ghost_model::flash::hidden_cells_fit();
     ghost_model::flash::hidden_values_by_place();
     ghost_model::flash::hidden_values_of_databases();
-    ColumnCells {
-        hidden,
-        table,
-        place: hidden_before(laid, table, column),
-        kind: kind_at(laid, table, column),
-        rows: hidden.rows(table),
+    let width = laid.width(table, column);
+    match hidden.column(table, hidden_before(laid, table, column)) {
+        None => ColumnCells::Numbers(Numbers { numbers: &[] }),
+        Some(Cells::Numbers(numbers)) => ColumnCells::Numbers(Numbers { numbers }),
+        Some(Cells::Texts(texts)) => ColumnCells::Texts(TextCells { texts, width }),
     }
 }
 

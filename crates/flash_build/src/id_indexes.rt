@@ -1,15 +1,17 @@
 //! Id indexes.
 
-ghost use Rattle.std.specs.Prelude.{◌≡◌, ◌<◌, ◌+◌, true, false, [], List, length, drop, map, replicate, IfOk, OnOk};
+ghost use Rattle.std.specs.Prelude.{◌≡◌, ◌<◌, ◌+◌, true, false, [], List, length, drop, get_or, map, replicate, IfOk, OnOk};
 ghost use Rattle.ghost_model.specs.core.Schema as schemas;
 ghost use Rattle.ghost_model.specs.forms.Flash.{IsHidden};
 ghost use Rattle.ghost_model.specs.forms.Layout as layout;
 ghost use Rattle.ghost_model.specs.laws.LayoutSums as sums;
+ghost use Rattle.index_lists.specs.Lists.{AreListed};
 ghost use Rattle.flash_pages.specs.Filling.{CanFill};
 ghost use Rattle.flash_build.specs.Building.{HoldsIdIndex, Wrote};
 ghost use Rattle.flash_build.specs.Levels.{AreRankedAbove, items_of};
 
 use crate::faults::BuildFault;
+use crate::keys::keys_of;
 use crate::levels::{level_ranks, numbers_from};
 use crate::places::layout_laws;
 use crate::writing::write_entries;
@@ -18,7 +20,8 @@ use edge_traits::flash::Flash;
 use flash_layout::Layout;
 use index_files::NoHeads;
 use index_files::laws::level_files_of_tables;
-use index_lists::laws::id_lists_by_ranks;
+use index_lists::laws::{id_lists_by_ranks, key_orders_are_lists, levels_compose};
+use index_lists::{Numbers, order_rows};
 use std::alloc::{AllocError, Global};
 
 /// The ranks of the rows of a table and of those above it in the table's id index: at the table itself the place of each row.
@@ -34,6 +37,30 @@ fn id_ranks(
 {
     let places = numbers_from(alloc, 0, laid.rows(table))?;
     level_ranks(alloc, laid, hidden, table, places)
+}
+
+/// The ranks of the rows at each level of a table's id index, and the rows of the table above in the order of their foreign
+/// keys.
+fn id_rows(
+    alloc: Global,
+    laid: &Layout<'_>,
+    hidden: &Hidden,
+    table: usize,
+) -> Result<(Vec<Vec<u32>>, Vec<u32>), AllocError>
+    requires part { IsHidden laid.now hidden.now }
+    requires there { table < length laid.now.schema }
+    requires some { schemas.is_empty (layout.above_of laid.now.schema table) ≡ false }
+    ensures ranked { IfOk result (λ two. AreRankedAbove laid.now hidden.now table (layout.below (layout.count_of laid.now table)) (layout.levels_of laid.now.schema table) (map items_of two.0.items)) }
+    ensures rows { IfOk result (λ two. AreListed (get_or (map items_of two.0.items) 1 []) (layout.count_of laid.now table) two.1.items) }
+{
+    layout_laws(laid);
+    ghost_model::layout::levels_are_ancestors();
+    key_orders_are_lists();
+    levels_compose();
+    let all = id_ranks(alloc, laid, hidden, table)?;
+    let keys = keys_of(laid, hidden, laid.above(table)[0], table);
+    let rows = order_rows(alloc, &Numbers { numbers: keys })?;
+    Ok((all, rows))
 }
 
 /// The levels behind the first one.
@@ -70,11 +97,20 @@ fn write_some<F: Flash>(
     let heads = NoHeads {
         entries: directory.count,
     };
-    match id_ranks(alloc, laid, hidden, table) {
+    match id_rows(alloc, laid, hidden, table) {
         Err(_) => Err(BuildFault::NoMemory),
-        Ok(all) => {
+        Ok((all, rows)) => {
             let levels = but_first(&all);
-            write_entries(alloc, flash, buf, &heads, levels, directory, lowest.first)
+            write_entries(
+                alloc,
+                flash,
+                buf,
+                &heads,
+                levels,
+                &rows,
+                directory,
+                lowest.first,
+            )
         }
     }
 }

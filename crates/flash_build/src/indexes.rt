@@ -7,6 +7,7 @@ ghost use Rattle.ghost_model.specs.forms.Runs.{pages_of};
 ghost use Rattle.ghost_model.specs.forms.Layout as layout;
 ghost use Rattle.ghost_model.specs.laws.LayoutSums as sums;
 ghost use Rattle.ghost_model.specs.laws.WorkLaws.{index_written, indexes_written};
+ghost use Rattle.index_lists.specs.Lists.{AreListed};
 ghost use Rattle.index_lists.specs.Ranks.{Ranks, cells_of_rows};
 ghost use Rattle.flash_pages.specs.Filling.{CanFill};
 ghost use Rattle.flash_build.specs.Building.{HoldsEntries, Wrote, entries_written};
@@ -43,6 +44,7 @@ fn write_ranked<F: Flash>(
     requires ranks { Ranks (hidden_cells laid.now.schema hidden.now table column) ranking.ranks.items ranking.shown.items }
     requires below { All (λ rank. rank < length ranking.shown.items) ranking.ranks.items }
     requires few { length ranking.shown.items ≤ layout.count_of laid.now table }
+    requires lists { AreListed ranking.ranks.items (length ranking.shown.items) ranking.rows.items }
     requires can { CanFill (F.state flash.old) (sums.index_begin laid.now table column + 1) (sums.directory_pages laid.now table column + sums.levels_pages laid.now (layout.levels_of laid.now.schema table)) }
     ensures holds { OnOk result (F.told ≡ true → HoldsEntries (F.state flash.new).page laid.now hidden.now table column (cells_of_rows (hidden_cells laid.now.schema hidden.now table column) ranking.shown.items)) }
     ensures wrote { Wrote (sums.index_begin laid.now table column + 1) (sums.index_begin laid.now table column + sums.index_pages laid.now table column) (entries_written laid.now table column (length ranking.shown.items)) (F.state flash.old) (F.state flash.new) result }
@@ -53,7 +55,7 @@ fn write_ranked<F: Flash>(
     ghost_model::flash::hidden_cells_fit();
     value_lists_by_ranks();
     level_files_of_tables();
-    let Ranking { ranks, shown } = ranking;
+    let Ranking { ranks, shown, rows } = ranking;
     let room = laid.index_directory(table, column);
     let values = shown.len() as u32;
     let directory = Run {
@@ -69,7 +71,7 @@ fn write_ranked<F: Flash>(
     };
     match level_ranks(alloc, laid, hidden, table, ranks) {
         Err(_) => Err(BuildFault::NoMemory),
-        Ok(all) => write_entries(alloc, flash, buf, &heads, &all, directory, own.first),
+        Ok(all) => { write_entries(alloc, flash, buf, &heads, &all, &rows, directory, own.first) },
     }
 }
 
@@ -90,6 +92,7 @@ fn write_whole<F: Flash>(
     requires ranks { Ranks (hidden_cells laid.now.schema hidden.now table column) ranking.ranks.items ranking.shown.items }
     requires below { All (λ rank. rank < length ranking.shown.items) ranking.ranks.items }
     requires few { length ranking.shown.items ≤ layout.count_of laid.now table }
+    requires lists { AreListed ranking.ranks.items (length ranking.shown.items) ranking.rows.items }
     requires can { CanFill (F.state flash.old) (sums.index_begin laid.now table column) (sums.index_pages laid.now table column) }
     ensures holds { OnOk result (F.told ≡ true → HoldsIndex (F.state flash.new).page laid.now hidden.now table column) }
     ensures wrote { Wrote (sums.index_begin laid.now table column) (sums.index_begin laid.now table column + sums.index_pages laid.now table column) (index_written laid.now hidden.now table column) (F.state flash.old) (F.state flash.new) result }

@@ -23,6 +23,7 @@ mod shown;
 mod source;
 mod subtrees;
 mod tables;
+mod texts;
 mod values;
 mod writing;
 

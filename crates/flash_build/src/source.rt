@@ -1,47 +1,47 @@
 //! The cells of a hidden column, as records of its file.
 
-ghost use Rattle.std.specs.Prelude.{◌≡◌, List, ℕ};
-ghost use Rattle.ghost_model.specs.core.Database.{rows_of, row_count};
-ghost use Rattle.ghost_base.specs.Views.{kind_of};
-ghost use Rattle.flash_build.specs.Cells.{AreOfKind, cells_at};
+ghost use Rattle.std.specs.Prelude.{◌≡◌, ◌<◌, List, ℕ, [], length, get_or};
+ghost use Rattle.index_lists.specs.Ranks.{number_cells};
+ghost use Rattle.flash_build.specs.Sources.{cells_of};
 
-use csv_split::Hidden;
+use crate::texts::TextCells;
 use flash_pages::filling::Records;
-use ghost_base::{Kind, cell_width, encode_cell};
+use ghost_base::{Kind, Value, encode_cell};
+use index_lists::{Column, Numbers};
 
-/// The cells of a hidden column, row by row.
+/// The cells of a hidden column, row by row, as they lie in memory.
 #[derive(Drop)]
-pub struct ColumnCells<'h> {
-    /// The hidden part.
-    pub hidden: &'h Hidden,
-    /// The table.
-    pub table: usize,
-    /// The column's place among the hidden ones of its table.
-    pub place: usize,
-    /// What the column holds.
-    pub kind: Kind,
-    /// The rows of the table.
-    pub rows: u32,
-    ghost counted: { rows ≡ row_count hidden.now.hidden table },
-    ghost kinds: { AreOfKind (kind_of kind) place (rows_of hidden.now.hidden table) },
+pub(crate) enum ColumnCells<'h> {
+    /// Those of an INTEGER column, which are made of its integers.
+    Numbers(Numbers<'h>),
+    /// Those of a CHAR column.
+    Texts(TextCells<'h>),
 }
 
 impl<'h> Records for ColumnCells<'h> {
-    ghost records = { λ cells. cells_at (kind_of cells.kind) cells.place (rows_of cells.hidden.now.hidden cells.table) };
+    ghost records = { cells_of };
 
     fn count(&self) -> u32 {
-        self.rows
+        match self {
+            ColumnCells::Numbers(column) => column.rows(),
+            ColumnCells::Texts(column) => column.count(),
+        }
     }
 
     fn record<'a>(&'a self, i: u32, room: &'a mut [u8; 256]) -> &'a [u8] {
-        let _rows = self.rows;
-        match self.hidden.value(self.table, i + 1, self.place) {
-            None => &[],
-            Some(value) => {
-                let cell = &mut room[..cell_width(self.kind)];
-                encode_cell(self.kind, &value, cell);
-                cell
-            }
+        match self {
+            ColumnCells::Numbers(column) => number_in(column.numbers, i, room),
+            ColumnCells::Texts(column) => column.record(i, room),
         }
     }
+}
+
+/// The cell of the integer of a row, which is counted from 0.
+fn number_in<'r>(numbers: &[i64], row: u32, room: &'r mut [u8; 256]) -> &'r [u8]
+    requires there { row < length numbers.now }
+    ensures cell { result.now ≡ get_or (number_cells numbers.now) row [] }
+{
+    let cell = &mut room[..8];
+    encode_cell(Kind::Integer, &Value::Int(numbers[row as usize]), cell);
+    cell
 }

@@ -10,7 +10,7 @@ use Rattle.ghost_model.specs.forms.Flash.{list_records}
 use Rattle.edge_traits.specs.Devices.{Device}
 use Rattle.flash_pages.specs.Filling.{CanFill}
 use Rattle.flash_pages.proofs.RunFrames.{can_fill_part, can_fill_kept, stores_below}
-use Rattle.index_lists.specs.Lists.{lists_of}
+use Rattle.index_lists.specs.Lists.{identifiers_of, lists_of}
 use Rattle.index_files.specs.Files.{items_of, ranks_of, counts_of, level_pages, level_file}
 use Rattle.index_files.specs.Laws.{pages_of_levels}
 use Rattle.index_files.specs.Writing.{Writes}
@@ -78,6 +78,14 @@ rows_records rows lists same = sym (mapped rows) ∙ ap (map number_cell) same
     mapped : (pairs : List (ℕ × ℕ)) → map number_cell (map (λ (row : ℕ × ℕ). row.1) pairs) ≡ map (λ row. number_cell row.1) pairs
     mapped [] = refl
     mapped (pair ∷ pairs) = ap (λ cells. number_cell pair.1 ∷ cells) (mapped pairs)
+
+-- the identifiers of rows that are counted from 0
+pub ordered_records : (rows : List ℕ) (lists : List (List ℕ)) → identifiers_of rows ≡ concat lists → map (λ row. number_cell (row + 1)) rows ≡ list_records lists
+ordered_records rows lists same = sym (mapped rows) ∙ ap (map number_cell) same
+  where
+    mapped : (rows : List ℕ) → map number_cell (identifiers_of rows) ≡ map (λ row. number_cell (row + 1)) rows
+    mapped [] = refl
+    mapped (row ∷ rows) = ap (λ cells. number_cell (row + 1) ∷ cells) (mapped rows)
 
 -- one level more is written
 pub levels_more :

@@ -5,7 +5,7 @@ ghost use Rattle.std.specs.List.{All};
 ghost use Rattle.ghost_model.specs.forms.Flash.{list_records};
 ghost use Rattle.ghost_model.specs.forms.Runs.{Stores, number_cell, pages_of};
 ghost use Rattle.flash_pages.specs.Filling.{CanFill};
-ghost use Rattle.index_lists.specs.Lists.{AreListed, identifiers_of, lists_of};
+ghost use Rattle.index_lists.specs.Lists.{AreListed, lists_of};
 ghost use Rattle.index_files.specs.Files.{counts_of, level_file, level_pages, ranks_of};
 ghost use Rattle.index_files.specs.Writing.{Writes};
 
@@ -52,7 +52,7 @@ pub(crate) struct OrderedRows<'r> {
 }
 
 impl<'r> Records for OrderedRows<'r> {
-    ghost records = { λ source. map number_cell (identifiers_of source.rows.now) };
+    ghost records = { λ source. map (λ row. number_cell (row + 1)) source.rows.now };
 
     fn count(&self) -> u32 {
         self.rows.len() as u32

@@ -5,11 +5,13 @@ use Rattle.std.proofs.lemmas.List.{length-map}
 use Rattle.ghost_model.specs.forms.Layout as layout
 use Rattle.ghost_model.specs.forms.Flash.{HoldsLists, hidden_cells}
 use Rattle.index_lists.specs.Ranks.{Ranks, cells_of_rows}
+use Rattle.index_lists.specs.Lists.{AreListed}
 use Rattle.flash_build.specs.Sources.{cells_of}
 use Rattle.flash_build.specs.Levels.{AreRankedAbove, items_of}
 use Rattle.flash_build.proofs.HiddenCells.{part_fits}
 use Rattle.flash_build.proofs.Writes.{on_ok}
 use Rattle.flash_build.proofs.Entries.{own_there}
+use Rattle.flash_build.proofs.FirstLevels.{own_ranks}
 use Rattle.flash_build.proofs.ValueEntries as entries
 use Rattle.flash_build.proofs.indexes.write_ranked.Goals as goal
 
@@ -99,6 +101,24 @@ write_entries-requires-clause-ranked g c =
     let levels = subst (λ (vs : List (Vec ℕ Global)). AreRankedAbove cat c.args.hidden.now table c.args.ranking.ranks.items (layout.levels_of cat.schema table) (map items_of vs)) (sym c.deref-in-Ok.ensures.value) c.in-Ok.ensures.ranked in
     let count : c.len-values.result ≡ length c.args.ranking.shown.items = c.len-values.ensures ∙ c.args.ranking.shown.ok.0 in
     entries.each_ranked cat c.args.hidden.now table c.args.column laid c.requires.hidden own fit c.args.ranking.ranks.items c.args.ranking.shown.items c.requires.ranks c.requires.below c.requires.few _ _ c.index_directory-room.ensures.run c.index_level-own.ensures.run c.deref-in-Ok.result.now levels c.len-values.result count
+
+pub write_entries-requires-clause-rows : goal.write_entries-requires-clause-rows
+write_entries-requires-clause-rows g c = λ some.
+    let cat = c.args.laid.now in
+    let hidden = c.args.hidden.now in
+    let table = c.args.table in
+    let laid = c.layout_laws.ensures.layout in
+    let there = (laid.order.there_are table c.args.column c.requires.hidden).0 in
+    let own = own_there cat.schema c.levels_are_ancestors.ensures laid.tree table there in
+    let fit = part_fits cat hidden laid.tree c.hidden_parts_go_with_catalogs.ensures c.hidden_cells_fit.ensures c.requires.part in
+    let ranks = c.args.ranking.ranks.items in
+    let long = entries.ranks_long cat hidden table c.args.column ranks c.args.ranking.shown.items fit c.requires.hidden c.requires.ranks in
+    let first = own_ranks cat hidden c.levels_are_ancestors.ensures laid.tree c.requires.part table there own ranks long (map items_of c.in-Ok.all.items) c.in-Ok.ensures.ranked in
+    let all = ap (λ (vs : List (Vec ℕ Global)). get_or (map items_of vs) 0 []) c.deref-in-Ok.ensures.value in
+    let count : c.len-values.result ≡ length c.args.ranking.shown.items = c.len-values.ensures ∙ c.args.ranking.shown.ok.0 in
+    subst (λ (rs : List ℕ). AreListed rs c.len-values.result c.deref-in-Ok-2.result.now) (sym (all ∙ first))
+    (subst (λ n. AreListed ranks n c.deref-in-Ok-2.result.now) (sym count)
+    (subst (λ (xs : List ℕ). AreListed ranks (length c.args.ranking.shown.items) xs) (sym c.deref-in-Ok-2.ensures.value) c.requires.lists))
 
 pub write_entries-requires-clause-order : goal.write_entries-requires-clause-order
 write_entries-requires-clause-order g c =
