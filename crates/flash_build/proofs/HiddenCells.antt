@@ -76,19 +76,6 @@ cell_of_row kind place rows i within =
     ∙ sym (ap (λ n. cell_if_any kind (value_at rows n place)) e
     ∙ ap (λ o. cell_if_any kind (option_and_then (λ row. slice_get row place) o)) (slice_get-get_or rows i [] less))
 
--- the source of a column file, as it is made: its kind and place under equations
-pub source_kinds :
-    {kind same_kind : Kind} {place same_place : ℕ} {rows : Rows} → kind ≡ same_kind → place ≡ same_place → AreOfKind same_kind same_place rows
-    → AreOfKind kind place rows
-source_kinds {kind = kind} {same_place = same_place} {rows = rows} is at are =
-    subst (λ p. AreOfKind kind p rows) (sym at) (subst (λ k. AreOfKind k same_place rows) (sym is) are)
-
-pub source_cells :
-    {kind same_kind : Kind} {place same_place : ℕ} {kept : List (List ℕ)} (rows : Rows) → kind ≡ same_kind → place ≡ same_place
-    → cells_at same_kind same_place rows ≡ kept → cells_at kind place rows ≡ kept
-source_cells {kind = kind} {same_place = same_place} rows is at same =
-    ap (λ p. cells_at kind p rows) at ∙ (ap (λ k. cells_at k same_place rows) is ∙ same)
-
 -- a hidden part's cells fit its catalog
 pub part_fits :
     (cat : Catalog) (hidden : Hidden) → IsTree cat.schema → HiddenPartsGoWithCatalogs → HiddenCellsFit → IsHidden cat hidden → CellsFit cat hidden
