@@ -1,10 +1,10 @@
-use Rattle.std.proofs.Common.{◌≡◌, ◌≤◌, ◌<◌, ◌^◌, ◌∙◌, ◌+◌, ◌*◌, ℕ, [], List, Vec, ap, sym, subst, length, map, get_or, arith}
+use Rattle.std.proofs.Common.{◌≡◌, ◌<◌, ◌∙◌, ◌+◌, ◌*◌, ℕ, [], List, Vec, ap, sym, subst, length, map, get_or, arith}
 use Rattle.std.specs.Global.{Global}
 use Rattle.std.specs.List.{All}
 use Rattle.std.proofs.lemmas.List.{length-map}
 use Rattle.ghost_model.specs.forms.Layout as layout
 use Rattle.ghost_model.specs.forms.Flash.{HoldsLists, hidden_cells}
-use Rattle.index_lists.specs.Ranks.{Ranks, cells_of_rows}
+use Rattle.index_lists.specs.Ranks.{cells_of_rows}
 use Rattle.index_lists.specs.Lists.{AreListed}
 use Rattle.flash_build.specs.Sources.{cells_of}
 use Rattle.flash_build.specs.Levels.{AreRankedAbove, items_of}

@@ -1,4 +1,4 @@
-use Rattle.std.proofs.Common.{◌≡◌, ◌+◌, ◌∙◌, ap, sym, refl, length, ℕ, List, [], arith}
+use Rattle.std.proofs.Common.{◌+◌, ◌∙◌, ap, sym, refl, length, ℕ, List, [], arith}
 use Rattle.std.proofs.lemmas.List.{length-map, get_or-map}
 use Rattle.ghost_model.specs.forms.Runs.{number_cell, pages_of}
 use Rattle.index_lists.specs.Lists.{lists_of}
