@@ -2,8 +2,8 @@
 //!
 //! An index has an entry for each value of a column, ascending, and at each of its levels a list of rows for each entry. All
 //! of it is told by numbers: the rank of a row, which is the number of its value, and at a table above the rank of the row
-//! that a foreign key names. So one index takes four bytes for each row of the level in hand, and eight more while the rows
-//! of the level are put in order.
+//! that a foreign key names. So one index takes four bytes for each row of a level, and four more for the rows of its own table
+//! in order; while these are put in order sixteen more, and while those of a level above are eight.
 #![tactic(auto)]
 
 pub mod column;
