@@ -12,3 +12,4 @@ pub mod AreaLemmas
 pub mod SpoolLemmas
 pub mod Spooling
 pub mod SparedSpool
+pub mod HeldPage

@@ -169,3 +169,14 @@ IsSlot (Damaged number slot found) = ⊤
 abbrev pub TurnNarrows : (before : Looking) → (page : ℕ) → Turn → Type 0
 TurnNarrows before page (Over found) = ⊤
 TurnNarrows before page (Narrowed now) = IsNarrowed before now page
+
+-- an identifier lies between those of rows of the page that a buffer has
+pub record IsInHeld (reply : Reply) (rows : List (List ℕ)) (held : Option ℕ) (identifier : ℕ) : Type 0 where
+  pub first : ℕ
+  pub last : ℕ
+  pub order : first ≤ last
+  pub within : last < length rows
+  pub here : held ≡ Some (reply.run.first + page_of reply first)
+  pub same_page : page_of reply last ≡ page_of reply first
+  pub from : id_of rows first ≤ identifier
+  pub to : identifier ≤ id_of rows last

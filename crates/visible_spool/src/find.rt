@@ -6,6 +6,7 @@ ghost use Rattle.edge_traits.specs.Devices.{Device};
 ghost use Rattle.page_pool.specs.Pools.{Pool, page_at};
 ghost use Rattle.flash_pages.specs.Reads.{ReadsPages, CanRead, WasGiven};
 ghost use Rattle.flash_pages.specs.Cursors.{IsReady, IsPageOf, ids_left};
+ghost use Rattle.visible_spool.specs.Searches.{IsInHeld};
 ghost use Rattle.visible_spool.specs.Replies.{IsReadable, HoldsRows, Finds, WasFound, id_of_bytes};
 
 use crate::reply::Reply;
@@ -20,7 +21,8 @@ use page_pool::{Lease, PagePool};
 impl Reply {
     /// The row of an identifier, and none exactly where the reply has none.
     ///
-    /// Of a reply with less than 2^k rows it reads at most k + 3 pages.
+    /// Of a reply with less than 2^k rows it reads at most k + 3 pages, and none where the identifier lies between those of rows
+    /// of the page in the buffer.
     pub fn find<F: Flash>(
         &self,
         flash: &mut F,
@@ -32,6 +34,7 @@ impl Reply {
         requires ready { CanRead F.told (F.state flash.old) pool.old lease.now }
         ensures finds { F.told ≡ true → (rows : List (List ℕ)) → HoldsRows (F.state flash.old).page self.now rows → Finds rows id result }
         ensures found { (since : ℕ) → since ≤ (F.state flash.old).calls → WasGiven since (F.state flash.old) pool.old lease.now → WasFound since (F.state flash.new) self.now id result }
+        ensures at_hand { F.told ≡ true → (rows : List (List ℕ)) → HoldsRows (F.state flash.old).page self.now rows → IsInHeld self.now rows (page_at pool.old lease.now) id → F.state flash.new ≡ F.state flash.old }
         ensures readable { IsReadable (F.state flash.new) self.now }
         ensures read { (k : ℕ) → self.now.run.count < 2 ^ k → ReadsPages F.told (F.state flash.old) (F.state flash.new) pool.old pool.new lease.now (k + 3) result }
     {

@@ -8,7 +8,7 @@ ghost use Rattle.page_pool.specs.Pools.{IsOut, page_at};
 ghost use Rattle.flash_pages.specs.Reads.{Reads, ReadsPages, CanRead, IsFilled, WasGiven, must_read, page_after};
 ghost use Rattle.flash_pages.specs.declared.fault.PageFault.TheVariants.{Damaged};
 ghost use Rattle.visible_spool.specs.Replies.{IsReadable, IsSound, HoldsRows, Blames, IsFlash};
-ghost use Rattle.visible_spool.specs.Searches.{IsSearch, IsSought, IsSoughtAmong, IsFewer, CallsLeft, LooksLeft, StepFinds, StepStands, TurnFinds, TurnStands, TurnNarrows, TurnLeaves, IsElsewhere, IsSlot, is_more, left_in, pages_in, row_at, step_calls, calls_if, width_left};
+ghost use Rattle.visible_spool.specs.Searches.{IsSearch, IsSought, IsSoughtAmong, IsFewer, CallsLeft, LooksLeft, StepFinds, StepStands, TurnFinds, TurnStands, TurnNarrows, TurnLeaves, IsElsewhere, IsInHeld, IsSlot, is_more, left_in, pages_in, row_at, step_calls, calls_if, width_left};
 
 use crate::judging::Verdict;
 use crate::reply::Reply;
@@ -367,6 +367,8 @@ impl Reply {
         ensures whole { F.told ≡ true → (rows : List (List ℕ)) → HoldsRows (F.state flash.old).page self.now rows → IfErr result IsFlash }
         ensures stands { (since : ℕ) → since ≤ (F.state flash.old).calls → WasGiven since (F.state flash.old) pool.old lease.now → IfOk result (StepStands since (F.state flash.new) self.now id) }
         ensures blames { (since : ℕ) → since ≤ (F.state flash.old).calls → WasGiven since (F.state flash.old) pool.old lease.now → IfErr result (Blames since (F.state flash.new) self.now) }
+        ensures decided { F.told ≡ true → (rows : List (List ℕ)) → HoldsRows (F.state flash.old).page self.now rows → IsSought self.now rows id search.old → IsInHeld self.now rows (page_at pool.old lease.now) id → IfOk result (λ step. is_more step ≡ false) }
+        ensures at_hand { F.told ≡ true → (rows : List (List ℕ)) → HoldsRows (F.state flash.old).page self.now rows → IsSought self.now rows id search.old → IsInHeld self.now rows (page_at pool.old lease.now) id → F.state flash.new ≡ F.state flash.old }
         ensures failed { OnErr result (search.new ≡ search.old) }
         ensures shorter { IfOk result (λ step. is_more step ≡ true → left_in self.now search.new < left_in self.now search.old) }
         ensures fewer { (k left : ℕ) → self.now.run.count < 2 ^ k → CallsLeft k search.old left → IfOk result (λ step. is_more step ≡ true → IsFewer k search.new left) }

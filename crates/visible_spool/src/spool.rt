@@ -11,6 +11,7 @@ ghost use Rattle.ghost_base.specs.Runs.{run_of};
 ghost use Rattle.flash_pages.specs.Reads.{ReadsPages, CanRead, WasGiven};
 ghost use Rattle.flash_pages.specs.Cursors.{IsReady, IsPageOf, ids_left};
 ghost use Rattle.visible_spool.specs.Replies.{Finds, HoldsRows, IsReadable, WasFound, id_of_bytes, kinds_of};
+ghost use Rattle.visible_spool.specs.Searches.{IsInHeld};
 ghost use Rattle.visible_spool.specs.Halves.{reply_of};
 ghost use Rattle.visible_spool.specs.Areas.{AreAreasOf, AreAreas, first_of, end_of};
 ghost use Rattle.visible_spool.specs.Sides.{Changes, is_marked, replies_of};
@@ -182,12 +183,13 @@ impl Spool {
         ensures lease { self.new.hand.writer.lease ≡ self.old.hand.writer.lease }
         ensures text { self.new.hand.text ≡ self.old.hand.text }
         ensures table { self.new.hand.table ≡ self.old.hand.table }
+        ensures dropped { is_marked self.old.sides self.old.hand.text ≡ true → F.state flash.new ≡ F.state flash.old }
         ensures spooling { IsSpooling (F.state flash.new) pool.new self.new }
         ensures writes { SpoolWrites (F.state flash.old) (F.state flash.new) self.old.hand.reply.run.first (area_end self.old.hand.reply) result }
         ensures buffer { ChangesPage pool.old pool.new self.old.hand.writer.lease }
     {
         let text = self.hand.text;
-        if self.sides.is_marked(text) {
+        if self.is_marked(text) {
             return Ok(());
         }
         match self.hand.put(flash, pool, row) {
@@ -222,6 +224,7 @@ impl Spool {
         ensures changes { Changes text self.old.sides self.new.sides }
         ensures areas { self.new.areas ≡ self.old.areas }
         ensures lease { self.new.hand.writer.lease ≡ self.old.hand.writer.lease }
+        ensures dropped { is_marked self.old.sides text ≡ true → F.state flash.new ≡ F.state flash.old }
         ensures spooling { IsSpooling (F.state flash.new) pool.new self.new }
         ensures writes { SpoolWrites (F.state flash.old) (F.state flash.new) (first_of (area_at self.old table) text) (end_of (area_at self.old table) text) result }
         ensures buffer { ChangesPage pool.old pool.new self.old.hand.writer.lease }
@@ -309,6 +312,7 @@ impl Spool {
         requires ready { CanRead F.told (F.state flash.old) pool.old lease.now }
         ensures finds { F.told ≡ true → (rows : List (List ℕ)) → HoldsRows (F.state flash.old).page (reply_of (replies_of self.now.sides text) table) rows → Finds rows id result }
         ensures found { (since : ℕ) → since ≤ (F.state flash.old).calls → WasGiven since (F.state flash.old) pool.old lease.now → WasFound since (F.state flash.new) (reply_of (replies_of self.now.sides text) table) id result }
+        ensures at_hand { F.told ≡ true → (rows : List (List ℕ)) → HoldsRows (F.state flash.old).page (reply_of (replies_of self.now.sides text) table) rows → IsInHeld (reply_of (replies_of self.now.sides text) table) rows (page_at pool.old lease.now) id → F.state flash.new ≡ F.state flash.old }
         ensures readable { IsReadable (F.state flash.new) (reply_of (replies_of self.now.sides text) table) }
         ensures read { (k : ℕ) → (reply_of (replies_of self.now.sides text) table).run.count < 2 ^ k → ReadsPages F.told (F.state flash.old) (F.state flash.new) pool.old pool.new lease.now (k + 3) result }
     {

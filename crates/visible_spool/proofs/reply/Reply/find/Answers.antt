@@ -1,9 +1,9 @@
-use Rattle.std.proofs.Common.{◌+◌, subst, sym, ap, ℕ, List, Option, Ok, arith}
+use Rattle.std.proofs.Common.{◌≡◌, ◌∙◌, ◌+◌, true, subst, sym, ap, ℕ, List, Option, Ok, arith}
 use Rattle.ghost_model.specs.core.Asks.{RowCells}
 use Rattle.page_pool.specs.Pools.{page_at}
 use Rattle.visible_spool.specs.declared.search.Step.{Step}
 use Rattle.visible_spool.specs.Replies.{HoldsRows}
-use Rattle.visible_spool.specs.Searches.{IsFewer, StepFinds, StepStands, is_more, calls_if, step_calls}
+use Rattle.visible_spool.specs.Searches.{IsInHeld, IsFewer, StepFinds, StepStands, is_more, calls_if, step_calls}
 use Rattle.visible_spool.proofs.Finding.{HasFound, call_left, one_call}
 use Rattle.visible_spool.proofs.Frames.{then_pages, calm, answered, faulted, failed, quiet}
 use Rattle.visible_spool.proofs.reply.Reply.find.Goals as goal
@@ -77,6 +77,12 @@ steps-preserved g c =
       readable = step.readable;
       search = step.search;
       sought = λ is rows holds. step.sought is rows (subst (λ (p : ℕ → List ℕ). HoldsRows p c.args.self.now rows) (sym same) holds) (was.sought is rows holds);
+      at_hand = λ is rows holds held.
+          let before_same = was.at_hand is rows holds held in
+          let decided = step.decided is rows (subst (λ (p : ℕ → List ℕ). HoldsRows p c.args.self.now rows) (sym same) holds) (was.sought is rows holds)
+          (subst (λ (o : Option ℕ). IsInHeld c.args.self.now rows o c.args.id) (sym before_same.1) held) in
+          let more : is_more c.in-Ok-More.field-0 ≡ true = ap is_more c.in-Ok-More.field-0-is in
+          absurd (cc (decided, more));
       frame = record {
         made = was.frame.made + 1;
         reads = then_pages told before here after c.args.pool.now c.steps.pool c.step.new.pool c.args.lease.now was.frame.made (calls_if calls) (was.frame.made + 1) quiet (omega (arith, one)) was.frame.reads read;
@@ -94,3 +100,21 @@ steps-preserved g c =
             enough = omega (arith, enough, less);
           };
     }
+
+pub returns-in-Err-clause-at_hand : goal.returns-in-Err-clause-at_hand
+returns-in-Err-clause-at_hand g c = λ told rows holds held.
+    let was = c.steps.invariant in
+    let same = was.frame.reads.kept.page in
+    let so_far = was.at_hand told rows holds held in
+    c.in-Err.ensures.at_hand told rows (subst (λ (p : ℕ → List ℕ). HoldsRows p c.args.self.now rows) (sym same) holds) (was.sought told rows holds)
+    (subst (λ (o : Option ℕ). IsInHeld c.args.self.now rows o c.args.id) (sym so_far.1) held)
+    ∙ so_far.0
+
+pub returns-in-Ok-Found-clause-at_hand : goal.returns-in-Ok-Found-clause-at_hand
+returns-in-Ok-Found-clause-at_hand g c = λ told rows holds held.
+    let was = c.steps.invariant in
+    let same = was.frame.reads.kept.page in
+    let so_far = was.at_hand told rows holds held in
+    c.in-Ok-Found.ensures.at_hand told rows (subst (λ (p : ℕ → List ℕ). HoldsRows p c.args.self.now rows) (sym same) holds) (was.sought told rows holds)
+    (subst (λ (o : Option ℕ). IsInHeld c.args.self.now rows o c.args.id) (sym so_far.1) held)
+    ∙ so_far.0

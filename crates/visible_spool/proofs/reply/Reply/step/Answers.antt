@@ -1,6 +1,7 @@
 use Rattle.std.proofs.Common.{subst}
 use Rattle.visible_spool.specs.Searches.{TurnFinds, TurnLeaves, LeavesElsewhere}
 use Rattle.page_pool.specs.Pools.{page_at}
+use Rattle.visible_spool.proofs.HeldPage.{not_elsewhere}
 use Rattle.visible_spool.proofs.Narrowing.{looks_kept}
 use Rattle.visible_spool.proofs.reply.Reply.step.Goals as goal
 
@@ -38,3 +39,25 @@ returns-in-Ok-Narrowed-clause-some g c = λ k left few calls.
     let n : LeavesElsewhere c.args.self.now held c.begun-looking.result c.in-Ok-Narrowed.next =
     subst (TurnLeaves c.args.self.now held c.begun-looking.result) c.in-Ok-Narrowed.field-0-is c.in-Ok-Narrowed.ensures.leaves in
     c.advance.ensures.some left (looks_kept c.begun-looking.result c.in-Ok-Narrowed.next left n.low n.high n.guesses (c.begun-looking.ensures.fewer k left few calls))
+
+pub returns-in-Ok-Narrowed-clause-decided : goal.returns-in-Ok-Narrowed-clause-decided
+returns-in-Ok-Narrowed-clause-decided g c = λ told rows holds was is.
+    let pages = (g.F.Flash.state c.args.flash.now).page in
+    let held = page_at c.args.pool.now c.args.lease.now in
+    let n : LeavesElsewhere c.args.self.now held c.begun-looking.result c.in-Ok-Narrowed.next =
+    subst (TurnLeaves c.args.self.now held c.begun-looking.result) c.in-Ok-Narrowed.field-0-is c.in-Ok-Narrowed.ensures.leaves in
+    absurd (not_elsewhere c.args.self.now rows held c.args.id c.in-Ok-Narrowed.next is
+    (subst (TurnFinds c.args.self.now rows c.args.id) c.in-Ok-Narrowed.field-0-is
+    (c.in-Ok-Narrowed.ensures.finds g.F.Flash.told pages rows told c.requires.ready.filled holds (c.begun-looking.ensures.sought pages rows holds was)))
+    n.elsewhere)
+
+pub returns-in-Ok-Narrowed-clause-at_hand : goal.returns-in-Ok-Narrowed-clause-at_hand
+returns-in-Ok-Narrowed-clause-at_hand g c = λ told rows holds was is.
+    let pages = (g.F.Flash.state c.args.flash.now).page in
+    let held = page_at c.args.pool.now c.args.lease.now in
+    let n : LeavesElsewhere c.args.self.now held c.begun-looking.result c.in-Ok-Narrowed.next =
+    subst (TurnLeaves c.args.self.now held c.begun-looking.result) c.in-Ok-Narrowed.field-0-is c.in-Ok-Narrowed.ensures.leaves in
+    absurd (not_elsewhere c.args.self.now rows held c.args.id c.in-Ok-Narrowed.next is
+    (subst (TurnFinds c.args.self.now rows c.args.id) c.in-Ok-Narrowed.field-0-is
+    (c.in-Ok-Narrowed.ensures.finds g.F.Flash.told pages rows told c.requires.ready.filled holds (c.begun-looking.ensures.sought pages rows holds was)))
+    n.elsewhere)

@@ -41,3 +41,7 @@ returns-clause-writes g c =
     writes_as before after (area_at now now.hand.table) (area_at c.args.self.now c.args.table) now.hand.text c.args.text c.write.result
     (same_area c.args.self.now now now.hand.table c.args.table c.take.ensures.same.areas c.take.ensures.table) c.take.ensures.text
     (writes_in_area before after before now c.write.result held (spooling.areas now.hand.table held.there) c.write.ensures.writes)
+
+pub returns-clause-dropped : goal.returns-clause-dropped
+returns-clause-dropped g c = λ marked.
+    c.write.ensures.dropped (ap (λ n. is_marked c.take.new.self.sides n) c.take.ensures.text ∙ (c.take.ensures.same.mark ∙ marked))
