@@ -15,3 +15,5 @@ pub mod PlaceLaws
 pub mod PlaceGiving
 pub mod PassFrames
 pub mod PassTaking
+pub mod Reducing
+pub mod ReduceTurning

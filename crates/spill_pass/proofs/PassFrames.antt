@@ -1,26 +1,25 @@
 -- What the calls of a pass leave: those on its source, those on its groups, and several of them one after another.
-use Rattle.std.proofs.Common.{◌≡◌, ◌∙◌, ℕ, zero, suc, ◌+◌, ◌<◌, ◌≤◌, ◌⊎◌, inl, inr, Bool, true, false, List, [], ◌∷◌, ◌++◌, length, slice_set, ap, sym, refl, subst, arith}
+use Rattle.std.proofs.Common.{◌≡◌, ◌∙◌, ℕ, suc, ◌+◌, ◌<◌, ◌≤◌, Bool, false, List, [], ◌∷◌, length, slice_set, ap, sym, refl, subst, arith}
 use Rattle.std.proofs.lemmas.List.{append-nil}
 use Rattle.std.proofs.lemmas.List.Sums.{sum_by-cons}
 use Rattle.ghost_model.specs.forms.Runs.{page_of}
 use Rattle.ghost_base.specs.Runs.{run_of}
 use Rattle.edge_traits.specs.Devices.{Device, KeepsPages, SamePage}
 use Rattle.edge_traits.proofs.DeviceFrames.{same_kept}
-use Rattle.page_pool.specs.Pools.{Pool, AreOut, ChangesPage, KeepsOthers, all_given, given, others_out, free_count}
-use Rattle.page_pool.specs.Laws.{KeepsOut, SameBuffer}
-use Rattle.page_pool.proofs.Leases.{out_kept, outs_kept, others_kept, others_trans, change_keeps_out, change_elsewhere, change_keeps_others, head_apart, all_given_to_front, all_given-append, all_given_counts, holder_keeps_outs, outs_from_front, outs_to_front}
+use Rattle.page_pool.specs.Pools.{Pool, AreOut, ChangesPage, KeepsOthers, given, others_out, free_count}
+use Rattle.page_pool.proofs.Leases.{outs_kept, others_kept, others_trans, change_keeps_out, change_elsewhere, change_keeps_others, head_apart, all_given_to_front, all_given-append, all_given_counts, holder_keeps_outs, outs_from_front, outs_to_front}
 use Rattle.flash_pages.proofs.LeaseFrames.{given_kept, given_beside}
 use Rattle.flash_pages.specs.Reads.{WasGiven}
 use Rattle.id_merge.specs.declared.cursor.Cursor.{Cursor}
 use Rattle.id_merge.specs.declared.cursor.Cursor.TheVariants.{List as OfList, Range}
-use Rattle.id_merge.specs.Cursors.{cursor_at, leases_of, unread_in, unread_of, CursorGiven, AllGiven}
+use Rattle.id_merge.specs.Cursors.{cursor_at, leases_of, unread_in, unread_of, CursorGiven}
 use Rattle.spill_pass.specs.declared.groups.Groups.{Groups}
-use Rattle.spill_pass.specs.Grouping.{IsGrouping, GoesOn, groups_held, places_end, lists_at_hand}
+use Rattle.spill_pass.specs.Grouping.{IsGrouping, GoesOn, groups_held, places_end}
 use Rattle.spill_pass.specs.Merging.{area_pages, area_end}
 use Rattle.spill_pass.specs.Passing.{PassGoes, pass_held}
 use Rattle.spill_pass.specs.Sources.{Source, SameSource}
 use Rattle.spill_pass.specs.Spared.{Spares, KeepsRun, KeepsBuffer}
-use Rattle.spill_pass.proofs.Holders.{HasOut, IsAnother, another, each_out, out_before, others_move, same_beside}
+use Rattle.spill_pass.proofs.Holders.{IsAnother, another, each_out, out_before, others_move, same_beside}
 use Rattle.spill_pass.proofs.Writing.{unread_list_same}
 use Rattle.spill_pass.proofs.SparedLemmas.{stays_merging}
 use Rattle.spill_pass.proofs.Grouping.{areas_kept, areas_trans, place_within, places_below}

@@ -1,28 +1,26 @@
 -- What holds of a pass where it took a list, or found none left, and where it went on with its groups.
-use Rattle.std.proofs.Common.{◌≡◌, ◌∙◌, ℕ, zero, suc, ◌+◌, ◌*◌, ◌/◌, ◌<◌, ◌≤◌, ◌⊎◌, inl, inr, Bool, true, false, List, ◌∷◌, length, if◌then◌else◌, ap, sym, refl, subst, arith}
-use Rattle.std.specs.Prelude.{⊤, Option, Some, None, Result, Ok, Err}
-use Rattle.std.proofs.lemmas.Nat.{div_below}
+use Rattle.std.proofs.Common.{◌≡◌, ◌∙◌, ℕ, zero, suc, ◌+◌, ◌*◌, ◌/◌, ◌<◌, ◌≤◌, ◌⊎◌, inl, inr, Bool, true, false, List, [], ◌∷◌, length, ap, sym, refl, subst, arith}
+use Rattle.std.specs.Prelude.{Result, Ok, Err}
 use Rattle.ghost_model.specs.core.Causes.{Rose}
 use Rattle.ghost_model.specs.forms.Runs.{page_of, per_page}
 use Rattle.ghost_base.specs.declared.runs.ListRef.{ListRef}
 use Rattle.ghost_base.specs.Runs.{run_of}
-use Rattle.edge_traits.specs.Devices.{Device, KeepsPages, SamePage}
-use Rattle.edge_traits.proofs.DeviceFrames.{same_kept, kept_same}
+use Rattle.edge_traits.specs.Devices.{Device, KeepsPages}
+use Rattle.edge_traits.proofs.DeviceFrames.{same_kept}
 use Rattle.page_pool.specs.Pools.{Pool, AreOut, ChangesPage, free_count}
-use Rattle.page_pool.proofs.Leases.{change_keeps_out}
 use Rattle.flash_pages.specs.declared.fault.PageFault.{PageFault}
 use Rattle.flash_pages.specs.declared.fault.PageFault.TheVariants.{Flash, Damaged}
 use Rattle.id_merge.specs.declared.cursor.Cursor.{Cursor}
-use Rattle.id_merge.specs.Cursors.{BlamesLists, cursor_at, leases_of}
+use Rattle.id_merge.specs.Cursors.{BlamesLists, leases_of}
 use Rattle.spill_pass.specs.declared.groups.Groups.{Groups}
 use Rattle.spill_pass.specs.declared.groups.PlacedLists.{PlacedLists}
-use Rattle.spill_pass.specs.Grouping.{AreRunsOf, Made, IsGrouping, GoesOn, ChangesAreas, CanTake, TookMore, WentOn, ListStands, groups_held, lists_at_hand, ids_at_hand, places_end}
-use Rattle.spill_pass.specs.Lists.{ListOutside}
-use Rattle.spill_pass.specs.Merging.{MadeAtMost, area_end, area_pages, left_of}
-use Rattle.spill_pass.specs.Passing.{BlamesPass, IsPassing, PassGoes, ArePairs, IsComplete, MadeFew, PassWent, PassEnds, pass_held, pass_left}
-use Rattle.spill_pass.specs.Sources.{Source, SameSource, SparesSource, UsesOutside, GaveList, LooksUp}
+use Rattle.spill_pass.specs.Grouping.{IsBegun, AreRunsOf, Made, IsGrouping, GoesOn, CanTake, TookMore, WentOn, ListStands, groups_held, lists_at_hand, ids_at_hand, places_end}
+use Rattle.spill_pass.specs.Merging.{MadeAtMost, area_end, area_pages}
+use Rattle.spill_pass.specs.Passing.{CanPass, BlamesPass, IsPassing, PassGoes, ArePairs, IsComplete, MadeFew, PassWent, PassEnds, pass_held, pass_left}
+use Rattle.spill_pass.specs.Sources.{Source, SameSource, SparesSource, UsesOutside, GaveList}
+use Rattle.spill_pass.proofs.Closing.{none_hand}
 use Rattle.spill_pass.proofs.Holders.{same_beside}
-use Rattle.spill_pass.proofs.PassFrames.{buffers_same, few_leases, grouping_spared, lists_apart, pass_of_groups, pass_of_source, source_spares, unread_beside}
+use Rattle.spill_pass.proofs.PassFrames.{buffers_same, few_leases, grouping_spared, lists_apart, source_spares, unread_beside}
 
 no_truth : false ≡ true → ⊥
 no_truth e = cc
@@ -293,9 +291,11 @@ half_of source groups (inl few) = omega (arith, few)
 half_of source groups (inr (half, rest)) = half
 
 pub pass_ends :
-    {told : Bool} {before now : Device} {pool : Pool} (source : Source) (old : Groups) (fan : ℕ) (placed : PlacedLists) (calls : ℕ) (merging : Bool)
-    → IsPassing told before pool source old fan merging → AreRunsOf old placed → MadeFew calls before now → PassEnds before now old placed calls
-pass_ends source old fan placed calls merging is runs made = record {
+    {told : Bool} {before now : Device} {pool : Pool} (source : Source) (old new : Groups) (fan : ℕ) (placed : PlacedLists) (calls : ℕ) (merging : Bool)
+    → IsPassing told before pool source old fan merging → AreRunsOf old placed → lists_at_hand new ≡ 0 → MadeFew calls before now
+    → PassEnds before now old new placed calls
+pass_ends source old new fan placed calls merging is runs empty made = record {
+  empty = empty;
   made = made;
   runs = runs;
   half = omega (arith, half_of source old is.pairs, runs.places_count);
@@ -317,3 +317,31 @@ pub lists_blamed :
 lists_blamed blamed since device cursors (Ok answer) blames = tt
 lists_blamed blamed since device cursors (Err Flash) blames = tt
 lists_blamed blamed since device cursors (Err (Damaged number slot found)) blames = inr blames
+
+-- a pass begins
+pub pass_begun :
+    {device : Device} {pool : Pool} (told : Bool) (source : Source) (groups : Groups) (to places rows fan lists_lease places_lease : ℕ)
+    → fan ≤ 96 → 2 ≤ fan → CanPass device pool source to places rows fan lists_lease places_lease
+    → IsBegun to places rows source.lists_left lists_lease places_lease groups → IsGrouping told device pool groups
+    → IsPassing told device pool source groups fan false
+pass_begun {pool = pool} told source groups to places rows fan lists_lease places_lease most least can begun grouping =
+    let held : groups_held groups ≡ places_lease ∷ lists_lease ∷ [] =
+    ap (λ cs. groups.places.lease ∷ groups.into.writer.lease ∷ leases_of cs) begun.none
+    ∙ ap (λ (l : ℕ). l ∷ groups.into.writer.lease ∷ []) begun.places_lease
+    ∙ ap (λ (l : ℕ). places_lease ∷ l ∷ []) begun.lists_lease in
+    let P : List ℕ → Type 0 = λ ls. AreOut pool (source.lease ∷ ls) in
+    let none : lists_at_hand groups ≡ 0 = ap (λ cs. length cs) begun.none in
+    record {
+      grouping = grouping;
+      leases = subst P (sym held) can.leases;
+      buffers = omega (arith, can.buffers, ap (λ ls. length ls) held);
+      lists_outside = outside_still source source begun.lists (omega (arith, begun.lists, ap (λ n. area_pages n) begun.rows)) (λ page is. is) can.lists_outside;
+      places_outside = outside_still source source begun.places (omega (arith, begun.places, ap (λ n. area_pages n) begun.size)) (λ page is. is) can.places_outside;
+      room = omega (arith, none_hand groups.into.merge begun.none, begun.written, can.ids, begun.rows);
+      few = omega (arith, none);
+      fan_most = most;
+      fan_least = least;
+      begins = λ e. begun.none_found;
+      complete = λ e. absurd (no_truth e);
+      pairs = inl (omega (arith, none, begun.placed, begun.size));
+    }

@@ -101,11 +101,10 @@ places_still :
     → ((i : ℕ) → i < lists.count → now (page_of (run_of lists) i) ≡ page (page_of (run_of lists) i))
     → HasPlaces page right rows places lists at next ids → HasPlaces now right rows places lists at next ids
 places_still page now right rows places lists at next [] same_places same_lists has = has
-places_still page now right rows places lists at next (first ∷ rest) same_places same_lists has =
-    (
-      place_still page now right rows places lists at next first same_places same_lists has.0,
-      places_still page now right rows places lists (at + 1) (next + length first) rest same_places same_lists has.1,
-    )
+places_still page now right rows places lists at next (first ∷ rest) same_places same_lists has = (
+  place_still page now right rows places lists at next first same_places same_lists has.0,
+  places_still page now right rows places lists (at + 1) (next + length first) rest same_places same_lists has.1,
+)
 
 pub reader_has : ReaderHasStill
 reader_has page now right rows lists ids same has = record {

@@ -7,3 +7,5 @@ pub mod Grouping
 pub mod Sources
 pub mod PlaceLaws
 pub mod Passing
+pub mod Reducing
+pub mod Listings

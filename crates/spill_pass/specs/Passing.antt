@@ -1,5 +1,5 @@
 -- A pass over lists: what it has taken and what is still to come, which leases are held, and what it leaves.
-use Rattle.std.specs.Prelude.{◌≡◌, ℕ, ◌+◌, ◌*◌, ◌<◌, ◌≤◌, ◌⊎◌, Bool, true, false, if◌then◌else◌, ⊤, List, ◌∷◌, length, Option, Some, None, Result, Ok, Err}
+use Rattle.std.specs.Prelude.{◌≡◌, ℕ, ◌+◌, ◌*◌, ◌<◌, ◌≤◌, ◌⊎◌, Bool, true, false, if◌then◌else◌, ⊤, List, [], ◌∷◌, length, Option, Some, None, Result, Ok, Err}
 use Rattle.ghost_model.specs.core.Causes.{Rose}
 use Rattle.edge_traits.specs.Devices.{Device}
 use Rattle.page_pool.specs.Pools.{Pool, AreOut, KeepsOthers, others_out, free_count}
@@ -12,8 +12,8 @@ use Rattle.spill_pass.specs.declared.groups.Groups.{Groups}
 use Rattle.spill_pass.specs.declared.groups.PlacedLists.{PlacedLists}
 use Rattle.spill_pass.specs.declared.passes.PassTurn.{PassTurn}
 use Rattle.spill_pass.specs.declared.passes.PassTurn.TheVariants.{Went, Placed}
-use Rattle.spill_pass.specs.Grouping.{IsGrouping, ChangesAreas, AreRunsOf, groups_held, lists_at_hand, ids_at_hand, places_end}
-use Rattle.spill_pass.specs.Merging.{MadeAtMost, area_end, left_of}
+use Rattle.spill_pass.specs.Grouping.{CanBegin, IsGrouping, ChangesAreas, AreRunsOf, groups_held, lists_at_hand, ids_at_hand, places_end}
+use Rattle.spill_pass.specs.Merging.{MadeAtMost, area_end, area_pages, left_of}
 use Rattle.spill_pass.specs.Sources.{Source, UsesOutside}
 
 -- the lease of the source, and those of the groups
@@ -87,18 +87,28 @@ pub record PassWent (told : Bool) (before now : Device) (pool later : Pool) (sou
   pub fewer : pass_left later rest new merging < pass_left pool source old was
 
 -- all lists stand: half as many as there were, rounded up, or fewer
-pub record PassEnds (before now : Device) (old : Groups) (placed : PlacedLists) (calls : ℕ) : Type 0 where
+pub record PassEnds (before now : Device) (old new : Groups) (placed : PlacedLists) (calls : ℕ) : Type 0 where
   pub made : MadeFew calls before now
   pub runs : AreRunsOf old placed
   pub half : 2 * placed.places.count ≤ old.size + 1
   pub ids : placed.lists.count ≤ old.into.rows
+  pub empty : lists_at_hand new ≡ 0
 
 abbrev pub PassTells : (told : Bool) (before now : Device) (pool later : Pool) (source rest : Source) (old new : Groups) (fan : ℕ) (was merging : Bool) → PassTurn → Type 0
 PassTells told before now pool later source rest old new fan was merging (Went calls) = PassWent told before now pool later source rest old new fan was merging calls
-PassTells told before now pool later source rest old new fan was merging (Placed placed calls) = PassEnds before now old placed calls
+PassTells told before now pool later source rest old new fan was merging (Placed placed calls) = PassEnds before now old new placed calls
 
 -- a slot that is blamed is one that the source blames, or one of the lists at hand
 abbrev pub BlamesPass : (blamed : ℕ → ℕ → ℕ → Type 0) → (since : ℕ) → Device → List Cursor → {T : Type 0} → Result T PageFault → Type 0
 BlamesPass blamed since device cursors (Ok answer) = ⊤
 BlamesPass blamed since device cursors (Err Flash) = ⊤
 BlamesPass blamed since device cursors (Err (Damaged number slot found)) = blamed number slot found ⊎ BlamesList since device cursors number slot found
+
+-- a pass may be begun: with three leases, over lists that lie outside of its areas and have no more identifiers than there are rows
+pub record CanPass (device : Device) (pool : Pool) (source : Source) (to places rows fan lists_lease places_lease : ℕ) : Type 0 where
+  pub groups : CanBegin device pool to places rows source.lists_left lists_lease places_lease
+  pub leases : AreOut pool (source.lease ∷ places_lease ∷ lists_lease ∷ [])
+  pub buffers : fan ≤ free_count pool
+  pub lists_outside : UsesOutside to (to + area_pages rows) source
+  pub places_outside : UsesOutside places (places + area_pages source.lists_left) source
+  pub ids : source.ids_left ≤ rows

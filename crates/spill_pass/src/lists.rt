@@ -17,18 +17,17 @@ pub enum Lists<S> {
 }
 
 impl<S: ListSource + Drop> ListSource for Lists<S> {
-    ghost use Rattle.spill_pass.specs.declared.lists.Lists.TheVariants.{Given, Placed};
-    ghost use Rattle.spill_pass.specs.Places.{CanGive, DamagesPlace, ReaderHas, reads_place, source_of};
+    ghost use Rattle.spill_pass.specs.Listings.{source_in, ready_in, calls_in, has_in, blamed_in};
 
-    ghost source = { elim [ Given lists ↦ S.source lists | Placed reader ↦ source_of reader ] };
+    ghost source = { source_in S.source };
 
-    ghost ready = { λ told device pool. elim [ Given lists ↦ S.ready told device pool lists | Placed reader ↦ CanGive told device pool reader ] };
+    ghost ready = { ready_in S.ready };
 
-    ghost calls = { λ pool. elim [ Given lists ↦ S.calls pool lists | Placed reader ↦ reads_place pool reader ] };
+    ghost calls = { calls_in S.calls };
 
-    ghost has_lists = { λ page right rows. elim [ Given lists ↦ S.has_lists page right rows lists | Placed reader ↦ ReaderHas page right rows reader ] };
+    ghost has_lists = { has_in S.has_lists };
 
-    ghost blamed = { λ since device. elim [ Given lists ↦ S.blamed since device lists | Placed reader ↦ DamagesPlace since device reader ] };
+    ghost blamed = { blamed_in S.blamed };
 
     fn next_list<F: Flash>(
         &mut self,

@@ -18,11 +18,11 @@ returns-clause-tells g c =
     let n = c.in_ok-placed.ensures in
     let made =
     elim c.if-waits.branch as (λ b. MadeFew c.if-waits.calls (g.F.Flash.state c.args.flash.now) (g.F.Flash.state c.finish.new.flash)) [
-      then-waits w ↦ made_four c.if-waits.calls w.calls-is c.finish.ensures.at_most (n.called (sym w.if-waits.ensures.waits))
-    | else-waits w ↦ made_none c.if-waits.calls w.calls-is (n.none (sym w.if-waits.ensures.waits))
+      | then-waits w ↦ made_four c.if-waits.calls w.calls-is c.finish.ensures.at_most (n.called (sym w.if-waits.ensures.waits))
+      | else-waits w ↦ made_none c.if-waits.calls w.calls-is (n.none (sym w.if-waits.ensures.waits))
     ] in
-    pass_ends (g.S.ListSource.source c.args.self.now.lists) c.args.self.now.groups c.args.self.now.fan c.in_ok-placed.placed c.if-waits.calls c.args.self.now.merging
-    c.requires.passing n.runs made
+    pass_ends (g.S.ListSource.source c.args.self.now.lists) c.args.self.now.groups c.finish.new.self c.args.self.now.fan c.in_ok-placed.placed c.if-waits.calls c.args.self.now.merging
+    c.requires.passing n.runs c.finish.ensures.empty made
 
 pub returns-clause-ready : goal.returns-clause-ready
 returns-clause-ready g c =

@@ -1,0 +1,327 @@
+-- The next pass begins: its leases, its areas and its source.
+use Rattle.std.proofs.Common.{◌≡◌, ◌≢◌, ◌∙◌, ℕ, ◌+◌, ◌-◌, ◌*◌, ◌/◌, ◌^◌, ◌<◌, ◌≤◌, ◌⊎◌, inl, inr, ◌||◌, Bool, true, false, List, [], ◌∷◌, length, ap, sym, refl, subst, arith}
+use Rattle.std.specs.Prelude.{Option, None, IfSome}
+use Rattle.std.proofs.lemmas.Bool.Decides.{nat_tests}
+use Rattle.std.proofs.lemmas.List.{append-nil}
+use Rattle.ghost_model.specs.forms.Runs.{pages_of}
+use Rattle.ghost_base.specs.declared.runs.Run.{Run}
+use Rattle.ghost_base.specs.Runs.{run_of}
+use Rattle.edge_traits.specs.Devices.{Device}
+use Rattle.page_pool.specs.Pools.{Pool, IsFree, AreOut, KeepsOthers, given, leased, others_out, page_at, bytes_at}
+use Rattle.page_pool.proofs.Leases.{give_keeps_others, give_others_out, give_outs, lease_keeps_others, lease_others_out, lease_outs, others_trans, outs_from_front, outs_first}
+use Rattle.flash_pages.specs.Cursors.{IsPageOf}
+use Rattle.flash_pages.specs.Reads.{CanRead}
+use Rattle.flash_pages.specs.Runs.{HasRun}
+use Rattle.id_merge.specs.declared.cursor.Cursor.{Cursor}
+use Rattle.id_merge.specs.Cursors.{leases_of, unread_in}
+use Rattle.spill_pass.specs.declared.groups.Groups.{Groups}
+use Rattle.spill_pass.specs.declared.groups.PlacedLists.{PlacedLists}
+use Rattle.spill_pass.specs.declared.places.PlaceReader.{PlaceReader}
+use Rattle.spill_pass.specs.declared.reduce.Areas.{Areas}
+use Rattle.spill_pass.specs.Grouping.{AreApart, CanBegin, IsBegun, IsGrouping, groups_held, lists_at_hand, places_end}
+use Rattle.spill_pass.specs.Merging.{IsArea, area_end, area_pages}
+use Rattle.spill_pass.specs.Passing.{CanPass, IsPassing, pass_held}
+use Rattle.spill_pass.specs.Places.{CanReadPlaces, CanGive, is_of, source_of}
+use Rattle.spill_pass.specs.Reducing.{CanReduce, CanPassOn, HasAreas, IsForLists, IsForPlaces, IsNextPass, IsReducing, PassesOver, PassedOn, Renews}
+use Rattle.spill_pass.specs.Sources.{Source, UsesOutside}
+use Rattle.spill_pass.proofs.Closing.{none_hand}
+use Rattle.spill_pass.proofs.PassFrames.{buffers_same}
+
+-- a lease is given back for another
+pub renewed :
+    {mid later : Pool} (pool : Pool) (lease other : ℕ) (leases : List ℕ) → mid ≡ given pool lease → later ≡ leased mid other → IsFree mid other
+    → AreOut pool (lease ∷ leases) → Renews pool later lease other leases
+renewed {mid = mid} {later = later} pool lease other leases gave took free are =
+    let P : List Bool → Type 0 = λ others. KeepsOthers others mid later in
+    record {
+      still = lease_outs mid other leases took free (give_outs pool lease leases gave are);
+      beside = lease_others_out mid other leases took free ∙ give_others_out pool lease leases gave;
+      others =
+          others_trans (give_keeps_others pool lease (others_out pool (lease ∷ leases)) gave)
+          (subst P (give_others_out pool lease leases gave) (lease_keeps_others mid other leases took free));
+    }
+
+none_of : (cursors : List Cursor) → length cursors ≡ 0 → cursors ≡ []
+none_of [] is = refl
+none_of (cursor ∷ cursors) is = absurd (omega (arith, is))
+
+-- the leases of the groups stay
+held_same :
+    (old new : Groups) → lists_at_hand old ≡ 0 → new.into.merge.cursors.items ≡ [] → new.places.lease ≡ old.places.lease
+    → new.into.writer.lease ≡ old.into.writer.lease → groups_held new ≡ groups_held old
+held_same old new empty none places lists =
+    ap (λ cs. new.places.lease ∷ new.into.writer.lease ∷ leases_of cs) (none ∙ sym (none_of old.into.merge.cursors.items empty))
+    ∙ ap (λ (l : ℕ). l ∷ new.into.writer.lease ∷ leases_of old.into.merge.cursors.items) places
+    ∙ ap (λ (l : ℕ). old.places.lease ∷ l ∷ leases_of old.into.merge.cursors.items) lists
+
+pub passes_over :
+    {pool later : Pool} (source rest : Source) (old new : Groups) (lease : ℕ) → lease ≡ source.lease
+    → ((leases : List ℕ) → AreOut pool (lease ∷ leases) → Renews pool later lease rest.lease leases) → page_at later rest.lease ≡ None
+    → AreOut pool (pass_held source old) → lists_at_hand old ≡ 0 → new.into.merge.cursors.items ≡ [] → new.places.lease ≡ old.places.lease
+    → new.into.writer.lease ≡ old.into.writer.lease → new.into.rows ≡ old.into.rows → PassesOver pool later source rest old new
+passes_over {pool = pool} {later = later} source rest old new lease is renews no_page are empty none places lists rows =
+    let same = held_same old new empty none places lists in
+    let A : ℕ → Type 0 = λ l. AreOut pool (l ∷ groups_held old) in
+    let r = renews (groups_held old) (subst A (sym is) are) in
+    let P : List ℕ → Type 0 = λ held. AreOut later (rest.lease ∷ held) in
+    let Q : ℕ → Type 0 = λ l. KeepsOthers (others_out pool (l ∷ groups_held old)) pool later in
+    record {
+      still = subst P (sym same) r.still;
+      beside = ap (λ held. others_out later (rest.lease ∷ held)) same ∙ r.beside ∙ ap (λ l. others_out pool (l ∷ groups_held old)) is;
+      others = subst Q is r.others;
+      none = none;
+      no_page = no_page;
+      rows = rows;
+    }
+
+-- areas for fewer lists
+apart_fewer : (first other rows size count : ℕ) → count ≤ size → AreApart first (first + area_pages rows) other (other + area_pages size) → AreApart first (first + area_pages rows) other (other + area_pages count)
+apart_fewer first other rows size count few (inl before) = inl before
+apart_fewer first other rows size count few (inr behind) = inr (omega (arith, behind, few))
+
+both_fewer : (first other size count : ℕ) → count ≤ size → AreApart first (first + area_pages size) other (other + area_pages size) → AreApart first (first + area_pages count) other (other + area_pages count)
+both_fewer first other size count few (inl before) = inl (omega (arith, before, few))
+both_fewer first other size count few (inr behind) = inr (omega (arith, behind, few))
+
+pub area_fewer : (device : Device) (first size count : ℕ) → count ≤ size → IsArea device first size → IsArea device first count
+area_fewer device first size count few area = record { block = area.block; there = omega (arith, area.there, few); small = area.small }
+
+pub areas_fewer : {device : Device} {areas : Areas} {rows size : ℕ} (count : ℕ) → count ≤ size → HasAreas device areas rows size → HasAreas device areas rows count
+areas_fewer {device = device} {rows = rows} {size = size} count few has = record {
+  lists = has.lists;
+  places = λ first is. area_fewer device first size count few (has.places first is);
+  lists_apart = has.lists_apart;
+  places_apart = λ first other is also differs. both_fewer first other size count few (has.places_apart first other is also differs);
+  apart = λ first other is also. apart_fewer first other rows size count few (has.apart first other is also);
+  two_lists = has.two_lists;
+  two_places = has.two_places;
+}
+
+-- the pages of a run lie in its area
+or_true : (a b : Bool) → (a || b) ≡ true → (a ≡ true) ⊎ (b ≡ true)
+or_true true b is = inl refl
+or_true false b is = inr is
+
+within_of : (run : Run) (width page : ℕ) → is_of run width page ≡ true → (run.first ≤ page) × (page < run.first + pages_of run.count width)
+within_of run width page is = (grind (arith, nat_tests), grind (arith, nat_tests))
+
+lists_beside : (target first count rows page : ℕ) → count ≤ rows → first ≤ page → page < first + pages_of count 4 → AreApart target (target + area_pages rows) first (first + area_pages rows) → (page < target) ⊎ (target + area_pages rows ≤ page)
+lists_beside target first count rows page few from to (inl before) = inr (omega (arith, before, from))
+lists_beside target first count rows page few from to (inr behind) = inl (omega (arith, behind, few, to))
+
+places_beside : (target end first count size page : ℕ) → 2 * count ≤ size + 1 → first ≤ page → page < first + pages_of count 8 → AreApart target end first (first + area_pages size) → (page < target) ⊎ (end ≤ page)
+places_beside target end first count size page half from to (inl before) = inr (omega (arith, before, from))
+places_beside target end first count size page half from to (inr behind) = inl (omega (arith, behind, half, to))
+
+lists_from : (target end first count rows page : ℕ) → count ≤ rows → first ≤ page → page < first + pages_of count 4 → AreApart first (first + area_pages rows) target end → (page < target) ⊎ (end ≤ page)
+lists_from target end first count rows page few from to (inl before) = inl (omega (arith, before, few, to))
+lists_from target end first count rows page few from to (inr behind) = inr (omega (arith, behind, from))
+
+-- the reader of what the last pass left
+pub record ReadsPlaced (placed : PlacedLists) (reader : PlaceReader) : Type 0 where
+  pub places : reader.places ≡ placed.places
+  pub lists : reader.lists ≡ placed.lists
+  pub at : reader.at ≡ 0
+  pub next : reader.next ≡ 0
+
+pub uses_beside :
+    (placed : PlacedLists) (reader : PlaceReader) (low high : ℕ) → ReadsPlaced placed reader
+    → ((page : ℕ) → placed.places.first ≤ page → page < placed.places.first + pages_of placed.places.count 8 → (page < low) ⊎ (high ≤ page))
+    → ((page : ℕ) → placed.lists.first ≤ page → page < placed.lists.first + pages_of placed.lists.count 4 → (page < low) ⊎ (high ≤ page))
+    → UsesOutside low high (source_of reader)
+uses_beside placed reader low high reads places lists = λ page is.
+    elim (or_true (is_of reader.places 8 page) (is_of reader.lists 4 page) is) [
+      | inl of_places ↦
+          let P : Run → Type 0 = λ r. is_of r 8 page ≡ true in
+          let w = within_of placed.places 8 page (subst P reads.places of_places) in places page w.0 w.1
+      | inr of_lists ↦
+          let P : Run → Type 0 = λ r. is_of r 4 page ≡ true in
+          let w = within_of placed.lists 4 page (subst P reads.lists of_lists) in lists page w.0 w.1
+    ]
+
+outs_rest : (pool : Pool) (lease : ℕ) (held : List ℕ) → AreOut pool (lease ∷ held) → AreOut pool held
+outs_rest pool lease held are =
+    let P : List ℕ → Type 0 = λ ls. AreOut pool (lease ∷ ls) in
+    outs_first pool held (lease ∷ []) (outs_from_front pool held lease [] (subst P (sym (append-nil held)) are))
+
+no_truth : false ≡ true → ⊥
+no_truth e = cc
+
+at_area : (page low low' high high' : ℕ) → low' ≡ low → high' ≤ high → (page < low) ⊎ (high ≤ page) → (page < low') ⊎ (high' ≤ page)
+at_area page low low' high high' same less (inl below) = inl (omega (arith, below, same))
+at_area page low low' high high' same less (inr above) = inr (omega (arith, above, less))
+
+few_lists : (count size : ℕ) → 2 * count ≤ size + 1 → count ≤ size
+few_lists count size half = omega (arith, half)
+
+pub can_begin :
+    {device : Device} {pool later : Pool} (source : Source) (rest : Source) (areas : Areas) (old new : Groups) (placed : PlacedLists) (first fan places : ℕ)
+    → CanPassOn device pool source areas old placed fan → IsNextPass areas placed first → IsForPlaces areas places → PassesOver pool later source rest old new
+    → new.places.lease ≡ old.places.lease → new.into.writer.lease ≡ old.into.writer.lease
+    → CanBegin device later first places old.into.rows placed.places.count old.into.writer.lease old.places.lease
+can_begin {device = device} {later = later} source rest areas old new placed first fan places can next for_places over same_places same_lists =
+    let few = few_lists placed.places.count old.size can.half in
+    let P : List Cursor → Type 0 = λ cs. AreOut later (new.places.lease ∷ new.into.writer.lease ∷ leases_of cs) in
+    let Q : ℕ → Type 0 = λ l. AreOut later (l ∷ new.into.writer.lease ∷ []) in
+    let R : ℕ → Type 0 = λ l. AreOut later (old.places.lease ∷ l ∷ []) in
+    record {
+      leases = subst R same_lists (subst Q same_places (subst P over.none (outs_rest later rest.lease (groups_held new) over.still)));
+      lists_area = can.areas_are.lists first next.for_lists;
+      places_area = area_fewer device places old.size placed.places.count few (can.areas_are.places places for_places);
+      apart = apart_fewer first places old.into.rows old.size placed.places.count few (can.areas_are.apart first places next.for_lists for_places);
+    }
+
+pub passed_on :
+    {told : Bool} {device : Device} {pool later : Pool} (source : Source) (reader : PlaceReader) (areas : Areas) (old new : Groups) (placed : PlacedLists) (first fan places : ℕ)
+    → CanPassOn device pool source areas old placed fan → IsNextPass areas placed first → IsForPlaces areas places → places ≢ placed.places.first
+    → ReadsPlaced placed reader → AreOut pool (pass_held source old) → PassesOver pool later source (source_of reader) old new
+    → IsBegun first places old.into.rows placed.places.count old.into.writer.lease old.places.lease new → IsGrouping told device later new
+    → PassedOn told device later (source_of reader) areas old new fan first placed.places.count
+passed_on {told = told} {device = device} {pool = pool} {later = later} source reader areas old new placed first fan places can next for_places differs reads are over begun grouping =
+    let rest = source_of reader in
+    let few = few_lists placed.places.count old.size can.half in
+    let ends : area_pages new.into.rows ≡ area_pages old.into.rows = ap (λ n. area_pages n) over.rows in
+    let sizes : area_pages new.size ≡ area_pages placed.places.count = ap (λ n. area_pages n) begun.size in
+    let hand = none_hand new.into.merge begun.none in
+    let no_read : unread_in later new.into.merge.cursors.items ≡ 0 = ap (λ cs. unread_in later cs) begun.none in
+    let no_list : lists_at_hand new ≡ 0 = ap (λ cs. length cs) begun.none in
+    let counts = ap (λ (r : Run). r.count) reads.places in
+    let ids = ap (λ (r : Run). r.count) reads.lists in
+    let A : ℕ → Type 0 = λ rows. HasAreas device areas rows new.size in
+    let B : ℕ → Type 0 = λ size. HasAreas device areas old.into.rows size in
+    let C : ℕ → Type 0 = IsForLists areas in
+    let D : ℕ → Type 0 = IsForPlaces areas in
+    record {
+      reducing = record {
+        passing = record {
+          grouping = grouping;
+          leases = over.still;
+          buffers = omega (arith, can.buffers, buffers_same pool later (pass_held source old) (pass_held rest new) are over.still over.beside);
+          lists_outside =
+              uses_beside placed reader new.into.writer.filler.first (area_end new.into) reads
+              (λ page from to.
+              at_area page first new.into.writer.filler.first (first + area_pages old.into.rows) (area_end new.into) begun.lists (omega (arith, begun.lists, ends))
+              (places_beside first (first + area_pages old.into.rows) placed.places.first placed.places.count old.size page can.half from to
+              (can.areas_are.apart first placed.places.first next.for_lists can.for_places)))
+              (λ page from to.
+              at_area page first new.into.writer.filler.first (first + area_pages old.into.rows) (area_end new.into) begun.lists (omega (arith, begun.lists, ends))
+              (lists_beside first placed.lists.first placed.lists.count old.into.rows page can.ids from to
+              (can.areas_are.lists_apart first placed.lists.first next.for_lists can.for_lists next.another)));
+          places_outside =
+              uses_beside placed reader new.places.filler.first (places_end new) reads
+              (λ page from to.
+              at_area page places new.places.filler.first (places + area_pages old.size) (places_end new) begun.places
+              (omega (arith, begun.places, sizes, few))
+              (places_beside places (places + area_pages old.size) placed.places.first placed.places.count old.size page can.half from to
+              (can.areas_are.places_apart places placed.places.first for_places can.for_places differs)))
+              (λ page from to.
+              at_area page places new.places.filler.first (places + area_pages old.size) (places_end new) begun.places
+              (omega (arith, begun.places, sizes, few))
+              (lists_from places (places + area_pages old.size) placed.lists.first placed.lists.count old.into.rows page can.ids from to
+              (can.areas_are.apart placed.lists.first places can.for_lists for_places)));
+          room = omega (arith, hand, begun.written, ids, can.ids, over.rows, reads.next);
+          few = omega (arith, no_list);
+          fan_most = can.fan_most;
+          fan_least = can.fan_least;
+          begins = λ e. begun.none_found;
+          complete = λ e. absurd (no_truth e);
+          pairs = inl (omega (arith, begun.placed, no_list, counts, begun.size, reads.at));
+        };
+        areas_are = subst A (sym over.rows) (subst B (sym begun.size) (areas_fewer placed.places.count few can.areas_are));
+        few = omega (arith, over.rows, can.few);
+        for_lists = subst C (sym begun.lists) next.for_lists;
+        for_places = subst D (sym begun.places) for_places;
+      };
+      left = omega (arith, hand, no_read, no_list, counts, ids, can.ids, reads.at, reads.next);
+      rows = over.rows;
+      size = begun.size;
+      area = begun.lists;
+    }
+
+-- the lists that a pass left may be given
+run_there : {device : Device} (run : Run) (width size : ℕ) → run.width ≡ width → (0 < width) × (width ≤ 2048) → ((i : ℕ) → i < run.count → run.first + i / (2048 / width) < device.page_count) → device.page_count < 2 ^ 32 → HasRun device (run_of run)
+run_there {device = device} run width size is fits pages small = record {
+  some = omega (arith, is, fits.0);
+  fits = omega (arith, is, fits.1);
+  pages = let P : ℕ → Type 0 = λ w. (i : ℕ) → i < run.count → run.first + i / (2048 / w) < device.page_count in subst P (sym is) pages;
+  small = small;
+}
+
+places_there : (first count size pages : ℕ) → 2 * count ≤ size + 1 → first + area_pages size ≤ pages → (i : ℕ) → i < count → first + i / 256 < pages
+places_there first count size pages half there i within = omega (arith, half, there, within)
+
+lists_there : (first count rows pages : ℕ) → count ≤ rows → first + area_pages rows ≤ pages → (i : ℕ) → i < count → first + i / 512 < pages
+lists_there first count rows pages few there i within = omega (arith, few, there, within)
+
+pub can_give :
+    {told : Bool} {device : Device} {pool later : Pool} (source : Source) (reader : PlaceReader) (areas : Areas) (old new : Groups) (placed : PlacedLists) (fan : ℕ)
+    → CanPassOn device pool source areas old placed fan → ReadsPlaced placed reader
+    → PassesOver pool later source (source_of reader) old new
+    → (HasRun device (run_of placed.places) → placed.places.width ≡ 8 → CanRead told device later reader.lease → CanReadPlaces told device later reader)
+    → CanGive told device later reader
+can_give {told = told} {device = device} {later = later} source reader areas old new placed fan can reads over ready =
+    let places = can.areas_are.places placed.places.first can.for_places in
+    let lists = can.areas_are.lists placed.lists.first can.for_lists in
+    let P : Option ℕ → Type 0 = λ page. IfSome page (λ number. told ≡ true → bytes_at later reader.lease ≡ device.page number) in
+    let Q : Option ℕ → Type 0 = λ page. IfSome page (IsPageOf (run_of reader.places)) in
+    let R : Run → Type 0 = λ r. HasRun device (run_of r) in
+    record {
+      places =
+          ready
+          (run_there placed.places 8 old.size can.places_width (omega arith, omega arith)
+          (places_there placed.places.first placed.places.count old.size device.page_count can.half places.there) places.small)
+          can.places_width
+          (record { out = over.still.0; filled = subst P (sym over.no_page) tt });
+      lists =
+          subst R (sym reads.lists)
+          (run_there placed.lists 4 old.into.rows can.lists_width (omega arith, omega arith)
+          (lists_there placed.lists.first placed.lists.count old.into.rows device.page_count can.ids lists.there) lists.small);
+      width = ap (λ (r : Run). r.width) reads.lists ∙ can.lists_width;
+      few = omega (arith, ap (λ (r : Run). r.count) reads.lists, can.ids, can.few);
+      holds = subst Q (sym over.no_page) tt;
+    }
+
+-- the first pass
+
+pub can_pass :
+    {device : Device} {pool : Pool} (source : Source) (areas : Areas) (to rows room fan lists_lease places_lease : ℕ) → fan + 3 ≡ room
+    → CanReduce device pool source areas rows room lists_lease places_lease → IsForLists areas to
+    → CanPass device pool source to areas.places rows fan lists_lease places_lease
+can_pass {pool = pool} source areas to rows room fan lists_lease places_lease same can for_lists = record {
+  groups = record {
+    leases = outs_rest pool source.lease (places_lease ∷ lists_lease ∷ []) can.leases;
+    lists_area = can.areas_are.lists to for_lists;
+    places_area = can.areas_are.places areas.places (inl refl);
+    apart = can.areas_are.apart to areas.places for_lists (inl refl);
+  };
+  leases = can.leases;
+  buffers = omega (arith, can.buffers, same);
+  lists_outside = can.lists_outside to for_lists;
+  places_outside = can.places_outside areas.places (inl refl);
+  ids = can.ids;
+}
+
+pub reduce_begun :
+    {told : Bool} {device : Device} {pool : Pool} (source : Source) (areas : Areas) (groups : Groups) (to rows room fan lists_lease places_lease : ℕ)
+    → CanReduce device pool source areas rows room lists_lease places_lease → IsForLists areas to
+    → IsBegun to areas.places rows source.lists_left lists_lease places_lease groups → IsPassing told device pool source groups fan false
+    → IsReducing told device pool source areas groups fan false
+reduce_begun {device = device} source areas groups to rows room fan lists_lease places_lease can for_lists begun passing =
+    let A : ℕ → Type 0 = λ r. HasAreas device areas r groups.size in
+    let B : ℕ → Type 0 = λ s. HasAreas device areas rows s in
+    let C : ℕ → Type 0 = IsForLists areas in
+    record {
+      passing = passing;
+      areas_are = subst A (sym begun.rows) (subst B (sym begun.size) can.areas_are);
+      few = omega (arith, begun.rows, can.few);
+      for_lists = subst C (sym begun.lists) for_lists;
+      for_places = inl begun.places;
+    }
+
+pub held_begun :
+    (source : Source) (groups : Groups) (to places rows lists_lease places_lease : ℕ) → IsBegun to places rows source.lists_left lists_lease places_lease groups
+    → pass_held source groups ≡ source.lease ∷ places_lease ∷ lists_lease ∷ []
+held_begun source groups to places rows lists_lease places_lease begun =
+    ap (λ cs. source.lease ∷ groups.places.lease ∷ groups.into.writer.lease ∷ leases_of cs) begun.none
+    ∙ ap (λ (l : ℕ). source.lease ∷ l ∷ groups.into.writer.lease ∷ []) begun.places_lease
+    ∙ ap (λ (l : ℕ). source.lease ∷ places_lease ∷ l ∷ []) begun.lists_lease

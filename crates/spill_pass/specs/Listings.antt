@@ -1,0 +1,28 @@
+-- The lists of a first pass, by what is said of their source, and those of later ones.
+use Rattle.std.specs.Prelude.{ℕ, Bool, List}
+use Rattle.edge_traits.specs.Devices.{Device}
+use Rattle.page_pool.specs.Pools.{Pool}
+use Rattle.spill_pass.specs.declared.lists.Lists.{Lists}
+use Rattle.spill_pass.specs.declared.lists.Lists.TheVariants.{Given, Placed}
+use Rattle.spill_pass.specs.Places.{CanGive, DamagesPlace, ReaderHas, reads_place, source_of}
+use Rattle.spill_pass.specs.Sources.{Source}
+
+abbrev pub source_in : {S : Type 0} → (S → Source) → Lists S → Source
+source_in of (Given lists) = of lists
+source_in of (Placed reader) = source_of reader
+
+abbrev pub ready_in : {S : Type 0} → (Bool → Device → Pool → S → Type 0) → Bool → Device → Pool → Lists S → Type 0
+ready_in of told device pool (Given lists) = of told device pool lists
+ready_in of told device pool (Placed reader) = CanGive told device pool reader
+
+abbrev pub calls_in : {S : Type 0} → (Pool → S → Bool) → Pool → Lists S → Bool
+calls_in of pool (Given lists) = of pool lists
+calls_in of pool (Placed reader) = reads_place pool reader
+
+abbrev pub has_in : {S : Type 0} → ((ℕ → List ℕ) → (ℕ → List ℕ) → ℕ → S → List (List ℕ) → Type 0) → (page right : ℕ → List ℕ) → (rows : ℕ) → Lists S → List (List ℕ) → Type 0
+has_in of page right rows (Given lists) ids = of page right rows lists ids
+has_in of page right rows (Placed reader) ids = ReaderHas page right rows reader ids
+
+abbrev pub blamed_in : {S : Type 0} → (ℕ → Device → S → ℕ → ℕ → ℕ → Type 0) → (since : ℕ) → Device → Lists S → (number slot found : ℕ) → Type 0
+blamed_in of since device (Given lists) number slot found = of since device lists number slot found
+blamed_in of since device (Placed reader) number slot found = DamagesPlace since device reader number slot found
