@@ -67,7 +67,7 @@ pub(crate) fn print_rows<F: Flash, O: Sink>(
     'rows: loop {
         match job.slice(flash, pool, store) {
             Turn::More => {}
-            Turn::Line => printer.row(out, job.row()),
+            Turn::Line => printer.ready_line(out, job.line()),
             Turn::Done(rows) => return End::Whole(rows),
             Turn::Flash => return End::Flash,
             Turn::Damaged { page, slot, found } => {

@@ -1,8 +1,8 @@
-use Rattle.std.proofs.Common.{map}
-use Rattle.ghost_base.specs.Views.{value_of}
-use Rattle.key_lines.specs.Handing.{handed}
+use Rattle.std.proofs.Common.{◌∙◌, ℕ, List, refl, subst}
+use Rattle.key_lines.specs.Handing.{Hands, handed}
 use Rattle.reply_store.specs.Stored.{replies_in}
 use Rattle.key_exec.specs.Reading.{KnowsAll}
+use Rattle.key_exec.specs.Jobs.{row_of}
 use Rattle.key_exec.specs.declared.job.Turn.TheVariants as turn
 use Rattle.text_lines.specs.declared.rows.End.TheVariants as ended
 use Rattle.text_lines.proofs.Printing.{Leaves, at_first, more_slice, line_slice, ended_slice}
@@ -46,10 +46,13 @@ rows-preserved g c =
     c.begin-job.result c.rows.job c.slice.new.self (replies_in c.args.store.now.stored)
     (handed c.args.printer.now.failed (g.O.Sink.faults c.args.out.now) (g.O.Sink.written c.args.out.now))
     (handed c.rows.printer.failed (g.O.Sink.faults c.rows.out) (g.O.Sink.written c.rows.out))
-    (handed c.row-in-Line.new.self.failed (g.O.Sink.faults c.row-in-Line.new.out) (g.O.Sink.written c.row-in-Line.new.out))
-    (map value_of c.row.result.now)
+    (handed c.ready_line.new.self.failed (g.O.Sink.faults c.ready_line.new.out) (g.O.Sink.written c.ready_line.new.out))
+    (row_of c.slice.new.self)
     c.rows.invariant leaves (λ t database. c.in-Line.ensures.gives t c.args.cat.now c.args.query.now database) c.in-Line.ensures.given c.in-Line.ensures.faults c.in-Line.ensures.over
-    c.row.ensures.row c.row-in-Line.ensures.handed
+    refl
+    (subst (λ (piece : List ℕ). Hands piece (handed c.rows.printer.failed (g.O.Sink.faults c.rows.out) (g.O.Sink.written c.rows.out))
+    (handed c.ready_line.new.self.failed (g.O.Sink.faults c.ready_line.new.out) (g.O.Sink.written c.ready_line.new.out)))
+    (c.line.ensures.line ∙ c.in-Line.ensures.line) c.ready_line.ensures.handed)
 
 pub returns-in-Done-clause-rows : goal.returns-in-Done-clause-rows
 returns-in-Done-clause-rows g c = λ database knows ascending text read of_asked.
