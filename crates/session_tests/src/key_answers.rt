@@ -82,7 +82,10 @@ fn each_call_that_fails_gives_all_buffers_back(rt: HostRuntime) -> Result<(), At
             &mut flash,
         );
         assert!(rt; matches!(told, Told::Flash), "{call}");
-        assert!(rt; flash.script.calls == call && out.bytes() == FAILED, "{call}");
+        assert!(rt;
+            flash.script.calls == call && out.bytes() == FAILED,
+            "{call}"
+        );
         for _ in 0..8u32 {
             assert!(rt; pool.lease().is_some(), "{call}");
         }
