@@ -22,6 +22,8 @@ const DAYS: &[u8] =
 
 const LINES: &[u8] = b"> 2\tBob\t5\n> 3\tAnn\t9\n= 1 2\n";
 
+const FAILED: &[u8] = b"! 1 flash\n";
+
 #[test]
 fn an_answer_is_printed_through_eight_buffers(rt: HostRuntime) -> Result<(), AttachFault> {
     let cat = read_catalog(CATALOG).expect(&rt, "the catalog");
@@ -80,7 +82,10 @@ fn each_call_that_fails_gives_all_buffers_back(rt: HostRuntime) -> Result<(), At
             &mut flash,
         );
         assert!(rt; matches!(told, Told::Flash), "{call}");
-        assert!(rt; flash.script.calls == call && out.bytes() == b"! 1 flash\n", "{call}");
+        assert!(rt;
+            flash.script.calls == call && out.bytes() == FAILED,
+            "{call}"
+        );
         for _ in 0..8u32 {
             assert!(rt; pool.lease().is_some(), "{call}");
         }
