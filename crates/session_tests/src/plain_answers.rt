@@ -4,7 +4,7 @@ use crate::clinic::CATALOG;
 use csv_split::read_tables;
 use edge_traits::mem_sink::MemSink;
 use key_lines::Printer;
-use plain_eval::{Answer, Row};
+use plain_eval::answer_plain;
 use spj_parse::read_query;
 use std::alloc::AllocError;
 use tree_schema::read_catalog;
@@ -43,14 +43,11 @@ fn plain_answers_follow_the_foreign_keys(rt: HostRuntime) -> Result<(), AllocErr
     let tables = read_tables(rt.alloc(), cat.schema(), &files).expect(&rt, "the tables");
     for (text, lines) in ANSWERS {
         let query = read_query(cat.schema(), text.as_bytes()).expect(&rt, text);
-        let mut answer = Answer::begin(cat.schema(), &tables, &query);
-        let mut row = Row::new();
+        let rows = answer_plain(rt.alloc(), cat.schema(), &tables, &query)?;
         let mut out = MemSink::new(rt.alloc(), 99, 99, &[])?;
         let mut printer = Printer::new();
-        for _ in 0..9 {
-            if answer.next(&mut row) {
-                printer.row(&mut out, row.as_slice());
-            }
+        for row in rows.iter() {
+            printer.row(&mut out, row.as_slice());
         }
         assert!(rt; out.bytes() == lines.as_bytes(), "{text}");
     }
