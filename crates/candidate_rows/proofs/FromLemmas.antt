@@ -1,7 +1,8 @@
 -- The tables that a plan tests or selects of are FROM tables, and rows of the top table lead to a row of each.
-use Rattle.std.proofs.Common.{◌≡◌, ◌∙◌, ℕ, zero, suc, ◌-◌, ◌<◌, ◌≤◌, inl, inr, Bool, true, false, not, ◌&&◌, nat_eq, List, [], ◌∷◌, ◌++◌, length, get_or, slice_get, slice_set, slice_index, map, take, filter, flat_map, replicate, Option, Some, None, option_and_then, if◌then◌else◌, sym, subst, refl, ap, ap₂, arith}
-use Rattle.std.specs.List.{list_all}
+use Rattle.std.proofs.Common.{◌≡◌, ◌∙◌, ℕ, zero, suc, ◌-◌, ◌<◌, ◌≤◌, inl, inr, Bool, true, false, not, ◌&&◌, ◌||◌, nat_eq, nat_lt, List, [], ◌∷◌, ◌++◌, length, get_or, slice_get, slice_set, slice_index, take, filter, flat_map, replicate, Option, Some, None, option_and_then, if◌then◌else◌, sym, subst, refl, ap, ap₂, arith}
+use Rattle.std.specs.List.{list_all, list_any}
 use Rattle.std.proofs.lemmas.Bool.{eqb-true, eqb-false}
+use Rattle.std.proofs.lemmas.Bool.Decides.{nat_tests}
 use Rattle.std.proofs.lemmas.List.{get_or-set_same, get_or-set_other}
 use Rattle.ghost_model.specs.core.Schema.{Schema, parent, ancestor, is_visible, first_of}
 use Rattle.ghost_model.specs.core.Values.{Row, Database}
@@ -14,14 +15,13 @@ use Rattle.ghost_model.specs.forms.Layout.{count_of}
 use Rattle.ghost_model.specs.laws.SchemaTrees.{IsTree}
 use Rattle.ghost_model.specs.laws.QueryLaws.{OneReading}
 use Rattle.ghost_model.specs.laws.MeaningLaws.{IsAtOrBelow, LeadsFollowKeys, RowsLeadToRows}
-use Rattle.ghost_model.proofs.MeaningLemmas.OneRow.{Among, among_is, from_filter, both_true}
+use Rattle.ghost_model.proofs.MeaningLemmas.OneRow.{Among, among_is, from_filter, both_true, neither_true}
 use Rattle.ghost_model.proofs.MeaningLemmas.Leading.{first_step, no_step, way_is_short, table_with_parent, get_within, to_itself_within, told_place, first_some, not_to_false}
 use Rattle.ghost_model.proofs.FlashLemmas.Values.{count_there}
 use Rattle.ghost_laws.specs.Followed.{IsFollowed, AcceptedQueriesAreFollowed, is_column_from, is_condition_from}
 use Rattle.ghost_laws.specs.Scans.{known_along, stands_along, holds_or_asked_along, is_kept_row}
 use Rattle.ghost_laws.proofs.ScanLemmas.Accepted.{pass_each}
 use Rattle.spj_parse.specs.Resolved.{IsMeant, joins_of, join_to, join_with, join_by, keys_between, is_comparison}
-use Rattle.ghost_base.specs.Views.{value_of}
 use Rattle.candidate_rows.specs.declared.plan.Hop.{Hop}
 use Rattle.candidate_rows.specs.declared.plan.Test.{Test}
 use Rattle.candidate_rows.specs.declared.plan.Check.{Check}
@@ -29,12 +29,15 @@ use Rattle.candidate_rows.specs.declared.plan.Check.TheVariants.{Stands, Holds}
 use Rattle.candidate_rows.specs.declared.plan.RowPlan.{RowPlan}
 use Rattle.candidate_rows.specs.declared.next.Follow.{Follow}
 use Rattle.candidate_rows.specs.declared.work.RowWork.{RowWork}
-use Rattle.candidate_rows.specs.Plans.{IsPlanOf, IsHop, IsHopOrNone, AreHops, test_meets, check_meets, is_asked, is_tested}
-use Rattle.candidate_rows.specs.Working.{Knows, StandsFor, IsRowOf, IsLedTo, passes, told, way_to, along_hop, from_row}
+use Rattle.candidate_rows.specs.declared.plan.Known.{Known}
+use Rattle.candidate_rows.specs.Orders.{is_look_up, looks_up}
+use Rattle.candidate_rows.specs.Plans.{IsPlanOf, IsHop, IsHopOrNone, AreHops, test_meets, check_meets, is_asked, is_tested, is_shown_of, is_compared_of}
+use Rattle.candidate_rows.specs.Working.{Knows, StandsFor, IsRowOf, IsLedTo, passes, told, way_to, along_hop, from_row, is_replied}
 use Rattle.candidate_rows.specs.Steps.{row_known}
 use Rattle.candidate_rows.specs.Laws.{TestsAreThoseOfAnswers}
 use Rattle.candidate_rows.proofs.StepLemmas.{IsNowhere, Wanted, tested, selected, known_at}
 use Rattle.candidate_rows.proofs.TellLemmas.{holds_at_place}
+use Rattle.candidate_rows.proofs.ValueLemmas.{seen}
 
 -- ---- lists
 
@@ -88,6 +91,52 @@ comparisons_from schema from (Compare field operator literal ∷ conditions) all
 comparisons_from schema from (Join one other ∷ conditions) all =
     comparisons_from schema from conditions (both_true (is_condition_from schema from (Join one other)) (list_all (is_condition_from schema from) conditions) all).1
 
+-- ---- look-ups
+
+any_at : {X : Type 0} (p : X → Bool) (xs : List X) (i : ℕ) (x : X) → slice_get xs i ≡ Some x → p x ≡ true → list_any p xs ≡ true
+any_at p [] i x e h = absurd (cc (e))
+any_at p (y ∷ xs) zero x e h = let same : y ≡ x = cc in ap (λ b. b || list_any p xs) (ap p same ∙ h)
+any_at p (y ∷ xs) (suc i) x e h = ap (λ b. p y || b) (any_at p xs i x e h) ∙ by (p y)
+  where
+    by : (b : Bool) → (b || true) ≡ true
+    by true = refl
+    by false = refl
+
+itself_equal : (n : ℕ) → nat_eq n n ≡ true
+itself_equal n = grind (arith, nat_tests)
+
+unmet_among : (q : ℕ → Bool) (table : ℕ) (from : List ℕ) → is_among from table ≡ true → q table ≡ true → list_all (λ t. not (nat_eq t table)) (filter q from) ≡ false
+unmet_among q table [] among h = absurd (cc (among))
+unmet_among q table (t ∷ from) among h = by (nat_eq t table) (λ a. unmet_among q table from a h) refl among
+  where
+    rest_unmet : (b : Bool) → list_all (λ t. not (nat_eq t table)) (filter q from) ≡ false
+        → list_all (λ t. not (nat_eq t table)) (if b then t ∷ filter q from else filter q from) ≡ false
+    rest_unmet false e = e
+    rest_unmet true e = ap (λ b. not (nat_eq t table) && b) e ∙ none (not (nat_eq t table))
+      where
+        none : (b : Bool) → (b && false) ≡ false
+        none true = refl
+        none false = refl
+
+    by : (b : Bool) → (is_among from table ≡ true → list_all (λ t. not (nat_eq t table)) (filter q from) ≡ false) → nat_eq t table ≡ b → (b || is_among from table) ≡ true
+        → list_all (λ t. not (nat_eq t table)) (if q t then t ∷ filter q from else filter q from) ≡ false
+    by true later e a =
+        ap (λ b. list_all (λ t. not (nat_eq t table)) (if b then t ∷ filter q from else filter q from)) (ap q (eqb-true t table e) ∙ h)
+        ∙ ap (λ b. not b && list_all (λ t. not (nat_eq t table)) (filter q from)) e
+    by false later e a = rest_unmet (q t) (later a)
+
+unlooked_meet : (table : ℕ) (tests : List Test) → list_any (looks_up table) tests ≡ false → list_all (test_meets (λ t. not (nat_eq t table)) (λ _. true)) tests ≡ true
+unlooked_meet table [] none = refl
+unlooked_meet table (test ∷ tests) none =
+    let both = neither_true (looks_up table test) (list_any (looks_up table) tests) none in
+    ap₂ (λ a b. a && b) (by test.check refl both.0) (unlooked_meet table tests both.1)
+  where
+    by : (check : Check) → test.check ≡ check → looks_up table test ≡ false → test_meets (λ t. not (nat_eq t table)) (λ _. true) test ≡ true
+    by Stands e h =
+        ap (check_meets (λ t. not (nat_eq t table)) (λ _. true) test.known.field) e
+        ∙ ap not (sym (ap (λ c. is_look_up c && nat_eq test.known.field.table table) e) ∙ h)
+    by (Holds operator literal) e h = ap (check_meets (λ t. not (nat_eq t table)) (λ _. true) test.known.field) e
+
 module _ (cat : Catalog) (asked : Query) (plan : RowPlan) (plan_is : IsPlanOf cat asked plan) (text : List ℕ) (read : IsMeant cat.schema text asked)
     (tree : IsTree cat.schema) (one : OneReading) (accepted : AcceptedQueriesAreFollowed) where
   follows : IsFollowed cat.schema read.meant plan.top
@@ -130,14 +179,38 @@ module _ (cat : Catalog) (asked : Query) (plan : RowPlan) (plan_is : IsPlanOf ca
       ap (λ (q : Query). list_all (is_column_from cat.schema q.from) q.select) read.once ∙ follows.selected in
       (both_true (is_among asked.from field.table) _ (holds_at_place (is_column_from cat.schema asked.from) asked.select i field all there)).0
 
+  -- the row of a table of which a visible column is selected is looked up
+  pub selected_looked_up : (place : ℕ) (known : Known) → slice_get plan.select.items place ≡ Some known → is_replied known.source ≡ true
+      → list_any (looks_up known.field.table) plan.tests.items ≡ true
+  selected_looked_up place known held replied =
+      let at = known_at cat asked.select plan.select.items place known plan_is.select held in
+      let table = known.field.table in
+      let same : at.field.table ≡ table = ap (λ (f : Field). f.table) (sym at.is.field_is) in
+      let visible = seen cat table known.field.column known.source at.is.source_is ∙ replied in
+      let shown : is_shown_of cat.schema table at.field ≡ true =
+      ap (is_shown_of cat.schema table) (sym at.is.field_is) ∙ ap₂ (λ a b. a && b) (itself_equal table) visible in
+      let is : is_asked cat.schema asked table ≡ true =
+      ap (λ b. b || list_any (is_compared_of cat.schema table) asked.conditions) (any_at (is_shown_of cat.schema table) asked.select place at.field at.there shown) in
+      let among : is_among asked.from table ≡ true = ap (is_among asked.from) (sym same) ∙ selected_from place at.field at.there in
+      let missed = plan_is.tests (λ t. not (nat_eq t table)) (λ _. true)
+      ∙ ap (λ b. b && list_all (λ _. true) (filter (is_tested cat.schema) asked.conditions)) (unmet_among (is_asked cat.schema asked) table asked.from among is) in
+      by table (list_any (looks_up table) plan.tests.items) refl missed
+    where
+      by : (table : ℕ) (b : Bool) → list_any (looks_up table) plan.tests.items ≡ b → list_all (test_meets (λ t. not (nat_eq t table)) (λ _. true)) plan.tests.items ≡ false → b ≡ true
+      by table true e missed = refl
+      by table false e missed = absurd (clash (unlooked_meet table plan.tests.items e) missed)
+        where
+          clash : {b : Bool} → b ≡ true → b ≡ false → ⊥
+          clash t f = cc
+
   pub wanted_below : (work : RowWork) (table : ℕ) → Wanted plan work table → IsAtOrBelow cat.schema plan.top table
   wanted_below work table (tested test there e) =
       subst (IsAtOrBelow cat.schema plan.top) e
       (below_top test.known.field.table (test_from test (holds_at_place (test_meets (is_among asked.from) (is_from asked.from)) plan.tests.items work.at test tests_from there)))
   wanted_below work table (selected known there e) =
-      let at = known_at cat asked.select plan.select.items (length work.values.items) known plan_is.select there in
+      let at = known_at cat asked.select plan.select.items work.put known plan_is.select there in
       let same : at.field.table ≡ table = ap (λ (f : Field). f.table) (sym at.is.field_is) ∙ e in
-      subst (IsAtOrBelow cat.schema plan.top) same (below_top at.field.table (selected_from (length work.values.items) at.field at.there))
+      subst (IsAtOrBelow cat.schema plan.top) same (below_top at.field.table (selected_from work.put at.field at.there))
 
   -- ---- the tests are those of the answer
 
@@ -267,9 +340,9 @@ none_in (suc n) zero = refl
 none_in (suc n) (suc table) = none_in n table
 
 pub begin_stands : (cat : Catalog) (asked : Query) (database : Database) (given : List Reply) (identifier : ℕ) (plan : RowPlan) (work : RowWork)
-    → IsPlanOf cat asked plan → IsRowOf cat plan.top identifier → work.at ≡ 0 → work.values.items ≡ [] → work.reached ≡ slice_set (replicate 12 None) plan.top (Some identifier)
+    → IsPlanOf cat asked plan → IsRowOf cat plan.top identifier → work.at ≡ 0 → work.put ≡ 0 → work.reached ≡ slice_set (replicate 12 None) plan.top (Some identifier)
     → StandsFor cat asked database given identifier plan work
-begin_stands cat asked database given identifier plan work plan_is row at_is values_are reached_are =
+begin_stands cat asked database given identifier plan work plan_is row at_is put_is reached_are =
     let low = index_within cat.counts plan.top identifier row.some row.within in
     let few = plan_is.few_tables in
     let within : plan.top < 12 = below low few in
@@ -279,12 +352,20 @@ begin_stands cat asked database given identifier plan work plan_is row at_is val
       top = ap (λ (r : List (Option ℕ)). get_or r plan.top None) reached_are ∙ first;
       rows = λ table reached there. one_row within first table reached (nat_eq table plan.top) refl (sym (ap (λ (r : List (Option ℕ)). get_or r table None) reached_are) ∙ there);
       met = ap (λ n. list_all (passes cat.schema database given plan.top identifier) (take n plan.tests.items)) at_is;
-      values = ap (λ v. map value_of v) values_are
-          ∙ ap (λ v. told (known_along cat.schema database given plan.top identifier) (take (length v) asked.select)) (sym values_are);
+      values = λ place known held there. absurd (none_there place known
+          (sym (ap₂ (λ n m. nat_lt place n || (is_replied known.source && list_any (looks_up known.field.table) (take m plan.tests.items))) put_is at_is) ∙ there));
     }
   where
     below : {a b : ℕ} → a < b → b ≤ 12 → a < 12
     below low few = omega (arith, low, few)
+
+    none_there : (place : ℕ) (known : Known) → (nat_lt place 0 || (is_replied known.source && list_any (looks_up known.field.table) (take 0 plan.tests.items))) ≡ true → ⊥
+    none_there place known e = by (nat_lt place 0) (is_replied known.source) (grind (arith, nat_tests)) e
+      where
+        by : (a b : Bool) → a ≡ false → (a || (b && false)) ≡ true → ⊥
+        by true b h f = cc
+        by false true h f = cc
+        by false false h f = cc
 
     some_is : {a b : ℕ} → Some a ≡ Some b → a ≡ b
     some_is h = cc

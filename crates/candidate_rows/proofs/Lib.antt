@@ -7,3 +7,5 @@ mod StepLemmas
 mod TellLemmas
 mod FromLemmas
 mod AskLemmas
+mod CellLemmas
+mod NumberLemmas

@@ -1,3 +1,5 @@
+pub mod Numbered
+pub mod Orders
 pub mod Plans
 pub mod Working
 pub mod Steps

@@ -13,7 +13,7 @@ mod numbers;
 pub mod plan;
 mod reading;
 mod testing;
-mod values;
+pub mod values;
 pub mod work;
 
 pub use plan::RowPlan;

@@ -15,7 +15,8 @@ use Rattle.hidden_columns.specs.Files.{IsFileOf, HasNoValue, slot_bytes, value_s
 use Rattle.candidate_rows.specs.declared.next.Slot.{Slot}
 use Rattle.candidate_rows.specs.Working.{IsSlotOf}
 use Rattle.candidate_rows.specs.Steps.{BlamesNeeded, FailsNeeded}
-use Rattle.key_exec.specs.Blaming.{Blames}
+use Rattle.flash_pages.specs.Reads.{WasRead}
+use Rattle.key_exec.specs.Blaming.{Blames, BlamesRead}
 
 -- bytes that spell no value of a file may not stand in the slots of its column
 may_not_stand : (cat : Catalog) (table column : ℕ) (file : ColumnFile) (bytes : List ℕ) → IsFileOf cat table column file
@@ -61,4 +62,26 @@ blames_slot told since before now cat (Some slot) (Damaged number place found) i
             ∙ may_not_stand cat is.table is.column file (slot_bytes now.page file identifier) is.file.file_is (none t).no_value);
         found_is = (none t).found_is ∙ ap found_in bytes_are;
       };
+    }
+
+pub blames_read : (since : ℕ) (now : Device) (cat : Catalog) (slot : Option Slot) (fault : PageFault) → IfSome slot (IsSlotOf cat)
+    → BlamesNeeded since now slot fault → BlamesRead since now cat fault
+blames_read since now cat None fault is blames = absurd blames
+blames_read since now cat (Some slot) Flash is blames = tt
+blames_read since now cat (Some slot) (Damaged number place found) is blames =
+    let file = slot.file in
+    let identifier = slot.identifier in
+    let run : run_of file.run ≡ column_file cat is.table is.column = is.file.file_is.run_is in
+    record {
+      table = is.table;
+      column = is.column;
+      place = identifier - 1;
+      hidden = is.file.hidden;
+      within = omega (arith, is.some, is.within);
+      page_is = blames.page_is ∙ ap (λ (r : Run). page_of r (identifier - 1)) run;
+      slot_is = blames.slot_is ∙ ap (λ (r : Run). slot_of r (identifier - 1)) run;
+      bytes = blames.bytes;
+      read = subst (λ (r : Run). WasRead since now r (identifier - 1) blames.bytes) run blames.read;
+      may_not = may_not_stand cat is.table is.column file blames.bytes is.file.file_is blames.no_value;
+      found_is = blames.found_is;
     }

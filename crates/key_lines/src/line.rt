@@ -3,7 +3,7 @@
 ghost use Rattle.std.specs.Prelude.{◌≡◌, ◌≤◌, ◌+◌, ◌*◌, ◌++◌, ◌∷◌, length, map, flat_map, decimal};
 ghost use Rattle.arrayvec.specs.ArrayVec.{array_vec_len};
 ghost use Rattle.ghost_base.specs.Views.{value_of};
-ghost use Rattle.ghost_model.specs.core.Printed.{field_text, refusal_word};
+ghost use Rattle.ghost_model.specs.core.Printed.{field_text, row_line, refusal_word};
 ghost use Rattle.spj_parse.specs.Views.{refusal_of};
 ghost use Rattle.key_lines.specs.Fields.{fields_text, later_field};
 
@@ -75,6 +75,17 @@ pub fn put_fields(line: &mut Line, values: &[Value])
         put_field(line, first);
         put_later_fields(line, later);
     }
+}
+
+/// Puts the line of a row in the place of what a line has.
+pub fn put_row(line: &mut Line, values: &[Value])
+    requires few { length values.now ≤ 32 }
+    ensures items { line.new.items ≡ row_line (map value_of values.now) }
+{
+    line.clear();
+    put(line, b"> ");
+    put_fields(line, values);
+    put(line, b"\n");
 }
 
 /// Puts the word of a refusal at the end of a line, and behind that of a syntax fault its offset.

@@ -8,7 +8,7 @@ ghost use Rattle.spj_parse.specs.Views.{refusal_of};
 ghost use Rattle.key_lines.specs.Faults.{fault_line, fault_word};
 ghost use Rattle.key_lines.specs.Handing.{PiecesJoin, Hands, handed};
 
-use crate::line::{Line, put, put_fields, put_number, put_refusal};
+use crate::line::{Line, put, put_number, put_refusal, put_row};
 use edge_traits::sink::Sink;
 use edge_traits::writing::write_all;
 use ghost_base::Value;
@@ -80,11 +80,16 @@ impl Printer {
         ensures handed { Hands (row_line (map value_of values.now))
             (handed self.old.failed (O.faults out.old) (O.written out.old)) (handed self.new.failed (O.faults out.new) (O.written out.new)) }
     {
-        self.line.clear();
-        put(&mut self.line, b"> ");
-        put_fields(&mut self.line, values);
-        put(&mut self.line, b"\n");
+        put_row(&mut self.line, values);
         self.hand(out);
+    }
+
+    /// Prints a line that stands ready.
+    pub fn ready_line<O: Sink>(&mut self, out: &mut O, line: &[u8])
+        ensures handed { Hands line.now
+            (handed self.old.failed (O.faults out.old) (O.written out.old)) (handed self.new.failed (O.faults out.new) (O.written out.new)) }
+    {
+        hand(&mut self.failed, out, line);
     }
 
     /// Prints the line with the number of rows of a text.
@@ -140,11 +145,18 @@ impl Printer {
         ensures handed { Hands self.old.line.items
             (handed self.old.failed (O.faults out.old) (O.written out.old)) (handed self.new.failed (O.faults out.new) (O.written out.new)) }
     {
-        if self.failed {
-            return;
-        }
-        if write_all(out, self.line.as_slice()).is_err() {
-            self.failed = true;
-        }
+        hand(&mut self.failed, out, self.line.as_slice());
+    }
+}
+
+/// Hands a piece to the sink, where no write failed.
+fn hand<O: Sink>(failed: &mut bool, out: &mut O, piece: &[u8])
+    ensures handed { Hands piece.now (handed failed.old (O.faults out.old) (O.written out.old)) (handed failed.new (O.faults out.new) (O.written out.new)) }
+{
+    if *failed {
+        return;
+    }
+    if write_all(out, piece).is_err() {
+        *failed = true;
     }
 }

@@ -40,11 +40,11 @@ can_still told device pool old new cat teller can = record {
 
 pub come_on : (before_it made later : Journal → Type 0) (told : Bool) (texts : List (List ℕ)) (since before now : SessionSide) (pool more : Pool) (old new : Session)
     → ((first then : Journal) → before_it first → made then → later (first ++ then))
-    → ((journal : Journal) → IsLive told texts journal since before pool old → WentOn made told texts journal since now more new)
+    → ((journal : Journal) → IsLive told texts journal since before pool old → WentOn made told texts journal since now more old new)
     → HasCome before_it told texts since before pool old → HasCome later told texts since now more new
 come_on before_it made later told texts since before now pool more old new joins steps come = by (steps come.journal come.live)
   where
-    by : WentOn made told texts come.journal since now more new → HasCome later told texts since now more new
+    by : WentOn made told texts come.journal since now more old new → HasCome later told texts since now more new
     by (ByMove moved) = record { journal = come.journal ++ moved.made ∷ []; went = joins come.journal (moved.made ∷ []) come.went moved.went; live = moved.live }
     by (BySlice goes live) = record {
       journal = come.journal;

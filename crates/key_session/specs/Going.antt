@@ -1,5 +1,5 @@
 -- A session that is under way.
-use Rattle.std.specs.Prelude.{◌≡◌, ℕ, suc, ◌≤◌, ◌+◌, ◌*◌, ◌&&◌, Bool, true, false, not, List, [], ◌∷◌, ◌++◌, length, slice_get, Option, None, Some, Ok, is_some, if◌then◌else◌}
+use Rattle.std.specs.Prelude.{◌≡◌, ℕ, suc, ◌≤◌, ◌+◌, ◌*◌, ◌&&◌, Bool, true, false, not, List, [], ◌∷◌, ◌++◌, length, slice_get, Option, None, Some, Ok, is_some, option_map, if◌then◌else◌}
 use Rattle.ghost_model.specs.core.Query.{Query}
 use Rattle.ghost_model.specs.readings.QueryReading.{reading}
 use Rattle.ghost_model.specs.core.Channel.{Catalog, Journal, Entry}
@@ -28,6 +28,14 @@ use Rattle.text_lines.specs.Telling.{CanTell, IsUnderWay}
 use Rattle.text_lines.specs.declared.telling.Telling.{Telling}
 use Rattle.text_lines.specs.declared.text.Told.{Told}
 use Rattle.key_session.specs.Counting.{IsCounted, reason_of, damage_in, first_damage}
+use Rattle.ghost_model.specs.core.Moves.{taken}
+use Rattle.ghost_model.specs.core.NextMove.{heard}
+use Rattle.channel_pump.specs.Marks.{asked_at}
+use Rattle.channel_pump.specs.Progress.{Tells}
+use Rattle.channel_pump.specs.declared.state.Event.{Event}
+use Rattle.key_session.specs.Order.{IsPaced, IsSliced, due_of, is_closed}
+use Rattle.key_session.specs.declared.pace.Due.{Due}
+use Rattle.key_session.specs.declared.pace.Due.TheVariants as due
 use Rattle.key_session.specs.Refusing.{first_code}
 use Rattle.key_session.specs.Telling.{SessionSide, CameOut, IsTelling, texts_left}
 use Rattle.key_session.specs.declared.counts.Counts.{Counts}
@@ -130,30 +138,53 @@ pub record IsLive (pages_told : Bool) (texts : List (List ℕ)) (journal : Journ
   pub amid : IsAmid pages_told session.cat.now texts journal since now pool session.exchange.pump session.teller session.replies
   pub refusal_is : session.refusal ≡ first_code (heard_in session.cat.now texts journal).ended
 
--- one more move was made: of the channel, the texts and the first refusal
-pub record MovedOn (goes : Journal → Type 0) (pages_told : Bool) (catalog : Catalog) (at : List ℕ) (texts : List (List ℕ)) (journal : Journal) (since now : SessionSide) (pool : Pool) (exchange : Exchange) (teller : Teller) (kept : Replies) (refusal : Option ℕ) : Type 0 where
+-- one more move was made, which led to an event: of the channel, the texts and the first refusal
+pub record MovedOn (goes : Journal → Type 0) (pages_told : Bool) (catalog : Catalog) (at : List ℕ) (texts : List (List ℕ)) (journal : Journal) (since now : SessionSide) (pool : Pool) (event : Event) (exchange : Exchange) (teller : Teller) (kept : Replies) (refusal : Option ℕ) : Type 0 where
   pub made : Entry
   pub went : goes (made ∷ [])
   pub channel : moves.IsLive catalog at (asked_of catalog.schema texts) (journal ++ made ∷ []) exchange
+  pub tells : Tells catalog exchange.page event (heard_in catalog texts journal) (heard_in catalog texts (journal ++ made ∷ []))
   pub amid : IsAmid pages_told catalog texts (journal ++ made ∷ []) since now pool exchange.pump teller kept
   pub refusal_is : refusal ≡ first_code (heard_in catalog texts (journal ++ made ∷ [])).ended
 
-pub record WasMoved (goes : Journal → Type 0) (pages_told : Bool) (texts : List (List ℕ)) (journal : Journal) (since now : SessionSide) (pool : Pool) (session : Session) : Type 0 where
+-- one more move was made, and the pace goes by what it led to
+pub record WasMoved (goes : Journal → Type 0) (pages_told : Bool) (texts : List (List ℕ)) (journal : Journal) (since now : SessionSide) (pool : Pool) (old session : Session) : Type 0 where
   pub made : Entry
   pub went : goes (made ∷ [])
+  pub event : Event
+  pub tells : Tells session.cat.now session.exchange.page event (heard_in session.cat.now texts journal) (heard_in session.cat.now texts (journal ++ made ∷ []))
+  pub paced : IsPaced event old.pace session.pace
   pub live : IsLive pages_told texts (journal ++ made ∷ []) since now pool session
 
 -- a step made one more move, or none, and the session lives on
-pub data WentOn (goes : Journal → Type 0) (pages_told : Bool) (texts : List (List ℕ)) (journal : Journal) (since now : SessionSide) (pool : Pool) (session : Session) : Type 0 where
-  ByMove : WasMoved goes pages_told texts journal since now pool session → WentOn goes pages_told texts journal since now pool session
-  BySlice : goes [] → IsLive pages_told texts journal since now pool session → WentOn goes pages_told texts journal since now pool session
+pub data WentOn (goes : Journal → Type 0) (pages_told : Bool) (texts : List (List ℕ)) (journal : Journal) (since now : SessionSide) (pool : Pool) (old session : Session) : Type 0 where
+  ByMove : WasMoved goes pages_told texts journal since now pool old session → WentOn goes pages_told texts journal since now pool old session
+  BySlice : goes [] → IsLive pages_told texts journal since now pool session → WentOn goes pages_told texts journal since now pool old session
 
--- what a step does, whatever the pages hold: one move, and the sink and the flash stay as they are; or a slice, which gives a
--- line at most or calls the flash, eight times at most, and the channel stays as it is
-pub data MadeStep (before after : SessionSide) (old new : Session) : Type 0 where
-  AMove : after ≡ before → new.teller ≡ old.teller → moves_left new.exchange.pump + 1 ≤ moves_left old.exchange.pump → MadeStep before after old new
-  ASlice : new.exchange ≡ old.exchange → TakesTurn before.sink after.sink before.flash.calls after.flash.calls → after.flash.calls ≤ before.flash.calls + 8
-      → left_of new.teller + 1 ≤ left_of old.teller → MadeStep before after old new
+-- what a step does that is due, whatever the pages hold. A move gives no line, and the flash stays as it is.
+pub record MakesMove (before after : SessionSide) (old new : Session) : Type 0 where
+  pub outside : after ≡ before
+  pub teller : new.teller ≡ old.teller
+  pub fewer : moves_left new.exchange.pump + 1 ≤ moves_left old.exchange.pump
+
+-- A slice gives one line, or none and it calls the flash, eight times at most. The channel stays as it is.
+pub record MakesSlice (before after : SessionSide) (old new : Session) : Type 0 where
+  pub exchange : new.exchange ≡ old.exchange
+  pub turn : TakesTurn before.sink after.sink before.flash.calls after.flash.calls
+  pub few : after.flash.calls ≤ before.flash.calls + 8
+  pub fewer : left_of new.teller + 1 ≤ left_of old.teller
+  pub sliced : IsSliced old.pace new.pace
+
+abbrev pub MadeStep : Due → (before after : SessionSide) → (old new : Session) → Type 0
+MadeStep due.Move before after old new = MakesMove before after old new
+MadeStep due.Slice before after old new = MakesSlice before after old new
+MadeStep due.Ended before after old new = ⊥
+
+-- what is due of a session, whose channel went by a journal
+abbrev pub due_in : Catalog → (asks : List NumberedAsk) → Journal → Session → Due
+due_in catalog asks journal session =
+    due_of (is_closed (want_of session.exchange.pump)) (is_some session.teller.ahead) session.pace.owed (session.teller.count + 1)
+    (option_map (λ (asked : NumberedAsk). asked.text) (asked_at (heard catalog asks (taken journal)).awaits))
 
 -- how many steps are left at most
 abbrev pub steps_left : Session → ℕ

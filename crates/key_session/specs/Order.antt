@@ -1,11 +1,12 @@
 -- The order of work. A slice of the text that comes next is due where its asks are all ended and either the pace still allows
 -- one before the next move, or the next move would send the first ask of a text two behind it at least, or the link is closed.
-use Rattle.std.specs.Prelude.{◌≡◌, ℕ, ◌+◌, Bool, true, false, ◌&&◌, ◌||◌, nat_lt, nat_le, List, length, get_or, if◌then◌else◌, Option, None, Some, option_map}
+use Rattle.std.specs.Prelude.{◌≡◌, ℕ, ◌+◌, ◌-◌, Bool, true, false, ◌&&◌, ◌||◌, nat_lt, nat_le, List, length, get_or, if◌then◌else◌, Option, None, Some, option_map}
 use Rattle.ghost_model.specs.core.Asks.{NumberedAsk}
 use Rattle.channel_pump.specs.declared.state.Event.{Event}
 use Rattle.channel_pump.specs.declared.state.Event.TheVariants as event_is
 use Rattle.channel_pump.specs.declared.state.Want.{Want}
 use Rattle.channel_pump.specs.declared.state.Want.TheVariants as want
+use Rattle.key_session.specs.declared.pace.Pace.{Pace}
 use Rattle.key_session.specs.declared.pace.Due.{Due}
 use Rattle.key_session.specs.declared.pace.Due.TheVariants as due
 
@@ -40,3 +41,20 @@ abbrev pub due_of : (closed left : Bool) (owed text : ℕ) → Option ℕ → Du
 due_of closed left owed text asked =
     if closed then (if left then due.Slice else due.Ended)
     else if left && is_first owed text asked then due.Slice else due.Move
+
+-- what becomes of the pace in a move that led to an event, and in a slice
+pub record IsPaced (event : Event) (old new : Pace) : Type 0 where
+  pub owed : new.owed ≡ owed_on event old.numbers.now old.place
+  pub place : new.place ≡ place_on event old.numbers.now old.place
+  pub numbers : new.numbers ≡ old.numbers
+
+pub record IsSliced (old new : Pace) : Type 0 where
+  pub owed : new.owed ≡ old.owed - 1
+  pub place : new.place ≡ old.place
+  pub numbers : new.numbers ≡ old.numbers
+
+-- the pace before the first move
+pub record IsUnpaced (numbers : List ℕ) (pace : Pace) : Type 0 where
+  pub owed : pace.owed ≡ 0
+  pub place : pace.place ≡ 0
+  pub numbers_are : pace.numbers.now ≡ numbers

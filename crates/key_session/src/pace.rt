@@ -1,7 +1,7 @@
 //! The order of work: what a session does next, and how many slices may come between two moves.
 
 ghost use Rattle.std.specs.Prelude.{◌≡◌, ◌≤◌, ◌-◌, get_or};
-ghost use Rattle.key_session.specs.Order.{owed_on, place_on, is_owed};
+ghost use Rattle.key_session.specs.Order.{IsPaced, IsSliced, IsUnpaced, is_owed};
 
 use channel_pump::state::Event;
 
@@ -51,9 +51,7 @@ pub(crate) fn comes_first(owed: u16, text: u32, asked: u32) -> bool
 impl<'a> Pace<'a> {
     /// Before the first move no slice is allowed.
     pub(crate) fn new(numbers: &'a [u16]) -> Self
-        ensures owed { result.owed ≡ 0 }
-        ensures place { result.place ≡ 0 }
-        ensures numbers { result.numbers.now ≡ numbers.now }
+        ensures unpaced { IsUnpaced numbers.now result }
     {
         Pace {
             numbers,
@@ -64,9 +62,7 @@ impl<'a> Pace<'a> {
 
     /// Goes on after a move that led to an event: behind a frame of rows the next number is allowed, and else none.
     pub(crate) fn moved(&mut self, event: Event)
-        ensures owed { self.new.owed ≡ owed_on event self.old.numbers.now self.old.place }
-        ensures place { self.new.place ≡ place_on event self.old.numbers.now self.old.place }
-        ensures numbers { self.new.numbers ≡ self.old.numbers }
+        ensures paced { IsPaced event self.old self.new }
     {
         match event {
             Event::Rows(_) => {
@@ -85,9 +81,7 @@ impl<'a> Pace<'a> {
 
     /// Goes on after a slice.
     pub(crate) fn sliced(&mut self)
-        ensures owed { self.new.owed ≡ self.old.owed - 1 }
-        ensures place { self.new.place ≡ self.old.place }
-        ensures numbers { self.new.numbers ≡ self.old.numbers }
+        ensures sliced { IsSliced self.old self.new }
     {
         self.owed = self.owed.saturating_sub(1);
     }

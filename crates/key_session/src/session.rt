@@ -24,8 +24,8 @@ ghost use Rattle.key_session.specs.Refusing.{first_code};
 ghost use Rattle.key_exec.specs.Plans.{Suffices};
 ghost use Rattle.page_pool.specs.Pools.{Pool, IsIdle};
 ghost use Rattle.text_lines.specs.Rows.{PrintsSome, TakesTurn};
-ghost use Rattle.key_session.specs.Going.{CanStep, IsAmid, IsLive, IsNext, MovedOn, WasMoved, WentOn, MadeStep, left_of, steps_left};
-ghost use Rattle.key_session.specs.Order.{due_of, is_closed, is_first};
+ghost use Rattle.key_session.specs.Going.{CanStep, IsAmid, IsLive, IsNext, MovedOn, WasMoved, WentOn, MadeStep, due_in, left_of, steps_left};
+ghost use Rattle.key_session.specs.Order.{IsSliced, IsUnpaced, is_closed, is_first};
 ghost use Rattle.key_session.specs.Running.{HasRun, is_sink, status_with, blames_flash, is_damaged, spares_flash};
 ghost use Rattle.key_session.specs.Telling.{SessionSide, session_side};
 
@@ -87,6 +87,7 @@ impl<'a> Session<'a> {
         ensures at { result.at.now ≡ options.now.at.now }
         ensures fresh { result.teller.printer.failed ≡ false }
         ensures running { result.teller.running ≡ None }
+        ensures pace { IsUnpaced options.now.pace.now result.pace }
     {
         pieces_join();
         Session {
@@ -104,9 +105,7 @@ impl<'a> Session<'a> {
     /// move, or the next move would send the first ask of a text two behind it at least, or the link is closed. Else a move, and
     /// with the link closed nothing once no text is left.
     pub fn due(&self) -> Due
-        ensures rule { (catalog : channel.Catalog) (asks : List NumberedAsk) (journal : Journal) → IsAfter catalog asks journal self.now.exchange.pump
-            → result ≡ due_of (is_closed (want_of self.now.exchange.pump)) (is_some self.now.teller.ahead) self.now.pace.owed (self.now.teller.count + 1)
-            (option_map (λ asked. asked.text) (asked_at (heard catalog asks (taken journal)).awaits)) }
+        ensures rule { (catalog : channel.Catalog) (asks : List NumberedAsk) (journal : Journal) → IsAfter catalog asks journal self.now.exchange.pump → result ≡ due_in catalog asks journal self.now }
         ensures going { result ≡ Due.Move → want_of self.now.exchange.pump ≢ Want.Closed }
         ensures left { result ≡ Due.Slice → is_some self.now.teller.ahead ≡ true }
         ensures closed { result ≡ Due.Ended → want_of self.now.exchange.pump ≡ Want.Closed }
@@ -149,8 +148,9 @@ impl<'a> Session<'a> {
         requires can { CanStep F.told (F.state flash.old) pool.old self.old }
         ensures can { CanStep F.told (F.state flash.new) pool.new self.new }
         ensures live { (texts : List (List ℕ)) (journal : Journal) (since : SessionSide) → IsLive F.told texts journal since (session_side self.old.teller.printer.failed (O.faults out.old) (O.written out.old) (F.state flash.old)) pool.old self.old
-            → WentOn (WentBy (λ more. L.went link.old more link.new) (L.faults link.old) (L.faults link.new)) F.told texts journal since (session_side self.new.teller.printer.failed (O.faults out.new) (O.written out.new) (F.state flash.new)) pool.new self.new }
-        ensures made { MadeStep (session_side self.old.teller.printer.failed (O.faults out.old) (O.written out.old) (F.state flash.old)) (session_side self.new.teller.printer.failed (O.faults out.new) (O.written out.new) (F.state flash.new)) self.old self.new }
+            → WentOn (WentBy (λ more. L.went link.old more link.new) (L.faults link.old) (L.faults link.new)) F.told texts journal since (session_side self.new.teller.printer.failed (O.faults out.new) (O.written out.new) (F.state flash.new)) pool.new self.old self.new }
+        ensures made { (catalog : channel.Catalog) (asks : List NumberedAsk) (journal : Journal) → IsAfter catalog asks journal self.old.exchange.pump
+            → MadeStep (due_in catalog asks journal self.old) (session_side self.old.teller.printer.failed (O.faults out.old) (O.written out.old) (F.state flash.old)) (session_side self.new.teller.printer.failed (O.faults out.new) (O.written out.new) (F.state flash.new)) self.old self.new }
         ensures fewer { steps_left self.new < steps_left self.old }
         ensures cat { self.new.cat ≡ self.old.cat }
         ensures at { self.new.at ≡ self.old.at }
@@ -176,7 +176,7 @@ impl<'a> Session<'a> {
         ensures live { (told : Bool) (texts : List (List ℕ)) (journal : Journal) (since now : SessionSide) (pool : Pool)
             → ((asked : NumberedAsk) → asked_in (heard_in self.old.cat.now texts journal).awaits ≡ Some asked → asked.text ≤ self.old.teller.count + 2)
             → IsLive told texts journal since now pool self.old
-            → WasMoved (WentBy (λ more. L.went link.old more link.new) (L.faults link.old) (L.faults link.new)) told texts journal since now pool self.new }
+            → WasMoved (WentBy (λ more. L.went link.old more link.new) (L.faults link.old) (L.faults link.new)) told texts journal since now pool self.old self.new }
         ensures teller { self.new.teller ≡ self.old.teller }
         ensures cat { self.new.cat ≡ self.old.cat }
         ensures at { self.new.at ≡ self.old.at }
@@ -210,6 +210,7 @@ impl<'a> Session<'a> {
             (F.state flash.old).calls (F.state flash.new).calls }
         ensures few { (F.state flash.new).calls ≤ (F.state flash.old).calls + 8 }
         ensures fewer { left_of self.new.teller < left_of self.old.teller }
+        ensures sliced { IsSliced self.old.pace self.new.pace }
     {
         self.teller
             .take_up(self.cat, &self.exchange.pump, &mut self.replies);
@@ -256,7 +257,7 @@ fn make_move<L: Link>(
         → ((asked : NumberedAsk) → asked_in (heard_in cat.now texts journal).awaits ≡ Some asked → asked.text ≤ teller.count + 2)
         → moves.IsLive cat.now at.now (asked_of cat.now.schema texts) journal exchange.old → IsAmid told cat.now texts journal since now pool exchange.old.pump teller replies.old
         → refusal ≡ first_code (heard_in cat.now texts journal).ended
-        → MovedOn (WentBy (λ more. L.went link.old more link.new) (L.faults link.old) (L.faults link.new)) told cat.now at.now texts journal since now pool exchange.new teller replies.new result.0 }
+        → MovedOn (WentBy (λ more. L.went link.old more link.new) (L.faults link.old) (L.faults link.new)) told cat.now at.now texts journal since now pool result.1 exchange.new teller replies.new result.0 }
     ensures fewer { moves_left exchange.new.pump < moves_left exchange.old.pump }
     ensures faults { L.faults link.old ≤ L.faults link.new }
 {

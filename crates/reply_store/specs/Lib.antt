@@ -1,4 +1,5 @@
 pub mod Stored
 pub mod Segments
+pub mod Rows
 pub mod Kept
 pub mod Laws

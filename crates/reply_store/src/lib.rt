@@ -7,9 +7,11 @@
 
 mod cells;
 pub mod laws;
+pub mod row;
 mod rows;
 mod search;
 mod segment;
 pub mod store;
 
+pub use row::ReplyRow;
 pub use store::ReplyStore;

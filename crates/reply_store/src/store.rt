@@ -1,14 +1,14 @@
 //! The replies of one text.
 
-ghost use Rattle.std.specs.Prelude.{◌≡◌, ◌≤◌, ◌<◌, ◌+◌, ◌*◌, ◌++◌, ◌∷◌, [], true, length, option_map, IfOk, IsTrue};
-ghost use Rattle.ghost_base.specs.Views.{value_of};
+ghost use Rattle.std.specs.Prelude.{◌≡◌, ℕ, ◌≤◌, ◌<◌, ◌+◌, ◌*◌, ◌++◌, ◌∷◌, [], true, length, is_some, IfOk, IfSome};
 ghost use Rattle.ghost_model.specs.forms.Layout as layout;
 ghost use Rattle.ghost_model.specs.forms.Layout.{count_of};
 ghost use Rattle.ghost_model.specs.core.Replies.{reply_about, stands_in, replied_value};
 ghost use Rattle.channel_codec.specs.AskViews.{ask_view};
+ghost use Rattle.reply_store.specs.Rows.{cell_of};
 ghost use Rattle.reply_store.specs.Stored.{room_for, opened, with_rows, bytes_in, replies_in, are_ascending};
 
-use crate::cells::value_among;
+use crate::row::ReplyRow;
 use crate::rows::row_of;
 use crate::search::about;
 use crate::segment::Segment;
@@ -16,7 +16,6 @@ use channel_codec::ask::Ask;
 use channel_codec::bytes::behind;
 use flash_layout::areas::spool_width;
 use flash_layout::limits::a_catalog_has_a_layout;
-use ghost_base::Value;
 use ghost_base::limits::MAX_TABLES;
 use std::alloc::{AllocError, Global};
 use std::marker::Model;
@@ -115,28 +114,23 @@ impl ReplyStore {
         let _ = self.bytes.extend_from_slice(rows);
     }
 
-    /// Whether a row of a table stands in the reply of that table. Where the table was not asked for, it does.
-    pub fn stands(&self, table: usize, identifier: u32) -> bool
-        ensures stands { are_ascending (replies_in self.now.stored) ≡ true → result ≡ stands_in identifier (reply_about table (replies_in self.now.stored)) }
-    {
-        match about(&self.segments, &self.bytes, table) {
-            None => true,
-            Some(found) => row_of(found.rows, found.segment.width, identifier).is_some(),
-        }
-    }
-
-    /// The value of a column in a row of a table, as it was replied. There is none where the table was not asked for, the row
-    /// does not stand in its reply, or the column was not asked for.
-    pub fn value(&self, table: usize, identifier: u32, column: usize) -> Option<Value>
-        ensures value { are_ascending (replies_in self.now.stored) ≡ true → option_map value_of result ≡ replied_value (replies_in self.now.stored) table identifier column }
+    /// The row of a table that has an identifier, as it was replied. There is none where the table was asked for and no such row
+    /// stands in its reply; where the table was not asked for, it is a row without cells.
+    pub fn row(&self, table: usize, identifier: u32) -> Option<ReplyRow<'_>>
+        ensures stands { are_ascending (replies_in self.now.stored) ≡ true → is_some result ≡ stands_in identifier (reply_about table (replies_in self.now.stored)) }
+        ensures cells { are_ascending (replies_in self.now.stored) ≡ true → IfSome result (λ row. (column : ℕ) → cell_of row column ≡ replied_value (replies_in self.now.stored) table identifier column) }
     {
         let Some(found) = about(&self.segments, &self.bytes, table) else {
-            return None;
+            return Some(ReplyRow::without_cells());
         };
         let segment = found.segment;
-        let Some(row) = row_of(found.rows, segment.width, identifier) else {
-            return None;
-        };
-        value_among(&segment.ask.columns, &segment.kinds, behind(row, 4), column)
+        match row_of(found.rows, segment.width, identifier) {
+            None => None,
+            Some(row) => Some(ReplyRow {
+                columns: &segment.ask.columns,
+                kinds: &segment.kinds,
+                cells: behind(row, 4),
+            }),
+        }
     }
 }

@@ -47,7 +47,12 @@ fn page_of(front: &[u8]) -> [u8; 2048] {
 
 /// A device of the clinic's hidden columns, whose making was one call.
 pub(crate) fn device(alloc: Global) -> Result<MemFlash, AttachFault> {
-    let mut flash = MemFlash::new(alloc, 14, &[])?;
+    failing_device(alloc, &[])
+}
+
+/// One that fails at the calls numbered in `fails`, from 1.
+pub(crate) fn failing_device(alloc: Global, fails: &[u64]) -> Result<MemFlash, AttachFault> {
+    let mut flash = MemFlash::new(alloc, 14, fails)?;
     flash.make(alloc, "key", 14)?;
     for (page, front) in COLUMNS.as_slice() {
         flash.put_page(*page, &page_of(front));

@@ -2,7 +2,7 @@
 
 ghost use Rattle.text_lines.specs.Telling.{CanTell};
 
-use crate::clinic::{CATALOG, ask_for, device};
+use crate::clinic::{CATALOG, ask_for, device, failing_device};
 use channel_pump::state::ReplyState;
 use edge_traits::flash::{AttachFault, Flash};
 use edge_traits::mem_sink::MemSink;
@@ -24,6 +24,8 @@ const DAYS: &[u8] =
     b"\0\0\0\x01\x80\0\0\0\0\0\0\x05\0\0\0\x02\x80\0\0\0\0\0\0\x05\0\0\0\x03\x80\0\0\0\0\0\0\x09";
 
 const LINES: &[u8] = b"> 2\tBob\t5\n> 3\tAnn\t9\n= 1 2\n";
+
+const FAILED: &[u8] = b"! 1 flash\n";
 
 /// Tells a text to its end.
 fn tell<F: Flash, O: Sink>(
@@ -72,5 +74,31 @@ fn an_answer_is_printed_through_eight_buffers(rt: HostRuntime) -> Result<(), Att
         assert!(rt; pool.lease().is_some());
     }
     assert!(rt; pool.lease().is_none());
+    Ok(())
+}
+
+#[test]
+fn each_call_that_fails_gives_all_buffers_back(rt: HostRuntime) -> Result<(), AttachFault> {
+    let cat = read_catalog(CATALOG).expect(&rt, "the catalog");
+    let mut store = ReplyStore::new(rt.alloc(), &cat)?;
+    store.begin_ask(cat.schema(), &ask_for(2));
+    store.push_rows(DAYS);
+    for call in 2..6u64 {
+        let mut flash = failing_device(rt.alloc(), &[call])?;
+        assert!(rt; need(&cat) <= flash.pages());
+        let mut out = MemSink::new(rt.alloc(), 99, 99, &[])?;
+        let mut printer = Printer::new();
+        let mut pool = PagePool::new(rt.alloc(), 8)?;
+        let telling = Telling::begin(&cat, Plan::Scan, 1, VISITS, ReplyState::Done);
+        let told = tell(telling, &mut printer, &mut out, &store, &mut pool, &mut flash);
+        assert!(rt; matches!(told, Told::Flash), "{call}");
+        assert!(rt;
+            flash.script.calls == call && out.bytes() == FAILED,
+            "{call}"
+        );
+        for _ in 0..8u32 {
+            assert!(rt; pool.lease().is_some(), "{call}");
+        }
+    }
     Ok(())
 }

@@ -18,4 +18,4 @@ returns-clause-moved g c = λ told texts journal since now pool teller near chan
     (λ after low top other tells apart kept. c.hear.ensures.others c.args.cat.now (heard_in c.args.cat.now texts journal) after low top other tells apart kept)
     (c.await_reply-is_awaited.ensures.awaited (asked_of c.args.cat.now.schema texts) journal channel.after)
     c.first_refusal.ensures.first in
-    record { made = moved.made; went = moved.went; channel = moved.live; amid = both.0; refusal_is = both.1 }
+    record { made = moved.made; went = moved.went; channel = moved.live; tells = moved.tells; amid = both.0; refusal_is = both.1 }
