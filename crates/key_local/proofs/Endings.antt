@@ -3,7 +3,7 @@ use Rattle.std.proofs.Common.{◌≡◌, ◌⊎◌, inl, inr, ◌≤◌, ◌<◌
 use Rattle.std.specs.Prelude.{count_by}
 use Rattle.std.proofs.lemmas.Bool.{cases_lt}
 use Rattle.ghost_model.specs.core.Causes.{Rose, last_count}
-use Rattle.ghost_model.specs.core.Channel.{Catalog}
+use Rattle.ghost_model.specs.core.Channel.{Catalog, Journal}
 use Rattle.ghost_model.specs.core.Database.{IsDatabase}
 use Rattle.ghost_model.specs.forms.Flash.{HoldsFiles, HoldsFilesSoFar, Holds}
 use Rattle.ghost_model.specs.forms.Layout.{need}
@@ -20,7 +20,7 @@ use Rattle.key_words.specs.Words.{Local}
 use Rattle.key_plain.specs.Openings.{PlainInput}
 use Rattle.key_lines.specs.Handing.{Hands, handed}
 use Rattle.local_lines.specs.Lines.{Gives, bytes_given, is_cut}
-use Rattle.key_local.specs.Sessions.{Subject, subject, catalog_for, LocalSide, Ran, HasLines, session_side_in, is_sink}
+use Rattle.key_local.specs.Sessions.{Subject, subject, catalog_for, LocalSide, Ran, GivesLines, HasLines, session_side_in, is_sink}
 use Rattle.key_local.specs.Results.{EndsLocal, EndsLocalCall, EndsSomeLocal, IsMade, subject_of, blames_depot, blames_flash, is_faultless}
 use Rattle.key_local.specs.Making.{IsOfMaking}
 use Rattle.key_local.specs.Reading.{AreSpelled}
@@ -64,6 +64,13 @@ rose_after before more now later counts rose = of_cases (cases_lt now last_count
     of_cases (inl below) = let is = counts.exact below in omega (arith, is, rose)
     of_cases (inr last) = omega (arith, last, rose)
 
+lines_since : (catalog : Catalog) (texts : List (List ℕ)) (journal : Journal) (failed : Bool) (before middle after : LocalSide) → middle.sink_faults ≡ before.sink_faults → middle.written ≡ before.written
+    → GivesLines catalog texts journal (handed false middle.sink_faults middle.written) (handed failed after.sink_faults after.written)
+    → GivesLines catalog texts journal (handed false before.sink_faults before.written) (handed failed after.sink_faults after.written)
+lines_since catalog texts journal failed before middle after sink written lines =
+    subst (λ (faults : ℕ). GivesLines catalog texts journal (handed false faults before.written) (handed failed after.sink_faults after.written)) sink
+    (subst (λ (held : Option (List ℕ)). GivesLines catalog texts journal (handed false middle.sink_faults held) (handed failed after.sink_faults after.written)) written lines)
+
 -- the session ran over what was made for it
 pub ran_of : (told : Bool) (schema : Schema) (database : Database) (texts : List (List ℕ)) (words : Local) (end : LocalEnd) (catalog : Catalog) (before middle after : LocalSide)
     → catalog ≡ catalog_for schema database → RanOver told catalog database texts words.journal end middle after
@@ -82,6 +89,7 @@ ran_of told schema database texts words end catalog before middle after same ran
       kept = λ calm. lines_there words.journal mine.journal middle.files after.files mine.finished empty
           (mine.kept (λ rose. calm (subst (λ (count : ℕ). Rose count after.append_faults) appends rose)));
       all_kept = λ fine. lines_there words.journal mine.journal middle.files after.files mine.finished empty (mine.all_kept fine);
+      lines = lines_since (catalog_for schema database) texts mine.journal (is_sink end) before middle after sink written mine.lines;
       gives = λ t. gives_since schema database texts (is_sink end) before middle after faults sink written (mine.gives t);
       printed_all = λ t whole. mine.printed_all t whole ∙ ap (λ (held : Option (List ℕ)). grown held (printed schema texts database)) written;
       cut = λ t is. mine.cut t is;

@@ -25,7 +25,7 @@ use Rattle.key_session.specs.declared.tally.Tally.{Tally}
 use Rattle.key_lines.specs.Handing.{Hands, handed}
 use Rattle.local_lines.specs.Lines.{Gives, GivesByTally, ToldTextsAreGiven, is_cut, bytes_given}
 use Rattle.key_local.specs.Running.{RanOver, KeepsLines}
-use Rattle.key_local.specs.Sessions.{LocalSide, local_side, session_side_in, is_sink, is_damaged}
+use Rattle.key_local.specs.Sessions.{LocalSide, GivesLines, local_side, session_side_in, is_sink, is_damaged}
 use Rattle.key_local.specs.declared.ends.LocalEnd.{LocalEnd}
 use Rattle.key_local.specs.declared.ends.LocalEnd.TheVariants as ends
 use Rattle.key_local.proofs.Statuses.{none_stops, no_code, whole_status, flash_status, damage_found, no_damage}
@@ -69,12 +69,13 @@ pub ran_over : (told : Bool) (catalog : Catalog) (database : Database) (texts : 
     → (end ≡ ends.Ok → KeepsLines before.files after.files name journal)
     → (told ≡ true → AreTold catalog (hidden_of catalog.schema database) texts journal (length texts)
     (λ reasons. IsTally (wrote_none tally.status) (standing_after catalog (asked_of catalog.schema texts) journal) reasons tally) (session_side_in false before) (session_side_in (wrote_none tally.status) after))
+    → GivesLines catalog texts journal (handed false before.sink_faults before.written) (handed (wrote_none tally.status) after.sink_faults after.written)
     → ((damage : Damage) → tally.status ≡ status.Damaged damage → IsDamaged told before.device.page catalog damage.page damage.slot damage.found) → KeepsPages before.device after.device
     → is_sink end ≡ wrote_none tally.status → (end ≡ ends.Ok → tally.status ≡ status.Ok) → (end ≡ ends.Flash → blames_flash tally.status ≡ true)
     → (blames_flash tally.status ≡ true → Rose before.device.calls after.device.calls) → (is_damage tally.status ≡ true → Rose before.device.calls after.device.calls)
     → ((damage : Damage) → end ≡ ends.Damaged damage → tally.status ≡ status.Damaged damage)
     → RanOver told catalog database texts name end before after
-ran_over told catalog database texts name end tally before after journal served given is_local finished kept all_kept are_told blamed pages sink whole flash called read damaged =
+ran_over told catalog database texts name end tally before after journal served given is_local finished kept all_kept are_told lines blamed pages sink whole flash called read damaged =
     let unbroken = served catalog database [] texts journal is_local in
     let stays = going catalog database texts journal unbroken in
     let right = valid catalog database texts journal unbroken in
@@ -87,6 +88,7 @@ ran_over told catalog database texts name end tally before after journal served 
       finished = finished;
       kept = kept;
       all_kept = all_kept;
+      lines = subst (λ (failed : Bool). GivesLines catalog texts journal (handed false before.sink_faults before.written) (handed failed after.sink_faults after.written)) (sym sink) lines;
       gives = λ t. gives_as catalog.schema database texts (wrote_none tally.status) (is_sink end) before after (sym sink) (by_tally t).gives;
       printed_all = λ t is.
           let all = by_tally t in

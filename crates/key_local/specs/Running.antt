@@ -18,8 +18,9 @@ use Rattle.key_exec.specs.Blaming.{IsDamaged}
 use Rattle.text_lines.specs.declared.damage.Damage.{Damage}
 use Rattle.key_session.specs.declared.tally.SessionStatus.{SessionStatus}
 use Rattle.key_session.specs.declared.tally.SessionStatus.TheVariants as status
+use Rattle.key_lines.specs.Handing.{handed}
 use Rattle.local_lines.specs.Lines.{Gives, is_cut}
-use Rattle.key_local.specs.Sessions.{LocalSide, session_side_in, is_sink, is_damaged}
+use Rattle.key_local.specs.Sessions.{LocalSide, GivesLines, session_side_in, is_sink, is_damaged}
 use Rattle.key_local.specs.Preparing.{IsHosted}
 use Rattle.key_local.specs.declared.ends.LocalEnd.{LocalEnd}
 use Rattle.key_local.specs.declared.ends.LocalEnd.TheVariants as ends
@@ -61,6 +62,7 @@ pub record RanOver (told : Bool) (catalog : Catalog) (database : Database) (text
   pub finished : IsFinished journal
   pub kept : (Rose before.append_faults after.append_faults → ⊥) → KeepsLines before.files after.files name journal
   pub all_kept : end ≡ ends.Ok → KeepsLines before.files after.files name journal
+  pub lines : GivesLines catalog texts journal (handed false before.sink_faults before.written) (handed (is_sink end) after.sink_faults after.written)
   pub gives : told ≡ true → Gives catalog.schema database texts (session_side_in false before) (session_side_in (is_sink end) after)
   pub printed_all : told ≡ true → end ≡ ends.Ok → after.written ≡ grown before.written (printed catalog.schema texts database)
   pub cut : (t : told ≡ true) → end ≡ ends.Flash → list_any is_cut (gives t).given ≡ true

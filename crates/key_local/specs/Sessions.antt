@@ -1,6 +1,6 @@
 -- What a session with a host in the key's own process does: it goes by the one journal of its database and its texts, keeps
 -- that journal where a file is named for it, and gives each text's lines.
-use Rattle.std.specs.Prelude.{◌≡◌, ℕ, ◌+◌, Bool, true, false, List, [], ◌∷◌, Option, None, Some, ⊤}
+use Rattle.std.specs.Prelude.{◌≡◌, ℕ, ◌+◌, Bool, true, false, List, [], ◌∷◌, length, Option, None, Some, ⊤}
 use Rattle.std.specs.List.{list_any}
 use Rattle.ghost_model.specs.core.Causes.{Rose}
 use Rattle.ghost_model.specs.core.Channel.{Catalog, Journal}
@@ -20,6 +20,9 @@ use Rattle.edge_traits.specs.Files.{Files, HasFile, SameBut}
 use Rattle.edge_traits.specs.Written.{grown}
 use Rattle.key_exec.specs.Blaming.{IsDamaged}
 use Rattle.text_lines.specs.declared.damage.Damage.{Damage}
+use Rattle.ghost_model.specs.core.Lines.{Reason}
+use Rattle.key_lines.specs.Handing.{Handed, handed}
+use Rattle.key_session.specs.Reasons.{HaveLines}
 use Rattle.key_session.specs.Telling.{SessionSide, session_side}
 use Rattle.key_words.specs.Words.{Local}
 use Rattle.local_lines.specs.Lines.{Gives, is_cut}
@@ -84,6 +87,12 @@ abbrev pub SameBesides : (name : Option (List ℕ)) → (before after : Option F
 SameBesides None before after = after ≡ before
 SameBesides (Some name) before after = SameBut name before after
 
+-- every text has the lines of a reason, whatever the pages of the flash hold, and these were handed to the sink
+pub record GivesLines (catalog : Catalog) (texts : List (List ℕ)) (journal : Journal) (before after : Handed) : Type 0 where
+  pub reasons : List Reason
+  pub as_many : length reasons ≡ length texts
+  pub lines : HaveLines catalog texts journal reasons before after
+
 -- a session was held to its end
 pub record Ran (told : Bool) (one : Subject) (end : LocalEnd) (before after : LocalSide) : Type 0 where
   pub journal : Journal
@@ -93,6 +102,7 @@ pub record Ran (told : Bool) (one : Subject) (end : LocalEnd) (before after : Lo
   pub kept : (Rose before.append_faults after.append_faults → ⊥) → HasLines after.files one.words.journal journal
   -- and so it is where all went well
   pub all_kept : end ≡ ends.Ok → HasLines after.files one.words.journal journal
+  pub lines : GivesLines (catalog_in one) one.texts journal (handed false before.sink_faults before.written) (handed (is_sink end) after.sink_faults after.written)
   -- each text has its lines, or a front of them where the flash failed
   pub gives : told ≡ true → Gives one.schema one.database one.texts (session_side_in false before) (session_side_in (is_sink end) after)
   pub printed_all : told ≡ true → end ≡ ends.Ok → after.written ≡ grown before.written (printed one.schema one.texts one.database)

@@ -154,7 +154,7 @@ fn local_prepared<D: Depot, F: Flash, O: Sink>(
         cat,
         hidden,
         mut link,
-        mut replies,
+        replies,
         mut pool,
     } = prepared;
     match make_flash(alloc, &cat, hidden, flash, words.flash) {
@@ -162,15 +162,7 @@ fn local_prepared<D: Depot, F: Flash, O: Sink>(
         Ok(()) => match begin_journal(words.journal, depot) {
             Err(_) => Err(LocalFailure::Depot),
             Ok(()) => Ok(run(
-                &cat,
-                script,
-                words,
-                &mut link,
-                &mut replies,
-                &mut pool,
-                depot,
-                flash,
-                out,
+                &cat, script, words, &mut link, replies, &mut pool, depot, flash, out,
             )),
         },
     }

@@ -72,7 +72,7 @@ fn hold<D: Depot, F: Flash, O: Sink>(
     cat: &Catalog,
     script: &[u8],
     words: &LocalWords<'_>,
-    replies: &mut Replies,
+    replies: Replies,
     pool: &mut PagePool,
     flash: &mut F,
     link: &mut Journaled<'_, HostLink<MemDepot>, D>,
@@ -80,7 +80,7 @@ fn hold<D: Depot, F: Flash, O: Sink>(
 ) -> LocalEnd
     requires few { length (texts_of script.now) ≤ 64 }
     requires suffices { Suffices cat.now (F.state flash.old) }
-    requires replies { IsKept cat.now (none_heard cat.now) 1 0 replies.old }
+    requires replies { IsKept cat.now (none_heard cat.now) 1 0 replies }
     requires idle { IsIdle pool.old }
     requires going { link.old.failed ≡ false }
     requires hosted { IsSomeHosted ⟦<MemDepot as Depot>⟧.contents ⟦<MemDepot as Depot>⟧.sure cat.now link.old.link.now }
@@ -109,10 +109,11 @@ fn hold<D: Depot, F: Flash, O: Sink>(
     proper_journals_are_written::<HostLink<MemDepot>, D>();
     local_sessions_are_served();
     told_texts_are_given();
+    let pace = [0u16];
     let options = Options {
         at: "",
         plan: words.plan,
-        pace: words.pace,
+        pace: &pace,
     };
     let tally = run_session(cat, script, &options, replies, pool, flash, link, out);
     end_of(tally.status, link.failed())
@@ -124,7 +125,7 @@ pub(crate) fn run<D: Depot, F: Flash, O: Sink>(
     script: &[u8],
     words: &LocalWords<'_>,
     link: &mut HostLink<MemDepot>,
-    replies: &mut Replies,
+    replies: Replies,
     pool: &mut PagePool,
     depot: &mut D,
     flash: &mut F,
@@ -132,7 +133,7 @@ pub(crate) fn run<D: Depot, F: Flash, O: Sink>(
 ) -> LocalEnd
     requires few { length (texts_of script.now) ≤ 64 }
     requires suffices { Suffices cat.now (F.state flash.old) }
-    requires replies { IsKept cat.now (none_heard cat.now) 1 0 replies.old }
+    requires replies { IsKept cat.now (none_heard cat.now) 1 0 replies }
     requires idle { IsIdle pool.old }
     requires hosted { IsSomeHosted ⟦<MemDepot as Depot>⟧.contents ⟦<MemDepot as Depot>⟧.sure cat.now link.old }
     ensures ran { (database : Database) → IsCatalogOf cat.now database

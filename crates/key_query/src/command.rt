@@ -75,24 +75,18 @@ pub fn query<D: Depot, F: Flash, L: Link, O: Sink>(
             let Opened {
                 script,
                 cat,
-                mut replies,
+                replies,
                 mut pool,
             } = opened;
             a_catalog_is_short(&cat);
+            let pace = [0u16];
             let options = Options {
                 at: words.to,
                 plan: words.plan,
-                pace: words.pace,
+                pace: &pace,
             };
             Ok(run_session(
-                &cat,
-                &script,
-                &options,
-                &mut replies,
-                &mut pool,
-                flash,
-                link,
-                out,
+                &cat, &script, &options, replies, &mut pool, flash, link, out,
             ))
         }
         Err(failure) => Err(failure),

@@ -1,25 +1,35 @@
--- The reply to the ask that is awaited is begun, after the texts before the one ahead of its text were told.
+-- The asks that are awaited, and the text that comes next.
 use Rattle.std.proofs.Common.{◌≡◌, ◌≤◌, ◌<◌, ℕ, zero, suc, ◌+◌, arith, Bool, true, false, ◌||◌, ◌==◌, List, [], ◌∷◌, length, drop, refl, sym, ap, ◌∙◌, subst, Some, None}
 use Rattle.std.proofs.lemmas.Bool.{eq-eqb}
 use Rattle.std.proofs.lemmas.Bool.Decides.{nat_tests}
-use Rattle.std.specs.Prelude.{not, nat_lt, ◌&&◌, if◌then◌else◌, codes}
-use Rattle.std.specs.List.{list_any}
+use Rattle.std.specs.Prelude.{not, nat_lt, ◌&&◌, if◌then◌else◌, codes, is_some, option_map, Option}
+use Rattle.std.specs.List.{list_any, cons_option}
 use Rattle.ghost_model.specs.core.Query.{Query}
 use Rattle.ghost_model.specs.core.Channel.{Catalog, Journal}
 use Rattle.ghost_model.specs.core.Asks.{NumberedAsk, asked_of}
 use Rattle.ghost_model.specs.core.Moves.{taken, answers}
 use Rattle.ghost_model.specs.core.NextMove.{Awaits, AwaitsCatalog, AwaitsReply, AwaitsNothing, is_stop}
 use Rattle.channel_pump.specs.Marks.{asked_at}
-use Rattle.channel_pump.specs.State.{IsAfter}
 use Rattle.channel_pump.specs.declared.state.Pump.{Pump}
 use Rattle.channel_session.specs.Sessions.{asked_in}
 use Rattle.session_laws.specs.TextEnds.{heard_in, is_settled, is_settled_in, is_over, OverTextsAreSettled}
 use Rattle.session_laws.specs.TextCases.{is_refused_in, IsDecided, TextsAreDecided, Outcome, IsDone, ByHost}
 use Rattle.reply_laws.specs.Order.{TextsComeInOrder, IsInOrder}
-use Rattle.session_replies.specs.Kept.{IsKept}
 use Rattle.session_replies.specs.declared.replies.Replies.{Replies}
-use Rattle.key_session.specs.Telling.{SessionSide, CameOut, IsTelling, TellsOn}
-use Rattle.key_session.specs.Going.{IsGoing, IsAttended}
+use Rattle.channel_pump.specs.State.{want_of}
+use Rattle.channel_pump.specs.declared.state.Want.{Want}
+use Rattle.channel_pump.specs.declared.state.Want.TheVariants as want_is
+use Rattle.session_laws.specs.TextCases.{TextsHaveOutcomes}
+use Rattle.ghost_model.specs.core.NextMove.{IsProper, IsFinished}
+use Rattle.ghost_model.specs.core.NextMove.{Heard}
+use Rattle.session_replies.specs.Halves.{is_even, stored_for}
+use Rattle.session_replies.specs.Kept.{IsKept}
+use Rattle.key_session.specs.Awaiting.{IsWithin, IsAwaiting}
+use Rattle.key_session.specs.Order.{due_of, is_first, is_owed, is_closed}
+use Rattle.key_session.specs.Telling.{SessionSide, CameOut, AreLeft, texts_left}
+use Rattle.key_session.specs.Going.{IsGoing, IsNext}
+use Rattle.key_session.specs.declared.counts.Counts.{Counts}
+use Rattle.key_session.specs.declared.pace.Due.TheVariants as due
 use Rattle.key_session.specs.declared.teller.Teller.{Teller}
 
 pub same_asked : (awaits : Awaits) → asked_at awaits ≡ asked_in awaits
@@ -71,83 +81,142 @@ none_behind [] count e = omega arith
 none_behind (text ∷ texts) zero e = cc
 none_behind (text ∷ texts) (suc count) e = let less = none_behind texts count e in omega (arith, less)
 
-not_within : (a b : ℕ) → (a ≤ b → ⊥) → b + 1 ≤ a
-not_within a b e = omega (arith, e)
-
-not_below : (a b : ℕ) → (a < b → ⊥) → b ≤ a
-not_below a b e = omega (arith, e)
-
 -- a session in which an ask is awaited
 module _ (over : OverTextsAreSettled) (order : TextsComeInOrder) (decided : TextsAreDecided) (catalog : Catalog) (texts : List (List ℕ)) (journal : Journal) (asked : NumberedAsk) (awaited : asked_in (heard_in catalog texts journal).awaits ≡ Some asked) where
   in_order : IsInOrder catalog texts (heard_in catalog texts journal) asked
   in_order = order catalog texts (taken journal) asked awaited
 
-  before_settled : (text : ℕ) → text < asked.text → is_settled_in catalog texts journal text ≡ true
+  pub before_settled : (text : ℕ) → text < asked.text → is_settled_in catalog texts journal text ≡ true
   before_settled text less = over catalog texts (taken journal) text (earlier_over (heard_in catalog texts journal).awaits asked text awaited less)
 
-  before_came : (number : ℕ) → number < asked.text → CameOut catalog texts journal number
+  pub before_came : (number : ℕ) → number < asked.text → CameOut catalog texts journal number
   before_came number less place written query e stands accepted =
       settled_outcome catalog texts journal (suc place) query (decided catalog texts journal place written query stands accepted)
       (subst (λ (n : ℕ). is_settled_in catalog texts journal n ≡ true) e (before_settled number less))
 
-  unsettled : is_settled_in catalog texts journal asked.text ≡ false
+  pub unsettled : is_settled_in catalog texts journal asked.text ≡ false
   unsettled = own_unsettled (asked_of catalog.schema texts) (heard_in catalog texts journal).awaits asked awaited
 
-  pub attended : (pages_told : Bool) (pump : Pump) (since before between : SessionSide) (old teller : Teller) (replies middle new : Replies)
-      → IsAfter catalog (asked_of catalog.schema texts) journal pump
-      → IsGoing pages_told catalog texts journal since before old replies
-      → TellsOn pages_told catalog pump (λ ts j. (number : ℕ) → number < asked.text → CameOut catalog ts j number) before old replies between teller middle
-      → (old.count + 1 ≤ asked.text → teller.count + 1 ≤ asked.text)
-      → ((teller.texts ≡ [] → ⊥) → asked.text ≤ teller.count + 2)
-      → new.is_open ≡ true
-      → ((low top : ℕ) → 1 ≤ asked.text → top ≤ asked.text → low ≤ asked.text → asked.text ≤ low + 1 → IsKept catalog (heard_in catalog texts journal) low top middle → IsKept catalog (heard_in catalog texts journal) low asked.text new)
-      → IsAttended pages_told catalog texts journal since between teller new
-  attended pages_told pump since before between old teller replies middle new after going tells within near is_begun opened = record {
-    going = record {
-      top = asked.text;
-      telling = record {
-        left = telling.left;
-        kept = opened (teller.count + 1) going.top in_order.numbered (going.onward asked.text unsettled) low (omega (arith, close)) telling.kept;
-        near = close;
-        pages = telling.pages;
-        calls = telling.calls;
-        called = telling.called;
-        damage_called = telling.damage_called;
-        faults = telling.faults;
-        prints = telling.prints;
-        damaged = telling.damaged;
-        reasons = telling.reasons;
-        lines = telling.lines;
-        told = telling.told;
-      };
-      settled = λ text from upto. before_settled text (omega (arith, upto, low));
-      onward = λ text un. not_below text asked.text (λ less. true_is_not_false (sym (before_settled text less) ∙ un));
-    };
-    begun = λ one e. (is_begun, subst (λ (x : NumberedAsk). teller.count + 1 ≤ x.text) (same_one asked one (sym awaited ∙ e)) low);
-  }
+pub empty : {X : Type 0} (f : X → List ℕ) (ahead : Option X) (texts : List (List ℕ)) → is_some ahead ≡ false → texts ≡ [] → cons_option (option_map f ahead) texts ≡ []
+empty f None texts none e = e
+empty f (Some text) texts none e = cc
+
+-- an ask that is awaited is of a text at which a slice may come before the next move, or that is near
+module _ (over : OverTextsAreSettled) (order : TextsComeInOrder) (decided : TextsAreDecided) (outcomes : TextsHaveOutcomes) (catalog : Catalog) (at : List ℕ) (texts : List (List ℕ)) (journal : Journal) (pump : Pump) where
+  open_next : (asked : NumberedAsk) (owed number : ℕ) → asked_in (heard_in catalog texts journal).awaits ≡ Some asked → is_owed owed number asked.text ≡ true → IsNext catalog texts journal pump number
+  open_next asked owed number awaited first =
+      let less : number < asked.text = earlier owed number asked.text first in record {
+        came = before_came over order decided catalog texts journal asked awaited number less;
+        settled = λ opened. before_settled over order decided catalog texts journal asked awaited number less;
+      }
     where
-      same_one : (x y : NumberedAsk) → Some x ≡ Some y → x ≡ y
-      same_one x y e = cc
+      earlier : (owed number other : ℕ) → is_owed owed number other ≡ true → number < other
+      earlier owed number other first = grind (arith, nat_tests)
 
-      telling : IsTelling pages_told catalog texts journal going.top since between teller middle
-      telling = tells texts journal going.top since after before_came going.telling
+  first_next : (asked : Option NumberedAsk) (owed number : ℕ) → asked_in (heard_in catalog texts journal).awaits ≡ asked
+      → is_first owed number (option_map (λ (one : NumberedAsk). one.text) asked) ≡ true → IsNext catalog texts journal pump number
+  first_next None owed number awaited first = cc
+  first_next (Some asked) owed number awaited first = open_next asked owed number awaited first
 
-      low : teller.count + 1 ≤ asked.text
-      low = within (not_within asked.text old.count (λ upto. true_is_not_false (sym (going.settled asked.text in_order.numbered upto) ∙ unsettled)))
+  is_closed_want : (want : Want) → is_closed want ≡ true → want ≡ want_is.Closed
+  is_closed_want want_is.Closed e = refl
+  is_closed_want want_is.Dial e = cc
+  is_closed_want want_is.Send e = cc
+  is_closed_want (want_is.Take place most) e = cc
+  is_closed_want want_is.Close e = cc
 
-      close : asked.text ≤ teller.count + 2
-      close = near (λ none.
-          let all = none_behind texts teller.count (sym none ∙ telling.left.left_are) in
-          let place = in_order.within in
-          let lows = low in omega (arith, all, place, lows))
+  -- a slice is due of a text whose asks are over
+  pub next_due : (left : Bool) (owed number : ℕ) → IsProper catalog at texts journal → (want_of pump ≡ want_is.Closed → IsFinished journal)
+      → due.Slice ≡ due_of (is_closed (want_of pump)) left owed number (option_map (λ (one : NumberedAsk). one.text) (asked_at (heard_in catalog texts journal).awaits))
+      → IsNext catalog texts journal pump number
+  next_due left owed number proper finished is_due = by (is_closed (want_of pump)) refl is_due
+    where
+      asked : Option NumberedAsk
+      asked = asked_at (heard_in catalog texts journal).awaits
 
--- nothing is awaited
-pub unattended : (pages_told : Bool) (catalog : Catalog) (texts : List (List ℕ)) (journal : Journal) (since now : SessionSide) (teller : Teller) (replies : Replies)
-    → asked_in (heard_in catalog texts journal).awaits ≡ None → IsGoing pages_told catalog texts journal since now teller replies → IsAttended pages_told catalog texts journal since now teller replies
-unattended pages_told catalog texts journal since now teller replies none going = record {
-  going = going;
-  begun = λ asked e. absurd (none_some asked (sym none ∙ e));
+      both : (left first : Bool) → due.Slice ≡ (if left && first then due.Slice else due.Move) → first ≡ true
+      both true true e = refl
+      both true false e = cc
+      both false first e = cc
+
+      by : (closed : Bool) → is_closed (want_of pump) ≡ closed → due.Slice ≡ due_of closed left owed number (option_map (λ (one : NumberedAsk). one.text) asked) → IsNext catalog texts journal pump number
+      by true shut e =
+          let closed : want_of pump ≡ want_is.Closed = is_closed_want (want_of pump) shut in record {
+            came = λ place written query same stands accepted. outcomes catalog at texts journal place written query proper (finished closed) stands accepted;
+            settled = λ opened. absurd (opened closed);
+          }
+      by false shut e =
+          first_next asked owed number (sym (same_asked (heard_in catalog texts journal).awaits))
+          (both left (is_first owed number (option_map (λ (one : NumberedAsk). one.text) asked)) e)
+
+  -- a move is due only where the text of the ask at hand is near
+  pub near_due : (teller : Teller) (owed : ℕ) → AreLeft texts (texts_left teller) teller.count
+      → due.Move ≡ due_of (is_closed (want_of pump)) (is_some teller.ahead) owed (teller.count + 1) (option_map (λ (one : NumberedAsk). one.text) (asked_at (heard_in catalog texts journal).awaits))
+      → (asked : NumberedAsk) → asked_in (heard_in catalog texts journal).awaits ≡ Some asked → asked.text ≤ teller.count + 2
+  near_due teller owed left is_due asked awaited = by (is_closed (want_of pump)) (is_some teller.ahead) refl is_due
+    where
+      is_asked : asked_at (heard_in catalog texts journal).awaits ≡ Some asked
+      is_asked = same_asked (heard_in catalog texts journal).awaits ∙ awaited
+
+      shut : (left : Bool) → due.Move ≡ (if left then due.Slice else due.Ended) → ⊥
+      shut true e = cc
+      shut false e = cc
+
+      not_first : (first : Bool) → due.Move ≡ (if true && first then due.Slice else due.Move) → first ≡ false
+      not_first true e = cc
+      not_first false e = refl
+
+      within : (owed number other : ℕ) → is_owed owed number other ≡ false → other ≤ number + 1
+      within owed number other none = grind (arith, nat_tests)
+
+      none_ahead : is_some teller.ahead ≡ false → [] ≡ drop teller.count texts
+      none_ahead none = sym (empty _ teller.ahead teller.texts none (teller.last none)) ∙ left.left_are
+
+      by : (closed some : Bool) → is_some teller.ahead ≡ some
+          → due.Move ≡ due_of closed some owed (teller.count + 1) (option_map (λ (one : NumberedAsk). one.text) (asked_at (heard_in catalog texts journal).awaits)) → asked.text ≤ teller.count + 2
+      by true some is_left e = absurd (shut some e)
+      by false true is_left e =
+          let none : is_owed owed (teller.count + 1) asked.text ≡ false =
+          not_first (is_owed owed (teller.count + 1) asked.text)
+          (e ∙ ap (λ (one : Option NumberedAsk). due_of false true owed (teller.count + 1) (option_map (λ (a : NumberedAsk). a.text) one)) is_asked) in
+          let close : asked.text ≤ teller.count + 1 + 1 = within owed (teller.count + 1) asked.text none in
+          omega (arith, close)
+      by false false is_left e =
+          let behind = none_behind texts teller.count (none_ahead is_left) in
+          let place = (order catalog texts (taken journal) asked awaited).within in
+          omega (arith, behind, place)
+
+  -- the text of the ask that is awaited is none before the next one, and near
+  pub within_now : (since now : SessionSide) (low count : ℕ) (left : List (List ℕ)) (counts : Counts) (pages_told : Bool) (kept : Replies) (going : IsGoing pages_told catalog texts journal since now low pump left count counts kept)
+      → (want_of pump ≡ want_is.Closed → ⊥) → count + 1 ≤ low → ((asked : NumberedAsk) → asked_in (heard_in catalog texts journal).awaits ≡ Some asked → asked.text ≤ count + 2)
+      → (asked : NumberedAsk) → asked_in (heard_in catalog texts journal).awaits ≡ Some asked → IsWithin low going.top asked.text
+  within_now since now low count left counts pages_told kept going opened least near asked awaited =
+      let in_order = order catalog texts (taken journal) asked awaited in
+      let un : is_settled_in catalog texts journal asked.text ≡ false = unsettled over order decided catalog texts journal asked awaited in
+      let close : asked.text ≤ count + 2 = near asked awaited in
+      record {
+        numbered = in_order.numbered;
+        least = going.onward asked.text un;
+        from = from asked.text low (λ less. true_is_not_false (sym (going.settled opened asked.text in_order.numbered less) ∙ un));
+        near = omega (arith, close, least);
+      }
+    where
+      from : (text low : ℕ) → (suc text ≤ low → ⊥) → low ≤ text
+      from text low none = omega (arith, none)
+
+-- the reply to the ask that is awaited was begun
+pub begun_reply : (catalog : Catalog) (heard : Heard) (low top : ℕ) (old new : Replies) (asked : NumberedAsk) → asked_in heard.awaits ≡ Some asked → new.is_open ≡ true → IsKept catalog heard low asked.text new
+    → ((other : ℕ) → (is_even other ≡ is_even asked.text → ⊥) → stored_for new other ≡ stored_for old other) → IsAwaiting catalog heard low top old new
+begun_reply catalog heard low top old new asked awaited begun kept others = record {
+  last = asked.text;
+  kept = kept;
+  awaited = λ one e. (begun, ap (λ (a : NumberedAsk). a.text) (same_one asked one (sym awaited ∙ e)));
+  still = λ none. absurd (none_some asked (sym none ∙ awaited));
+  others = λ other apart. others other (apart asked awaited);
 }
   where
+    same_one : (x y : NumberedAsk) → Some x ≡ Some y → x ≡ y
+    same_one x y e = cc
+
     none_some : (asked : NumberedAsk) → None ≡ Some asked → ⊥
     none_some asked e = cc

@@ -19,8 +19,8 @@ use Rattle.channel_pump.specs.Marks.{is_refusal, awaited, state_of}
 use Rattle.channel_pump.specs.declared.state.ReplyState.{ReplyState}
 use Rattle.channel_pump.specs.declared.state.ReplyState.TheVariants as state_is
 use Rattle.channel_session.specs.Sessions.{asked_in}
-use Rattle.session_laws.specs.TextEnds.{not_ended, is_settled, heard_in, is_settled_in}
-use Rattle.session_laws.specs.TextCases.{is_refused_in, IsDecided, Outcome, IsDone, ByHost, ByLink, ByFrame}
+use Rattle.session_laws.specs.TextEnds.{not_ended, is_settled, heard_in, is_settled_in, EndedTextsStay}
+use Rattle.session_laws.specs.TextCases.{is_refused_in, IsDecided, TextsAreDecided, Outcome, IsDone, ByHost, ByLink, ByFrame}
 use Rattle.session_replies.specs.Kept.{is_refused, at_hand, all_of, done_of, stored_as}
 use Rattle.text_lines.specs.Texts.{broken_line, IsToldBy, Why, is_refused as why_refused, is_answered, is_broken, AreBrokenLines, AreAnswerLines}
 use Rattle.text_lines.specs.declared.text.Told.{Told}
@@ -333,3 +333,20 @@ pub done_so : (catalog : Catalog) (texts : List (List ℕ)) (journal : Journal) 
 done_so catalog texts journal text e =
     done_by (is_refused_in catalog texts journal text) (is_settled_in catalog texts journal text) (standing_after catalog (asked_of catalog.schema texts) journal).stopped (heard_in catalog texts journal).broken
     (sym (same_state (asked_of catalog.schema texts) text (standing_after catalog (asked_of catalog.schema texts) journal)) ∙ e)
+
+-- and so it is after more moves
+pub done_still : EndedTextsStay → TextsAreDecided → (catalog : Catalog) (texts : List (List ℕ)) (journal more : Journal) (place : ℕ) (written : List ℕ) (query : Query) → slice_get texts place ≡ Some written → reading catalog.schema written ≡ Ok query
+    → state_of (asked_of catalog.schema texts) (suc place) (standing_after catalog (asked_of catalog.schema texts) journal) ≡ state_is.Done
+    → state_of (asked_of catalog.schema texts) (suc place) (standing_after catalog (asked_of catalog.schema texts) (journal ++ more)) ≡ state_is.Done
+done_still stay decided catalog texts journal more place written query stands accepted done =
+    let so = done_so catalog texts journal (suc place) done in
+    let still = stay catalog texts journal more (suc place) so.1 in
+    let before = decided catalog texts journal place written query stands accepted in
+    let after = decided catalog texts (journal ++ more) place written query stands accepted in
+    let all : all_done catalog.schema query (ended_of catalog (asked_of catalog.schema texts) (journal ++ more) (suc place)) ≡ true =
+    ap (all_done catalog.schema query) still.ends ∙ (before.done ∙ rw (so.0, so.1) refl) in
+    let valid : is_refused_in catalog texts (journal ++ more) (suc place) ≡ false =
+    none_refused (is_refused_in catalog texts (journal ++ more) (suc place)) (is_settled_in catalog texts (journal ++ more) (suc place)) (sym after.done ∙ all) in
+    same_state (asked_of catalog.schema texts) (suc place) (standing_after catalog (asked_of catalog.schema texts) (journal ++ more))
+    ∙ by_done (is_refused_in catalog texts (journal ++ more) (suc place)) (is_settled_in catalog texts (journal ++ more) (suc place))
+    (standing_after catalog (asked_of catalog.schema texts) (journal ++ more)).stopped (heard_in catalog texts (journal ++ more)).broken valid still.settled

@@ -4,6 +4,9 @@ pub mod OfAsked
 pub mod OneMore
 pub mod Attending
 pub mod Moving
+pub mod Beginning
+pub mod Steps
+pub mod Stepping
 pub mod Settings
 pub mod HonestRuns
 pub mod Running

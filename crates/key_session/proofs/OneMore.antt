@@ -22,7 +22,7 @@ use Rattle.session_laws.specs.TextEnds.{heard_in, is_settled_in}
 use Rattle.session_laws.specs.TextCases.{TextsAreDecided, is_refused_in}
 use Rattle.reply_store.specs.Stored.{Stored, replies_in, are_ascending}
 use Rattle.reply_laws.specs.Stores.{RepliesAscend, StoredAreGiven}
-use Rattle.session_replies.specs.Halves.{kept}
+use Rattle.session_replies.specs.Halves.{kept, stored_for}
 use Rattle.session_replies.specs.Kept.{IsKept, expected, done_of}
 use Rattle.session_replies.specs.declared.replies.Replies.{Replies}
 use Rattle.key_lines.specs.Handing.{PiecesJoin}
@@ -36,7 +36,10 @@ use Rattle.text_lines.specs.declared.text.Told.TheVariants as told
 use Rattle.key_session.specs.Counting.{damage_in, first_damage, reason_of, IsCounted, AreUndamaged}
 use Rattle.key_session.specs.Damages.{AreKept}
 use Rattle.key_session.specs.Reasons.{HaveReasons, HasReason, HaveLines, HasLines}
-use Rattle.key_session.specs.Telling.{SessionSide, IsTold, AreTold, AreLeft, CameOut, IsTelling}
+use Rattle.page_pool.specs.Pools.{Pool}
+use Rattle.text_lines.specs.declared.telling.Telling.{Telling}
+use Rattle.key_session.specs.Telling.{SessionSide, IsTold, AreTold, AreLeft, IsTelling, texts_left}
+use Rattle.key_session.specs.Going.{IsTaken, EndsText}
 use Rattle.key_session.specs.declared.teller.Teller.{Teller}
 use Rattle.key_session.proofs.Coming.{told_so, done_so, all_is_done, reason_so, lines_so}
 use Rattle.key_session.proofs.OfAsked.{replies_of_asked}
@@ -65,7 +68,7 @@ no_fall : (most before now : ℕ) → before ≤ now → min before most ≤ now
 no_fall most before now up = omega (arith, up)
 
 -- what is kept of a text that is done
-kept_is_done : (catalog : Catalog) (texts : List (List ℕ)) (journal : Journal) (low top text : ℕ) (replies : Replies) → IsKept catalog (heard_in catalog texts journal) low top replies → low ≤ text
+pub kept_is_done : (catalog : Catalog) (texts : List (List ℕ)) (journal : Journal) (low top text : ℕ) (replies : Replies) → IsKept catalog (heard_in catalog texts journal) low top replies → low ≤ text
     → is_refused_in catalog texts journal text ≡ false → is_settled_in catalog texts journal text ≡ true
     → kept replies text ≡ done_of catalog.schema text (heard_in catalog texts journal).ended
 kept_is_done catalog texts journal low top text replies k from valid settled = k.texts text from valid ∙ by replies.is_open
@@ -74,21 +77,16 @@ kept_is_done catalog texts journal low top text replies k from valid settled = k
     by true = all_is_done catalog texts journal text settled
     by false = refl
 
-pub tell_one : PiecesJoin → TextsAreDecided → StoredAreGiven → RepliesAscend → WholeRepliesAreOfAsked → (pages_told : Bool) (catalog : Catalog) (texts : List (List ℕ)) (journal : Journal) (top : ℕ) (since between now : SessionSide)
-    (old new : Teller) (before after : Replies) (written : List ℕ) (state : ReplyState) (stored : List Stored) (result : Told)
-    → IsTelling pages_told catalog texts journal top since between old before
-    → old.texts ≡ written ∷ new.texts → new.count ≡ old.count + 1
-    → CameOut catalog texts journal (old.count + 1)
-    → IsKept catalog (heard_in catalog texts journal) (old.count + 1 + 1) top after
-    → state ≡ state_of (asked_of catalog.schema texts) (old.count + 1) (standing_after catalog (asked_of catalog.schema texts) journal)
-    → stored ≡ kept before (old.count + 1)
-    → HasTold pages_told catalog (old.count + 1) written state (replies_in stored) between.flash now.flash between.sink now.sink result
-    → IsCounted (reason_of result) old.counts new.counts
-    → new.counts.damage ≡ first_damage old.counts.damage (damage_in result)
-    → IsTelling pages_told catalog texts journal top since now new after
-tell_one join decided same ascend whole pages_told catalog texts journal top since between now old new before after written state stored result telling next more came kept_now is_state is_stored ends counted first = record {
-  left = subst (λ (n : ℕ). AreLeft texts new.texts n) (sym more) (left_more texts old.count old.texts new.texts written telling.left next);
-  kept = subst (λ (n : ℕ). IsKept catalog (heard_in catalog texts journal) (n + 1) top after) (sym more) kept_now;
+pub tell_one : PiecesJoin → TextsAreDecided → WholeRepliesAreOfAsked → (pages_told : Bool) (catalog : Catalog) (texts : List (List ℕ)) (journal : Journal) (low top : ℕ) (since between before now : SessionSide)
+    (old new : Teller) (pool : Pool) (store : Replies) (state : ReplyState) (text : Telling) (result : Told)
+    → IsTelling pages_told catalog texts journal low top since between (texts_left old) old.count old.counts store
+    → (taken : IsTaken pages_told catalog texts journal old.count state between before pool store text)
+    → HasTold pages_told catalog (old.count + 1) taken.written state (replies_in (stored_for store (old.count + 1))) between.flash now.flash between.sink now.sink result
+    → EndsText result old new
+    → IsTelling pages_told catalog texts journal low top since now (texts_left new) new.count new.counts store
+tell_one join decided whole pages_told catalog texts journal low top since between before now old new pool store state text result telling taken ends ended = record {
+  left_are = subst (λ (n : ℕ). AreLeft texts (texts_left new) n) (sym more) (left_more texts old.count (texts_left old) (texts_left new) ended.texts.0 telling.left_are ended.texts.1);
+  kept = telling.kept;
   near = (let near : top ≤ old.count + 2 = telling.near in omega (arith, near, more));
   pages = pages_stay since.flash between.flash now.flash telling.pages ends.kept;
   calls = still_no_fall last_count since.flash.calls between.flash.calls now.flash.calls telling.calls (no_fall last_count between.flash.calls now.flash.calls ends.kept.never_falls);
@@ -98,7 +96,7 @@ tell_one join decided same ascend whole pages_told catalog texts journal top sin
       (no_fall last_count between.flash.calls now.flash.calls ends.kept.never_falls) ends.called;
   faults = never_falls since.flash.faults between.flash.faults now.flash.faults result telling.faults ends.faults;
   prints = some_more join since.sink between.sink now.sink telling.prints (record { piece = concat ends.lines; handed = ends.handed_on });
-  damaged = one_damage pages_told since.flash.page catalog old.counts.damage new.counts.damage result first
+  damaged = one_damage pages_told since.flash.page catalog old.counts.damage new.counts.damage result ended.first
       blames_now telling.damaged;
   reasons = record {
     reasons = both_now.0.reasons;
@@ -122,26 +120,23 @@ tell_one join decided same ascend whole pages_told catalog texts journal top sin
     number : suc old.count ≡ old.count + 1
     number = sym (next_number old.count)
 
+    more : new.count ≡ old.count + 1
+    more = ended.count
+
+    counted : IsCounted (reason_of result) old.counts new.counts
+    counted = ended.counted
+
+    written : List ℕ
+    written = taken.written
+
     here : slice_get texts old.count ≡ Some written
-    here = next_of texts old.count written new.texts (sym telling.left.left_are ∙ next)
+    here = taken.stands
 
-    is_done : state ≡ state_is.Done → stored ≡ done_of catalog.schema (old.count + 1) (heard_in catalog texts journal).ended
-    is_done e =
-        let so = done_so catalog texts journal (old.count + 1) (sym is_state ∙ e) in
-        is_stored ∙ kept_is_done catalog texts journal (old.count + 1) top (old.count + 1) before telling.kept (omega arith) so.0 so.1
-
-    settled : state ≡ state_is.Done → is_settled_in catalog texts journal (old.count + 1) ≡ true
-    settled e = (done_so catalog texts journal (old.count + 1) (sym is_state ∙ e)).1
-
-    ascends : state ≡ state_is.Done → are_ascending (replies_in stored) ≡ true
-    ascends e =
-        ap (λ (xs : List Stored). are_ascending (replies_in xs)) (is_done e ∙ sym (all_is_done catalog texts journal (old.count + 1) (settled e)))
-        ∙ ascend catalog texts (taken journal) (old.count + 1)
+    stored : List Stored
+    stored = stored_for store (old.count + 1)
 
     are_given : state ≡ state_is.Done → replies_in stored ≡ replies catalog (asked_of catalog.schema texts) journal (suc old.count)
-    are_given e =
-        ap replies_in (is_done e) ∙ same catalog (asked_of catalog.schema texts) journal (old.count + 1)
-        ∙ ap (λ (n : ℕ). replies catalog (asked_of catalog.schema texts) journal n) (sym number)
+    are_given e = taken.given e ∙ ap (λ (n : ℕ). replies catalog (asked_of catalog.schema texts) journal n) (sym number)
 
     of_asked : state ≡ state_is.Done → (query : Query) → reading catalog.schema written ≡ Ok query → AreOfAsked catalog.schema query (replies_in stored)
     of_asked e query accepted =
@@ -149,7 +144,7 @@ tell_one join decided same ascend whole pages_told catalog texts journal top sin
         (replies_of_asked whole catalog texts journal old.count written query here accepted)
 
     here_is : state ≡ state_of (asked_of catalog.schema texts) (suc old.count) (standing_after catalog (asked_of catalog.schema texts) journal)
-    here_is = subst (λ (n : ℕ). state ≡ state_of (asked_of catalog.schema texts) n (standing_after catalog (asked_of catalog.schema texts) journal)) (sym number) is_state
+    here_is = subst (λ (n : ℕ). state ≡ state_of (asked_of catalog.schema texts) n (standing_after catalog (asked_of catalog.schema texts) journal)) (sym number) taken.is_state
 
     has_reason : HasReason catalog texts journal old.count (reason_of result)
     has_reason = record {
@@ -157,20 +152,20 @@ tell_one join decided same ascend whole pages_told catalog texts journal top sin
       stands = here;
       is_reason = reason_so catalog texts journal old.count written state here_is
           (λ query accepted. decided catalog texts journal old.count written query here accepted)
-          (λ query accepted. came old.count written query (next_number old.count) here accepted)
+          (λ query accepted. taken.came old.count written query (next_number old.count) here accepted)
           result ends.by;
     }
 
     tells : (database : Database) → Knows pages_told between.flash.page catalog database
         → Why catalog.schema (hidden_of catalog.schema database) (replies_in stored) (old.count + 1) written state ends.lines result
-    tells database knows = ends.why database knows ascends of_asked
+    tells database knows = ends.why database knows taken.ascending of_asked
 
     is_told : (database : Database) → Why catalog.schema (hidden_of catalog.schema database) (replies_in stored) (old.count + 1) written state ends.lines result
         → IsTold catalog (hidden_of catalog.schema database) texts journal old.count (record { reason = reason_of result; lines = ends.lines })
     is_told database why =
         told_so catalog (hidden_of catalog.schema database) texts journal old.count written here
         (λ query accepted. decided catalog texts journal old.count written query here accepted)
-        (λ query accepted. came old.count written query (next_number old.count) here accepted)
+        (λ query accepted. taken.came old.count written query (next_number old.count) here accepted)
         (replies_in stored) state here_is
         are_given
         ends.lines result (subst (λ (n : ℕ). Why catalog.schema (hidden_of catalog.schema database) (replies_in stored) n written state ends.lines result) (sym number) why)
@@ -181,7 +176,7 @@ tell_one join decided same ascend whole pages_told catalog texts journal top sin
       stands = here;
       lines_are = lines_so catalog texts journal old.count written state here_is
           (λ query accepted. decided catalog texts journal old.count written query here accepted)
-          (λ query accepted. came old.count written query (next_number old.count) here accepted)
+          (λ query accepted. taken.came old.count written query (next_number old.count) here accepted)
           ends.lines result ends.by (subst (λ (n : ℕ). AreLinesOf catalog.schema n written ends.lines result) (sym number) ends.are);
     }
 
@@ -189,4 +184,4 @@ tell_one join decided same ascend whole pages_told catalog texts journal top sin
         × HaveLines catalog texts journal more.reasons since.sink now.sink
     both_now =
         one_reason pages_told since.flash.page catalog join texts journal old.count old.counts new.counts since.flash.faults between.flash.faults now.flash.faults result
-        since.sink between.sink now.sink ends.lines telling.reasons has_reason ends.faults counted first blames_now telling.lines has_lines ends.handed_on
+        since.sink between.sink now.sink ends.lines telling.reasons has_reason ends.faults counted ended.first blames_now telling.lines has_lines ends.handed_on

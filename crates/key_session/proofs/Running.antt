@@ -12,14 +12,10 @@ use Rattle.ghost_model.specs.core.Lines.{Reason, WasRefused, WasBroken, WasAnswe
 use Rattle.ghost_model.specs.core.NextMove.{Standing, Heard, standing_after, IsProper, IsFinished}
 use Rattle.ghost_model.specs.core.Split.{hidden_of}
 use Rattle.edge_traits.specs.Devices.{KeepsPages}
-use Rattle.channel_pump.specs.Progress.{EndsAs}
-use Rattle.channel_pump.specs.State.{IsAfter}
-use Rattle.channel_pump.specs.declared.state.Cause.{Cause}
 use Rattle.channel_session.specs.Entries.{WentBy}
 use Rattle.channel_session.specs.Sessions.{IsLive}
 use Rattle.channel_session.specs.declared.exchange.Exchange.{Exchange}
 use Rattle.session_laws.specs.TextEnds.{heard_in}
-use Rattle.session_laws.specs.TextCases.{TextsHaveOutcomes}
 use Rattle.session_replies.specs.Kept.{IsKept, none_heard}
 use Rattle.session_replies.specs.declared.replies.Replies.{Replies}
 use Rattle.key_lines.specs.Handing.{PiecesJoin}
@@ -28,11 +24,10 @@ use Rattle.text_lines.specs.Rows.{PrintsSome}
 use Rattle.key_session.specs.Answering.{AnswersWhereSound}
 use Rattle.key_session.specs.Counting.{AreCounted, is_refusal, is_flash}
 use Rattle.key_session.specs.Reasons.{IsReason, HasReason, is_refused_text}
-use Rattle.key_session.specs.Refusing.{first_code}
-use Rattle.key_session.specs.Telling.{SessionSide, AreTold, AreLeft, CameOut, IsTelling, TellsOn}
-use Rattle.key_session.specs.Going.{IsGoing, HasGone}
+use Rattle.key_session.specs.Telling.{SessionSide, AreTold, AreLeft, IsTelling}
+use Rattle.key_session.specs.Going.{IsGoing}
+use Rattle.channel_pump.specs.declared.state.Pump.{Pump}
 use Rattle.key_session.specs.Running.{HasRun, IsTally, status_with, protocol_or, host_or, blames_flash, is_damaged, spares_flash}
-use Rattle.key_session.specs.declared.teller.Teller.{Teller}
 use Rattle.key_session.specs.declared.counts.Counts.{Counts}
 use Rattle.text_lines.specs.declared.damage.Damage.{Damage}
 use Rattle.key_session.specs.declared.tally.SessionStatus.{SessionStatus}
@@ -45,23 +40,22 @@ abbrev no_counts : Counts
 no_counts = record { refused = 0; faulted = 0; by_flash = false; damage = None }
 
 -- before the first move
-pub at_first : PiecesJoin → (pages_told : Bool) (catalog : Catalog) (texts : List (List ℕ)) (since : SessionSide) (teller : Teller) (replies : Replies)
-    → teller.texts ≡ texts → teller.count ≡ 0 → teller.counts ≡ record { refused = 0; faulted = 0; by_flash = false; damage = None }
-    → IsKept catalog (none_heard catalog) 1 0 replies → IsGoing pages_told catalog texts [] since since teller replies
-at_first join pages_told catalog texts since teller replies all none counts kept = record {
+pub at_first : PiecesJoin → (pages_told : Bool) (catalog : Catalog) (texts : List (List ℕ)) (since : SessionSide) (pump : Pump) (count : ℕ) (counts : Counts) (left : List (List ℕ)) (replies : Replies)
+    → left ≡ texts → count ≡ 0 → counts ≡ record { refused = 0; faulted = 0; by_flash = false; damage = None }
+    → IsKept catalog (none_heard catalog) 1 0 replies → IsGoing pages_told catalog texts [] since since 1 pump left count counts replies
+at_first join pages_told catalog texts since pump count counts left replies all none is_none kept = record {
   top = 0;
   telling = record {
-    left = subst (λ (n : ℕ). AreLeft texts teller.texts n) (sym none) (record { left_are = all; within = omega arith });
-    kept = subst (λ (n : ℕ). IsKept catalog (heard_in catalog texts []) (n + 1) 0 replies) (sym none)
-        (subst (λ (h : Heard). IsKept catalog h 1 0 replies) (sym (heard_none catalog texts)) kept);
+    left_are = subst (λ (n : ℕ). AreLeft texts left n) (sym none) (record { left_are = all; within = omega arith });
+    kept = subst (λ (h : Heard). IsKept catalog h 1 0 replies) (sym (heard_none catalog texts)) kept;
     near = omega arith;
     pages = kept_same since.flash;
     calls = omega arith;
-    called = λ e. absurd (none_failed (sym (ap (λ (c : Counts). c.by_flash) counts) ∙ e));
-    damage_called = λ e. absurd (none_failed (sym (ap (λ (c : Counts). is_some c.damage) counts) ∙ e));
+    called = λ e. absurd (none_failed (sym (ap (λ (c : Counts). c.by_flash) is_none) ∙ e));
+    damage_called = λ e. absurd (none_failed (sym (ap (λ (c : Counts). is_some c.damage) is_none) ∙ e));
     faults = omega arith;
     prints = record { piece = []; handed = join.none since.sink };
-    damaged = λ damage e. absurd (none_some damage (sym (ap (λ (c : Counts). c.damage) counts) ∙ e));
+    damaged = λ damage e. absurd (none_some damage (sym (ap (λ (c : Counts). c.damage) is_none) ∙ e));
     reasons = record {
       reasons = [];
       as_many = sym none;
@@ -70,7 +64,7 @@ at_first join pages_told catalog texts since teller replies all none counts kept
       unblamed = λ _. refl;
       counted = record {
         counted = none_counted;
-        met = record { damages = []; by_reason = refl; each = λ place damage e. cc; first_is = ap (λ (c : Counts). c.damage) counts };
+        met = record { damages = []; by_reason = refl; each = λ place damage e. cc; first_is = ap (λ (c : Counts). c.damage) is_none };
       };
     };
     lines = record { lines = []; as_many = refl; each = λ place reason one e f. cc; handed_on = join.none since.sink };
@@ -81,10 +75,10 @@ at_first join pages_told catalog texts since teller replies all none counts kept
       handed_on = join.none since.sink;
       blamed = omega arith;
       unblamed = λ _. refl;
-      counted = record { counted = none_counted; undamaged = ap (λ (c : Counts). c.damage) counts };
+      counted = record { counted = none_counted; undamaged = ap (λ (c : Counts). c.damage) is_none };
     };
   };
-  settled = λ text from upto. (let bad : ⊥ = omega (arith, from, upto, none) in absurd bad);
+  settled = λ opened text from upto. (let bad : ⊥ = omega (arith, from, upto) in absurd bad);
   onward = λ text un. omega arith;
 }
   where
@@ -94,8 +88,8 @@ at_first join pages_told catalog texts since teller replies all none counts kept
     none_some : (damage : Damage) → None ≡ Some damage → ⊥
     none_some damage e = cc
 
-    none_counted : AreCounted [] teller.counts
-    none_counted = subst (λ (c : Counts). AreCounted [] c) (sym counts) (record { refused = refl; faulted = refl; by_flash = refl; found = refl })
+    none_counted : AreCounted [] counts
+    none_counted = subst (λ (c : Counts). AreCounted [] c) (sym is_none) (record { refused = refl; faulted = refl; by_flash = refl; found = refl })
 
 -- all texts were told
 all_told : (texts left : List (List ℕ)) (count : ℕ) → AreLeft texts left count → left ≡ [] → count ≡ length texts
@@ -217,29 +211,27 @@ module _ {went : Journal → Type 0} {link_before link_now : ℕ} {pages_told : 
       ran.reasons.unblamed (spared_so now.sink.failed session.stopped session.heard.broken _ _ _ (list_any is_flash ran.reasons.reasons) ran.reasons.counted.damage
       (ap spares_flash (sym ran.reasons.counted.status_is) ∙ e))
 
-pub has_run : TextsHaveOutcomes → (went : Journal → Type 0) (link_before link_now : ℕ) (pages_told : Bool) (catalog : Catalog) (at : List ℕ) (texts : List (List ℕ)) (since middle now : SessionSide) (exchange : Exchange) (old teller : Teller) (replies new : Replies)
-    (refusal : Option ℕ) (cause : Option Cause) (tally : Tally)
-    → HasGone (WentBy went link_before link_now) pages_told catalog at texts since middle exchange old replies refusal
-    → ((journal : Journal) → IsLive catalog at (asked_of catalog.schema texts) journal exchange → IsFinished journal)
-    → TellsOn pages_told catalog exchange.pump (λ ts j. (number : ℕ) → CameOut catalog ts j number) middle old replies now teller new
-    → teller.texts ≡ []
-    → ((journal : Journal) → IsAfter catalog (asked_of catalog.schema texts) journal exchange.pump → EndsAs (standing_after catalog (asked_of catalog.schema texts) journal) cause)
-    → tally.texts ≡ teller.count → tally.refused ≡ teller.counts.refused → tally.faulted ≡ teller.counts.faulted
-    → ((session : Standing) → EndsAs session cause → refusal ≡ first_code session.heard.ended → tally.status ≡ status_with now.sink.failed session teller.counts.by_flash teller.counts.damage)
-    → ((journal : Journal) → IsProper catalog at texts journal → IsFinished journal
+pub has_run : (went : Journal → Type 0) (link_before link_now : ℕ) (pages_told : Bool) (catalog : Catalog) (at : List ℕ) (texts : List (List ℕ)) (since now : SessionSide) (exchange : Exchange) (journal : Journal) (low top : ℕ) (left : List (List ℕ)) (count : ℕ) (counts : Counts) (replies : Replies)
+    (tally : Tally)
+    → WentBy went link_before link_now journal → IsLive catalog at (asked_of catalog.schema texts) journal exchange → IsFinished journal
+    → IsTelling pages_told catalog texts journal low top since now left count counts replies
+    → left ≡ []
+    → tally.texts ≡ count → tally.refused ≡ counts.refused → tally.faulted ≡ counts.faulted
+    → tally.status ≡ status_with now.sink.failed (standing_after catalog (asked_of catalog.schema texts) journal) counts.by_flash counts.damage
+    → (IsProper catalog at texts journal → IsFinished journal
     → ((database : Database) → Knows pages_told since.flash.page catalog database
     → AreTold catalog (hidden_of catalog.schema database) texts journal (length texts) (λ reasons. IsTally now.sink.failed (standing_after catalog (asked_of catalog.schema texts) journal) reasons tally) since now)
     → AnswersWhereSound pages_told catalog texts journal since now tally)
     → IsLast went link_before link_now pages_told catalog at texts since now tally
-has_run outcomes went link_before link_now pages_told catalog at texts since middle now exchange old teller replies new refusal cause tally gone finished tells none ends many refused faulted status answers = record {
+has_run went link_before link_now pages_told catalog at texts since now exchange journal low top left many_told counts replies tally went_by live is_finished last none many refused faulted status_is answers = record {
   ran = record {
-    journal = gone.journal;
-    went = gone.went.gone;
-    counts = gone.went.counts;
-    short = gone.went.short;
-    proper = gone.live.proper;
+    journal = journal;
+    went = went_by.gone;
+    counts = went_by.counts;
+    short = went_by.short;
+    proper = live.proper;
     finished = is_finished;
-    refused = refused ∙ last.reasons.counted.counted.refused ∙ refusals_read catalog texts gone.journal last.reasons.reasons (last.reasons.as_many ∙ count) last.reasons.each;
+    refused = refused ∙ last.reasons.counted.counted.refused ∙ refusals_read catalog texts journal last.reasons.reasons (last.reasons.as_many ∙ count) last.reasons.each;
     reasons = record {
       reasons = last.reasons.reasons;
       as_many = last.reasons.as_many ∙ count;
@@ -249,19 +241,19 @@ has_run outcomes went link_before link_now pages_told catalog at texts since mid
       counted = record {
         refused = refused ∙ last.reasons.counted.counted.refused;
         faulted = faulted ∙ last.reasons.counted.counted.faulted;
-        damage = teller.counts.damage;
+        damage = counts.damage;
         found = last.reasons.counted.counted.found;
         first = last.reasons.counted.met;
-        status_is = status_is ∙ ap (λ (b : Bool). status_with now.sink.failed (standing_after catalog (asked_of catalog.schema texts) gone.journal) b teller.counts.damage) last.reasons.counted.counted.by_flash;
+        status_is = status_is ∙ ap (λ (b : Bool). status_with now.sink.failed (standing_after catalog (asked_of catalog.schema texts) journal) b counts.damage) last.reasons.counted.counted.by_flash;
       };
     };
     lines = last.lines;
     damaged = λ damage e.
         last.damaged damage
-        (damaged_so now.sink.failed (standing_after catalog (asked_of catalog.schema texts) gone.journal).stopped (standing_after catalog (asked_of catalog.schema texts) gone.journal).heard.broken _ _ _ teller.counts.by_flash teller.counts.damage damage
+        (damaged_so now.sink.failed (standing_after catalog (asked_of catalog.schema texts) journal).stopped (standing_after catalog (asked_of catalog.schema texts) journal).heard.broken _ _ _ counts.by_flash counts.damage damage
         (sym status_is ∙ e));
     told = told;
-    answered = answers gone.journal gone.live.proper is_finished told;
+    answered = answers live.proper is_finished told;
   };
   many = many ∙ count;
   prints = last.prints;
@@ -269,31 +261,20 @@ has_run outcomes went link_before link_now pages_told catalog at texts since mid
   calls = last.calls;
   called = λ e.
       last.called
-      (blamed_so now.sink.failed (standing_after catalog (asked_of catalog.schema texts) gone.journal).stopped (standing_after catalog (asked_of catalog.schema texts) gone.journal).heard.broken _ _ _ teller.counts.by_flash teller.counts.damage
+      (blamed_so now.sink.failed (standing_after catalog (asked_of catalog.schema texts) journal).stopped (standing_after catalog (asked_of catalog.schema texts) journal).heard.broken _ _ _ counts.by_flash counts.damage
       (ap blames_flash (sym status_is) ∙ e));
   damage_called = λ e.
       last.damage_called
-      (met_so now.sink.failed (standing_after catalog (asked_of catalog.schema texts) gone.journal).stopped (standing_after catalog (asked_of catalog.schema texts) gone.journal).heard.broken _ _ _ teller.counts.by_flash teller.counts.damage
+      (met_so now.sink.failed (standing_after catalog (asked_of catalog.schema texts) journal).stopped (standing_after catalog (asked_of catalog.schema texts) journal).heard.broken _ _ _ counts.by_flash counts.damage
       (ap is_damaged (sym status_is) ∙ e));
   faults = last.faults;
 }
   where
-    is_finished : IsFinished gone.journal
-    is_finished = finished gone.journal gone.live
-
-    last : IsTelling pages_told catalog texts gone.journal gone.going.top since now teller new
-    last = tells texts gone.journal gone.going.top since gone.live.after
-        (λ number place written query e stands accepted. outcomes catalog at texts gone.journal place written query gone.live.proper is_finished stands accepted)
-        gone.going.telling
-
-    status_is : tally.status ≡ status_with now.sink.failed (standing_after catalog (asked_of catalog.schema texts) gone.journal) teller.counts.by_flash teller.counts.damage
-    status_is = status (standing_after catalog (asked_of catalog.schema texts) gone.journal) (ends gone.journal gone.live.after) gone.refusal_is
-
-    count : teller.count ≡ length texts
-    count = all_told texts teller.texts teller.count last.left none
+    count : many_told ≡ length texts
+    count = all_told texts left many_told last.left_are none
 
     told : (database : Database) → Knows pages_told since.flash.page catalog database
-        → AreTold catalog (hidden_of catalog.schema database) texts gone.journal (length texts) (λ reasons. IsTally now.sink.failed (standing_after catalog (asked_of catalog.schema texts) gone.journal) reasons tally) since now
+        → AreTold catalog (hidden_of catalog.schema database) texts journal (length texts) (λ reasons. IsTally now.sink.failed (standing_after catalog (asked_of catalog.schema texts) journal) reasons tally) since now
     told database knows =
         let are = last.told database knows in
         record {
@@ -307,8 +288,8 @@ has_run outcomes went link_before link_now pages_told catalog at texts since mid
             refused = refused ∙ are.counted.counted.refused;
             faulted = faulted ∙ are.counted.counted.faulted;
             status_is = status_is
-                ∙ ap (λ (d : Option Damage). status_with now.sink.failed (standing_after catalog (asked_of catalog.schema texts) gone.journal) teller.counts.by_flash d) are.counted.undamaged
-                ∙ ap (λ (b : Bool). status_with now.sink.failed (standing_after catalog (asked_of catalog.schema texts) gone.journal) b None) are.counted.counted.by_flash;
+                ∙ ap (λ (d : Option Damage). status_with now.sink.failed (standing_after catalog (asked_of catalog.schema texts) journal) counts.by_flash d) are.counted.undamaged
+                ∙ ap (λ (b : Bool). status_with now.sink.failed (standing_after catalog (asked_of catalog.schema texts) journal) b None) are.counted.counted.by_flash;
           };
         }
 

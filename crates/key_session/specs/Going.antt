@@ -1,40 +1,197 @@
 -- A session that is under way.
-use Rattle.std.specs.Prelude.{◌≡◌, ℕ, ◌≤◌, ◌+◌, Bool, true, false, List, [], Option, Some}
-use Rattle.ghost_model.specs.core.Channel.{Catalog, Journal}
+use Rattle.std.specs.Prelude.{◌≡◌, ℕ, suc, ◌≤◌, ◌+◌, ◌*◌, ◌&&◌, Bool, true, false, not, List, [], ◌∷◌, ◌++◌, length, slice_get, Option, None, Some, Ok, is_some, option_map, if◌then◌else◌}
+use Rattle.ghost_model.specs.core.Query.{Query}
+use Rattle.ghost_model.specs.readings.QueryReading.{reading}
+use Rattle.ghost_model.specs.core.Channel.{Catalog, Journal, Entry}
 use Rattle.ghost_model.specs.core.Asks.{NumberedAsk, asked_of}
+use Rattle.ghost_model.specs.core.NextMove.{standing_after}
+use Rattle.ghost_model.specs.core.Replies.{replies}
+use Rattle.edge_traits.specs.Devices.{Device}
+use Rattle.page_pool.specs.Pools.{Pool, IsIdle}
 use Rattle.session_laws.specs.TextEnds.{heard_in, is_settled_in}
-use Rattle.channel_session.specs.Sessions.{IsLive, asked_in}
+use Rattle.channel_pump.specs.Here.{moves_left}
+use Rattle.channel_pump.specs.Marks.{state_of}
+use Rattle.channel_pump.specs.State.{want_of}
+use Rattle.channel_pump.specs.declared.state.Pump.{Pump}
+use Rattle.channel_pump.specs.declared.state.Want.TheVariants as want
+use Rattle.channel_pump.specs.declared.state.ReplyState.{ReplyState}
+use Rattle.channel_pump.specs.declared.state.ReplyState.TheVariants as state_is
+use Rattle.channel_session.specs.Sessions as moves
 use Rattle.channel_session.specs.declared.exchange.Exchange.{Exchange}
+use Rattle.reply_store.specs.Stored.{replies_in, are_ascending}
+use Rattle.session_replies.specs.Halves.{stored_for}
 use Rattle.session_replies.specs.declared.replies.Replies.{Replies}
+use Rattle.key_exec.specs.Plans.{Suffices}
+use Rattle.text_lines.specs.Rows.{TakesTurn}
+use Rattle.text_lines.specs.Telling as lines
+use Rattle.text_lines.specs.Telling.{CanTell, IsUnderWay}
+use Rattle.text_lines.specs.declared.telling.Telling.{Telling}
+use Rattle.text_lines.specs.declared.text.Told.{Told}
+use Rattle.key_session.specs.Counting.{IsCounted, reason_of, damage_in, first_damage}
+use Rattle.ghost_model.specs.core.Moves.{taken}
+use Rattle.ghost_model.specs.core.NextMove.{heard}
+use Rattle.channel_pump.specs.Marks.{asked_at}
+use Rattle.channel_pump.specs.Progress.{Tells}
+use Rattle.channel_pump.specs.declared.state.Event.{Event}
+use Rattle.key_session.specs.Order.{IsPaced, IsSliced, due_of, is_closed}
+use Rattle.key_session.specs.declared.pace.Due.{Due}
+use Rattle.key_session.specs.declared.pace.Due.TheVariants as due
 use Rattle.key_session.specs.Refusing.{first_code}
-use Rattle.key_session.specs.Telling.{SessionSide, IsTelling}
+use Rattle.key_session.specs.Telling.{SessionSide, CameOut, IsTelling, texts_left}
+use Rattle.key_session.specs.declared.counts.Counts.{Counts}
 use Rattle.key_session.specs.declared.teller.Teller.{Teller}
+use Rattle.key_session.specs.declared.session.Session.{Session}
 
--- the texts that were told are settled, and those that are not settled come no earlier than the last whose reply was begun
-pub record IsGoing (pages_told : Bool) (catalog : Catalog) (texts : List (List ℕ)) (journal : Journal) (since now : SessionSide) (teller : Teller) (replies : Replies) : Type 0 where
+-- ---- what a step needs, whatever the pages hold
+
+-- no buffer of the pool is out but those of the text that is told
+abbrev pub CanRun : (pages_told : Bool) → Device → Pool → Option Telling → Type 0
+CanRun pages_told device pool None = IsIdle pool
+CanRun pages_told device pool (Some telling) = CanTell pages_told device pool telling
+
+pub record CanStep (pages_told : Bool) (device : Device) (pool : Pool) (session : Session) : Type 0 where
+  pub suffices : Suffices session.cat.now device
+  pub can : CanRun pages_told device pool session.teller.running
+
+-- ---- how much is left at most
+
+abbrev pub steps_of : Option Telling → ℕ
+steps_of None = 0
+steps_of (Some telling) = lines.left_of telling
+
+-- the texts that were not begun: each takes so many steps at most
+abbrev pub unbegun : Teller → ℕ
+unbegun teller = length teller.texts + (if is_some teller.ahead && not (is_some teller.running) then 1 else 0)
+
+abbrev pub left_of : Teller → ℕ
+left_of teller = 75000002 * unbegun teller + steps_of teller.running
+
+-- the text ahead was told to its end
+pub record EndsText (result : Told) (old new : Teller) : Type 0 where
+  pub texts : (written : List ℕ) × (texts_left old ≡ written ∷ texts_left new)
+  pub count : new.count ≡ old.count + 1
+  pub running : new.running ≡ None
+  pub counted : IsCounted (reason_of result) old.counts new.counts
+  pub first : new.counts.damage ≡ first_damage old.counts.damage (damage_in result)
+
+-- ---- the live session
+
+-- texts were told, those before `low` are settled as long as the link is open, and those that are not settled come no earlier
+-- than the last whose reply was begun
+pub record IsGoing (pages_told : Bool) (catalog : Catalog) (texts : List (List ℕ)) (journal : Journal) (since now : SessionSide) (low : ℕ) (pump : Pump) (left : List (List ℕ)) (count : ℕ) (counts : Counts) (replies : Replies) : Type 0 where
   pub top : ℕ
-  pub telling : IsTelling pages_told catalog texts journal top since now teller replies
-  pub settled : (text : ℕ) → 1 ≤ text → text ≤ teller.count → is_settled_in catalog texts journal text ≡ true
+  pub telling : IsTelling pages_told catalog texts journal low top since now left count counts replies
+  pub settled : (want_of pump ≡ want.Closed → ⊥) → (text : ℕ) → 1 ≤ text → suc text ≤ low → is_settled_in catalog texts journal text ≡ true
   pub onward : (text : ℕ) → is_settled_in catalog texts journal text ≡ false → top ≤ text
 
--- the reply to the ask that is awaited was begun, and its text was not told
-pub record IsAttended (pages_told : Bool) (catalog : Catalog) (texts : List (List ℕ)) (journal : Journal) (since now : SessionSide) (teller : Teller) (replies : Replies) : Type 0 where
-  pub going : IsGoing pages_told catalog texts journal since now teller replies
-  pub begun : (asked : NumberedAsk) → asked_in (heard_in catalog texts journal).awaits ≡ Some asked
-      → (replies.is_open ≡ true) × (teller.count + 1 ≤ asked.text)
+-- the asks of a text are over
+pub record IsNext (catalog : Catalog) (texts : List (List ℕ)) (journal : Journal) (pump : Pump) (number : ℕ) : Type 0 where
+  pub came : CameOut catalog texts journal number
+  pub settled : (want_of pump ≡ want.Closed → ⊥) → is_settled_in catalog texts journal number ≡ true
 
--- a session went some moves, and this is the code of the first ask that the host refused
-pub record HasGone (goes : Journal → Type 0) (pages_told : Bool) (catalog : Catalog) (at : List ℕ) (texts : List (List ℕ)) (since now : SessionSide) (exchange : Exchange) (teller : Teller) (replies : Replies) (refusal : Option ℕ) : Type 0 where
+-- the text at a place is told, by this state of its replies, since the flash and the sink were as at the first
+pub record IsTaken (pages_told : Bool) (catalog : Catalog) (texts : List (List ℕ)) (journal : Journal) (place : ℕ) (state : ReplyState) (first now : SessionSide) (pool : Pool) (kept : Replies) (telling : Telling) : Type 0 where
+  pub number : telling.number ≡ place + 1
+  pub written : List ℕ
+  pub stands : slice_get texts place ≡ Some written
+  pub came : CameOut catalog texts journal (place + 1)
+  pub is_state : state ≡ state_of (asked_of catalog.schema texts) (place + 1) (standing_after catalog (asked_of catalog.schema texts) journal)
+  -- its store has the replies to its asks
+  pub given : state ≡ state_is.Done → replies_in (stored_for kept (place + 1)) ≡ replies catalog (asked_of catalog.schema texts) journal (place + 1)
+  pub ascending : state ≡ state_is.Done → are_ascending (replies_in (stored_for kept (place + 1))) ≡ true
+  pub under_way : IsUnderWay pages_told catalog written state (replies_in (stored_for kept (place + 1))) first.flash now.flash first.sink now.sink pool telling
+
+-- and it is answered
+pub record IsRunning (pages_told : Bool) (catalog : Catalog) (texts : List (List ℕ)) (journal : Journal) (place : ℕ) (first now : SessionSide) (pool : Pool) (kept : Replies) (telling : Telling) : Type 0 where
+  pub taken : IsTaken pages_told catalog texts journal place state_is.Done first now pool kept telling
+  pub query : Query
+  pub accepted : reading catalog.schema taken.written ≡ Ok query
+
+-- between two steps a text that is answered is told, or none
+abbrev pub Runs : (pages_told : Bool) → Catalog → (texts : List (List ℕ)) → Journal → (place : ℕ) → (first now : SessionSide) → (low : ℕ) → Pool → Replies → Option Telling → Type 0
+Runs pages_told catalog texts journal place first now low pool kept None = (low ≡ place + 1) × (now ≡ first)
+Runs pages_told catalog texts journal place first now low pool kept (Some telling) =
+    (low ≡ place + 2) × IsRunning pages_told catalog texts journal place first now pool kept telling
+
+-- the texts of a session between two steps
+pub record IsAmid (pages_told : Bool) (catalog : Catalog) (texts : List (List ℕ)) (journal : Journal) (since now : SessionSide) (pool : Pool) (pump : Pump) (teller : Teller) (kept : Replies) : Type 0 where
+  pub first : SessionSide
+  pub low : ℕ
+  pub going : IsGoing pages_told catalog texts journal since first low pump (texts_left teller) teller.count teller.counts kept
+  pub running : Runs pages_told catalog texts journal teller.count first now low pool kept teller.running
+
+-- and in a slice, of a text that was taken up
+pub record IsBegun (pages_told : Bool) (catalog : Catalog) (texts : List (List ℕ)) (journal : Journal) (since now : SessionSide) (pool : Pool) (pump : Pump) (teller : Teller) (kept : Replies) : Type 0 where
+  pub first : SessionSide
+  pub going : IsGoing pages_told catalog texts journal since first (teller.count + 2) pump (texts_left teller) teller.count teller.counts kept
+  pub next : (want_of pump ≡ want.Closed → ⊥) → is_settled_in catalog texts journal (teller.count + 1) ≡ true
+  pub state : ReplyState
+  pub telling : Telling
+  pub runs : teller.running ≡ Some telling
+  pub taken : IsTaken pages_told catalog texts journal teller.count state first now pool kept telling
+
+-- A session that went by a journal: its moves and its end of the channel; the texts that were told, with their lines, reasons
+-- and counts, the replies that are kept for the others, and the rows given and to come of the text that is told now; and the
+-- first ask that the host refused.
+pub record IsLive (pages_told : Bool) (texts : List (List ℕ)) (journal : Journal) (since now : SessionSide) (pool : Pool) (session : Session) : Type 0 where
+  pub channel : moves.IsLive session.cat.now session.at.now (asked_of session.cat.now.schema texts) journal session.exchange
+  pub amid : IsAmid pages_told session.cat.now texts journal since now pool session.exchange.pump session.teller session.replies
+  pub refusal_is : session.refusal ≡ first_code (heard_in session.cat.now texts journal).ended
+
+-- one more move was made, which led to an event: of the channel, the texts and the first refusal
+pub record MovedOn (goes : Journal → Type 0) (pages_told : Bool) (catalog : Catalog) (at : List ℕ) (texts : List (List ℕ)) (journal : Journal) (since now : SessionSide) (pool : Pool) (event : Event) (exchange : Exchange) (teller : Teller) (kept : Replies) (refusal : Option ℕ) : Type 0 where
+  pub made : Entry
+  pub went : goes (made ∷ [])
+  pub channel : moves.IsLive catalog at (asked_of catalog.schema texts) (journal ++ made ∷ []) exchange
+  pub tells : Tells catalog exchange.page event (heard_in catalog texts journal) (heard_in catalog texts (journal ++ made ∷ []))
+  pub amid : IsAmid pages_told catalog texts (journal ++ made ∷ []) since now pool exchange.pump teller kept
+  pub refusal_is : refusal ≡ first_code (heard_in catalog texts (journal ++ made ∷ [])).ended
+
+-- one more move was made, and the pace goes by what it led to
+pub record WasMoved (goes : Journal → Type 0) (pages_told : Bool) (texts : List (List ℕ)) (journal : Journal) (since now : SessionSide) (pool : Pool) (old session : Session) : Type 0 where
+  pub made : Entry
+  pub went : goes (made ∷ [])
+  pub event : Event
+  pub tells : Tells session.cat.now session.exchange.page event (heard_in session.cat.now texts journal) (heard_in session.cat.now texts (journal ++ made ∷ []))
+  pub paced : IsPaced event old.pace session.pace
+  pub live : IsLive pages_told texts (journal ++ made ∷ []) since now pool session
+
+-- a step made one more move, or none, and the session lives on
+pub data WentOn (goes : Journal → Type 0) (pages_told : Bool) (texts : List (List ℕ)) (journal : Journal) (since now : SessionSide) (pool : Pool) (old session : Session) : Type 0 where
+  ByMove : WasMoved goes pages_told texts journal since now pool old session → WentOn goes pages_told texts journal since now pool old session
+  BySlice : goes [] → IsLive pages_told texts journal since now pool session → WentOn goes pages_told texts journal since now pool old session
+
+-- what a step does that is due, whatever the pages hold. A move gives no line, and the flash stays as it is.
+pub record MakesMove (before after : SessionSide) (old new : Session) : Type 0 where
+  pub outside : after ≡ before
+  pub teller : new.teller ≡ old.teller
+  pub fewer : moves_left new.exchange.pump + 1 ≤ moves_left old.exchange.pump
+
+-- A slice gives one line, or none and it calls the flash, eight times at most. The channel stays as it is.
+pub record MakesSlice (before after : SessionSide) (old new : Session) : Type 0 where
+  pub exchange : new.exchange ≡ old.exchange
+  pub turn : TakesTurn before.sink after.sink before.flash.calls after.flash.calls
+  pub few : after.flash.calls ≤ before.flash.calls + 8
+  pub fewer : left_of new.teller + 1 ≤ left_of old.teller
+  pub sliced : IsSliced old.pace new.pace
+
+abbrev pub MadeStep : Due → (before after : SessionSide) → (old new : Session) → Type 0
+MadeStep due.Move before after old new = MakesMove before after old new
+MadeStep due.Slice before after old new = MakesSlice before after old new
+MadeStep due.Ended before after old new = ⊥
+
+-- what is due of a session, whose channel went by a journal
+abbrev pub due_in : Catalog → (asks : List NumberedAsk) → Journal → Session → Due
+due_in catalog asks journal session =
+    due_of (is_closed (want_of session.exchange.pump)) (is_some session.teller.ahead) session.pace.owed (session.teller.count + 1)
+    (option_map (λ (asked : NumberedAsk). asked.text) (asked_at (heard catalog asks (taken journal)).awaits))
+
+-- how many steps are left at most
+abbrev pub steps_left : Session → ℕ
+steps_left session = moves_left session.exchange.pump + left_of session.teller
+
+-- a whole run so far
+pub record HasCome (goes : Journal → Type 0) (pages_told : Bool) (texts : List (List ℕ)) (since now : SessionSide) (pool : Pool) (session : Session) : Type 0 where
   pub journal : Journal
   pub went : goes journal
-  pub live : IsLive catalog at (asked_of catalog.schema texts) journal exchange
-  pub going : IsGoing pages_told catalog texts journal since now teller replies
-  pub refusal_is : refusal ≡ first_code (heard_in catalog texts journal).ended
-
--- a session that is at its first move goes on to where it went some
-abbrev pub GoesFrom : (goes : Journal → Type 0) (pages_told : Bool) → Catalog → (at : List ℕ) → (before : SessionSide) → Exchange → Teller → Replies → (now : SessionSide) → Exchange → Teller → Replies → Option ℕ → Type 0
-GoesFrom goes pages_told catalog at before exchange teller replies now new_exchange new_teller new_replies refusal =
-    (texts : List (List ℕ)) (since : SessionSide)
-    → IsLive catalog at (asked_of catalog.schema texts) [] exchange
-    → IsGoing pages_told catalog texts [] since before teller replies
-    → HasGone goes pages_told catalog at texts since now new_exchange new_teller new_replies refusal
+  pub live : IsLive pages_told texts journal since now pool session

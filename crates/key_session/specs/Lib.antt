@@ -1,8 +1,10 @@
+pub mod Order
 pub mod Counting
 pub mod Damages
 pub mod Reasons
 pub mod Refusing
 pub mod Telling
+pub mod Awaiting
 pub mod Going
 pub mod Answering
 pub mod Running

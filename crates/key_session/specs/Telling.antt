@@ -1,8 +1,8 @@
 -- What a session told of its texts: the lines of each text from the front of its script, each for a reason that the
 -- definitions know. A fault of the flash is a reason only as often as the flash failed, and damage never where its pages
 -- are those of a database.
-use Rattle.std.specs.Prelude.{◌≡◌, ℕ, suc, ◌+◌, ◌≤◌, min, Bool, true, false, List, length, drop, map, flat_map, count_by, slice_get, Option, Some, Ok, is_some}
-use Rattle.std.specs.List.{concat, list_any}
+use Rattle.std.specs.Prelude.{◌≡◌, ℕ, suc, ◌+◌, ◌≤◌, min, Bool, true, false, List, length, drop, map, flat_map, count_by, slice_get, Option, Some, Ok, is_some, option_map}
+use Rattle.std.specs.List.{concat, cons_option, list_any}
 use Rattle.ghost_model.specs.core.Causes.{Rose, last_count}
 use Rattle.ghost_model.specs.core.Values.{Database}
 use Rattle.ghost_model.specs.core.Query.{Query}
@@ -12,8 +12,6 @@ use Rattle.ghost_model.specs.core.Asks.{asked_of}
 use Rattle.ghost_model.specs.core.Split.{Hidden, hidden_of}
 use Rattle.ghost_model.specs.core.Lines.{Reason, AreLinesFor, session_text}
 use Rattle.edge_traits.specs.Devices.{Device, KeepsPages}
-use Rattle.channel_pump.specs.State.{IsAfter}
-use Rattle.channel_pump.specs.declared.state.Pump.{Pump}
 use Rattle.session_laws.specs.TextEnds.{heard_in}
 use Rattle.session_laws.specs.TextCases.{Outcome}
 use Rattle.key_lines.specs.Handing.{Handed, Hands, handed}
@@ -25,6 +23,7 @@ use Rattle.key_session.specs.Counting.{is_flash, is_damage, AreUndamaged}
 use Rattle.key_session.specs.Damages.{IsSlot, AreKept}
 use Rattle.key_session.specs.Reasons.{HaveReasons, HaveLines}
 use Rattle.text_lines.specs.declared.damage.Damage.{Damage}
+use Rattle.key_session.specs.declared.counts.Counts.{Counts}
 use Rattle.key_session.specs.declared.teller.Teller.{Teller}
 
 -- the side of the outside that a session changes, its link aside: where the lines go, and the flash
@@ -78,29 +77,25 @@ CameOut catalog texts journal number =
     (place : ℕ) (written : List ℕ) (asked : Query) → number ≡ suc place → slice_get texts place ≡ Some written
     → reading catalog.schema written ≡ Ok asked → Outcome catalog texts journal (suc place) asked
 
--- a teller has told some texts of a session that went by a journal, and the replies for the others are kept, none of them
--- for a text behind `top`
-pub record IsTelling (pages_told : Bool) (catalog : Catalog) (texts : List (List ℕ)) (journal : Journal) (top : ℕ) (since now : SessionSide) (teller : Teller) (replies : Replies) : Type 0 where
-  pub left : AreLeft texts teller.texts teller.count
-  pub kept : IsKept catalog (heard_in catalog texts journal) (teller.count + 1) top replies
-  pub near : top ≤ teller.count + 2
+-- those that a teller has left
+abbrev pub texts_left : Teller → List (List ℕ)
+texts_left teller = cons_option (option_map (λ text. text.now) teller.ahead) teller.texts
+
+-- a teller has told some texts of a session that went by a journal, and the replies for those from `low` on are kept, none of
+-- them for a text behind `top`
+pub record IsTelling (pages_told : Bool) (catalog : Catalog) (texts : List (List ℕ)) (journal : Journal) (low top : ℕ) (since now : SessionSide) (left : List (List ℕ)) (count : ℕ) (counts : Counts) (replies : Replies) : Type 0 where
+  pub left_are : AreLeft texts left count
+  pub kept : IsKept catalog (heard_in catalog texts journal) low top replies
+  pub near : top ≤ count + 2
   pub pages : KeepsPages since.flash now.flash
   -- at its last value a count stays
   pub calls : min since.flash.calls last_count ≤ now.flash.calls
-  pub called : teller.counts.by_flash ≡ true → Rose since.flash.calls now.flash.calls
-  pub damage_called : is_some teller.counts.damage ≡ true → Rose since.flash.calls now.flash.calls
+  pub called : counts.by_flash ≡ true → Rose since.flash.calls now.flash.calls
+  pub damage_called : is_some counts.damage ≡ true → Rose since.flash.calls now.flash.calls
   pub faults : min since.flash.faults last_count ≤ now.flash.faults
   pub prints : PrintsSome since.sink now.sink
-  pub damaged : (damage : Damage) → teller.counts.damage ≡ Some damage → IsSlot pages_told since.flash.page catalog damage
-  pub reasons : HaveReasons catalog texts journal teller.count (λ reasons. AreKept pages_told since.flash.page catalog reasons teller.counts) since.flash.faults now.flash.faults
+  pub damaged : (damage : Damage) → counts.damage ≡ Some damage → IsSlot pages_told since.flash.page catalog damage
+  pub reasons : HaveReasons catalog texts journal count (λ reasons. AreKept pages_told since.flash.page catalog reasons counts) since.flash.faults now.flash.faults
   pub lines : HaveLines catalog texts journal reasons.reasons since.sink now.sink
   pub told : (database : Database) → Knows pages_told since.flash.page catalog database
-      → AreTold catalog (hidden_of catalog.schema database) texts journal teller.count (λ reasons. AreUndamaged reasons teller.counts) since now
-
--- a teller goes on telling, of any session in which the pump stands and of which what it needs is shown
-abbrev pub TellsOn : (pages_told : Bool) → Catalog → Pump → (Shown : List (List ℕ) → Journal → Type 0) → (before : SessionSide) → Teller → Replies → (now : SessionSide) → Teller → Replies → Type 0
-TellsOn pages_told catalog pump Shown before teller replies now new_teller new_replies =
-    (texts : List (List ℕ)) (journal : Journal) (top : ℕ) (since : SessionSide)
-    → IsAfter catalog (asked_of catalog.schema texts) journal pump → Shown texts journal
-    → IsTelling pages_told catalog texts journal top since before teller replies
-    → IsTelling pages_told catalog texts journal top since now new_teller new_replies
+      → AreTold catalog (hidden_of catalog.schema database) texts journal count (λ reasons. AreUndamaged reasons counts) since now

@@ -7,7 +7,7 @@ use text_lines::{Damage, Told};
 
 /// What was counted of the texts that were told.
 #[derive(Clone, Copy)]
-pub(crate) struct Counts {
+pub struct Counts {
     /// How many are refused.
     pub refused: u32,
     /// How many were ended by a fault: of the host, the link, the protocol or the flash.

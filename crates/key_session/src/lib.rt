@@ -1,11 +1,13 @@
 //! A session of the key with a host: it asks what the texts of a script need, move by move, and tells their answers.
 //!
-//! A text is told once the asks of it are over, at the latest when the session is closed. So the replies of two texts are
-//! kept at most: of the text at hand, and of the one before it.
+//! A session makes one step at a time: a move of the channel, or a slice of the work on the text that comes next, once the asks
+//! of it are over. The pace says how many slices may come between two moves. No ask of a text is sent before the text two before
+//! it was told, so the replies of two texts are kept at most: of the text at hand, and of the one before it.
 #![tactic(auto)]
 
 mod counts;
 pub mod options;
+pub mod pace;
 mod refusing;
 pub mod session;
 pub mod tally;
@@ -13,5 +15,6 @@ mod teller;
 mod telling;
 
 pub use options::Options;
-pub use session::run_session;
+pub use pace::Due;
+pub use session::{Session, run_session};
 pub use tally::{SessionStatus, Tally};

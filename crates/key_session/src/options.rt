@@ -9,6 +9,6 @@ pub struct Options<'a> {
     pub at: &'a str,
     /// The plan by which each text is answered.
     pub plan: Plan,
-    /// How much work is done between two moves: 0 as long as texts are answered whole.
-    pub pace: u32,
+    /// How many slices of work are allowed behind each frame of rows, one number after another, and again from the first.
+    pub pace: &'a [u16],
 }

@@ -1,25 +1,40 @@
-//! A session from its first move to its last line.
+//! A session, step by step.
 
-ghost use Rattle.std.specs.Prelude.{◌≡◌, ◌≤◌, true, false, min, length};
+ghost use Rattle.std.specs.Prelude.{◌≡◌, ◌≢◌, ◌<◌, ◌≤◌, ◌+◌, ℕ, List, [], Bool, true, false, None, Some, is_some, min, length, option_map};
+ghost use Rattle.ghost_model.specs.core.Asks.{NumberedAsk, asked_of};
 ghost use Rattle.ghost_model.specs.core.Causes.{Rose, last_count};
+ghost use Rattle.ghost_model.specs.core.Channel as channel;
+ghost use Rattle.ghost_model.specs.core.Channel.{Journal};
+ghost use Rattle.ghost_model.specs.core.Moves.{taken};
+ghost use Rattle.ghost_model.specs.core.NextMove.{heard, standing_after};
 ghost use Rattle.ghost_model.specs.core.Texts.{texts_of};
-ghost use Rattle.edge_traits.specs.Devices.{KeepsPages};
-ghost use Rattle.channel_pump.specs.State.{want_of};
+ghost use Rattle.edge_traits.specs.Devices.{Device, KeepsPages};
+ghost use Rattle.channel_pump.specs.Here.{moves_left};
+ghost use Rattle.channel_pump.specs.Marks.{asked_at};
+ghost use Rattle.channel_pump.specs.State.{IsAfter, want_of};
 ghost use Rattle.channel_session.specs.Entries.{WentBy};
-ghost use Rattle.key_lines.specs.Handing.{handed};
-ghost use Rattle.session_replies.specs.Kept.{IsKept, none_heard};
+ghost use Rattle.key_lines.specs.Handing.{Handed, handed};
+ghost use Rattle.channel_session.specs.Sessions as moves;
+ghost use Rattle.channel_session.specs.Sessions.{asked_in};
+ghost use Rattle.key_session.specs.declared.teller.Teller as tellers;
+ghost use Rattle.session_laws.specs.TextEnds.{heard_in};
+ghost use Rattle.session_replies.specs.Kept.{IsKept, Fits, none_heard};
+ghost use Rattle.key_session.specs.Awaiting.{IsWithin, IsAwaiting};
+ghost use Rattle.key_session.specs.Refusing.{first_code};
 ghost use Rattle.key_exec.specs.Plans.{Suffices};
-ghost use Rattle.page_pool.specs.Pools.{IsIdle};
-ghost use Rattle.text_lines.specs.Rows.{PrintsSome};
-ghost use Rattle.key_session.specs.Going.{GoesFrom};
-ghost use Rattle.key_session.specs.Running.{HasRun, is_sink, blames_flash, is_damaged, spares_flash};
-ghost use Rattle.key_session.specs.Telling.{session_side};
+ghost use Rattle.page_pool.specs.Pools.{Pool, IsIdle};
+ghost use Rattle.text_lines.specs.Rows.{PrintsSome, TakesTurn};
+ghost use Rattle.key_session.specs.Going.{CanStep, IsAmid, IsLive, IsNext, MovedOn, WasMoved, WentOn, MadeStep, due_in, left_of, steps_left};
+ghost use Rattle.key_session.specs.Order.{IsSliced, IsUnpaced, is_closed, is_first};
+ghost use Rattle.key_session.specs.Running.{HasRun, is_sink, status_with, blames_flash, is_damaged, spares_flash};
+ghost use Rattle.key_session.specs.Telling.{SessionSide, session_side};
 
 use crate::options::Options;
+use crate::pace::{Due, Pace, comes_first};
 use crate::refusing::first_refusal;
 use crate::tally::{Tally, status};
 use crate::teller::Teller;
-use channel_pump::state::{Pump, Want};
+use channel_pump::state::{Event, Pump, Want};
 use channel_session::Exchange;
 use channel_session::laws::{closed_is_finished, moves_join};
 use edge_traits::flash::Flash;
@@ -29,52 +44,253 @@ use flash_layout::limits::a_catalog_has_a_layout;
 use key_lines::printer::pieces_join;
 use page_pool::PagePool;
 use reply_laws::stores::replies_fit;
+use reply_laws::texts::texts_come_in_order;
 use session_laws::honest_sessions::{honest_lines_are_printed, honest_sessions_are_smooth};
 use session_laws::text_cases::{texts_are_decided, texts_have_outcomes};
-use session_laws::text_ends::{ended_texts_stay, reasons_stay};
+use session_laws::text_ends::{ended_texts_stay, over_texts_are_settled, reasons_stay};
 use session_replies::Replies;
 use tree_schema::Catalog;
 use tree_schema::catalog_bytes::a_catalog_is_short;
 
-/// Makes the moves of a session to the host at the address `at`, up to its close, and tells the texts that it can tell in
-/// between. Answers the code of the first ask that the host refused.
-fn converse<F: Flash, L: Link, O: Sink>(
+/// A session of the key with a host. It asks what the texts of a script need, move by move, and tells their lines, slice by
+/// slice.
+#[derive(Drop)]
+pub struct Session<'a> {
+    /// The catalog of the key.
+    pub cat: &'a Catalog,
+    /// The address of the host.
+    pub at: &'a str,
+    /// The key's end of the channel.
+    pub exchange: Exchange<'a>,
+    /// The replies of the texts that were not told.
+    pub replies: Replies,
+    /// The texts.
+    pub teller: Teller<'a>,
+    /// How many slices may come before the next move.
+    pub pace: Pace<'a>,
+    /// The code of the first ask that the host refused.
+    pub refusal: Option<u8>,
+}
+
+impl<'a> Session<'a> {
+    /// The session of a script, which has at most 64 texts, before its first step. The replies are kept in stores that are
+    /// empty at first.
+    pub fn begin(
+        cat: &'a Catalog,
+        script: &'a [u8],
+        options: &Options<'a>,
+        replies: Replies,
+    ) -> Self
+        requires few { length (texts_of script.now) ≤ 64 }
+        ensures live { (told : Bool) (now : SessionSide) (pool : Pool) → IsKept cat.now (none_heard cat.now) 1 0 replies → IsLive told (texts_of script.now) [] now now pool result }
+        ensures cat { result.cat.now ≡ cat.now }
+        ensures at { result.at.now ≡ options.now.at.now }
+        ensures fresh { result.teller.printer.failed ≡ false }
+        ensures running { result.teller.running ≡ None }
+        ensures pace { IsUnpaced options.now.pace.now result.pace }
+    {
+        pieces_join();
+        Session {
+            cat,
+            at: options.at,
+            exchange: Exchange::begin(Pump::begin(cat, script)),
+            replies,
+            teller: Teller::new(script, options.plan),
+            pace: Pace::new(options.pace),
+            refusal: None,
+        }
+    }
+
+    /// What is due: a slice of the text that comes next where its asks are over and the pace still allows one before the next
+    /// move, or the next move would send the first ask of a text two behind it at least, or the link is closed. Else a move, and
+    /// with the link closed nothing once no text is left.
+    pub fn due(&self) -> Due
+        ensures rule { (catalog : channel.Catalog) (asks : List NumberedAsk) (journal : Journal) → IsAfter catalog asks journal self.now.exchange.pump → result ≡ due_in catalog asks journal self.now }
+        ensures going { result ≡ Due.Move → want_of self.now.exchange.pump ≢ Want.Closed }
+        ensures left { result ≡ Due.Slice → is_some self.now.teller.ahead ≡ true }
+        ensures closed { result ≡ Due.Ended → want_of self.now.exchange.pump ≡ Want.Closed }
+        ensures none { result ≡ Due.Ended → is_some self.now.teller.ahead ≡ false }
+        ensures on { (result ≡ Due.Ended → ⊥) → is_closed (want_of self.now.exchange.pump) ≡ true → is_some self.now.teller.ahead ≡ true }
+    {
+        let is_left = self.teller.ahead.is_some();
+        match self.exchange.pump.want() {
+            Want::Closed => { if is_left { Due::Slice } else { Due::Ended } }
+            _ => {
+                if is_left && self.is_first() {
+                    Due::Slice
+                } else {
+                    Due::Move
+                }
+            }
+        }
+    }
+
+    /// Whether a slice of the text that comes next comes before the next move, while the link is open.
+    fn is_first(&self) -> bool
+        ensures first { (catalog : channel.Catalog) (asks : List NumberedAsk) (journal : Journal) → IsAfter catalog asks journal self.now.exchange.pump
+            → result ≡ is_first self.now.pace.owed (self.now.teller.count + 1) (option_map (λ asked. asked.text) (asked_at (heard catalog asks (taken journal)).awaits)) }
+    {
+        match self.exchange.pump.asked() {
+            None => false,
+            Some((text, _ask)) => comes_first(self.pace.owed, self.teller.count + 1, text),
+        }
+    }
+
+    /// Makes one step: the move or the slice that is due.
+    pub fn step<F: Flash, L: Link, O: Sink>(
+        &mut self,
+        pool: &mut PagePool,
+        flash: &mut F,
+        link: &mut L,
+        out: &mut O,
+    )
+        requires going { is_closed (want_of self.old.exchange.pump) ≡ true → is_some self.old.teller.ahead ≡ true }
+        requires can { CanStep F.told (F.state flash.old) pool.old self.old }
+        ensures can { CanStep F.told (F.state flash.new) pool.new self.new }
+        ensures live { (texts : List (List ℕ)) (journal : Journal) (since : SessionSide) → IsLive F.told texts journal since (session_side self.old.teller.printer.failed (O.faults out.old) (O.written out.old) (F.state flash.old)) pool.old self.old
+            → WentOn (WentBy (λ more. L.went link.old more link.new) (L.faults link.old) (L.faults link.new)) F.told texts journal since (session_side self.new.teller.printer.failed (O.faults out.new) (O.written out.new) (F.state flash.new)) pool.new self.old self.new }
+        ensures made { (catalog : channel.Catalog) (asks : List NumberedAsk) (journal : Journal) → IsAfter catalog asks journal self.old.exchange.pump
+            → MadeStep (due_in catalog asks journal self.old) (session_side self.old.teller.printer.failed (O.faults out.old) (O.written out.old) (F.state flash.old)) (session_side self.new.teller.printer.failed (O.faults out.new) (O.written out.new) (F.state flash.new)) self.old self.new }
+        ensures fewer { steps_left self.new < steps_left self.old }
+        ensures cat { self.new.cat ≡ self.old.cat }
+        ensures at { self.new.at ≡ self.old.at }
+        ensures faults { L.faults link.old ≤ L.faults link.new }
+    {
+        a_catalog_is_short(self.cat);
+        texts_are_decided();
+        texts_have_outcomes();
+        over_texts_are_settled();
+        texts_come_in_order();
+        closed_is_finished();
+        moves_join();
+        match self.due() {
+            Due::Move => self.go(link),
+            Due::Slice => self.tell(pool, flash, out),
+            Due::Ended => {}
+        }
+    }
+
+    /// Makes the next move.
+    fn go<L: Link>(&mut self, link: &mut L)
+        requires going { want_of self.old.exchange.pump ≢ Want.Closed }
+        ensures live { (told : Bool) (texts : List (List ℕ)) (journal : Journal) (since now : SessionSide) (pool : Pool)
+            → ((asked : NumberedAsk) → asked_in (heard_in self.old.cat.now texts journal).awaits ≡ Some asked → asked.text ≤ self.old.teller.count + 2)
+            → IsLive told texts journal since now pool self.old
+            → WasMoved (WentBy (λ more. L.went link.old more link.new) (L.faults link.old) (L.faults link.new)) told texts journal since now pool self.old self.new }
+        ensures teller { self.new.teller ≡ self.old.teller }
+        ensures cat { self.new.cat ≡ self.old.cat }
+        ensures at { self.new.at ≡ self.old.at }
+        ensures fewer { moves_left self.new.exchange.pump < moves_left self.old.exchange.pump }
+        ensures faults { L.faults link.old ≤ L.faults link.new }
+    {
+        let (refusal, event) = make_move(
+            self.cat,
+            self.at,
+            self.refusal,
+            &mut self.exchange,
+            &mut self.replies,
+            link,
+        );
+        self.refusal = refusal;
+        self.pace.moved(event);
+    }
+
+    /// Makes a slice of the text that comes next.
+    fn tell<F: Flash, O: Sink>(&mut self, pool: &mut PagePool, flash: &mut F, out: &mut O)
+        requires left { is_some self.old.teller.ahead ≡ true }
+        requires can { CanStep F.told (F.state flash.old) pool.old self.old }
+        ensures can { CanStep F.told (F.state flash.new) pool.new self.new }
+        ensures live { (texts : List (List ℕ)) (journal : Journal) (since : SessionSide) → IsNext self.old.cat.now texts journal self.old.exchange.pump (self.old.teller.count + 1)
+            → IsLive F.told texts journal since (session_side self.old.teller.printer.failed (O.faults out.old) (O.written out.old) (F.state flash.old)) pool.old self.old
+            → IsLive F.told texts journal since (session_side self.new.teller.printer.failed (O.faults out.new) (O.written out.new) (F.state flash.new)) pool.new self.new }
+        ensures exchange { self.new.exchange ≡ self.old.exchange }
+        ensures cat { self.new.cat ≡ self.old.cat }
+        ensures at { self.new.at ≡ self.old.at }
+        ensures turn { TakesTurn (handed self.old.teller.printer.failed (O.faults out.old) (O.written out.old)) (handed self.new.teller.printer.failed (O.faults out.new) (O.written out.new))
+            (F.state flash.old).calls (F.state flash.new).calls }
+        ensures few { (F.state flash.new).calls ≤ (F.state flash.old).calls + 8 }
+        ensures fewer { left_of self.new.teller < left_of self.old.teller }
+        ensures sliced { IsSliced self.old.pace self.new.pace }
+    {
+        self.teller
+            .take_up(self.cat, &self.exchange.pump, &mut self.replies);
+        self.teller.go_on(&self.replies, pool, flash, out);
+        self.pace.sliced();
+    }
+
+    /// What it counted, and how it ended.
+    fn tally(&self) -> Tally
+        ensures texts { result.texts ≡ self.now.teller.count }
+        ensures refused { result.refused ≡ self.now.teller.counts.refused }
+        ensures faulted { result.faulted ≡ self.now.teller.counts.faulted }
+        ensures sink { is_sink result.status ≡ self.now.teller.printer.failed }
+        ensures status { (catalog : channel.Catalog) (asks : List NumberedAsk) (journal : Journal) → IsAfter catalog asks journal self.now.exchange.pump
+            → self.now.refusal ≡ first_code (standing_after catalog asks journal).heard.ended
+            → result.status ≡ status_with self.now.teller.printer.failed (standing_after catalog asks journal) self.now.teller.counts.by_flash self.now.teller.counts.damage }
+    {
+        Tally {
+            texts: self.teller.count,
+            refused: self.teller.counts.refused,
+            faulted: self.teller.counts.faulted,
+            status: status(
+                self.teller.printer.failed,
+                self.exchange.pump.cause(),
+                self.refusal,
+                &self.teller.counts,
+            ),
+        }
+    }
+}
+
+/// Makes the next move, and takes in what it led to. Answers the code of the first ask that the host refused till then, and
+/// what came.
+fn make_move<L: Link>(
     cat: &Catalog,
     at: &str,
+    refusal: Option<u8>,
     exchange: &mut Exchange<'_>,
-    teller: &mut Teller<'_>,
     replies: &mut Replies,
-    pool: &mut PagePool,
-    flash: &mut F,
     link: &mut L,
-    out: &mut O,
-) -> Option<u8>
-    requires suffices { Suffices cat.now (F.state flash.old) }
-    requires idle { IsIdle pool.old }
-    ensures idle { IsIdle pool.new }
-    ensures suffices { Suffices cat.now (F.state flash.new) }
-    ensures closed { want_of exchange.new.pump ≡ Want.Closed }
-    ensures gone { GoesFrom (WentBy (λ journal. L.went link.old journal link.new) (L.faults link.old) (L.faults link.new)) F.told cat.now at.now
-        (session_side teller.old.printer.failed (O.faults out.old) (O.written out.old) (F.state flash.old)) exchange.old teller.old replies.old
-        (session_side teller.new.printer.failed (O.faults out.new) (O.written out.new) (F.state flash.new)) exchange.new teller.new replies.new result }
+) -> (Option<u8>, Event)
+    requires going { want_of exchange.old.pump ≢ Want.Closed }
+    ensures moved { (told : Bool) (texts : List (List ℕ)) (journal : Journal) (since now : SessionSide) (pool : Pool) (teller : tellers.Teller)
+        → ((asked : NumberedAsk) → asked_in (heard_in cat.now texts journal).awaits ≡ Some asked → asked.text ≤ teller.count + 2)
+        → moves.IsLive cat.now at.now (asked_of cat.now.schema texts) journal exchange.old → IsAmid told cat.now texts journal since now pool exchange.old.pump teller replies.old
+        → refusal ≡ first_code (heard_in cat.now texts journal).ended
+        → MovedOn (WentBy (λ more. L.went link.old more link.new) (L.faults link.old) (L.faults link.new)) told cat.now at.now texts journal since now pool result.1 exchange.new teller replies.new result.0 }
+    ensures fewer { moves_left exchange.new.pump < moves_left exchange.old.pump }
     ensures faults { L.faults link.old ≤ L.faults link.new }
 {
     a_catalog_is_short(cat);
     replies_fit();
     reasons_stay();
     texts_are_decided();
+    texts_have_outcomes();
     ended_texts_stay();
-    moves_join();
-    let mut refusal = None;
-    'moves: loop {
-        teller.attend(cat, &exchange.pump, replies, pool, flash, out);
-        if let Want::Closed = exchange.pump.want() {
-            return refusal;
+    over_texts_are_settled();
+    texts_come_in_order();
+    let is_awaited = await_reply(cat, &exchange.pump, replies);
+    let event = exchange.step(at, link);
+    replies.hear(event, &exchange.page);
+    (first_refusal(refusal, is_awaited, event), event)
+}
+
+/// Begins the reply to the ask at hand, unless it was begun, and answers whether there is one.
+fn await_reply(cat: &Catalog, pump: &Pump, replies: &mut Replies) -> bool
+    ensures awaited { (asks : List NumberedAsk) (journal : Journal) → IsAfter cat.now asks journal pump.now
+        → result ≡ is_some (asked_in (heard cat.now asks (taken journal)).awaits) }
+    ensures kept { (asks : List NumberedAsk) (journal : Journal) (low top : ℕ) → IsAfter cat.now asks journal pump.now
+        → ((text : ℕ) → Fits cat.now (heard cat.now asks (taken journal)) text)
+        → ((asked : NumberedAsk) → asked_in (heard cat.now asks (taken journal)).awaits ≡ Some asked → IsWithin low top asked.text)
+        → IsKept cat.now (heard cat.now asks (taken journal)) low top replies.old
+        → IsAwaiting cat.now (heard cat.now asks (taken journal)) low top replies.old replies.new }
+{
+    match pump.asked() {
+        None => false,
+        Some((text, ask)) => {
+            replies.open(cat.schema(), text, ask);
+            true
         }
-        let is_awaited = exchange.pump.asked().is_some();
-        let event = exchange.step(at, link);
-        replies.hear(event, &exchange.page);
-        refusal = first_refusal(refusal, is_awaited, event);
     }
 }
 
@@ -88,16 +304,15 @@ pub fn run_session<F: Flash, L: Link, O: Sink>(
     cat: &Catalog,
     script: &[u8],
     options: &Options<'_>,
-    replies: &mut Replies,
+    replies: Replies,
     pool: &mut PagePool,
     flash: &mut F,
     link: &mut L,
     out: &mut O,
 ) -> Tally
     requires few { length (texts_of script.now) ≤ 64 }
-    requires pace { options.now.pace ≡ 0 }
     requires suffices { Suffices cat.now (F.state flash.old) }
-    requires replies { IsKept cat.now (none_heard cat.now) 1 0 replies.old }
+    requires replies { IsKept cat.now (none_heard cat.now) 1 0 replies }
     requires idle { IsIdle pool.old }
     ensures ran { HasRun (λ journal. L.went link.old journal link.new) (L.faults link.old) (L.faults link.new) F.told cat.now options.now.at.now (texts_of script.now)
         (session_side false (O.faults out.old) (O.written out.old) (F.state flash.old)) (session_side (is_sink result.status) (O.faults out.new) (O.written out.new) (F.state flash.new)) result }
@@ -115,32 +330,18 @@ pub fn run_session<F: Flash, L: Link, O: Sink>(
     ensures flash_same { spares_flash result.status ≡ true → (F.state flash.new).faults ≡ (F.state flash.old).faults }
     ensures link_faults { L.faults link.old ≤ L.faults link.new }
 {
-    pieces_join();
-    closed_is_finished();
     texts_have_outcomes();
+    closed_is_finished();
+    moves_join();
     a_catalog_is_short(cat);
     a_catalog_has_a_layout(cat);
     honest_sessions_are_smooth();
     honest_lines_are_printed();
-    let mut exchange = Exchange::begin(Pump::begin(cat, script));
-    let mut teller = Teller::new(script, options.plan);
-    let refusal = converse(
-        cat,
-        options.at,
-        &mut exchange,
-        &mut teller,
-        replies,
-        pool,
-        flash,
-        link,
-        out,
-    );
-    teller.tell_all(cat, &exchange.pump, replies, pool, flash, out);
-    let failed = teller.printer.failed;
-    Tally {
-        texts: teller.count,
-        refused: teller.counts.refused,
-        faulted: teller.counts.faulted,
-        status: status(failed, exchange.pump.cause(), refusal, &teller.counts),
+    let mut session = Session::begin(cat, script, options, replies);
+    'steps: loop {
+        match session.due() {
+            Due::Ended => return session.tally(),
+            Due::Move | Due::Slice => session.step(pool, flash, link, out),
+        }
     }
 }

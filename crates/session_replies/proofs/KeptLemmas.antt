@@ -270,3 +270,20 @@ rows_heard catalog before after low top n page payload old new is pushes tells s
     let both = begun asked.0 asked.1 in
     pushed catalog before after asked.0 low top payload old new pushes both.0 both.1 asked.1 (same refl ∙ asked.1)
     (tells.rows ∙ ap (λ (x : List ℕ). before.rows ++ x) (sym is)) (tells.ended ∙ append-nil before.ended) fits k
+
+-- what stands in a text's store whose half did not change
+pub same_stored : (text other : ℕ) (old new : Replies) → Changes text old new → (is_even other ≡ is_even text → ⊥) → stored_for new other ≡ stored_for old other
+same_stored text other old new changes apart = ap (λ (h : Half). h.store.stored) (changes.others other apart)
+
+-- rows that came go to no other store than that of the ask's text
+pub others_heard : (catalog : Catalog) (before after : Heard) (low top other n : ℕ) (page payload : List ℕ) (old new : Replies)
+    → Pushes payload old new → Tells catalog page (event.Rows n) before after
+    → ((asked : NumberedAsk) → asked_in before.awaits ≡ Some asked → (old.is_open ≡ true) × (is_even other ≡ is_even asked.text → ⊥))
+    → IsKept catalog before low top old → stored_for new other ≡ stored_for old other
+others_heard catalog before after low top other n page payload old new pushes tells apart k =
+    let asked = rows_asked catalog before.awaits (payload_in page) n tells.came in
+    let both = apart asked.0 asked.1 in
+    let at = k.at both.0 in
+    let one : at.asked ≡ asked.0 = (let same : Some at.asked ≡ Some asked.0 = sym at.awaited ∙ asked.1 in cc) in
+    let text_is : old.text ≡ asked.0.text = at.text ∙ ap (λ (a : NumberedAsk). a.text) one in
+    same_stored old.text other old new pushes.changes (λ same. both.1 (same ∙ ap is_even text_is))

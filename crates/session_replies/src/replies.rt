@@ -8,7 +8,7 @@ ghost use Rattle.ghost_model.specs.core.NextMove.{Heard};
 ghost use Rattle.channel_codec.specs.AskViews.{ask_view};
 ghost use Rattle.channel_pump.specs.Progress.{Tells};
 ghost use Rattle.channel_session.specs.Sessions.{asked_in, leads_on};
-ghost use Rattle.session_replies.specs.Halves.{kept, stored_for, HaveRoom, Begins, Pushes};
+ghost use Rattle.session_replies.specs.Halves.{is_even, kept, stored_for, HaveRoom, Begins, Pushes};
 ghost use Rattle.session_replies.specs.Kept.{IsKept, Fits, none_heard};
 
 use crate::half::Half;
@@ -67,6 +67,7 @@ impl Replies {
             → asked_in heard.awaits ≡ Some asked → asked.text ≡ text → asked.ask ≡ ask_view ask.now
             → 1 ≤ text → top ≤ text → low ≤ text → text ≤ low + 1 → Fits catalog heard text → IsKept catalog heard low top self.old → IsKept catalog heard low text self.new }
         ensures open { self.new.is_open ≡ true }
+        ensures others { (other : ℕ) → (is_even other ≡ is_even text → ⊥) → stored_for self.new other ≡ stored_for self.old other }
     {
         if !self.is_open {
             self.begin(schema, text, ask);
@@ -104,6 +105,9 @@ impl Replies {
             → (event ≡ Event.Welcome → asked_in before.awaits ≡ None)
             → ((asked : NumberedAsk) → asked_in before.awaits ≡ Some asked → (self.old.is_open ≡ true) × (low ≤ asked.text))
             → ((text : ℕ) → Fits catalog after text) → IsKept catalog before low top self.old → IsKept catalog after low top self.new }
+        ensures others { (catalog : Catalog) (before after : Heard) (low top other : ℕ) → Tells catalog page.now event before after
+            → ((asked : NumberedAsk) → asked_in before.awaits ≡ Some asked → (self.old.is_open ≡ true) × (is_even other ≡ is_even asked.text → ⊥))
+            → IsKept catalog before low top self.old → stored_for self.new other ≡ stored_for self.old other }
     {
         match event {
             Event::Rows(_) => self.push(payload_of(page)),

@@ -1,15 +1,18 @@
 //! The key's answer of a query over the clinic.
 
+ghost use Rattle.text_lines.specs.Telling.{CanTell};
+
 use crate::clinic::{CATALOG, ask_for, device, failing_device};
 use channel_pump::state::ReplyState;
 use edge_traits::flash::{AttachFault, Flash};
 use edge_traits::mem_sink::MemSink;
+use edge_traits::sink::Sink;
 use flash_layout::need;
 use key_lines::Printer;
 use leakless_plan::Plan;
 use page_pool::PagePool;
 use reply_store::ReplyStore;
-use text_lines::{Told, print_text};
+use text_lines::{Telling, Told};
 use tree_schema::read_catalog;
 
 /// The visits in some days with doctors of one country.
@@ -24,6 +27,26 @@ const LINES: &[u8] = b"> 2\tBob\t5\n> 3\tAnn\t9\n= 1 2\n";
 
 const FAILED: &[u8] = b"! 1 flash\n";
 
+/// Tells a text to its end.
+fn tell<F: Flash, O: Sink>(
+    telling: Telling,
+    printer: &mut Printer,
+    out: &mut O,
+    store: &ReplyStore,
+    pool: &mut PagePool,
+    flash: &mut F,
+) -> Told
+    requires can { CanTell F.told (F.state flash.old) pool.old telling }
+{
+    let mut telling = telling;
+    'steps: loop {
+        match telling.step(printer, out, store, pool, flash) {
+            Some(told) => return told,
+            None => {}
+        }
+    }
+}
+
 #[test]
 fn an_answer_is_printed_through_eight_buffers(rt: HostRuntime) -> Result<(), AttachFault> {
     let cat = read_catalog(CATALOG).expect(&rt, "the catalog");
@@ -35,14 +58,11 @@ fn an_answer_is_printed_through_eight_buffers(rt: HostRuntime) -> Result<(), Att
     let mut out = MemSink::new(rt.alloc(), 99, 99, &[])?;
     let mut printer = Printer::new();
     let mut pool = PagePool::new(rt.alloc(), 8)?;
-    let told = print_text(
+    let telling = Telling::begin(&cat, Plan::Scan, 1, VISITS, ReplyState::Done);
+    let told = tell(
+        telling,
         &mut printer,
         &mut out,
-        &cat,
-        Plan::Scan,
-        1,
-        VISITS,
-        ReplyState::Done,
         &store,
         &mut pool,
         &mut flash,
@@ -69,18 +89,8 @@ fn each_call_that_fails_gives_all_buffers_back(rt: HostRuntime) -> Result<(), At
         let mut out = MemSink::new(rt.alloc(), 99, 99, &[])?;
         let mut printer = Printer::new();
         let mut pool = PagePool::new(rt.alloc(), 8)?;
-        let told = print_text(
-            &mut printer,
-            &mut out,
-            &cat,
-            Plan::Scan,
-            1,
-            VISITS,
-            ReplyState::Done,
-            &store,
-            &mut pool,
-            &mut flash,
-        );
+        let telling = Telling::begin(&cat, Plan::Scan, 1, VISITS, ReplyState::Done);
+        let told = tell(telling, &mut printer, &mut out, &store, &mut pool, &mut flash);
         assert!(rt; matches!(told, Told::Flash), "{call}");
         assert!(rt;
             flash.script.calls == call && out.bytes() == FAILED,

@@ -72,10 +72,11 @@ fn a_session_is_told_alike_however_its_stream_is_cut(rt: HostRuntime) -> Result<
     assert!(rt; text_count(SCRIPT) <= 64);
     let said = wire(rt.alloc(), false)?;
     let moved = wire(rt.alloc(), true)?;
+    let pace = [0u16];
     let options = Options {
         at: "h",
         plan: Plan::Scan,
-        pace: 0,
+        pace: &pace,
     };
     for pieces in CUTS {
         let peer = PeerScript {
@@ -89,21 +90,14 @@ fn a_session_is_told_alike_however_its_stream_is_cut(rt: HostRuntime) -> Result<
         };
         let mut link = MemLink::new(rt.alloc(), room, &peer, &[])?;
         let mut out = MemSink::new(rt.alloc(), 200, 99, &[])?;
-        let mut replies = Replies::new(
+        let replies = Replies::new(
             ReplyStore::new(rt.alloc(), &cat)?,
             ReplyStore::new(rt.alloc(), &cat)?,
         );
         let mut pool = PagePool::new(rt.alloc(), 8)?;
         assert!(rt; need(&cat) <= flash.pages());
         let tally = run_session(
-            &cat,
-            SCRIPT,
-            &options,
-            &mut replies,
-            &mut pool,
-            &mut flash,
-            &mut link,
-            &mut out,
+            &cat, SCRIPT, &options, replies, &mut pool, &mut flash, &mut link, &mut out,
         );
         assert!(rt; tally.texts == 4 && tally.refused == 1 && tally.faulted == 0);
         assert!(rt; matches!(&tally.status, SessionStatus::Ok));

@@ -11,4 +11,4 @@ pub mod text;
 
 pub use damage::Damage;
 pub use telling::Telling;
-pub use text::{Told, print_text};
+pub use text::Told;

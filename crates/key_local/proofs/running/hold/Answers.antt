@@ -43,4 +43,5 @@ returns-clause-ran g c = λ database stored hosted columns.
     (λ calm. lines_kept _ ran.journal _ _ wrote c.requires.going calm)
     (λ fine. lines_written _ ran.journal _ _ wrote (sym c.failed.ensures.failed ∙ c.end_of.ensures.no_depot (ap clears_journal fine)))
     (λ t. ran.told database (record { is_told = t; is = stored.is_database; counts = stored.counts_are; holds = columns t }))
+    (record { reasons = ran.reasons.reasons; as_many = ran.reasons.as_many; lines = ran.lines })
     ran.damaged c.run_session-tally.ensures.pages c.end_of.ensures.sink c.end_of.ensures.whole c.end_of.ensures.flash c.run_session-tally.ensures.flash_called c.run_session-tally.ensures.damage_called c.end_of.ensures.damaged

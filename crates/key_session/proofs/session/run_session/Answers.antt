@@ -1,76 +1,152 @@
-use Rattle.std.proofs.Common.{◌∙◌, sym, refl}
+use Rattle.std.proofs.Common.{◌≡◌, ◌≤◌, ◌∙◌, sym, refl, subst, arith, Bool, false, []}
 use Rattle.ghost_model.specs.core.Texts.{texts_of}
-use Rattle.ghost_model.specs.core.Asks.{asked_of}
+use Rattle.channel_session.specs.Entries.{WentBy}
 use Rattle.key_lines.specs.Handing.{handed}
 use Rattle.text_lines.specs.Rows.{PrintsSome}
+use Rattle.text_lines.specs.declared.telling.Telling.{Telling}
+use Rattle.std.specs.Prelude.{Option}
 use Rattle.key_session.specs.Telling.{session_side}
-use Rattle.key_session.specs.Running.{HasRun, is_sink}
-use Rattle.key_session.proofs.HonestRuns.{answers_all}
-use Rattle.key_session.proofs.Running.{IsLast, at_first, has_run, as_said, flash_rose, flash_same}
-use Rattle.key_session.proofs.session.run_session.Given as given
+use Rattle.key_session.specs.Going.{CanRun, IsLive}
+use Rattle.key_session.specs.Running.{HasRun}
+use Rattle.key_session.proofs.Running.{flash_rose, flash_same}
+use Rattle.key_session.proofs.Stepping.{last_of, come_on, cat_still, at_still, idle_over}
 use Rattle.key_session.proofs.session.run_session.Goals as goal
 
-last : (g : given.Over) (c : goal.After-status g)
-    → IsLast (λ journal. g.L.Link.went c.args.link.now journal c.converse-refusal.new.link) (g.L.Link.faults c.args.link.now) (g.L.Link.faults c.converse-refusal.new.link) g.F.Flash.told c.args.cat.now c.args.options.now.at.now (texts_of c.args.script.now)
-    (session_side c.new-teller.result.printer.failed (g.O.Sink.faults c.args.out.now) (g.O.Sink.written c.args.out.now) (g.F.Flash.state c.args.flash.now))
-    (session_side c.tell_all.new.self.printer.failed (g.O.Sink.faults c.tell_all.new.out) (g.O.Sink.written c.tell_all.new.out) (g.F.Flash.state c.tell_all.new.flash))
-    (record { texts = c.tell_all.new.self.count; refused = c.tell_all.new.self.counts.refused; faulted = c.tell_all.new.self.counts.faulted; status = c.status.result })
-last g c =
-    has_run c.texts_have_outcomes.ensures _ _ _ _ c.args.cat.now c.args.options.now.at.now (texts_of c.args.script.now) _ _ _ c.converse-refusal.new.exchange c.converse-refusal.new.teller c.tell_all.new.self
-    c.converse-refusal.new.replies c.tell_all.new.replies c.converse-refusal.result c.cause.result _
-    (c.converse-refusal.ensures.gone (texts_of c.args.script.now) _
-    (c.begin-exchange.ensures.live c.args.cat.now c.args.options.now.at.now (asked_of c.args.cat.now.schema (texts_of c.args.script.now)) c.begin.ensures.after)
-    (at_first c.pieces_join.ensures g.F.Flash.told c.args.cat.now (texts_of c.args.script.now)
-    (session_side c.new-teller.result.printer.failed (g.O.Sink.faults c.args.out.now) (g.O.Sink.written c.args.out.now) (g.F.Flash.state c.args.flash.now))
-    c.new-teller.result c.args.replies.now c.new-teller.ensures.texts c.new-teller.ensures.count c.new-teller.ensures.counts c.requires.replies))
-    (λ journal live. c.closed_is_finished.ensures.finished c.args.cat.now c.args.options.now.at.now (asked_of c.args.cat.now.schema (texts_of c.args.script.now)) journal c.converse-refusal.new.exchange live c.converse-refusal.ensures.closed)
-    c.tell_all.ensures.told c.tell_all.ensures.all
-    (λ journal after. c.cause.ensures.ends c.args.cat.now (asked_of c.args.cat.now.schema (texts_of c.args.script.now)) journal after)
-    refl refl refl
-    (λ session ends refusal. c.status.ensures.status session ends refusal)
-    (λ journal proper finished told.
-    answers_all c.honest_sessions_are_smooth.ensures c.honest_lines_are_printed.ensures g.F.Flash.told c.args.cat.now c.args.options.now.at.now (texts_of c.args.script.now) journal _ _ _
-    c.a_catalog_is_short.ensures.catalog c.requires.few proper finished told)
+pub steps-init : goal.steps-init
+steps-init g c = (
+  record {
+    suffices = rw c.begin-session.ensures.cat c.requires.suffices;
+    can = subst (λ (running : Option Telling). CanRun g.F.Flash.told (g.F.Flash.state c.args.flash.now) c.args.pool.now running) (sym c.begin-session.ensures.running) c.requires.idle;
+  },
+  c.begin-session.ensures.cat,
+  c.begin-session.ensures.at,
+  omega arith,
+  record {
+    journal = [];
+    went = record { gone = g.met.L.Link.stays _; counts = c.moves_join.ensures.joined.none _; short = refl };
+    live = subst (λ (failed : Bool). IsLive g.F.Flash.told (texts_of c.args.script.now) [] (session_side false (g.O.Sink.faults c.args.out.now) (g.O.Sink.written c.args.out.now) (g.F.Flash.state c.args.flash.now))
+        (session_side failed (g.O.Sink.faults c.args.out.now) (g.O.Sink.written c.args.out.now) (g.F.Flash.state c.args.flash.now)) c.args.pool.now c.begin-session.result) (sym c.begin-session.ensures.fresh)
+        (c.begin-session.ensures.live g.F.Flash.told (session_side false (g.O.Sink.faults c.args.out.now) (g.O.Sink.written c.args.out.now) (g.F.Flash.state c.args.flash.now)) c.args.pool.now c.requires.replies);
+  },
+)
 
-pub returns-clause-ran : goal.returns-clause-ran
-returns-clause-ran g c =
-    as_said (λ before after. HasRun (λ journal. g.L.Link.went c.args.link.now journal c.converse-refusal.new.link) (g.L.Link.faults c.args.link.now) (g.L.Link.faults c.converse-refusal.new.link) g.F.Flash.told c.args.cat.now c.args.options.now.at.now (texts_of c.args.script.now)
-    (session_side before (g.O.Sink.faults c.args.out.now) (g.O.Sink.written c.args.out.now) (g.F.Flash.state c.args.flash.now))
-    (session_side after (g.O.Sink.faults c.tell_all.new.out) (g.O.Sink.written c.tell_all.new.out) (g.F.Flash.state c.tell_all.new.flash))
-    (record { texts = c.tell_all.new.self.count; refused = c.tell_all.new.self.counts.refused; faulted = c.tell_all.new.self.counts.faulted; status = c.status.result }))
-    c.new-teller.result.printer.failed c.tell_all.new.self.printer.failed (is_sink c.status.result) c.new-teller.ensures.fresh c.status.ensures.sink (last g c).ran
+pub steps-preserved : goal.steps-preserved
+steps-preserved g c =
+    let before = c.steps.invariant.3 in
+    let more = c.step.ensures.faults in (
+      c.step.ensures.can,
+      cat_still c.steps.session c.step.new.self c.step.ensures.cat ∙ c.steps.invariant.1,
+      at_still c.steps.session c.step.new.self c.step.ensures.at ∙ c.steps.invariant.2,
+      omega (arith, before, more),
+      come_on (WentBy (λ journal. g.L.Link.went c.args.link.now journal c.steps.link) (g.L.Link.faults c.args.link.now) (g.L.Link.faults c.steps.link))
+          (WentBy (λ journal. g.L.Link.went c.steps.link journal c.step.new.link) (g.L.Link.faults c.steps.link) (g.L.Link.faults c.step.new.link))
+          (WentBy (λ journal. g.L.Link.went c.args.link.now journal c.step.new.link) (g.L.Link.faults c.args.link.now) (g.L.Link.faults c.step.new.link)) g.F.Flash.told (texts_of c.args.script.now)
+          (session_side false (g.O.Sink.faults c.args.out.now) (g.O.Sink.written c.args.out.now) (g.F.Flash.state c.args.flash.now)) _ _ c.steps.pool c.step.new.pool c.steps.session c.step.new.self
+          (λ first made one other. record {
+            gone = g.met.L.Link.joins _ _ _ first made one.gone other.gone;
+            counts = c.moves_join.ensures.joined.two _ _ _ first made one.counts other.counts;
+            short = c.moves_join.ensures.joined.short first made one.short other.short;
+          })
+          (λ journal live. c.step.ensures.live (texts_of c.args.script.now) journal (session_side false (g.O.Sink.faults c.args.out.now) (g.O.Sink.written c.args.out.now) (g.F.Flash.state c.args.flash.now)) live)
+          c.steps.invariant.4,
+    )
 
-pub returns-clause-texts : goal.returns-clause-texts
-returns-clause-texts g c = (last g c).many
+pub returns-in-Ended-clause-ran : goal.returns-in-Ended-clause-ran
+returns-in-Ended-clause-ran g c =
+    let last = last_of c.honest_sessions_are_smooth.ensures c.honest_lines_are_printed.ensures c.closed_is_finished.ensures.finished c.args.cat.now c.a_catalog_is_short.ensures.catalog (texts_of c.args.script.now) c.requires.few
+    (λ journal. g.L.Link.went c.args.link.now journal c.steps.link) (g.L.Link.faults c.args.link.now) (g.L.Link.faults c.steps.link) g.F.Flash.told c.args.options.now.at.now
+    (session_side false (g.O.Sink.faults c.args.out.now) (g.O.Sink.written c.args.out.now) (g.F.Flash.state c.args.flash.now)) (g.O.Sink.faults c.steps.out) (g.O.Sink.written c.steps.out) (g.F.Flash.state c.steps.flash) c.steps.pool c.steps.session c.tally.result
+    c.steps.invariant.1 c.steps.invariant.2 c.steps.invariant.4 (c.due.ensures.closed c.in-Ended.is) (c.due.ensures.none c.in-Ended.is) c.tally.ensures.texts c.tally.ensures.refused c.tally.ensures.faulted c.tally.ensures.status in
+    subst (λ (failed : Bool). HasRun (λ journal. g.L.Link.went c.args.link.now journal c.steps.link) (g.L.Link.faults c.args.link.now) (g.L.Link.faults c.steps.link) g.F.Flash.told c.args.cat.now c.args.options.now.at.now (texts_of c.args.script.now)
+    (session_side false (g.O.Sink.faults c.args.out.now) (g.O.Sink.written c.args.out.now) (g.F.Flash.state c.args.flash.now)) (session_side failed (g.O.Sink.faults c.steps.out) (g.O.Sink.written c.steps.out) (g.F.Flash.state c.steps.flash)) c.tally.result) (sym c.tally.ensures.sink) last.ran
 
-pub returns-clause-prints : goal.returns-clause-prints
-returns-clause-prints g c =
-    as_said (λ before after. PrintsSome (handed before (g.O.Sink.faults c.args.out.now) (g.O.Sink.written c.args.out.now)) (handed after (g.O.Sink.faults c.tell_all.new.out) (g.O.Sink.written c.tell_all.new.out)))
-    c.new-teller.result.printer.failed c.tell_all.new.self.printer.failed (is_sink c.status.result) c.new-teller.ensures.fresh c.status.ensures.sink (last g c).prints
+pub returns-in-Ended-clause-prints : goal.returns-in-Ended-clause-prints
+returns-in-Ended-clause-prints g c =
+    let last = last_of c.honest_sessions_are_smooth.ensures c.honest_lines_are_printed.ensures c.closed_is_finished.ensures.finished c.args.cat.now c.a_catalog_is_short.ensures.catalog (texts_of c.args.script.now) c.requires.few
+    (λ journal. g.L.Link.went c.args.link.now journal c.steps.link) (g.L.Link.faults c.args.link.now) (g.L.Link.faults c.steps.link) g.F.Flash.told c.args.options.now.at.now
+    (session_side false (g.O.Sink.faults c.args.out.now) (g.O.Sink.written c.args.out.now) (g.F.Flash.state c.args.flash.now)) (g.O.Sink.faults c.steps.out) (g.O.Sink.written c.steps.out) (g.F.Flash.state c.steps.flash) c.steps.pool c.steps.session c.tally.result
+    c.steps.invariant.1 c.steps.invariant.2 c.steps.invariant.4 (c.due.ensures.closed c.in-Ended.is) (c.due.ensures.none c.in-Ended.is) c.tally.ensures.texts c.tally.ensures.refused c.tally.ensures.faulted c.tally.ensures.status in
+    subst (λ (failed : Bool). PrintsSome (handed false (g.O.Sink.faults c.args.out.now) (g.O.Sink.written c.args.out.now)) (handed failed (g.O.Sink.faults c.steps.out) (g.O.Sink.written c.steps.out))) (sym c.tally.ensures.sink) last.prints
 
-pub returns-clause-pages : goal.returns-clause-pages
-returns-clause-pages g c = (last g c).pages
+pub returns-in-Ended-clause-idle : goal.returns-in-Ended-clause-idle
+returns-in-Ended-clause-idle g c = idle_over g.F.Flash.told (g.F.Flash.state c.steps.flash) c.steps.pool c.steps.session.teller (c.due.ensures.none c.in-Ended.is) c.steps.invariant.0.can
 
-pub returns-clause-flash_calls : goal.returns-clause-flash_calls
-returns-clause-flash_calls g c = (last g c).calls
+pub returns-in-Ended-clause-texts : goal.returns-in-Ended-clause-texts
+returns-in-Ended-clause-texts g c =
+    let last = last_of c.honest_sessions_are_smooth.ensures c.honest_lines_are_printed.ensures c.closed_is_finished.ensures.finished c.args.cat.now c.a_catalog_is_short.ensures.catalog (texts_of c.args.script.now) c.requires.few
+    (λ journal. g.L.Link.went c.args.link.now journal c.steps.link) (g.L.Link.faults c.args.link.now) (g.L.Link.faults c.steps.link) g.F.Flash.told c.args.options.now.at.now
+    (session_side false (g.O.Sink.faults c.args.out.now) (g.O.Sink.written c.args.out.now) (g.F.Flash.state c.args.flash.now)) (g.O.Sink.faults c.steps.out) (g.O.Sink.written c.steps.out) (g.F.Flash.state c.steps.flash) c.steps.pool c.steps.session c.tally.result
+    c.steps.invariant.1 c.steps.invariant.2 c.steps.invariant.4 (c.due.ensures.closed c.in-Ended.is) (c.due.ensures.none c.in-Ended.is) c.tally.ensures.texts c.tally.ensures.refused c.tally.ensures.faulted c.tally.ensures.status in
+    last.many
 
-pub returns-clause-flash_called : goal.returns-clause-flash_called
-returns-clause-flash_called g c = λ e. (last g c).called e
+pub returns-in-Ended-clause-sink_same : goal.returns-in-Ended-clause-sink_same
+returns-in-Ended-clause-sink_same g c =
+    let last = last_of c.honest_sessions_are_smooth.ensures c.honest_lines_are_printed.ensures c.closed_is_finished.ensures.finished c.args.cat.now c.a_catalog_is_short.ensures.catalog (texts_of c.args.script.now) c.requires.few
+    (λ journal. g.L.Link.went c.args.link.now journal c.steps.link) (g.L.Link.faults c.args.link.now) (g.L.Link.faults c.steps.link) g.F.Flash.told c.args.options.now.at.now
+    (session_side false (g.O.Sink.faults c.args.out.now) (g.O.Sink.written c.args.out.now) (g.F.Flash.state c.args.flash.now)) (g.O.Sink.faults c.steps.out) (g.O.Sink.written c.steps.out) (g.F.Flash.state c.steps.flash) c.steps.pool c.steps.session c.tally.result
+    c.steps.invariant.1 c.steps.invariant.2 c.steps.invariant.4 (c.due.ensures.closed c.in-Ended.is) (c.due.ensures.none c.in-Ended.is) c.tally.ensures.texts c.tally.ensures.refused c.tally.ensures.faulted c.tally.ensures.status in
+    λ e. (last.prints.handed.whole (sym c.tally.ensures.sink ∙ e)).faults
 
-pub returns-clause-damage_called : goal.returns-clause-damage_called
-returns-clause-damage_called g c = λ e. (last g c).damage_called e
+pub returns-in-Ended-clause-flash_called : goal.returns-in-Ended-clause-flash_called
+returns-in-Ended-clause-flash_called g c =
+    let last = last_of c.honest_sessions_are_smooth.ensures c.honest_lines_are_printed.ensures c.closed_is_finished.ensures.finished c.args.cat.now c.a_catalog_is_short.ensures.catalog (texts_of c.args.script.now) c.requires.few
+    (λ journal. g.L.Link.went c.args.link.now journal c.steps.link) (g.L.Link.faults c.args.link.now) (g.L.Link.faults c.steps.link) g.F.Flash.told c.args.options.now.at.now
+    (session_side false (g.O.Sink.faults c.args.out.now) (g.O.Sink.written c.args.out.now) (g.F.Flash.state c.args.flash.now)) (g.O.Sink.faults c.steps.out) (g.O.Sink.written c.steps.out) (g.F.Flash.state c.steps.flash) c.steps.pool c.steps.session c.tally.result
+    c.steps.invariant.1 c.steps.invariant.2 c.steps.invariant.4 (c.due.ensures.closed c.in-Ended.is) (c.due.ensures.none c.in-Ended.is) c.tally.ensures.texts c.tally.ensures.refused c.tally.ensures.faulted c.tally.ensures.status in
+    λ e. last.called e
 
-pub returns-clause-flash_faults : goal.returns-clause-flash_faults
-returns-clause-flash_faults g c = (last g c).faults
+pub returns-in-Ended-clause-damage_called : goal.returns-in-Ended-clause-damage_called
+returns-in-Ended-clause-damage_called g c =
+    let last = last_of c.honest_sessions_are_smooth.ensures c.honest_lines_are_printed.ensures c.closed_is_finished.ensures.finished c.args.cat.now c.a_catalog_is_short.ensures.catalog (texts_of c.args.script.now) c.requires.few
+    (λ journal. g.L.Link.went c.args.link.now journal c.steps.link) (g.L.Link.faults c.args.link.now) (g.L.Link.faults c.steps.link) g.F.Flash.told c.args.options.now.at.now
+    (session_side false (g.O.Sink.faults c.args.out.now) (g.O.Sink.written c.args.out.now) (g.F.Flash.state c.args.flash.now)) (g.O.Sink.faults c.steps.out) (g.O.Sink.written c.steps.out) (g.F.Flash.state c.steps.flash) c.steps.pool c.steps.session c.tally.result
+    c.steps.invariant.1 c.steps.invariant.2 c.steps.invariant.4 (c.due.ensures.closed c.in-Ended.is) (c.due.ensures.none c.in-Ended.is) c.tally.ensures.texts c.tally.ensures.refused c.tally.ensures.faulted c.tally.ensures.status in
+    λ e. last.damage_called e
 
-pub returns-clause-sink_rose : goal.returns-clause-sink_rose
-returns-clause-sink_rose g c = λ e. (last g c).prints.handed.rose c.new-teller.ensures.fresh (sym c.status.ensures.sink ∙ e)
+pub returns-in-Ended-clause-flash_rose : goal.returns-in-Ended-clause-flash_rose
+returns-in-Ended-clause-flash_rose g c =
+    let last = last_of c.honest_sessions_are_smooth.ensures c.honest_lines_are_printed.ensures c.closed_is_finished.ensures.finished c.args.cat.now c.a_catalog_is_short.ensures.catalog (texts_of c.args.script.now) c.requires.few
+    (λ journal. g.L.Link.went c.args.link.now journal c.steps.link) (g.L.Link.faults c.args.link.now) (g.L.Link.faults c.steps.link) g.F.Flash.told c.args.options.now.at.now
+    (session_side false (g.O.Sink.faults c.args.out.now) (g.O.Sink.written c.args.out.now) (g.F.Flash.state c.args.flash.now)) (g.O.Sink.faults c.steps.out) (g.O.Sink.written c.steps.out) (g.F.Flash.state c.steps.flash) c.steps.pool c.steps.session c.tally.result
+    c.steps.invariant.1 c.steps.invariant.2 c.steps.invariant.4 (c.due.ensures.closed c.in-Ended.is) (c.due.ensures.none c.in-Ended.is) c.tally.ensures.texts c.tally.ensures.refused c.tally.ensures.faulted c.tally.ensures.status in
+    λ e. flash_rose last.ran e
 
-pub returns-clause-sink_same : goal.returns-clause-sink_same
-returns-clause-sink_same g c = λ e. ((last g c).prints.handed.whole (sym c.status.ensures.sink ∙ e)).faults
+pub returns-in-Ended-clause-flash_same : goal.returns-in-Ended-clause-flash_same
+returns-in-Ended-clause-flash_same g c =
+    let last = last_of c.honest_sessions_are_smooth.ensures c.honest_lines_are_printed.ensures c.closed_is_finished.ensures.finished c.args.cat.now c.a_catalog_is_short.ensures.catalog (texts_of c.args.script.now) c.requires.few
+    (λ journal. g.L.Link.went c.args.link.now journal c.steps.link) (g.L.Link.faults c.args.link.now) (g.L.Link.faults c.steps.link) g.F.Flash.told c.args.options.now.at.now
+    (session_side false (g.O.Sink.faults c.args.out.now) (g.O.Sink.written c.args.out.now) (g.F.Flash.state c.args.flash.now)) (g.O.Sink.faults c.steps.out) (g.O.Sink.written c.steps.out) (g.F.Flash.state c.steps.flash) c.steps.pool c.steps.session c.tally.result
+    c.steps.invariant.1 c.steps.invariant.2 c.steps.invariant.4 (c.due.ensures.closed c.in-Ended.is) (c.due.ensures.none c.in-Ended.is) c.tally.ensures.texts c.tally.ensures.refused c.tally.ensures.faulted c.tally.ensures.status in
+    λ e. flash_same last.ran e
 
-pub returns-clause-flash_rose : goal.returns-clause-flash_rose
-returns-clause-flash_rose g c = λ e. flash_rose (last g c).ran e
+pub returns-in-Ended-clause-sink_rose : goal.returns-in-Ended-clause-sink_rose
+returns-in-Ended-clause-sink_rose g c =
+    let last = last_of c.honest_sessions_are_smooth.ensures c.honest_lines_are_printed.ensures c.closed_is_finished.ensures.finished c.args.cat.now c.a_catalog_is_short.ensures.catalog (texts_of c.args.script.now) c.requires.few
+    (λ journal. g.L.Link.went c.args.link.now journal c.steps.link) (g.L.Link.faults c.args.link.now) (g.L.Link.faults c.steps.link) g.F.Flash.told c.args.options.now.at.now
+    (session_side false (g.O.Sink.faults c.args.out.now) (g.O.Sink.written c.args.out.now) (g.F.Flash.state c.args.flash.now)) (g.O.Sink.faults c.steps.out) (g.O.Sink.written c.steps.out) (g.F.Flash.state c.steps.flash) c.steps.pool c.steps.session c.tally.result
+    c.steps.invariant.1 c.steps.invariant.2 c.steps.invariant.4 (c.due.ensures.closed c.in-Ended.is) (c.due.ensures.none c.in-Ended.is) c.tally.ensures.texts c.tally.ensures.refused c.tally.ensures.faulted c.tally.ensures.status in
+    λ e. last.prints.handed.rose refl (sym c.tally.ensures.sink ∙ e)
 
-pub returns-clause-flash_same : goal.returns-clause-flash_same
-returns-clause-flash_same g c = λ e. flash_same (last g c).ran e
+pub returns-in-Ended-clause-pages : goal.returns-in-Ended-clause-pages
+returns-in-Ended-clause-pages g c =
+    let last = last_of c.honest_sessions_are_smooth.ensures c.honest_lines_are_printed.ensures c.closed_is_finished.ensures.finished c.args.cat.now c.a_catalog_is_short.ensures.catalog (texts_of c.args.script.now) c.requires.few
+    (λ journal. g.L.Link.went c.args.link.now journal c.steps.link) (g.L.Link.faults c.args.link.now) (g.L.Link.faults c.steps.link) g.F.Flash.told c.args.options.now.at.now
+    (session_side false (g.O.Sink.faults c.args.out.now) (g.O.Sink.written c.args.out.now) (g.F.Flash.state c.args.flash.now)) (g.O.Sink.faults c.steps.out) (g.O.Sink.written c.steps.out) (g.F.Flash.state c.steps.flash) c.steps.pool c.steps.session c.tally.result
+    c.steps.invariant.1 c.steps.invariant.2 c.steps.invariant.4 (c.due.ensures.closed c.in-Ended.is) (c.due.ensures.none c.in-Ended.is) c.tally.ensures.texts c.tally.ensures.refused c.tally.ensures.faulted c.tally.ensures.status in
+    last.pages
+
+pub returns-in-Ended-clause-flash_calls : goal.returns-in-Ended-clause-flash_calls
+returns-in-Ended-clause-flash_calls g c =
+    let last = last_of c.honest_sessions_are_smooth.ensures c.honest_lines_are_printed.ensures c.closed_is_finished.ensures.finished c.args.cat.now c.a_catalog_is_short.ensures.catalog (texts_of c.args.script.now) c.requires.few
+    (λ journal. g.L.Link.went c.args.link.now journal c.steps.link) (g.L.Link.faults c.args.link.now) (g.L.Link.faults c.steps.link) g.F.Flash.told c.args.options.now.at.now
+    (session_side false (g.O.Sink.faults c.args.out.now) (g.O.Sink.written c.args.out.now) (g.F.Flash.state c.args.flash.now)) (g.O.Sink.faults c.steps.out) (g.O.Sink.written c.steps.out) (g.F.Flash.state c.steps.flash) c.steps.pool c.steps.session c.tally.result
+    c.steps.invariant.1 c.steps.invariant.2 c.steps.invariant.4 (c.due.ensures.closed c.in-Ended.is) (c.due.ensures.none c.in-Ended.is) c.tally.ensures.texts c.tally.ensures.refused c.tally.ensures.faulted c.tally.ensures.status in
+    last.calls
+
+pub returns-in-Ended-clause-flash_faults : goal.returns-in-Ended-clause-flash_faults
+returns-in-Ended-clause-flash_faults g c =
+    let last = last_of c.honest_sessions_are_smooth.ensures c.honest_lines_are_printed.ensures c.closed_is_finished.ensures.finished c.args.cat.now c.a_catalog_is_short.ensures.catalog (texts_of c.args.script.now) c.requires.few
+    (λ journal. g.L.Link.went c.args.link.now journal c.steps.link) (g.L.Link.faults c.args.link.now) (g.L.Link.faults c.steps.link) g.F.Flash.told c.args.options.now.at.now
+    (session_side false (g.O.Sink.faults c.args.out.now) (g.O.Sink.written c.args.out.now) (g.F.Flash.state c.args.flash.now)) (g.O.Sink.faults c.steps.out) (g.O.Sink.written c.steps.out) (g.F.Flash.state c.steps.flash) c.steps.pool c.steps.session c.tally.result
+    c.steps.invariant.1 c.steps.invariant.2 c.steps.invariant.4 (c.due.ensures.closed c.in-Ended.is) (c.due.ensures.none c.in-Ended.is) c.tally.ensures.texts c.tally.ensures.refused c.tally.ensures.faulted c.tally.ensures.status in
+    last.faults

@@ -1,0 +1,110 @@
+-- A session from step to step.
+use Rattle.std.proofs.Common.{◌≡◌, ◌≤◌, ◌+◌, ℕ, Bool, true, false, List, [], ◌∷◌, ◌++◌, length, refl, sym, ap, ◌∙◌, subst, append-nil, Option, Some, None}
+use Rattle.std.specs.Prelude.{is_some}
+use Rattle.ghost_model.specs.core.Channel.{Catalog, Journal}
+use Rattle.ghost_model.specs.core.Asks.{asked_of}
+use Rattle.edge_traits.specs.Devices.{Device}
+use Rattle.page_pool.specs.Pools.{Pool, IsIdle}
+use Rattle.channel_pump.specs.declared.state.Pump.{Pump}
+use Rattle.channel_session.specs.Sessions as moves
+use Rattle.session_laws.specs.TextEnds.{heard_in}
+use Rattle.session_replies.specs.declared.replies.Replies.{Replies}
+use Rattle.text_lines.specs.declared.telling.Telling.{Telling}
+use Rattle.key_session.specs.Refusing.{first_code}
+use Rattle.key_session.specs.Telling.{SessionSide, IsTelling, texts_left}
+use Rattle.key_session.specs.Going.{CanStep, CanRun, IsAmid, IsGoing, IsLive, WasMoved, WentOn, ByMove, BySlice, HasCome}
+use Rattle.key_session.specs.declared.session.Session.{Session}
+use Rattle.key_session.specs.declared.teller.Teller.{Teller}
+use Rattle.ghost_model.specs.core.Asks.{NumberedAsk}
+use Rattle.ghost_model.specs.core.NextMove.{standing_after}
+use Rattle.ghost_model.specs.forms.Catalog.{IsCatalog}
+use Rattle.channel_pump.specs.State.{IsAfter, want_of}
+use Rattle.channel_pump.specs.declared.state.Want.TheVariants as want_is
+use Rattle.channel_session.specs.Entries.{WentBy}
+use Rattle.session_laws.specs.HonestSessions.{HonestSessionsAreSmooth, HonestLinesArePrinted}
+use Rattle.key_session.specs.Running.{status_with}
+use Rattle.key_session.specs.Telling.{session_side}
+use Rattle.key_session.specs.declared.tally.Tally.{Tally}
+use Rattle.key_session.proofs.Attending.{empty}
+use Rattle.key_session.proofs.HonestRuns.{answers_all}
+use Rattle.key_session.proofs.Running.{IsLast, has_run}
+use Rattle.key_session.proofs.Beginning.{none_taken}
+use Rattle.key_session.proofs.Steps.{idle_of}
+
+-- what a step needs stays in a move
+pub can_still : (told : Bool) (device : Device) (pool : Pool) (old new : Session) → new.cat ≡ old.cat → new.teller ≡ old.teller → CanStep told device pool old → CanStep told device pool new
+can_still told device pool old new cat teller can = record {
+  suffices = rw cat can.suffices;
+  can = subst (λ (t : Teller). CanRun told device pool t.running) (sym teller) can.can;
+}
+
+pub come_on : (before_it made later : Journal → Type 0) (told : Bool) (texts : List (List ℕ)) (since before now : SessionSide) (pool more : Pool) (old new : Session)
+    → ((first then : Journal) → before_it first → made then → later (first ++ then))
+    → ((journal : Journal) → IsLive told texts journal since before pool old → WentOn made told texts journal since now more old new)
+    → HasCome before_it told texts since before pool old → HasCome later told texts since now more new
+come_on before_it made later told texts since before now pool more old new joins steps come = by (steps come.journal come.live)
+  where
+    by : WentOn made told texts come.journal since now more old new → HasCome later told texts since now more new
+    by (ByMove moved) = record { journal = come.journal ++ moved.made ∷ []; went = joins come.journal (moved.made ∷ []) come.went moved.went; live = moved.live }
+    by (BySlice goes live) = record {
+      journal = come.journal;
+      went = subst later (append-nil come.journal) (joins come.journal [] come.went goes);
+      live = live;
+    }
+
+-- the live session over the catalog and the address that it was begun with
+pub record IsLiveAt (told : Bool) (cat : Catalog) (at : List ℕ) (texts : List (List ℕ)) (journal : Journal) (since now : SessionSide) (pool : Pool) (session : Session) : Type 0 where
+  pub channel : moves.IsLive cat at (asked_of cat.schema texts) journal session.exchange
+  pub amid : IsAmid told cat texts journal since now pool session.exchange.pump session.teller session.replies
+  pub refusal_is : session.refusal ≡ first_code (heard_in cat texts journal).ended
+
+pub live_at : (told : Bool) (cat : Catalog) (at : List ℕ) (texts : List (List ℕ)) (journal : Journal) (since now : SessionSide) (pool : Pool) (session : Session) → session.cat.now ≡ cat → session.at.now ≡ at
+    → IsLive told texts journal since now pool session → IsLiveAt told cat at texts journal since now pool session
+live_at told cat at texts journal since now pool session cat_is at_is live =
+    subst (λ (c : Catalog). IsLiveAt told c at texts journal since now pool session) cat_is
+    (subst (λ (a : List ℕ). IsLiveAt told session.cat.now a texts journal since now pool session) at_is
+    (record { channel = live.channel; amid = live.amid; refusal_is = live.refusal_is }))
+
+none_running : (teller : Teller) → is_some teller.ahead ≡ false → is_some teller.running ≡ false
+none_running teller none = by (is_some teller.running) refl
+  where
+    true_false : true ≡ false → ⊥
+    true_false e = cc
+
+    by : (some : Bool) → is_some teller.running ≡ some → is_some teller.running ≡ false
+    by false e = e
+    by true e = absurd (true_false (sym (teller.told_now e) ∙ none))
+
+-- where no text is left all were told
+pub all_over : (told : Bool) (cat : Catalog) (texts : List (List ℕ)) (journal : Journal) (since now : SessionSide) (pool : Pool) (pump : Pump) (teller : Teller) (kept : Replies) → is_some teller.ahead ≡ false
+    → IsAmid told cat texts journal since now pool pump teller kept → IsGoing told cat texts journal since now (teller.count + 1) pump (texts_left teller) teller.count teller.counts kept
+all_over told cat texts journal since now pool pump teller kept none amid = none_taken told cat texts journal since now pool pump teller kept (none_running teller none) amid
+
+pub idle_over : (told : Bool) (device : Device) (pool : Pool) (teller : Teller) → is_some teller.ahead ≡ false → CanRun told device pool teller.running → IsIdle pool
+idle_over told device pool teller none can = idle_of told device pool teller.running (none_running teller none) can
+
+pub cat_still : (old new : Session) → new.cat ≡ old.cat → new.cat.now ≡ old.cat.now
+cat_still old new e = rw e refl
+
+pub at_still : (old new : Session) → new.at ≡ old.at → new.at.now ≡ old.at.now
+at_still old new e = rw e refl
+
+-- the whole session, once nothing is due
+pub last_of : HonestSessionsAreSmooth → HonestLinesArePrinted → moves.ClosedIsFinished → (cat : Catalog) → IsCatalog cat → (texts : List (List ℕ)) → length texts ≤ 64
+    → (went : Journal → Type 0) (link_before link_now : ℕ) (told : Bool) (at : List ℕ) (since : SessionSide) (faults : ℕ) (written : Option (List ℕ)) (device : Device) (pool : Pool) (session : Session) (tally : Tally)
+    → session.cat.now ≡ cat → session.at.now ≡ at
+    → HasCome (WentBy went link_before link_now) told texts since (session_side session.teller.printer.failed faults written device) pool session
+    → want_of session.exchange.pump ≡ want_is.Closed → is_some session.teller.ahead ≡ false
+    → tally.texts ≡ session.teller.count → tally.refused ≡ session.teller.counts.refused → tally.faulted ≡ session.teller.counts.faulted
+    → ((catalog : Catalog) (asks : List NumberedAsk) (journal : Journal) → IsAfter catalog asks journal session.exchange.pump → session.refusal ≡ first_code (standing_after catalog asks journal).heard.ended
+    → tally.status ≡ status_with session.teller.printer.failed (standing_after catalog asks journal) session.teller.counts.by_flash session.teller.counts.damage)
+    → IsLast went link_before link_now told cat at texts since (session_side session.teller.printer.failed faults written device) tally
+last_of smooth prints closed cat proper texts few went link_before link_now told at since faults written device pool session tally cat_is at_is come shut none many refused faulted status =
+    let now = session_side session.teller.printer.failed faults written device in
+    let live = live_at told cat at texts come.journal since now pool session cat_is at_is come.live in
+    let finished = closed cat at (asked_of cat.schema texts) come.journal session.exchange live.channel shut in
+    let going = all_over told cat texts come.journal since now pool session.exchange.pump session.teller session.replies none live.amid in
+    has_run went link_before link_now told cat at texts since now session.exchange come.journal (session.teller.count + 1) going.top (texts_left session.teller) session.teller.count session.teller.counts session.replies tally
+    come.went live.channel finished going.telling (empty _ session.teller.ahead session.teller.texts none (session.teller.last none)) many refused faulted
+    (status cat (asked_of cat.schema texts) come.journal live.channel.after live.refusal_is)
+    (λ is_proper is_finished tells. answers_all smooth prints told cat at texts come.journal since now tally proper few is_proper is_finished tells)

@@ -1,0 +1,34 @@
+use Rattle.std.proofs.Common.{◌≡◌, ◌≤◌, ◌<◌, ◌+◌, sym, subst, arith, Bool}
+use Rattle.key_lines.specs.Handing.{handed}
+use Rattle.text_lines.specs.Rows.{TakesTurn}
+use Rattle.key_session.specs.Telling.{session_side}
+use Rattle.key_session.specs.Going.{IsBegun}
+use Rattle.key_session.proofs.session.Session.tell.Goals as goal
+
+pub go_on-requires-clause-can : goal.go_on-requires-clause-can
+go_on-requires-clause-can g c = c.take_up.ensures.can g.F.Flash.told (g.F.Flash.state c.args.flash.now) c.args.pool.now c.requires.can.suffices c.requires.can.can
+
+pub returns-clause-live : goal.returns-clause-live
+returns-clause-live g c = λ texts journal since next live.
+    let side = session_side c.args.self.now.teller.printer.failed (g.O.Sink.faults c.args.out.now) (g.O.Sink.written c.args.out.now) (g.F.Flash.state c.args.flash.now) in
+    let begun = c.take_up.ensures.told g.F.Flash.told texts journal since side c.args.pool.now c.requires.can.suffices live.channel.after next live.amid in
+    record {
+      channel = live.channel;
+      amid = c.go_on.ensures.told c.args.self.now.cat.now texts journal since c.args.self.now.exchange.pump
+          (subst (λ (failed : Bool). IsBegun g.F.Flash.told c.args.self.now.cat.now texts journal since
+          (session_side failed (g.O.Sink.faults c.args.out.now) (g.O.Sink.written c.args.out.now) (g.F.Flash.state c.args.flash.now)) c.args.pool.now c.args.self.now.exchange.pump c.take_up.new.self c.take_up.new.replies)
+          (sym c.take_up.ensures.printer) begun);
+      refusal_is = live.refusal_is;
+    }
+
+pub returns-clause-turn : goal.returns-clause-turn
+returns-clause-turn g c =
+    subst (λ (failed : Bool). TakesTurn (handed failed (g.O.Sink.faults c.args.out.now) (g.O.Sink.written c.args.out.now))
+    (handed c.go_on.new.self.printer.failed (g.O.Sink.faults c.go_on.new.out) (g.O.Sink.written c.go_on.new.out)) (g.F.Flash.state c.args.flash.now).calls (g.F.Flash.state c.go_on.new.flash).calls)
+    c.take_up.ensures.printer c.go_on.ensures.turn
+
+pub returns-clause-fewer : goal.returns-clause-fewer
+returns-clause-fewer g c =
+    let begun = c.take_up.ensures.fewer g.F.Flash.told (g.F.Flash.state c.args.flash.now) c.args.pool.now c.requires.can.suffices c.requires.can.can in
+    let on = c.go_on.ensures.fewer in
+    omega (arith, begun, on)
