@@ -1,6 +1,6 @@
 //! Laws of replies.
 
-ghost use Rattle.visible_spool.specs.Laws.{RepliesAreKept, RepliesStayReadable, RepliesAreSpared, TextsWithoutRows};
+ghost use Rattle.visible_spool.specs.Laws.{RepliesAreKept, RepliesStayReadable, RepliesAreSpared, TextsWithoutRows, VisibleTablesHaveRoom};
 ghost use Rattle.visible_spool.specs.SpoolLaws.{StaysSpooling, StillPushed};
 
 /// Rows stay where their pages stay.
@@ -27,4 +27,9 @@ pub fn texts_without_rows()
 pub fn the_spool_is_spared()
     ensures stays { StaysSpooling }
     ensures pushed { StillPushed }
+{}
+
+/// A table that has a visible column has pages in each half of the spool.
+pub fn visible_tables_have_room()
+    ensures room { VisibleTablesHaveRoom }
 {}
