@@ -1,6 +1,7 @@
 //! Laws of replies.
 
 ghost use Rattle.visible_spool.specs.Laws.{RepliesAreKept, RepliesStayReadable, RepliesAreSpared, TextsWithoutRows, VisibleTablesHaveRoom};
+ghost use Rattle.visible_spool.specs.Areas.{AreasLieApart};
 ghost use Rattle.visible_spool.specs.SpoolLaws.{StaysSpooling, StillPushed};
 
 /// Rows stay where their pages stay.
@@ -33,3 +34,10 @@ pub fn the_spool_is_spared()
 pub fn visible_tables_have_room()
     ensures room { VisibleTablesHaveRoom }
 {}
+
+/// The areas of two tables in one half share no page.
+pub fn areas_lie_apart()
+    ensures apart { AreasLieApart }
+{
+    ghost_model::layout::sums_by_place();
+}
