@@ -1,5 +1,5 @@
 -- Where the areas of the spool lie, and which rows have room there.
-use Rattle.std.proofs.Common.{◌≡◌, ◌∙◌, ap, sym, subst, refl, ℕ, zero, suc, ◌+◌, ◌-◌, ◌*◌, ◌/◌, ◌%◌, ◌<◌, ◌≤◌, inl, inr, List, [], ◌∷◌, ◌++◌, length, sum_by, get_or, if◌then◌else◌, arith}
+use Rattle.std.proofs.Common.{Bool, true, false, ◌≡◌, ◌∙◌, ap, sym, subst, refl, ℕ, zero, suc, ◌+◌, ◌-◌, ◌*◌, ◌/◌, ◌%◌, ◌<◌, ◌≤◌, inl, inr, List, [], ◌∷◌, ◌++◌, length, sum_by, get_or, if◌then◌else◌, arith}
 use Rattle.std.proofs.lemmas.Bool.{cases_lt}
 use Rattle.std.proofs.lemmas.List.{length-append, get_or_append_left}
 use Rattle.std.proofs.Math.Seq.{get_or-append_seam}
@@ -13,7 +13,7 @@ use Rattle.ghost_model.specs.laws.LayoutLaws.{SumsByPlace}
 use Rattle.flash_layout.specs.Limits.{HasLayout}
 use Rattle.edge_traits.specs.Devices.{Device}
 use Rattle.visible_spool.specs.declared.area.Area.{Area}
-use Rattle.visible_spool.specs.Areas.{IsAreaOf, IsArea, AreAreas, no_area}
+use Rattle.visible_spool.specs.Areas.{IsAreaOf, IsArea, AreAreas, AreasLieApart, is_even, no_area}
 
 -- where a row has more than an identifier, its table has pages
 by_empty : (width : ℕ → ℕ) (columns : List ℕ) (pages : ℕ) → 4 < 4 + sum_by width columns → (if is_empty columns then 0 else pages) ≡ pages
@@ -123,3 +123,23 @@ one_area_more cat table areas new last grown before next writable =
       each = by_place areas last (λ at area. IsAreaOf cat at area) before.each here;
       writable = λ device need. by_place areas last (λ at area. IsArea device area) (before.writable device need) (writable device need);
     })
+
+-- the areas of two tables
+apart_by : (even : Bool) (area behind : Area) (pages : ℕ) → area.even + pages ≤ behind.even → area.odd + pages ≤ behind.odd
+    → (if even then area.even else area.odd) + pages ≤ (if even then behind.even else behind.odd)
+apart_by true area behind pages e o = e
+apart_by false area behind pages e o = o
+
+pub lie_apart : SumsByPlace → AreasLieApart
+lie_apart sums cat table other area behind text less some is later =
+    let width = is.width_is in
+    let r : layout.spool_pages cat table ≡ layout.in_blocks (pages_of area.rows area.width) =
+    has_pages cat table (omega (arith, some, width))
+    ∙ (ap (λ n. layout.in_blocks (pages_of n (layout.spool_width cat.schema table))) (sym is.rows_is) ∙ ap (λ w. layout.in_blocks (pages_of area.rows w)) (sym is.width_is)) in
+    let step = sums.next (layout.spool_pages cat) table in
+    let rise = sums.rise (layout.spool_pages cat) (table + 1) other (omega (arith, less)) in
+    let a = is.even_is in
+    let b = later.even_is in
+    let c = is.odd_is in
+    let d = later.odd_is in
+    apart_by (is_even text) area behind (layout.in_blocks (pages_of area.rows area.width)) (omega (arith, a, b, r, step, rise)) (omega (arith, c, d, r, step, rise))

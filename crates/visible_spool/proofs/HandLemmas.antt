@@ -1,5 +1,5 @@
 -- The reply at hand: its next page lies in its area, and what a row more makes of its rows.
-use Rattle.std.proofs.Common.{◌≡◌, ◌∙◌, ap, sym, subst, refl, ℕ, ◌+◌, ◌/◌, ◌%◌, ◌<◌, ◌≤◌, ◌⊎◌, inl, inr, Bool, true, false, nat_eq, nat_lt, List, [], ◌∷◌, ◌++◌, length, take, drop, map, get_or, IsTrue, if◌then◌else◌, arith}
+use Rattle.std.proofs.Common.{◌-◌, ◌*◌, ◌≡◌, ◌∙◌, ap, sym, subst, refl, ℕ, ◌+◌, ◌/◌, ◌%◌, ◌<◌, ◌≤◌, ◌⊎◌, inl, inr, Bool, true, false, nat_eq, nat_lt, List, [], ◌∷◌, ◌++◌, length, take, drop, map, get_or, IsTrue, if◌then◌else◌, arith}
 use Rattle.std.proofs.lemmas.Bool.{cases_lt}
 use Rattle.std.proofs.lemmas.Bool.Decides.{nat_tests}
 use Rattle.std.proofs.lemmas.Nat.{le-div}
@@ -14,7 +14,7 @@ use Rattle.ghost_model.specs.forms.Runs.{pages_of, number_in, per_page}
 use Rattle.ghost_model.specs.forms.Layout.{in_blocks}
 use Rattle.edge_traits.specs.Devices.{Device, KeepsPages, ChangesOnly}
 use Rattle.edge_traits.proofs.DeviceFrames.{changes_wider, changes_kept}
-use Rattle.flash_pages.specs.Writing.{IsEntered, reach}
+use Rattle.flash_pages.specs.Writing.{IsEntered, reach, erases, page_calls}
 use Rattle.flash_pages.specs.Writers.{CanWrite, next_page, waits}
 use Rattle.flash_pages.proofs.Fillings.{whole_pages, page_left}
 use Rattle.visible_spool.specs.declared.reply.Reply.{Reply}
@@ -231,3 +231,20 @@ begin_kept before now reply same can =
       cells = can.cells;
       kinds = can.kinds;
     }
+
+-- two calls at most for a page that a row completes, and none otherwise
+two_at_most : (begins : Bool) → (if begins then 2 else 1) ≤ 2
+two_at_most true = omega arith
+two_at_most false = omega arith
+
+pub for_pages : (fill : Bool) (calls pages later before now : ℕ) → now ≤ before + (if fill then calls else 0) → calls ≤ 2 → later ≡ pages + (if fill then 1 else 0)
+    → now ≤ before + 2 * (later - pages)
+for_pages true calls pages later before now most few more = omega (arith, most, few, more)
+for_pages false calls pages later before now most few more = omega (arith, most, more)
+
+pub few_page_calls : (page : ℕ) (erase : Bool) → page_calls page erase ≤ 2
+few_page_calls page erase = two_at_most (erases page erase)
+
+pub no_call : (waiting : Bool) (calls before now : ℕ) → waiting ≡ false → before ≤ now → now ≤ before + (if waiting then calls else 0) → now ≡ before
+no_call true calls before now none rises most = absurd (cc (none))
+no_call false calls before now none rises most = omega (arith, rises, most)

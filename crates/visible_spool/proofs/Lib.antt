@@ -13,3 +13,4 @@ pub mod SpoolLemmas
 pub mod Spooling
 pub mod SparedSpool
 pub mod HeldPage
+pub mod VisibleWidths

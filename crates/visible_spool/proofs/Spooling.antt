@@ -1,5 +1,5 @@
 -- What holds of the spool between its calls.
-use Rattle.std.proofs.Common.{◌≡◌, ◌∙◌, ap, sym, subst, refl, ℕ, ◌<◌, ◌≤◌, Bool, true, false, ◌&&◌, ◌==◌, List, [], length, get_or, arith}
+use Rattle.std.proofs.Common.{if◌then◌else◌, ◌≡◌, ◌∙◌, ap, sym, subst, refl, ℕ, ◌<◌, ◌≤◌, Bool, true, false, ◌&&◌, ◌==◌, List, [], length, get_or, arith}
 use Rattle.std.specs.Prelude.{Result}
 use Rattle.std.proofs.lemmas.Bool.Decides.{nat_tests}
 use Rattle.edge_traits.specs.Devices.{Device}
@@ -167,3 +167,7 @@ lies_as spool text table is area et eb sides lies =
     let P : ℕ → ℕ → Type 0 = λ n t. LiesWithin (first_of (area_at spool t) n) (end_of (area_at spool t) n) (reply_of (replies_of sides n) t) in
     let here : P spool.hand.text spool.hand.table = λ place there. let at = lies place there in (omega (arith, at.0, first), omega (arith, at.1, end)) in
     subst (λ t. P text t) eb (subst (λ n. P n spool.hand.table) et here)
+
+pub last_here : (spool : Spool) (b : Bool) → b ≡ true → (if b then spool.hand.last else 0) ≡ spool.hand.last
+last_here spool true e = refl
+last_here spool false e = absurd (cc (e))

@@ -57,3 +57,9 @@ pub record AreAreasOf (cat : Catalog) (areas : List Area) : Type 0 where
 
 abbrev pub AreAreas : Device → (areas : List Area) → Type 0
 AreAreas device areas = (table : ℕ) → table < length areas → IsArea device (get_or areas table no_area)
+
+-- the areas of two tables in one half share no page
+abbrev pub AreasLieApart : Type 0
+AreasLieApart =
+    (cat : Catalog) (table other : ℕ) (area behind : Area) (text : ℕ) → table < other → 4 < area.width
+    → IsAreaOf cat table area → IsAreaOf cat other behind → end_of area text ≤ first_of behind text

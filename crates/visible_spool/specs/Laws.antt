@@ -1,6 +1,11 @@
 -- Laws of replies: what stays of them where other pages change.
-use Rattle.std.specs.Prelude.{◌≡◌, ℕ, ◌<◌, ◌≤◌, List}
+use Rattle.std.specs.Prelude.{◌≡◌, ℕ, ◌<◌, ◌≤◌, List, true}
 use Rattle.ghost_model.specs.forms.Runs.{page_of}
+use Rattle.ghost_model.specs.core.Channel.{Catalog}
+use Rattle.ghost_model.specs.core.Schema.{is_visible}
+use Rattle.ghost_model.specs.forms.Layout.{spool_width}
+use Rattle.ghost_model.specs.laws.LayoutLaws.{LieInOrder}
+use Rattle.ghost_model.specs.laws.SchemaTrees.{IsTree}
 use Rattle.ghost_base.specs.Runs.{run_of}
 use Rattle.edge_traits.specs.Devices.{Device}
 use Rattle.visible_spool.specs.declared.reply.Reply.{Reply}
@@ -37,3 +42,9 @@ RepliesAreSpared =
 -- where no row of a text came, there is no reply for any table
 abbrev pub TextsWithoutRows : Type 0
 TextsWithoutRows = (table : ℕ) → table < 12 → HasNoReply no_half table
+
+-- in a table that has a visible column a row may have more than an identifier
+abbrev pub VisibleTablesHaveRoom : Type 0
+VisibleTablesHaveRoom =
+    (cat : Catalog) (table column : ℕ) → IsTree cat.schema → LieInOrder cat → is_visible cat.schema table column ≡ true
+    → 4 < spool_width cat.schema table

@@ -23,6 +23,10 @@ is_at spool text table = spool.hand.text == text && spool.hand.table == table
 abbrev pub last_of : Spool → (text table : ℕ) → ℕ
 last_of spool text table = if is_at spool text table then spool.hand.last else 0
 
+-- how many pages of its reply were written
+abbrev pub pages_written : Spool → (text table : ℕ) → ℕ
+pages_written spool text table = if is_at spool text table then spool.hand.writer.filler.pages else 0
+
 -- a table's area
 abbrev pub area_at : Spool → (table : ℕ) → Area
 area_at spool table = get_or spool.areas.items table no_area

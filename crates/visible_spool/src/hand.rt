@@ -1,6 +1,6 @@
 //! The reply at hand.
 
-ghost use Rattle.std.specs.Prelude.{◌≡◌, ◌<◌, ◌≤◌, ◌+◌, ◌++◌, ◌∷◌, [], ℕ, Bool, true, List, length, drop, IfOk, OnOk, OnErr};
+ghost use Rattle.std.specs.Prelude.{◌≡◌, ◌<◌, ◌≤◌, ◌+◌, ◌-◌, ◌*◌, ◌++◌, ◌∷◌, [], ℕ, Bool, true, false, List, length, drop, IfOk, OnOk, OnErr};
 ghost use Rattle.ghost_model.specs.core.Causes.{HasCause};
 ghost use Rattle.ghost_model.specs.core.NextMove.{are_cells};
 ghost use Rattle.ghost_model.specs.forms.Runs.{number_in};
@@ -8,6 +8,7 @@ ghost use Rattle.edge_traits.specs.Devices.{Device, ChangesOnly};
 ghost use Rattle.page_pool.specs.Pools.{Pool, IsOut, ChangesPage};
 ghost use Rattle.visible_spool.specs.Replies.{IsReadable, HoldsRows, kinds_of};
 ghost use Rattle.visible_spool.specs.Laws.{LiesWithin};
+ghost use Rattle.flash_pages.specs.Writers.{waits};
 ghost use Rattle.visible_spool.specs.Hands.{CanBegin, CanPut, HasRows, SameHand, IsReplyOf, area_end};
 
 use crate::reply::Reply;
@@ -42,6 +43,7 @@ impl Hand {
         ensures table { self.new.table ≡ table }
         ensures reply { self.new.reply ≡ reply }
         ensures last { self.new.last ≡ 0 }
+        ensures pages { self.new.writer.filler.pages ≡ 0 }
         ensures lease { self.new.writer.lease ≡ self.old.writer.lease }
         ensures can { (device : Device) → CanBegin device reply → CanPut device self.new }
         ensures none { (told : Bool) (page : ℕ → List ℕ) (pool : Pool) → HasRows told page pool self.new [] }
@@ -72,6 +74,7 @@ impl Hand {
         ensures same { SameHand self.old self.new }
         ensures text { self.new.text ≡ self.old.text }
         ensures others { ChangesOnly self.old.reply.run.first (area_end self.old.reply) (F.state flash.old) (F.state flash.new) }
+        ensures completes { OnOk result ((F.state flash.new).calls ≤ (F.state flash.old).calls + 2 * (self.new.writer.filler.pages - self.old.writer.filler.pages)) }
         ensures at_most { (F.state flash.new).calls ≤ (F.state flash.old).calls + 2 }
         ensures deep_reads { (F.state flash.new).deep_reads ≡ (F.state flash.old).deep_reads }
         ensures cause { HasCause (F.state flash.old).faults (F.state flash.new).faults result }
@@ -104,6 +107,7 @@ impl Hand {
         ensures none { OnOk result (self.new.text ≡ 0) }
         ensures failed { OnErr result (self.new ≡ self.old) }
         ensures others { ChangesOnly self.old.reply.run.first (area_end self.old.reply) (F.state flash.old) (F.state flash.new) }
+        ensures quiet { waits self.old.writer.filler ≡ false → (F.state flash.new).calls ≡ (F.state flash.old).calls }
         ensures at_most { (F.state flash.new).calls ≤ (F.state flash.old).calls + 2 }
         ensures deep_reads { (F.state flash.new).deep_reads ≡ (F.state flash.old).deep_reads }
         ensures cause { HasCause (F.state flash.old).faults (F.state flash.new).faults result }

@@ -1,6 +1,7 @@
 //! Laws of replies.
 
-ghost use Rattle.visible_spool.specs.Laws.{RepliesAreKept, RepliesStayReadable, RepliesAreSpared, TextsWithoutRows};
+ghost use Rattle.visible_spool.specs.Laws.{RepliesAreKept, RepliesStayReadable, RepliesAreSpared, TextsWithoutRows, VisibleTablesHaveRoom};
+ghost use Rattle.visible_spool.specs.Areas.{AreasLieApart};
 ghost use Rattle.visible_spool.specs.SpoolLaws.{StaysSpooling, StillPushed};
 
 /// Rows stay where their pages stay.
@@ -28,3 +29,15 @@ pub fn the_spool_is_spared()
     ensures stays { StaysSpooling }
     ensures pushed { StillPushed }
 {}
+
+/// A table that has a visible column has pages in each half of the spool.
+pub fn visible_tables_have_room()
+    ensures room { VisibleTablesHaveRoom }
+{}
+
+/// The areas of two tables in one half share no page.
+pub fn areas_lie_apart()
+    ensures apart { AreasLieApart }
+{
+    ghost_model::layout::sums_by_place();
+}

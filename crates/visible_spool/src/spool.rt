@@ -1,6 +1,6 @@
 //! The spool: rows of replies are pushed to the half of their text.
 
-ghost use Rattle.std.specs.Prelude.{◌≡◌, ◌<◌, ◌≤◌, ◌+◌, ◌++◌, ◌∷◌, [], ◌^◌, ℕ, Bool, true, false, List, length, map, drop, IfSome, OnOk, OnErr};
+ghost use Rattle.std.specs.Prelude.{◌≡◌, ◌<◌, ◌≤◌, ◌+◌, ◌-◌, ◌*◌, ◌++◌, ◌∷◌, [], ◌^◌, ℕ, Bool, true, false, List, length, map, drop, IfSome, OnOk, OnErr};
 ghost use Rattle.ghost_model.specs.forms.Runs.{number_in};
 ghost use Rattle.ghost_model.specs.core.NextMove.{are_cells};
 ghost use Rattle.ghost_model.specs.forms.Layout as layout;
@@ -16,8 +16,9 @@ ghost use Rattle.visible_spool.specs.Halves.{reply_of};
 ghost use Rattle.visible_spool.specs.Areas.{AreAreasOf, AreAreas, first_of, end_of};
 ghost use Rattle.visible_spool.specs.Sides.{Changes, is_marked, replies_of};
 ghost use Rattle.visible_spool.specs.Laws.{LiesWithin};
-ghost use Rattle.visible_spool.specs.Hands.{HasRows, area_end};
-ghost use Rattle.visible_spool.specs.Spools.{IsSpooling, IsHeld, IsAsked, IsNextRow, HasPushed, KeepsSides, SpoolWrites, area_at, is_at, last_of};
+ghost use Rattle.flash_pages.specs.Writers.{waits};
+ghost use Rattle.visible_spool.specs.Hands.{HasRows, IsReplyOf, area_end};
+ghost use Rattle.visible_spool.specs.Spools.{IsSpooling, IsHeld, IsAsked, IsNextRow, HasPushed, KeepsSides, SpoolWrites, area_at, is_at, last_of, pages_written};
 
 use crate::area::{Area, areas_of};
 use crate::half::Half;
@@ -135,6 +136,7 @@ impl Spool {
         ensures kinds { kinds_of self.new.hand.reply ≡ map kind_of kinds.now }
         ensures width { self.new.hand.reply.run.width ≡ width }
         ensures last { self.new.hand.last ≡ 0 }
+        ensures pages { self.new.hand.writer.filler.pages ≡ 0 }
         ensures none { (told : Bool) (page : ℕ → List ℕ) (pool : Pool) → HasRows told page pool self.new.hand [] }
     {
         self.sides.take_up(text);
@@ -154,6 +156,7 @@ impl Spool {
         ensures kinds { kinds_of self.new.hand.reply ≡ map kind_of kinds.now }
         ensures width { self.new.hand.reply.run.width ≡ width }
         ensures last { self.new.hand.last ≡ last_of self.old text table }
+        ensures pages { self.new.hand.writer.filler.pages ≡ pages_written self.old text table }
         ensures rows { (told : Bool) (page : ℕ → List ℕ) (pool : Pool) (rows : List (List ℕ)) → HasPushed told page pool self.old text table rows → HasRows told page pool self.new.hand rows }
     {
         if self.is_at(text, table) {
@@ -183,6 +186,9 @@ impl Spool {
         ensures lease { self.new.hand.writer.lease ≡ self.old.hand.writer.lease }
         ensures text { self.new.hand.text ≡ self.old.hand.text }
         ensures table { self.new.hand.table ≡ self.old.hand.table }
+        ensures reply { self.new.hand.reply ≡ self.old.hand.reply }
+        ensures last { self.new.hand.last ≤ number_in row.now 0 }
+        ensures completes { OnOk result ((F.state flash.new).calls ≤ (F.state flash.old).calls + 2 * (self.new.hand.writer.filler.pages - self.old.hand.writer.filler.pages)) }
         ensures dropped { is_marked self.old.sides self.old.hand.text ≡ true → F.state flash.new ≡ F.state flash.old }
         ensures spooling { IsSpooling (F.state flash.new) pool.new self.new }
         ensures writes { SpoolWrites (F.state flash.old) (F.state flash.new) self.old.hand.reply.run.first (area_end self.old.hand.reply) result }
@@ -224,6 +230,10 @@ impl Spool {
         ensures changes { Changes text self.old.sides self.new.sides }
         ensures areas { self.new.areas ≡ self.old.areas }
         ensures lease { self.new.hand.writer.lease ≡ self.old.hand.writer.lease }
+        ensures kinds { kinds_of self.new.hand.reply ≡ map kind_of kinds.now }
+        ensures width { self.new.hand.reply.run.width ≡ length row.now }
+        ensures last { last_of self.new text table ≤ number_in row.now 0 }
+        ensures completes { OnOk result ((F.state flash.new).calls ≤ (F.state flash.old).calls + 2 * (self.new.hand.writer.filler.pages - pages_written self.old text table)) }
         ensures dropped { is_marked self.old.sides text ≡ true → F.state flash.new ≡ F.state flash.old }
         ensures spooling { IsSpooling (F.state flash.new) pool.new self.new }
         ensures writes { SpoolWrites (F.state flash.old) (F.state flash.new) (first_of (area_at self.old table) text) (end_of (area_at self.old table) text) result }
@@ -233,12 +243,16 @@ impl Spool {
         self.write(flash, pool, row)
     }
 
-    /// Writes the last page of the reply at hand, unless its text is marked; a failure marks it. No reply is at hand then.
+    /// Writes the last page of the reply at hand, unless its text is marked; a failure marks it. Where it is written no reply
+    /// is at hand then.
     fn close<F: Flash>(&mut self, flash: &mut F, pool: &mut PagePool) -> Result<(), PageFault>
         requires spooling { IsSpooling (F.state flash.old) pool.old self.old }
         requires some { 0 < self.old.hand.text }
         ensures kept { (rows : List (List ℕ)) → HasRows F.told (F.state flash.old).page pool.old self.old.hand rows → is_marked self.new.sides self.old.hand.text ≡ false → OnOk result (F.told ≡ true → HoldsRows (F.state flash.new).page (reply_of (replies_of self.new.sides self.old.hand.text) self.old.hand.table) rows) }
         ensures readable { is_marked self.new.sides self.old.hand.text ≡ false → IsReadable (F.state flash.new) (reply_of (replies_of self.new.sides self.old.hand.text) self.old.hand.table) }
+        ensures quiet { waits self.old.hand.writer.filler ≡ false → (F.state flash.new).calls ≡ (F.state flash.old).calls }
+        ensures dropped { is_marked self.old.sides self.old.hand.text ≡ true → F.state flash.new ≡ F.state flash.old }
+        ensures ended { is_marked self.new.sides self.old.hand.text ≡ false → IsReplyOf self.old.hand (reply_of (replies_of self.new.sides self.old.hand.text) self.old.hand.table) }
         ensures lies { is_marked self.new.sides self.old.hand.text ≡ false → LiesWithin self.old.hand.reply.run.first (area_end self.old.hand.reply) (reply_of (replies_of self.new.sides self.old.hand.text) self.old.hand.table) }
         ensures others { (table : ℕ) → (table ≡ self.old.hand.table → ⊥) → reply_of (replies_of self.new.sides self.old.hand.text) table ≡ reply_of (replies_of self.old.sides self.old.hand.text) table }
         ensures stays { OnOk result (is_marked self.new.sides self.old.hand.text ≡ is_marked self.old.sides self.old.hand.text) }
@@ -279,6 +293,9 @@ impl Spool {
         requires some { 0 < text }
         ensures kept { is_at self.old text table ≡ true → (rows : List (List ℕ)) → HasPushed F.told (F.state flash.old).page pool.old self.old text table rows → is_marked self.new.sides text ≡ false → OnOk result (F.told ≡ true → HoldsRows (F.state flash.new).page (reply_of (replies_of self.new.sides text) table) rows) }
         ensures readable { is_at self.old text table ≡ true → is_marked self.new.sides text ≡ false → IsReadable (F.state flash.new) (reply_of (replies_of self.new.sides text) table) }
+        ensures quiet { waits self.old.hand.writer.filler ≡ false → (F.state flash.new).calls ≡ (F.state flash.old).calls }
+        ensures dropped { is_marked self.old.sides text ≡ true → F.state flash.new ≡ F.state flash.old }
+        ensures ended { is_at self.old text table ≡ true → is_marked self.new.sides text ≡ false → IsReplyOf self.old.hand (reply_of (replies_of self.new.sides text) table) }
         ensures lies { is_at self.old text table ≡ true → is_marked self.new.sides text ≡ false → LiesWithin (first_of (area_at self.old table) text) (end_of (area_at self.old table) text) (reply_of (replies_of self.new.sides text) table) }
         ensures none { is_at self.old text table ≡ false → self.new ≡ self.old }
         ensures others { (other : ℕ) → (other ≡ table → ⊥) → reply_of (replies_of self.new.sides text) other ≡ reply_of (replies_of self.old.sides text) other }

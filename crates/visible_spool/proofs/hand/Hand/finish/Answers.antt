@@ -1,5 +1,7 @@
 use Rattle.std.proofs.Common.{refl}
-use Rattle.visible_spool.proofs.HandLemmas.{finish_can, finish_changes, ended_readable, ended_within}
+use Rattle.flash_pages.specs.Writing.{page_calls}
+use Rattle.flash_pages.specs.Writers.{next_page, waits}
+use Rattle.visible_spool.proofs.HandLemmas.{no_call, finish_can, finish_changes, ended_readable, ended_within}
 use Rattle.visible_spool.proofs.hand.Hand.finish.Goals as goal
 
 pub finish-requires-clause-can : goal.finish-requires-clause-can
@@ -27,3 +29,15 @@ returns-in-Ok-clause-lies g c =
     let run = c.in-Ok.ensures.run in
     ended_within (g.F.Flash.state c.args.flash.now) c.args.self.now _ c.requires.can
     (record { first = run.first; count = run.count; width = run.width; rows = refl; cells = refl; kinds = refl })
+
+pub returns-in-Ok-clause-quiet : goal.returns-in-Ok-clause-quiet
+returns-in-Ok-clause-quiet g c = λ none.
+    let f = c.args.self.now.writer.filler in
+    no_call (waits f) (page_calls (next_page f) f.erase) (g.F.Flash.state c.args.flash.now).calls (g.F.Flash.state c.finish.new.flash).calls none
+    c.finish.ensures.writes.others.never_falls c.finish.ensures.writes.at_most
+
+pub returns-in-Err-clause-quiet : goal.returns-in-Err-clause-quiet
+returns-in-Err-clause-quiet g c = λ none.
+    let f = c.args.self.now.writer.filler in
+    no_call (waits f) (page_calls (next_page f) f.erase) (g.F.Flash.state c.args.flash.now).calls (g.F.Flash.state c.finish.new.flash).calls none
+    c.finish.ensures.writes.others.never_falls c.finish.ensures.writes.at_most

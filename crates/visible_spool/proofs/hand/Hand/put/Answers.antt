@@ -1,10 +1,10 @@
 use Rattle.std.proofs.Common.{◌∙◌, Bool, subst, arith}
 use Rattle.edge_traits.proofs.DeviceFrames.{changes_wider}
 use Rattle.visible_spool.specs.Hands.{area_end}
-use Rattle.flash_pages.specs.Writing.{IsEntered}
-use Rattle.flash_pages.specs.Writers.{next_page}
+use Rattle.flash_pages.specs.Writing.{IsEntered, page_calls}
+use Rattle.flash_pages.specs.Writers.{next_page, fills}
 use Rattle.visible_spool.specs.Replies.{kinds_of}
-use Rattle.visible_spool.proofs.HandLemmas.{begin_kept, pages_left, can_write, reach_within, rows_more, last_more}
+use Rattle.visible_spool.proofs.HandLemmas.{for_pages, few_page_calls, begin_kept, pages_left, can_write, reach_within, rows_more, last_more}
 use Rattle.visible_spool.proofs.hand.Hand.put.Goals as goal
 
 pub put-requires-clause-can : goal.put-requires-clause-can
@@ -61,3 +61,9 @@ returns-in-Ok-clause-can g c =
       within = omega (arith, last, within);
       entered = subst (λ (erase : Bool). IsEntered (g.F.Flash.state c.put.new.flash) (next_page c.put.new.self.filler) erase) (same.erase ∙ can.erase) put.entered;
     }
+
+pub returns-in-Ok-clause-completes : goal.returns-in-Ok-clause-completes
+returns-in-Ok-clause-completes g c =
+    let f = c.args.self.now.writer.filler in
+    for_pages (fills f) (page_calls (next_page f) f.erase) f.pages c.put.new.self.filler.pages (g.F.Flash.state c.args.flash.now).calls (g.F.Flash.state c.put.new.flash).calls
+    c.put.ensures.writes.at_most (few_page_calls (next_page f) f.erase) c.in-Ok.ensures.more.pages

@@ -2,9 +2,10 @@ use Rattle.std.proofs.Common.{◌∙◌, ◌++◌, ◌∷◌, [], ap, List, drop
 use Rattle.ghost_model.specs.core.Schema.{Kind}
 use Rattle.ghost_model.specs.core.NextMove.{are_cells}
 use Rattle.visible_spool.specs.declared.area.Area.{Area}
+use Rattle.visible_spool.specs.Replies.{kinds_of}
 use Rattle.visible_spool.specs.Sides.{is_marked}
 use Rattle.visible_spool.specs.Spools.{IsSpooling, area_at, is_at}
-use Rattle.visible_spool.proofs.Spooling.{some_text, writes_in_area, writes_as, same_area, still_at, now_pushed}
+use Rattle.visible_spool.proofs.Spooling.{some_text, writes_in_area, writes_as, same_area, still_at, now_pushed, last_here}
 use Rattle.visible_spool.proofs.spool.Spool.push.Goals as goal
 
 pub overflow_cast-row : goal.overflow_cast-row
@@ -45,3 +46,14 @@ returns-clause-writes g c =
 pub returns-clause-dropped : goal.returns-clause-dropped
 returns-clause-dropped g c = λ marked.
     c.write.ensures.dropped (ap (λ n. is_marked c.take.new.self.sides n) c.take.ensures.text ∙ (c.take.ensures.same.mark ∙ marked))
+
+pub returns-clause-last : goal.returns-clause-last
+returns-clause-last g c =
+    let now = c.write.new.self in
+    let at = still_at c.take.new.self now c.args.text c.args.table c.write.ensures.text c.write.ensures.table c.take.ensures.at in
+    let e = last_here now (is_at now c.args.text c.args.table) at in
+    let last = c.write.ensures.last in
+    omega (arith, e, last)
+
+pub returns-clause-kinds : goal.returns-clause-kinds
+returns-clause-kinds g c = ap kinds_of c.write.ensures.reply ∙ c.take.ensures.kinds
