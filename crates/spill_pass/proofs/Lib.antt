@@ -17,3 +17,4 @@ pub mod PassFrames
 pub mod PassTaking
 pub mod Reducing
 pub mod ReduceTurning
+pub mod PassContents

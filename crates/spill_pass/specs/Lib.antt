@@ -9,3 +9,4 @@ pub mod PlaceLaws
 pub mod Passing
 pub mod Reducing
 pub mod Listings
+pub mod PassContents
