@@ -1,13 +1,11 @@
 -- The list that a place gives, by right pages.
-use Rattle.std.proofs.Common.{◌≡◌, ◌∙◌, ℕ, zero, suc, ◌+◌, ◌-◌, ◌/◌, ◌%◌, ◌^◌, ◌<◌, ◌≤◌, ◌++◌, Bool, true, false, List, [], ◌∷◌, length, get_or, ap, sym, refl, subst, arith}
+use Rattle.std.proofs.Common.{◌≡◌, ◌∙◌, ℕ, ◌+◌, ◌-◌, ◌^◌, ◌<◌, ◌++◌, List, [], ◌∷◌, length, get_or, ap, sym, refl, subst, arith}
 use Rattle.std.specs.Prelude.{Option, Some, None, Result, Ok, Err, IfOk, MatchOption}
 use Rattle.std.proofs.lemmas.Nat.{from_be_bytes-to_be_bytes_4}
-use Rattle.ghost_model.specs.forms.Runs.{record_at, number_in, number_cell, id_at}
+use Rattle.ghost_model.specs.forms.Runs.{number_in, number_cell}
 use Rattle.ghost_base.specs.declared.runs.Run.{Run}
 use Rattle.ghost_base.specs.declared.runs.ListRef.{ListRef}
-use Rattle.ghost_base.specs.Runs.{run_of}
 use Rattle.flash_pages.specs.declared.fault.PageFault.{PageFault}
-use Rattle.flash_pages.specs.declared.fault.PageFault.TheVariants.{Flash, Damaged}
 use Rattle.spill_pass.specs.declared.places.PlaceReader.{PlaceReader}
 use Rattle.spill_pass.specs.Lists.{IsOrdered, id_of}
 use Rattle.spill_pass.specs.Places.{GivesPlace, IsNextList, IsPlaceOf, HasPlace, HasPlaces, ReaderHas, SamePlaces, place_at}

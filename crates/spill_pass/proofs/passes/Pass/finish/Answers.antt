@@ -1,7 +1,8 @@
 use Rattle.std.proofs.Common.{sym}
 use Rattle.spill_pass.proofs.PassContents.{stands_all}
 use Rattle.spill_pass.proofs.PassFrames.{pass_of_groups}
-use Rattle.spill_pass.proofs.PassTaking.{made_four, made_none, pass_ends, source_spared}
+use Rattle.spill_pass.proofs.PassGoing.{made_four, made_none, pass_ends}
+use Rattle.spill_pass.proofs.PassTaking.{source_spared}
 use Rattle.spill_pass.specs.Passing.{MadeFew}
 use Rattle.spill_pass.proofs.passes.Pass.finish.Goals as goal
 use Rattle.spill_pass.proofs.passes.Pass.finish.Goals.{then-waits, else-waits}
