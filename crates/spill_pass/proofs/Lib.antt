@@ -21,3 +21,5 @@ pub mod ReducePasses
 pub mod ReduceTurning
 pub mod ReduceSteps
 pub mod PassContents
+pub mod PlacedContents
+pub mod ReduceContents

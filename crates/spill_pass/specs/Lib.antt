@@ -10,3 +10,4 @@ pub mod Passing
 pub mod Reducing
 pub mod Listings
 pub mod PassContents
+pub mod ReduceContents
