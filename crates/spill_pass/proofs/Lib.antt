@@ -15,5 +15,11 @@ pub mod PlaceLaws
 pub mod PlaceGiving
 pub mod PassFrames
 pub mod PassTaking
+pub mod PassGoing
 pub mod Reducing
+pub mod ReducePasses
 pub mod ReduceTurning
+pub mod ReduceSteps
+pub mod PassContents
+pub mod PlacedContents
+pub mod ReduceContents

@@ -1,13 +1,11 @@
 -- The list that a place gives, by right pages.
-use Rattle.std.proofs.Common.{◌≡◌, ◌∙◌, ℕ, zero, suc, ◌+◌, ◌-◌, ◌/◌, ◌%◌, ◌^◌, ◌<◌, ◌≤◌, ◌++◌, Bool, true, false, List, [], ◌∷◌, length, get_or, ap, sym, refl, subst, arith}
+use Rattle.std.proofs.Common.{◌≡◌, ◌∙◌, ℕ, ◌+◌, ◌-◌, ◌^◌, ◌<◌, ◌++◌, List, [], ◌∷◌, length, get_or, ap, sym, refl, subst, arith}
 use Rattle.std.specs.Prelude.{Option, Some, None, Result, Ok, Err, IfOk, MatchOption}
 use Rattle.std.proofs.lemmas.Nat.{from_be_bytes-to_be_bytes_4}
-use Rattle.ghost_model.specs.forms.Runs.{record_at, number_in, number_cell, id_at}
+use Rattle.ghost_model.specs.forms.Runs.{number_in, number_cell}
 use Rattle.ghost_base.specs.declared.runs.Run.{Run}
 use Rattle.ghost_base.specs.declared.runs.ListRef.{ListRef}
-use Rattle.ghost_base.specs.Runs.{run_of}
 use Rattle.flash_pages.specs.declared.fault.PageFault.{PageFault}
-use Rattle.flash_pages.specs.declared.fault.PageFault.TheVariants.{Flash, Damaged}
 use Rattle.spill_pass.specs.declared.places.PlaceReader.{PlaceReader}
 use Rattle.spill_pass.specs.Lists.{IsOrdered, id_of}
 use Rattle.spill_pass.specs.Places.{GivesPlace, IsNextList, IsPlaceOf, HasPlace, HasPlaces, ReaderHas, SamePlaces, place_at}
@@ -75,13 +73,19 @@ none_left : (page right : ℕ → List ℕ) (rows : ℕ) (before : PlaceReader) 
 none_left page right rows before [] end has = refl
 none_left page right rows before (first ∷ rest) end has = absurd (omega (arith, has.has.0.within, end))
 
+ended : (page now right : ℕ → List ℕ) (rows : ℕ) (before new : PlaceReader) (lists : List (List ℕ)) → new ≡ before → before.at ≡ before.places.count → ReaderHas page right rows before lists → ReaderHas now right rows new []
+ended page now right rows before new lists same end has =
+    let P : PlaceReader → Type 0 = λ r. ReaderHas now right rows r [] in
+    subst P (sym same) (record { places_width = has.places_width; lists_width = has.lists_width; has = end })
+
 pub gives_list :
     (page now right : ℕ → List ℕ) (rows : ℕ) (before new : PlaceReader) (lists : List (List ℕ)) (result : Result (Option ListRef) PageFault)
     → now ≡ page → GivesPlace page before result
     → IfOk result (λ list. MatchOption list ((before.at ≡ before.places.count) × (new ≡ before)) (IsNextList before new))
     → SamePlaces before new → before.lists.count < 2 ^ 32 → ReaderHas page right rows before lists
     → GivesLists (ReaderHas now right rows new) now right rows lists result
-gives_list page now right rows before new lists (Ok None) pages gives step same small has = none_left page right rows before lists step.0 has
+gives_list page now right rows before new lists (Ok None) pages gives step same small has =
+    (none_left page right rows before lists step.0 has, ended page now right rows before new lists step.1 step.0 has)
 gives_list page now right rows before new lists (Ok (Some list)) pages gives step same small has =
     gives_first page now right rows before new list lists pages small gives step same has
 gives_list page now right rows before new lists (Err fault) pages gives step same small has = tt

@@ -1,17 +1,13 @@
 -- The next pass begins: its leases, its areas and its source.
-use Rattle.std.proofs.Common.{◌≡◌, ◌≢◌, ◌∙◌, ℕ, ◌+◌, ◌-◌, ◌*◌, ◌/◌, ◌^◌, ◌<◌, ◌≤◌, ◌⊎◌, inl, inr, ◌||◌, Bool, true, false, List, [], ◌∷◌, length, ap, sym, refl, subst, arith}
-use Rattle.std.specs.Prelude.{Option, None, IfSome}
+use Rattle.std.proofs.Common.{◌≡◌, ◌≢◌, ◌∙◌, ℕ, ◌+◌, ◌-◌, ◌*◌, ◌<◌, ◌≤◌, ◌⊎◌, inl, inr, ◌||◌, Bool, true, false, List, [], ◌∷◌, length, ap, sym, refl, subst, arith}
+use Rattle.std.specs.Prelude.{None}
 use Rattle.std.proofs.lemmas.Bool.Decides.{nat_tests}
 use Rattle.std.proofs.lemmas.List.{append-nil}
 use Rattle.ghost_model.specs.forms.Runs.{pages_of}
 use Rattle.ghost_base.specs.declared.runs.Run.{Run}
-use Rattle.ghost_base.specs.Runs.{run_of}
 use Rattle.edge_traits.specs.Devices.{Device}
-use Rattle.page_pool.specs.Pools.{Pool, IsFree, AreOut, KeepsOthers, given, leased, others_out, page_at, bytes_at}
+use Rattle.page_pool.specs.Pools.{Pool, IsFree, AreOut, KeepsOthers, given, leased, others_out, page_at}
 use Rattle.page_pool.proofs.Leases.{give_keeps_others, give_others_out, give_outs, lease_keeps_others, lease_others_out, lease_outs, others_trans, outs_from_front, outs_first}
-use Rattle.flash_pages.specs.Cursors.{IsPageOf}
-use Rattle.flash_pages.specs.Reads.{CanRead}
-use Rattle.flash_pages.specs.Runs.{HasRun}
 use Rattle.id_merge.specs.declared.cursor.Cursor.{Cursor}
 use Rattle.id_merge.specs.Cursors.{leases_of, unread_in}
 use Rattle.spill_pass.specs.declared.groups.Groups.{Groups}
@@ -20,9 +16,9 @@ use Rattle.spill_pass.specs.declared.places.PlaceReader.{PlaceReader}
 use Rattle.spill_pass.specs.declared.reduce.Areas.{Areas}
 use Rattle.spill_pass.specs.Grouping.{AreApart, CanBegin, IsBegun, IsGrouping, groups_held, lists_at_hand, places_end}
 use Rattle.spill_pass.specs.Merging.{IsArea, area_end, area_pages}
-use Rattle.spill_pass.specs.Passing.{CanPass, IsPassing, pass_held}
-use Rattle.spill_pass.specs.Places.{CanReadPlaces, CanGive, is_of, source_of}
-use Rattle.spill_pass.specs.Reducing.{CanReduce, CanPassOn, HasAreas, IsForLists, IsForPlaces, IsNextPass, IsReducing, PassesOver, PassedOn, Renews}
+use Rattle.spill_pass.specs.Passing.{pass_held}
+use Rattle.spill_pass.specs.Places.{is_of, source_of}
+use Rattle.spill_pass.specs.Reducing.{CanPassOn, HasAreas, IsForLists, IsForPlaces, IsNextPass, PassesOver, PassedOn, Renews}
 use Rattle.spill_pass.specs.Sources.{Source, UsesOutside}
 use Rattle.spill_pass.proofs.Closing.{none_hand}
 use Rattle.spill_pass.proofs.PassFrames.{buffers_same}
@@ -139,7 +135,7 @@ uses_beside placed reader low high reads places lists = λ page is.
           let w = within_of placed.lists 4 page (subst P reads.lists of_lists) in lists page w.0 w.1
     ]
 
-outs_rest : (pool : Pool) (lease : ℕ) (held : List ℕ) → AreOut pool (lease ∷ held) → AreOut pool held
+pub outs_rest : (pool : Pool) (lease : ℕ) (held : List ℕ) → AreOut pool (lease ∷ held) → AreOut pool held
 outs_rest pool lease held are =
     let P : List ℕ → Type 0 = λ ls. AreOut pool (lease ∷ ls) in
     outs_first pool held (lease ∷ []) (outs_from_front pool held lease [] (subst P (sym (append-nil held)) are))
@@ -237,91 +233,3 @@ passed_on {told = told} {device = device} {pool = pool} {later = later} source r
       size = begun.size;
       area = begun.lists;
     }
-
--- the lists that a pass left may be given
-run_there : {device : Device} (run : Run) (width size : ℕ) → run.width ≡ width → (0 < width) × (width ≤ 2048) → ((i : ℕ) → i < run.count → run.first + i / (2048 / width) < device.page_count) → device.page_count < 2 ^ 32 → HasRun device (run_of run)
-run_there {device = device} run width size is fits pages small = record {
-  some = omega (arith, is, fits.0);
-  fits = omega (arith, is, fits.1);
-  pages = let P : ℕ → Type 0 = λ w. (i : ℕ) → i < run.count → run.first + i / (2048 / w) < device.page_count in subst P (sym is) pages;
-  small = small;
-}
-
-places_there : (first count size pages : ℕ) → 2 * count ≤ size + 1 → first + area_pages size ≤ pages → (i : ℕ) → i < count → first + i / 256 < pages
-places_there first count size pages half there i within = omega (arith, half, there, within)
-
-lists_there : (first count rows pages : ℕ) → count ≤ rows → first + area_pages rows ≤ pages → (i : ℕ) → i < count → first + i / 512 < pages
-lists_there first count rows pages few there i within = omega (arith, few, there, within)
-
-pub can_give :
-    {told : Bool} {device : Device} {pool later : Pool} (source : Source) (reader : PlaceReader) (areas : Areas) (old new : Groups) (placed : PlacedLists) (fan : ℕ)
-    → CanPassOn device pool source areas old placed fan → ReadsPlaced placed reader
-    → PassesOver pool later source (source_of reader) old new
-    → (HasRun device (run_of placed.places) → placed.places.width ≡ 8 → CanRead told device later reader.lease → CanReadPlaces told device later reader)
-    → CanGive told device later reader
-can_give {told = told} {device = device} {later = later} source reader areas old new placed fan can reads over ready =
-    let places = can.areas_are.places placed.places.first can.for_places in
-    let lists = can.areas_are.lists placed.lists.first can.for_lists in
-    let P : Option ℕ → Type 0 = λ page. IfSome page (λ number. told ≡ true → bytes_at later reader.lease ≡ device.page number) in
-    let Q : Option ℕ → Type 0 = λ page. IfSome page (IsPageOf (run_of reader.places)) in
-    let R : Run → Type 0 = λ r. HasRun device (run_of r) in
-    record {
-      places =
-          ready
-          (run_there placed.places 8 old.size can.places_width (omega arith, omega arith)
-          (places_there placed.places.first placed.places.count old.size device.page_count can.half places.there) places.small)
-          can.places_width
-          (record { out = over.still.0; filled = subst P (sym over.no_page) tt });
-      lists =
-          subst R (sym reads.lists)
-          (run_there placed.lists 4 old.into.rows can.lists_width (omega arith, omega arith)
-          (lists_there placed.lists.first placed.lists.count old.into.rows device.page_count can.ids lists.there) lists.small);
-      width = ap (λ (r : Run). r.width) reads.lists ∙ can.lists_width;
-      few = omega (arith, ap (λ (r : Run). r.count) reads.lists, can.ids, can.few);
-      holds = subst Q (sym over.no_page) tt;
-    }
-
--- the first pass
-
-pub can_pass :
-    {device : Device} {pool : Pool} (source : Source) (areas : Areas) (to rows room fan lists_lease places_lease : ℕ) → fan + 3 ≡ room
-    → CanReduce device pool source areas rows room lists_lease places_lease → IsForLists areas to
-    → CanPass device pool source to areas.places rows fan lists_lease places_lease
-can_pass {pool = pool} source areas to rows room fan lists_lease places_lease same can for_lists = record {
-  groups = record {
-    leases = outs_rest pool source.lease (places_lease ∷ lists_lease ∷ []) can.leases;
-    lists_area = can.areas_are.lists to for_lists;
-    places_area = can.areas_are.places areas.places (inl refl);
-    apart = can.areas_are.apart to areas.places for_lists (inl refl);
-  };
-  leases = can.leases;
-  buffers = omega (arith, can.buffers, same);
-  lists_outside = can.lists_outside to for_lists;
-  places_outside = can.places_outside areas.places (inl refl);
-  ids = can.ids;
-}
-
-pub reduce_begun :
-    {told : Bool} {device : Device} {pool : Pool} (source : Source) (areas : Areas) (groups : Groups) (to rows room fan lists_lease places_lease : ℕ)
-    → CanReduce device pool source areas rows room lists_lease places_lease → IsForLists areas to
-    → IsBegun to areas.places rows source.lists_left lists_lease places_lease groups → IsPassing told device pool source groups fan false
-    → IsReducing told device pool source areas groups fan false
-reduce_begun {device = device} source areas groups to rows room fan lists_lease places_lease can for_lists begun passing =
-    let A : ℕ → Type 0 = λ r. HasAreas device areas r groups.size in
-    let B : ℕ → Type 0 = λ s. HasAreas device areas rows s in
-    let C : ℕ → Type 0 = IsForLists areas in
-    record {
-      passing = passing;
-      areas_are = subst A (sym begun.rows) (subst B (sym begun.size) can.areas_are);
-      few = omega (arith, begun.rows, can.few);
-      for_lists = subst C (sym begun.lists) for_lists;
-      for_places = inl begun.places;
-    }
-
-pub held_begun :
-    (source : Source) (groups : Groups) (to places rows lists_lease places_lease : ℕ) → IsBegun to places rows source.lists_left lists_lease places_lease groups
-    → pass_held source groups ≡ source.lease ∷ places_lease ∷ lists_lease ∷ []
-held_begun source groups to places rows lists_lease places_lease begun =
-    ap (λ cs. source.lease ∷ groups.places.lease ∷ groups.into.writer.lease ∷ leases_of cs) begun.none
-    ∙ ap (λ (l : ℕ). source.lease ∷ l ∷ groups.into.writer.lease ∷ []) begun.places_lease
-    ∙ ap (λ (l : ℕ). source.lease ∷ places_lease ∷ l ∷ []) begun.lists_lease

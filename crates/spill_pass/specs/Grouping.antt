@@ -50,6 +50,7 @@ pub record IsBegun (lists_page places_page most lists_most lists_held places_hel
   pub lists_lease : groups.into.writer.lease ≡ lists_held
   pub places_lease : groups.places.lease ≡ places_held
   pub none : groups.into.merge.cursors.items ≡ []
+  pub union : groups.into.merge.unions.items ≡ 0 ∷ []
   pub none_found : groups.into.merge.last ≡ 0
   pub written : groups.into.writer.filler.count ≡ 0
   pub placed : groups.places.filler.count ≡ 0

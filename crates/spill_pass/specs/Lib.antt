@@ -9,3 +9,5 @@ pub mod PlaceLaws
 pub mod Passing
 pub mod Reducing
 pub mod Listings
+pub mod PassContents
+pub mod ReduceContents

@@ -80,7 +80,7 @@ pub record GivesFirst (has : List (List ℕ) → Type 0) (page right : ℕ → L
   pub has_rest : has rest
 
 abbrev pub GivesLists : (has : List (List ℕ) → Type 0) → (page right : ℕ → List ℕ) (rows : ℕ) (lists : List (List ℕ)) → Result (Option ListRef) PageFault → Type 0
-GivesLists has page right rows lists (Ok None) = lists ≡ []
+GivesLists has page right rows lists (Ok None) = (lists ≡ []) × has []
 GivesLists has page right rows lists (Ok (Some list)) = GivesFirst has page right rows lists list
 GivesLists has page right rows lists (Err fault) = ⊤
 

@@ -27,5 +27,5 @@ pub use groups::Groups;
 pub use merging::MergeInto;
 pub use passes::Pass;
 pub use places::PlaceReader;
-pub use reduce::Reduce;
+pub use reduce::{Areas, Reduce};
 pub use source::ListSource;

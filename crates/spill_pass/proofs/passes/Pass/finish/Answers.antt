@@ -1,6 +1,8 @@
 use Rattle.std.proofs.Common.{sym}
+use Rattle.spill_pass.proofs.PassContents.{stands_all}
 use Rattle.spill_pass.proofs.PassFrames.{pass_of_groups}
-use Rattle.spill_pass.proofs.PassTaking.{made_four, made_none, pass_ends, source_spared}
+use Rattle.spill_pass.proofs.PassGoing.{made_four, made_none, pass_ends}
+use Rattle.spill_pass.proofs.PassTaking.{source_spared}
 use Rattle.spill_pass.specs.Passing.{MadeFew}
 use Rattle.spill_pass.proofs.passes.Pass.finish.Goals as goal
 use Rattle.spill_pass.proofs.passes.Pass.finish.Goals.{then-waits, else-waits}
@@ -31,3 +33,8 @@ returns-clause-ready g c =
     let goes = pass_of_groups source c.args.self.now.groups c.finish.new.self c.finish.ensures.goes is.leases in
     c.spared.ensures.stays g.F.Flash.told (g.F.Flash.state c.args.flash.now) (g.F.Flash.state c.finish.new.flash) c.args.pool.now c.finish.new.pool
     (source_spared source c.args.self.now.groups c.finish.new.self is.lists_outside is.places_outside c.finish.ensures.goes is.leases goes) c.requires.ready
+
+pub returns-clause-has : goal.returns-clause-has
+returns-clause-has g c = λ told right lists h.
+    let n = c.in_ok-placed.ensures in
+    stands_all h c.requires.none (n.stores told right h.merge h.done h.grouped)
