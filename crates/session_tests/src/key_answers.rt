@@ -1,6 +1,7 @@
 //! The key's answer of a query over the clinic.
 
-ghost use Rattle.text_lines.specs.Telling.{CanTell};
+ghost use Rattle.key_exec.specs.Plans.{Suffices};
+ghost use Rattle.page_pool.specs.Pools.{IsIdle};
 
 use crate::clinic::{CATALOG, ask_for, device, failing_device};
 use channel_pump::state::ReplyState;
@@ -13,7 +14,7 @@ use leakless_plan::Plan;
 use page_pool::PagePool;
 use reply_store::ReplyStore;
 use text_lines::{Telling, Told};
-use tree_schema::read_catalog;
+use tree_schema::{Catalog, read_catalog};
 
 /// The visits in some days with doctors of one country.
 const VISITS: &[u8] =
@@ -27,18 +28,21 @@ const LINES: &[u8] = b"> 2\tBob\t5\n> 3\tAnn\t9\n= 1 2\n";
 
 const FAILED: &[u8] = b"! 1 flash\n";
 
-/// Tells a text to its end.
+/// Tells the text that has number 1 to its end, whose replies stand in the store.
 fn tell<F: Flash, O: Sink>(
-    telling: Telling,
     printer: &mut Printer,
     out: &mut O,
+    cat: &Catalog,
+    text: &[u8],
     store: &ReplyStore,
     pool: &mut PagePool,
     flash: &mut F,
 ) -> Told
-    requires can { CanTell F.told (F.state flash.old) pool.old telling }
+    requires suffices { Suffices cat.now (F.state flash.old) }
+    requires idle { IsIdle pool.old }
+    ensures idle { IsIdle pool.new }
 {
-    let mut telling = telling;
+    let mut telling = Telling::begin(cat, Plan::Scan, 1, text, ReplyState::Done);
     'steps: loop {
         match telling.step(printer, out, store, pool, flash) {
             Some(told) => return told,
@@ -58,11 +62,11 @@ fn an_answer_is_printed_through_eight_buffers(rt: HostRuntime) -> Result<(), Att
     let mut out = MemSink::new(rt.alloc(), 99, 99, &[])?;
     let mut printer = Printer::new();
     let mut pool = PagePool::new(rt.alloc(), 8)?;
-    let telling = Telling::begin(&cat, Plan::Scan, 1, VISITS, ReplyState::Done);
     let told = tell(
-        telling,
         &mut printer,
         &mut out,
+        &cat,
+        VISITS,
         &store,
         &mut pool,
         &mut flash,
@@ -89,8 +93,15 @@ fn each_call_that_fails_gives_all_buffers_back(rt: HostRuntime) -> Result<(), At
         let mut out = MemSink::new(rt.alloc(), 99, 99, &[])?;
         let mut printer = Printer::new();
         let mut pool = PagePool::new(rt.alloc(), 8)?;
-        let telling = Telling::begin(&cat, Plan::Scan, 1, VISITS, ReplyState::Done);
-        let told = tell(telling, &mut printer, &mut out, &store, &mut pool, &mut flash);
+        let told = tell(
+            &mut printer,
+            &mut out,
+            &cat,
+            VISITS,
+            &store,
+            &mut pool,
+            &mut flash,
+        );
         assert!(rt; matches!(told, Told::Flash), "{call}");
         assert!(rt;
             flash.script.calls == call && out.bytes() == FAILED,
