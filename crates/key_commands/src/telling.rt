@@ -34,7 +34,7 @@ usage: key_program query
     --to ADDRESS:PORT  the host's address, as 127.0.0.1:4711, with the port that host_program printed
     --script FILE      the queries, with ; between them
     [--plan scan]      how they are answered
-    [--pace 0]         how much is done between the moves
+    [--pace NUMBERS]   slices of work behind each frame of rows, 0 to 1000, or up to 16 such with commas; else 1
     [--buffers NUMBER] the key's page buffers, 8 to 64; else 32";
 
 /// The words of `local`.
@@ -46,7 +46,7 @@ usage: key_program local
     --script FILE      the queries, with ; between them
     [--journal FILE]   what went between key and host, in place of a file of that name
     [--plan scan]      how they are answered
-    [--pace 0]         how much is done between the moves
+    [--pace NUMBERS]   slices of work behind each frame of rows, 0 to 1000, or up to 16 such with commas; else 1
     [--buffers NUMBER] the key's page buffers, 8 to 64; else 32";
 
 /// The words of `plain`.
@@ -97,7 +97,7 @@ fn usage_lines(alloc: Global, args: &[String], fault: &UsageFault) -> Result<Str
 fn remedy(fault: &UsageFault) -> Option<&'static str> {
     match fault {
         UsageFault::Plan => Some("give --plan scan, or leave it out"),
-        UsageFault::Pace => Some("give --pace 0, or leave it out"),
+        UsageFault::Pace => Some("give such numbers, or leave it out for 1"),
         UsageFault::Buffers => Some("give such a number, or leave it out for 32"),
         UsageFault::Blocks => Some("give such a number, or leave it out for as many as are needed"),
         UsageFault::Twice(_) => Some("give it once"),

@@ -109,11 +109,10 @@ fn hold<D: Depot, F: Flash, O: Sink>(
     proper_journals_are_written::<HostLink<MemDepot>, D>();
     local_sessions_are_served();
     told_texts_are_given();
-    let pace = [0u16];
     let options = Options {
         at: "",
         plan: words.plan,
-        pace: &pace,
+        pace: words.pace.as_slice(),
     };
     let tally = run_session(cat, script, &options, replies, pool, flash, link, out);
     end_of(tally.status, link.failed())

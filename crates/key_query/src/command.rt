@@ -79,11 +79,10 @@ pub fn query<D: Depot, F: Flash, L: Link, O: Sink>(
                 mut pool,
             } = opened;
             a_catalog_is_short(&cat);
-            let pace = [0u16];
             let options = Options {
                 at: words.to,
                 plan: words.plan,
-                pace: &pace,
+                pace: words.pace.as_slice(),
             };
             Ok(run_session(
                 &cat, &script, &options, replies, &mut pool, flash, link, out,

@@ -1,5 +1,5 @@
 -- The number that was parsed from a value is the one that its digits say.
-use Rattle.std.proofs.Common.{◌≡◌, ◌≤◌, ◌<◌, ◌^◌, ◌-◌, ◌+◌, ◌*◌, ◌∙◌, ◌&&◌, if◌then◌else◌, ℕ, Bool, true, false, List, [], ◌∷◌, length, Some, None, Result, Ok, Err, refl, ap, subst, arith, rules}
+use Rattle.std.proofs.Common.{◌≡◌, ◌≤◌, ◌<◌, ◌^◌, ◌-◌, ◌+◌, ◌*◌, ◌==◌, ◌∙◌, ◌&&◌, if◌then◌else◌, ℕ, Bool, true, false, List, [], ◌∷◌, length, Some, None, Result, Ok, Err, refl, ap, subst, arith, rules}
 use Rattle.std.specs.Prelude.{fold, nat_le}
 use Rattle.std.specs.List.{list_all}
 use Rattle.std.specs.Str.Parse.{ParsesUnsigned}
@@ -31,28 +31,28 @@ refused true true range n r = rw r refl
 refused true false range n r = refl
 refused false short range n r = refl
 
+pub some_bytes : (text : List ℕ) → (length text == 0) ≡ false → 1 ≤ length text
+some_bytes [] none = absurd (search (rules, none))
+some_bytes (letter ∷ letters) none = omega arith
+
 pub said : {E : Type 0} (least most : ℕ) (text : List ℕ) (r : Result ℕ E) (n : ℕ) → ParsesUnsigned 32 10 text r → list_all is_digit text ≡ true
-    → length text ≤ 9 → r ≡ Ok n → least ≤ n → n ≤ most → Some n ≡ number_said least most text
-said least most text r n parses digits short is low high =
+    → 1 ≤ length text → length text ≤ 9 → r ≡ Ok n → least ≤ n → n ≤ most → Some n ≡ number_said least most text
+said least most text r n parses digits some short is low high =
     let same = same_number text r n parses digits is in
     ap Some same
-    ∙ taken (list_all is_digit text) (nat_le (length text) 9) (is_between least most (number_of text)) (number_of text) digits
-    (le-leb (length text) 9 short) (subst (λ m. is_between least most m ≡ true) same (between least most n low high))
+    ∙ taken (list_all is_digit text) (is_between 1 9 (length text)) (is_between least most (number_of text)) (number_of text) digits
+    (between 1 9 (length text) some short) (subst (λ m. is_between least most m ≡ true) same (between least most n low high))
 
 pub out_of_range : {E : Type 0} (least most : ℕ) (text : List ℕ) (r : Result ℕ E) (n : ℕ) → ParsesUnsigned 32 10 text r
     → list_all is_digit text ≡ true → r ≡ Ok n → (least ≤ n → n ≤ most → ⊥) → None ≡ number_said least most text
 out_of_range least most text r n parses digits is out =
     let same = same_number text r n parses digits is in
-    refused (list_all is_digit text) (nat_le (length text) 9) (is_between least most (number_of text)) (number_of text)
+    refused (list_all is_digit text) (is_between 1 9 (length text)) (is_between least most (number_of text)) (number_of text)
     (subst (λ m. is_between least most m ≡ false) same (not_between least most n out))
 
-nonempty : (text : List ℕ) → 1 ≤ number_of text → 0 < length text
-nonempty [] low = omega (arith, low)
-nonempty (digit ∷ digits) low = omega arith
-
-pub no_number : {E : Type 0} (least most : ℕ) (text : List ℕ) (r : Result ℕ E) (e : E) → 1 ≤ least → most < 2 ^ 32 → ParsesUnsigned 32 10 text r
+pub no_number : {E : Type 0} (least most : ℕ) (text : List ℕ) (r : Result ℕ E) (e : E) → 1 ≤ length text → most < 2 ^ 32 → ParsesUnsigned 32 10 text r
     → list_all is_digit text ≡ true → r ≡ Err e → None ≡ number_said least most text
 no_number least most text r e some small parses digits is =
-    refused (list_all is_digit text) (nat_le (length text) 9) (is_between least most (number_of text)) (number_of text)
+    refused (list_all is_digit text) (is_between 1 9 (length text)) (is_between least most (number_of text)) (number_of text)
     (not_between least most (number_of text) (λ low high.
-    OkIff-at_err r _ _ e (parse_digits numerals 32 text r parses digits) is (nonempty text (omega (arith, some, low)), omega (arith, high, small))))
+    OkIff-at_err r _ _ e (parse_digits numerals 32 text r parses digits) is (omega (arith, some), omega (arith, high, small))))

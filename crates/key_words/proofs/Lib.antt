@@ -1,2 +1,3 @@
 pub mod Blocks
 pub mod Causes
+pub mod Paces

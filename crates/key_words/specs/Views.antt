@@ -19,7 +19,7 @@ local_view local = record {
   script = local.script.now;
   journal = option_map (λ name. name.now) local.journal;
   plan = local.plan;
-  pace = local.pace;
+  pace = local.pace.items;
   buffers = local.buffers;
 }
 
@@ -38,7 +38,7 @@ query_view query = record {
   to = query.to.now;
   script = query.script.now;
   plan = query.plan;
-  pace = query.pace;
+  pace = query.pace.items;
   buffers = query.buffers;
 }
 

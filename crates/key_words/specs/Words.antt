@@ -1,9 +1,9 @@
 -- What the words of the program say: the reading of `clap`, and then the rule of each value. `--plan` takes the name of a
--- plan, and stands for `scan` where it is left out; `--pace` takes 0 alone, which it is where it is left out. `--buffers`
--- takes a number from 8 to 64, which is 32 where it is left out, and `--blocks` one from 1 to 60,000,000, which may be left
--- out. A number is one to nine decimal digits.
-use Rattle.std.specs.Prelude.{ℕ, Bool, ◌&&◌, nat_le, List, length, Option, Some, None, codes, bytes_eq, option_map, option_and_then, if◌then◌else◌}
-use Rattle.std.specs.List.{list_all}
+-- plan, and stands for `scan` where it is left out; `--pace` takes 1 to 16 numbers from 0 to 1000 with commas between them,
+-- and is 1 where it is left out. `--buffers` takes a number from 8 to 64, which is 32 where it is left out, and `--blocks` one
+-- from 1 to 60,000,000, which may be left out. A number is one to nine decimal digits.
+use Rattle.std.specs.Prelude.{ℕ, Bool, ◌&&◌, ◌==◌, nat_le, List, [], ◌∷◌, length, Option, Some, None, codes, bytes_eq, option_map, option_and_then, if◌then◌else◌}
+use Rattle.std.specs.List.{list_all, slice_split}
 use Rattle.leakless_plan.specs.declared.plan.Plan.{Plan}
 use Rattle.leakless_plan.specs.declared.plan.Plan.TheVariants as plan
 use Rattle.leakless_plan.specs.Names.{plan_named}
@@ -12,7 +12,7 @@ use Rattle.clap.specs.Walk.{Row, Text, is_empty, first_of}
 use Rattle.clap.specs.Simple.{subcommand_of}
 use Rattle.clap.specs.Faults.{fault_of}
 use Rattle.key_words.specs.KeyApp.{key_app}
-use Rattle.key_words.specs.Blocks.{most_blocks, least_buffers, most_buffers}
+use Rattle.key_words.specs.Blocks.{most_blocks, least_buffers, most_buffers, most_numbers, least_slices, most_slices}
 
 pub record Plain : Type 0 where
   pub schema : List ℕ
@@ -26,7 +26,7 @@ pub record Local : Type 0 where
   pub script : List ℕ
   pub journal : Option (List ℕ)
   pub plan : Plan
-  pub pace : ℕ
+  pub pace : List ℕ
   pub buffers : ℕ
 
 pub record Load : Type 0 where
@@ -41,7 +41,7 @@ pub record Query : Type 0 where
   pub to : List ℕ
   pub script : List ℕ
   pub plan : Plan
-  pub pace : ℕ
+  pub pace : List ℕ
   pub buffers : ℕ
 
 pub data Command : Type 0 where
@@ -62,11 +62,6 @@ abbrev pub plan_said : Option Text → Option Plan
 plan_said None = Some plan.Scan
 plan_said (Some name) = plan_named name
 
--- the pace that its option says
-abbrev pub pace_said : Option Text → Option ℕ
-pace_said None = Some 0
-pace_said (Some digits) = if bytes_eq digits (codes "0") then Some 0 else None
-
 abbrev pub plain_of : List Row → Option Command
 plain_of rows =
     needs rows (codes "schema") (λ schema. needs rows (codes "data") (λ tables. needs rows (codes "script") (λ script.
@@ -75,10 +70,26 @@ plain_of rows =
 -- the number that a value says, from one to another one
 abbrev pub is_number : (least most : ℕ) → Text → Bool
 is_number least most digits =
-    list_all is_digit digits && (nat_le (length digits) 9 && is_between least most (number_of digits))
+    list_all is_digit digits && (is_between 1 9 (length digits) && is_between least most (number_of digits))
 
 abbrev pub number_said : (least most : ℕ) → Text → Option ℕ
 number_said least most digits = if is_number least most digits then Some (number_of digits) else None
+
+-- the numbers that values say, none where one of them says none
+abbrev pub numbers_said : (least most : ℕ) → List Text → Option (List ℕ)
+numbers_said least most [] = Some []
+numbers_said least most (digits ∷ others) =
+    option_and_then (λ number. option_map (λ numbers. number ∷ numbers) (numbers_said least most others)) (number_said least most digits)
+
+-- the parts of a value between its commas
+abbrev pub parts_of : Text → List Text
+parts_of = slice_split (λ letter. letter == 44)
+
+-- the numbers of the pace that its option says
+abbrev pub pace_said : Option Text → Option (List ℕ)
+pace_said None = Some (1 ∷ [])
+pace_said (Some text) =
+    if nat_le (length (parts_of text)) most_numbers then numbers_said least_slices most_slices (parts_of text) else None
 
 -- the number of page buffers that its option says
 abbrev pub buffers_said : Option Text → Option ℕ
@@ -89,10 +100,10 @@ buffers_said (Some digits) = number_said least_buffers most_buffers digits
 abbrev pub with_buffers : Option ℕ → (ℕ → Command) → Option Command
 with_buffers said made = option_map made said
 
-abbrev pub with_pace : List Row → Option ℕ → (ℕ → ℕ → Command) → Option Command
+abbrev pub with_pace : List Row → Option (List ℕ) → (List ℕ → ℕ → Command) → Option Command
 with_pace rows said made = option_and_then (λ pace. with_buffers (buffers_said (first_of (codes "buffers") rows)) (made pace)) said
 
-abbrev pub with_plan : List Row → (Plan → ℕ → ℕ → Command) → Option Command
+abbrev pub with_plan : List Row → (Plan → List ℕ → ℕ → Command) → Option Command
 with_plan rows made =
     option_and_then (λ way. with_pace rows (pace_said (first_of (codes "pace") rows)) (made way))
     (plan_said (first_of (codes "plan") rows))

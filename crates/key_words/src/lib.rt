@@ -13,4 +13,6 @@ pub mod words;
 
 pub use reading::read_words;
 pub use shown::ShownWord;
-pub use words::{KeyWords, LoadWords, LocalWords, PlainWords, QueryWords, UsageFault, WordsFault};
+pub use words::{
+    KeyWords, LoadWords, LocalWords, MAX_NUMBERS, PlainWords, QueryWords, UsageFault, WordsFault,
+};

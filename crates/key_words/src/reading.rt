@@ -14,8 +14,9 @@ use crate::app::program;
 use crate::refusing::refusal;
 use crate::values::{read_blocks, read_buffers, read_pace, read_plan};
 use crate::words::{
-    KeyWords, LoadWords, LocalWords, PlainWords, QueryWords, UsageFault, WordsFault,
+    KeyWords, LoadWords, LocalWords, MAX_NUMBERS, PlainWords, QueryWords, UsageFault, WordsFault,
 };
+use arrayvec::ArrayVec;
 use clap::error::ErrorKind;
 use clap::{ArgMatches, Error};
 use leakless_plan::Plan;
@@ -110,10 +111,9 @@ fn plan_of(options: &ArgMatches<'_>) -> Result<Plan, UsageFault>
 }
 
 /// The pace of the session.
-fn pace_of(options: &ArgMatches<'_>) -> Result<u32, UsageFault>
-    ensures read { IfOk result (λ pace. words.pace_said (first_of (codes "pace") (rows_of (found_of options.now))) ≡ Some pace) }
+fn pace_of(options: &ArgMatches<'_>) -> Result<ArrayVec<u16, MAX_NUMBERS>, UsageFault>
+    ensures read { IfOk result (λ pace. words.pace_said (first_of (codes "pace") (rows_of (found_of options.now))) ≡ Some pace.items) }
     ensures usage { OnErr result (words.pace_said (first_of (codes "pace") (rows_of (found_of options.now))) ≡ None) }
-    ensures unpaced { IfOk result (λ pace. pace ≡ 0) }
     ensures fault { IfErr result (λ fault. fault ≡ UsageFault.Pace) }
 {
     match read_pace(value_of(options, "pace")) {

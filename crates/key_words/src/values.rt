@@ -1,15 +1,26 @@
 //! The rules of the values.
 
-ghost use Rattle.std.specs.Prelude.{◌≡◌, ◌≤◌, option_map, IfSome};
+ghost use Rattle.std.specs.Prelude.{◌≡◌, ◌≤◌, Some, option_map, IfSome};
 ghost use Rattle.std.specs.List.{list_all};
 ghost use Rattle.ghost_model.specs.refusals.Tokens.{is_digit};
-ghost use Rattle.key_words.specs.Blocks.{IsFew, AreBuffers};
+ghost use Rattle.key_words.specs.Blocks.{IsFew, AreBuffers, least_slices, most_slices};
 ghost use Rattle.key_words.specs.Words as words;
 
+use crate::words::MAX_NUMBERS;
+use arrayvec::ArrayVec;
 use leakless_plan::{Plan, plan_named};
 
 /// The most digits of a number.
 const MAX_DIGITS: usize = 9;
+
+/// The fewest slices that a number of the pace says.
+const MIN_SLICES: u32 = 0;
+
+/// The most slices that a number of the pace says.
+const MAX_SLICES: u32 = 1000;
+
+/// The one number of the pace where nothing is said of it.
+const DEFAULT_SLICES: u16 = 1;
 
 /// The most blocks of a flash.
 const MAX_BLOCKS: u32 = 60_000_000;
@@ -33,20 +44,6 @@ pub fn read_plan(given: Option<&str>) -> Option<Plan>
     }
 }
 
-/// The pace that its option says: 0 where it is left out, and `None` where its value is another one.
-pub fn read_pace(given: Option<&str>) -> Option<u32>
-    ensures value { result ≡ words.pace_said (option_map (λ text. text.now) given.entry) }
-    ensures unpaced { IfSome result (λ pace. pace ≡ 0) }
-{
-    let Some(text) = given else {
-        return Some(0);
-    };
-    if text.as_bytes() == "0".as_bytes() {
-        return Some(0);
-    }
-    None
-}
-
 /// Whether there are digits alone.
 fn are_digits(text: &str) -> bool
     ensures value { result ≡ list_all is_digit text.now }
@@ -58,12 +55,11 @@ fn are_digits(text: &str) -> bool
 
 /// The number that a value says: one to nine decimal digits, from one number to another one.
 pub fn number_between(text: &str, least: u32, most: u32) -> Option<u32>
-    requires some { 1 ≤ least }
     ensures value { result ≡ words.number_said least most text.now }
     ensures least { IfSome result (λ number. least ≤ number) }
     ensures most { IfSome result (λ number. number ≤ most) }
 {
-    if text.len() > MAX_DIGITS || !are_digits(text) {
+    if text.is_empty() || text.len() > MAX_DIGITS || !are_digits(text) {
         return None;
     }
     match text.parse::<u32>() {
@@ -75,6 +71,42 @@ pub fn number_between(text: &str, least: u32, most: u32) -> Option<u32>
         }
         Err(_) => None,
     }
+}
+
+/// The number of slices that a value says: 0 to 1000.
+fn read_slices(text: &str) -> Option<u16>
+    ensures value { result ≡ words.number_said least_slices most_slices text.now }
+{
+    match number_between(text, MIN_SLICES, MAX_SLICES) {
+        Some(slices) => Some(slices as u16),
+        None => None,
+    }
+}
+
+/// The numbers of slices between whose values stand commas: 1 to 16 of them.
+fn read_numbers(text: &str) -> Option<ArrayVec<u16, MAX_NUMBERS>>
+    ensures value { option_map (λ pace. pace.items) result ≡ words.pace_said (Some text.now) }
+{
+    let mut pace = ArrayVec::new();
+    for piece in text.split(',') {
+        let slices = read_slices(piece)?;
+        if pace.try_push(slices).is_err() {
+            return None;
+        }
+    }
+    Some(pace)
+}
+
+/// The pace that its option says: 1 where it is left out, and `None` where its value breaks the rule.
+pub fn read_pace(given: Option<&str>) -> Option<ArrayVec<u16, MAX_NUMBERS>>
+    ensures value { option_map (λ pace. pace.items) result ≡ words.pace_said (option_map (λ text. text.now) given.entry) }
+{
+    let Some(text) = given else {
+        let mut pace = ArrayVec::new();
+        pace.push(DEFAULT_SLICES);
+        return Some(pace);
+    };
+    read_numbers(text)
 }
 
 /// The number of page buffers that its option says: 32 where it is left out, and `None` where its value breaks the rule.

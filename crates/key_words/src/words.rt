@@ -1,12 +1,15 @@
 //! What the words of the program say.
 
-ghost use Rattle.std.specs.Prelude.{◌≡◌};
 ghost use Rattle.std.proofs.Props.{props};
 ghost use Rattle.key_words.specs.Blocks.{IsFew, AreBuffers};
 
 use crate::shown::ShownWord;
+use arrayvec::ArrayVec;
 use leakless_plan::Plan;
 use thiserror::Error;
+
+/// The most numbers of a pace.
+pub const MAX_NUMBERS: usize = 16;
 
 /// The words of `plain`.
 #[derive(Clone, Copy)]
@@ -42,7 +45,7 @@ pub struct LoadWords<'a> {
 }
 
 /// The words of `query`.
-#[derive(Clone, Copy)]
+#[derive(Drop)]
 pub struct QueryWords<'a> {
     /// The file of the flash.
     pub flash: &'a str,
@@ -56,9 +59,8 @@ pub struct QueryWords<'a> {
     /// The plan by which each text is answered.
     pub plan: Plan,
 
-    /// How much is done between the moves: 0 as long as no work falls between them.
-    pub pace: u32,
-    pub ghost unpaced: { pace ≡ 0 } by { Prim.hlevel props },
+    /// How many slices of work may come behind each frame of rows: numbers of 0 to 1000, taken round and round.
+    pub pace: ArrayVec<u16, MAX_NUMBERS>,
 
     /// How many page buffers the key has, from 8 to 64.
     pub buffers: u32,
@@ -66,7 +68,7 @@ pub struct QueryWords<'a> {
 }
 
 /// The words of `local`.
-#[derive(Clone, Copy)]
+#[derive(Drop)]
 pub struct LocalWords<'a> {
     /// The file of the schema.
     pub schema: &'a str,
@@ -86,9 +88,8 @@ pub struct LocalWords<'a> {
     /// The plan by which each text is answered.
     pub plan: Plan,
 
-    /// How much is done between the moves: 0 as long as no work falls between them.
-    pub pace: u32,
-    pub ghost unpaced: { pace ≡ 0 } by { Prim.hlevel props },
+    /// How many slices of work may come behind each frame of rows: numbers of 0 to 1000, taken round and round.
+    pub pace: ArrayVec<u16, MAX_NUMBERS>,
 
     /// How many page buffers the key has, from 8 to 64.
     pub buffers: u32,
@@ -96,7 +97,7 @@ pub struct LocalWords<'a> {
 }
 
 /// A command with its words.
-#[derive(Clone, Copy)]
+#[derive(Drop)]
 pub enum KeyWords<'a> {
     /// Both ends in one process.
     Local(LocalWords<'a>),
@@ -151,7 +152,7 @@ pub enum UsageFault {
     Plan,
 
     /// `--pace` has a value that it does not take.
-    #[error("--pace takes 0 alone")]
+    #[error("--pace takes 1 to 16 numbers from 0 to 1000, with commas between them")]
     Pace,
 
     /// `--buffers` has a value that it does not take.
