@@ -1,5 +1,6 @@
 //! `local` and `plain` over tables whose columns and replies take many pages.
 
+use arrayvec::ArrayVec;
 use edge_traits::mem_depot::{MemDepot, Room};
 use edge_traits::mem_flash::MemFlash;
 use edge_traits::mem_sink::MemSink;
@@ -17,22 +18,27 @@ const SCHEMA: &str =
 const SCRIPT: &str =
     "SELECT num FROM top WHERE val = 7 AND num > 6000; SELECT num FROM top WHERE num <= 11000; SELECT top.id FROM top, leaf WHERE lf = leaf.id AND tag = 0 AND mark >= 30000; SELECT mark FROM leaf WHERE mark BETWEEN 40990 AND 99999;";
 
-const WORDS: LocalWords<'static> = LocalWords {
-    schema: "schema",
-    tables: "tables",
-    flash: "flash",
-    script: "script",
-    journal: None,
-    plan: Plan::Scan,
-    pace: 0,
-    buffers: 8,
-};
-
 const PLAIN_WORDS: PlainWords<'static> = PlainWords {
     schema: "schema",
     tables: "tables",
     script: "script",
 };
+
+/// The words of `local`, with a pace of one number.
+fn local_words() -> LocalWords<'static> {
+    let mut pace = ArrayVec::new();
+    pace.push(1);
+    LocalWords {
+        schema: "schema",
+        tables: "tables",
+        flash: "flash",
+        script: "script",
+        journal: None,
+        plan: Plan::Scan,
+        pace,
+        buffers: 8,
+    }
+}
 
 /// The file of the leaves: each has its own number as its mark, and tag 0 up to row 40,000 and then 1.
 fn leaves(alloc: Global) -> Result<String, AllocError> {
@@ -94,7 +100,8 @@ fn columns_and_replies_of_many_pages_are_answered_in_order(
     }
     let mut flash = MemFlash::new(rt.alloc(), 60, &[])?;
     let mut out = MemSink::new(rt.alloc(), 300_000, 300_000, &[])?;
-    let ended = local(rt.alloc(), &WORDS, &mut depot, &mut flash, &mut out);
+    let words = local_words();
+    let ended = local(rt.alloc(), &words, &mut depot, &mut flash, &mut out);
     assert!(rt; matches!(&ended, Ok(LocalEnd::Ok)));
     assert!(rt; out.bytes() == lines.as_bytes());
     let mut out = MemSink::new(rt.alloc(), 300_000, 300_000, &[])?;
