@@ -1,7 +1,7 @@
 -- A writer's next page, and what its calls do.
 use Rattle.std.specs.Prelude.{◌≡◌, ℕ, ◌+◌, ◌^◌, ◌<◌, ◌≤◌, Bool, if◌then◌else◌, List, nat_eq, nat_lt, Result, OnOk, OnErr}
 use Rattle.ghost_model.specs.forms.Runs as runs
-use Rattle.ghost_model.specs.core.Causes.{HasCause}
+use Rattle.ghost_model.specs.core.Causes.{HasCause, Rose}
 use Rattle.edge_traits.specs.Devices.{Device, Counts, ChangesOnly}
 use Rattle.page_pool.specs.Pools.{Pool, bytes_at}
 use Rattle.ghost_base.specs.declared.runs.Run.{Run}
@@ -70,3 +70,4 @@ pub record Writes {T : Type 0} (before now : Device) (low high calls : ℕ) (res
   pub deep_reads : now.deep_reads ≡ before.deep_reads
   pub cause : HasCause before.faults now.faults result
   pub last : OnErr result (now.since_fault ≡ 0)
+  pub called : OnErr result (Rose before.calls now.calls)

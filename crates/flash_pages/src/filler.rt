@@ -1,7 +1,7 @@
 //! A run that is written through a buffer that is lent.
 
 ghost use Rattle.std.specs.Prelude.{◌≡◌, ◌<◌, ◌≤◌, ◌+◌, ◌-◌, ◌*◌, ◌/◌, ◌^◌, ◌++◌, ◌∷◌, [], true, false, Bool, List, ℕ, length, take, drop, replicate, if◌then◌else◌, IfOk, OnOk, OnErr};
-ghost use Rattle.ghost_model.specs.core.Causes.{HasCause};
+ghost use Rattle.ghost_model.specs.core.Causes.{HasCause, Rose};
 ghost use Rattle.std.specs.List.{slice_range};
 ghost use Rattle.ghost_model.specs.forms.Runs.{Stores};
 ghost use Rattle.edge_traits.specs.Devices.{Counts, KeepsPages, ChangesOnly};
@@ -72,6 +72,7 @@ fn write_next<F: Flash>(
     ensures deep_reads { (F.state flash.new).deep_reads ≡ (F.state flash.old).deep_reads }
     ensures cause { HasCause (F.state flash.old).faults (F.state flash.new).faults result }
     ensures last { OnErr result ((F.state flash.new).since_fault ≡ 0) }
+    ensures called { OnErr result (Rose (F.state flash.old).calls (F.state flash.new).calls) }
 {
     if erase && page % 64 == 0 {
         flash.erase_block(page / 64)?;
@@ -133,6 +134,7 @@ impl RunFiller {
         ensures deep_reads { (F.state flash.new).deep_reads ≡ (F.state flash.old).deep_reads }
         ensures cause { HasCause (F.state flash.old).faults (F.state flash.new).faults result }
         ensures last { OnErr result ((F.state flash.new).since_fault ≡ 0) }
+        ensures called { OnErr result (Rose (F.state flash.old).calls (F.state flash.new).calls) }
     {
         put_cell(buf, (self.held * self.width) as usize, cell);
         if self.held + 1 < per_page(self.width) {
@@ -160,6 +162,7 @@ impl RunFiller {
         ensures deep_reads { (F.state flash.new).deep_reads ≡ (F.state flash.old).deep_reads }
         ensures cause { HasCause (F.state flash.old).faults (F.state flash.new).faults result }
         ensures last { OnErr result ((F.state flash.new).since_fault ≡ 0) }
+        ensures called { OnErr result (Rose (F.state flash.old).calls (F.state flash.new).calls) }
     {
         let run = Run {
             first: self.first,
