@@ -14,3 +14,5 @@ pub mod Spooling
 pub mod SparedSpool
 pub mod HeldPage
 pub mod VisibleWidths
+pub mod Sparing
+pub mod OwnPages

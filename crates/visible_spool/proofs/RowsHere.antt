@@ -3,11 +3,10 @@ use Rattle.std.proofs.Common.{◌≡◌, ◌∙◌, ap, sym, ℕ, zero, suc, ◌
 use Rattle.std.proofs.lemmas.Bool.{cases_lt}
 use Rattle.std.proofs.lemmas.Bool.Decides.{nat_tests}
 use Rattle.ghost_model.specs.core.NextMove.{are_cells}
-use Rattle.ghost_model.specs.core.Asks.{row_in}
 use Rattle.ghost_model.specs.forms.Runs.{record_at, cell_in}
 use Rattle.visible_spool.specs.declared.reply.Reply.{Reply}
-use Rattle.visible_spool.specs.Replies.{HoldsRows, AreRows, HasNone, IsRowOf, id_of, id_of_bytes, may_stand, kinds_of}
-use Rattle.visible_spool.specs.Searches.{Ascend, HasNoneAmong, rows_in, row_at, id_at}
+use Rattle.visible_spool.specs.Replies.{HoldsRows, AreRows, HasNone, id_of, id_of_bytes, may_stand, kinds_of}
+use Rattle.visible_spool.specs.Searches.{Ascend, HasNoneAmong, IsAt, rows_in, row_at, id_at}
 use Rattle.visible_spool.proofs.Places.{in_page, by_page, from_page}
 
 -- identifiers climb by one at least
@@ -134,12 +133,11 @@ module _ (pages : ℕ → List ℕ) (reply : Reply) (rows : List (List ℕ)) (ho
             ]
           ]
 
-      pub row_found : (identifier place : ℕ) → first ≤ place → place ≤ last → id_at reply bytes place ≡ identifier → IsRowOf rows identifier (row_in (row_at reply bytes place))
+      pub row_found : (identifier place : ℕ) → first ≤ place → place ≤ last → id_at reply bytes place ≡ identifier → IsAt reply rows identifier bytes place
       row_found identifier place from to number =
           let e = counted in
           record {
-            place = place;
             within = omega (arith, to, within, e);
             number = sym (ids place from to) ∙ number;
-            is = ap row_in (row_here place (omega (arith, to, within)) (at_page place from to));
+            row_is = row_here place (omega (arith, to, within)) (at_page place from to);
           }

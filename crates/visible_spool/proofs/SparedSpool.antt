@@ -5,7 +5,6 @@ use Rattle.ghost_model.specs.forms.Runs.{pages_of, per_page}
 use Rattle.ghost_model.specs.forms.Layout.{in_blocks}
 use Rattle.edge_traits.specs.Devices.{Device, SamePage}
 use Rattle.page_pool.specs.Pools.{Pool}
-use Rattle.page_pool.proofs.Leases.{out_kept}
 use Rattle.flash_pages.specs.Writing.{block_end}
 use Rattle.flash_pages.proofs.Fillings.{whole_pages}
 use Rattle.flash_pages.proofs.LeaseFrames.{put_kept}
@@ -68,7 +67,7 @@ stays_spooling before now pool later spool spares is =
     let small = is.small in
     let count = spares.page_count in
     record {
-      out = out_kept spares.out is.out;
+      out = spares.out;
       areas = λ table there. area_kept before now (get_or spool.areas.items table no_area) spares.page_count (is.areas table there);
       few = is.few;
       small = omega (arith, small, count);

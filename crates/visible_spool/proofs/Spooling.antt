@@ -81,6 +81,7 @@ writes_in_area before now device spool result is area writes =
       deep_reads = writes.deep_reads;
       cause = writes.cause;
       last = writes.last;
+      called = writes.called;
       flash = writes.flash;
     }
 

@@ -1,6 +1,6 @@
 -- Laws of replies: what stays of them where other pages change.
 use Rattle.std.specs.Prelude.{◌≡◌, ℕ, ◌<◌, ◌≤◌, List, true}
-use Rattle.ghost_model.specs.forms.Runs.{page_of}
+use Rattle.ghost_model.specs.forms.Runs.{page_of, record_at}
 use Rattle.ghost_model.specs.core.Channel.{Catalog}
 use Rattle.ghost_model.specs.core.Schema.{is_visible}
 use Rattle.ghost_model.specs.forms.Layout.{spool_width}
@@ -9,7 +9,7 @@ use Rattle.ghost_model.specs.laws.SchemaTrees.{IsTree}
 use Rattle.ghost_base.specs.Runs.{run_of}
 use Rattle.edge_traits.specs.Devices.{Device}
 use Rattle.visible_spool.specs.declared.reply.Reply.{Reply}
-use Rattle.visible_spool.specs.Replies.{IsReadable, HoldsRows}
+use Rattle.visible_spool.specs.Replies.{IsReadable, HoldsRows, may_stand}
 use Rattle.visible_spool.specs.Halves.{HasNoReply, no_half}
 
 -- the pages of a reply's rows have the same bytes
@@ -21,6 +21,12 @@ abbrev pub RepliesAreKept : Type 0
 RepliesAreKept =
     (page now : ℕ → List ℕ) (reply : Reply) (rows : List (List ℕ)) → KeepsReply page now reply
     → HoldsRows page reply rows → HoldsRows now reply rows
+
+-- each row may stand where it does: identifiers that ascend from 1 to the number of rows leave each row its range
+abbrev pub RowsMayStand : Type 0
+RowsMayStand =
+    (page : ℕ → List ℕ) (reply : Reply) (rows : List (List ℕ)) (place : ℕ) → HoldsRows page reply rows → place < reply.run.count
+    → may_stand reply place (record_at page (run_of reply.run) place) ≡ true
 
 -- a reply may be read as long as the device has as many pages
 abbrev pub RepliesStayReadable : Type 0

@@ -7,3 +7,4 @@ pub mod Areas
 pub mod Sides
 pub mod Spools
 pub mod SpoolLaws
+pub mod Sparing

@@ -1,8 +1,12 @@
 -- A look-up in a reply, page by page: what one page tells of an identifier, and which pages are left.
-use Rattle.std.specs.Prelude.{◌≡◌, ◌≢◌, ℕ, ◌+◌, ◌-◌, ◌/◌, ◌%◌, ◌^◌, ◌<◌, ◌≤◌, ◌⊎◌, ⊤, Bool, true, false, nat_lt, List, length, Option, Some, None, Result, Ok, Err, IfSome, if◌then◌else◌}
+use Rattle.std.specs.Prelude.{◌≡◌, ◌≢◌, ℕ, ◌+◌, ◌-◌, ◌/◌, ◌%◌, ◌^◌, ◌<◌, ◌≤◌, ◌⊎◌, ⊤, Bool, true, false, nat_lt, List, [], length, get_or, Option, Some, None, Result, Ok, Err, IfSome, if◌then◌else◌}
+use Rattle.ghost_model.specs.forms.Runs as runs
 use Rattle.ghost_model.specs.forms.Runs.{cell_in, number_in, per_page, pages_of}
+use Rattle.ghost_base.specs.Runs.{run_of}
 use Rattle.edge_traits.specs.Devices.{Device}
 use Rattle.flash_pages.specs.Holding.{is_apart}
+use Rattle.flash_pages.specs.Cursors.{IsPageOf}
+use Rattle.flash_pages.specs.Reads.{WasRead}
 use Rattle.flash_pages.specs.declared.fault.PageFault.{PageFault}
 use Rattle.flash_pages.specs.declared.fault.PageFault.TheVariants.{Flash, Damaged}
 use Rattle.visible_spool.specs.declared.judging.Verdict.{Verdict}
@@ -15,7 +19,7 @@ use Rattle.visible_spool.specs.declared.search.Step.{Step}
 use Rattle.visible_spool.specs.declared.search.Step.TheVariants.{More, Found}
 use Rattle.visible_spool.specs.declared.search.Turn.{Turn}
 use Rattle.visible_spool.specs.declared.search.Turn.TheVariants.{Over, Narrowed}
-use Rattle.visible_spool.specs.Replies.{IsFound, FoundStands, id_of, may_stand}
+use Rattle.visible_spool.specs.Replies.{HasNone, IsSound, id_of, may_stand}
 
 -- how many rows a page takes, and how many pages a reply has; the page of a place, counted from the reply's first page
 abbrev pub rows_in : Reply → ℕ
@@ -122,22 +126,63 @@ step_calls before now (Err (Damaged number slot found)) = is_other before now
 abbrev pub calls_if : (calls : Bool) → ℕ
 calls_if calls = if calls then 1 else 0
 
--- what a step gives
-abbrev pub StepFinds : (rows : List (List ℕ)) → (identifier : ℕ) → Step → Type 0
-StepFinds rows identifier More = ⊤
-StepFinds rows identifier (Found found) = IsFound rows identifier found
+-- the row at a place has the identifier, and a page's bytes have it
+pub record IsAt (reply : Reply) (rows : List (List ℕ)) (identifier : ℕ) (bytes : List ℕ) (place : ℕ) : Type 0 where
+  pub within : place < length rows
+  pub number : id_of rows place ≡ identifier
+  pub row_is : row_at reply bytes place ≡ get_or rows place []
 
-abbrev pub StepStands : (since : ℕ) → Device → Reply → (identifier : ℕ) → Step → Type 0
-StepStands since device reply identifier More = ⊤
-StepStands since device reply identifier (Found found) = FoundStands since device reply identifier found
+-- the place that a look-up gives is that of the row, and no row has the identifier where it gives none
+abbrev pub IsPlace : Reply → (rows : List (List ℕ)) → (identifier : ℕ) → (bytes : List ℕ) → Option ℕ → Type 0
+IsPlace reply rows identifier bytes None = HasNone rows identifier
+IsPlace reply rows identifier bytes (Some place) = IsAt reply rows identifier bytes place
 
-abbrev pub TurnFinds : Reply → (rows : List (List ℕ)) → (identifier : ℕ) → Turn → Type 0
-TurnFinds reply rows identifier (Over found) = IsFound rows identifier found
-TurnFinds reply rows identifier (Narrowed looking) = IsSoughtAmong reply rows identifier looking
+-- Whatever the pages have: a buffer is filled from the page of the place that is given, and what it has there is a row with the
+-- identifier that may stand there.
+pub record LiesHere (reply : Reply) (identifier : ℕ) (held : Option ℕ) (bytes : List ℕ) (place : ℕ) : Type 0 where
+  pub within : place < reply.run.count
+  pub here : held ≡ Some (runs.page_of (run_of reply.run) place)
+  pub size : length bytes ≡ 2048
+  pub number : id_at reply bytes place ≡ identifier
+  pub may : may_stand reply place (row_at reply bytes place) ≡ true
 
-abbrev pub TurnStands : (since : ℕ) → Device → Reply → (identifier : ℕ) → Turn → Type 0
-TurnStands since device reply identifier (Over found) = FoundStands since device reply identifier found
-TurnStands since device reply identifier (Narrowed looking) = ⊤
+abbrev pub PlaceLies : Reply → (identifier : ℕ) → (held : Option ℕ) → (bytes : List ℕ) → Option ℕ → Type 0
+PlaceLies reply identifier held bytes None = ⊤
+PlaceLies reply identifier held bytes (Some place) = LiesHere reply identifier held bytes place
+
+-- and a read gave it there
+abbrev pub PlaceStands : (since : ℕ) → Device → Reply → (bytes : List ℕ) → Option ℕ → Type 0
+PlaceStands since device reply bytes None = ⊤
+PlaceStands since device reply bytes (Some place) = WasRead since device (run_of reply.run) place (row_at reply bytes place)
+
+-- what a step gives, by the buffer that it leaves
+abbrev pub StepFinds : Reply → (rows : List (List ℕ)) → (identifier : ℕ) → (bytes : List ℕ) → Step → Type 0
+StepFinds reply rows identifier bytes More = ⊤
+StepFinds reply rows identifier bytes (Found found) = IsPlace reply rows identifier bytes found
+
+abbrev pub StepLies : Reply → (identifier : ℕ) → (held : Option ℕ) → (bytes : List ℕ) → Step → Type 0
+StepLies reply identifier held bytes More = ⊤
+StepLies reply identifier held bytes (Found found) = PlaceLies reply identifier held bytes found
+
+abbrev pub StepStands : (since : ℕ) → Device → Reply → (bytes : List ℕ) → Step → Type 0
+StepStands since device reply bytes More = ⊤
+StepStands since device reply bytes (Found found) = PlaceStands since device reply bytes found
+
+-- a buffer has the page that it had, or one of the reply
+abbrev pub HoldsOwn : Reply → (before now : Option ℕ) → Type 0
+HoldsOwn reply before now = IfSome now (λ number. (before ≡ Some number) ⊎ IsPageOf (run_of reply.run) number)
+
+abbrev pub TurnFinds : Reply → (rows : List (List ℕ)) → (identifier : ℕ) → (bytes : List ℕ) → Turn → Type 0
+TurnFinds reply rows identifier bytes (Over found) = IsPlace reply rows identifier bytes found
+TurnFinds reply rows identifier bytes (Narrowed looking) = IsSoughtAmong reply rows identifier looking
+
+abbrev pub TurnLies : Reply → (identifier : ℕ) → (held : Option ℕ) → (bytes : List ℕ) → Turn → Type 0
+TurnLies reply identifier held bytes (Over found) = PlaceLies reply identifier held bytes found
+TurnLies reply identifier held bytes (Narrowed looking) = ⊤
+
+abbrev pub TurnStands : (since : ℕ) → Device → Reply → (bytes : List ℕ) → Turn → Type 0
+TurnStands since device reply bytes (Over found) = PlaceStands since device reply bytes found
+TurnStands since device reply bytes (Narrowed looking) = ⊤
 
 -- a page among those that were left is no longer left, nor are those on one side of it
 pub record IsNarrowed (before now : Looking) (page : ℕ) : Type 0 where
@@ -161,6 +206,11 @@ abbrev pub TurnLeaves : Reply → (held : Option ℕ) → (before : Looking) →
 TurnLeaves reply held before (Over found) = ⊤
 TurnLeaves reply held before (Narrowed now) = LeavesElsewhere reply held before now
 
+-- a slot that is blamed stands in the page that a buffer is filled from
+abbrev pub BlamedHere : (held : Option ℕ) → PageFault → Type 0
+BlamedHere held Flash = ⊤
+BlamedHere held (Damaged number slot found) = held ≡ Some number
+
 -- a fault that blames a slot
 abbrev pub IsSlot : PageFault → Type 0
 IsSlot Flash = ⊥
@@ -180,3 +230,7 @@ pub record IsInHeld (reply : Reply) (rows : List (List ℕ)) (held : Option ℕ)
   pub same_page : page_of reply last ≡ page_of reply first
   pub from : id_of rows first ≤ identifier
   pub to : identifier ≤ id_of rows last
+
+-- a look-up has no more steps left than a table has rows, and one
+abbrev pub SearchesAreShort : Type 0
+SearchesAreShort = (reply : Reply) (search : Search) → IsSound reply → IsSearch reply search → left_in reply search ≤ 1000001

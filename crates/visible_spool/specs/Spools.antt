@@ -5,7 +5,7 @@ use Rattle.ghost_model.specs.forms.Runs.{number_in}
 use Rattle.ghost_base.specs.Views.{kind_of}
 use Rattle.ghost_base.specs.declared.kind.Kind.{Kind}
 use Rattle.edge_traits.specs.Devices.{Device, ChangesOnly}
-use Rattle.ghost_model.specs.core.Causes.{HasCause}
+use Rattle.ghost_model.specs.core.Causes.{HasCause, Rose}
 use Rattle.flash_pages.specs.declared.fault.PageFault.{PageFault}
 use Rattle.page_pool.specs.Pools.{Pool, IsOut}
 use Rattle.visible_spool.specs.declared.area.Area.{Area}
@@ -77,13 +77,14 @@ pub record KeepsSides (text : ℕ) (before now : Spool) : Type 0 where
   pub changes : Changes text before.sides now.sides
 
 -- What a call that writes makes of the device: only pages from `low` on and below `high` change, by two calls at most. It
--- answers the flash alone, whose last call failed then.
+-- answers the flash alone, whose last call failed then, and was made.
 pub record SpoolWrites {T : Type 0} (before now : Device) (low high : ℕ) (result : Result T PageFault) : Type 0 where
   pub others : ChangesOnly low high before now
   pub at_most : now.calls ≤ before.calls + 2
   pub deep_reads : now.deep_reads ≡ before.deep_reads
   pub cause : HasCause before.faults now.faults result
   pub last : OnErr result (now.since_fault ≡ 0)
+  pub called : OnErr result (Rose before.calls now.calls)
   pub flash : IfErr result IsFlash
 
 -- these rows were pushed for a table, as yet without `done`

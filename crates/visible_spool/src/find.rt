@@ -42,7 +42,10 @@ impl Reply {
         'steps: loop {
             match self.step(flash, pool, lease, &mut search, id) {
                 Err(fault) => return Err(fault),
-                Ok(Step::Found(found)) => return Ok(found),
+                Ok(Step::Found(None)) => return Ok(None),
+                Ok(Step::Found(Some(place))) => {
+                    return Ok(Some(SpoolRow::of(self.row(pool.page(lease), place))));
+                }
                 Ok(Step::More) => {}
             }
         }

@@ -1,7 +1,7 @@
 //! The reply at hand.
 
 ghost use Rattle.std.specs.Prelude.{◌≡◌, ◌<◌, ◌≤◌, ◌+◌, ◌-◌, ◌*◌, ◌++◌, ◌∷◌, [], ℕ, Bool, true, false, List, length, drop, IfOk, OnOk, OnErr};
-ghost use Rattle.ghost_model.specs.core.Causes.{HasCause};
+ghost use Rattle.ghost_model.specs.core.Causes.{HasCause, Rose};
 ghost use Rattle.ghost_model.specs.core.NextMove.{are_cells};
 ghost use Rattle.ghost_model.specs.forms.Runs.{number_in};
 ghost use Rattle.edge_traits.specs.Devices.{Device, ChangesOnly};
@@ -75,10 +75,12 @@ impl Hand {
         ensures text { self.new.text ≡ self.old.text }
         ensures others { ChangesOnly self.old.reply.run.first (area_end self.old.reply) (F.state flash.old) (F.state flash.new) }
         ensures completes { OnOk result ((F.state flash.new).calls ≤ (F.state flash.old).calls + 2 * (self.new.writer.filler.pages - self.old.writer.filler.pages)) }
+        ensures grows { self.old.writer.filler.pages ≤ self.new.writer.filler.pages }
         ensures at_most { (F.state flash.new).calls ≤ (F.state flash.old).calls + 2 }
         ensures deep_reads { (F.state flash.new).deep_reads ≡ (F.state flash.old).deep_reads }
         ensures cause { HasCause (F.state flash.old).faults (F.state flash.new).faults result }
         ensures since_fault { OnErr result ((F.state flash.new).since_fault ≡ 0) }
+        ensures called { OnErr result (Rose (F.state flash.old).calls (F.state flash.new).calls) }
         ensures buffer { ChangesPage pool.old pool.new self.old.writer.lease }
         ensures out { IsOut pool.new self.new.writer.lease }
     {
@@ -112,6 +114,7 @@ impl Hand {
         ensures deep_reads { (F.state flash.new).deep_reads ≡ (F.state flash.old).deep_reads }
         ensures cause { HasCause (F.state flash.old).faults (F.state flash.new).faults result }
         ensures since_fault { OnErr result ((F.state flash.new).since_fault ≡ 0) }
+        ensures called { OnErr result (Rose (F.state flash.old).calls (F.state flash.new).calls) }
         ensures buffers { pool.new ≡ pool.old }
     {
         match self.writer.finish(flash, pool) {

@@ -36,14 +36,14 @@ impl Reply {
         &self.kinds[..self.cells]
     }
 
-    /// The bytes of the row at a place, which stands in the page that has these bytes.
-    pub(crate) fn row_at<'a>(&self, bytes: &'a [u8; 2048], place: u32) -> &'a [u8]
+    /// The bytes of the row at a place, in the bytes of the page in which it stands.
+    pub fn row<'p>(&self, page: &'p [u8; 2048], place: u32) -> &'p [u8]
         requires wide { 4 ≤ self.now.run.width }
         requires narrow { self.now.run.width ≤ 1540 }
-        ensures row { result.now ≡ row_at self.now bytes.now place }
+        ensures row { result.now ≡ row_at self.now page.now place }
         ensures width { length result.now ≡ self.now.run.width }
     {
-        cell_of(bytes, self.run.width, place % per_page(self.run.width))
+        cell_of(page, self.run.width, place % per_page(self.run.width))
     }
 
     /// Its identifier.
@@ -52,7 +52,7 @@ impl Reply {
         requires narrow { self.now.run.width ≤ 1540 }
         ensures id { result ≡ id_at self.now bytes.now place }
     {
-        number_at(self.row_at(bytes, place), 0)
+        number_at(self.row(bytes, place), 0)
     }
 
     /// Whether an identifier may stand at a place, with those that stand before it and behind it.
@@ -112,7 +112,7 @@ impl Reply {
         match self.among(bytes, first, last, id) {
             None => Verdict::Nowhere,
             Some(place) => {
-                if self.may_stand(place, self.row_at(bytes, place)) {
+                if self.may_stand(place, self.row(bytes, place)) {
                     Verdict::At(place)
                 } else {
                     Verdict::Wrong(place)

@@ -4,15 +4,14 @@ ghost use Rattle.std.specs.Prelude.{◌≡◌, ◌<◌, ◌≤◌, ◌+◌, ◌-
 ghost use Rattle.ghost_model.specs.forms.Runs as runs;
 ghost use Rattle.ghost_base.specs.Runs.{run_of};
 ghost use Rattle.edge_traits.specs.Devices.{Device, GaveSince, next_if};
-ghost use Rattle.page_pool.specs.Pools.{IsOut, page_at};
+ghost use Rattle.page_pool.specs.Pools.{IsOut, bytes_at, page_at};
 ghost use Rattle.flash_pages.specs.Reads.{Reads, ReadsPages, CanRead, IsFilled, WasGiven, must_read, page_after};
 ghost use Rattle.flash_pages.specs.declared.fault.PageFault.TheVariants.{Damaged};
 ghost use Rattle.visible_spool.specs.Replies.{IsReadable, IsSound, HoldsRows, Blames, IsFlash};
-ghost use Rattle.visible_spool.specs.Searches.{IsSearch, IsSought, IsSoughtAmong, IsFewer, CallsLeft, LooksLeft, StepFinds, StepStands, TurnFinds, TurnStands, TurnNarrows, TurnLeaves, IsElsewhere, IsInHeld, IsSlot, is_more, left_in, pages_in, row_at, step_calls, calls_if, width_left};
+ghost use Rattle.visible_spool.specs.Searches.{IsSearch, IsSought, IsSoughtAmong, IsFewer, CallsLeft, LooksLeft, StepFinds, StepStands, TurnFinds, TurnStands, TurnNarrows, TurnLeaves, TurnLies, StepLies, HoldsOwn, BlamedHere, IsElsewhere, IsInHeld, IsSlot, is_more, left_in, pages_in, row_at, step_calls, calls_if, width_left};
 
 use crate::judging::Verdict;
 use crate::reply::Reply;
-use crate::row::SpoolRow;
 use edge_traits::flash::Flash;
 use flash_layout::pages;
 use flash_pages::cells::found_of;
@@ -58,19 +57,19 @@ pub enum Search {
 }
 
 /// What a step of a look-up gives.
-#[derive(Drop)]
+#[derive(Clone, Copy)]
 pub enum Step {
     /// A page was read, and the look-up goes on.
     More,
-    /// The row, if there is one.
-    Found(Option<SpoolRow>),
+    /// The place of the row in the reply, if there is one. Its page is in the buffer: `Reply::row`.
+    Found(Option<u32>),
 }
 
 /// What a look at a page gives.
-#[derive(Drop)]
+#[derive(Clone, Copy)]
 pub(crate) enum Turn {
-    /// The row, if there is one.
-    Over(Option<SpoolRow>),
+    /// The place of the row, if there is one.
+    Over(Option<u32>),
     /// Other pages are left.
     Narrowed(Looking),
 }
@@ -160,7 +159,7 @@ impl Reply {
         PageFault::Damaged {
             page: self.run.first + place / each,
             slot: place % each,
-            found: found_of(self.row_at(bytes, place)),
+            found: found_of(self.row(bytes, place)),
         }
     }
 
@@ -177,11 +176,13 @@ impl Reply {
         requires high { page < looking.high }
         requires within { looking.high ≤ pages_in self.now }
         requires small { self.now.run.first + page < 2 ^ 32 }
-        ensures finds { (pages : ℕ → List ℕ) (rows : List (List ℕ)) → HoldsRows pages self.now rows → bytes.now ≡ pages (self.now.run.first + page) → IsSoughtAmong self.now rows id looking → IfOk result (TurnFinds self.now rows id) }
+        ensures finds { (pages : ℕ → List ℕ) (rows : List (List ℕ)) → HoldsRows pages self.now rows → bytes.now ≡ pages (self.now.run.first + page) → IsSoughtAmong self.now rows id looking → IfOk result (TurnFinds self.now rows id bytes.now) }
         ensures whole { (pages : ℕ → List ℕ) (rows : List (List ℕ)) → HoldsRows pages self.now rows → bytes.now ≡ pages (self.now.run.first + page) → IfErr result IsFlash }
-        ensures stands { (since : ℕ) (device : Device) → GaveSince since device bytes.now (self.now.run.first + page) → IfOk result (TurnStands since device self.now id) }
+        ensures stands { (since : ℕ) (device : Device) → GaveSince since device bytes.now (self.now.run.first + page) → IfOk result (TurnStands since device self.now bytes.now) }
         ensures blames { (since : ℕ) (device : Device) → GaveSince since device bytes.now (self.now.run.first + page) → IfErr result (Blames since device self.now) }
         ensures slot { IfErr result IsSlot }
+        ensures lies { IfOk result (TurnLies self.now id (Some (self.now.run.first + page)) bytes.now) }
+        ensures blamed { IfErr result (BlamedHere (Some (self.now.run.first + page))) }
         ensures narrows { IfOk result (TurnNarrows looking page) }
     {
         let each = per_page(self.run.width);
@@ -208,7 +209,7 @@ impl Reply {
                 above: looking.above,
                 guesses: looking.guesses,
             })),
-            Verdict::At(place) => Ok(Turn::Over(Some(SpoolRow::of(self.row_at(bytes, place))))),
+            Verdict::At(place) => Ok(Turn::Over(Some(place))),
             Verdict::Nowhere => Ok(Turn::Over(None)),
             Verdict::Wrong(place) => Err(self.damage(bytes, place)),
         }
@@ -224,11 +225,13 @@ impl Reply {
     ) -> Result<Turn, PageFault>
         requires readable { IsSound self.now }
         requires within { looking.high ≤ pages_in self.now }
-        ensures finds { (pages : ℕ → List ℕ) (rows : List (List ℕ)) → HoldsRows pages self.now rows → bytes.now ≡ pages number → IsSoughtAmong self.now rows id looking → IfOk result (TurnFinds self.now rows id) }
+        ensures finds { (pages : ℕ → List ℕ) (rows : List (List ℕ)) → HoldsRows pages self.now rows → bytes.now ≡ pages number → IsSoughtAmong self.now rows id looking → IfOk result (TurnFinds self.now rows id bytes.now) }
         ensures whole { (pages : ℕ → List ℕ) (rows : List (List ℕ)) → HoldsRows pages self.now rows → bytes.now ≡ pages number → IfErr result IsFlash }
-        ensures stands { (since : ℕ) (device : Device) → GaveSince since device bytes.now number → IfOk result (TurnStands since device self.now id) }
+        ensures stands { (since : ℕ) (device : Device) → GaveSince since device bytes.now number → IfOk result (TurnStands since device self.now bytes.now) }
         ensures blames { (since : ℕ) (device : Device) → GaveSince since device bytes.now number → IfErr result (Blames since device self.now) }
         ensures slot { IfErr result IsSlot }
+        ensures lies { IfOk result (TurnLies self.now id (Some number) bytes.now) }
+        ensures blamed { IfErr result (BlamedHere (Some number)) }
         ensures leaves { IfOk result (TurnLeaves self.now (Some number) looking) }
     {
         if number < self.run.first {
@@ -252,11 +255,13 @@ impl Reply {
         requires readable { IsSound self.now }
         requires within { looking.high ≤ pages_in self.now }
         requires out { IsOut pool.now lease.now }
-        ensures finds { (told : Bool) (pages : ℕ → List ℕ) (rows : List (List ℕ)) → told ≡ true → IsFilled told pages pool.now lease.now → HoldsRows pages self.now rows → IsSoughtAmong self.now rows id looking → IfOk result (TurnFinds self.now rows id) }
+        ensures finds { (told : Bool) (pages : ℕ → List ℕ) (rows : List (List ℕ)) → told ≡ true → IsFilled told pages pool.now lease.now → HoldsRows pages self.now rows → IsSoughtAmong self.now rows id looking → IfOk result (TurnFinds self.now rows id (bytes_at pool.now lease.now)) }
         ensures whole { (told : Bool) (pages : ℕ → List ℕ) (rows : List (List ℕ)) → told ≡ true → IsFilled told pages pool.now lease.now → HoldsRows pages self.now rows → IfErr result IsFlash }
-        ensures stands { (since : ℕ) (device : Device) → WasGiven since device pool.now lease.now → IfOk result (TurnStands since device self.now id) }
+        ensures stands { (since : ℕ) (device : Device) → WasGiven since device pool.now lease.now → IfOk result (TurnStands since device self.now (bytes_at pool.now lease.now)) }
         ensures blames { (since : ℕ) (device : Device) → WasGiven since device pool.now lease.now → IfErr result (Blames since device self.now) }
         ensures slot { IfErr result IsSlot }
+        ensures lies { IfOk result (TurnLies self.now id (page_at pool.now lease.now) (bytes_at pool.now lease.now)) }
+        ensures blamed { IfErr result (BlamedHere (page_at pool.now lease.now)) }
         ensures leaves { IfOk result (TurnLeaves self.now (page_at pool.now lease.now) looking) }
     {
         match pool.filled_from(lease) {
@@ -280,10 +285,12 @@ impl Reply {
         requires high { page < looking.high }
         requires within { looking.high ≤ pages_in self.now }
         requires ready { CanRead F.told (F.state flash.old) pool.old lease.now }
-        ensures finds { F.told ≡ true → (rows : List (List ℕ)) → HoldsRows (F.state flash.old).page self.now rows → IsSoughtAmong self.now rows id looking → IfOk result (TurnFinds self.now rows id) }
+        ensures finds { F.told ≡ true → (rows : List (List ℕ)) → HoldsRows (F.state flash.old).page self.now rows → IsSoughtAmong self.now rows id looking → IfOk result (TurnFinds self.now rows id (bytes_at pool.new lease.now)) }
         ensures whole { F.told ≡ true → (rows : List (List ℕ)) → HoldsRows (F.state flash.old).page self.now rows → IfErr result IsFlash }
-        ensures stands { (since : ℕ) → since ≤ (F.state flash.old).calls → WasGiven since (F.state flash.old) pool.old lease.now → IfOk result (TurnStands since (F.state flash.new) self.now id) }
+        ensures stands { (since : ℕ) → since ≤ (F.state flash.old).calls → WasGiven since (F.state flash.old) pool.old lease.now → IfOk result (TurnStands since (F.state flash.new) self.now (bytes_at pool.new lease.now)) }
         ensures blames { (since : ℕ) → since ≤ (F.state flash.old).calls → WasGiven since (F.state flash.old) pool.old lease.now → IfErr result (Blames since (F.state flash.new) self.now) }
+        ensures lies { IfOk result (TurnLies self.now id (page_at pool.new lease.now) (bytes_at pool.new lease.now)) }
+        ensures blamed { IfErr result (BlamedHere (page_at pool.new lease.now)) }
         ensures narrows { IfOk result (TurnNarrows looking page) }
         ensures readable { IsReadable (F.state flash.new) self.now }
         ensures holds { page_at pool.new lease.now ≡ page_after result (self.now.run.first + page) }
@@ -313,10 +320,13 @@ impl Reply {
         ensures search { IsSearch self.now search.new }
         ensures sought { F.told ≡ true → (rows : List (List ℕ)) → HoldsRows (F.state flash.old).page self.now rows → IsSoughtAmong self.now rows id looking → IsSought self.now rows id search.old → IsSought self.now rows id search.new }
         ensures failed { OnErr result (search.new ≡ search.old) }
-        ensures finds { F.told ≡ true → (rows : List (List ℕ)) → HoldsRows (F.state flash.old).page self.now rows → IsSoughtAmong self.now rows id looking → IfOk result (StepFinds rows id) }
+        ensures finds { F.told ≡ true → (rows : List (List ℕ)) → HoldsRows (F.state flash.old).page self.now rows → IsSoughtAmong self.now rows id looking → IfOk result (StepFinds self.now rows id (bytes_at pool.new lease.now)) }
         ensures whole { F.told ≡ true → (rows : List (List ℕ)) → HoldsRows (F.state flash.old).page self.now rows → IfErr result IsFlash }
-        ensures stands { (since : ℕ) → since ≤ (F.state flash.old).calls → WasGiven since (F.state flash.old) pool.old lease.now → IfOk result (StepStands since (F.state flash.new) self.now id) }
+        ensures stands { (since : ℕ) → since ≤ (F.state flash.old).calls → WasGiven since (F.state flash.old) pool.old lease.now → IfOk result (StepStands since (F.state flash.new) self.now (bytes_at pool.new lease.now)) }
         ensures blames { (since : ℕ) → since ≤ (F.state flash.old).calls → WasGiven since (F.state flash.old) pool.old lease.now → IfErr result (Blames since (F.state flash.new) self.now) }
+        ensures lies { IfOk result (StepLies self.now id (page_at pool.new lease.now) (bytes_at pool.new lease.now)) }
+        ensures page { HoldsOwn self.now (page_at pool.old lease.now) (page_at pool.new lease.now) }
+        ensures blamed { IfErr result (BlamedHere (page_at pool.new lease.now)) }
         ensures shorter { IfOk result (λ step. is_more step ≡ true → left_in self.now search.new < width_left looking) }
         ensures fewer { (k left : ℕ) → LooksLeft looking left → IfOk result (λ step. is_more step ≡ true → IsFewer k search.new left) }
         ensures some { (left : ℕ) → LooksLeft looking left → step_calls (page_at pool.old lease.now) (page_at pool.new lease.now) result ≡ true → 1 ≤ left }
@@ -363,14 +373,17 @@ impl Reply {
         requires ready { CanRead F.told (F.state flash.old) pool.old lease.now }
         ensures search { IsSearch self.now search.new }
         ensures sought { F.told ≡ true → (rows : List (List ℕ)) → HoldsRows (F.state flash.old).page self.now rows → IsSought self.now rows id search.old → IsSought self.now rows id search.new }
-        ensures finds { F.told ≡ true → (rows : List (List ℕ)) → HoldsRows (F.state flash.old).page self.now rows → IsSought self.now rows id search.old → IfOk result (StepFinds rows id) }
+        ensures finds { F.told ≡ true → (rows : List (List ℕ)) → HoldsRows (F.state flash.old).page self.now rows → IsSought self.now rows id search.old → IfOk result (StepFinds self.now rows id (bytes_at pool.new lease.now)) }
         ensures whole { F.told ≡ true → (rows : List (List ℕ)) → HoldsRows (F.state flash.old).page self.now rows → IfErr result IsFlash }
-        ensures stands { (since : ℕ) → since ≤ (F.state flash.old).calls → WasGiven since (F.state flash.old) pool.old lease.now → IfOk result (StepStands since (F.state flash.new) self.now id) }
+        ensures stands { (since : ℕ) → since ≤ (F.state flash.old).calls → WasGiven since (F.state flash.old) pool.old lease.now → IfOk result (StepStands since (F.state flash.new) self.now (bytes_at pool.new lease.now)) }
         ensures blames { (since : ℕ) → since ≤ (F.state flash.old).calls → WasGiven since (F.state flash.old) pool.old lease.now → IfErr result (Blames since (F.state flash.new) self.now) }
         ensures decided { F.told ≡ true → (rows : List (List ℕ)) → HoldsRows (F.state flash.old).page self.now rows → IsSought self.now rows id search.old → IsInHeld self.now rows (page_at pool.old lease.now) id → IfOk result (λ step. is_more step ≡ false) }
         ensures at_hand { F.told ≡ true → (rows : List (List ℕ)) → HoldsRows (F.state flash.old).page self.now rows → IsSought self.now rows id search.old → IsInHeld self.now rows (page_at pool.old lease.now) id → F.state flash.new ≡ F.state flash.old }
         ensures failed { OnErr result (search.new ≡ search.old) }
         ensures shorter { IfOk result (λ step. is_more step ≡ true → left_in self.now search.new < left_in self.now search.old) }
+        ensures lies { IfOk result (StepLies self.now id (page_at pool.new lease.now) (bytes_at pool.new lease.now)) }
+        ensures page { HoldsOwn self.now (page_at pool.old lease.now) (page_at pool.new lease.now) }
+        ensures blamed { IfErr result (BlamedHere (page_at pool.new lease.now)) }
         ensures fewer { (k left : ℕ) → self.now.run.count < 2 ^ k → CallsLeft k search.old left → IfOk result (λ step. is_more step ≡ true → IsFewer k search.new left) }
         ensures some { (k left : ℕ) → self.now.run.count < 2 ^ k → CallsLeft k search.old left → step_calls (page_at pool.old lease.now) (page_at pool.new lease.now) result ≡ true → 1 ≤ left }
         ensures more { IfOk result (λ step. is_more step ≡ true → step_calls (page_at pool.old lease.now) (page_at pool.new lease.now) result ≡ true) }

@@ -14,7 +14,7 @@ ghost use Rattle.visible_spool.specs.Replies.{Finds, HoldsRows, IsReadable, WasF
 ghost use Rattle.visible_spool.specs.Searches.{IsInHeld};
 ghost use Rattle.visible_spool.specs.Halves.{reply_of};
 ghost use Rattle.visible_spool.specs.Areas.{AreAreasOf, AreAreas, first_of, end_of};
-ghost use Rattle.visible_spool.specs.Sides.{Changes, is_marked, replies_of};
+ghost use Rattle.visible_spool.specs.Sides.{Changes, is_marked, replies_of, side_of};
 ghost use Rattle.visible_spool.specs.Laws.{LiesWithin};
 ghost use Rattle.flash_pages.specs.Writers.{waits};
 ghost use Rattle.visible_spool.specs.Hands.{HasRows, IsReplyOf, area_end};
@@ -189,6 +189,7 @@ impl Spool {
         ensures reply { self.new.hand.reply ≡ self.old.hand.reply }
         ensures last { self.new.hand.last ≤ number_in row.now 0 }
         ensures completes { OnOk result ((F.state flash.new).calls ≤ (F.state flash.old).calls + 2 * (self.new.hand.writer.filler.pages - self.old.hand.writer.filler.pages)) }
+        ensures grows { self.old.hand.writer.filler.pages ≤ self.new.hand.writer.filler.pages }
         ensures dropped { is_marked self.old.sides self.old.hand.text ≡ true → F.state flash.new ≡ F.state flash.old }
         ensures spooling { IsSpooling (F.state flash.new) pool.new self.new }
         ensures writes { SpoolWrites (F.state flash.old) (F.state flash.new) self.old.hand.reply.run.first (area_end self.old.hand.reply) result }
@@ -234,6 +235,7 @@ impl Spool {
         ensures width { self.new.hand.reply.run.width ≡ length row.now }
         ensures last { last_of self.new text table ≤ number_in row.now 0 }
         ensures completes { OnOk result ((F.state flash.new).calls ≤ (F.state flash.old).calls + 2 * (self.new.hand.writer.filler.pages - pages_written self.old text table)) }
+        ensures grows { pages_written self.old text table ≤ pages_written self.new text table }
         ensures dropped { is_marked self.old.sides text ≡ true → F.state flash.new ≡ F.state flash.old }
         ensures spooling { IsSpooling (F.state flash.new) pool.new self.new }
         ensures writes { SpoolWrites (F.state flash.old) (F.state flash.new) (first_of (area_at self.old table) text) (end_of (area_at self.old table) text) result }
@@ -255,6 +257,10 @@ impl Spool {
         ensures ended { is_marked self.new.sides self.old.hand.text ≡ false → IsReplyOf self.old.hand (reply_of (replies_of self.new.sides self.old.hand.text) self.old.hand.table) }
         ensures lies { is_marked self.new.sides self.old.hand.text ≡ false → LiesWithin self.old.hand.reply.run.first (area_end self.old.hand.reply) (reply_of (replies_of self.new.sides self.old.hand.text) self.old.hand.table) }
         ensures others { (table : ℕ) → (table ≡ self.old.hand.table → ⊥) → reply_of (replies_of self.new.sides self.old.hand.text) table ≡ reply_of (replies_of self.old.sides self.old.hand.text) table }
+        ensures unended { is_marked self.new.sides self.old.hand.text ≡ true → replies_of self.new.sides self.old.hand.text ≡ replies_of self.old.sides self.old.hand.text }
+        ensures hand_text { (self.new.hand.text ≡ 0 → ⊥) → self.new.hand.text ≡ self.old.hand.text }
+        ensures hand_table { self.new.hand.table ≡ self.old.hand.table }
+        ensures side_text { (side_of self.new.sides self.old.hand.text).text ≡ (side_of self.old.sides self.old.hand.text).text }
         ensures stays { OnOk result (is_marked self.new.sides self.old.hand.text ≡ is_marked self.old.sides self.old.hand.text) }
         ensures marked { OnErr result (is_marked self.new.sides self.old.hand.text ≡ true) }
         ensures changes { Changes self.old.hand.text self.old.sides self.new.sides }
@@ -297,6 +303,10 @@ impl Spool {
         ensures dropped { is_marked self.old.sides text ≡ true → F.state flash.new ≡ F.state flash.old }
         ensures ended { is_at self.old text table ≡ true → is_marked self.new.sides text ≡ false → IsReplyOf self.old.hand (reply_of (replies_of self.new.sides text) table) }
         ensures lies { is_at self.old text table ≡ true → is_marked self.new.sides text ≡ false → LiesWithin (first_of (area_at self.old table) text) (end_of (area_at self.old table) text) (reply_of (replies_of self.new.sides text) table) }
+        ensures unended { is_marked self.new.sides text ≡ true → replies_of self.new.sides text ≡ replies_of self.old.sides text }
+        ensures hand_text { (self.new.hand.text ≡ 0 → ⊥) → self.new.hand.text ≡ self.old.hand.text }
+        ensures hand_table { self.new.hand.table ≡ self.old.hand.table }
+        ensures side_text { (side_of self.new.sides text).text ≡ (side_of self.old.sides text).text }
         ensures none { is_at self.old text table ≡ false → self.new ≡ self.old }
         ensures others { (other : ℕ) → (other ≡ table → ⊥) → reply_of (replies_of self.new.sides text) other ≡ reply_of (replies_of self.old.sides text) other }
         ensures stays { OnOk result (is_marked self.new.sides text ≡ is_marked self.old.sides text) }

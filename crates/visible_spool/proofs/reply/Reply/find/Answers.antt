@@ -1,10 +1,12 @@
-use Rattle.std.proofs.Common.{◌≡◌, ◌∙◌, ◌+◌, true, subst, sym, ap, ℕ, List, Option, Ok, arith}
+use Rattle.std.proofs.Common.{◌≡◌, ◌∙◌, ◌+◌, true, subst, sym, ap, ℕ, List, Option, None, Some, Ok, arith}
+use Rattle.ghost_base.specs.Runs.{run_of}
+use Rattle.flash_pages.specs.Reads.{WasRead}
 use Rattle.ghost_model.specs.core.Asks.{RowCells}
-use Rattle.page_pool.specs.Pools.{page_at}
+use Rattle.page_pool.specs.Pools.{bytes_at, page_at}
 use Rattle.visible_spool.specs.declared.search.Step.{Step}
 use Rattle.visible_spool.specs.Replies.{HoldsRows}
-use Rattle.visible_spool.specs.Searches.{IsInHeld, IsFewer, StepFinds, StepStands, is_more, calls_if, step_calls}
-use Rattle.visible_spool.proofs.Finding.{HasFound, call_left, one_call}
+use Rattle.visible_spool.specs.Searches.{IsAt, IsInHeld, IsFewer, IsPlace, LiesHere, PlaceLies, PlaceStands, StepFinds, StepLies, StepStands, is_more, calls_if, row_at, step_calls}
+use Rattle.visible_spool.proofs.Finding.{HasFound, call_left, one_call, row_of_place, place_stands}
 use Rattle.visible_spool.proofs.Frames.{then_pages, calm, answered, faulted, failed, quiet}
 use Rattle.visible_spool.proofs.reply.Reply.find.Goals as goal
 
@@ -34,32 +36,6 @@ returns-in-Err-clause-read g c = λ k fewer.
     then_pages told before here after c.args.pool.now c.steps.pool c.step.new.pool c.args.lease.now has.made (calls_if calls) (k + 3) (failed (Option RowCells) c.in-Err.fault)
     (omega (arith, enough, few)) has.reads
     (faulted Step (Option RowCells) told here after c.steps.pool c.step.new.pool c.args.lease.now (calls_if calls) c.in-Err.fault c.in-Err.ensures.read)
-
-pub returns-in-Ok-Found-clause-finds : goal.returns-in-Ok-Found-clause-finds
-returns-in-Ok-Found-clause-finds g c = λ told rows holds.
-    let same = c.steps.invariant.frame.reads.kept.page in
-    subst (StepFinds rows c.args.id) c.in-Ok-Found.field-0-is
-    (c.in-Ok-Found.ensures.finds told rows (subst (λ (p : ℕ → List ℕ). HoldsRows p c.args.self.now rows) (sym same) holds) (c.steps.invariant.sought told rows holds))
-
-pub returns-in-Ok-Found-clause-found : goal.returns-in-Ok-Found-clause-found
-returns-in-Ok-Found-clause-found g c = λ since low was.
-    let rises = c.steps.invariant.frame.reads.kept.never_falls in
-    subst (StepStands since (g.F.Flash.state c.step.new.flash) c.args.self.now c.args.id) c.in-Ok-Found.field-0-is
-    (c.in-Ok-Found.ensures.stands since (omega (arith, low, rises)) (c.steps.invariant.frame.reads.given since low was))
-
-pub returns-in-Ok-Found-clause-read : goal.returns-in-Ok-Found-clause-read
-returns-in-Ok-Found-clause-read g c = λ k fewer.
-    let told = g.F.Flash.told in
-    let before = g.F.Flash.state c.args.flash.now in
-    let here = g.F.Flash.state c.steps.flash in
-    let after = g.F.Flash.state c.step.new.flash in
-    let has : HasFound told before here c.args.pool.now c.steps.pool c.args.lease.now k c.steps.search = c.steps.invariant.reads k fewer in
-    let enough = has.enough in
-    let calls = step_calls (page_at c.steps.pool c.args.lease.now) (page_at c.step.new.pool c.args.lease.now) (Ok c.in-Ok-Found.field-0) in
-    let few = call_left calls has.rest (c.in-Ok-Found.ensures.some k has.rest fewer has.calls_left) in
-    answered told before after c.args.pool.now c.step.new.pool c.args.lease.now (k + 3) c.in-Ok-Found.found
-    (then_pages told before here after c.args.pool.now c.steps.pool c.step.new.pool c.args.lease.now has.made (calls_if calls) (k + 3) quiet (omega (arith, enough, few)) has.reads
-    (calm told here after c.steps.pool c.step.new.pool c.args.lease.now (calls_if calls) c.in-Ok-Found.field-0 c.in-Ok-Found.ensures.read))
 
 pub steps-preserved : goal.steps-preserved
 steps-preserved g c =
@@ -110,11 +86,82 @@ returns-in-Err-clause-at_hand g c = λ told rows holds held.
     (subst (λ (o : Option ℕ). IsInHeld c.args.self.now rows o c.args.id) (sym so_far.1) held)
     ∙ so_far.0
 
-pub returns-in-Ok-Found-clause-at_hand : goal.returns-in-Ok-Found-clause-at_hand
-returns-in-Ok-Found-clause-at_hand g c = λ told rows holds held.
+pub returns-in-Ok-Found-None-clause-finds : goal.returns-in-Ok-Found-None-clause-finds
+returns-in-Ok-Found-None-clause-finds g c = λ told rows holds.
+    let same = c.steps.invariant.frame.reads.kept.page in
+    subst (IsPlace c.args.self.now rows c.args.id (bytes_at c.step.new.pool c.args.lease.now)) c.in-Ok-Found-None.field-0-0-is
+    (subst (StepFinds c.args.self.now rows c.args.id (bytes_at c.step.new.pool c.args.lease.now)) c.in-Ok-Found-None.field-0-is
+    (c.in-Ok-Found-None.ensures.finds told rows (subst (λ (p : ℕ → List ℕ). HoldsRows p c.args.self.now rows) (sym same) holds) (c.steps.invariant.sought told rows holds)))
+
+pub returns-in-Ok-Found-None-clause-read : goal.returns-in-Ok-Found-None-clause-read
+returns-in-Ok-Found-None-clause-read g c = λ k fewer.
+    let told = g.F.Flash.told in
+    let before = g.F.Flash.state c.args.flash.now in
+    let here = g.F.Flash.state c.steps.flash in
+    let after = g.F.Flash.state c.step.new.flash in
+    let has : HasFound told before here c.args.pool.now c.steps.pool c.args.lease.now k c.steps.search = c.steps.invariant.reads k fewer in
+    let enough = has.enough in
+    let calls = step_calls (page_at c.steps.pool c.args.lease.now) (page_at c.step.new.pool c.args.lease.now) (Ok c.in-Ok-Found-None.field-0) in
+    let few = call_left calls has.rest (c.in-Ok-Found-None.ensures.some k has.rest fewer has.calls_left) in
+    let given : Option RowCells = None in
+    answered told before after c.args.pool.now c.step.new.pool c.args.lease.now (k + 3) given
+    (then_pages told before here after c.args.pool.now c.steps.pool c.step.new.pool c.args.lease.now has.made (calls_if calls) (k + 3) quiet (omega (arith, enough, few)) has.reads
+    (calm told here after c.steps.pool c.step.new.pool c.args.lease.now (calls_if calls) c.in-Ok-Found-None.field-0 c.in-Ok-Found-None.ensures.read))
+
+pub returns-in-Ok-Found-None-clause-at_hand : goal.returns-in-Ok-Found-None-clause-at_hand
+returns-in-Ok-Found-None-clause-at_hand g c = λ told rows holds held.
     let was = c.steps.invariant in
     let same = was.frame.reads.kept.page in
     let so_far = was.at_hand told rows holds held in
-    c.in-Ok-Found.ensures.at_hand told rows (subst (λ (p : ℕ → List ℕ). HoldsRows p c.args.self.now rows) (sym same) holds) (was.sought told rows holds)
+    c.in-Ok-Found-None.ensures.at_hand told rows (subst (λ (p : ℕ → List ℕ). HoldsRows p c.args.self.now rows) (sym same) holds) (was.sought told rows holds)
+    (subst (λ (o : Option ℕ). IsInHeld c.args.self.now rows o c.args.id) (sym so_far.1) held)
+    ∙ so_far.0
+
+pub returns-in-Ok-Found-Some-clause-finds : goal.returns-in-Ok-Found-Some-clause-finds
+returns-in-Ok-Found-Some-clause-finds g c = λ told rows holds.
+    let same = c.steps.invariant.frame.reads.kept.page in
+    let at : IsAt c.args.self.now rows c.args.id (bytes_at c.step.new.pool c.args.lease.now) c.in-Ok-Found-Some.place =
+    subst (IsPlace c.args.self.now rows c.args.id (bytes_at c.step.new.pool c.args.lease.now)) c.in-Ok-Found-Some.field-0-0-is
+    (subst (StepFinds c.args.self.now rows c.args.id (bytes_at c.step.new.pool c.args.lease.now)) c.in-Ok-Found-Some.field-0-is
+    (c.in-Ok-Found-Some.ensures.finds told rows (subst (λ (p : ℕ → List ℕ). HoldsRows p c.args.self.now rows) (sym same) holds) (c.steps.invariant.sought told rows holds))) in
+    row_of_place c.args.self.now rows c.args.id (bytes_at c.step.new.pool c.args.lease.now) c.page.result.now c.row.result.now c.in-Ok-Found-Some.place c.of.result at c.of.ensures.row
+    c.row.ensures.row c.in-Ok-Found-Some.place-is c.page.ensures.bytes
+
+pub returns-in-Ok-Found-Some-clause-found : goal.returns-in-Ok-Found-Some-clause-found
+returns-in-Ok-Found-Some-clause-found g c = λ since low was.
+    let rises = c.steps.invariant.frame.reads.kept.never_falls in
+    let after = g.F.Flash.state c.step.new.flash in
+    let held = page_at c.step.new.pool c.args.lease.now in
+    let lies : LiesHere c.args.self.now c.args.id held (bytes_at c.step.new.pool c.args.lease.now) c.in-Ok-Found-Some.place =
+    subst (PlaceLies c.args.self.now c.args.id held (bytes_at c.step.new.pool c.args.lease.now)) c.in-Ok-Found-Some.field-0-0-is
+    (subst (StepLies c.args.self.now c.args.id held (bytes_at c.step.new.pool c.args.lease.now)) c.in-Ok-Found-Some.field-0-is c.in-Ok-Found-Some.ensures.lies) in
+    let stands : WasRead since after (run_of c.args.self.now.run) c.in-Ok-Found-Some.place (row_at c.args.self.now (bytes_at c.step.new.pool c.args.lease.now) c.in-Ok-Found-Some.place) =
+    subst (PlaceStands since after c.args.self.now (bytes_at c.step.new.pool c.args.lease.now)) c.in-Ok-Found-Some.field-0-0-is
+    (subst (StepStands since after c.args.self.now (bytes_at c.step.new.pool c.args.lease.now)) c.in-Ok-Found-Some.field-0-is
+    (c.in-Ok-Found-Some.ensures.stands since (omega (arith, low, rises)) (c.steps.invariant.frame.reads.given since low was))) in
+    place_stands since after c.args.self.now c.args.id held (bytes_at c.step.new.pool c.args.lease.now) c.page.result.now c.row.result.now c.in-Ok-Found-Some.place c.of.result lies stands c.of.ensures.row
+    c.row.ensures.row c.in-Ok-Found-Some.place-is c.page.ensures.bytes
+
+pub returns-in-Ok-Found-Some-clause-read : goal.returns-in-Ok-Found-Some-clause-read
+returns-in-Ok-Found-Some-clause-read g c = λ k fewer.
+    let told = g.F.Flash.told in
+    let before = g.F.Flash.state c.args.flash.now in
+    let here = g.F.Flash.state c.steps.flash in
+    let after = g.F.Flash.state c.step.new.flash in
+    let has : HasFound told before here c.args.pool.now c.steps.pool c.args.lease.now k c.steps.search = c.steps.invariant.reads k fewer in
+    let enough = has.enough in
+    let calls = step_calls (page_at c.steps.pool c.args.lease.now) (page_at c.step.new.pool c.args.lease.now) (Ok c.in-Ok-Found-Some.field-0) in
+    let few = call_left calls has.rest (c.in-Ok-Found-Some.ensures.some k has.rest fewer has.calls_left) in
+    let given : Option RowCells = (Some c.of.result) in
+    answered told before after c.args.pool.now c.step.new.pool c.args.lease.now (k + 3) given
+    (then_pages told before here after c.args.pool.now c.steps.pool c.step.new.pool c.args.lease.now has.made (calls_if calls) (k + 3) quiet (omega (arith, enough, few)) has.reads
+    (calm told here after c.steps.pool c.step.new.pool c.args.lease.now (calls_if calls) c.in-Ok-Found-Some.field-0 c.in-Ok-Found-Some.ensures.read))
+
+pub returns-in-Ok-Found-Some-clause-at_hand : goal.returns-in-Ok-Found-Some-clause-at_hand
+returns-in-Ok-Found-Some-clause-at_hand g c = λ told rows holds held.
+    let was = c.steps.invariant in
+    let same = was.frame.reads.kept.page in
+    let so_far = was.at_hand told rows holds held in
+    c.in-Ok-Found-Some.ensures.at_hand told rows (subst (λ (p : ℕ → List ℕ). HoldsRows p c.args.self.now rows) (sym same) holds) (was.sought told rows holds)
     (subst (λ (o : Option ℕ). IsInHeld c.args.self.now rows o c.args.id) (sym so_far.1) held)
     ∙ so_far.0

@@ -1,4 +1,6 @@
-use Rattle.std.proofs.Common.{◌∙◌, arith}
+use Rattle.std.proofs.Common.{◌∙◌, subst, ℕ, List, arith}
+use Rattle.std.specs.Prelude.{IfOk}
+use Rattle.visible_spool.specs.Searches.{TurnFinds}
 use Rattle.visible_spool.proofs.Readable.{page_there}
 use Rattle.visible_spool.proofs.reply.Reply.look.Goals as goal
 
@@ -18,7 +20,8 @@ load-requires-clause-in_range g c =
 
 pub returns-in-Ok-clause-finds : goal.returns-in-Ok-clause-finds
 returns-in-Ok-clause-finds g c = λ told rows holds was.
-    c.read_off.ensures.finds (g.F.Flash.state c.args.flash.now).page rows holds (c.page.ensures.bytes ∙ c.in-Ok.ensures.bytes told) was
+    subst (λ (bytes : List ℕ). IfOk c.read_off.result (TurnFinds c.args.self.now rows c.args.id bytes)) c.page.ensures.bytes
+    (c.read_off.ensures.finds (g.F.Flash.state c.args.flash.now).page rows holds (c.page.ensures.bytes ∙ c.in-Ok.ensures.bytes told) was)
 
 pub returns-in-Ok-clause-whole : goal.returns-in-Ok-clause-whole
 returns-in-Ok-clause-whole g c = λ told rows holds.

@@ -1,8 +1,7 @@
-use Rattle.std.proofs.Common.{◌∙◌, ap, sym, subst, refl, ◌+◌, ◌*◌, arith}
-use Rattle.ghost_model.specs.core.Asks.{row_in}
+use Rattle.std.proofs.Common.{ap, sym, subst, refl, ◌+◌, ◌*◌, Some, arith}
 use Rattle.edge_traits.specs.Devices.{GaveSince}
-use Rattle.visible_spool.specs.Replies.{IsRowOf, Blames}
-use Rattle.visible_spool.specs.Searches.{row_at}
+use Rattle.visible_spool.specs.Replies.{Blames}
+use Rattle.visible_spool.specs.Searches.{BlamedHere, row_at}
 use Rattle.visible_spool.proofs.Readable.{IsPage, page_of_rows, its_page}
 use Rattle.visible_spool.proofs.RowsHere.{rows_from, rows_to, nowhere, row_found, not_wrong}
 use Rattle.visible_spool.proofs.reply.Reply.read_off.Goals as goal
@@ -46,12 +45,25 @@ returns-in-At-clause-finds c = λ pages rows holds is was.
     let p : IsPage c.args.self.now c.args.page (c.args.page * c.per_page-each.result) c.min-last.result =
     page_of_rows c.args.self.now c.requires.readable c.args.page c.per_page-each.result c.min-last.result c.per_page-each.ensures.value (omega (arith, high, within)) c.min-last.ensures in
     let told = c.in-At.ensures.verdict in
-    subst (IsRowOf rows c.args.id) (sym (c.of.ensures.row ∙ ap row_in c.row_at.ensures.row))
-    (row_found pages c.args.self.now rows holds c.args.bytes.now c.args.page is (c.args.page * c.per_page-each.result) c.min-last.result p.some p.low p.order p.within p.high p.whole
-    c.args.id c.in-At.place told.0 told.1 told.2)
+    row_found pages c.args.self.now rows holds c.args.bytes.now c.args.page is (c.args.page * c.per_page-each.result) c.min-last.result p.some p.low p.order p.within p.high p.whole
+    c.args.id c.in-At.place told.0 told.1 told.2
 
 pub returns-in-At-clause-stands : goal.returns-in-At-clause-stands
 returns-in-At-clause-stands c = λ since device gave.
+    let high = c.requires.high in
+    let within = c.requires.within in
+    let p : IsPage c.args.self.now c.args.page (c.args.page * c.per_page-each.result) c.min-last.result =
+    page_of_rows c.args.self.now c.requires.readable c.args.page c.per_page-each.result c.min-last.result c.per_page-each.ensures.value (omega (arith, high, within)) c.min-last.ensures in
+    let told = c.in-At.ensures.verdict in
+    let at = its_page c.args.self.now c.args.page (c.args.page * c.per_page-each.result) c.min-last.result c.in-At.place p told.0 told.1 in
+    record {
+      bytes = c.args.bytes.now;
+      gave = subst (λ q. GaveSince since device c.args.bytes.now (c.args.self.now.run.first + q)) (sym at) gave;
+      record_is = refl;
+    }
+
+pub returns-in-At-clause-lies : goal.returns-in-At-clause-lies
+returns-in-At-clause-lies c =
     let high = c.requires.high in
     let within = c.requires.within in
     let p : IsPage c.args.self.now c.args.page (c.args.page * c.per_page-each.result) c.min-last.result =
@@ -61,15 +73,9 @@ returns-in-At-clause-stands c = λ since device gave.
     let end = p.within in
     let at = its_page c.args.self.now c.args.page (c.args.page * c.per_page-each.result) c.min-last.result c.in-At.place p told.0 told.1 in
     record {
-      place = c.in-At.place;
       within = omega (arith, to, end);
-      bytes = row_at c.args.self.now c.args.bytes.now c.in-At.place;
-      read = record {
-        bytes = c.args.bytes.now;
-        gave = subst (λ q. GaveSince since device c.args.bytes.now (c.args.self.now.run.first + q)) (sym at) gave;
-        record_is = refl;
-      };
-      row_is = c.of.ensures.row ∙ ap row_in c.row_at.ensures.row;
+      here = ap (λ q. Some (c.args.self.now.run.first + q)) (sym at);
+      size = c.told-bytes;
       number = told.2;
       may = told.3;
     }
@@ -132,3 +138,13 @@ returns-in-Wrong-clause-blames c = λ since device gave.
       wrong = told.2;
       found_is = refl;
     })
+
+pub returns-in-Wrong-clause-blamed : goal.returns-in-Wrong-clause-blamed
+returns-in-Wrong-clause-blamed c =
+    let high = c.requires.high in
+    let within = c.requires.within in
+    let p : IsPage c.args.self.now c.args.page (c.args.page * c.per_page-each.result) c.min-last.result =
+    page_of_rows c.args.self.now c.requires.readable c.args.page c.per_page-each.result c.min-last.result c.per_page-each.ensures.value (omega (arith, high, within)) c.min-last.ensures in
+    let told = c.in-Wrong.ensures.verdict in
+    let at = its_page c.args.self.now c.args.page (c.args.page * c.per_page-each.result) c.min-last.result c.in-Wrong.place p told.0 told.1 in
+    subst (BlamedHere (Some (c.args.self.now.run.first + c.args.page))) (sym c.damage.ensures.fault) (ap (λ q. Some (c.args.self.now.run.first + q)) (sym at))

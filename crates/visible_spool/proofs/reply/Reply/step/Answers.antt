@@ -1,6 +1,6 @@
 use Rattle.std.proofs.Common.{subst}
 use Rattle.visible_spool.specs.Searches.{TurnFinds, TurnLeaves, LeavesElsewhere}
-use Rattle.page_pool.specs.Pools.{page_at}
+use Rattle.page_pool.specs.Pools.{bytes_at, page_at}
 use Rattle.visible_spool.proofs.HeldPage.{not_elsewhere}
 use Rattle.visible_spool.proofs.Narrowing.{looks_kept}
 use Rattle.visible_spool.proofs.reply.Reply.step.Goals as goal
@@ -8,14 +8,14 @@ use Rattle.visible_spool.proofs.reply.Reply.step.Goals as goal
 pub returns-in-Ok-Over-clause-finds : goal.returns-in-Ok-Over-clause-finds
 returns-in-Ok-Over-clause-finds g c = λ told rows holds was.
     let pages = (g.F.Flash.state c.args.flash.now).page in
-    subst (TurnFinds c.args.self.now rows c.args.id) c.in-Ok-Over.field-0-is
+    subst (TurnFinds c.args.self.now rows c.args.id (bytes_at c.args.pool.now c.args.lease.now)) c.in-Ok-Over.field-0-is
     (c.in-Ok-Over.ensures.finds g.F.Flash.told pages rows told c.requires.ready.filled holds (c.begun-looking.ensures.sought pages rows holds was))
 
 pub returns-in-Ok-Narrowed-clause-sought : goal.returns-in-Ok-Narrowed-clause-sought
 returns-in-Ok-Narrowed-clause-sought g c = λ told rows holds was.
     let pages = (g.F.Flash.state c.args.flash.now).page in
     c.advance.ensures.sought told rows holds
-    (subst (TurnFinds c.args.self.now rows c.args.id) c.in-Ok-Narrowed.field-0-is
+    (subst (TurnFinds c.args.self.now rows c.args.id (bytes_at c.args.pool.now c.args.lease.now)) c.in-Ok-Narrowed.field-0-is
     (c.in-Ok-Narrowed.ensures.finds g.F.Flash.told pages rows told c.requires.ready.filled holds (c.begun-looking.ensures.sought pages rows holds was)))
     was
 
@@ -23,7 +23,7 @@ pub returns-in-Ok-Narrowed-clause-finds : goal.returns-in-Ok-Narrowed-clause-fin
 returns-in-Ok-Narrowed-clause-finds g c = λ told rows holds was.
     let pages = (g.F.Flash.state c.args.flash.now).page in
     c.advance.ensures.finds told rows holds
-    (subst (TurnFinds c.args.self.now rows c.args.id) c.in-Ok-Narrowed.field-0-is
+    (subst (TurnFinds c.args.self.now rows c.args.id (bytes_at c.args.pool.now c.args.lease.now)) c.in-Ok-Narrowed.field-0-is
     (c.in-Ok-Narrowed.ensures.finds g.F.Flash.told pages rows told c.requires.ready.filled holds (c.begun-looking.ensures.sought pages rows holds was)))
 
 pub returns-in-Ok-Narrowed-clause-fewer : goal.returns-in-Ok-Narrowed-clause-fewer
@@ -47,7 +47,7 @@ returns-in-Ok-Narrowed-clause-decided g c = λ told rows holds was is.
     let n : LeavesElsewhere c.args.self.now held c.begun-looking.result c.in-Ok-Narrowed.next =
     subst (TurnLeaves c.args.self.now held c.begun-looking.result) c.in-Ok-Narrowed.field-0-is c.in-Ok-Narrowed.ensures.leaves in
     absurd (not_elsewhere c.args.self.now rows held c.args.id c.in-Ok-Narrowed.next is
-    (subst (TurnFinds c.args.self.now rows c.args.id) c.in-Ok-Narrowed.field-0-is
+    (subst (TurnFinds c.args.self.now rows c.args.id (bytes_at c.args.pool.now c.args.lease.now)) c.in-Ok-Narrowed.field-0-is
     (c.in-Ok-Narrowed.ensures.finds g.F.Flash.told pages rows told c.requires.ready.filled holds (c.begun-looking.ensures.sought pages rows holds was)))
     n.elsewhere)
 
@@ -58,6 +58,6 @@ returns-in-Ok-Narrowed-clause-at_hand g c = λ told rows holds was is.
     let n : LeavesElsewhere c.args.self.now held c.begun-looking.result c.in-Ok-Narrowed.next =
     subst (TurnLeaves c.args.self.now held c.begun-looking.result) c.in-Ok-Narrowed.field-0-is c.in-Ok-Narrowed.ensures.leaves in
     absurd (not_elsewhere c.args.self.now rows held c.args.id c.in-Ok-Narrowed.next is
-    (subst (TurnFinds c.args.self.now rows c.args.id) c.in-Ok-Narrowed.field-0-is
+    (subst (TurnFinds c.args.self.now rows c.args.id (bytes_at c.args.pool.now c.args.lease.now)) c.in-Ok-Narrowed.field-0-is
     (c.in-Ok-Narrowed.ensures.finds g.F.Flash.told pages rows told c.requires.ready.filled holds (c.begun-looking.ensures.sought pages rows holds was)))
     n.elsewhere)
