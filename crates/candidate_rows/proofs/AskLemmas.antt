@@ -1,15 +1,18 @@
 -- A table about which there is a reply is one that is asked for.
-use Rattle.std.proofs.Common.{◌≡◌, ◌∙◌, ℕ, inl, inr, Bool, true, false, not, ◌&&◌, ◌||◌, nat_eq, List, [], ◌∷◌, ◌++◌, map, filter, flat_map, Some, None, if◌then◌else◌, sym, subst, refl, ap, ap₂}
+use Rattle.std.proofs.Common.{◌≡◌, ◌∙◌, ℕ, zero, suc, ◌+◌, ◌<◌, inl, inr, Bool, true, false, not, ◌&&◌, ◌||◌, nat_eq, nat_lt, List, [], ◌∷◌, ◌++◌, length, slice_get, map, filter, flat_map, Option, Some, None, is_some, if◌then◌else◌, sym, subst, refl, ap, ap₂, arith}
 use Rattle.std.specs.List.{list_any}
 use Rattle.std.proofs.lemmas.Bool.{eqb-true}
-use Rattle.ghost_model.specs.core.Schema.{Schema, columns_of, is_visible, is_empty}
-use Rattle.ghost_model.specs.core.Channel.{Ask}
-use Rattle.ghost_model.specs.core.Query.{Query, Field, Condition, Compare, Join}
+use Rattle.std.proofs.lemmas.Bool.Decides.{nat_tests}
+use Rattle.ghost_model.specs.core.Schema.{Schema, Column, columns_of, column_at, is_shown, is_visible, is_empty, places_from}
+use Rattle.ghost_model.specs.core.Channel.{Ask, Test}
+use Rattle.ghost_model.specs.core.Values.{Value}
+use Rattle.ghost_model.specs.core.Query.{Query, Field, Condition, Compare, Join, Operator}
 use Rattle.ghost_model.specs.core.Asks.{ask_for, asks_of, is_needed, is_from, is_wanted, is_field, places, test_of}
 use Rattle.ghost_model.specs.core.Replies.{Reply, reply_about}
-use Rattle.ghost_model.proofs.MeaningLemmas.OneRow.{Among, from_filter, from_map, neither_true}
+use Rattle.ghost_model.proofs.MeaningLemmas.OneRow.{Among, among-filter, from_filter, from_map, in_table, both_true, neither_true}
+use Rattle.ghost_model.proofs.MeaningLemmas.Leading.{place_within}
 use Rattle.candidate_rows.specs.Plans.{is_asked, is_shown_of, is_compared_of}
-use Rattle.candidate_rows.specs.Laws.{WholeRepliesAreOfAsked}
+use Rattle.candidate_rows.specs.Laws.{WholeRepliesAreOfAsked, WholeRepliesAreAll, WholeRepliesAreToAsks}
 
 none_of : {X : Type 0} (p : X → Bool) (xs : List X) → ((x : X) → p x ≡ false) → filter p xs ≡ []
 none_of p [] none = refl
@@ -93,3 +96,198 @@ replies_are schema asked given whole table none = none_about given table (λ rep
     by reply among true e =
         let is = asked_by schema asked reply.ask (subst (λ asks. Among reply.ask asks) whole.asks (mapped given reply among)) in
         absurd (clash (ap (is_asked schema asked) (sym (eqb-true reply.ask.table table e)) ∙ is) none)
+
+-- ---- there is one for each asked table of FROM
+
+place_stands : {X : Type 0} (at place : ℕ) (xs : List X) → place < length xs → Among (at + place) (places_from (λ (x : X). true) at xs)
+unfolding places_from
+place_stands at place [] h = absurd (omega (arith, h))
+place_stands at zero (x ∷ xs) h = inl (let e : at ≡ at + 0 = omega arith in e)
+place_stands at (suc place) (x ∷ xs) h =
+    let e : at + 1 + place ≡ at + suc place = omega arith in
+    inr (subst (λ n. Among n (places_from (λ _. true) (at + 1) xs)) e (place_stands (at + 1) place xs (omega (arith, h))))
+
+stands_first : {X : Type 0} (place : ℕ) (xs : List X) → place < length xs → Among place (places xs)
+stands_first place xs h =
+    let e : 0 + place ≡ place = omega arith in
+    subst (λ n. Among n (places xs)) e (place_stands 0 place xs h)
+
+-- a column that is asked of a table is one of it
+abbrev HasShown : Schema → List Field → (table : ℕ) → Type 0
+HasShown schema select table = (column : ℕ) × (is_visible schema table column ≡ true) × (list_any (is_field table column) select ≡ true)
+
+same_number : (n : ℕ) → nat_eq n n ≡ true
+same_number n = grind (arith, nat_tests)
+
+one_of_both : (b : Bool) → (b || true) ≡ true
+one_of_both true = refl
+one_of_both false = refl
+
+shown_later : (schema : Schema) (field : Field) (select : List Field) (table : ℕ) → HasShown schema select table → HasShown schema (field ∷ select) table
+shown_later schema field select table rest = (rest.0, rest.1, ap (λ b. is_field table rest.0 field || b) rest.2 ∙ one_of_both (is_field table rest.0 field))
+
+shown_by : (schema : Schema) (field : Field) (select : List Field) (table : ℕ) (a b : Bool) → nat_eq field.table table ≡ a → is_visible schema field.table field.column ≡ b
+    → (list_any (is_shown_of schema table) select ≡ true → HasShown schema select table)
+    → ((nat_eq field.table table && is_visible schema field.table field.column) || list_any (is_shown_of schema table) select) ≡ true
+    → HasShown schema (field ∷ select) table
+shown_by schema field select table true true p v rest h = (
+  field.column,
+  ap (λ t. is_visible schema t field.column) (sym (eqb-true field.table table p)) ∙ v,
+  ap (λ b. b || list_any (is_field table field.column) select) (ap₂ (λ c d. c && d) p (same_number field.column)),
+)
+shown_by schema field select table true false p v rest h =
+    shown_later schema field select table (rest (sym (ap₂ (λ c d. (c && d) || list_any (is_shown_of schema table) select) p v) ∙ h))
+shown_by schema field select table false b p v rest h =
+    shown_later schema field select table
+    (rest (sym (ap (λ c. (c && is_visible schema field.table field.column) || list_any (is_shown_of schema table) select) p) ∙ h))
+
+shown_there : (schema : Schema) (select : List Field) (table : ℕ) → list_any (is_shown_of schema table) select ≡ true → HasShown schema select table
+shown_there schema [] table e = absurd (cc (e))
+shown_there schema (field ∷ select) table e =
+    shown_by schema field select table (nat_eq field.table table) (is_visible schema field.table field.column) refl refl (λ h. shown_there schema select table h) e
+
+column_there : (schema : Schema) (table column : ℕ) → is_visible schema table column ≡ true → (declared : Column) × (column_at schema table column ≡ Some declared)
+column_there schema table column e = by (column_at schema table column) refl (both_true (nat_lt 0 column) (is_shown (column_at schema table column)) e).1
+  where
+    by : (found : Option Column) → column_at schema table column ≡ found → is_shown found ≡ true → (declared : Column) × (column_at schema table column ≡ Some declared)
+    by None e h = absurd (cc (h))
+    by (Some declared) e h = (declared, e)
+
+table_there : (schema : Schema) (table column : ℕ) → is_visible schema table column ≡ true → table < length schema
+table_there schema table column e =
+    let declared = column_there schema table column e in
+    let held = in_table (slice_get schema table) column declared.0 declared.1 in
+    place_within schema table held.0 held.1
+
+abbrev HasCompared : Schema → List Condition → (table : ℕ) → Type 0
+HasCompared schema conditions table = (column : ℕ) × (is_visible schema table column ≡ true) × (is_empty (flat_map (test_of schema table) conditions) ≡ false)
+
+some_behind : (xs ys : List Test) → is_empty ys ≡ false → is_empty (xs ++ ys) ≡ false
+some_behind [] ys h = h
+some_behind (x ∷ xs) ys h = refl
+
+compared_later : (schema : Schema) (condition : Condition) (conditions : List Condition) (table : ℕ) → HasCompared schema conditions table → HasCompared schema (condition ∷ conditions) table
+compared_later schema condition conditions table rest =
+    (rest.0, rest.1, some_behind (test_of schema table condition) (flat_map (test_of schema table) conditions) rest.2)
+
+compared_by : (schema : Schema) (field : Field) (operator : Operator) (value : Value) (conditions : List Condition) (table : ℕ) (a b : Bool)
+    → nat_eq field.table table ≡ a → is_visible schema field.table field.column ≡ b
+    → (list_any (is_compared_of schema table) conditions ≡ true → HasCompared schema conditions table)
+    → ((nat_eq field.table table && is_visible schema field.table field.column) || list_any (is_compared_of schema table) conditions) ≡ true
+    → HasCompared schema (Compare field operator value ∷ conditions) table
+compared_by schema field operator value conditions table true true p v rest h =
+    let visible = ap (λ t. is_visible schema t field.column) (sym (eqb-true field.table table p)) ∙ v in (
+      field.column,
+      visible,
+      ap (λ b. is_empty ((if b then record { column = field.column; operator = operator; value = value } ∷ [] else []) ++ flat_map (test_of schema table) conditions)) (ap₂ (λ c d. c && d) p visible),
+    )
+compared_by schema field operator value conditions table true false p v rest h =
+    compared_later schema (Compare field operator value) conditions table
+    (rest (sym (ap₂ (λ c d. (c && d) || list_any (is_compared_of schema table) conditions) p v) ∙ h))
+compared_by schema field operator value conditions table false b p v rest h =
+    compared_later schema (Compare field operator value) conditions table
+    (rest (sym (ap (λ c. (c && is_visible schema field.table field.column) || list_any (is_compared_of schema table) conditions) p) ∙ h))
+
+compared_there : (schema : Schema) (conditions : List Condition) (table : ℕ) → list_any (is_compared_of schema table) conditions ≡ true → HasCompared schema conditions table
+compared_there schema [] table e = absurd (cc (e))
+compared_there schema (Join one other ∷ conditions) table e =
+    compared_later schema (Join one other) conditions table (compared_there schema conditions table e)
+compared_there schema (Compare field operator value ∷ conditions) table e =
+    compared_by schema field operator value conditions table (nat_eq field.table table) (is_visible schema field.table field.column) refl refl
+    (λ h. compared_there schema conditions table h) e
+
+record IsNeeded (schema : Schema) (asked : Query) (table : ℕ) : Type 0 where
+  there : table < length schema
+  needed : is_needed (ask_for schema asked table) ≡ true
+
+some_column : (column : ℕ) (columns : List ℕ) (b : Bool) → Among column columns → not (is_empty columns && b) ≡ true
+some_column column [] b h = absurd h
+some_column column (x ∷ xs) b h = refl
+
+some_test : (b c : Bool) → c ≡ false → not (b && c) ≡ true
+some_test true c e = ap not e
+some_test false c e = refl
+
+asked_needed : (schema : Schema) (asked : Query) (table : ℕ) → is_asked schema asked table ≡ true → IsNeeded schema asked table
+asked_needed schema asked table e = by (list_any (is_shown_of schema table) asked.select) refl e
+  where
+    by : (b : Bool) → list_any (is_shown_of schema table) asked.select ≡ b → (b || list_any (is_compared_of schema table) asked.conditions) ≡ true → IsNeeded schema asked table
+    by true s h =
+        let found = shown_there schema asked.select table s in
+        let declared = column_there schema table found.0 found.1 in
+        record {
+          there = table_there schema table found.0 found.1;
+          needed =
+              some_column found.0 (ask_for schema asked table).columns (is_empty (ask_for schema asked table).tests)
+              (among-filter (is_wanted schema asked.select table) found.0 (places (columns_of schema table))
+              (stands_first found.0 (columns_of schema table) (place_within (columns_of schema table) found.0 declared.0 declared.1))
+              (ap₂ (λ a b. a && b) found.1 found.2));
+        }
+    by false s h =
+        let found = compared_there schema asked.conditions table h in
+        record {
+          there = table_there schema table found.0 found.1;
+          needed = some_test (is_empty (ask_for schema asked table).columns) (is_empty (ask_for schema asked table).tests) found.2;
+        }
+
+to_map : {X Y : Type 0} (f : X → Y) (x : X) (xs : List X) → Among x xs → Among (f x) (map f xs)
+to_map f x [] h = absurd h
+to_map f x (y ∷ xs) (inl same) = inl (ap f same)
+to_map f x (y ∷ xs) (inr later) = inr (to_map f x xs later)
+
+ask_stands : (schema : Schema) (asked : Query) (table : ℕ) → is_from asked table ≡ true → is_asked schema asked table ≡ true
+    → Among (ask_for schema asked table) (asks_of schema asked)
+ask_stands schema asked table from is =
+    let needed = asked_needed schema asked table is in
+    among-filter is_needed (ask_for schema asked table) (map (ask_for schema asked) (filter (is_from asked) (places schema)))
+    (to_map (ask_for schema asked) table (filter (is_from asked) (places schema))
+    (among-filter (is_from asked) table (places schema) (stands_first table schema needed.there) from))
+    needed.needed
+
+found_by : (target : Ask) (reply : Reply) (later : List Reply) (b : Bool) → nat_eq reply.ask.table target.table ≡ b
+    → (Among target (map (λ (reply : Reply). reply.ask) later) → is_some (reply_about target.table later) ≡ true)
+    → Among target (map (λ (reply : Reply). reply.ask) (reply ∷ later))
+    → is_some (if b then Some reply else reply_about target.table later) ≡ true
+found_by target reply later true e rest a = refl
+found_by target reply later false e rest (inl same) =
+    absurd (clash (ap (λ (one : Ask). nat_eq one.table target.table) same ∙ same_number target.table) e)
+found_by target reply later false e rest (inr more) = rest more
+
+reply_found : (target : Ask) (given : List Reply) → Among target (map (λ (reply : Reply). reply.ask) given) → is_some (reply_about target.table given) ≡ true
+reply_found target [] h = absurd h
+reply_found target (reply ∷ later) h =
+    found_by target reply later (nat_eq reply.ask.table target.table) refl (λ a. reply_found target later a) h
+
+pub replies_are_all : WholeRepliesAreAll
+replies_are_all schema asked given whole table from is =
+    reply_found (ask_for schema asked table) given (subst (λ asks. Among (ask_for schema asked table) asks) (sym whole.asks) (ask_stands schema asked table from is))
+
+-- and it is to the ask for its table
+record IsAbout (table : ℕ) (given : List Reply) (reply : Reply) : Type 0 where
+  among : Among reply given
+  of : reply.ask.table ≡ table
+
+some_reply : {a b : Reply} → Some a ≡ Some b → a ≡ b
+some_reply h = cc
+
+about_by : (table : ℕ) (first : Reply) (later : List Reply) (reply : Reply) (b : Bool) → nat_eq first.ask.table table ≡ b
+    → (reply_about table later ≡ Some reply → IsAbout table later reply) → (if b then Some first else reply_about table later) ≡ Some reply
+    → IsAbout table (first ∷ later) reply
+about_by table first later reply true e rest h =
+    let same : first ≡ reply = some_reply h in
+    record { among = inl same; of = ap (λ (r : Reply). r.ask.table) (sym same) ∙ eqb-true first.ask.table table e }
+about_by table first later reply false e rest h = let it = rest h in record { among = inr it.among; of = it.of }
+
+about : (table : ℕ) (given : List Reply) (reply : Reply) → reply_about table given ≡ Some reply → IsAbout table given reply
+about table [] reply e = absurd (cc (e))
+about table (first ∷ later) reply e =
+    about_by table first later reply (nat_eq first.ask.table table) refl (λ h. about table later reply h) e
+
+pub replies_are_to_asks : WholeRepliesAreToAsks
+replies_are_to_asks schema asked given whole table reply e =
+    let is = about table given reply e in
+    let ask = subst (λ asks. Among reply.ask asks) whole.asks (mapped given reply is.among) in
+    let needed = from_filter is_needed reply.ask (map (ask_for schema asked) (filter (is_from asked) (places schema))) ask in
+    let made = from_map (ask_for schema asked) reply.ask (filter (is_from asked) (places schema)) needed.0 in
+    let at : made.0 ≡ table = ap (λ (one : Ask). one.table) made.2 ∙ is.of in
+    sym made.2 ∙ ap (ask_for schema asked) at

@@ -3,7 +3,7 @@ use Rattle.std.proofs.Common.{◌≡◌, ◌∙◌, ℕ, zero, suc, ◌-◌, ◌
 use Rattle.std.specs.List.{list_all, list_any}
 use Rattle.std.proofs.lemmas.Bool.{eqb-true, eqb-false}
 use Rattle.std.proofs.lemmas.Bool.Decides.{nat_tests}
-use Rattle.std.proofs.lemmas.List.{get_or-set_same, get_or-set_other}
+use Rattle.std.proofs.lemmas.List.{get_or-set_same, get_or-set_other, length-set}
 use Rattle.ghost_model.specs.core.Schema.{Schema, parent, ancestor, is_visible, first_of}
 use Rattle.ghost_model.specs.core.Values.{Row, Database}
 use Rattle.ghost_model.specs.core.Channel.{Catalog}
@@ -21,6 +21,10 @@ use Rattle.ghost_model.proofs.FlashLemmas.Values.{count_there}
 use Rattle.ghost_laws.specs.Followed.{IsFollowed, AcceptedQueriesAreFollowed, is_column_from, is_condition_from}
 use Rattle.ghost_laws.specs.Scans.{known_along, stands_along, holds_or_asked_along, is_kept_row}
 use Rattle.ghost_laws.proofs.ScanLemmas.Accepted.{pass_each}
+use Rattle.edge_traits.specs.Devices.{Device}
+use Rattle.visible_spool.specs.declared.half.Half.{Half}
+use Rattle.candidate_rows.specs.Rows.{AreReadable}
+use Rattle.visible_spool.specs.declared.search.Search.TheVariants.{New}
 use Rattle.spj_parse.specs.Resolved.{IsMeant, joins_of, join_to, join_with, join_by, keys_between, is_comparison}
 use Rattle.candidate_rows.specs.declared.plan.Hop.{Hop}
 use Rattle.candidate_rows.specs.declared.plan.Test.{Test}
@@ -31,11 +35,11 @@ use Rattle.candidate_rows.specs.declared.next.Follow.{Follow}
 use Rattle.candidate_rows.specs.declared.work.RowWork.{RowWork}
 use Rattle.candidate_rows.specs.declared.plan.Known.{Known}
 use Rattle.candidate_rows.specs.Orders.{is_look_up, looks_up}
-use Rattle.candidate_rows.specs.Plans.{IsPlanOf, IsHop, IsHopOrNone, AreHops, test_meets, check_meets, is_asked, is_tested, is_shown_of, is_compared_of}
-use Rattle.candidate_rows.specs.Working.{Knows, StandsFor, IsRowOf, IsLedTo, passes, told, way_to, along_hop, from_row, is_replied}
+use Rattle.candidate_rows.specs.Plans.{IsPlanOf, Suffices, IsHop, IsHopOrNone, AreHops, test_meets, check_meets, is_asked, is_tested, is_shown_of, is_compared_of}
+use Rattle.candidate_rows.specs.Working.{Knows, StandsFor, IsWorking, IsRowOf, IsLedTo, passes, told, look_of, way_to, along_hop, from_row, is_replied}
 use Rattle.candidate_rows.specs.Steps.{row_known}
 use Rattle.candidate_rows.specs.Laws.{TestsAreThoseOfAnswers}
-use Rattle.candidate_rows.proofs.StepLemmas.{IsNowhere, Wanted, tested, selected, known_at}
+use Rattle.candidate_rows.proofs.StepLemmas.{IsNowhere, Wanted, tested, selected, known_at, sought_new, searching_new}
 use Rattle.candidate_rows.proofs.TellLemmas.{holds_at_place}
 use Rattle.candidate_rows.proofs.ValueLemmas.{seen}
 
@@ -132,7 +136,7 @@ unlooked_meet table (test ∷ tests) none =
     ap₂ (λ a b. a && b) (by test.check refl both.0) (unlooked_meet table tests both.1)
   where
     by : (check : Check) → test.check ≡ check → looks_up table test ≡ false → test_meets (λ t. not (nat_eq t table)) (λ _. true) test ≡ true
-    by Stands e h =
+    by (Stands number) e h =
         ap (check_meets (λ t. not (nat_eq t table)) (λ _. true) test.known.field) e
         ∙ ap not (sym (ap (λ c. is_look_up c && nat_eq test.known.field.table table) e) ∙ h)
     by (Holds operator literal) e h = ap (check_meets (λ t. not (nat_eq t table)) (λ _. true) test.known.field) e
@@ -170,7 +174,7 @@ module _ (cat : Catalog) (asked : Query) (plan : RowPlan) (plan_is : IsPlanOf ca
   test_from test met = by test.check refl
     where
       by : (check : Check) → test.check ≡ check → is_among asked.from test.known.field.table ≡ true
-      by Stands e = sym (ap (check_meets (is_among asked.from) (is_from asked.from) test.known.field) e) ∙ met
+      by (Stands number) e = sym (ap (check_meets (is_among asked.from) (is_from asked.from) test.known.field) e) ∙ met
       by (Holds operator literal) e = sym (ap (check_meets (is_among asked.from) (is_from asked.from) test.known.field) e) ∙ met
 
   selected_from : (i : ℕ) (field : Field) → slice_get asked.select i ≡ Some field → is_among asked.from field.table ≡ true
@@ -214,7 +218,7 @@ module _ (cat : Catalog) (asked : Query) (plan : RowPlan) (plan_is : IsPlanOf ca
 
   -- ---- the tests are those of the answer
 
-  module _ (page : ℕ → List ℕ) (database : Database) (given : List Reply) (identifier : ℕ) (knows : Knows page cat asked database given)
+  module _ (page : ℕ → List ℕ) (database : Database) (half : Half) (given : List Reply) (identifier : ℕ) (knows : Knows page cat asked database half given)
       (row : IsRowOf cat plan.top identifier) (keys : LeadsFollowKeys cat.schema database) where
     row_there : (place : ℕ) → place < count_of cat plan.top → (r : Row) × (row_of database plan.top (suc place) ≡ Some r)
     row_there place low =
@@ -258,8 +262,8 @@ module _ (cat : Catalog) (asked : Query) (plan : RowPlan) (plan_is : IsPlanOf ca
         (all_filtered holds (is_tested cat.schema) asked.conditions (λ c a e. untested_holds c e))))
 
 pub tests_are : OneReading → AcceptedQueriesAreFollowed → RowsLeadToRows → TestsAreThoseOfAnswers
-tests_are one accepted rows page cat asked database given identifier plan knows plan_is row =
-    same_row cat asked plan plan_is knows.text knows.meant knows.tree one accepted page database given identifier knows row (rows cat.schema database knows.tree knows.is)
+tests_are one accepted rows page cat asked database half given identifier plan knows plan_is row =
+    same_row cat asked plan plan_is knows.text knows.meant knows.tree one accepted page database half given identifier knows row (rows cat.schema database knows.tree knows.is)
 
 -- ---- there is a way to each table that is tested or selected of
 
@@ -308,9 +312,9 @@ way_there cat hops reached top identifier are here (suc steps) (suc most) table 
         let both = follow_none table hop (get_or reached hop.above None) (way_to hops reached most hop.above) h in
         rest hop.above (subst (λ t. ancestor cat.schema steps t ≡ Some top) same a) both.0 both.1
 
-pub nowhere_never : OneReading → AcceptedQueriesAreFollowed → (page : ℕ → List ℕ) (cat : Catalog) (asked : Query) (database : Database) (given : List Reply) (identifier : ℕ) (plan : RowPlan) (work : RowWork)
-    → Knows page cat asked database given → IsPlanOf cat asked plan → StandsFor cat asked database given identifier plan work → IsNowhere plan work → ⊥
-nowhere_never one accepted page cat asked database given identifier plan work knows plan_is stands is =
+pub nowhere_never : OneReading → AcceptedQueriesAreFollowed → (page : ℕ → List ℕ) (cat : Catalog) (asked : Query) (database : Database) (half : Half) (given : List Reply) (identifier : ℕ) (plan : RowPlan) (work : RowWork)
+    → Knows page cat asked database half given → IsPlanOf cat asked plan → StandsFor page cat asked database half given identifier plan work → IsNowhere plan work → ⊥
+nowhere_never one accepted page cat asked database half given identifier plan work knows plan_is stands is =
     let below = wanted_below cat asked plan plan_is knows.text knows.meant knows.tree one accepted work is.table is.wanted in
     by below.0 below.1
   where
@@ -322,6 +326,33 @@ nowhere_never one accepted page cat asked database given identifier plan work kn
         let short = way_is_short cat.schema knows.tree (suc steps) plan.top is.table there up in
         let few = knows.tree.few_tables in
         way_there cat plan.hops.items work.reached plan.top identifier plan_is.hops stands.top (suc steps) 12 is.table up is.unreached (omega (arith, short, few)) is.no_way
+
+-- the table of a look-up is one of FROM that is asked for
+pub record IsAskedOf (cat : Catalog) (asked : Query) (table : ℕ) : Type 0 where
+  pub among : is_among asked.from table ≡ true
+  pub is : is_asked cat.schema asked table ≡ true
+
+pub look_asked : (cat : Catalog) (asked : Query) (plan : RowPlan) → IsPlanOf cat asked plan → (at number : ℕ) (test : Test) → slice_get plan.tests.items at ≡ Some test
+    → test.check ≡ Stands number → IsAskedOf cat asked test.known.field.table
+look_asked cat asked plan plan_is at number test there e =
+    let all : list_all (test_meets (λ t. is_among asked.from t && is_asked cat.schema asked t) (λ _. true)) plan.tests.items ≡ true =
+    plan_is.tests (λ t. is_among asked.from t && is_asked cat.schema asked t) (λ _. true)
+    ∙ ap₂ (λ a b. a && b)
+    (all_each (λ t. is_among asked.from t && is_asked cat.schema asked t) (filter (is_asked cat.schema asked) asked.from) (λ x a. one x a))
+    (all_true (filter (is_tested cat.schema) asked.conditions)) in
+    let met = holds_at_place (test_meets (λ t. is_among asked.from t && is_asked cat.schema asked t) (λ _. true)) plan.tests.items at test all there in
+    let both = both_true (is_among asked.from test.known.field.table) (is_asked cat.schema asked test.known.field.table)
+    (sym (ap (check_meets (λ t. is_among asked.from t && is_asked cat.schema asked t) (λ _. true) test.known.field) e) ∙ met) in
+    record { among = both.0; is = both.1 }
+  where
+    one : (x : ℕ) → Among x (filter (is_asked cat.schema asked) asked.from) → (is_among asked.from x && is_asked cat.schema asked x) ≡ true
+    one x a =
+        let from = from_filter (is_asked cat.schema asked) x asked.from a in
+        ap₂ (λ a b. a && b) (among_is x asked.from from.0) from.1
+
+    all_true : (xs : List Condition) → list_all (λ _. true) xs ≡ true
+    all_true [] = refl
+    all_true (x ∷ xs) = all_true xs
 
 -- ---- the beginning
 
@@ -339,15 +370,16 @@ none_in zero table = refl
 none_in (suc n) zero = refl
 none_in (suc n) (suc table) = none_in n table
 
-pub begin_stands : (cat : Catalog) (asked : Query) (database : Database) (given : List Reply) (identifier : ℕ) (plan : RowPlan) (work : RowWork)
-    → IsPlanOf cat asked plan → IsRowOf cat plan.top identifier → work.at ≡ 0 → work.put ≡ 0 → work.reached ≡ slice_set (replicate 12 None) plan.top (Some identifier)
-    → StandsFor cat asked database given identifier plan work
-begin_stands cat asked database given identifier plan work plan_is row at_is put_is reached_are =
+pub begin_stands : (page : ℕ → List ℕ) (cat : Catalog) (asked : Query) (database : Database) (half : Half) (given : List Reply) (identifier : ℕ) (plan : RowPlan) (work : RowWork)
+    → IsPlanOf cat asked plan → IsRowOf cat plan.top identifier → work.at ≡ 0 → work.put ≡ 0 → work.reached ≡ slice_set (replicate 12 None) plan.top (Some identifier) → work.search ≡ New
+    → StandsFor page cat asked database half given identifier plan work
+begin_stands page cat asked database half given identifier plan work plan_is row at_is put_is reached_are search_is =
     let low = index_within cat.counts plan.top identifier row.some row.within in
     let few = plan_is.few_tables in
     let within : plan.top < 12 = below low few in
     let first = get_or-set_same (replicate 12 None) plan.top (Some identifier) None within in
     record {
+      sought = sought_new page half (look_of plan work) work.search search_is;
       row = row;
       top = ap (λ (r : List (Option ℕ)). get_or r plan.top None) reached_are ∙ first;
       rows = λ table reached there. one_row within first table reached (nat_eq table plan.top) refl (sym (ap (λ (r : List (Option ℕ)). get_or r table None) reached_are) ∙ there);
@@ -387,3 +419,43 @@ begin_stands cat asked database given identifier plan work plan_is row at_is put
         subst (λ t. IsLedTo cat.schema database plan.top identifier t reached) (sym it) (is_itself reached same)
     one_row within first table reached false e there =
         absurd (clash (sym (get_or-set_other (replicate 12 None) plan.top table (Some identifier) None (eqb-false table plan.top e)) ∙ there) (none_in 12 table))
+
+-- what it needs
+set_is_row : (cat : Catalog) (reached : List (Option ℕ)) (top identifier : ℕ) → IsRowOf cat top identifier → top < length reached
+    → ((table : ℕ) → get_or reached table None ≡ None) → (table one : ℕ) (b : Bool) → nat_eq table top ≡ b
+    → get_or (slice_set reached top (Some identifier)) table None ≡ Some one → IsRowOf cat table one
+set_is_row cat reached top identifier row within none table one true e there =
+    let it = eqb-true table top e in
+    let same : identifier ≡ one = row_same (sym (get_or-set_same reached top (Some identifier) None within) ∙ ap (λ t. get_or (slice_set reached top (Some identifier)) t None) (sym it) ∙ there) in
+    subst (λ t. IsRowOf cat t one) (sym it) (subst (IsRowOf cat top) same row)
+  where
+    row_same : {a b : ℕ} → Some a ≡ Some b → a ≡ b
+    row_same h = cc
+set_is_row cat reached top identifier row within none table one false e there =
+    absurd (clash_row (sym (get_or-set_other reached top table (Some identifier) None (eqb-false table top e)) ∙ there) (none table))
+  where
+    clash_row : {o : Option ℕ} {x : ℕ} → o ≡ Some x → o ≡ None → ⊥
+    clash_row s n = cc
+
+pub begin_working : (cat : Catalog) (asked : Query) (device : Device) (half : Half) (identifier : ℕ) (plan : RowPlan) (work : RowWork)
+    → IsPlanOf cat asked plan → Suffices cat device → AreReadable device half → IsRowOf cat plan.top identifier → work.at ≡ 0 → work.put ≡ 0
+    → work.reached ≡ slice_set (replicate 12 None) plan.top (Some identifier) → work.search ≡ New → length work.values.items ≡ length plan.select.items
+    → IsWorking cat asked device half plan work
+begin_working cat asked device half identifier plan work plan_is enough readable row at_is put_is reached_are search_is size =
+    let low = index_within cat.counts plan.top identifier row.some row.within in
+    let few = plan_is.few_tables in
+    record {
+      plan_is = plan_is;
+      suffices = enough;
+      replies = readable;
+      place = omega (arith, at_is);
+      tables = ap length reached_are ∙ length-set (replicate 12 None) plan.top (Some identifier);
+      puts = omega (arith, put_is);
+      places = size;
+      rows = λ table one there. set_is_row cat (replicate 12 None) plan.top identifier row (below low few) (λ t. none_in 12 t) table one (nat_eq table plan.top) refl
+          (sym (ap (λ (r : List (Option ℕ)). get_or r table None) reached_are) ∙ there);
+      search = searching_new half (look_of plan work) work.search search_is;
+    }
+  where
+    below : {a b : ℕ} → a < b → b ≤ 12 → a < 12
+    below low few = omega (arith, low, few)

@@ -9,3 +9,5 @@ mod FromLemmas
 mod AskLemmas
 mod CellLemmas
 mod NumberLemmas
+mod GoesLemmas
+mod ReplyLemmas

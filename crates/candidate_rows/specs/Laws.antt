@@ -1,23 +1,28 @@
 -- Laws of the work on rows.
-use Rattle.std.specs.Prelude.{◌≡◌, ℕ, false, List, [], ◌∷◌, if◌then◌else◌, None}
+use Rattle.std.specs.Prelude.{◌≡◌, ℕ, ◌≤◌, false, Some, List, [], ◌∷◌, if◌then◌else◌, None}
 use Rattle.std.specs.List.{list_all}
 use Rattle.ghost_model.specs.core.Schema.{Schema}
 use Rattle.ghost_model.specs.core.Values.{Database}
 use Rattle.ghost_model.specs.core.Channel.{Catalog}
 use Rattle.ghost_model.specs.core.Query.{Query}
+use Rattle.ghost_model.specs.core.Asks.{ask_for}
 use Rattle.ghost_model.specs.core.Replies.{Reply, reply_about}
 use Rattle.ghost_laws.specs.Scans.{known_along}
 use Rattle.ghost_laws.specs.Selected.{AreWholeReplies}
 use Rattle.candidate_rows.specs.declared.plan.RowPlan.{RowPlan}
+use Rattle.edge_traits.specs.Devices.{Device}
+use Rattle.visible_spool.specs.declared.half.Half.{Half}
+use Rattle.candidate_rows.specs.declared.work.RowWork.{RowWork}
 use Rattle.candidate_rows.specs.Plans.{IsPlanOf, is_asked}
-use Rattle.candidate_rows.specs.Working.{Knows, IsRowOf, passes, told}
+use Rattle.candidate_rows.specs.Rows.{AreAllAsked}
+use Rattle.candidate_rows.specs.Working.{Knows, IsRowOf, IsWorking, passes, told, steps_left, most_left}
 use Rattle.candidate_rows.specs.Steps.{row_known}
 
 -- the tests of a plan are exactly those of the answer: a row is in it where it meets them all, with the selected values
 abbrev pub TestsAreThoseOfAnswers : Type 0
 TestsAreThoseOfAnswers =
-    (page : ℕ → List ℕ) (cat : Catalog) (asked : Query) (database : Database) (given : List Reply) (identifier : ℕ) (plan : RowPlan)
-    → Knows page cat asked database given → IsPlanOf cat asked plan → IsRowOf cat plan.top identifier
+    (page : ℕ → List ℕ) (cat : Catalog) (asked : Query) (database : Database) (half : Half) (given : List Reply) (identifier : ℕ) (plan : RowPlan)
+    → Knows page cat asked database half given → IsPlanOf cat asked plan → IsRowOf cat plan.top identifier
     → row_known cat asked database given identifier plan
     ≡ (if list_all (passes cat.schema database given plan.top identifier) plan.tests.items
     then told (known_along cat.schema database given plan.top identifier) asked.select ∷ [] else [])
@@ -27,3 +32,19 @@ abbrev pub WholeRepliesAreOfAsked : Type 0
 WholeRepliesAreOfAsked =
     (schema : Schema) (asked : Query) (given : List Reply) → AreWholeReplies schema asked given
     → (table : ℕ) → is_asked schema asked table ≡ false → reply_about table given ≡ None
+
+-- there is one for each asked table of FROM
+abbrev pub WholeRepliesAreAll : Type 0
+WholeRepliesAreAll = (schema : Schema) (asked : Query) (given : List Reply) → AreWholeReplies schema asked given → AreAllAsked schema asked given
+
+-- and each is one to the ask for its table
+abbrev pub WholeRepliesAreToAsks : Type 0
+WholeRepliesAreToAsks =
+    (schema : Schema) (asked : Query) (given : List Reply) → AreWholeReplies schema asked given
+    → (table : ℕ) (reply : Reply) → reply_about table given ≡ Some reply → reply.ask ≡ ask_for schema asked table
+
+-- the work on a row goes on for so many steps at most
+abbrev pub FewStepsAreLeft : Type 0
+FewStepsAreLeft =
+    (cat : Catalog) (asked : Query) (device : Device) (half : Half) (plan : RowPlan) (work : RowWork)
+    → IsWorking cat asked device half plan work → steps_left plan work ≤ most_left

@@ -1,6 +1,8 @@
 //! Laws of the work on rows.
 
-ghost use Rattle.candidate_rows.specs.Laws.{TestsAreThoseOfAnswers, WholeRepliesAreOfAsked};
+ghost use Rattle.candidate_rows.specs.Laws.{TestsAreThoseOfAnswers, WholeRepliesAreOfAsked, WholeRepliesAreAll, WholeRepliesAreToAsks, FewStepsAreLeft};
+
+use visible_spool::laws::searches_are_short;
 
 /// A row of the top table is in the answer, with the selected values, exactly where it meets all tests of a plan.
 pub fn tests_are_those_of_answers()
@@ -15,3 +17,16 @@ pub fn tests_are_those_of_answers()
 pub fn whole_replies_are_of_asked()
     ensures asked { WholeRepliesAreOfAsked }
 {}
+
+/// There is one for each asked table of FROM, and it is a reply to the ask for that table.
+pub fn whole_replies_are_all()
+    ensures all { WholeRepliesAreAll }
+    ensures asks { WholeRepliesAreToAsks }
+{}
+
+/// The work on a row goes on for 28,000,100 steps at most.
+pub fn few_steps_are_left()
+    ensures few { FewStepsAreLeft }
+{
+    searches_are_short();
+}

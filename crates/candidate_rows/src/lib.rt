@@ -5,6 +5,7 @@
 //! takes a value at each step, and reads each foreign key once at most. None of the calls takes memory.
 #![tactic(auto)]
 
+mod cells;
 mod hops;
 mod known;
 pub mod laws;
@@ -12,6 +13,7 @@ pub mod next;
 mod numbers;
 pub mod plan;
 mod reading;
+mod row;
 mod testing;
 pub mod values;
 pub mod work;
