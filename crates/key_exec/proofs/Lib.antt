@@ -1,7 +1,9 @@
+pub mod AskedLemmas
+pub mod KnowledgeLemmas
 pub mod RowLemmas
 pub mod BlameLemmas
 pub mod LeaseLemmas
 pub mod StepLemmas
 pub mod ScanLemmas
+pub mod SparedLemmas
 pub mod TurnLemmas
-pub mod AskedLemmas
