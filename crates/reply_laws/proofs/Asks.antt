@@ -1,23 +1,20 @@
 -- The asks of texts: they come in the order of the texts, and one text has few of them and few rows of replies.
-use Rattle.std.proofs.Common.{◌≡◌, ℕ, zero, suc, ◌+◌, ◌*◌, ◌<◌, ◌≤◌, Bool, true, false, List, [], ◌∷◌, ◌++◌, length, map, filter, sum_by, sum, slice_get, slice_index, sym, ◌∙◌, ap, subst, refl, arith, eqb-true, Option, Some, None, Result, Ok, Err, if◌then◌else◌}
+use Rattle.std.proofs.Common.{◌≡◌, ℕ, zero, suc, ◌+◌, ◌<◌, ◌≤◌, Bool, true, false, List, [], ◌∷◌, ◌++◌, length, map, filter, sum_by, sum, ◌∙◌, ap, refl, arith, eqb-true, Option, Some, None, Result, Ok, Err, if◌then◌else◌}
 use Rattle.std.specs.Prelude.{◌==◌}
-use Rattle.std.proofs.Math.Nat.{mul-le-mul_left}
 use Rattle.std.proofs.lemmas.List.{length-map}
-use Rattle.std.proofs.lemmas.List.FromFn.{length-range_with_len}
-use Rattle.std.proofs.lemmas.List.Sums.{sum_by-append}
+use Rattle.std.specs.List.{range_with_len}
+use Rattle.std.proofs.lemmas.List.Sums.{sum_by-append, sum_by-cons}
 use Rattle.ghost_model.specs.core.Schema.{Schema, Column, Kind, columns_of, column_at, is_visible}
 use Rattle.ghost_model.specs.core.Query.{Query}
 use Rattle.ghost_model.specs.readings.QueryReading.{reading}
 use Rattle.ghost_model.specs.forms.Cells.{cell_width}
-use Rattle.ghost_model.specs.core.Channel.{Catalog, Ask, row_count_in}
+use Rattle.ghost_model.specs.core.Channel.{Ask}
 use Rattle.ghost_model.specs.core.Asks.{NumberedAsk, asked, asked_from, asked_of, asks_of, asks_of_reading, ask_for, is_from, is_needed, is_wanted, places, kind_or_none, kind_at, row_width}
-use Rattle.ghost_model.specs.forms.Layout.{below, count_of, width_at, spool_width}
-use Rattle.ghost_model.specs.laws.SchemaTrees.{IsTree}
+use Rattle.ghost_model.specs.forms.Layout.{below, width_at, spool_width}
 use Rattle.ghost_model.proofs.LayoutLemmas.Columns.{width_or_none}
 use Rattle.ghost_model.proofs.ChannelLemmas.Tests.{both_hold}
 use Rattle.ghost_model.proofs.SessionLemmas.Accepted.{Each}
-use Rattle.reply_store.specs.Stored.{room_for}
-use Rattle.reply_laws.proofs.Sums.{sum_mapped, sum_less, sum_fewer, sum_part, sum_none, sum_ones, places_below}
+use Rattle.reply_laws.proofs.Sums.{sum_mapped, sum_less, sum_fewer, sum_part, sum_none, places_below}
 use Rattle.reply_laws.proofs.Hearing.{Rises, rises_lower, each_joined}
 
 -- the order of the texts
@@ -111,7 +108,7 @@ asks_weigh schema query f g less =
     omega (arith, needed, mapped, lower, part, all)
 
 -- a row of a reply is no wider than one with all visible columns
-narrow : (schema : Schema) (query : Query) (table : ℕ) → row_width schema (ask_for schema query table) ≤ spool_width schema table
+pub narrow : (schema : Schema) (query : Query) (table : ℕ) → row_width schema (ask_for schema query table) ≤ spool_width schema table
 narrow schema query table =
     let columns : List ℕ = filter (is_wanted schema query.select table) (places (columns_of schema table)) in
     let kinds : List Kind = map (kind_at schema table) columns in
@@ -127,28 +124,54 @@ narrow schema query table =
     as_wide None = omega arith
     as_wide (Some column) = omega arith
 
--- the bytes that the rows of a reply may have
-abbrev pub reply_room : Catalog → Ask → ℕ
-reply_room catalog ask = row_count_in catalog ask.table * row_width catalog.schema ask
+abbrev pub one_if : Bool → ℕ
+one_if b = if b then 1 else 0
 
-pub texts_have_room : (catalog : Catalog) (texts : List (List ℕ)) (text : ℕ)
-    → sum_by (weight text (reply_room catalog)) (asked_of catalog.schema texts) ≤ room_for catalog
-texts_have_room catalog texts text =
-    text_weighs catalog.schema text (reply_room catalog) (room_for catalog)
-    (λ query. asks_weigh catalog.schema query (reply_room catalog) (λ (table : ℕ). count_of catalog table * spool_width catalog.schema table)
-    (λ table. mul-le-mul_left (count_of catalog table) (narrow catalog.schema query table)))
-    1 (map (reading catalog.schema) texts)
+-- a table is one of a range once at most
+module _ (table : ℕ) where
+  abbrev is_it : ℕ → ℕ
+  is_it other = one_if (other == table)
 
-pub texts_have_places : (catalog : Catalog) (texts : List (List ℕ)) (text : ℕ) → IsTree catalog.schema
-    → sum_by (weight text (λ (ask : Ask). 1)) (asked_of catalog.schema texts) ≤ 12
-texts_have_places catalog texts text tree =
-    text_weighs catalog.schema text (λ (ask : Ask). 1) 12
-    (λ query. (let less = asks_weigh catalog.schema query (λ (ask : Ask). 1) (λ (table : ℕ). 1) (λ table. omega arith) in
-    let ones = sum_ones (below (length catalog.schema)) in
-    let size = length-range_with_len 0 (length catalog.schema) in
-    let few = tree.few_tables in
-    omega (arith, less, ones, size, few)))
-    1 (map (reading catalog.schema) texts)
+  none_above : (at count : ℕ) → table < at → sum_by is_it (range_with_len at count) ≡ 0
+  none_above at zero h = refl
+  none_above at (suc count) h =
+      let split = sum_by-cons is_it at (range_with_len (at + 1) count) in
+      let later = none_above (at + 1) count (omega (arith, h)) in
+      let first = go (at == table) refl in
+      omega (arith, split, later, first)
+    where
+      go : (b : Bool) → (at == table) ≡ b → one_if b ≡ 0
+      go true e = let same = eqb-true at table e in absurd (omega (arith, same, h))
+      go false e = refl
+
+  pub once : (at count : ℕ) → sum_by is_it (range_with_len at count) ≤ 1
+  once at zero = omega arith
+  once at (suc count) = go (at == table) refl (once (at + 1) count)
+    where
+      split : sum_by is_it (range_with_len at (suc count)) ≡ is_it at + sum_by is_it (range_with_len (at + 1) count)
+      split = sum_by-cons is_it at (range_with_len (at + 1) count)
+
+      go : (b : Bool) → (at == table) ≡ b → sum_by is_it (range_with_len (at + 1) count) ≤ 1 → sum_by is_it (range_with_len at (suc count)) ≤ 1
+      go true e later =
+          let same = eqb-true at table e in
+          let none = none_above (at + 1) count (omega (arith, same)) in
+          let here : is_it at ≡ 1 = ap one_if e in
+          omega (arith, split, none, here)
+      go false e later =
+          let here : is_it at ≡ 0 = ap one_if e in
+          omega (arith, split, later, here)
+
+abbrev pub for_table : (table : ℕ) → Ask → ℕ
+for_table table ask = one_if (ask.table == table)
+
+-- of a text one ask at most is for a table
+pub texts_ask_once : (schema : Schema) (texts : List (List ℕ)) (text table : ℕ) → sum_by (weight text (for_table table)) (asked_of schema texts) ≤ 1
+texts_ask_once schema texts text table =
+    text_weighs schema text (for_table table) 1
+    (λ query. (let less = asks_weigh schema query (for_table table) (λ (other : ℕ). one_if (other == table)) (λ other. omega arith) in
+    let few = once table 0 (length schema) in
+    omega (arith, less, few)))
+    1 (map (reading schema) texts)
 
 pub texts_rise : (schema : Schema) (texts : List (List ℕ)) → Rises 1 (asked_of schema texts)
 texts_rise schema texts = rises_from schema 1 (map (reading schema) texts)

@@ -5,14 +5,14 @@ use Rattle.std.specs.Prelude.{◌==◌}
 use Rattle.std.proofs.lemmas.List.{map-append}
 use Rattle.std.proofs.lemmas.List.Sums.{sum_by-cons, sum_by_push}
 use Rattle.ghost_model.specs.core.Schema.{Schema}
-use Rattle.ghost_model.specs.core.Channel.{Catalog, Ask, Frame, HelloFrame, AskFrame, MoreFrame, ByeFrame, WelcomeFrame, RowsFrame, DoneFrame, SorryFrame}
+use Rattle.ghost_model.specs.core.Channel.{Catalog, Frame, HelloFrame, AskFrame, MoreFrame, ByeFrame, WelcomeFrame, RowsFrame, DoneFrame, SorryFrame}
 use Rattle.ghost_model.specs.forms.Frames.{frame_in, size_in, kind_in, version_in, serial_in, frame_version}
 use Rattle.ghost_model.specs.core.Asks.{NumberedAsk, row_width}
 use Rattle.ghost_model.specs.core.NextMove.{Awaits, AwaitsCatalog, AwaitsReply, AwaitsNothing, Ending, Answered, Refused, EndedAsk, ended, Heard, Verdict, Lacking, Complete, Invalid, reply_size_fits, header_fits, payload_fits, verdict, after_frame, ask_next, still, of_later_texts, rows_after, ended_by, heard_as, hear, hear_all}
 use Rattle.ghost_model.proofs.ChannelLemmas.Tests.{false_is_not, both_hold}
 use Rattle.ghost_model.proofs.SessionLemmas.Accepted.{Each}
 use Rattle.ghost_laws.proofs.ScanLemmas.HeardRows.{replied_in, payload_whole, size_whole}
-use Rattle.reply_laws.proofs.Rows.{Came, none_came, IsOrderly, orderly, more_came}
+use Rattle.reply_laws.proofs.Rows.{Came, none_came, more_came}
 
 pub each_joined : {X : Type 0} (P : X → Type 0) (xs ys : List X) → Each P xs → Each P ys → Each P (xs ++ ys)
 each_joined P [] ys e f = f
@@ -82,13 +82,6 @@ module _ (catalog : Catalog) (asks : List NumberedAsk) (low top : ℕ) where
   RowsSo (AwaitsReply one serial later count last) rows = Came catalog one.ask rows last
   RowsSo AwaitsNothing rows = Unit {0}
 
-  abbrev pub EndingSo : Ask → Ending → Type 0
-  EndingSo ask (Answered rows) = IsOrderly catalog ask rows
-  EndingSo ask (Refused code) = Unit {0}
-
-  abbrev pub EndedSo : EndedAsk → Type 0
-  EndedSo end = EndingSo end.asked.ask end.ending
-
   -- the asks that were not ended
   abbrev pub remaining : Awaits → List NumberedAsk
   remaining (AwaitsCatalog bytes) = asks
@@ -97,7 +90,6 @@ module _ (catalog : Catalog) (asks : List NumberedAsk) (low top : ℕ) where
 
   pub record Orderly (awaits : Awaits) (rows : List ℕ) (ends : List EndedAsk) : Type 0 where
     pub rows_so : RowsSo awaits rows
-    pub ended_so : Each EndedSo ends
     -- asks that were ended and those to come weigh no more than all asks, whatever an ask weighs
     pub weigh : (w : NumberedAsk → ℕ) → sum_by w (map who ends) + sum_by w (remaining awaits) ≤ sum_by w asks
     -- the texts of those ended go up to this one, and those of the others begin with it
@@ -122,7 +114,6 @@ module _ (catalog : Catalog) (asks : List NumberedAsk) (low top : ℕ) where
       subst (λ (es : List EndedAsk). Orderly after more es) (sym (append-nil ends))
       (record {
         rows_so = so;
-        ended_so = o.ended_so;
         weigh = λ w. subst (λ (rest : List NumberedAsk). sum_by w (map who ends) + sum_by w rest ≤ sum_by w asks) (sym same) (o.weigh w);
         at = o.at;
         reached = o.reached;
@@ -138,15 +129,14 @@ module _ (catalog : Catalog) (asks : List NumberedAsk) (low top : ℕ) where
     within : Each (λ (one : NumberedAsk). one.text ≤ top) later → Each (λ (one : NumberedAsk). one.text ≤ top) rest
 
   one_ended : (one : NumberedAsk) (serial : ℕ) (later rest : List NumberedAsk) (count last : ℕ) (rows : List ℕ) (ends : List EndedAsk) (ending : Ending)
-      → EndingSo one.ask ending → IsLeft later rest → Orderly (AwaitsReply one serial later count last) rows ends
+      → IsLeft later rest → Orderly (AwaitsReply one serial later count last) rows ends
       → Orderly (ask_next schema (serial + 1) rest).awaits [] (ends ++ ended one ending ∷ [])
-  one_ended one serial later rest count last rows ends ending so left o =
+  one_ended one serial later rest count last rows ends ending left o =
       let next = on_with_rest (serial + 1) rest in
       let reached = o.reached in
       let first = o.ahead.0 in
       record {
         rows_so = on_with_rows (serial + 1) rest;
-        ended_so = each_joined EndedSo ends (ended one ending ∷ []) o.ended_so (so, tt);
         weigh = λ w.
             (let before = o.weigh w in
             let split = sum_by-cons w one later in
@@ -197,9 +187,9 @@ module _ (catalog : Catalog) (asks : List NumberedAsk) (low top : ℕ) where
       none_ended (AwaitsReply one serial later count last) (AwaitsReply one serial later _ _) rows (rows ++ payload) ends refl
       (more_came catalog one.ask rows payload last o.rows_so whole fits) o
   by_frame part enough (AwaitsReply one serial later count last) rows ends (DoneFrame number total) is header fits o =
-      one_ended one serial later later count last rows ends (Answered rows) (orderly catalog one.ask rows last o.rows_so) (all_left later) o
+      one_ended one serial later later count last rows ends (Answered rows) (all_left later) o
   by_frame part enough (AwaitsReply one serial later count last) rows ends (SorryFrame number code) is header fits o =
-      one_ended one serial later (of_later_texts one.text later) count last rows ends (Refused code) tt (some_left one.text later) o
+      one_ended one serial later (of_later_texts one.text later) count last rows ends (Refused code) (some_left one.text later) o
   by_frame part enough (AwaitsReply one serial later count last) rows ends (HelloFrame generation) is header fits o = absurd (false_is_not fits)
   by_frame part enough (AwaitsReply one serial later count last) rows ends (AskFrame other payload) is header fits o = absurd (false_is_not fits)
   by_frame part enough (AwaitsReply one serial later count last) rows ends (MoreFrame other) is header fits o = absurd (false_is_not fits)

@@ -2,5 +2,6 @@ pub mod Sums
 pub mod Rows
 pub mod Hearing
 pub mod Asks
-pub mod Storing
+pub mod Placing
+pub mod Fitting
 pub mod Ordering

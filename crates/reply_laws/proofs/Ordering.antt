@@ -9,7 +9,7 @@ use Rattle.ghost_model.proofs.SessionLemmas.Accepted.{Each}
 use Rattle.channel_session.specs.Sessions.{asked_in}
 use Rattle.reply_laws.specs.Order.{TextsComeInOrder}
 use Rattle.reply_laws.proofs.Hearing.{each_so, Rises, remaining, Orderly, IsHeard, by_bytes}
-use Rattle.reply_laws.proofs.Storing.{all_heard}
+use Rattle.reply_laws.proofs.Fitting.{all_heard}
 
 all_behind : (at : ℕ) (ends : List EndedAsk) → Each (λ (end : EndedAsk). end.asked.text ≤ at) ends → list_all (λ (end : EndedAsk). nat_le end.asked.text at) ends ≡ true
 all_behind at [] each = refl
@@ -44,7 +44,6 @@ from_here : (catalog : Catalog) (asks : List NumberedAsk) (top : ℕ) (now : Hea
     → IsReached catalog asks 1 top now.awaits now.ended one → IsHeard catalog asks one.text top now
 from_here catalog asks top now one o is = record {
   rows_so = o.rows_so;
-  ended_so = o.ended_so;
   weigh = o.weigh;
   at = one.text;
   reached = omega arith;

@@ -1,6 +1,6 @@
 -- The rows that came of an ask: their identifiers ascend, and so they are at most as many as the table's rows.
 use Rattle.std.proofs.Common.{◌≡◌, ℕ, zero, suc, ◌+◌, ◌*◌, ◌/◌, ◌%◌, ◌<◌, ◌≤◌, true, ◌&&◌, List, [], ◌∷◌, ◌++◌, length, map, take, drop, sym, ◌∙◌, ap, refl, arith, nat_lt, nat_le, ltb-true, leb-true, length-append}
-use Rattle.std.proofs.Math.Nat.{mul-div_cancel, mod-add-div', mul-le-mul_right, suc-mul}
+use Rattle.std.proofs.Math.Nat.{mod-add-div', suc-mul}
 use Rattle.std.proofs.lemmas.List.{length-drop, take-append-le, drop-append-le}
 use Rattle.ghost_model.specs.core.Schema.{Kind}
 use Rattle.ghost_model.specs.core.Channel.{Catalog, Ask, row_count_in}
@@ -11,7 +11,7 @@ use Rattle.ghost_model.proofs.ChannelLemmas.Tests.{both_hold, hold_both}
 abbrev pub identifiers : List RowCells → List ℕ
 identifiers rows = map (λ (row : RowCells). row.identifier) rows
 
-rows_counted : (width count : ℕ) (bytes : List ℕ) → length (rows_from width count bytes) ≡ count
+pub rows_counted : (width count : ℕ) (bytes : List ℕ) → length (rows_from width count bytes) ≡ count
 unfolding rows_from
 rows_counted width zero bytes = refl
 rows_counted width (suc count) bytes = ap suc (rows_counted width count (drop width bytes))
@@ -23,7 +23,7 @@ ascend_joined before (x ∷ xs) ys a b =
     let both = both_hold (nat_lt before x.identifier) (ascend_from x.identifier (identifiers xs)) a in
     hold_both _ _ both.one (ascend_joined x.identifier xs ys both.other b)
 
-last_joined : (before : ℕ) (xs ys : List RowCells) → last_identifier before (xs ++ ys) ≡ last_identifier (last_identifier before xs) ys
+pub last_joined : (before : ℕ) (xs ys : List RowCells) → last_identifier before (xs ++ ys) ≡ last_identifier (last_identifier before xs) ys
 last_joined before [] ys = refl
 last_joined before (x ∷ xs) ys = last_joined x.identifier xs ys
 
@@ -47,27 +47,11 @@ module _ (catalog : Catalog) (ask : Ask) where
   unfolding rows_from
   none_came = record { count = 0; size = omega arith; ascend = refl; final = refl; few = omega arith; most = omega arith }
 
-  pub record IsOrderly (bytes : List ℕ) : Type 0 where
-    pub ascend : ascend_from 0 (identifiers (rows_in catalog.schema ask bytes)) ≡ true
-    pub most : length bytes ≤ row_count_in catalog ask.table * width
-
   some_width : 0 < width
   some_width = omega arith
 
-  pub orderly : (bytes : List ℕ) (last : ℕ) → Came bytes last → IsOrderly bytes
-  orderly bytes last came =
-      let many : length bytes / width ≡ came.count = ap (λ n. n / width) came.size ∙ mul-div_cancel came.count some_width in
-      let few = came.few in
-      let most = came.most in
-      let size = came.size in
-      let less : came.count * width ≤ row_count_in catalog ask.table * width = mul-le-mul_right width (omega (arith, few, most)) in
-      record {
-        ascend = ap (λ n. ascend_from 0 (identifiers (rows_from width n bytes))) many ∙ came.ascend;
-        most = omega (arith, size, less);
-      }
-
   -- rows after rows
-  rows_joined : (count more : ℕ) (bytes others : List ℕ) → length bytes ≡ count * width
+  pub rows_joined : (count more : ℕ) (bytes others : List ℕ) → length bytes ≡ count * width
       → rows_from width (count + more) (bytes ++ others) ≡ rows_from width count bytes ++ rows_from width more others
   unfolding rows_from
   rows_joined zero more [] others size = let none : 0 + more ≡ more = omega arith in ap (λ n. rows_from width n others) none

@@ -1,5 +1,5 @@
-//! Laws of what came of a session's asks as stores keep it, whatever host replies: they need no code.
+//! Laws of what is awaited of a session's asks, whatever host replies: they need no code.
 #![tactic(auto)]
 
-pub mod stores;
+pub mod fits;
 pub mod texts;

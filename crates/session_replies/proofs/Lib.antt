@@ -1,2 +1,12 @@
-pub mod HalfLemmas
-pub mod KeptLemmas
+pub mod Parity
+pub mod RowLemmas
+pub mod WriteLemmas
+pub mod Elsewhere
+pub mod Keeping
+pub mod Leaving
+pub mod PushRows
+pub mod PushCalls
+pub mod RowsHeard
+pub mod Closing
+pub mod KeptLaws
+pub mod Heard

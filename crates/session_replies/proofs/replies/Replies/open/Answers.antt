@@ -1,10 +1,12 @@
-use Rattle.std.proofs.Common.{false, true, Bool, refl}
-use Rattle.session_replies.proofs.KeptLemmas.{begun, still_open, same_stored}
+use Rattle.std.proofs.Common.{sym, subst, refl}
+use Rattle.ghost_model.specs.core.Schema.{Schema}
+use Rattle.session_replies.specs.Kept.{IsAskOf}
+use Rattle.session_replies.proofs.KeptLaws.{opened}
+use Rattle.session_replies.proofs.RowsHeard.{is_awaited}
 use Rattle.session_replies.proofs.replies.Replies.open.Goals as goal
 
 pub returns-then-not-self-clause-kept : goal.returns-then-not-self-clause-kept
-returns-then-not-self-clause-kept c = λ catalog heard asked low top is_schema awaited its_text its_ask some least from near fits k.
-    begun catalog heard asked low top c.args.text c.args.schema.now _ c.args.self.now c.begin.new.self c.begin.ensures.begun c.if-not-self.true is_schema awaited its_text its_ask least from near fits k
-
-pub returns-then-not-self-clause-others : goal.returns-then-not-self-clause-others
-returns-then-not-self-clause-others c = λ other apart. same_stored c.args.text other c.args.self.now c.begin.new.self c.begin.ensures.begun.changes apart
+returns-then-not-self-clause-kept c = λ told device pool catalog heard asked low top is_schema awaited its_text its_ask up near fits k.
+    let is = is_awaited catalog heard.ended heard.rows heard.awaits asked fits awaited in
+    opened told device pool catalog heard asked low top c.args.text c.args.self.now _ c.if-not-self.true refl refl awaited its_text up near fits
+    (subst (λ (s : Schema). IsAskOf s asked c.of-self.result) (sym is_schema) (c.of-self.ensures.ask asked is.1.numbered its_text its_ask)) k
