@@ -1,6 +1,6 @@
 -- A text while it is told, a line or a few calls on the flash at a time. What it needs, whatever the pages hold, stands apart
 -- from what it stands for: which of its rows were given, and which are left.
-use Rattle.std.specs.Prelude.{◌≡◌, ℕ, ◌≤◌, ⊤, Bool, true, false, not, List, [], ◌∷◌, ◌++◌, length, map, codes, count_by, Option, None, Some, Ok, Err}
+use Rattle.std.specs.Prelude.{◌≡◌, ℕ, ◌≤◌, ⊤, Bool, true, false, not, List, [], ◌∷◌, ◌++◌, ◌+◌, length, map, codes, count_by, Option, None, Some, Ok, Err}
 use Rattle.std.specs.List.{concat}
 use Rattle.ghost_model.specs.core.Schema.{Schema}
 use Rattle.ghost_model.specs.core.Values.{Row, Database}
@@ -12,23 +12,26 @@ use Rattle.ghost_model.specs.core.Replies.{Reply, answer_from}
 use Rattle.ghost_model.specs.core.Printed.{row_line, answer_lines, word_line, refusal_line}
 use Rattle.ghost_model.specs.refusals.QueryMeaning.{Refusal}
 use Rattle.ghost_model.specs.laws.SchemaTrees.{IsTree}
-use Rattle.edge_traits.specs.Devices.{Device, KeepsPages}
-use Rattle.page_pool.specs.Pools.{Pool, others_out}
+use Rattle.edge_traits.specs.Devices.{Device}
+use Rattle.page_pool.specs.Pools.{Pool, AreOut, others_out}
 use Rattle.spj_parse.specs.Resolved.{IsMeant}
 use Rattle.spj_parse.specs.Views.{refusal_of}
-use Rattle.reply_store.specs.Stored.{are_ascending}
+use Rattle.visible_spool.specs.declared.half.Half.{Half}
+use Rattle.visible_spool.specs.Sparing.{SparesHalf}
 use Rattle.key_lines.specs.Handing.{Handed, Hands}
+use Rattle.candidate_rows.specs.Rows.{HoldsReplies}
 use Rattle.key_exec.specs.declared.job.Job.{Job}
 use Rattle.key_exec.specs.Jobs as jobs
 use Rattle.key_exec.specs.Jobs.{is_over, rows_left}
-use Rattle.key_exec.specs.Reading.{Knows, AreOfAsked}
-use Rattle.key_exec.specs.Ready.{IsReady, IsSomeReady, Stands, AreBlankOrRead}
+use Rattle.key_exec.specs.Reading.{KnowsBut, AreOfAsked, AreAllAsked}
+use Rattle.candidate_rows.specs.Steps.{AreBlankOrRead, WereGiven}
+use Rattle.key_exec.specs.Ready.{IsReady, Stands}
 use Rattle.channel_pump.specs.declared.state.ReplyState.{ReplyState}
 use Rattle.channel_pump.specs.declared.state.ReplyState.TheVariants as state_is
-use Rattle.text_lines.specs.Texts.{IsAccepted, IsRefusedText, IsToldBy, ToldTells, ToldCalls, ToldBlames, Why, broken_line}
+use Rattle.text_lines.specs.Texts.{IsAccepted, IsDone, IsToldBy, ToldCalls, ToldBlames, ToldReads, Why, broken_line}
 use Rattle.text_lines.specs.declared.telling.Telling.{Telling}
 use Rattle.text_lines.specs.declared.telling.Stage.{Stage}
-use Rattle.text_lines.specs.declared.telling.Stage.TheVariants.{Refused, Broken, Answering}
+use Rattle.text_lines.specs.declared.telling.Stage.TheVariants.{Refused, Broken, Marked, Answering}
 use Rattle.text_lines.specs.declared.text.Told.{Told}
 use Rattle.text_lines.specs.declared.text.Told.TheVariants as told
 
@@ -36,6 +39,7 @@ use Rattle.text_lines.specs.declared.text.Told.TheVariants as told
 abbrev pub leases_in : Stage → List ℕ
 leases_in (Refused refusal) = []
 leases_in (Broken state) = []
+leases_in Marked = []
 leases_in (Answering job) = jobs.leases_of job
 
 abbrev pub leases_of : Telling → List ℕ
@@ -45,6 +49,7 @@ leases_of telling = leases_in telling.stage
 abbrev pub left_in : Stage → ℕ
 left_in (Refused refusal) = 1
 left_in (Broken state) = 1
+left_in Marked = 1
 left_in (Answering job) = jobs.left job
 
 abbrev pub left_of : Telling → ℕ
@@ -54,6 +59,7 @@ left_of telling = left_in telling.stage
 abbrev pub spent_in : Stage → ℕ
 spent_in (Refused refusal) = 0
 spent_in (Broken state) = 0
+spent_in Marked = 0
 spent_in (Answering job) = job.spent
 
 abbrev pub spent_of : Telling → ℕ
@@ -65,64 +71,86 @@ answering number job = record { number = number; stage = Answering job }
 
 -- ---- what it needs
 
--- beside these leases no buffer is out, and there are as many as a pool has at least
-pub record IsIdleBeside (leases : List ℕ) (pool : Pool) : Type 0 where
+-- beside these leases two buffers are out at most, and there are as many as a pool has at least
+pub record HasRoom (leases : List ℕ) (pool : Pool) : Type 0 where
   pub enough : 8 ≤ length pool.pages
-  pub free : count_by not (others_out pool leases) ≡ length pool.pages
+  pub free : length pool.pages ≤ count_by not (others_out pool leases) + 2
 
 -- a job goes on
-pub record CanGoOn (told : Bool) (device : Device) (pool : Pool) (job : Job) : Type 0 where
-  pub some : IsSomeReady told device pool job
+pub record CanGoOn (told : Bool) (cat : Catalog) (side : ℕ) (device : Device) (pool : Pool) (job : Job) : Type 0 where
+  pub asked : Query
+  pub ready : IsReady cat asked side told device pool job
   pub going : is_over job ≡ false
 
-abbrev pub NeedsIn : (told : Bool) → Device → Pool → Stage → Type 0
-NeedsIn told device pool (Refused refusal) = ⊤
-NeedsIn told device pool (Broken state) = ⊤
-NeedsIn told device pool (Answering job) = CanGoOn told device pool job
+abbrev pub NeedsIn : (told : Bool) → Catalog → (side : ℕ) → Device → Pool → Stage → Type 0
+NeedsIn told cat side device pool (Refused refusal) = ⊤
+NeedsIn told cat side device pool (Broken state) = ⊤
+NeedsIn told cat side device pool Marked = ⊤
+NeedsIn told cat side device pool (Answering job) = CanGoOn told cat side device pool job
 
-pub record CanTell (told : Bool) (device : Device) (pool : Pool) (telling : Telling) : Type 0 where
-  pub needs : NeedsIn told device pool telling.stage
-  pub idle : IsIdleBeside (leases_of telling) pool
+-- over a catalog, with replies in one half of the spool
+pub record CanTell (told : Bool) (cat : Catalog) (side : ℕ) (device : Device) (pool : Pool) (telling : Telling) : Type 0 where
+  pub needs : NeedsIn told cat side device pool telling.stage
+  pub out : AreOut pool (leases_of telling)
+  pub room : HasRoom (leases_of telling) pool
+
+-- over some catalog, with replies in some half
+pub record CanTellSomewhere (told : Bool) (device : Device) (pool : Pool) (telling : Telling) : Type 0 where
+  pub cat : Catalog
+  pub side : ℕ
+  pub can : CanTell told cat side device pool telling
 
 -- ---- what it stands for
 
--- the pages hold a database; the replies ascend, and are about tables alone that the text asks for
-pub record KnowsText (pages_told : Bool) (page : ℕ → List ℕ) (cat : Catalog) (text : List ℕ) (replies : List Reply) (database : Database) : Type 0 where
-  pub pages : Knows pages_told page cat database
-  pub ascending : are_ascending replies ≡ true
-  pub of_asked : (asked : Query) → reading cat.schema text ≡ Ok asked → AreOfAsked cat.schema asked replies
+-- a half holds the replies to the asks of a query: one about each table that it asks for, and about no other
+pub record AreRepliesTo (page : ℕ → List ℕ) (schema : Schema) (asked : Query) (half : Half) (replies : List Reply) : Type 0 where
+  pub held : HoldsReplies page schema asked half replies
+  pub of_asked : AreOfAsked schema asked replies
+  pub all_asked : AreAllAsked schema asked replies
+
+abbrev pub AreRepliesOf : (page : ℕ → List ℕ) → Catalog → (text : List ℕ) → Half → List Reply → Type 0
+AreRepliesOf page cat text half replies = (asked : Query) → reading cat.schema text ≡ Ok asked → AreRepliesTo page cat.schema asked half replies
+
+-- the pages are those of a database, but for slots that spell no value, and the half holds the replies to the text's asks
+pub record KnowsText (pages_told : Bool) (page : ℕ → List ℕ) (cat : Catalog) (text : List ℕ) (half : Half) (replies : List Reply) (database : Database) : Type 0 where
+  pub pages : KnowsBut pages_told page cat database
+  pub of_text : AreRepliesOf page cat text half replies
 
 -- these rows were given, and those that are left come behind them in the answer
-pub record AreLeft (cat : Catalog) (asked meant : Query) (replies : List Reply) (given : List Row) (job : Job) (database : Database) : Type 0 where
+pub record AreLeft (cat : Catalog) (asked meant : Query) (replies : List Reply) (page : ℕ → List ℕ) (given : List Row) (job : Job) (database : Database) : Type 0 where
   pub answer : answer_from cat.schema (hidden_of cat.schema database) meant replies ≡ given ++ rows_left cat asked database replies job
-  pub stands : Stands cat asked database replies job
+  pub stands : Stands cat asked database replies page job
 
 -- some rows were given, whatever the pages hold; where they hold a database, from the front of the text's answer
-pub record HasGiven (pages_told : Bool) (cat : Catalog) (text : List ℕ) (replies : List Reply) (start device : Device) (before now : Handed) (pool : Pool) (job : Job) : Type 0 where
+pub record HasGiven (pages_told : Bool) (cat : Catalog) (side : ℕ) (text : List ℕ) (half : Half) (start device : Device) (before now : Handed) (pool : Pool) (job : Job) : Type 0 where
   pub asked : Query
   pub read : IsMeant cat.schema text asked
   pub tree : IsTree cat.schema
-  pub ready : IsReady cat asked pages_told device pool job
+  pub half_is : job.half ≡ half
+  pub ready : IsReady cat asked side pages_told device pool job
   pub blank : AreBlankOrRead start.calls device.calls pool (jobs.leases_of job)
+  pub reads : WereGiven start.calls device pool (jobs.leases_of job)
   pub given : List Row
   pub handed_on : Hands (concat (map row_line given)) before now
   pub counted : job.given ≡ length given
-  pub left : (database : Database) → KnowsText pages_told start.page cat text replies database → AreLeft cat asked read.meant replies given job database
+  pub left : (database : Database) (replies : List Reply) → KnowsText pages_told start.page cat text half replies database
+      → AreLeft cat asked read.meant replies device.page given job database
 
-abbrev pub IsAtStage : (pages_told : Bool) (cat : Catalog) (text : List ℕ) → ReplyState → (replies : List Reply) (start device : Device) (before now : Handed) → Pool → Stage → Type 0
-IsAtStage pages_told cat text state replies start device before now pool (Refused refusal) =
+abbrev pub IsAtStage : (pages_told : Bool) (cat : Catalog) (side : ℕ) (text : List ℕ) → ReplyState → (is_marked : Bool) → Half → (start device : Device) (before now : Handed) → Pool → Stage → Type 0
+IsAtStage pages_told cat side text state is_marked half start device before now pool (Refused refusal) =
     (reading cat.schema text ≡ Err (refusal_of refusal)) × (now ≡ before)
-IsAtStage pages_told cat text state replies start device before now pool (Broken by) =
+IsAtStage pages_told cat side text state is_marked half start device before now pool (Broken by) =
     IsAccepted cat.schema text (state ≡ state_is.Done → ⊥) × ((by ≡ state) × (now ≡ before))
-IsAtStage pages_told cat text state replies start device before now pool (Answering job) =
-    (state ≡ state_is.Done) × HasGiven pages_told cat text replies start device before now pool job
+IsAtStage pages_told cat side text state is_marked half start device before now pool Marked =
+    IsAccepted cat.schema text (IsDone state is_marked true) × (now ≡ before)
+IsAtStage pages_told cat side text state is_marked half start device before now pool (Answering job) =
+    IsDone state is_marked false × HasGiven pages_told cat side text half start device before now pool job
 
--- A text with these replies is told, since the flash and the sink were as at the first. It stays so as long as the flash, the
--- pool and its replies stay as they are.
-pub record IsUnderWay (pages_told : Bool) (cat : Catalog) (text : List ℕ) (state : ReplyState) (replies : List Reply) (start device : Device) (before now : Handed) (pool : Pool) (telling : Telling) : Type 0 where
-  pub kept : KeepsPages start device
-  pub faults : device.faults ≡ start.faults
-  pub at : IsAtStage pages_told cat text state replies start device before now pool telling.stage
+-- A text is told by the replies in a half, since the flash and the sink were as at the first. It stays so as long as the pages of
+-- that half, those of the catalog's columns and the buffers of its leases stay as they are.
+pub record IsUnderWay (pages_told : Bool) (cat : Catalog) (side : ℕ) (text : List ℕ) (state : ReplyState) (is_marked : Bool) (half : Half) (start device : Device) (before now : Handed) (pool : Pool) (telling : Telling) : Type 0 where
+  pub kept : SparesHalf cat side start device
+  pub at : IsAtStage pages_told cat side text state is_marked half start device before now pool telling.stage
 
 -- ---- what it told
 
@@ -146,27 +174,27 @@ AreLinesOf schema number text lines told.Answered = AreCountedLines number lines
 AreLinesOf schema number text lines told.Host = lines ≡ broken_line number (codes "host")
 AreLinesOf schema number text lines told.Link = lines ≡ broken_line number (codes "link")
 AreLinesOf schema number text lines told.Protocol = lines ≡ broken_line number (codes "protocol")
+AreLinesOf schema number text lines told.Marked = lines ≡ broken_line number (codes "flash")
 AreLinesOf schema number text lines told.Flash = AreCutLines number (codes "flash") lines
 AreLinesOf schema number text lines (told.Damaged damage) = AreCutLines number (codes "damaged") lines
 
--- The text was told to its end, since the flash and the sink were as at the first. Where the pages hold a database, its lines
--- are those of its answer over it.
-pub record HasTold (pages_told : Bool) (cat : Catalog) (number : ℕ) (text : List ℕ) (state : ReplyState) (replies : List Reply) (start device : Device) (before now : Handed) (result : Told) : Type 0 where
-  pub kept : KeepsPages start device
-  pub faults : ToldTells start.faults device.faults result
+-- The text was told to its end, since the flash and the sink were as at the first. Where the pages are those of a database, but
+-- for slots that spell no value, its lines are of its answer over it.
+pub record HasTold (pages_told : Bool) (cat : Catalog) (number : ℕ) (text : List ℕ) (state : ReplyState) (is_marked : Bool) (half : Half) (start device : Device) (before now : Handed) (result : Told) : Type 0 where
   pub called : ToldCalls start.calls device.calls result
-  pub blames : ToldBlames pages_told device.page cat result
-  pub by : IsToldBy cat.schema text state result
+  pub blames : ToldBlames pages_told start.page cat result
+  pub read : ToldReads pages_told start.calls device cat result
+  pub by : IsToldBy cat.schema text state is_marked result
   pub lines : List (List ℕ)
   pub handed_on : Hands (concat lines) before now
   pub are : AreLinesOf cat.schema number text lines result
-  pub why : (database : Database) → Knows pages_told start.page cat database → (state ≡ state_is.Done → are_ascending replies ≡ true)
-      → (state ≡ state_is.Done → (asked : Query) → reading cat.schema text ≡ Ok asked → AreOfAsked cat.schema asked replies)
+  pub why : (database : Database) (replies : List Reply) → KnowsBut pages_told start.page cat database
+      → (IsDone state is_marked false → AreRepliesOf start.page cat text half replies)
       → Why cat.schema (hidden_of cat.schema database) replies number text state lines result
 
 -- after a step a text that is answered is under way as before, or it was told
-abbrev pub GoesOn : (pages_told : Bool) (cat : Catalog) (text : List ℕ) → ReplyState → (replies : List Reply) (start device : Device) (before now : Handed) → Pool → Telling → Option Told → Type 0
-GoesOn pages_told cat text state replies start device before now pool telling None =
-    IsAccepted cat.schema text (state ≡ state_is.Done) × IsUnderWay pages_told cat text state replies start device before now pool telling
-GoesOn pages_told cat text state replies start device before now pool telling (Some result) =
-    HasTold pages_told cat telling.number text state replies start device before now result
+abbrev pub GoesOn : (pages_told : Bool) (cat : Catalog) (side : ℕ) (text : List ℕ) → ReplyState → (is_marked : Bool) → Half → (start device : Device) (before now : Handed) → Pool → Telling → Option Told → Type 0
+GoesOn pages_told cat side text state is_marked half start device before now pool telling None =
+    IsAccepted cat.schema text (IsDone state is_marked false) × IsUnderWay pages_told cat side text state is_marked half start device before now pool telling
+GoesOn pages_told cat side text state is_marked half start device before now pool telling (Some result) =
+    HasTold pages_told cat telling.number text state is_marked half start device before now result

@@ -1,5 +1,5 @@
 -- What the lines of a text tell, by the state of its replies.
-use Rattle.std.specs.Prelude.{◌≡◌, ℕ, ⊤, Bool, true, false, List, [], ◌∷◌, ◌++◌, map, codes, Ok, Err}
+use Rattle.std.specs.Prelude.{◌≡◌, ℕ, ⊤, Bool, true, false, List, [], ◌∷◌, ◌++◌, map, codes, Option, None, Some, Ok, Err}
 use Rattle.std.specs.List.{concat}
 use Rattle.ghost_model.specs.core.Causes.{Rose}
 use Rattle.ghost_model.specs.core.Schema.{Schema}
@@ -11,19 +11,20 @@ use Rattle.ghost_model.specs.readings.QueryReading.{reading}
 use Rattle.ghost_model.specs.core.Split.{Hidden}
 use Rattle.ghost_model.specs.core.Replies.{Reply, answer_from}
 use Rattle.ghost_model.specs.core.Printed.{row_line, answer_lines, word_line, refusal_line}
-use Rattle.key_exec.specs.Blaming.{IsDamaged}
+use Rattle.edge_traits.specs.Devices.{Device}
+use Rattle.key_exec.specs.Blaming.{IsDamaged, WasDamaged}
 use Rattle.key_lines.specs.Handing.{Handed, Hands}
 use Rattle.channel_pump.specs.declared.state.ReplyState.{ReplyState}
 use Rattle.channel_pump.specs.declared.state.ReplyState.TheVariants as state_is
 use Rattle.text_lines.specs.declared.text.Told.{Told}
 use Rattle.text_lines.specs.declared.text.Told.TheVariants as told
 
--- some of the rows, and the word of the flash behind them
-pub record AreFlashLines (number : ℕ) (rows : List Row) (lines : List (List ℕ)) : Type 0 where
+-- some of the rows from the front, and a word behind them
+pub record AreFrontLines (number : ℕ) (word : List ℕ) (rows : List Row) (lines : List (List ℕ)) : Type 0 where
   pub given : List Row
   pub left : List Row
   pub front : rows ≡ given ++ left
-  pub are : lines ≡ map row_line given ++ word_line number (codes "flash") ∷ []
+  pub are : lines ≡ map row_line given ++ word_line number word ∷ []
 
 abbrev pub AreAnswerLines : (number : ℕ) (rows : List Row) (lines : List (List ℕ)) → Told → Type 0
 AreAnswerLines number rows lines told.Refused = ⊥
@@ -31,8 +32,9 @@ AreAnswerLines number rows lines told.Answered = lines ≡ answer_lines number r
 AreAnswerLines number rows lines told.Host = ⊥
 AreAnswerLines number rows lines told.Link = ⊥
 AreAnswerLines number rows lines told.Protocol = ⊥
-AreAnswerLines number rows lines told.Flash = AreFlashLines number rows lines
-AreAnswerLines number rows lines (told.Damaged damage) = ⊥
+AreAnswerLines number rows lines told.Marked = AreFrontLines number (codes "flash") rows lines
+AreAnswerLines number rows lines told.Flash = AreFrontLines number (codes "flash") rows lines
+AreAnswerLines number rows lines (told.Damaged damage) = AreFrontLines number (codes "damaged") rows lines
 
 -- the line of what ended the asks of a text, by the state of its replies
 abbrev pub broken_line : (number : ℕ) (word : List ℕ) → List (List ℕ)
@@ -44,6 +46,7 @@ AreBrokenLines number state lines told.Answered = ⊥
 AreBrokenLines number state lines told.Host = (state ≡ state_is.Host) × (lines ≡ broken_line number (codes "host"))
 AreBrokenLines number state lines told.Link = ((state ≡ state_is.Protocol → ⊥) × (state ≡ state_is.Host → ⊥)) × (lines ≡ broken_line number (codes "link"))
 AreBrokenLines number state lines told.Protocol = (state ≡ state_is.Protocol) × (lines ≡ broken_line number (codes "protocol"))
+AreBrokenLines number state lines told.Marked = ⊥
 AreBrokenLines number state lines told.Flash = ⊥
 AreBrokenLines number state lines (told.Damaged damage) = ⊥
 
@@ -76,23 +79,30 @@ pub data Why (schema : Schema) (kept : Hidden) (given : List Reply) (number : �
   is_answered : IsAnswer schema kept given number text state lines result → Why schema kept given number text state lines result
   is_broken : IsBroken schema number text state lines result → Why schema kept given number text state lines result
 
--- the flash is blamed exactly where its count of faults rose
+-- the flash is blamed by a step exactly where its count of faults rose. It had risen before the first step of a text whose replies
+-- could not be written
 abbrev pub ToldTells : (before now : ℕ) → Told → Type 0
 ToldTells before now told.Refused = now ≡ before
 ToldTells before now told.Answered = now ≡ before
 ToldTells before now told.Host = now ≡ before
 ToldTells before now told.Link = now ≡ before
 ToldTells before now told.Protocol = now ≡ before
+ToldTells before now told.Marked = now ≡ before
 ToldTells before now told.Flash = Rose before now
 ToldTells before now (told.Damaged damage) = now ≡ before
 
--- a flash that is blamed, or a slot of it, was called
+abbrev pub StepTells : (before now : ℕ) → Option Told → Type 0
+StepTells before now None = now ≡ before
+StepTells before now (Some result) = ToldTells before now result
+
+-- a flash that failed a step, or whose slot is blamed, was called
 abbrev pub ToldCalls : (before now : ℕ) → Told → Type 0
 ToldCalls before now told.Refused = ⊤
 ToldCalls before now told.Answered = ⊤
 ToldCalls before now told.Host = ⊤
 ToldCalls before now told.Link = ⊤
 ToldCalls before now told.Protocol = ⊤
+ToldCalls before now told.Marked = ⊤
 ToldCalls before now told.Flash = Rose before now
 ToldCalls before now (told.Damaged damage) = Rose before now
 
@@ -106,21 +116,38 @@ pub record IsAccepted (schema : Schema) (text : List ℕ) (Came : Type 0) : Type
   pub accepted : reading schema text ≡ Ok query
   pub came : Came
 
-abbrev pub IsToldBy : Schema → (text : List ℕ) → ReplyState → Told → Type 0
-IsToldBy schema text state told.Refused = IsRefusedText schema text
-IsToldBy schema text state told.Answered = IsAccepted schema text (state ≡ state_is.Done)
-IsToldBy schema text state told.Host = IsAccepted schema text (state ≡ state_is.Host)
-IsToldBy schema text state told.Link = IsAccepted schema text ((state ≡ state_is.Done → ⊥) × ((state ≡ state_is.Protocol → ⊥) × (state ≡ state_is.Host → ⊥)))
-IsToldBy schema text state told.Protocol = IsAccepted schema text (state ≡ state_is.Protocol)
-IsToldBy schema text state told.Flash = IsAccepted schema text (state ≡ state_is.Done)
-IsToldBy schema text state (told.Damaged damage) = IsAccepted schema text (state ≡ state_is.Done)
+-- all asks of the text came to their end, and its replies are marked so
+abbrev pub IsDone : ReplyState → (is_marked wanted : Bool) → Type 0
+IsDone state is_marked wanted = (state ≡ state_is.Done) × (is_marked ≡ wanted)
 
--- a slot that is blamed is that of a row in the file of a hidden column, whatever the pages hold
+abbrev pub IsToldBy : Schema → (text : List ℕ) → ReplyState → (is_marked : Bool) → Told → Type 0
+IsToldBy schema text state is_marked told.Refused = IsRefusedText schema text
+IsToldBy schema text state is_marked told.Answered = IsAccepted schema text (IsDone state is_marked false)
+IsToldBy schema text state is_marked told.Host = IsAccepted schema text (state ≡ state_is.Host)
+IsToldBy schema text state is_marked told.Link = IsAccepted schema text ((state ≡ state_is.Done → ⊥) × ((state ≡ state_is.Protocol → ⊥) × (state ≡ state_is.Host → ⊥)))
+IsToldBy schema text state is_marked told.Protocol = IsAccepted schema text (state ≡ state_is.Protocol)
+IsToldBy schema text state is_marked told.Marked = IsAccepted schema text (IsDone state is_marked true)
+IsToldBy schema text state is_marked told.Flash = IsAccepted schema text (IsDone state is_marked false)
+IsToldBy schema text state is_marked (told.Damaged damage) = IsAccepted schema text (IsDone state is_marked false)
+
+-- a slot that is blamed has bytes that may not stand in it, whatever the pages hold
 abbrev pub ToldBlames : (pages_told : Bool) (page : ℕ → List ℕ) → Catalog → Told → Type 0
 ToldBlames pages_told page catalog told.Refused = ⊤
 ToldBlames pages_told page catalog told.Answered = ⊤
 ToldBlames pages_told page catalog told.Host = ⊤
 ToldBlames pages_told page catalog told.Link = ⊤
 ToldBlames pages_told page catalog told.Protocol = ⊤
+ToldBlames pages_told page catalog told.Marked = ⊤
 ToldBlames pages_told page catalog told.Flash = ⊤
 ToldBlames pages_told page catalog (told.Damaged damage) = IsDamaged pages_told page catalog damage.page damage.slot damage.found
+
+-- a slot that is blamed has bytes that a read gave, from so many calls on
+abbrev pub ToldReads : (pages_told : Bool) (since : ℕ) → Device → Catalog → Told → Type 0
+ToldReads pages_told since device catalog told.Refused = ⊤
+ToldReads pages_told since device catalog told.Answered = ⊤
+ToldReads pages_told since device catalog told.Host = ⊤
+ToldReads pages_told since device catalog told.Link = ⊤
+ToldReads pages_told since device catalog told.Protocol = ⊤
+ToldReads pages_told since device catalog told.Marked = ⊤
+ToldReads pages_told since device catalog told.Flash = ⊤
+ToldReads pages_told since device catalog (told.Damaged damage) = WasDamaged pages_told since device catalog damage.page damage.slot damage.found
