@@ -1,6 +1,6 @@
 -- One more text was told.
 use Rattle.std.proofs.Common.{◌≡◌, ◌≤◌, ◌<◌, ℕ, zero, suc, ◌+◌, ◌⊎◌, inl, inr, arith, Bool, true, false, ◌||◌, List, [], ◌∷◌, ◌++◌, length, map, drop, refl, sym, ap, ◌∙◌, subst, append-nil, length-append, Option, Some, None, slice_get}
-use Rattle.std.specs.Prelude.{if◌then◌else◌, count_by, min, is_some, flat_map}
+use Rattle.std.specs.Prelude.{⊤, if◌then◌else◌, count_by, min, is_some, flat_map}
 use Rattle.std.specs.List.{list_any, concat}
 use Rattle.std.proofs.lemmas.Grind.{flat_map-append}
 use Rattle.std.proofs.lemmas.List.Folds.{list_any-append}
@@ -14,11 +14,11 @@ use Rattle.text_lines.specs.Rows.{PrintsSome}
 use Rattle.text_lines.specs.Texts.{ToldTells, ToldCalls, ToldBlames}
 use Rattle.text_lines.specs.declared.text.Told.{Told}
 use Rattle.text_lines.specs.declared.text.Told.TheVariants as told
-use Rattle.key_session.specs.Counting.{damage_in, first_damage, first_of, reason_of, is_refusal, is_fault, is_flash, is_damage, one_if, IsCounted, AreCounted, AreUndamaged}
-use Rattle.key_session.specs.Damages.{IsSlot, MeetsFirst, AreKept}
-use Rattle.key_session.specs.Reasons.{HasReason, HaveReasons, HasLines, HaveLines}
+use Rattle.key_session.specs.Counting.{damage_in, first_damage, first_of, reason_of, is_refusal, is_fault, is_flash, is_broken, is_damage, one_if, IsCounted, AreCounted}
+use Rattle.key_session.specs.Damages.{IsSlot, MeetsFirst}
+use Rattle.key_session.specs.Reasons.{HasReason, HaveSoFar, AreBlamed, HasLines, HaveLinesOf, HaveLines}
 use Rattle.std.proofs.lemmas.Option.{slice_get_within}
-use Rattle.key_session.specs.Telling.{SessionSide, TextTold, reasons_of, bytes_of, bytes_told, IsTold, AreTold, AreLeft}
+use Rattle.key_session.specs.Telling.{TextTold, reasons_of, bytes_of, bytes_told, IsTold, WereTold, AreKeptSoFar, AreUndamagedSoFar, AreLeft}
 use Rattle.key_session.specs.declared.counts.Counts.{Counts}
 use Rattle.text_lines.specs.declared.damage.Damage.{Damage}
 
@@ -71,104 +71,133 @@ counted_more reasons reason old new are is = record {
   found = is.found ∙ ap (λ (b : Bool). b || is_damage reason) are.found ∙ sym (any_more is_damage reasons reason);
 }
 
+-- whether a text that was told so is marked
+abbrev pub TellsMark : (marked : Bool) → Told → Type 0
+TellsMark marked told.Refused = marked ≡ false
+TellsMark marked told.Answered = marked ≡ false
+TellsMark marked told.Host = ⊤
+TellsMark marked told.Link = ⊤
+TellsMark marked told.Protocol = ⊤
+TellsMark marked told.Marked = marked ≡ true
+TellsMark marked told.Flash = marked ≡ false
+TellsMark marked (told.Damaged damage) = marked ≡ false
+
+none_marked : (marked : Bool) (marks : ℕ) → marked ≡ false → marks ≡ 0 → one_if marked + marks ≡ 0
+none_marked true marks e f = cc
+none_marked false marks e f = omega (arith, f)
+
+one_marked : (marked : Bool) → marked ≡ true → 1 ≤ one_if marked
+one_marked true e = omega arith
+one_marked false e = cc
+
 -- the faults of the flash that are told of are some of those that it counted
-blamed_by : (b : Bool) (most since before now count : ℕ) → (b ≡ true → min (before + 1) most ≤ now) → (b ≡ false → now ≡ before) → min (since + count) most ≤ before → min (since + (count + one_if b)) most ≤ now
-blamed_by true most since before now count rose stayed e = let r : min (before + 1) most ≤ now = rose refl in omega (arith, r, e)
-blamed_by false most since before now count rose stayed e = let s : now ≡ before = stayed refl in omega (arith, s, e)
+blamed_same : (most since before now count marks mark more : ℕ) → more ≤ mark → now ≡ before → min (since + (count + (mark + marks))) most ≤ before → min (since + (count + more + marks)) most ≤ now
+blamed_same most since before now count marks mark more few same e = omega (arith, few, same, e)
 
-flash_rose : (before now : ℕ) (result : Told) → ToldTells before now result → is_flash (reason_of result) ≡ true → min (before + 1) last_count ≤ now
-flash_rose before now told.Flash tells e = tells
-flash_rose before now told.Refused tells e = cc
-flash_rose before now told.Answered tells e = cc
-flash_rose before now told.Host tells e = cc
-flash_rose before now told.Link tells e = cc
-flash_rose before now told.Protocol tells e = cc
-flash_rose before now (told.Damaged damage) tells e = cc
+blamed_rise : (most since before now count marks mark : ℕ) → min (before + 1) most ≤ now → min (since + (count + (mark + marks))) most ≤ before → min (since + (count + 1 + marks)) most ≤ now
+blamed_rise most since before now count marks mark rose e = omega (arith, rose, e)
 
-flash_stayed : (before now : ℕ) (result : Told) → ToldTells before now result → is_flash (reason_of result) ≡ false → now ≡ before
-flash_stayed before now told.Flash tells e = cc
-flash_stayed before now told.Refused tells e = tells
-flash_stayed before now told.Answered tells e = tells
-flash_stayed before now told.Host tells e = tells
-flash_stayed before now told.Link tells e = tells
-flash_stayed before now told.Protocol tells e = tells
-flash_stayed before now (told.Damaged damage) tells e = tells
+blamed_by : (since before now count marks : ℕ) (marked : Bool) (result : Told) → ToldTells before now result → TellsMark marked result
+    → min (since + (count + (one_if marked + marks))) last_count ≤ before → min (since + (count + one_if (is_flash (reason_of result)) + marks)) last_count ≤ now
+blamed_by since before now count marks marked told.Refused tells mark e = blamed_same last_count since before now count marks (one_if marked) 0 (omega arith) tells e
+blamed_by since before now count marks marked told.Answered tells mark e = blamed_same last_count since before now count marks (one_if marked) 0 (omega arith) tells e
+blamed_by since before now count marks marked told.Host tells mark e = blamed_same last_count since before now count marks (one_if marked) 0 (omega arith) tells e
+blamed_by since before now count marks marked told.Link tells mark e = blamed_same last_count since before now count marks (one_if marked) 0 (omega arith) tells e
+blamed_by since before now count marks marked told.Protocol tells mark e = blamed_same last_count since before now count marks (one_if marked) 0 (omega arith) tells e
+blamed_by since before now count marks marked (told.Damaged damage) tells mark e = blamed_same last_count since before now count marks (one_if marked) 0 (omega arith) tells e
+blamed_by since before now count marks marked told.Marked tells mark e = blamed_same last_count since before now count marks (one_if marked) 1 (one_marked marked mark) tells e
+blamed_by since before now count marks marked told.Flash tells mark e = blamed_rise last_count since before now count marks (one_if marked) tells e
+
+unblamed_by : (since before now marks : ℕ) (marked : Bool) (result : Told) → ToldTells before now result → TellsMark marked result
+    → (one_if marked + marks ≡ 0 → before ≡ since) → is_flash (reason_of result) ≡ false → is_broken (reason_of result) ≡ false → marks ≡ 0 → now ≡ since
+unblamed_by since before now marks marked told.Refused tells mark same flash broken none = tells ∙ same (none_marked marked marks mark none)
+unblamed_by since before now marks marked told.Answered tells mark same flash broken none = tells ∙ same (none_marked marked marks mark none)
+unblamed_by since before now marks marked (told.Damaged damage) tells mark same flash broken none = tells ∙ same (none_marked marked marks mark none)
+unblamed_by since before now marks marked told.Host tells mark same flash broken none = cc
+unblamed_by since before now marks marked told.Link tells mark same flash broken none = cc
+unblamed_by since before now marks marked told.Protocol tells mark same flash broken none = cc
+unblamed_by since before now marks marked told.Marked tells mark same flash broken none = cc
+unblamed_by since before now marks marked told.Flash tells mark same flash broken none = cc
+
+-- the flash's count of faults after one more text
+blamed_more : (reasons : List Reason) (since before now marks : ℕ) (marked : Bool) (result : Told) → ToldTells before now result → TellsMark marked result
+    → AreBlamed (one_if marked + marks) reasons since before → AreBlamed marks (reasons ++ reason_of result ∷ []) since now
+blamed_more reasons since before now marks marked result tells mark are = record {
+  blamed = subst (λ (n : ℕ). min (since + (n + marks)) last_count ≤ now) (sym (count_more is_flash reasons (reason_of result)))
+      (blamed_by since before now (count_by is_flash reasons) marks marked result tells mark are.blamed);
+  unblamed = λ flash broken none.
+      let no_flash = neither (list_any is_flash reasons) (is_flash (reason_of result)) (sym (any_more is_flash reasons (reason_of result)) ∙ flash) in
+      let no_broken = neither (list_any is_broken reasons) (is_broken (reason_of result)) (sym (any_more is_broken reasons (reason_of result)) ∙ broken) in
+      unblamed_by since before now marks marked result tells mark (λ zero. are.unblamed no_flash.0 no_broken.0 zero) no_flash.1 no_broken.1 none;
+}
 
 no_fall : (most before now : ℕ) → before ≤ most → min (before + 1) most ≤ now → before ≤ now
 no_fall most before now e r = omega (arith, e, r)
-
--- the flash's count of faults after one more text
-blamed_more : (reasons : List Reason) (since before now : ℕ) (result : Told) → ToldTells before now result → min (since + count_by is_flash reasons) last_count ≤ before
-    → min (since + count_by is_flash (reasons ++ reason_of result ∷ [])) last_count ≤ now
-blamed_more reasons since before now result tells e =
-    subst (λ (n : ℕ). min (since + n) last_count ≤ now) (sym (count_more is_flash reasons (reason_of result)))
-    (blamed_by (is_flash (reason_of result)) last_count since before now (count_by is_flash reasons) (flash_rose before now result tells) (flash_stayed before now result tells) e)
-
-unblamed_more : (reasons : List Reason) (since before now : ℕ) (result : Told) → ToldTells before now result → (list_any is_flash reasons ≡ false → before ≡ since)
-    → list_any is_flash (reasons ++ reason_of result ∷ []) ≡ false → now ≡ since
-unblamed_more reasons since before now result tells same e =
-    let none = neither (list_any is_flash reasons) (is_flash (reason_of result)) (sym (any_more is_flash reasons (reason_of result)) ∙ e) in
-    flash_stayed before now result tells none.1 ∙ same none.0
 
 -- a rise of the count of calls in either of two parts is one in both
 either : (first second : Bool) → (first || second) ≡ true → (first ≡ true) ⊎ (second ≡ true)
 either true second e = inl refl
 either false second e = inr e
 
-flash_called : (before now : ℕ) (result : Told) → ToldCalls before now result → is_flash (reason_of result) ≡ true → Rose before now
-flash_called before now told.Flash called e = called
-flash_called before now told.Refused called e = cc
-flash_called before now told.Answered called e = cc
-flash_called before now told.Host called e = cc
-flash_called before now told.Link called e = cc
-flash_called before now told.Protocol called e = cc
-flash_called before now (told.Damaged damage) called e = cc
-
-damage_called : (before now : ℕ) (result : Told) → ToldCalls before now result → is_damage (reason_of result) ≡ true → Rose before now
-damage_called before now told.Flash called e = cc
-damage_called before now told.Refused called e = cc
-damage_called before now told.Answered called e = cc
-damage_called before now told.Host called e = cc
-damage_called before now told.Link called e = cc
-damage_called before now told.Protocol called e = cc
-damage_called before now (told.Damaged damage) called e = called
-
 pub still_no_fall : (most since before now : ℕ) → min since most ≤ before → min before most ≤ now → min since most ≤ now
 still_no_fall most since before now e f = omega (arith, e, f)
 
-rose_before : (most since before now : ℕ) → min (since + 1) most ≤ before → min before most ≤ now → min (since + 1) most ≤ now
+pub rose_before : (most since before now : ℕ) → min (since + 1) most ≤ before → min before most ≤ now → min (since + 1) most ≤ now
 rose_before most since before now e f = omega (arith, e, f)
 
-rose_then : (most since before now : ℕ) → min since most ≤ before → min (before + 1) most ≤ now → min (since + 1) most ≤ now
+pub rose_then : (most since before now : ℕ) → min since most ≤ before → min (before + 1) most ≤ now → min (since + 1) most ≤ now
 rose_then most since before now e f = omega (arith, e, f)
 
-rose_more : (since before now : ℕ) (first second : Bool) → min since last_count ≤ before → (first ≡ true → Rose since before)
-    → min before last_count ≤ now → (second ≡ true → Rose before now) → (first || second) ≡ true → Rose since now
-rose_more since before now first second stayed called stays calls e =
+-- a text that was ended by the flash was marked, or the flash was called for it
+flash_called : (since start now : ℕ) (marked : Bool) (result : Told) → min since last_count ≤ start → ToldCalls start now result → TellsMark marked result → (marked ≡ true → Rose since now)
+    → is_flash (reason_of result) ≡ true → Rose since now
+flash_called since start now marked told.Flash stayed called mark rose e = rose_then last_count since start now stayed called
+flash_called since start now marked told.Marked stayed called mark rose e = rose mark
+flash_called since start now marked told.Refused stayed called mark rose e = cc
+flash_called since start now marked told.Answered stayed called mark rose e = cc
+flash_called since start now marked told.Host stayed called mark rose e = cc
+flash_called since start now marked told.Link stayed called mark rose e = cc
+flash_called since start now marked told.Protocol stayed called mark rose e = cc
+flash_called since start now marked (told.Damaged damage) stayed called mark rose e = cc
+
+damage_called : (since start now : ℕ) (result : Told) → min since last_count ≤ start → ToldCalls start now result → is_damage (reason_of result) ≡ true → Rose since now
+damage_called since start now told.Flash stayed called e = cc
+damage_called since start now told.Marked stayed called e = cc
+damage_called since start now told.Refused stayed called e = cc
+damage_called since start now told.Answered stayed called e = cc
+damage_called since start now told.Host stayed called e = cc
+damage_called since start now told.Link stayed called e = cc
+damage_called since start now told.Protocol stayed called e = cc
+damage_called since start now (told.Damaged damage) stayed called e = rose_then last_count since start now stayed called
+
+rose_more : (since now : ℕ) (first second : Bool) → (first ≡ true → Rose since now) → (second ≡ true → Rose since now) → (first || second) ≡ true → Rose since now
+rose_more since now first second called calls e =
     elim (either first second e) [
-      | inl f ↦ rose_before last_count since before now (called f) stays
-      | inr f ↦ rose_then last_count since before now stayed (calls f)
+      | inl f ↦ called f
+      | inr f ↦ calls f
     ]
 
 -- the flash was called where one of the texts met a fault of it
-pub called_more : (since before now : ℕ) (old new : Counts) (result : Told) → IsCounted (reason_of result) old new
-    → min since last_count ≤ before → (old.by_flash ≡ true → Rose since before)
-    → min before last_count ≤ now → ToldCalls before now result → new.by_flash ≡ true → Rose since now
-called_more since before now old new result counted stayed called stays calls e =
-    rose_more since before now old.by_flash (is_flash (reason_of result)) stayed called stays (flash_called before now result calls) (sym counted.by_flash ∙ e)
+pub called_more : (since start before now : ℕ) (old new : Counts) (marked : Bool) (result : Told) → IsCounted (reason_of result) old new
+    → (old.by_flash ≡ true → Rose since before) → min before last_count ≤ now → min since last_count ≤ start → ToldCalls start now result
+    → TellsMark marked result → (marked ≡ true → Rose since before) → new.by_flash ≡ true → Rose since now
+called_more since start before now old new marked result counted called stays stayed calls mark rose e =
+    rose_more since now old.by_flash (is_flash (reason_of result)) (λ f. rose_before last_count since before now (called f) stays)
+    (flash_called since start now marked result stayed calls mark (λ m. rose_before last_count since before now (rose m) stays)) (sym counted.by_flash ∙ e)
 
 -- and where one of them met damage
-pub damage_called_more : (since before now : ℕ) (old new : Counts) (result : Told) → IsCounted (reason_of result) old new
-    → min since last_count ≤ before → (is_some old.damage ≡ true → Rose since before)
-    → min before last_count ≤ now → ToldCalls before now result → is_some new.damage ≡ true → Rose since now
-damage_called_more since before now old new result counted stayed called stays calls e =
-    rose_more since before now (is_some old.damage) (is_damage (reason_of result)) stayed called stays (damage_called before now result calls) (sym counted.found ∙ e)
+pub damage_called_more : (since start before now : ℕ) (old new : Counts) (result : Told) → IsCounted (reason_of result) old new
+    → (is_some old.damage ≡ true → Rose since before) → min before last_count ≤ now → min since last_count ≤ start → ToldCalls start now result
+    → is_some new.damage ≡ true → Rose since now
+damage_called_more since start before now old new result counted called stays stayed calls e =
+    rose_more since now (is_some old.damage) (is_damage (reason_of result)) (λ f. rose_before last_count since before now (called f) stays)
+    (damage_called since start now result stayed calls) (sym counted.found ∙ e)
 
 -- one more text has its lines
-pub one_lines : PiecesJoin → (catalog : Catalog) (texts : List (List ℕ)) (journal : Journal) (reasons : List Reason) (reason : Reason) (since between now : Handed) (one : List (List ℕ))
-    → HaveLines catalog texts journal reasons since between → HasLines catalog texts journal (length reasons) reason one → Hands (concat one) between now
-    → HaveLines catalog texts journal (reasons ++ reason ∷ []) since now
-one_lines join catalog texts journal reasons reason since between now one are is hands =
+pub one_lines : PiecesJoin → (Has : (place : ℕ) → Reason → (lines : List (List ℕ)) → Type 0) (reasons : List Reason) (reason : Reason) (since between now : Handed) (one : List (List ℕ))
+    → HaveLinesOf Has reasons since between → Has (length reasons) reason one → Hands (concat one) between now
+    → HaveLinesOf Has (reasons ++ reason ∷ []) since now
+one_lines join Has reasons reason since between now one are is hands =
     let long : length are.lines ≡ length reasons = are.as_many in
     let longer : length (are.lines ++ one ∷ []) ≡ length are.lines + 1 = length-append are.lines (one ∷ []) in
     let more : length (reasons ++ reason ∷ []) ≡ length reasons + 1 = length-append reasons (reason ∷ []) in
@@ -183,12 +212,12 @@ one_lines join catalog texts journal reasons reason since between now one are is
     }
   where
     by : (place : ℕ) (it : Reason) (mine : List (List ℕ)) → (slice_get reasons place ≡ Some it) ⊎ ((place ≡ length reasons) × (reason ≡ it))
-        → (slice_get are.lines place ≡ Some mine) ⊎ ((place ≡ length are.lines) × (one ≡ mine)) → HasLines catalog texts journal place it mine
+        → (slice_get are.lines place ≡ Some mine) ⊎ ((place ≡ length are.lines) × (one ≡ mine)) → Has place it mine
     by place it mine (inl e) (inl f) = are.each place it mine e f
     by place it mine (inr e) (inr f) =
-        subst (λ (r : Reason). HasLines catalog texts journal place r mine) e.1
-        (subst (λ (ls : List (List ℕ)). HasLines catalog texts journal place reason ls) f.1
-        (subst (λ (n : ℕ). HasLines catalog texts journal n reason one) (sym e.0) is))
+        subst (λ (r : Reason). Has place r mine) e.1
+        (subst (λ (ls : List (List ℕ)). Has place reason ls) f.1
+        (subst (λ (n : ℕ). Has n reason one) (sym e.0) is))
     by place it mine (inl e) (inr f) =
         let within : place < length reasons = slice_get_within reasons place it e in
         let at : place ≡ length are.lines = f.0 in
@@ -207,6 +236,7 @@ damage_told told.Answered = refl
 damage_told told.Host = refl
 damage_told told.Link = refl
 damage_told told.Protocol = refl
+damage_told told.Marked = refl
 damage_told told.Flash = refl
 damage_told (told.Damaged damage) = refl
 
@@ -217,6 +247,7 @@ module _ (pages_told : Bool) (page : ℕ → List ℕ) (catalog : Catalog) where
   slot_told told.Host damage blames e = cc
   slot_told told.Link damage blames e = cc
   slot_told told.Protocol damage blames e = cc
+  slot_told told.Marked damage blames e = cc
   slot_told told.Flash damage blames e = cc
   slot_told (told.Damaged met) damage blames e = subst (λ (d : Damage). IsSlot pages_told page catalog d) (some_same met damage e) blames
 
@@ -251,14 +282,14 @@ module _ (pages_told : Bool) (page : ℕ → List ℕ) (catalog : Catalog) where
   }
 
   -- one more text has a reason, and lines for it
-  pub one_reason : PiecesJoin → (texts : List (List ℕ)) (journal : Journal) (count : ℕ) (old new : Counts) (since between now : ℕ) (result : Told)
+  pub one_reason : PiecesJoin → (texts : List (List ℕ)) (journal : Journal) (count : ℕ) (old new : Counts) (since before now marks : ℕ) (marked : Bool) (result : Told)
       (first middle last : Handed) (lines : List (List ℕ))
-      → (are : HaveReasons catalog texts journal count (λ reasons. AreKept pages_told page catalog reasons old) since between) → HasReason catalog texts journal count (reason_of result)
-      → ToldTells between now result → IsCounted (reason_of result) old new
+      → (are : HaveSoFar catalog texts journal count (AreKeptSoFar pages_told page catalog old (one_if marked + marks) since before)) → HasReason catalog texts journal count (reason_of result)
+      → ToldTells before now result → TellsMark marked result → IsCounted (reason_of result) old new
       → new.damage ≡ first_damage old.damage (damage_in result) → ToldBlames pages_told page catalog result
       → HaveLines catalog texts journal are.reasons first middle → HasLines catalog texts journal count (reason_of result) lines → Hands (concat lines) middle last
-      → (more : HaveReasons catalog texts journal (count + 1) (λ reasons. AreKept pages_told page catalog reasons new) since now) × HaveLines catalog texts journal more.reasons first last
-  one_reason join texts journal count old new since between now result first middle last lines are is tells counted met blames have has hands =
+      → (more : HaveSoFar catalog texts journal (count + 1) (AreKeptSoFar pages_told page catalog new marks since now)) × HaveLines catalog texts journal more.reasons first last × (more.reasons ≡ are.reasons ++ reason_of result ∷ [])
+  one_reason join texts journal count old new since before now marks marked result first middle last lines are is tells mark counted met blames have has hands =
       let long : length are.reasons ≡ count = are.as_many in
       let longer : length (are.reasons ++ reason_of result ∷ []) ≡ length are.reasons + 1 = length-append are.reasons (reason_of result ∷ []) in (
         record {
@@ -269,23 +300,25 @@ module _ (pages_told : Bool) (page : ℕ → List ℕ) (catalog : Catalog) where
                 | inl f ↦ are.each place it f
                 | inr f ↦ subst (λ (x : Reason). HasReason catalog texts journal place x) f.1 (subst (λ (n : ℕ). HasReason catalog texts journal n (reason_of result)) (sym (f.0 ∙ long)) is)
               ];
-          blamed = blamed_more are.reasons since between now result tells are.blamed;
-          unblamed = unblamed_more are.reasons since between now result tells are.unblamed;
           counted = record {
-            counted = counted_more are.reasons (reason_of result) old new are.counted.counted counted;
-            met = met_more are.reasons old.damage new.damage result met blames are.counted.met;
+            kept = record {
+              counted = counted_more are.reasons (reason_of result) old new are.counted.kept.counted counted;
+              met = met_more are.reasons old.damage new.damage result met blames are.counted.kept.met;
+            };
+            faults = blamed_more are.reasons since before now marks marked result tells mark are.counted.faults;
           };
         },
-        one_lines join catalog texts journal are.reasons (reason_of result) first middle last lines have
+        one_lines join (HasLines catalog texts journal) are.reasons (reason_of result) first middle last lines have
             (subst (λ (n : ℕ). HasLines catalog texts journal n (reason_of result) lines) (sym long) has) hands,
+        refl,
       )
 
-pub one_told : PiecesJoin → (catalog : Catalog) (kept : Hidden) (texts : List (List ℕ)) (journal : Journal) (count : ℕ) (old new : Counts) (since between now : SessionSide) (result : Told) (lines : List (List ℕ))
-    → AreTold catalog kept texts journal count (λ reasons. AreUndamaged reasons old) since between
+pub one_told : PiecesJoin → (catalog : Catalog) (kept : Hidden) (texts : List (List ℕ)) (journal : Journal) (count : ℕ) (old new : Counts) (since before now marks : ℕ) (marked : Bool) (first middle last : Handed) (result : Told) (lines : List (List ℕ))
+    → WereTold catalog kept texts journal count (AreUndamagedSoFar old (one_if marked + marks) since before) first middle
     → IsTold catalog kept texts journal count (record { reason = reason_of result; lines = lines })
-    → Hands (concat lines) between.sink now.sink → ToldTells between.flash.faults now.flash.faults result → IsCounted (reason_of result) old new
-    → AreTold catalog kept texts journal (count + 1) (λ reasons. AreUndamaged reasons new) since now
-one_told join catalog kept texts journal count old new since between now result lines are is hands tells counted =
+    → Hands (concat lines) middle last → ToldTells before now result → TellsMark marked result → IsCounted (reason_of result) old new
+    → WereTold catalog kept texts journal (count + 1) (AreUndamagedSoFar new marks since now) first last
+one_told join catalog kept texts journal count old new since before now marks marked first middle last result lines are is hands tells mark counted =
     let one : TextTold = record { reason = reason_of result; lines = lines } in
     let long : length are.told ≡ count = are.as_many in
     let longer : length (are.told ++ one ∷ []) ≡ length are.told + 1 = length-append are.told (one ∷ []) in
@@ -299,16 +332,14 @@ one_told join catalog kept texts journal count old new since between now result 
             | inl f ↦ are.each place it f
             | inr f ↦ subst (λ (x : TextTold). IsTold catalog kept texts journal place x) f.1 (subst (λ (n : ℕ). IsTold catalog kept texts journal n one) (sym (f.0 ∙ long)) is)
           ];
-      handed_on = subst (λ (bs : List ℕ). Hands bs since.sink now.sink) (sym bytes) (join.two (bytes_told are.told) (concat lines) since.sink between.sink now.sink are.handed_on hands);
-      blamed = subst (λ (rs : List Reason). min (since.flash.faults + count_by is_flash rs) last_count ≤ now.flash.faults) (sym (reasons_more are.told one))
-          (blamed_more (reasons_of are.told) since.flash.faults between.flash.faults now.flash.faults result tells are.blamed);
-      unblamed = λ e.
-          unblamed_more (reasons_of are.told) since.flash.faults between.flash.faults now.flash.faults result tells are.unblamed
-          (ap (list_any is_flash) (sym (reasons_more are.told one)) ∙ e);
-      counted = subst (λ (rs : List Reason). AreUndamaged rs new) (sym (reasons_more are.told one))
+      handed_on = subst (λ (bs : List ℕ). Hands bs first last) (sym bytes) (join.two (bytes_told are.told) (concat lines) first middle last are.handed_on hands);
+      counted = subst (λ (rs : List Reason). AreUndamagedSoFar new marks since now rs) (sym (reasons_more are.told one))
           (record {
-            counted = counted_more (reasons_of are.told) (reason_of result) old new are.counted.counted counted;
-            undamaged = counted.damage is.undamaged ∙ are.counted.undamaged;
+            undamaged = record {
+              counted = counted_more (reasons_of are.told) (reason_of result) old new are.counted.undamaged.counted counted;
+              undamaged = counted.damage is.undamaged ∙ are.counted.undamaged.undamaged;
+            };
+            faults = blamed_more (reasons_of are.told) since before now marks marked result tells mark are.counted.faults;
           });
     }
 
@@ -341,3 +372,13 @@ some_more join since between now first second = record {
   piece = first.piece ++ second.piece;
   handed = join.two first.piece second.piece since between now first.handed second.handed;
 }
+
+-- a number up to another or the next one
+pub either_of : (a b : ℕ) → a ≤ b + 1 → (a ≤ b) ⊎ (a ≡ b + 1)
+either_of zero b e = inl (omega arith)
+either_of (suc a) zero e = inr (omega (arith, e))
+either_of (suc a) (suc b) e =
+    elim (either_of a b (omega (arith, e))) [
+      | inl f ↦ inl (omega (arith, f))
+      | inr f ↦ inr (omega (arith, f))
+    ]

@@ -22,12 +22,14 @@ use Rattle.channel_pump.specs.declared.state.Want.TheVariants as want_is
 use Rattle.session_laws.specs.TextCases.{TextsHaveOutcomes}
 use Rattle.ghost_model.specs.core.NextMove.{IsProper, IsFinished}
 use Rattle.ghost_model.specs.core.NextMove.{Heard}
-use Rattle.session_replies.specs.Halves.{is_even, stored_for}
+use Rattle.edge_traits.specs.Devices.{Device}
+use Rattle.page_pool.specs.Pools.{Pool}
+use Rattle.key_lines.specs.Handing.{Handed}
 use Rattle.session_replies.specs.Kept.{IsKept}
 use Rattle.key_session.specs.Awaiting.{IsWithin, IsAwaiting}
 use Rattle.key_session.specs.Order.{due_of, is_first, is_owed, is_closed}
 use Rattle.key_session.specs.Telling.{SessionSide, CameOut, AreLeft, texts_left}
-use Rattle.key_session.specs.Going.{IsGoing, IsNext}
+use Rattle.key_session.specs.Going.{IsGoing, IsNear, IsNext}
 use Rattle.key_session.specs.declared.counts.Counts.{Counts}
 use Rattle.key_session.specs.declared.pace.Due.TheVariants as due
 use Rattle.key_session.specs.declared.teller.Teller.{Teller}
@@ -187,36 +189,48 @@ module _ (over : OverTextsAreSettled) (order : TextsComeInOrder) (decided : Text
           omega (arith, behind, place)
 
   -- the text of the ask that is awaited is none before the next one, and near
-  pub within_now : (since now : SessionSide) (low count : ℕ) (left : List (List ℕ)) (counts : Counts) (pages_told : Bool) (kept : Replies) (going : IsGoing pages_told catalog texts journal since now low pump left count counts kept)
-      → (want_of pump ≡ want_is.Closed → ⊥) → count + 1 ≤ low → ((asked : NumberedAsk) → asked_in (heard_in catalog texts journal).awaits ≡ Some asked → asked.text ≤ count + 2)
-      → (asked : NumberedAsk) → asked_in (heard_in catalog texts journal).awaits ≡ Some asked → IsWithin low going.top asked.text
-  within_now since now low count left counts pages_told kept going opened least near asked awaited =
+  pub within_now : (pages_told : Bool) (since : SessionSide) (sink : Handed) (device : Device) (pool : Pool) (left : List (List ℕ)) (count : ℕ) (counts : Counts) (kept : Replies) (going : IsGoing pages_told catalog texts journal since sink device pool pump left count counts kept)
+      → (want_of pump ≡ want_is.Closed → ⊥) → IsNear catalog texts journal (count + 2)
+      → (asked : NumberedAsk) → asked_in (heard_in catalog texts journal).awaits ≡ Some asked → IsWithin (count + 1) going.top asked.text
+  within_now pages_told since sink device pool left count counts kept going opened near asked awaited =
       let in_order = order catalog texts (taken journal) asked awaited in
       let un : is_settled_in catalog texts journal asked.text ≡ false = unsettled over order decided catalog texts journal asked awaited in
       let close : asked.text ≤ count + 2 = near asked awaited in
       record {
         numbered = in_order.numbered;
         least = going.onward asked.text un;
-        from = from asked.text low (λ less. true_is_not_false (sym (going.settled opened asked.text in_order.numbered less) ∙ un));
-        near = omega (arith, close, least);
+        from = from asked.text count (λ upto. true_is_not_false (sym (going.settled opened asked.text in_order.numbered upto) ∙ un));
+        near = omega (arith, close);
       }
     where
-      from : (text low : ℕ) → (suc text ≤ low → ⊥) → low ≤ text
-      from text low none = omega (arith, none)
+      from : (text count : ℕ) → (text ≤ count → ⊥) → count + 1 ≤ text
+      from text count none = omega (arith, none)
 
 -- the reply to the ask that is awaited was begun
-pub begun_reply : (catalog : Catalog) (heard : Heard) (low top : ℕ) (old new : Replies) (asked : NumberedAsk) → asked_in heard.awaits ≡ Some asked → new.is_open ≡ true → IsKept catalog heard low asked.text new
-    → ((other : ℕ) → (is_even other ≡ is_even asked.text → ⊥) → stored_for new other ≡ stored_for old other) → IsAwaiting catalog heard low top old new
-begun_reply catalog heard low top old new asked awaited begun kept others = record {
+pub begun_reply : (told : Bool) (device : Device) (pool : Pool) (catalog : Catalog) (heard : Heard) (low top : ℕ) (old new : Replies) (asked : NumberedAsk) → asked_in heard.awaits ≡ Some asked → new.is_open ≡ true → new.hand.text ≡ asked.text
+    → IsKept told device pool catalog heard low asked.text new → IsAwaiting told device pool catalog heard low top old new
+begun_reply told device pool catalog heard low top old new asked awaited begun hand kept = record {
   last = asked.text;
   kept = kept;
-  awaited = λ one e. (begun, ap (λ (a : NumberedAsk). a.text) (same_one asked one (sym awaited ∙ e)));
+  awaited = λ one e. (let same : asked.text ≡ one.text = ap (λ (a : NumberedAsk). a.text) (same_one asked one (sym awaited ∙ e)) in record { begun = begun; hand = hand ∙ same; last_is = same });
   still = λ none. absurd (none_some asked (sym none ∙ awaited));
-  others = λ other apart. others other (apart asked awaited);
 }
   where
     same_one : (x y : NumberedAsk) → Some x ≡ Some y → x ≡ y
     same_one x y e = cc
 
+    none_some : (asked : NumberedAsk) → None ≡ Some asked → ⊥
+    none_some asked e = cc
+
+-- no ask is awaited
+pub none_asked : (told : Bool) (device : Device) (pool : Pool) (catalog : Catalog) (heard : Heard) (low top : ℕ) (replies : Replies) → asked_in heard.awaits ≡ None
+    → IsKept told device pool catalog heard low top replies → IsAwaiting told device pool catalog heard low top replies replies
+none_asked told device pool catalog heard low top replies none kept = record {
+  last = top;
+  kept = kept;
+  awaited = λ one e. absurd (none_some one (sym none ∙ e));
+  still = λ _. refl;
+}
+  where
     none_some : (asked : NumberedAsk) → None ≡ Some asked → ⊥
     none_some asked e = cc

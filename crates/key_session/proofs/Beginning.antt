@@ -1,103 +1,112 @@
 -- A text that is begun, goes on and ends, between the moves of a session.
-use Rattle.std.proofs.Common.{◌≡◌, ◌≤◌, ℕ, zero, suc, ◌+◌, ◌*◌, ◌⊎◌, inl, inr, arith, Bool, true, false, List, [], ◌∷◌, length, refl, sym, ap, ◌∙◌, subst, Option, Some, None, slice_get}
-use Rattle.std.specs.Prelude.{is_some}
+use Rattle.std.proofs.Common.{◌≡◌, ◌≤◌, ◌<◌, ℕ, suc, ◌+◌, inl, inr, arith, Bool, true, false, List, [], ◌∷◌, length, refl, sym, ◌∙◌, subst, Option, Some, None, Ok, slice_get}
+use Rattle.std.specs.Prelude.{◌%◌, is_some, min, not, get_or, count_by}
+use Rattle.ghost_model.specs.core.Causes.{last_count}
 use Rattle.ghost_model.specs.core.Channel.{Catalog, Journal}
+use Rattle.ghost_model.specs.core.Query.{Query}
 use Rattle.ghost_model.specs.core.Asks.{asked_of}
 use Rattle.ghost_model.specs.core.Moves.{taken}
-use Rattle.ghost_model.specs.core.NextMove.{standing_after}
+use Rattle.ghost_model.specs.core.NextMove.{Heard, standing_after}
 use Rattle.ghost_model.specs.core.Replies.{replies}
-use Rattle.edge_traits.specs.Devices.{Device}
-use Rattle.page_pool.specs.Pools.{Pool}
+use Rattle.ghost_model.specs.forms.Frames.{AreBytes}
+use Rattle.ghost_model.specs.laws.SchemaTrees.{IsTree}
+use Rattle.ghost_model.specs.readings.QueryReading.{reading}
+use Rattle.ghost_laws.specs.Selected.{AreWholeReplies, RepliesAreWhole}
+use Rattle.edge_traits.specs.Devices.{Device, KeepsPages}
+use Rattle.page_pool.specs.Pools.{Pool, KeepsOthers, others_out}
+use Rattle.page_pool.proofs.Leases.{other_out}
 use Rattle.channel_pump.specs.Marks.{state_of}
-use Rattle.channel_pump.specs.State.{want_of}
 use Rattle.channel_pump.specs.declared.state.Pump.{Pump}
 use Rattle.channel_pump.specs.declared.state.ReplyState.{ReplyState}
 use Rattle.channel_pump.specs.declared.state.ReplyState.TheVariants as state_is
 use Rattle.session_laws.specs.TextEnds.{heard_in, is_settled_in}
 use Rattle.session_laws.specs.TextCases.{TextsAreDecided}
-use Rattle.reply_store.specs.Stored.{Stored, replies_in, are_ascending}
-use Rattle.reply_laws.specs.Stores.{RepliesAscend, StoredAreGiven}
-use Rattle.session_replies.specs.Halves.{kept, stored_for}
-use Rattle.session_replies.specs.Kept.{IsKept, done_of}
+use Rattle.visible_spool.specs.declared.half.Half.{Half}
+use Rattle.session_replies.specs.Kept.{IsKept, is_lost, half_in, lease_of}
+use Rattle.session_replies.specs.Given.{KeptAreGiven}
+use Rattle.session_replies.specs.Laws.{RepliesStayKept, LaterTextsAreUnmarked, LowRises}
 use Rattle.session_replies.specs.declared.replies.Replies.{Replies}
-use Rattle.key_lines.specs.Handing.{PiecesJoin}
-use Rattle.key_exec.specs.Laws.{WholeRepliesAreOfAsked}
-use Rattle.text_lines.specs.Texts.{IsAccepted}
-use Rattle.text_lines.specs.Telling.{IsUnderWay, HasTold}
+use Rattle.key_lines.specs.Handing.{Handed, PiecesJoin}
+use Rattle.candidate_rows.specs.Laws.{WholeRepliesAreToAsks}
+use Rattle.key_exec.specs.Laws.{WholeRepliesAreOfAsked, WholeRepliesAreOfAll}
+use Rattle.text_lines.specs.Texts.{IsAccepted, IsDone, ToldTells}
+use Rattle.text_lines.specs.Telling as lines
+use Rattle.text_lines.specs.Telling.{CanTell, IsUnderWay, HasTold, GoesOn, AreRepliesOf, AreRepliesTo}
 use Rattle.text_lines.specs.declared.telling.Telling.{Telling}
 use Rattle.text_lines.specs.declared.text.Told.{Told}
-use Rattle.key_session.specs.Telling.{SessionSide, texts_left}
-use Rattle.key_session.specs.Going.{IsGoing, IsNext, IsTaken, IsRunning, Runs, IsAmid, IsBegun, EndsText}
+use Rattle.key_session.specs.Telling.{SessionSide, IsTelling, AreKeptSoFar, AreUndamagedSoFar, marks_behind, reasons_of, texts_left}
+use Rattle.key_session.specs.Going.{CanRun, IsGoing, IsNext, IsTaken, IsRunning, Runs, IsAmid, IsBegun, IsOutAlone, EndsText, leases_of}
 use Rattle.key_session.specs.declared.counts.Counts.{Counts}
 use Rattle.key_session.specs.declared.teller.Teller.{Teller}
-use Rattle.key_session.proofs.Coming.{done_so, all_is_done}
-use Rattle.key_session.proofs.OneMore.{tell_one, kept_is_done}
-use Rattle.key_session.proofs.Adding.{next_of}
+use Rattle.key_session.proofs.Coming.{done_so}
+use Rattle.key_session.proofs.OneMore.{PageLaws, tell_one, no_fall, files_kept}
+use Rattle.key_session.proofs.Readings.{damage_on}
+use Rattle.key_session.proofs.Marking.{marked_same}
+use Rattle.key_session.proofs.Adding.{next_of, still_no_fall, rose_before, either_of}
 
-split : (a b : ℕ) → suc a ≤ b + 1 → (suc a ≤ b) ⊎ (a ≡ b)
-split zero zero e = inr refl
-split zero (suc b) e = inl (omega arith)
-split (suc a) zero e = (let bad : ⊥ = omega (arith, e) in absurd bad)
-split (suc a) (suc b) e =
-    elim (split a b (omega (arith, e))) [
-      | inl f ↦ inl (omega (arith, f))
-      | inr f ↦ inr (ap suc f)
-    ]
+-- ---- the text that comes next is taken up
 
-two_more : (n : ℕ) → n + 1 + 1 ≡ n + 2
-two_more n = omega arith
+-- what the laws say of replies that were all given
+pub record ReplyLaws : Type 0 where
+  pub whole : RepliesAreWhole
+  pub to_asks : WholeRepliesAreToAsks
+  pub of_asked : WholeRepliesAreOfAsked
+  pub of_all : WholeRepliesAreOfAll
+  pub given : KeptAreGiven
 
--- the text that comes next is taken up
-module _ (decided : TextsAreDecided) (same : StoredAreGiven) (ascend : RepliesAscend) (pages_told : Bool) (catalog : Catalog) (texts : List (List ℕ)) (journal : Journal) (since now : SessionSide) (pool : Pool) (pump : Pump)
-    (left : List (List ℕ)) (count : ℕ) (counts : Counts) (before after : Replies) (written : List ℕ) (later : List (List ℕ)) (state : ReplyState) (telling : Telling)
-    (going : IsGoing pages_told catalog texts journal since now (count + 1) pump left count counts before) (is_left : left ≡ written ∷ later) (next : IsNext catalog texts journal pump (count + 1))
-    (kept_now : IsKept catalog (heard_in catalog texts journal) (count + 1 + 1) going.top after) (is_stored : stored_for after (count + 1) ≡ kept before (count + 1))
+module _ (laws : ReplyLaws) (decided : TextsAreDecided) (pages_told : Bool) (catalog : Catalog) (texts : List (List ℕ)) (journal : Journal) (bytes : AreBytes (taken journal))
+    (device : Device) (pool : Pool) (top count : ℕ) (store : Replies) (written : List ℕ) (stands : slice_get texts count ≡ Some written) (state : ReplyState)
+    (is_state : state ≡ state_of (asked_of catalog.schema texts) (count + 1) (standing_after catalog (asked_of catalog.schema texts) journal))
+    (kept : IsKept pages_told device pool catalog (heard_in catalog texts journal) (count + 1) top store) where
+  next : count + 1 ≡ suc count
+  next = omega arith
+
+  whole_now : state ≡ state_is.Done → (query : Query) → reading catalog.schema written ≡ Ok query
+      → AreWholeReplies catalog.schema query (replies catalog (asked_of catalog.schema texts) journal (count + 1))
+  whole_now done query accepted =
+      let so = done_so catalog texts journal (suc count) (subst (λ (n : ℕ). state_of (asked_of catalog.schema texts) n (standing_after catalog (asked_of catalog.schema texts) journal) ≡ state_is.Done) next (sym is_state ∙ done)) in
+      let is = decided catalog texts journal count written query stands accepted in
+      subst (λ (n : ℕ). AreWholeReplies catalog.schema query (replies catalog (asked_of catalog.schema texts) journal n)) (sym next)
+      (laws.whole catalog texts journal count written query bytes stands accepted (is.done ∙ rw (so.0, so.1) refl))
+
+  pub given_now : IsDone state (is_lost store (count + 1)) false → pages_told ≡ true
+      → AreRepliesOf device.page catalog written (half_in store (count + 1)) (replies catalog (asked_of catalog.schema texts) journal (count + 1))
+  given_now done is_told query accepted =
+      let whole = whole_now done.0 query accepted in
+      let held = laws.given device pool catalog (asked_of catalog.schema texts) journal (count + 1) top (count + 1) store
+      (subst (λ (b : Bool). IsKept b device pool catalog (heard_in catalog texts journal) (count + 1) top store) is_told kept) (omega arith) done.1 in
+      record {
+        held = λ table reply about. (let one = held table reply about in record {
+          ask_is = laws.to_asks catalog.schema query (replies catalog (asked_of catalog.schema texts) journal (count + 1)) whole table reply about;
+          rows = one.rows;
+          holds = one.holds;
+          kinds_are = one.kinds_are;
+          are = one.are;
+        });
+        of_asked = laws.of_asked catalog.schema query (replies catalog (asked_of catalog.schema texts) journal (count + 1)) whole;
+        all_asked = laws.of_all catalog.schema query (replies catalog (asked_of catalog.schema texts) journal (count + 1)) whole;
+      }
+
+-- the text at the front of those that are left
+module _ (laws : ReplyLaws) (decided : TextsAreDecided) (pages_told : Bool) (catalog : Catalog) (texts : List (List ℕ)) (journal : Journal) (bytes : AreBytes (taken journal)) (since now : SessionSide) (pool : Pool) (pump : Pump)
+    (left : List (List ℕ)) (count : ℕ) (counts : Counts) (store : Replies) (written : List ℕ) (later : List (List ℕ)) (state : ReplyState) (telling : Telling)
+    (going : IsGoing pages_told catalog texts journal since now.sink now.flash pool pump left count counts store) (is_left : left ≡ written ∷ later) (next : IsNext catalog texts journal pump (count + 1))
     (is_state : state ≡ state_of (asked_of catalog.schema texts) (count + 1) (standing_after catalog (asked_of catalog.schema texts) journal)) (number : telling.number ≡ count + 1)
-    (under_way : IsUnderWay pages_told catalog written state (replies_in (stored_for after (count + 1))) now.flash now.flash now.sink now.sink pool telling) where
-  is_done : state ≡ state_is.Done → stored_for after (count + 1) ≡ done_of catalog.schema (count + 1) (heard_in catalog texts journal).ended
-  is_done e =
-      let so = done_so catalog texts journal (count + 1) (sym is_state ∙ e) in
-      is_stored ∙ kept_is_done catalog texts journal (count + 1) going.top (count + 1) before going.telling.kept (omega arith) so.0 so.1
-
-  pub going_now : IsGoing pages_told catalog texts journal since now (count + 2) pump left count counts after
-  going_now = record {
-    top = going.top;
-    telling = record {
-      left_are = going.telling.left_are;
-      kept = subst (λ (n : ℕ). IsKept catalog (heard_in catalog texts journal) n going.top after) (two_more count) kept_now;
-      near = going.telling.near;
-      pages = going.telling.pages;
-      calls = going.telling.calls;
-      called = going.telling.called;
-      damage_called = going.telling.damage_called;
-      faults = going.telling.faults;
-      prints = going.telling.prints;
-      damaged = going.telling.damaged;
-      reasons = going.telling.reasons;
-      lines = going.telling.lines;
-      told = going.telling.told;
-    };
-    settled = λ opened text from upto.
-        elim (split text (count + 1) (omega (arith, upto))) [
-          | inl f ↦ going.settled opened text from f
-          | inr f ↦ subst (λ (n : ℕ). is_settled_in catalog texts journal n ≡ true) (sym f) (next.settled opened)
-        ];
-    onward = going.onward;
-  }
-
-  pub taken_now : IsTaken pages_told catalog texts journal count state now now pool after telling
+    (under_way : IsUnderWay pages_told catalog ((count + 1) % 2) written state (is_lost store (count + 1)) (half_in store (count + 1)) now.flash now.flash now.sink now.sink pool telling) where
+  pub taken_now : IsTaken pages_told catalog texts journal count state (is_lost store (count + 1)) (half_in store (count + 1)) since.flash now now pool telling
   taken_now = record {
     number = number;
     written = written;
-    stands = next_of texts count written later (sym going.telling.left_are.left_are ∙ is_left);
+    stands = here;
     came = next.came;
     is_state = is_state;
-    given = λ e. ap replies_in (is_done e) ∙ same catalog (asked_of catalog.schema texts) journal (count + 1);
-    ascending = λ e.
-        ap (λ (xs : List Stored). are_ascending (replies_in xs)) (is_done e ∙ sym (all_is_done catalog texts journal (count + 1) (done_so catalog texts journal (count + 1) (sym is_state ∙ e)).1))
-        ∙ ascend catalog texts (taken journal) (count + 1);
+    given = given_now laws decided pages_told catalog texts journal bytes now.flash pool going.top count store written here state is_state going.telling.kept;
+    files = going.telling.pages;
     under_way = under_way;
   }
+    where
+      here : slice_get texts count ≡ Some written
+      here = next_of texts count written later (sym going.telling.left_are.left_are ∙ is_left)
 
 false_true : false ≡ true → ⊥
 false_true e = cc
@@ -110,97 +119,203 @@ pub taken_before : (pages_told : Bool) (catalog : Catalog) (texts : List (List �
     → IsAmid pages_told catalog texts journal since now pool pump teller store → IsBegun pages_told catalog texts journal since now pool pump teller store
 taken_before pages_told catalog texts journal since now pool pump teller store some amid = by teller.running refl some amid.running
   where
-    by : (running : Option Telling) → teller.running ≡ running → is_some running ≡ true → Runs pages_told catalog texts journal teller.count amid.first now amid.low pool store running
+    by : (running : Option Telling) → teller.running ≡ running → is_some running ≡ true → Runs pages_told catalog texts journal teller.count since.flash amid.sink now pool store running
         → IsBegun pages_told catalog texts journal since now pool pump teller store
     by None e some runs = absurd (false_true some)
     by (Some telling) e some runs = record {
-      first = amid.first;
-      going = subst (λ (n : ℕ). IsGoing pages_told catalog texts journal since amid.first n pump (texts_left teller) teller.count teller.counts store) runs.0 amid.going;
-      next = λ opened. amid.going.settled opened (teller.count + 1) (omega arith) (let low : amid.low ≡ teller.count + 2 = runs.0 in omega (arith, low));
+      first = record { sink = amid.sink; flash = runs.start };
+      going = amid.going;
+      next = λ opened. (done_so catalog texts journal (teller.count + 1) (sym runs.taken.is_state)).1;
       state = state_is.Done;
+      half = runs.half;
       telling = telling;
       runs = e;
-      taken = runs.1.taken;
+      taken = subst (λ (b : Bool). IsTaken pages_told catalog texts journal teller.count state_is.Done b runs.half since.flash (record { sink = amid.sink; flash = runs.start }) now pool telling) (sym runs.unmarked) runs.taken;
     }
 
 pub none_taken : (pages_told : Bool) (catalog : Catalog) (texts : List (List ℕ)) (journal : Journal) (since now : SessionSide) (pool : Pool) (pump : Pump) (teller : Teller) (store : Replies) → is_some teller.running ≡ false
-    → IsAmid pages_told catalog texts journal since now pool pump teller store → IsGoing pages_told catalog texts journal since now (teller.count + 1) pump (texts_left teller) teller.count teller.counts store
+    → IsAmid pages_told catalog texts journal since now pool pump teller store → IsGoing pages_told catalog texts journal since now.sink now.flash pool pump (texts_left teller) teller.count teller.counts store
 none_taken pages_told catalog texts journal since now pool pump teller store none amid = by teller.running none amid.running
   where
-    by : (running : Option Telling) → is_some running ≡ false → Runs pages_told catalog texts journal teller.count amid.first now amid.low pool store running
-        → IsGoing pages_told catalog texts journal since now (teller.count + 1) pump (texts_left teller) teller.count teller.counts store
+    by : (running : Option Telling) → is_some running ≡ false → Runs pages_told catalog texts journal teller.count since.flash amid.sink now pool store running
+        → IsGoing pages_told catalog texts journal since now.sink now.flash pool pump (texts_left teller) teller.count teller.counts store
     by (Some telling) none runs = absurd (true_false none)
-    by None none runs =
-        subst (λ (n : ℕ). IsGoing pages_told catalog texts journal since now n pump (texts_left teller) teller.count teller.counts store) runs.0
-        (subst (λ (side : SessionSide). IsGoing pages_told catalog texts journal since side amid.low pump (texts_left teller) teller.count teller.counts store) (sym runs.1) amid.going)
+    by None none runs = subst (λ (sink : Handed). IsGoing pages_told catalog texts journal since sink now.flash pool pump (texts_left teller) teller.count teller.counts store) (sym runs) amid.going
+
+-- ---- others read pages while a text is told
+
+pub telling_spared : (pages_told : Bool) (catalog : Catalog) (texts : List (List ℕ)) (journal : Journal) (top : ℕ) (since : SessionSide) (sink : Handed) (before now : Device) (pool more : Pool) (left : List (List ℕ)) (count : ℕ) (counts : Counts) (store : Replies)
+    → KeepsPages before now → now.faults ≡ before.faults → IsKept pages_told now more catalog (heard_in catalog texts journal) (count + 1) top store
+    → IsTelling pages_told catalog texts journal top since sink before pool left count counts store
+    → IsTelling pages_told catalog texts journal top since sink now more left count counts store
+telling_spared pages_told catalog texts journal top since sink before now pool more left count counts store keeps faults kept telling =
+    let calls : min before.calls last_count ≤ now.calls = no_fall last_count before.calls now.calls keeps.never_falls in
+    record {
+      left_are = telling.left_are;
+      kept = kept;
+      near = telling.near;
+      within = telling.within;
+      pages = files_kept catalog since.flash before now telling.pages keeps;
+      calls = still_no_fall last_count since.flash.calls before.calls now.calls telling.calls calls;
+      called = λ e. rose_before last_count since.flash.calls before.calls now.calls (telling.called e) calls;
+      damage_called = λ e. rose_before last_count since.flash.calls before.calls now.calls (telling.damage_called e) calls;
+      faults = subst (λ (n : ℕ). min since.flash.faults last_count ≤ n) (sym faults) telling.faults;
+      marked = marked_same catalog texts count since.flash.calls before.calls now.calls store store (λ text. refl) calls telling.marked;
+      prints = telling.prints;
+      damaged = telling.damaged;
+      read = λ damage e. damage_on since.flash.calls since.flash.calls before now (omega arith) keeps.gave pages_told catalog damage.page damage.slot damage.found (telling.read damage e);
+      reasons = record {
+        reasons = telling.reasons.reasons;
+        as_many = telling.reasons.as_many;
+        each = telling.reasons.each;
+        counted = subst (λ (n : ℕ). AreKeptSoFar pages_told since.flash.page catalog counts (marks_behind store count) since.flash.faults n telling.reasons.reasons) (sym faults) telling.reasons.counted;
+      };
+      lines = telling.lines;
+      answers = telling.answers;
+      told = λ database knows. (let are = telling.told database knows in record {
+        told = are.told;
+        as_many = are.as_many;
+        each = are.each;
+        handed_on = are.handed_on;
+        counted = subst (λ (n : ℕ). AreUndamagedSoFar counts (marks_behind store count) since.flash.faults n (reasons_of are.told)) (sym faults) are.counted;
+      });
+    }
+
+-- the buffer of the replies is none of those that the text has
+pub alone_still : (leases later : List ℕ) (pool more : Pool) (lease : ℕ) → others_out more later ≡ others_out pool leases → KeepsOthers (others_out pool leases) pool more
+    → IsOutAlone leases pool lease → IsOutAlone later more lease
+alone_still leases later pool more lease same keeps alone =
+    let size : length more.pages ≡ length pool.pages = keeps.size in
+    let enough : 8 ≤ length pool.pages = alone.enough in
+    let within : lease < length pool.pages = alone.within in
+    record {
+      enough = omega (arith, size, enough);
+      within = omega (arith, size, within);
+      out = subst (λ (out : List Bool). get_or out lease false ≡ true) (sym same) alone.out;
+      free = subst (λ (out : List Bool). count_by not out + 1 ≡ length more.pages) (sym same) (alone.free ∙ sym size);
+    }
+
+pub ended_run : (pages_told : Bool) (catalog : Catalog) (device : Device) (pool more : Pool) (number lease : ℕ) (leases later : List ℕ) (running : Option Telling) → running ≡ None → later ≡ []
+    → others_out more later ≡ others_out pool leases → KeepsOthers (others_out pool leases) pool more
+    → IsOutAlone leases pool lease → CanRun pages_told catalog device more number lease running
+ended_run pages_told catalog device pool more number lease leases later running none back same keeps alone =
+    subst (λ (r : Option Telling). CanRun pages_told catalog device more number lease r) (sym none)
+    (record { can = tt; alone = subst (λ (ls : List ℕ). IsOutAlone ls more lease) back (alone_still leases later pool more lease same keeps alone) })
+
+-- what the text that is told needs
+pub text_run : (pages_told : Bool) (catalog : Catalog) (device : Device) (pool : Pool) (number lease : ℕ) (running : Option Telling) (telling : Telling) → running ≡ Some telling
+    → CanRun pages_told catalog device pool number lease running → CanTell pages_told catalog (number % 2) device pool telling × IsOutAlone (lines.leases_of telling) pool lease
+text_run pages_told catalog device pool number lease running telling is run =
+    (let now = subst (λ (r : Option Telling). CanRun pages_told catalog device pool number lease r) is run in (now.can, now.alone))
+
+pub text_alone : (pool : Pool) (lease : ℕ) (running : Option Telling) (telling : Telling) → running ≡ Some telling → IsOutAlone (leases_of running) pool lease → IsOutAlone (lines.leases_of telling) pool lease
+text_alone pool lease running telling is alone = subst (λ (r : Option Telling). IsOutAlone (leases_of r) pool lease) is alone
+
+pub kept_still : RepliesStayKept → (pages_told : Bool) (before now : Device) (pool more : Pool) (catalog : Catalog) (heard : Heard) (low top : ℕ) (store : Replies) (leases later : List ℕ)
+    → KeepsPages before now → others_out more later ≡ others_out pool leases → KeepsOthers (others_out pool leases) pool more → IsOutAlone leases pool (lease_of store)
+    → IsKept pages_told before pool catalog heard low top store → IsKept pages_told now more catalog heard low top store
+kept_still stays pages_told before now pool more catalog heard low top store leases later keeps same others alone kept =
+    let after = alone_still leases later pool more (lease_of store) same others alone in
+    stays pages_told before now pool more catalog heard low top store keeps
+    (record { within = after.within; out = other_out more later (lease_of store) after.out })
+    (record { bytes = others.bytes (lease_of store) alone.out; filled = others.filled (lease_of store) alone.out })
+    kept
+
+-- ---- a step of the text that was taken up
+
+done_under_way : (pages_told : Bool) (catalog : Catalog) (side : ℕ) (written : List ℕ) (state : ReplyState) (marked : Bool) (half : Half) (start device : Device) (before now : Handed) (pool : Pool) (telling : Telling)
+    → IsDone state marked false → IsUnderWay pages_told catalog side written state marked half start device before now pool telling
+    → IsUnderWay pages_told catalog side written state_is.Done false half start device before now pool telling
+done_under_way pages_told catalog side written state marked half start device before now pool telling done under_way =
+    subst (λ (b : Bool). IsUnderWay pages_told catalog side written state_is.Done b half start device before now pool telling) done.1
+    (subst (λ (s : ReplyState). IsUnderWay pages_told catalog side written s marked half start device before now pool telling) done.0 under_way)
 
 -- a text that goes on
-pub still_running : (pages_told : Bool) (catalog : Catalog) (texts : List (List ℕ)) (journal : Journal) (place : ℕ) (state : ReplyState) (first now after : SessionSide) (pool more : Pool) (store : Replies) (text next : Telling)
-    → (has : IsTaken pages_told catalog texts journal place state first now pool store text) → next.number ≡ text.number
-    → IsAccepted catalog.schema has.written (state ≡ state_is.Done)
-    → IsUnderWay pages_told catalog has.written state (replies_in (stored_for store (place + 1))) first.flash after.flash first.sink after.sink more next
-    → IsRunning pages_told catalog texts journal place first after more store next
-still_running pages_told catalog texts journal place state first now after pool more store text next has number accepted under_way = record {
+pub still_running : (pages_told : Bool) (catalog : Catalog) (texts : List (List ℕ)) (journal : Journal) (place : ℕ) (state : ReplyState) (half : Half) (since : Device) (first before now : SessionSide) (pool more : Pool) (store : Replies) (text next : Telling)
+    → (has : IsTaken pages_told catalog texts journal place state (is_lost store (place + 1)) half since first before pool text) → next.number ≡ text.number
+    → IsAccepted catalog.schema has.written (IsDone state (is_lost store (place + 1)) false)
+    → IsUnderWay pages_told catalog ((place + 1) % 2) has.written state (is_lost store (place + 1)) half first.flash now.flash first.sink now.sink more next
+    → IsRunning pages_told catalog texts journal place since first.sink now more store next
+still_running pages_told catalog texts journal place state half since first before now pool more store text next has number accepted under_way = record {
+  start = first.flash;
+  half = half;
   taken = record {
     number = number ∙ has.number;
     written = has.written;
     stands = has.stands;
     came = has.came;
-    is_state = sym accepted.came ∙ has.is_state;
-    given = λ _. has.given accepted.came;
-    ascending = λ _. has.ascending accepted.came;
-    under_way = subst (λ (s : ReplyState). IsUnderWay pages_told catalog has.written s (replies_in (stored_for store (place + 1))) first.flash after.flash first.sink after.sink more next) accepted.came under_way;
+    is_state = sym accepted.came.0 ∙ has.is_state;
+    given = λ _ is_told. has.given accepted.came is_told;
+    files = has.files;
+    under_way = done_under_way pages_told catalog ((place + 1) % 2) has.written state (is_lost store (place + 1)) half first.flash now.flash first.sink now.sink more next accepted.came under_way;
   };
   query = accepted.query;
   accepted = accepted.accepted;
+  unmarked = accepted.came.1;
 }
 
--- a text that was told
-pub told_on : PiecesJoin → TextsAreDecided → WholeRepliesAreOfAsked → (pages_told : Bool) (catalog : Catalog) (texts : List (List ℕ)) (journal : Journal) (since before now : SessionSide) (pool more : Pool) (pump : Pump) (old new : Teller) (store : Replies) (result : Told)
-    → (begun : IsBegun pages_told catalog texts journal since before pool pump old store)
-    → HasTold pages_told catalog (old.count + 1) begun.taken.written begun.state (replies_in (stored_for store (old.count + 1))) begun.first.flash now.flash begun.first.sink now.sink result
-    → EndsText result old new → IsAmid pages_told catalog texts journal since now more pump new store
-told_on join decided whole pages_told catalog texts journal since before now pool more pump old new store result begun ends ended = record {
-  first = now;
-  low = old.count + 2;
-  going = record {
-    top = begun.going.top;
-    telling = tell_one join decided whole pages_told catalog texts journal (old.count + 2) begun.going.top since begun.first before now old new pool store begun.state begun.telling result begun.going.telling begun.taken ends ended;
-    settled = begun.going.settled;
-    onward = begun.going.onward;
-  };
-  running = subst (λ (running : Option Telling). Runs pages_told catalog texts journal new.count now now (old.count + 2) more store running) (sym ended.running)
-      ((let count : new.count ≡ old.count + 1 = ended.count in omega (arith, count)), refl);
-}
+-- and one that ended
+none_running : (pages_told : Bool) (catalog : Catalog) (texts : List (List ℕ)) (journal : Journal) (place : ℕ) (since : Device) (now : SessionSide) (pool : Pool) (kept : Replies) (running : Option Telling) → running ≡ None
+    → Runs pages_told catalog texts journal place since now.sink now pool kept running
+none_running pages_told catalog texts journal place since now pool kept running none =
+    subst (λ (r : Option Telling). Runs pages_told catalog texts journal place since now.sink now pool kept r) (sym none) refl
 
--- a step of the text that was taken up
-module _ (pages_told : Bool) (catalog : Catalog) (texts : List (List ℕ)) (journal : Journal) (since before now : SessionSide) (pool more : Pool) (pump : Pump) (old : Teller) (store : Replies) (text next : Telling) (stored : List Stored)
-    (is_stored : stored ≡ stored_for store (old.count + 1)) (is_text : old.running ≡ Some text) (begun : IsBegun pages_told catalog texts journal since before pool pump old store) where
+settled_by : (catalog : Catalog) (texts : List (List ℕ)) (journal : Journal) (text count : ℕ) → text ≤ count + 1 → (text ≤ count → is_settled_in catalog texts journal text ≡ true)
+    → is_settled_in catalog texts journal (count + 1) ≡ true → is_settled_in catalog texts journal text ≡ true
+settled_by catalog texts journal text count within before last =
+    elim (either_of text count within) [
+      | inl f ↦ before f
+      | inr f ↦ subst (λ (n : ℕ). is_settled_in catalog texts journal n ≡ true) (sym f) last
+    ]
+
+module _ (join : PiecesJoin) (decided : TextsAreDecided) (laws : PageLaws) (stays : RepliesStayKept) (later : LaterTextsAreUnmarked) (rises : LowRises) (pages_told : Bool) (catalog : Catalog) (texts : List (List ℕ)) (journal : Journal) (since before now : SessionSide)
+    (pool more : Pool) (pump : Pump) (old : Teller) (store : Replies) (text next : Telling)
+    (is_text : old.running ≡ Some text) (begun : IsBegun pages_told catalog texts journal since before pool pump old store)
+    (keeps : KeepsPages before.flash now.flash) (number : next.number ≡ text.number)
+    (same : others_out more (lines.leases_of next) ≡ others_out pool (lines.leases_of text)) (others : KeepsOthers (others_out pool (lines.leases_of text)) pool more)
+    (alone : IsOutAlone (lines.leases_of text) pool (lease_of store)) where
   same_text : begun.telling ≡ text
   same_text = one begun.telling text (sym begun.runs ∙ is_text)
     where
       one : (a b : Telling) → Some a ≡ Some b → a ≡ b
       one a b e = cc
 
-  pub has : IsTaken pages_told catalog texts journal old.count begun.state begun.first before pool store text
-  has = subst (λ (t : Telling). IsTaken pages_told catalog texts journal old.count begun.state begun.first before pool store t) same_text begun.taken
+  pub has : IsTaken pages_told catalog texts journal old.count begun.state (is_lost store (old.count + 1)) begun.half since.flash begun.first before pool text
+  has = subst (λ (t : Telling). IsTaken pages_told catalog texts journal old.count begun.state (is_lost store (old.count + 1)) begun.half since.flash begun.first before pool t) same_text begun.taken
 
-  pub under_way_now : IsUnderWay pages_told catalog has.written begun.state (replies_in stored) begun.first.flash before.flash begun.first.sink before.sink pool text
-  under_way_now = subst (λ (xs : List Stored). IsUnderWay pages_told catalog has.written begun.state (replies_in xs) begun.first.flash before.flash begun.first.sink before.sink pool text) (sym is_stored) has.under_way
+  kept_now : IsKept pages_told now.flash more catalog (heard_in catalog texts journal) (old.count + 1) begun.going.top store
+  kept_now =
+      kept_still stays pages_told before.flash now.flash pool more catalog (heard_in catalog texts journal) (old.count + 1) begun.going.top store (lines.leases_of text) (lines.leases_of next)
+      keeps same others alone begun.going.telling.kept
 
-  pub goes_on_now : next.number ≡ text.number
-      → IsAccepted catalog.schema has.written (begun.state ≡ state_is.Done) × IsUnderWay pages_told catalog has.written begun.state (replies_in stored) begun.first.flash now.flash begun.first.sink now.sink more next
-      → IsRunning pages_told catalog texts journal old.count begun.first now more store next
-  goes_on_now number goes =
-      still_running pages_told catalog texts journal old.count begun.state begun.first before now pool more store text next has number goes.0
-      (subst (λ (xs : List Stored). IsUnderWay pages_told catalog has.written begun.state (replies_in xs) begun.first.flash now.flash begun.first.sink now.sink more next) is_stored goes.1)
+  pub still_going : now.flash.faults ≡ before.flash.faults
+      → IsGoing pages_told catalog texts journal since begun.first.sink now.flash more pump (texts_left old) old.count old.counts store
+  still_going faults = record {
+    top = begun.going.top;
+    telling = telling_spared pages_told catalog texts journal begun.going.top since begun.first.sink before.flash now.flash pool more (texts_left old) old.count old.counts store keeps faults kept_now begun.going.telling;
+    settled = begun.going.settled;
+    onward = begun.going.onward;
+  }
 
-  pub was_told : PiecesJoin → TextsAreDecided → WholeRepliesAreOfAsked → (new : Teller) (result : Told) → next.number ≡ text.number
-      → HasTold pages_told catalog next.number has.written begun.state (replies_in stored) begun.first.flash now.flash begun.first.sink now.sink result
+  pub still_runs : GoesOn pages_told catalog ((old.count + 1) % 2) has.written begun.state (is_lost store (old.count + 1)) begun.half begun.first.flash now.flash begun.first.sink now.sink more next None
+      → IsRunning pages_told catalog texts journal old.count since.flash begun.first.sink now more store next
+  still_runs goes = still_running pages_told catalog texts journal old.count begun.state begun.half since.flash begun.first before now pool more store text next has number goes.0 goes.1
+
+  pub was_told : IsTree catalog.schema → (new : Teller) (result : Told) → ToldTells before.flash.faults now.flash.faults result
+      → HasTold pages_told catalog next.number has.written begun.state (is_lost store (old.count + 1)) begun.half begun.first.flash now.flash begun.first.sink now.sink result
       → EndsText result old new → IsAmid pages_told catalog texts journal since now more pump new store
-  was_told join decided whole new result number ends ended =
-      told_on join decided whole pages_told catalog texts journal since before now pool more pump old new store result
-      (record { first = begun.first; going = begun.going; next = begun.next; state = begun.state; telling = text; runs = is_text; taken = has })
-      (subst (λ (n : ℕ). HasTold pages_told catalog n has.written begun.state (replies_in (stored_for store (old.count + 1))) begun.first.flash now.flash begun.first.sink now.sink result) (number ∙ has.number)
-      (subst (λ (xs : List Stored). HasTold pages_told catalog next.number has.written begun.state (replies_in xs) begun.first.flash now.flash begun.first.sink now.sink result) is_stored ends))
-      ended
+  was_told tree new result tells ends ended = record {
+    sink = now.sink;
+    going = record {
+      top = begun.going.top;
+      telling = tell_one join decided laws later rises pages_told catalog tree texts journal begun.going.top since begun.first before now old new pool more store begun.state begun.half text result
+          begun.going.telling has
+          (subst (λ (n : ℕ). HasTold pages_told catalog n has.written begun.state (is_lost store (old.count + 1)) begun.half begun.first.flash now.flash begun.first.sink now.sink result) (number ∙ has.number) ends)
+          tells keeps kept_now ended;
+      settled = λ opened other from upto.
+          settled_by catalog texts journal other old.count (let count : new.count ≡ old.count + 1 = ended.count in omega (arith, count, upto))
+          (λ within. begun.going.settled opened other from within) (begun.next opened);
+      onward = begun.going.onward;
+    };
+    running = none_running pages_told catalog texts journal new.count since.flash now more store new.running ended.running;
+  }

@@ -1,34 +1,34 @@
 -- What became of a text's asks, by the state of its replies, and what its lines then say.
-use Rattle.std.proofs.Common.{◌≡◌, ℕ, suc, Bool, true, false, ◌||◌, ◌==◌, List, [], ◌∷◌, ◌++◌, refl, sym, ap, ◌∙◌, subst, append-nil, Some, Ok, slice_get}
+use Rattle.std.proofs.Common.{◌≡◌, ℕ, suc, Bool, true, false, ◌||◌, ◌==◌, List, [], ◌∷◌, ◌++◌, refl, sym, ap, ◌∙◌, subst, Some, Ok, slice_get}
 use Rattle.std.specs.Prelude.{if◌then◌else◌, not, codes, ◌&&◌}
 use Rattle.std.specs.List.{list_any}
-use Rattle.ghost_model.specs.core.Schema.{Schema}
 use Rattle.ghost_model.specs.core.Query.{Query}
 use Rattle.ghost_model.specs.readings.QueryReading.{reading}
 use Rattle.ghost_model.specs.core.Channel.{Catalog, Entry, Journal}
 use Rattle.ghost_model.specs.core.Asks.{NumberedAsk, asked_of}
 use Rattle.ghost_model.specs.core.Moves.{answers}
-use Rattle.ghost_model.specs.core.NextMove.{Awaits, AwaitsCatalog, AwaitsReply, AwaitsNothing, Ending, Answered, Refused, EndedAsk, Heard, Standing, standing_after, is_stop}
+use Rattle.ghost_model.specs.core.NextMove.{Awaits, AwaitsCatalog, AwaitsReply, AwaitsNothing, Ending, Answered, Refused, EndedAsk, Standing, standing_after, is_stop}
 use Rattle.ghost_model.specs.core.Split.{Hidden}
-use Rattle.ghost_model.specs.core.Replies as given
 use Rattle.ghost_model.specs.core.Replies.{replies, answer_from}
-use Rattle.ghost_model.specs.core.Lines.{WasBroken, AreLinesFor, BrokenLines, ended_of, all_done, broken_word, is_refused_by, session_text}
+use Rattle.ghost_model.specs.core.Lines.{Reason, WasBroken, AreLinesFor, BrokenLines, ended_of, all_done, broken_word, is_refused_by, session_text}
 use Rattle.ghost_model.specs.core.Printed.{word_line}
 use Rattle.channel_pump.specs.Marks as marks
 use Rattle.channel_pump.specs.Marks.{is_refusal, awaited, state_of}
 use Rattle.channel_pump.specs.declared.state.ReplyState.{ReplyState}
 use Rattle.channel_pump.specs.declared.state.ReplyState.TheVariants as state_is
-use Rattle.channel_session.specs.Sessions.{asked_in}
 use Rattle.session_laws.specs.TextEnds.{not_ended, is_settled, heard_in, is_settled_in, EndedTextsStay}
 use Rattle.session_laws.specs.TextCases.{is_refused_in, IsDecided, TextsAreDecided, Outcome, IsDone, ByHost, ByLink, ByFrame}
-use Rattle.session_replies.specs.Kept.{is_refused, at_hand, all_of, done_of, stored_as}
 use Rattle.text_lines.specs.Texts.{broken_line, IsToldBy, Why, is_refused as why_refused, is_answered, is_broken, AreBrokenLines, AreAnswerLines}
 use Rattle.text_lines.specs.declared.text.Told.{Told}
 use Rattle.text_lines.specs.declared.text.Told.TheVariants as told
 use Rattle.key_session.specs.Counting.{reason_of, is_damage}
 use Rattle.text_lines.specs.Telling.{AreLinesOf}
-use Rattle.key_session.specs.Reasons.{IsReason, CameTo, AreSomeLines}
+use Rattle.key_session.specs.Reasons.{IsReason, CameTo, AreSomeLines, HasAnswerLines}
 use Rattle.key_session.specs.Telling.{IsTold}
+
+-- whether an ask of a text was refused
+abbrev is_refused : (text : ℕ) → List EndedAsk → Bool
+is_refused text ended = list_any (λ (end : EndedAsk). is_refused_by end.ending && end.asked.text == text) ended
 
 same_ending : (ending : Ending) → marks.is_refused ending ≡ is_refused_by ending
 same_ending (Answered _) = refl
@@ -161,6 +161,7 @@ module _ (catalog : Catalog) (texts : List (List ℕ)) (journal : Journal) (plac
       → (result : Told) → AreBrokenLines (suc place) state lines result → AreLinesFor (reason_of result) (session_text catalog kept texts journal (suc place) written) lines
   broken_so kept lines accepted state c unended told.Refused are = absurd are
   broken_so kept lines accepted state c unended told.Answered are = absurd are
+  broken_so kept lines accepted state c unended told.Marked are = absurd are
   broken_so kept lines accepted state c unended told.Flash are = absurd are
   broken_so kept lines accepted state c unended (told.Damaged damage) are = absurd are
   broken_so kept lines accepted state c unended told.Host are = broken_lines kept lines _ accepted (subst Came are.0 c) are.1
@@ -179,58 +180,40 @@ module _ (catalog : Catalog) (texts : List (List ℕ)) (journal : Journal) (plac
   answered_so kept lines accepted d told.Host are = absurd are
   answered_so kept lines accepted d told.Link are = absurd are
   answered_so kept lines accepted d told.Protocol are = absurd are
+  answered_so kept lines accepted d told.Marked are = record { query = query; accepted = accepted; done = d.done; given = are.given; left = are.left; front = are.front; answer = are.are }
   answered_so kept lines accepted d told.Flash are = record { query = query; accepted = accepted; done = d.done; given = are.given; left = are.left; front = are.front; answer = are.are }
-  answered_so kept lines accepted d (told.Damaged damage) are = absurd are
-
-  pub answered_undamaged : (kept : List given.Reply) (rows : Hidden) (lines : List (List ℕ)) (result : Told) → AreAnswerLines (suc place) (answer_from catalog.schema rows query kept) lines result → is_damage (reason_of result) ≡ false
-  answered_undamaged kept rows lines told.Refused are = refl
-  answered_undamaged kept rows lines told.Answered are = refl
-  answered_undamaged kept rows lines told.Host are = refl
-  answered_undamaged kept rows lines told.Link are = refl
-  answered_undamaged kept rows lines told.Protocol are = refl
-  answered_undamaged kept rows lines told.Flash are = refl
-  answered_undamaged kept rows lines (told.Damaged damage) are = absurd are
-
-  pub broken_undamaged : (state : ReplyState) (lines : List (List ℕ)) (result : Told) → AreBrokenLines (suc place) state lines result → is_damage (reason_of result) ≡ false
-  broken_undamaged state lines told.Refused are = refl
-  broken_undamaged state lines told.Answered are = refl
-  broken_undamaged state lines told.Host are = refl
-  broken_undamaged state lines told.Link are = refl
-  broken_undamaged state lines told.Protocol are = refl
-  broken_undamaged state lines told.Flash are = refl
-  broken_undamaged state lines (told.Damaged damage) are = absurd are
+  answered_so kept lines accepted d (told.Damaged damage) are = record { query = query; accepted = accepted; done = d.done; given = are.given; left = are.left; front = are.front; answer = are.are }
 
 -- the lines that were printed of the text at a place
-pub told_so : (catalog : Catalog) (kept : Hidden) (texts : List (List ℕ)) (journal : Journal) (place : ℕ) (written : List ℕ) → slice_get texts place ≡ Some written
+pub answers_so : (catalog : Catalog) (kept : Hidden) (texts : List (List ℕ)) (journal : Journal) (place : ℕ) (written : List ℕ) → slice_get texts place ≡ Some written
     → ((query : Query) → reading catalog.schema written ≡ Ok query → IsDecided catalog texts journal (suc place) query)
     → ((query : Query) → reading catalog.schema written ≡ Ok query → Outcome catalog texts journal (suc place) query)
-    → (replied : List given.Reply) (state : ReplyState) → state ≡ state_of (asked_of catalog.schema texts) (suc place) (standing_after catalog (asked_of catalog.schema texts) journal)
-    → (state ≡ state_is.Done → replied ≡ replies catalog (asked_of catalog.schema texts) journal (suc place))
-    → (lines : List (List ℕ)) (result : Told) → Why catalog.schema kept replied (suc place) written state lines result
-    → IsTold catalog kept texts journal place (record { reason = reason_of result; lines = lines })
-told_so catalog kept texts journal place written stands decided outcome replied state is_state same lines result (why_refused w) = record {
+    → (state : ReplyState) → state ≡ state_of (asked_of catalog.schema texts) (suc place) (standing_after catalog (asked_of catalog.schema texts) journal)
+    → (lines : List (List ℕ)) (result : Told) → Why catalog.schema kept (replies catalog (asked_of catalog.schema texts) journal (suc place)) (suc place) written state lines result
+    → HasAnswerLines catalog kept texts journal place (reason_of result) lines
+answers_so catalog kept texts journal place written stands decided outcome state is_state lines result (why_refused w) = record {
   written = written;
   stands = stands;
   lines_are = subst (λ (r : Told). AreLinesFor (reason_of r) (session_text catalog kept texts journal (suc place) written) lines) (sym w.is_told)
       (record { refusal = w.refusal; refused = w.refused; line = w.are });
-  undamaged = ap (λ (r : Told). is_damage (reason_of r)) w.is_told;
 }
-told_so catalog kept texts journal place written stands decided outcome replied state is_state same lines result (is_answered w) = record {
+answers_so catalog kept texts journal place written stands decided outcome state is_state lines result (is_answered w) = record {
   written = written;
   stands = stands;
   lines_are = answered_so catalog texts journal place written w.query kept lines w.accepted
       (subst (Came catalog texts journal place written w.query) w.done (came catalog texts journal place written w.query (decided w.query w.accepted) (outcome w.query w.accepted) state is_state))
-      result
-      (subst (λ (g : List given.Reply). AreAnswerLines (suc place) (answer_from catalog.schema kept w.query g) lines result) (same w.done) w.are);
-  undamaged = answered_undamaged catalog texts journal place written w.query replied kept lines result w.are;
+      result w.are;
 }
-told_so catalog kept texts journal place written stands decided outcome replied state is_state same lines result (is_broken w) = record {
+answers_so catalog kept texts journal place written stands decided outcome state is_state lines result (is_broken w) = record {
   written = written;
   stands = stands;
   lines_are = broken_so catalog texts journal place written w.query kept lines w.accepted state
       (came catalog texts journal place written w.query (decided w.query w.accepted) (outcome w.query w.accepted) state is_state) w.not_done result w.are;
-  undamaged = broken_undamaged catalog texts journal place written w.query state lines result w.are;
 }
+
+pub told_so : (catalog : Catalog) (kept : Hidden) (texts : List (List ℕ)) (journal : Journal) (place : ℕ) (lines : List (List ℕ)) (reason : Reason) → is_damage reason ≡ false
+    → HasAnswerLines catalog kept texts journal place reason lines → IsTold catalog kept texts journal place (record { reason = reason; lines = lines })
+told_so catalog kept texts journal place lines reason undamaged has = record { written = has.written; stands = has.stands; lines_are = has.lines_are; undamaged = undamaged }
 
 -- the reason for the lines of the text at a place
 module _ (catalog : Catalog) (texts : List (List ℕ)) (journal : Journal) (place : ℕ) (written : List ℕ) where
@@ -253,20 +236,21 @@ module _ (catalog : Catalog) (texts : List (List ℕ)) (journal : Journal) (plac
   pub reason_so : (state : ReplyState) → state ≡ state_of (asked_of catalog.schema texts) (suc place) (standing_after catalog (asked_of catalog.schema texts) journal)
       → ((query : Query) → reading catalog.schema written ≡ Ok query → IsDecided catalog texts journal (suc place) query)
       → ((query : Query) → reading catalog.schema written ≡ Ok query → Outcome catalog texts journal (suc place) query)
-      → (result : Told) → IsToldBy catalog.schema written state result → IsReason (reason_of result) catalog texts journal (suc place) written
-  reason_so state is_state decided outcome result by = of result by
+      → (marked : Bool) (result : Told) → IsToldBy catalog.schema written state marked result → IsReason (reason_of result) catalog texts journal (suc place) written
+  reason_so state is_state decided outcome marked result by = of result by
     where
       cames : (query : Query) → reading catalog.schema written ≡ Ok query → Came catalog texts journal place written query state
       cames query accepted = came catalog texts journal place written query (decided query accepted) (outcome query accepted) state is_state
 
-      of : (result : Told) → IsToldBy catalog.schema written state result → IsReason (reason_of result) catalog texts journal (suc place) written
+      of : (result : Told) → IsToldBy catalog.schema written state marked result → IsReason (reason_of result) catalog texts journal (suc place) written
       of told.Refused is = is
-      of told.Answered is = came_done is.query is.accepted state is.came (cames is.query is.accepted)
+      of told.Answered is = came_done is.query is.accepted state is.came.0 (cames is.query is.accepted)
+      of told.Marked is = came_done is.query is.accepted state is.came.0 (cames is.query is.accepted)
       of told.Host is = came_broken is.query is.accepted state (host_undone state is.came) (cames is.query is.accepted)
       of told.Link is = came_broken is.query is.accepted state is.came.0 (cames is.query is.accepted)
       of told.Protocol is = came_broken is.query is.accepted state (protocol_undone state is.came) (cames is.query is.accepted)
-      of told.Flash is = came_done is.query is.accepted state is.came (cames is.query is.accepted)
-      of (told.Damaged damage) is = came_done is.query is.accepted state is.came (cames is.query is.accepted)
+      of told.Flash is = came_done is.query is.accepted state is.came.0 (cames is.query is.accepted)
+      of (told.Damaged damage) is = came_done is.query is.accepted state is.came.0 (cames is.query is.accepted)
 
   -- and its lines, whatever the pages hold
   lines_by : (state : ReplyState) (word : List ℕ) (lines : List (List ℕ)) → lines ≡ broken_line (suc place) word → (query : Query) → IsBrokenBy catalog texts journal place written query word
@@ -284,41 +268,23 @@ module _ (catalog : Catalog) (texts : List (List ℕ)) (journal : Journal) (plac
   pub lines_so : (state : ReplyState) → state ≡ state_of (asked_of catalog.schema texts) (suc place) (standing_after catalog (asked_of catalog.schema texts) journal)
       → ((query : Query) → reading catalog.schema written ≡ Ok query → IsDecided catalog texts journal (suc place) query)
       → ((query : Query) → reading catalog.schema written ≡ Ok query → Outcome catalog texts journal (suc place) query)
-      → (lines : List (List ℕ)) (result : Told) → IsToldBy catalog.schema written state result → AreLinesOf catalog.schema (suc place) written lines result
+      → (marked : Bool) (lines : List (List ℕ)) (result : Told) → IsToldBy catalog.schema written state marked result → AreLinesOf catalog.schema (suc place) written lines result
       → AreSomeLines (reason_of result) catalog texts journal (suc place) written lines
-  lines_so state is_state decided outcome lines result by are = of result by are
+  lines_so state is_state decided outcome marked lines result by are = of result by are
     where
       cames : (query : Query) → reading catalog.schema written ≡ Ok query → Came catalog texts journal place written query state
       cames query accepted = came catalog texts journal place written query (decided query accepted) (outcome query accepted) state is_state
 
-      of : (result : Told) → IsToldBy catalog.schema written state result → AreLinesOf catalog.schema (suc place) written lines result
+      of : (result : Told) → IsToldBy catalog.schema written state marked result → AreLinesOf catalog.schema (suc place) written lines result
           → AreSomeLines (reason_of result) catalog texts journal (suc place) written lines
       of told.Refused is are = are
       of told.Answered is are = are
+      of told.Marked is are = record { rows = []; are = are }
       of told.Flash is are = are
       of (told.Damaged damage) is are = are
       of told.Host is are = lines_by state (codes "host") lines are is.query (subst (Came catalog texts journal place written is.query) is.came (cames is.query is.accepted))
       of told.Protocol is are = lines_by state (codes "protocol") lines are is.query (subst (Came catalog texts journal place written is.query) is.came (cames is.query is.accepted))
       of told.Link is are = lines_by state (codes "link") lines are is.query (link_word is.query state (cames is.query is.accepted) is.came.0 is.came.1.0 is.came.1.1)
-
--- no ask of a settled text is at hand
-none_at_hand : (asks : List NumberedAsk) (schema : Schema) (text : ℕ) (rows : List ℕ) (awaits : Awaits) → is_settled asks text awaits ≡ true → at_hand schema text rows (asked_in awaits) ≡ []
-none_at_hand asks schema text rows (AwaitsCatalog _) e = refl
-none_at_hand asks schema text rows (AwaitsReply asked serial later count last) e =
-    other (asked.text == text) (list_any (λ (one : NumberedAsk). one.text == text) later) e
-  where
-    other : (b more : Bool) → not (b || more) ≡ true → (if b then stored_as schema asked rows ∷ [] else []) ≡ []
-    other true more h = cc
-    other false more h = refl
-none_at_hand asks schema text rows AwaitsNothing e = refl
-
--- so all that came of its asks came of those that were ended
-pub all_is_done : (catalog : Catalog) (texts : List (List ℕ)) (journal : Journal) (text : ℕ) → is_settled_in catalog texts journal text ≡ true
-    → all_of catalog.schema (heard_in catalog texts journal) text ≡ done_of catalog.schema text (heard_in catalog texts journal).ended
-all_is_done catalog texts journal text e =
-    let h : Heard = heard_in catalog texts journal in
-    ap (λ (xs : _). done_of catalog.schema text h.ended ++ xs) (none_at_hand (asked_of catalog.schema texts) catalog.schema text h.rows h.awaits e)
-    ∙ append-nil (done_of catalog.schema text h.ended)
 
 done_by : (r s t b : Bool) → state_by r s t b ≡ state_is.Done → (r ≡ false) × (s ≡ true)
 done_by true s t b e = cc

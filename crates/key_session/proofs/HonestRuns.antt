@@ -24,7 +24,6 @@ use Rattle.key_session.specs.Running.{IsTally, status_of}
 use Rattle.key_session.specs.Telling.{SessionSide, AreTold, TextTold, IsTold, reasons_of, bytes_told, bytes_of}
 use Rattle.key_session.specs.declared.tally.Tally.{Tally}
 use Rattle.key_session.specs.declared.tally.SessionStatus.TheVariants as status
-use Rattle.flash_layout.specs.Limits.{HasLayout}
 use Rattle.key_session.proofs.Settings.{setting, stored}
 
 abbrev lines_in : List TextTold → List (List (List ℕ))

@@ -1,6 +1,7 @@
 pub mod Coming
 pub mod Adding
-pub mod OfAsked
+pub mod Marking
+pub mod Readings
 pub mod OneMore
 pub mod Attending
 pub mod Moving

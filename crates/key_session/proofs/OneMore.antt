@@ -1,6 +1,6 @@
 -- A teller after one more text.
-use Rattle.std.proofs.Common.{◌≡◌, ◌≤◌, ℕ, suc, ◌+◌, arith, Bool, true, false, List, [], ◌∷◌, ◌++◌, refl, sym, ap, ◌∙◌, subst, Some, Ok, slice_get}
-use Rattle.edge_traits.proofs.DeviceFrames.{kept_trans}
+use Rattle.std.proofs.Common.{[], ◌∷◌, ◌++◌, ◌≡◌, ◌≤◌, ℕ, suc, ◌+◌, arith, Bool, true, false, List, refl, sym, ap, ◌∙◌, subst, Some, slice_get}
+use Rattle.edge_traits.proofs.DeviceFrames.{changes_trans, changes_kept}
 use Rattle.std.specs.Prelude.{min}
 use Rattle.std.specs.List.{concat}
 use Rattle.ghost_model.specs.core.Lines.{Reason}
@@ -8,42 +8,37 @@ use Rattle.ghost_model.specs.core.Causes.{last_count}
 use Rattle.ghost_model.specs.core.Values.{Database}
 use Rattle.ghost_model.specs.core.Channel.{Catalog, Journal}
 use Rattle.ghost_model.specs.core.Asks.{asked_of}
-use Rattle.ghost_model.specs.core.Moves.{taken}
 use Rattle.ghost_model.specs.core.NextMove.{standing_after}
 use Rattle.ghost_model.specs.core.Split.{hidden_of}
-use Rattle.ghost_model.specs.core.Query.{Query}
-use Rattle.ghost_model.specs.core.Replies.{Reply, replies}
-use Rattle.ghost_model.specs.readings.QueryReading.{reading}
+use Rattle.ghost_model.specs.core.Replies.{replies}
+use Rattle.ghost_model.specs.laws.SchemaTrees.{IsTree}
 use Rattle.edge_traits.specs.Devices.{Device, KeepsPages}
 use Rattle.channel_pump.specs.Marks.{state_of}
 use Rattle.channel_pump.specs.declared.state.ReplyState.{ReplyState}
-use Rattle.channel_pump.specs.declared.state.ReplyState.TheVariants as state_is
-use Rattle.session_laws.specs.TextEnds.{heard_in, is_settled_in}
-use Rattle.session_laws.specs.TextCases.{TextsAreDecided, is_refused_in}
-use Rattle.reply_store.specs.Stored.{Stored, replies_in, are_ascending}
-use Rattle.reply_laws.specs.Stores.{RepliesAscend, StoredAreGiven}
-use Rattle.session_replies.specs.Halves.{kept, stored_for}
-use Rattle.session_replies.specs.Kept.{IsKept, expected, done_of}
+use Rattle.session_laws.specs.TextEnds.{heard_in}
+use Rattle.session_laws.specs.TextCases.{TextsAreDecided}
+use Rattle.visible_spool.specs.declared.half.Half.{Half}
+use Rattle.session_replies.specs.Kept.{IsKept, is_lost}
+use Rattle.session_replies.specs.Laws.{LaterTextsAreUnmarked, LowRises}
 use Rattle.session_replies.specs.declared.replies.Replies.{Replies}
 use Rattle.key_lines.specs.Handing.{PiecesJoin}
-use Rattle.key_exec.specs.Laws.{WholeRepliesAreOfAsked}
-use Rattle.key_exec.specs.Reading.{Knows, AreOfAsked}
-use Rattle.text_lines.specs.Rows.{PrintsSome}
+use Rattle.key_exec.specs.Laws.{KnowledgeIsEnough, DamageIsNeverMet, KeepsStatic, PagesStayKnownBut, DamageStays}
+use Rattle.key_exec.specs.Reading.{Knows, KnowsBut}
 use Rattle.text_lines.specs.Texts.{ToldTells, ToldBlames, Why}
 use Rattle.text_lines.specs.Telling.{HasTold, AreLinesOf}
 use Rattle.text_lines.specs.declared.text.Told.{Told}
 use Rattle.text_lines.specs.declared.text.Told.TheVariants as told
-use Rattle.key_session.specs.Counting.{damage_in, first_damage, reason_of, IsCounted, AreUndamaged}
-use Rattle.key_session.specs.Damages.{AreKept}
-use Rattle.key_session.specs.Reasons.{HaveReasons, HasReason, HaveLines, HasLines}
+use Rattle.key_session.specs.Counting.{one_if, reason_of, is_damage, IsCounted}
+use Rattle.key_session.specs.Reasons.{HaveSoFar, HasReason, HaveLines, HasLines, HasAnswerLines, HaveAnswerLines}
 use Rattle.page_pool.specs.Pools.{Pool}
 use Rattle.text_lines.specs.declared.telling.Telling.{Telling}
-use Rattle.key_session.specs.Telling.{SessionSide, IsTold, AreTold, AreLeft, IsTelling, texts_left}
+use Rattle.key_session.specs.Telling.{SessionSide, IsTold, WereTold, AreMarked, AreKeptSoFar, AreUndamagedSoFar, AreLeft, KeepsFiles, IsTelling, marks_behind, reasons_of, texts_left}
 use Rattle.key_session.specs.Going.{IsTaken, EndsText}
 use Rattle.key_session.specs.declared.teller.Teller.{Teller}
-use Rattle.key_session.proofs.Coming.{told_so, done_so, all_is_done, reason_so, lines_so}
-use Rattle.key_session.proofs.OfAsked.{replies_of_asked}
-use Rattle.key_session.proofs.Adding.{one_told, one_reason, one_damage, called_more, damage_called_more, still_no_fall, next_of, next_number, left_more, some_more}
+use Rattle.key_session.proofs.Coming.{answers_so, told_so, reason_so, lines_so}
+use Rattle.key_session.proofs.Adding.{TellsMark, one_lines, one_told, one_reason, one_damage, called_more, damage_called_more, still_no_fall, next_number, left_more, some_more}
+use Rattle.key_session.proofs.Readings.{damage_on, first_read, told_earlier}
+use Rattle.key_session.proofs.Marking.{marks_next, marked_next, mark_told}
 
 -- the count of faults never falls, but for its last value
 never_falls : (since before now : ℕ) (result : Told) → min since last_count ≤ before → ToldTells before now result → min since last_count ≤ now
@@ -54,6 +49,7 @@ never_falls since before now result e tells = by result tells
 
     by : (result : Told) → ToldTells before now result → min since last_count ≤ now
     by told.Flash t = rises last_count e t
+    by told.Marked t = subst (λ (n : ℕ). min since last_count ≤ n) (sym t) e
     by told.Refused t = subst (λ (n : ℕ). min since last_count ≤ n) (sym t) e
     by told.Answered t = subst (λ (n : ℕ). min since last_count ≤ n) (sym t) e
     by told.Host t = subst (λ (n : ℕ). min since last_count ≤ n) (sym t) e
@@ -61,127 +57,205 @@ never_falls since before now result e tells = by result tells
     by told.Protocol t = subst (λ (n : ℕ). min since last_count ≤ n) (sym t) e
     by (told.Damaged damage) t = subst (λ (n : ℕ). min since last_count ≤ n) (sym t) e
 
-pub pages_stay : (since between now : Device) → KeepsPages since between → KeepsPages between now → KeepsPages since now
-pages_stay since between now first second = kept_trans first second
-
-no_fall : (most before now : ℕ) → before ≤ now → min before most ≤ now
+pub no_fall : (most before now : ℕ) → before ≤ now → min before most ≤ now
 no_fall most before now up = omega (arith, up)
 
--- what is kept of a text that is done
-pub kept_is_done : (catalog : Catalog) (texts : List (List ℕ)) (journal : Journal) (low top text : ℕ) (replies : Replies) → IsKept catalog (heard_in catalog texts journal) low top replies → low ≤ text
-    → is_refused_in catalog texts journal text ≡ false → is_settled_in catalog texts journal text ≡ true
-    → kept replies text ≡ done_of catalog.schema text (heard_in catalog texts journal).ended
-kept_is_done catalog texts journal low top text replies k from valid settled = k.texts text from valid ∙ by replies.is_open
-  where
-    by : (b : Bool) → expected catalog.schema (heard_in catalog texts journal) b text ≡ done_of catalog.schema text (heard_in catalog texts journal).ended
-    by true = all_is_done catalog texts journal text settled
-    by false = refl
+-- the files of a session stay
+pub files_on : (catalog : Catalog) (a b c : Device) → KeepsFiles catalog a b → KeepsFiles catalog b c → KeepsFiles catalog a c
+files_on catalog a b c first second = changes_trans first second
 
-pub tell_one : PiecesJoin → TextsAreDecided → WholeRepliesAreOfAsked → (pages_told : Bool) (catalog : Catalog) (texts : List (List ℕ)) (journal : Journal) (low top : ℕ) (since between before now : SessionSide)
-    (old new : Teller) (pool : Pool) (store : Replies) (state : ReplyState) (text : Telling) (result : Told)
-    → IsTelling pages_told catalog texts journal low top since between (texts_left old) old.count old.counts store
-    → (taken : IsTaken pages_told catalog texts journal old.count state between before pool store text)
-    → HasTold pages_told catalog (old.count + 1) taken.written state (replies_in (stored_for store (old.count + 1))) between.flash now.flash between.sink now.sink result
-    → EndsText result old new
-    → IsTelling pages_told catalog texts journal low top since now (texts_left new) new.count new.counts store
-tell_one join decided whole pages_told catalog texts journal low top since between before now old new pool store state text result telling taken ends ended = record {
-  left_are = subst (λ (n : ℕ). AreLeft texts (texts_left new) n) (sym more) (left_more texts old.count (texts_left old) (texts_left new) ended.texts.0 telling.left_are ended.texts.1);
-  kept = telling.kept;
-  near = (let near : top ≤ old.count + 2 = telling.near in omega (arith, near, more));
-  pages = pages_stay since.flash between.flash now.flash telling.pages ends.kept;
-  calls = still_no_fall last_count since.flash.calls between.flash.calls now.flash.calls telling.calls (no_fall last_count between.flash.calls now.flash.calls ends.kept.never_falls);
-  called = called_more since.flash.calls between.flash.calls now.flash.calls old.counts new.counts result counted telling.calls telling.called
-      (no_fall last_count between.flash.calls now.flash.calls ends.kept.never_falls) ends.called;
-  damage_called = damage_called_more since.flash.calls between.flash.calls now.flash.calls old.counts new.counts result counted telling.calls telling.damage_called
-      (no_fall last_count between.flash.calls now.flash.calls ends.kept.never_falls) ends.called;
-  faults = never_falls since.flash.faults between.flash.faults now.flash.faults result telling.faults ends.faults;
-  prints = some_more join since.sink between.sink now.sink telling.prints (record { piece = concat ends.lines; handed = ends.handed_on });
-  damaged = one_damage pages_told since.flash.page catalog old.counts.damage new.counts.damage result ended.first
-      blames_now telling.damaged;
-  reasons = record {
-    reasons = both_now.0.reasons;
-    as_many = both_now.0.as_many ∙ sym more;
-    each = both_now.0.each;
-    blamed = both_now.0.blamed;
-    unblamed = both_now.0.unblamed;
-    counted = both_now.0.counted;
-  };
-  lines = both_now.1;
-  told = λ database knows.
-      let lines = tells database (subst (λ (p : ℕ → List ℕ). Knows pages_told p catalog database) (sym telling.pages.page) knows) in
-      subst (λ (n : ℕ). AreTold catalog (hidden_of catalog.schema database) texts journal n (λ reasons. AreUndamaged reasons new.counts) since now) (sym more)
-      (one_told join catalog (hidden_of catalog.schema database) texts journal old.count old.counts new.counts since between now result ends.lines
-      (telling.told database knows) (is_told database lines) ends.handed_on ends.faults counted);
-}
-  where
-    blames_now : ToldBlames pages_told since.flash.page catalog result
-    blames_now = subst (λ (p : ℕ → List ℕ). ToldBlames pages_told p catalog result) (ends.kept.page ∙ telling.pages.page) ends.blames
+pub files_kept : (catalog : Catalog) (a b c : Device) → KeepsFiles catalog a b → KeepsPages b c → KeepsFiles catalog a c
+files_kept catalog a b c first second = changes_trans first (changes_kept second _ _)
 
-    number : suc old.count ≡ old.count + 1
-    number = sym (next_number old.count)
+-- and so do the pages below the spool
+pub static_later : (catalog : Catalog) (a b : Device) → KeepsFiles catalog a b → KeepsStatic catalog a.page b.page
+static_later catalog a b files = λ number less. (files.below number less).bytes
 
-    more : new.count ≡ old.count + 1
-    more = ended.count
+pub static_earlier : (catalog : Catalog) (a b : Device) → KeepsFiles catalog a b → KeepsStatic catalog b.page a.page
+static_earlier catalog a b files = λ number less. sym (files.below number less).bytes
 
-    counted : IsCounted (reason_of result) old.counts new.counts
-    counted = ended.counted
+-- a slot that is blamed is damaged since the first
+blamed_first : DamageStays → (pages_told : Bool) (page now : ℕ → List ℕ) (catalog : Catalog) (result : Told) → IsTree catalog.schema → KeepsStatic catalog page now
+    → ToldBlames pages_told page catalog result → ToldBlames pages_told now catalog result
+blamed_first stays pages_told page now catalog told.Refused tree same blames = blames
+blamed_first stays pages_told page now catalog told.Answered tree same blames = blames
+blamed_first stays pages_told page now catalog told.Host tree same blames = blames
+blamed_first stays pages_told page now catalog told.Link tree same blames = blames
+blamed_first stays pages_told page now catalog told.Protocol tree same blames = blames
+blamed_first stays pages_told page now catalog told.Marked tree same blames = blames
+blamed_first stays pages_told page now catalog told.Flash tree same blames = blames
+blamed_first stays pages_told page now catalog (told.Damaged damage) tree same blames = stays pages_told page now catalog damage.page damage.slot damage.found tree same blames
 
-    written : List ℕ
-    written = taken.written
+-- pages that hold the hidden columns are not damaged
+sound : DamageIsNeverMet → (pages_told : Bool) (page : ℕ → List ℕ) (catalog : Catalog) (database : Database) (result : Told) → IsTree catalog.schema → Knows pages_told page catalog database
+    → ToldBlames pages_told page catalog result → is_damage (reason_of result) ≡ false
+sound never pages_told page catalog database told.Refused tree knows blames = refl
+sound never pages_told page catalog database told.Answered tree knows blames = refl
+sound never pages_told page catalog database told.Host tree knows blames = refl
+sound never pages_told page catalog database told.Link tree knows blames = refl
+sound never pages_told page catalog database told.Protocol tree knows blames = refl
+sound never pages_told page catalog database told.Marked tree knows blames = refl
+sound never pages_told page catalog database told.Flash tree knows blames = refl
+sound never pages_told page catalog database (told.Damaged damage) tree knows blames =
+    absurd (never pages_told page catalog database damage.page damage.slot damage.found tree knows blames)
 
-    here : slice_get texts old.count ≡ Some written
-    here = taken.stands
+-- what the laws say of the pages
+pub record PageLaws : Type 0 where
+  pub enough : KnowledgeIsEnough
+  pub never : DamageIsNeverMet
+  pub but : PagesStayKnownBut
+  pub damage : DamageStays
 
-    stored : List Stored
-    stored = stored_for store (old.count + 1)
+module _ (join : PiecesJoin) (decided : TextsAreDecided) (laws : PageLaws) (later : LaterTextsAreUnmarked) (rises : LowRises) (pages_told : Bool) (catalog : Catalog) (tree : IsTree catalog.schema) (texts : List (List ℕ)) (journal : Journal) (top : ℕ) (since first before now : SessionSide)
+    (old new : Teller) (pool more : Pool) (store : Replies) (state : ReplyState) (half : Half) (text : Telling) (result : Told)
+    (telling : IsTelling pages_told catalog texts journal top since first.sink before.flash pool (texts_left old) old.count old.counts store)
+    (taken : IsTaken pages_told catalog texts journal old.count state (is_lost store (old.count + 1)) half since.flash first before pool text)
+    (ends : HasTold pages_told catalog (old.count + 1) taken.written state (is_lost store (old.count + 1)) half first.flash now.flash first.sink now.sink result)
+    (tells : ToldTells before.flash.faults now.flash.faults result) (kept_pages : KeepsPages before.flash now.flash)
+    (kept : IsKept pages_told now.flash more catalog (heard_in catalog texts journal) (old.count + 1) top store) (ended : EndsText result old new) where
+  abbrev marked : Bool
+  marked = is_lost store (old.count + 1)
 
-    are_given : state ≡ state_is.Done → replies_in stored ≡ replies catalog (asked_of catalog.schema texts) journal (suc old.count)
-    are_given e = taken.given e ∙ ap (λ (n : ℕ). replies catalog (asked_of catalog.schema texts) journal n) (sym number)
+  abbrev marks : ℕ
+  marks = one_if (is_lost store (old.count + 2))
 
-    of_asked : state ≡ state_is.Done → (query : Query) → reading catalog.schema written ≡ Ok query → AreOfAsked catalog.schema query (replies_in stored)
-    of_asked e query accepted =
-        subst (λ (given : List Reply). AreOfAsked catalog.schema query given) (sym (are_given e))
-        (replies_of_asked whole catalog texts journal old.count written query here accepted)
+  files : KeepsFiles catalog since.flash now.flash
+  files = files_kept catalog since.flash before.flash now.flash telling.pages kept_pages
 
-    here_is : state ≡ state_of (asked_of catalog.schema texts) (suc old.count) (standing_after catalog (asked_of catalog.schema texts) journal)
-    here_is = subst (λ (n : ℕ). state ≡ state_of (asked_of catalog.schema texts) n (standing_after catalog (asked_of catalog.schema texts) journal)) (sym number) taken.is_state
+  blames_now : ToldBlames pages_told since.flash.page catalog result
+  blames_now = blamed_first laws.damage pages_told first.flash.page since.flash.page catalog result tree (static_earlier catalog since.flash first.flash taken.files) ends.blames
 
-    has_reason : HasReason catalog texts journal old.count (reason_of result)
-    has_reason = record {
-      written = written;
-      stands = here;
-      is_reason = reason_so catalog texts journal old.count written state here_is
-          (λ query accepted. decided catalog texts journal old.count written query here accepted)
-          (λ query accepted. taken.came old.count written query (next_number old.count) here accepted)
-          result ends.by;
-    }
+  number : suc old.count ≡ old.count + 1
+  number = sym (next_number old.count)
 
-    tells : (database : Database) → Knows pages_told between.flash.page catalog database
-        → Why catalog.schema (hidden_of catalog.schema database) (replies_in stored) (old.count + 1) written state ends.lines result
-    tells database knows = ends.why database knows taken.ascending of_asked
+  next_count : new.count ≡ old.count + 1
+  next_count = ended.count
 
-    is_told : (database : Database) → Why catalog.schema (hidden_of catalog.schema database) (replies_in stored) (old.count + 1) written state ends.lines result
-        → IsTold catalog (hidden_of catalog.schema database) texts journal old.count (record { reason = reason_of result; lines = ends.lines })
-    is_told database why =
-        told_so catalog (hidden_of catalog.schema database) texts journal old.count written here
+  counted : IsCounted (reason_of result) old.counts new.counts
+  counted = ended.counted
+
+  abbrev written : List ℕ
+  written = taken.written
+
+  here : slice_get texts old.count ≡ Some written
+  here = taken.stands
+
+  tells_mark : TellsMark (is_lost store (old.count + 1)) result
+  tells_mark =
+      mark_told catalog.schema written state (is_lost store (old.count + 1)) result ends.by
+      (λ is. telling.marked.accepted old.count written (omega arith) here (subst (λ (n : ℕ). is_lost store n ≡ true) (sym number) is))
+
+  here_is : state ≡ state_of (asked_of catalog.schema texts) (suc old.count) (standing_after catalog (asked_of catalog.schema texts) journal)
+  here_is = subst (λ (n : ℕ). state ≡ state_of (asked_of catalog.schema texts) n (standing_after catalog (asked_of catalog.schema texts) journal)) (sym number) taken.is_state
+
+  has_reason : HasReason catalog texts journal old.count (reason_of result)
+  has_reason = record {
+    written = written;
+    stands = here;
+    is_reason = reason_so catalog texts journal old.count written state here_is
         (λ query accepted. decided catalog texts journal old.count written query here accepted)
         (λ query accepted. taken.came old.count written query (next_number old.count) here accepted)
-        (replies_in stored) state here_is
-        are_given
-        ends.lines result (subst (λ (n : ℕ). Why catalog.schema (hidden_of catalog.schema database) (replies_in stored) n written state ends.lines result) (sym number) why)
+        (is_lost store (old.count + 1)) result ends.by;
+  }
 
-    has_lines : HasLines catalog texts journal old.count (reason_of result) ends.lines
-    has_lines = record {
-      written = written;
-      stands = here;
-      lines_are = lines_so catalog texts journal old.count written state here_is
-          (λ query accepted. decided catalog texts journal old.count written query here accepted)
-          (λ query accepted. taken.came old.count written query (next_number old.count) here accepted)
-          ends.lines result ends.by (subst (λ (n : ℕ). AreLinesOf catalog.schema n written ends.lines result) (sym number) ends.are);
-    }
+  has_lines : HasLines catalog texts journal old.count (reason_of result) ends.lines
+  has_lines = record {
+    written = written;
+    stands = here;
+    lines_are = lines_so catalog texts journal old.count written state here_is
+        (λ query accepted. decided catalog texts journal old.count written query here accepted)
+        (λ query accepted. taken.came old.count written query (next_number old.count) here accepted)
+        (is_lost store (old.count + 1)) ends.lines result ends.by (subst (λ (n : ℕ). AreLinesOf catalog.schema n written ends.lines result) (sym number) ends.are);
+  }
 
-    both_now : (more : HaveReasons catalog texts journal (old.count + 1) (λ reasons. AreKept pages_told since.flash.page catalog reasons new.counts) since.flash.faults now.flash.faults)
-        × HaveLines catalog texts journal more.reasons since.sink now.sink
-    both_now =
-        one_reason pages_told since.flash.page catalog join texts journal old.count old.counts new.counts since.flash.faults between.flash.faults now.flash.faults result
-        since.sink between.sink now.sink ends.lines telling.reasons has_reason ends.faults counted ended.first blames_now telling.lines has_lines ends.handed_on
+  but_first : (database : Database) → KnowsBut pages_told since.flash.page catalog database → KnowsBut pages_told first.flash.page catalog database
+  but_first database knows = laws.but pages_told since.flash.page first.flash.page catalog database tree (static_later catalog since.flash first.flash taken.files) knows
+
+  tells_why : (database : Database) → KnowsBut pages_told since.flash.page catalog database
+      → Why catalog.schema (hidden_of catalog.schema database) (replies catalog (asked_of catalog.schema texts) journal (suc old.count)) (suc old.count) written state ends.lines result
+  tells_why database knows =
+      subst (λ (n : ℕ). Why catalog.schema (hidden_of catalog.schema database) (replies catalog (asked_of catalog.schema texts) journal n) n written state ends.lines result) (sym number)
+      (ends.why database (replies catalog (asked_of catalog.schema texts) journal (old.count + 1)) (but_first database knows)
+      (λ done. taken.given done knows.is_told))
+
+  answers_now : (database : Database) → KnowsBut pages_told since.flash.page catalog database
+      → HasAnswerLines catalog (hidden_of catalog.schema database) texts journal old.count (reason_of result) ends.lines
+  answers_now database knows =
+      answers_so catalog (hidden_of catalog.schema database) texts journal old.count written here
+      (λ query accepted. decided catalog texts journal old.count written query here accepted)
+      (λ query accepted. taken.came old.count written query (next_number old.count) here accepted)
+      state here_is ends.lines result (tells_why database knows)
+
+  is_told : (database : Database) → Knows pages_told since.flash.page catalog database
+      → IsTold catalog (hidden_of catalog.schema database) texts journal old.count (record { reason = reason_of result; lines = ends.lines })
+  is_told database knows =
+      told_so catalog (hidden_of catalog.schema database) texts journal old.count ends.lines (reason_of result)
+      (sound laws.never pages_told since.flash.page catalog database result tree knows blames_now)
+      (answers_now database (laws.enough pages_told since.flash.page catalog database tree knows))
+
+  both_now : (more : HaveSoFar catalog texts journal (old.count + 1) (AreKeptSoFar pages_told since.flash.page catalog new.counts marks since.flash.faults now.flash.faults))
+      × HaveLines catalog texts journal more.reasons since.sink now.sink × (more.reasons ≡ telling.reasons.reasons ++ reason_of result ∷ [])
+  both_now =
+      one_reason pages_told since.flash.page catalog join texts journal old.count old.counts new.counts since.flash.faults before.flash.faults now.flash.faults marks marked result
+      since.sink first.sink now.sink ends.lines telling.reasons has_reason tells tells_mark counted ended.first blames_now telling.lines has_lines ends.handed_on
+
+  all_told : (database : Database) → Knows pages_told since.flash.page catalog database
+      → WereTold catalog (hidden_of catalog.schema database) texts journal (old.count + 1) (AreUndamagedSoFar new.counts marks since.flash.faults now.flash.faults) since.sink now.sink
+  all_told database knows =
+      one_told join catalog (hidden_of catalog.schema database) texts journal old.count old.counts new.counts since.flash.faults before.flash.faults now.flash.faults marks marked
+      since.sink first.sink now.sink result ends.lines (telling.told database knows) (is_told database knows) ends.handed_on tells tells_mark counted
+
+  same_marks : marks ≡ marks_behind store new.count
+  same_marks =
+      marks_next later pages_told now.flash more catalog (heard_in catalog texts journal) (old.count + 1) top old.count store kept telling.near
+      ∙ ap (λ (n : ℕ). marks_behind store n) (sym next_count)
+
+  calls : min before.flash.calls last_count ≤ now.flash.calls
+  calls = no_fall last_count before.flash.calls now.flash.calls kept_pages.never_falls
+
+  stayed : min since.flash.calls last_count ≤ first.flash.calls
+  stayed = no_fall last_count since.flash.calls first.flash.calls taken.files.never_falls
+
+  told_now : (database : Database) → Knows pages_told since.flash.page catalog database
+      → WereTold catalog (hidden_of catalog.schema database) texts journal new.count (AreUndamagedSoFar new.counts (marks_behind store new.count) since.flash.faults now.flash.faults) since.sink now.sink
+  told_now database knows =
+      let are = all_told database knows in record {
+        told = are.told;
+        as_many = are.as_many ∙ sym next_count;
+        each = are.each;
+        handed_on = are.handed_on;
+        counted = subst (λ (n : ℕ). AreUndamagedSoFar new.counts n since.flash.faults now.flash.faults (reasons_of are.told)) same_marks are.counted;
+      }
+
+  pub tell_one : IsTelling pages_told catalog texts journal top since now.sink now.flash more (texts_left new) new.count new.counts store
+  tell_one = record {
+    left_are = subst (λ (n : ℕ). AreLeft texts (texts_left new) n) (sym next_count) (left_more texts old.count (texts_left old) (texts_left new) ended.texts.0 telling.left_are ended.texts.1);
+    kept = subst (λ (n : ℕ). IsKept pages_told now.flash more catalog (heard_in catalog texts journal) (n + 1) top store) (sym next_count)
+        (rises pages_told now.flash more catalog (heard_in catalog texts journal) (old.count + 1) top store kept);
+    near = (let near : top ≤ old.count + 2 = telling.near in omega (arith, near, next_count));
+    within = telling.within;
+    pages = files;
+    calls = still_no_fall last_count since.flash.calls before.flash.calls now.flash.calls telling.calls calls;
+    called = called_more since.flash.calls first.flash.calls before.flash.calls now.flash.calls old.counts new.counts marked result counted telling.called calls stayed ends.called tells_mark
+        (telling.marked.called (old.count + 1) (omega arith));
+    damage_called = damage_called_more since.flash.calls first.flash.calls before.flash.calls now.flash.calls old.counts new.counts result counted telling.damage_called calls stayed ends.called;
+    faults = never_falls since.flash.faults before.flash.faults now.flash.faults result telling.faults tells;
+    marked = subst (λ (n : ℕ). AreMarked catalog texts n since.flash.calls now.flash.calls store) (sym next_count)
+        (marked_next catalog texts old.count since.flash.calls before.flash.calls now.flash.calls store calls telling.marked);
+    prints = some_more join since.sink first.sink now.sink telling.prints (record { piece = concat ends.lines; handed = ends.handed_on });
+    damaged = one_damage pages_told since.flash.page catalog old.counts.damage new.counts.damage result ended.first blames_now telling.damaged;
+    read = first_read pages_told catalog since.flash.calls now.flash old.counts.damage new.counts.damage result ended.first
+        (told_earlier pages_told catalog since.flash.calls first.flash.calls now.flash result taken.files.never_falls ends.read)
+        (λ damage e. damage_on since.flash.calls since.flash.calls before.flash now.flash (omega arith) kept_pages.gave pages_told catalog damage.page damage.slot damage.found (telling.read damage e));
+    reasons = record {
+      reasons = both_now.0.reasons;
+      as_many = both_now.0.as_many ∙ sym next_count;
+      each = both_now.0.each;
+      counted = subst (λ (n : ℕ). AreKeptSoFar pages_told since.flash.page catalog new.counts n since.flash.faults now.flash.faults both_now.0.reasons) same_marks both_now.0.counted;
+    };
+    lines = both_now.1;
+    answers = λ database knows. subst (λ (rs : List Reason). HaveAnswerLines catalog (hidden_of catalog.schema database) texts journal rs since.sink now.sink) (sym both_now.2)
+        (one_lines join (HasAnswerLines catalog (hidden_of catalog.schema database) texts journal) telling.reasons.reasons (reason_of result) since.sink first.sink now.sink ends.lines
+        (telling.answers database knows) (subst (λ (n : ℕ). HasAnswerLines catalog (hidden_of catalog.schema database) texts journal n (reason_of result) ends.lines) (sym telling.reasons.as_many) (answers_now database knows)) ends.handed_on);
+    told = told_now;
+  }

@@ -1,7 +1,8 @@
 -- A whole session.
-use Rattle.std.proofs.Common.{◌≡◌, ◌≤◌, ℕ, suc, ◌+◌, arith, Bool, true, false, ◌||◌, List, [], ◌∷◌, length, refl, sym, ap, ◌∙◌, subst, Option, None, Some, slice_get}
-use Rattle.edge_traits.proofs.DeviceFrames.{kept_same}
-use Rattle.std.specs.Prelude.{min, if◌then◌else◌, count_by, is_err, is_some}
+use Rattle.std.proofs.Common.{◌≡◌, ◌≤◌, ◌<◌, ℕ, suc, ◌+◌, arith, Bool, true, false, ◌||◌, List, [], ◌∷◌, length, refl, sym, ap, ◌∙◌, subst, Option, None, Some, slice_get}
+use Rattle.edge_traits.proofs.DeviceFrames.{kept_same, changes_kept}
+use Rattle.std.specs.Prelude.{min, if◌then◌else◌, ◌==◌, ◌&&◌, count_by, is_err, is_some}
+use Rattle.std.specs.Option.{option_or}
 use Rattle.std.specs.List.{list_any}
 use Rattle.std.proofs.lemmas.List.Sums.{sum_by-cons}
 use Rattle.ghost_model.specs.core.Causes.{Rose, last_count}
@@ -11,20 +12,28 @@ use Rattle.ghost_model.specs.core.Asks.{asked_of}
 use Rattle.ghost_model.specs.core.Lines.{Reason, WasRefused, WasBroken, WasAnswered, MetFault}
 use Rattle.ghost_model.specs.core.NextMove.{Standing, Heard, standing_after, IsProper, IsFinished}
 use Rattle.ghost_model.specs.core.Split.{hidden_of}
-use Rattle.edge_traits.specs.Devices.{KeepsPages}
+use Rattle.page_pool.specs.Pools.{Pool}
 use Rattle.channel_session.specs.Entries.{WentBy}
 use Rattle.channel_session.specs.Sessions.{IsLive}
 use Rattle.channel_session.specs.declared.exchange.Exchange.{Exchange}
 use Rattle.session_laws.specs.TextEnds.{heard_in}
-use Rattle.session_replies.specs.Kept.{IsKept, none_heard}
+use Rattle.ghost_model.specs.core.Query.{Query}
+use Rattle.ghost_model.specs.core.Channel.{Entry}
+use Rattle.ghost_model.specs.core.Moves.{answers}
+use Rattle.ghost_model.specs.core.NextMove.{EndedAsk, Ending, Answered, Refused, is_stop}
+use Rattle.ghost_model.specs.core.Lines.{ended_of, all_done, is_refused_by}
+use Rattle.session_laws.specs.TextCases.{Outcome, IsDone, ByHost, ByLink, ByFrame, TextsHaveOutcomes}
+use Rattle.session_replies.specs.Kept.{IsKept, is_lost, none_heard}
+use Rattle.session_replies.specs.Laws.{LaterTextsAreUnmarked}
 use Rattle.session_replies.specs.declared.replies.Replies.{Replies}
 use Rattle.key_lines.specs.Handing.{PiecesJoin}
 use Rattle.key_exec.specs.Reading.{Knows}
 use Rattle.text_lines.specs.Rows.{PrintsSome}
 use Rattle.key_session.specs.Answering.{AnswersWhereSound}
-use Rattle.key_session.specs.Counting.{AreCounted, is_refusal, is_flash}
-use Rattle.key_session.specs.Reasons.{IsReason, HasReason, is_refused_text}
-use Rattle.key_session.specs.Telling.{SessionSide, AreTold, AreLeft, IsTelling}
+use Rattle.key_session.specs.Counting.{AreCounted, is_refusal, is_flash, is_broken, one_if}
+use Rattle.key_session.specs.Reasons.{AreBlamed, CameTo, IsReason, HasReason, is_refused_text}
+use Rattle.key_session.specs.Refusing.{code_of, first_code}
+use Rattle.key_session.specs.Telling.{SessionSide, AreTold, AreLeft, KeepsFiles, IsTelling, marks_behind, reasons_of}
 use Rattle.key_session.specs.Going.{IsGoing}
 use Rattle.channel_pump.specs.declared.state.Pump.{Pump}
 use Rattle.key_session.specs.Running.{HasRun, IsTally, status_with, protocol_or, host_or, blames_flash, is_damaged, spares_flash}
@@ -33,55 +42,68 @@ use Rattle.text_lines.specs.declared.damage.Damage.{Damage}
 use Rattle.key_session.specs.declared.tally.SessionStatus.{SessionStatus}
 use Rattle.key_session.specs.declared.tally.SessionStatus.TheVariants as way
 use Rattle.key_session.specs.declared.tally.Tally.{Tally}
-use Rattle.key_session.proofs.Attending.{none_behind}
+use Rattle.key_session.proofs.Attending.{none_behind, true_is_not_false}
 use Rattle.key_session.proofs.Moving.{heard_none}
 
 abbrev no_counts : Counts
 no_counts = record { refused = 0; faulted = 0; by_flash = false; damage = None }
 
 -- before the first move
-pub at_first : PiecesJoin → (pages_told : Bool) (catalog : Catalog) (texts : List (List ℕ)) (since : SessionSide) (pump : Pump) (count : ℕ) (counts : Counts) (left : List (List ℕ)) (replies : Replies)
+pub at_first : PiecesJoin → (pages_told : Bool) (catalog : Catalog) (texts : List (List ℕ)) (since : SessionSide) (pool : Pool) (pump : Pump) (count : ℕ) (counts : Counts) (left : List (List ℕ)) (replies : Replies)
     → left ≡ texts → count ≡ 0 → counts ≡ record { refused = 0; faulted = 0; by_flash = false; damage = None }
-    → IsKept catalog (none_heard catalog) 1 0 replies → IsGoing pages_told catalog texts [] since since 1 pump left count counts replies
-at_first join pages_told catalog texts since pump count counts left replies all none is_none kept = record {
+    → IsKept pages_told since.flash pool catalog (none_heard catalog) 1 0 replies → ((text : ℕ) → 0 < text → is_lost replies text ≡ false)
+    → IsGoing pages_told catalog texts [] since since.sink since.flash pool pump left count counts replies
+at_first join pages_told catalog texts since pool pump count counts left replies all none is_none kept unmarked = record {
   top = 0;
   telling = record {
     left_are = subst (λ (n : ℕ). AreLeft texts left n) (sym none) (record { left_are = all; within = omega arith });
-    kept = subst (λ (h : Heard). IsKept catalog h 1 0 replies) (sym (heard_none catalog texts)) kept;
+    kept = subst (λ (n : ℕ). IsKept pages_told since.flash pool catalog (heard_in catalog texts []) n 0 replies) first (subst (λ (h : Heard). IsKept pages_told since.flash pool catalog h 1 0 replies) (sym (heard_none catalog texts)) kept);
     near = omega arith;
-    pages = kept_same since.flash;
+    within = omega arith;
+    pages = changes_kept (kept_same since.flash) _ _;
     calls = omega arith;
     called = λ e. absurd (none_failed (sym (ap (λ (c : Counts). c.by_flash) is_none) ∙ e));
     damage_called = λ e. absurd (none_failed (sym (ap (λ (c : Counts). is_some c.damage) is_none) ∙ e));
     faults = omega arith;
+    marked = record {
+      called = λ text from e. absurd (none_failed (sym (unmarked text (omega (arith, from))) ∙ e));
+      accepted = λ place written from stands e. absurd (none_failed (sym (unmarked (suc place) (omega arith)) ∙ e));
+    };
     prints = record { piece = []; handed = join.none since.sink };
     damaged = λ damage e. absurd (none_some damage (sym (ap (λ (c : Counts). c.damage) is_none) ∙ e));
+    read = λ damage e. absurd (none_some damage (sym (ap (λ (c : Counts). c.damage) is_none) ∙ e));
     reasons = record {
       reasons = [];
       as_many = sym none;
       each = λ place reason e. cc;
-      blamed = omega arith;
-      unblamed = λ _. refl;
       counted = record {
-        counted = none_counted;
-        met = record { damages = []; by_reason = refl; each = λ place damage e. cc; first_is = ap (λ (c : Counts). c.damage) is_none };
+        kept = record {
+          counted = none_counted;
+          met = record { damages = []; by_reason = refl; each = λ place damage e. cc; first_is = ap (λ (c : Counts). c.damage) is_none };
+        };
+        faults = no_faults;
       };
     };
     lines = record { lines = []; as_many = refl; each = λ place reason one e f. cc; handed_on = join.none since.sink };
+    answers = λ database knows. record { lines = []; as_many = refl; each = λ place reason one e f. cc; handed_on = join.none since.sink };
     told = λ database knows. record {
       told = [];
       as_many = sym none;
       each = λ place one e. cc;
       handed_on = join.none since.sink;
-      blamed = omega arith;
-      unblamed = λ _. refl;
-      counted = record { counted = none_counted; undamaged = ap (λ (c : Counts). c.damage) is_none };
+      counted = record {
+        undamaged = record { counted = none_counted; undamaged = ap (λ (c : Counts). c.damage) is_none };
+        faults = no_faults;
+      };
     };
   };
-  settled = λ opened text from upto. (let bad : ⊥ = omega (arith, from, upto) in absurd bad);
+  settled = λ opened text from upto. (let bad : ⊥ = omega (arith, from, upto, none) in absurd bad);
   onward = λ text un. omega arith;
 }
   where
+    first : 1 ≡ count + 1
+    first = omega (arith, none)
+
     none_failed : false ≡ true → ⊥
     none_failed e = cc
 
@@ -90,6 +112,21 @@ at_first join pages_told catalog texts since pump count counts left replies all 
 
     none_counted : AreCounted [] counts
     none_counted = subst (λ (c : Counts). AreCounted [] c) (sym is_none) (record { refused = refl; faulted = refl; by_flash = refl; found = refl })
+
+    no_marks : marks_behind replies count ≡ 0
+    no_marks =
+        let one : one_if (is_lost replies (count + 1)) ≡ 0 = ap one_if (unmarked (count + 1) (omega arith)) in
+        let two : one_if (is_lost replies (count + 2)) ≡ 0 = ap one_if (unmarked (count + 2) (omega arith)) in
+        omega (arith, one, two)
+
+    zero_blamed : (most before marks : ℕ) → marks ≡ 0 → min (before + (0 + marks)) most ≤ before
+    zero_blamed most before marks e = omega (arith, e)
+
+    no_faults : AreBlamed (marks_behind replies count) [] since.flash.faults since.flash.faults
+    no_faults = record {
+      blamed = zero_blamed last_count since.flash.faults (marks_behind replies count) no_marks;
+      unblamed = λ flash broken marks. refl;
+    }
 
 -- all texts were told
 all_told : (texts left : List (List ℕ)) (count : ℕ) → AreLeft texts left count → left ≡ [] → count ≡ length texts
@@ -183,11 +220,48 @@ some_met p (reason ∷ reasons) e =
 rose_once : (most before count now : ℕ) → 1 ≤ count → min (before + count) most ≤ now → min (before + 1) most ≤ now
 rose_once most before count now some e = omega (arith, some, e)
 
+-- where all went well no text was broken off
+spared_well : (failed stopped broken : Bool) (kind at : ℕ) (code : Option ℕ) (by_flash : Bool) (damage : Option Damage) → spares_flash (status_by failed stopped broken kind at code by_flash damage) ≡ true
+    → (stopped ≡ false) × (broken ≡ false) × (code ≡ None)
+spared_well true stopped broken kind at code by_flash damage e = cc
+spared_well false true broken kind at code by_flash damage e = cc
+spared_well false false true kind at code by_flash damage e = cc
+spared_well false false false kind at (Some code) by_flash damage e = cc
+spared_well false false false kind at None by_flash damage e = (refl, refl, refl)
+
+none_any_broken : (reasons : List Reason) → ((place : ℕ) (reason : Reason) → slice_get reasons place ≡ Some reason → is_broken reason ≡ false) → list_any is_broken reasons ≡ false
+none_any_broken [] each = refl
+none_any_broken (reason ∷ reasons) each = rw (each 0 reason refl, none_any_broken reasons (λ place. each (suc place))) refl
+
+any_stop : (journal : Journal) → list_any is_stop (answers journal) ≡ list_any (λ (entry : Entry). is_stop entry.answer) journal
+any_stop [] = refl
+any_stop (entry ∷ journal) = ap (λ (b : Bool). is_stop entry.answer || b) (any_stop journal)
+
+-- a refused ask has a code
+some_code : (text : ℕ) (ends : List EndedAsk) → first_code ends ≡ None → list_any (λ (end : EndedAsk). is_refused_by end.ending && end.asked.text == text) ends ≡ false
+some_code text [] e = refl
+some_code text (end ∷ ends) e = by end.ending e (λ f. some_code text ends f)
+  where
+    by : (ending : Ending) → option_or (code_of ending) (first_code ends) ≡ None
+        → (first_code ends ≡ None → list_any (λ (end : EndedAsk). is_refused_by end.ending && end.asked.text == text) ends ≡ false)
+        → (is_refused_by ending && end.asked.text == text || list_any (λ (end : EndedAsk). is_refused_by end.ending && end.asked.text == text) ends) ≡ false
+    by (Answered rows) e later = later e
+    by (Refused code) e later = cc
+
+none_broken : (catalog : Catalog) (texts : List (List ℕ)) (journal : Journal) (place : ℕ) (query : Query) → all_done catalog.schema query (ended_of catalog (asked_of catalog.schema texts) journal (suc place)) ≡ false
+    → ((standing_after catalog (asked_of catalog.schema texts) journal).stopped ≡ false) × ((standing_after catalog (asked_of catalog.schema texts) journal).heard.broken ≡ false)
+    × (first_code (standing_after catalog (asked_of catalog.schema texts) journal).heard.ended ≡ None)
+    → Outcome catalog texts journal (suc place) query → ⊥
+none_broken catalog texts journal place query undone well (IsDone d) = true_is_not_false (sym d ∙ undone)
+none_broken catalog texts journal place query undone well (ByHost d refused word) = true_is_not_false (sym refused ∙ some_code (suc place) (heard_in catalog texts journal).ended well.2)
+none_broken catalog texts journal place query undone well (ByLink d r stop word) = true_is_not_false (sym stop ∙ (any_stop journal ∙ well.0))
+none_broken catalog texts journal place query undone well (ByFrame d r stop broken word) = true_is_not_false (sym broken ∙ well.1)
+
 pub record IsLast (went : Journal → Type 0) (link_before link_now : ℕ) (pages_told : Bool) (catalog : Catalog) (at : List ℕ) (texts : List (List ℕ)) (since now : SessionSide) (tally : Tally) : Type 0 where
   pub ran : HasRun went link_before link_now pages_told catalog at texts since now tally
   pub many : tally.texts ≡ length texts
   pub prints : PrintsSome since.sink now.sink
-  pub pages : KeepsPages since.flash now.flash
+  pub pages : KeepsFiles catalog since.flash now.flash
   pub calls : min since.flash.calls last_count ≤ now.flash.calls
   pub called : blames_flash tally.status ≡ true → Rose since.flash.calls now.flash.calls
   pub damage_called : is_damaged tally.status ≡ true → Rose since.flash.calls now.flash.calls
@@ -206,15 +280,31 @@ module _ {went : Journal → Type 0} {link_before link_now : ℕ} {pages_told : 
       (ap blames_flash (sym ran.reasons.counted.status_is) ∙ e)))
       ran.reasons.blamed
 
-  pub flash_same : spares_flash tally.status ≡ true → now.flash.faults ≡ since.flash.faults
-  flash_same e =
+  -- where all went well, the asks of each text came to their end
+  spared : (place : ℕ) (reason : Reason) → TextsHaveOutcomes → spares_flash tally.status ≡ true → HasReason catalog texts ran.journal place reason → is_broken reason ≡ false
+  spared place WasRefused outcomes e has = refl
+  spared place WasAnswered outcomes e has = refl
+  spared place (MetFault fault) outcomes e has = refl
+  spared place WasBroken outcomes e has =
+      let came : CameTo false catalog texts ran.journal (suc place) has.written = has.is_reason in
+      absurd (none_broken catalog texts ran.journal place came.query came.done
+      (spared_well now.sink.failed (standing_after catalog (asked_of catalog.schema texts) ran.journal).stopped (standing_after catalog (asked_of catalog.schema texts) ran.journal).heard.broken _ _
+      (first_code (standing_after catalog (asked_of catalog.schema texts) ran.journal).heard.ended) (list_any is_flash ran.reasons.reasons) ran.reasons.counted.damage (ap spares_flash (sym ran.reasons.counted.status_is) ∙ e))
+      (outcomes catalog at texts ran.journal place has.written came.query ran.proper ran.finished has.stands came.accepted))
+
+  pub flash_same : TextsHaveOutcomes → spares_flash tally.status ≡ true → now.flash.faults ≡ since.flash.faults
+  flash_same outcomes e =
       ran.reasons.unblamed (spared_so now.sink.failed session.stopped session.heard.broken _ _ _ (list_any is_flash ran.reasons.reasons) ran.reasons.counted.damage
       (ap spares_flash (sym ran.reasons.counted.status_is) ∙ e))
+      (none_any_broken ran.reasons.reasons (λ place reason f. spared place reason outcomes e (ran.reasons.each place reason f)))
 
-pub has_run : (went : Journal → Type 0) (link_before link_now : ℕ) (pages_told : Bool) (catalog : Catalog) (at : List ℕ) (texts : List (List ℕ)) (since now : SessionSide) (exchange : Exchange) (journal : Journal) (low top : ℕ) (left : List (List ℕ)) (count : ℕ) (counts : Counts) (replies : Replies)
+blamed_last : (most since now count marks : ℕ) → min (since + (count + marks)) most ≤ now → min (since + count) most ≤ now
+blamed_last most since now count marks e = omega (arith, e)
+
+pub has_run : LaterTextsAreUnmarked → (went : Journal → Type 0) (link_before link_now : ℕ) (pages_told : Bool) (catalog : Catalog) (at : List ℕ) (texts : List (List ℕ)) (since now : SessionSide) (exchange : Exchange) (journal : Journal) (top : ℕ) (pool : Pool) (left : List (List ℕ)) (count : ℕ) (counts : Counts) (replies : Replies)
     (tally : Tally)
     → WentBy went link_before link_now journal → IsLive catalog at (asked_of catalog.schema texts) journal exchange → IsFinished journal
-    → IsTelling pages_told catalog texts journal low top since now left count counts replies
+    → IsTelling pages_told catalog texts journal top since now.sink now.flash pool left count counts replies
     → left ≡ []
     → tally.texts ≡ count → tally.refused ≡ counts.refused → tally.faulted ≡ counts.faulted
     → tally.status ≡ status_with now.sink.failed (standing_after catalog (asked_of catalog.schema texts) journal) counts.by_flash counts.damage
@@ -223,7 +313,7 @@ pub has_run : (went : Journal → Type 0) (link_before link_now : ℕ) (pages_to
     → AreTold catalog (hidden_of catalog.schema database) texts journal (length texts) (λ reasons. IsTally now.sink.failed (standing_after catalog (asked_of catalog.schema texts) journal) reasons tally) since now)
     → AnswersWhereSound pages_told catalog texts journal since now tally)
     → IsLast went link_before link_now pages_told catalog at texts since now tally
-has_run went link_before link_now pages_told catalog at texts since now exchange journal low top left many_told counts replies tally went_by live is_finished last none many refused faulted status_is answers = record {
+has_run later went link_before link_now pages_told catalog at texts since now exchange journal top pool left many_told counts replies tally went_by live is_finished last none many refused faulted status_is answers = record {
   ran = record {
     journal = journal;
     went = went_by.gone;
@@ -231,25 +321,30 @@ has_run went link_before link_now pages_told catalog at texts since now exchange
     short = went_by.short;
     proper = live.proper;
     finished = is_finished;
-    refused = refused ∙ last.reasons.counted.counted.refused ∙ refusals_read catalog texts journal last.reasons.reasons (last.reasons.as_many ∙ count) last.reasons.each;
+    refused = refused ∙ last.reasons.counted.kept.counted.refused ∙ refusals_read catalog texts journal last.reasons.reasons (last.reasons.as_many ∙ count) last.reasons.each;
     reasons = record {
       reasons = last.reasons.reasons;
       as_many = last.reasons.as_many ∙ count;
       each = last.reasons.each;
-      blamed = last.reasons.blamed;
-      unblamed = last.reasons.unblamed;
+      blamed = blamed_last last_count since.flash.faults now.flash.faults (count_by is_flash last.reasons.reasons) (marks_behind replies many_told) last.reasons.counted.faults.blamed;
+      unblamed = λ flash broken. last.reasons.counted.faults.unblamed flash broken no_marks;
       counted = record {
-        refused = refused ∙ last.reasons.counted.counted.refused;
-        faulted = faulted ∙ last.reasons.counted.counted.faulted;
+        refused = refused ∙ last.reasons.counted.kept.counted.refused;
+        faulted = faulted ∙ last.reasons.counted.kept.counted.faulted;
         damage = counts.damage;
-        found = last.reasons.counted.counted.found;
-        first = last.reasons.counted.met;
-        status_is = status_is ∙ ap (λ (b : Bool). status_with now.sink.failed (standing_after catalog (asked_of catalog.schema texts) journal) b counts.damage) last.reasons.counted.counted.by_flash;
+        found = last.reasons.counted.kept.counted.found;
+        first = last.reasons.counted.kept.met;
+        status_is = status_is ∙ ap (λ (b : Bool). status_with now.sink.failed (standing_after catalog (asked_of catalog.schema texts) journal) b counts.damage) last.reasons.counted.kept.counted.by_flash;
       };
     };
     lines = last.lines;
+    answers = last.answers;
     damaged = λ damage e.
         last.damaged damage
+        (damaged_so now.sink.failed (standing_after catalog (asked_of catalog.schema texts) journal).stopped (standing_after catalog (asked_of catalog.schema texts) journal).heard.broken _ _ _ counts.by_flash counts.damage damage
+        (sym status_is ∙ e));
+    damage_read = λ damage e.
+        last.read damage
         (damaged_so now.sink.failed (standing_after catalog (asked_of catalog.schema texts) journal).stopped (standing_after catalog (asked_of catalog.schema texts) journal).heard.broken _ _ _ counts.by_flash counts.damage damage
         (sym status_is ∙ e));
     told = told;
@@ -273,6 +368,16 @@ has_run went link_before link_now pages_told catalog at texts since now exchange
     count : many_told ≡ length texts
     count = all_told texts left many_told last.left_are none
 
+    -- no text is left whose replies could be marked
+    no_marks : marks_behind replies many_told ≡ 0
+    no_marks =
+        let upto : top ≤ length texts = last.within in
+        let one : one_if (is_lost replies (many_told + 1)) ≡ 0 =
+        ap one_if (later pages_told now.flash pool catalog (heard_in catalog texts journal) (many_told + 1) top (many_told + 1) replies last.kept (omega (arith, upto, count))) in
+        let two : one_if (is_lost replies (many_told + 2)) ≡ 0 =
+        ap one_if (later pages_told now.flash pool catalog (heard_in catalog texts journal) (many_told + 1) top (many_told + 2) replies last.kept (omega (arith, upto, count))) in
+        omega (arith, one, two)
+
     told : (database : Database) → Knows pages_told since.flash.page catalog database
         → AreTold catalog (hidden_of catalog.schema database) texts journal (length texts) (λ reasons. IsTally now.sink.failed (standing_after catalog (asked_of catalog.schema texts) journal) reasons tally) since now
     told database knows =
@@ -282,14 +387,14 @@ has_run went link_before link_now pages_told catalog at texts since now exchange
           as_many = are.as_many ∙ count;
           each = are.each;
           handed_on = are.handed_on;
-          blamed = are.blamed;
-          unblamed = are.unblamed;
+          blamed = blamed_last last_count since.flash.faults now.flash.faults (count_by is_flash (reasons_of are.told)) (marks_behind replies many_told) are.counted.faults.blamed;
+          unblamed = λ flash broken. are.counted.faults.unblamed flash broken no_marks;
           counted = record {
-            refused = refused ∙ are.counted.counted.refused;
-            faulted = faulted ∙ are.counted.counted.faulted;
+            refused = refused ∙ are.counted.undamaged.counted.refused;
+            faulted = faulted ∙ are.counted.undamaged.counted.faulted;
             status_is = status_is
-                ∙ ap (λ (d : Option Damage). status_with now.sink.failed (standing_after catalog (asked_of catalog.schema texts) journal) counts.by_flash d) are.counted.undamaged
-                ∙ ap (λ (b : Bool). status_with now.sink.failed (standing_after catalog (asked_of catalog.schema texts) journal) b None) are.counted.counted.by_flash;
+                ∙ ap (λ (d : Option Damage). status_with now.sink.failed (standing_after catalog (asked_of catalog.schema texts) journal) counts.by_flash d) are.counted.undamaged.undamaged
+                ∙ ap (λ (b : Bool). status_with now.sink.failed (standing_after catalog (asked_of catalog.schema texts) journal) b None) are.counted.undamaged.counted.by_flash;
           };
         }
 

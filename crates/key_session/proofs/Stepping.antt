@@ -1,18 +1,22 @@
 -- A session from step to step.
-use Rattle.std.proofs.Common.{◌≡◌, ◌≤◌, ◌+◌, ℕ, Bool, true, false, List, [], ◌∷◌, ◌++◌, length, refl, sym, ap, ◌∙◌, subst, append-nil, Option, Some, None}
-use Rattle.std.specs.Prelude.{is_some}
+use Rattle.std.proofs.Common.{◌≡◌, ◌≤◌, ◌<◌, ◌+◌, ℕ, arith, Bool, true, false, List, [], ◌∷◌, ◌++◌, length, refl, sym, ap, ◌∙◌, subst, append-nil, Option, Some, None}
+use Rattle.std.specs.Prelude.{◌^◌, is_some}
 use Rattle.ghost_model.specs.core.Channel.{Catalog, Journal}
 use Rattle.ghost_model.specs.core.Asks.{asked_of}
 use Rattle.edge_traits.specs.Devices.{Device}
-use Rattle.page_pool.specs.Pools.{Pool, IsIdle}
+use Rattle.page_pool.specs.Pools.{Pool, IsIdle, IsOut, leased, given, free_count}
+use Rattle.ghost_model.specs.forms.Layout.{need}
+use Rattle.key_exec.specs.Plans.{Suffices}
+use Rattle.session_replies.specs.Kept.{lease_of}
+use Rattle.session_replies.specs.Laws.{LaterTextsAreUnmarked}
 use Rattle.channel_pump.specs.declared.state.Pump.{Pump}
 use Rattle.channel_session.specs.Sessions as moves
 use Rattle.session_laws.specs.TextEnds.{heard_in}
 use Rattle.session_replies.specs.declared.replies.Replies.{Replies}
 use Rattle.text_lines.specs.declared.telling.Telling.{Telling}
 use Rattle.key_session.specs.Refusing.{first_code}
-use Rattle.key_session.specs.Telling.{SessionSide, IsTelling, texts_left}
-use Rattle.key_session.specs.Going.{CanStep, CanRun, IsAmid, IsGoing, IsLive, WasMoved, WentOn, ByMove, BySlice, HasCome}
+use Rattle.key_session.specs.Telling.{SessionSide, texts_left}
+use Rattle.key_session.specs.Going.{CanStep, CanRun, IsOutAlone, IsAmid, IsGoing, IsLive, leases_of, WentOn, ByMove, BySlice, HasCome}
 use Rattle.key_session.specs.declared.session.Session.{Session}
 use Rattle.key_session.specs.declared.teller.Teller.{Teller}
 use Rattle.ghost_model.specs.core.Asks.{NumberedAsk}
@@ -29,13 +33,19 @@ use Rattle.key_session.proofs.Attending.{empty}
 use Rattle.key_session.proofs.HonestRuns.{answers_all}
 use Rattle.key_session.proofs.Running.{IsLast, has_run}
 use Rattle.key_session.proofs.Beginning.{none_taken}
-use Rattle.key_session.proofs.Steps.{idle_of}
 
--- what a step needs stays in a move
-pub can_still : (told : Bool) (device : Device) (pool : Pool) (old new : Session) → new.cat ≡ old.cat → new.teller ≡ old.teller → CanStep told device pool old → CanStep told device pool new
-can_still told device pool old new cat teller can = record {
-  suffices = rw cat can.suffices;
-  can = subst (λ (t : Teller). CanRun told device pool t.running) (sym teller) can.can;
+-- what a step needs stays where the pages of the device do
+pub still_suffices : (catalog : Catalog) (before now : Device) → now.page_count ≡ before.page_count → Suffices catalog before → Suffices catalog now
+still_suffices catalog before now same suffices = record {
+  pages = (let pages : need catalog ≤ before.page_count = suffices.pages in omega (arith, pages, same));
+  small = (let small : before.page_count < 2 ^ 32 = suffices.small in omega (arith, small, same));
+}
+
+pub can_still : (told : Bool) (device : Device) (pool : Pool) (old new : Session) → new.cat ≡ old.cat → new.teller ≡ old.teller → lease_of new.replies ≡ lease_of old.replies
+    → Suffices old.cat.now device → CanRun told old.cat.now device pool (old.teller.count + 1) (lease_of old.replies) old.teller.running → CanStep told device pool new
+can_still told device pool old new cat teller lease suffices run = record {
+  suffices = rw cat suffices;
+  run = rw (cat, teller, lease) run;
 }
 
 pub come_on : (before_it made later : Journal → Type 0) (told : Bool) (texts : List (List ℕ)) (since before now : SessionSide) (pool more : Pool) (old new : Session)
@@ -77,11 +87,40 @@ none_running teller none = by (is_some teller.running) refl
 
 -- where no text is left all were told
 pub all_over : (told : Bool) (cat : Catalog) (texts : List (List ℕ)) (journal : Journal) (since now : SessionSide) (pool : Pool) (pump : Pump) (teller : Teller) (kept : Replies) → is_some teller.ahead ≡ false
-    → IsAmid told cat texts journal since now pool pump teller kept → IsGoing told cat texts journal since now (teller.count + 1) pump (texts_left teller) teller.count teller.counts kept
+    → IsAmid told cat texts journal since now pool pump teller kept → IsGoing told cat texts journal since now.sink now.flash pool pump (texts_left teller) teller.count teller.counts kept
 all_over told cat texts journal since now pool pump teller kept none amid = none_taken told cat texts journal since now pool pump teller kept (none_running teller none) amid
 
-pub idle_over : (told : Bool) (device : Device) (pool : Pool) (teller : Teller) → is_some teller.ahead ≡ false → CanRun told device pool teller.running → IsIdle pool
-idle_over told device pool teller none can = idle_of told device pool teller.running (none_running teller none) can
+-- and no buffer is out but that of the replies
+pub alone_over : (told : Bool) (cat : Catalog) (device : Device) (pool : Pool) (number lease : ℕ) (teller : Teller) → is_some teller.ahead ≡ false → CanRun told cat device pool number lease teller.running → IsOutAlone [] pool lease
+alone_over told cat device pool number lease teller none run = by teller.running (none_running teller none) run.alone
+  where
+    by : (running : Option Telling) → is_some running ≡ false → IsOutAlone (leases_of running) pool lease → IsOutAlone [] pool lease
+    by None e alone = alone
+    by (Some telling) e alone = cc
+
+-- a buffer was leased of an idle pool
+pub leased_alone : (pool more : Pool) (lease : ℕ) → IsIdle pool → more ≡ leased pool lease → IsOut more lease → free_count more + 1 ≡ free_count pool → IsOutAlone [] more lease
+leased_alone pool more lease idle is out counted =
+    let size : length more.pages ≡ length pool.pages = ap (λ (p : Pool). length p.pages) is in
+    let enough : 8 ≤ length pool.pages = idle.enough in
+    record {
+      enough = omega (arith, size, enough);
+      within = out.within;
+      out = out.out;
+      free = counted ∙ (idle.free ∙ sym size);
+    }
+
+pub out_over : (pool : Pool) (lease : ℕ) → IsOutAlone [] pool lease → IsOut pool lease
+out_over pool lease alone = record { within = alone.within; out = alone.out }
+
+pub idle_over : (pool : Pool) (lease : ℕ) (more : Pool) → IsOutAlone [] pool lease → more ≡ given pool lease → free_count more ≡ free_count pool + 1 → IsIdle more
+idle_over pool lease more alone is counted =
+    let size : length more.pages ≡ length pool.pages = ap (λ (p : Pool). length p.pages) is in
+    let enough : 8 ≤ length pool.pages = alone.enough in
+    record {
+      enough = omega (arith, size, enough);
+      free = counted ∙ (alone.free ∙ sym size);
+    }
 
 pub cat_still : (old new : Session) → new.cat ≡ old.cat → new.cat.now ≡ old.cat.now
 cat_still old new e = rw e refl
@@ -90,7 +129,7 @@ pub at_still : (old new : Session) → new.at ≡ old.at → new.at.now ≡ old.
 at_still old new e = rw e refl
 
 -- the whole session, once nothing is due
-pub last_of : HonestSessionsAreSmooth → HonestLinesArePrinted → moves.ClosedIsFinished → (cat : Catalog) → IsCatalog cat → (texts : List (List ℕ)) → length texts ≤ 64
+pub last_of : LaterTextsAreUnmarked → HonestSessionsAreSmooth → HonestLinesArePrinted → moves.ClosedIsFinished → (cat : Catalog) → IsCatalog cat → (texts : List (List ℕ)) → length texts ≤ 64
     → (went : Journal → Type 0) (link_before link_now : ℕ) (told : Bool) (at : List ℕ) (since : SessionSide) (faults : ℕ) (written : Option (List ℕ)) (device : Device) (pool : Pool) (session : Session) (tally : Tally)
     → session.cat.now ≡ cat → session.at.now ≡ at
     → HasCome (WentBy went link_before link_now) told texts since (session_side session.teller.printer.failed faults written device) pool session
@@ -99,12 +138,12 @@ pub last_of : HonestSessionsAreSmooth → HonestLinesArePrinted → moves.Closed
     → ((catalog : Catalog) (asks : List NumberedAsk) (journal : Journal) → IsAfter catalog asks journal session.exchange.pump → session.refusal ≡ first_code (standing_after catalog asks journal).heard.ended
     → tally.status ≡ status_with session.teller.printer.failed (standing_after catalog asks journal) session.teller.counts.by_flash session.teller.counts.damage)
     → IsLast went link_before link_now told cat at texts since (session_side session.teller.printer.failed faults written device) tally
-last_of smooth prints closed cat proper texts few went link_before link_now told at since faults written device pool session tally cat_is at_is come shut none many refused faulted status =
+last_of later smooth prints closed cat proper texts few went link_before link_now told at since faults written device pool session tally cat_is at_is come shut none many refused faulted status =
     let now = session_side session.teller.printer.failed faults written device in
     let live = live_at told cat at texts come.journal since now pool session cat_is at_is come.live in
     let finished = closed cat at (asked_of cat.schema texts) come.journal session.exchange live.channel shut in
     let going = all_over told cat texts come.journal since now pool session.exchange.pump session.teller session.replies none live.amid in
-    has_run went link_before link_now told cat at texts since now session.exchange come.journal (session.teller.count + 1) going.top (texts_left session.teller) session.teller.count session.teller.counts session.replies tally
+    has_run later went link_before link_now told cat at texts since now session.exchange come.journal going.top pool (texts_left session.teller) session.teller.count session.teller.counts session.replies tally
     come.went live.channel finished going.telling (empty _ session.teller.ahead session.teller.texts none (session.teller.last none)) many refused faulted
     (status cat (asked_of cat.schema texts) come.journal live.channel.after live.refusal_is)
     (λ is_proper is_finished tells. answers_all smooth prints told cat at texts come.journal since now tally proper few is_proper is_finished tells)

@@ -13,6 +13,7 @@ reason_of told.Answered = WasAnswered
 reason_of told.Host = WasBroken
 reason_of told.Link = WasBroken
 reason_of told.Protocol = WasBroken
+reason_of told.Marked = MetFault OnFlash
 reason_of told.Flash = MetFault OnFlash
 reason_of (told.Damaged damage) = MetFault OnDamage
 
@@ -25,6 +26,11 @@ abbrev pub is_fault : Reason → Bool
 is_fault WasBroken = true
 is_fault (MetFault _) = true
 is_fault _ = false
+
+-- whether its asks did not all come to their end
+abbrev pub is_broken : Reason → Bool
+is_broken WasBroken = true
+is_broken _ = false
 
 abbrev pub is_on_flash : Fault → Bool
 is_on_flash OnFlash = true

@@ -3,7 +3,8 @@
 use Rattle.std.specs.Prelude.{◌≡◌, ℕ, Bool, List, map, slice_get, Option, Some, is_some}
 use Rattle.ghost_model.specs.core.Channel.{Catalog}
 use Rattle.ghost_model.specs.core.Lines.{Reason}
-use Rattle.key_exec.specs.Blaming.{IsDamaged}
+use Rattle.key_exec.specs.Blaming.{IsDamaged, WasDamaged}
+use Rattle.edge_traits.specs.Devices.{Device}
 use Rattle.key_session.specs.Counting.{first_of, is_damage, AreCounted}
 use Rattle.key_session.specs.declared.counts.Counts.{Counts}
 use Rattle.text_lines.specs.declared.damage.Damage.{Damage}
@@ -11,6 +12,10 @@ use Rattle.text_lines.specs.declared.damage.Damage.{Damage}
 -- whatever the pages hold
 abbrev pub IsSlot : (pages_told : Bool) (page : ℕ → List ℕ) → Catalog → Damage → Type 0
 IsSlot pages_told page catalog damage = IsDamaged pages_told page catalog damage.page damage.slot damage.found
+
+-- and the session read it there, from so many calls on
+abbrev pub WasRead : (pages_told : Bool) (since : ℕ) → Device → Catalog → Damage → Type 0
+WasRead pages_told since device catalog damage = WasDamaged pages_told since device catalog damage.page damage.slot damage.found
 
 -- some texts have these reasons, and this is the damage that the first of them met that damage ended
 pub record MeetsFirst (pages_told : Bool) (page : ℕ → List ℕ) (catalog : Catalog) (reasons : List Reason) (first : Option Damage) : Type 0 where

@@ -1,5 +1,5 @@
 -- A session that is under way.
-use Rattle.std.specs.Prelude.{◌≡◌, ℕ, suc, ◌≤◌, ◌+◌, ◌*◌, ◌&&◌, Bool, true, false, not, List, [], ◌∷◌, ◌++◌, length, slice_get, Option, None, Some, Ok, is_some, option_map, if◌then◌else◌}
+use Rattle.std.specs.Prelude.{◌≡◌, ℕ, ⊤, ◌≤◌, ◌<◌, ◌+◌, ◌*◌, ◌%◌, ◌&&◌, Bool, true, false, not, List, [], ◌∷◌, ◌++◌, length, get_or, count_by, slice_get, Option, None, Some, Ok, is_some, option_map, if◌then◌else◌}
 use Rattle.ghost_model.specs.core.Query.{Query}
 use Rattle.ghost_model.specs.readings.QueryReading.{reading}
 use Rattle.ghost_model.specs.core.Channel.{Catalog, Journal, Entry}
@@ -7,7 +7,9 @@ use Rattle.ghost_model.specs.core.Asks.{NumberedAsk, asked_of}
 use Rattle.ghost_model.specs.core.NextMove.{standing_after}
 use Rattle.ghost_model.specs.core.Replies.{replies}
 use Rattle.edge_traits.specs.Devices.{Device}
-use Rattle.page_pool.specs.Pools.{Pool, IsIdle}
+use Rattle.page_pool.specs.Pools.{Pool, others_out}
+use Rattle.visible_spool.specs.declared.half.Half.{Half}
+use Rattle.key_lines.specs.Handing.{Handed}
 use Rattle.session_laws.specs.TextEnds.{heard_in, is_settled_in}
 use Rattle.channel_pump.specs.Here.{moves_left}
 use Rattle.channel_pump.specs.Marks.{state_of}
@@ -18,13 +20,13 @@ use Rattle.channel_pump.specs.declared.state.ReplyState.{ReplyState}
 use Rattle.channel_pump.specs.declared.state.ReplyState.TheVariants as state_is
 use Rattle.channel_session.specs.Sessions as moves
 use Rattle.channel_session.specs.declared.exchange.Exchange.{Exchange}
-use Rattle.reply_store.specs.Stored.{replies_in, are_ascending}
-use Rattle.session_replies.specs.Halves.{stored_for}
+use Rattle.session_replies.specs.Kept.{is_lost, lease_of}
 use Rattle.session_replies.specs.declared.replies.Replies.{Replies}
 use Rattle.key_exec.specs.Plans.{Suffices}
 use Rattle.text_lines.specs.Rows.{TakesTurn}
 use Rattle.text_lines.specs.Telling as lines
-use Rattle.text_lines.specs.Telling.{CanTell, IsUnderWay}
+use Rattle.text_lines.specs.Texts.{IsDone}
+use Rattle.text_lines.specs.Telling.{CanTell, IsUnderWay, AreRepliesOf}
 use Rattle.text_lines.specs.declared.telling.Telling.{Telling}
 use Rattle.text_lines.specs.declared.text.Told.{Told}
 use Rattle.key_session.specs.Counting.{IsCounted, reason_of, damage_in, first_damage}
@@ -37,21 +39,42 @@ use Rattle.key_session.specs.Order.{IsPaced, IsSliced, due_of, is_closed}
 use Rattle.key_session.specs.declared.pace.Due.{Due}
 use Rattle.key_session.specs.declared.pace.Due.TheVariants as due
 use Rattle.key_session.specs.Refusing.{first_code}
-use Rattle.key_session.specs.Telling.{SessionSide, CameOut, IsTelling, texts_left}
+use Rattle.key_session.specs.Telling.{SessionSide, CameOut, IsTelling, KeepsFiles, texts_left}
 use Rattle.key_session.specs.declared.counts.Counts.{Counts}
 use Rattle.key_session.specs.declared.teller.Teller.{Teller}
 use Rattle.key_session.specs.declared.session.Session.{Session}
 
 -- ---- what a step needs, whatever the pages hold
 
--- no buffer of the pool is out but those of the text that is told
-abbrev pub CanRun : (pages_told : Bool) → Device → Pool → Option Telling → Type 0
-CanRun pages_told device pool None = IsIdle pool
-CanRun pages_told device pool (Some telling) = CanTell pages_told device pool telling
+-- beside some leases that of the replies alone is out, and there are as many buffers as a pool has at least
+pub record IsOutAlone (leases : List ℕ) (pool : Pool) (lease : ℕ) : Type 0 where
+  pub enough : 8 ≤ length pool.pages
+  pub within : lease < length pool.pages
+  pub out : get_or (others_out pool leases) lease false ≡ true
+  pub free : count_by not (others_out pool leases) + 1 ≡ length pool.pages
+
+-- the text with a number goes on
+abbrev pub CanGoOn : (pages_told : Bool) → Catalog → (number : ℕ) → Device → Pool → Option Telling → Type 0
+CanGoOn pages_told catalog number device pool None = ⊤
+CanGoOn pages_told catalog number device pool (Some telling) = CanTell pages_told catalog (number % 2) device pool telling
+
+abbrev pub leases_of : Option Telling → List ℕ
+leases_of None = []
+leases_of (Some telling) = lines.leases_of telling
+
+-- the text that is told goes on, and no buffer is out but its own and that of the replies
+pub record CanRun (pages_told : Bool) (catalog : Catalog) (device : Device) (pool : Pool) (number lease : ℕ) (running : Option Telling) : Type 0 where
+  pub can : CanGoOn pages_told catalog number device pool running
+  pub alone : IsOutAlone (leases_of running) pool lease
+
+pub record IsSomeRun (pages_told : Bool) (device : Device) (pool : Pool) (number : ℕ) (running : Option Telling) : Type 0 where
+  pub catalog : Catalog
+  pub lease : ℕ
+  pub run : CanRun pages_told catalog device pool number lease running
 
 pub record CanStep (pages_told : Bool) (device : Device) (pool : Pool) (session : Session) : Type 0 where
   pub suffices : Suffices session.cat.now device
-  pub can : CanRun pages_told device pool session.teller.running
+  pub run : CanRun pages_told session.cat.now device pool (session.teller.count + 1) (lease_of session.replies) session.teller.running
 
 -- ---- how much is left at most
 
@@ -63,8 +86,12 @@ steps_of (Some telling) = lines.left_of telling
 abbrev pub unbegun : Teller → ℕ
 unbegun teller = length teller.texts + (if is_some teller.ahead && not (is_some teller.running) then 1 else 0)
 
+-- how many steps a text takes at most
+abbrev pub most_left : ℕ
+most_left = 28000103000002
+
 abbrev pub left_of : Teller → ℕ
-left_of teller = 75000002 * unbegun teller + steps_of teller.running
+left_of teller = most_left * unbegun teller + steps_of teller.running
 
 -- the text ahead was told to its end
 pub record EndsText (result : Told) (old new : Teller) : Type 0 where
@@ -76,12 +103,12 @@ pub record EndsText (result : Told) (old new : Teller) : Type 0 where
 
 -- ---- the live session
 
--- texts were told, those before `low` are settled as long as the link is open, and those that are not settled come no earlier
--- than the last whose reply was begun
-pub record IsGoing (pages_told : Bool) (catalog : Catalog) (texts : List (List ℕ)) (journal : Journal) (since now : SessionSide) (low : ℕ) (pump : Pump) (left : List (List ℕ)) (count : ℕ) (counts : Counts) (replies : Replies) : Type 0 where
+-- texts were told, which are settled as long as the link is open, and those that are not settled come no earlier than the last
+-- whose reply was begun
+pub record IsGoing (pages_told : Bool) (catalog : Catalog) (texts : List (List ℕ)) (journal : Journal) (since : SessionSide) (sink : Handed) (device : Device) (pool : Pool) (pump : Pump) (left : List (List ℕ)) (count : ℕ) (counts : Counts) (replies : Replies) : Type 0 where
   pub top : ℕ
-  pub telling : IsTelling pages_told catalog texts journal low top since now left count counts replies
-  pub settled : (want_of pump ≡ want.Closed → ⊥) → (text : ℕ) → 1 ≤ text → suc text ≤ low → is_settled_in catalog texts journal text ≡ true
+  pub telling : IsTelling pages_told catalog texts journal top since sink device pool left count counts replies
+  pub settled : (want_of pump ≡ want.Closed → ⊥) → (text : ℕ) → 1 ≤ text → text ≤ count → is_settled_in catalog texts journal text ≡ true
   pub onward : (text : ℕ) → is_settled_in catalog texts journal text ≡ false → top ≤ text
 
 -- the asks of a text are over
@@ -89,46 +116,51 @@ pub record IsNext (catalog : Catalog) (texts : List (List ℕ)) (journal : Journ
   pub came : CameOut catalog texts journal number
   pub settled : (want_of pump ≡ want.Closed → ⊥) → is_settled_in catalog texts journal number ≡ true
 
--- the text at a place is told, by this state of its replies, since the flash and the sink were as at the first
-pub record IsTaken (pages_told : Bool) (catalog : Catalog) (texts : List (List ℕ)) (journal : Journal) (place : ℕ) (state : ReplyState) (first now : SessionSide) (pool : Pool) (kept : Replies) (telling : Telling) : Type 0 where
+-- The text at a place is told, by this state of its replies and what stands of them in its half of the spool, since the flash and
+-- the sink were as at the first. The files of the session were as they are.
+pub record IsTaken (pages_told : Bool) (catalog : Catalog) (texts : List (List ℕ)) (journal : Journal) (place : ℕ) (state : ReplyState) (marked : Bool) (half : Half) (since : Device) (first now : SessionSide) (pool : Pool) (telling : Telling) : Type 0 where
   pub number : telling.number ≡ place + 1
   pub written : List ℕ
   pub stands : slice_get texts place ≡ Some written
   pub came : CameOut catalog texts journal (place + 1)
   pub is_state : state ≡ state_of (asked_of catalog.schema texts) (place + 1) (standing_after catalog (asked_of catalog.schema texts) journal)
-  -- its store has the replies to its asks
-  pub given : state ≡ state_is.Done → replies_in (stored_for kept (place + 1)) ≡ replies catalog (asked_of catalog.schema texts) journal (place + 1)
-  pub ascending : state ≡ state_is.Done → are_ascending (replies_in (stored_for kept (place + 1))) ≡ true
-  pub under_way : IsUnderWay pages_told catalog written state (replies_in (stored_for kept (place + 1))) first.flash now.flash first.sink now.sink pool telling
+  -- its half has the replies to its asks
+  pub given : IsDone state marked false → pages_told ≡ true
+      → AreRepliesOf first.flash.page catalog written half (replies catalog (asked_of catalog.schema texts) journal (place + 1))
+  pub files : KeepsFiles catalog since first.flash
+  pub under_way : IsUnderWay pages_told catalog ((place + 1) % 2) written state marked half first.flash now.flash first.sink now.sink pool telling
 
 -- and it is answered
-pub record IsRunning (pages_told : Bool) (catalog : Catalog) (texts : List (List ℕ)) (journal : Journal) (place : ℕ) (first now : SessionSide) (pool : Pool) (kept : Replies) (telling : Telling) : Type 0 where
-  pub taken : IsTaken pages_told catalog texts journal place state_is.Done first now pool kept telling
+pub record IsRunning (pages_told : Bool) (catalog : Catalog) (texts : List (List ℕ)) (journal : Journal) (place : ℕ) (since : Device) (sink : Handed) (now : SessionSide) (pool : Pool) (kept : Replies) (telling : Telling) : Type 0 where
+  pub start : Device
+  pub half : Half
+  pub taken : IsTaken pages_told catalog texts journal place state_is.Done false half since (record { sink = sink; flash = start }) now pool telling
   pub query : Query
   pub accepted : reading catalog.schema taken.written ≡ Ok query
+  pub unmarked : is_lost kept (place + 1) ≡ false
 
--- between two steps a text that is answered is told, or none
-abbrev pub Runs : (pages_told : Bool) → Catalog → (texts : List (List ℕ)) → Journal → (place : ℕ) → (first now : SessionSide) → (low : ℕ) → Pool → Replies → Option Telling → Type 0
-Runs pages_told catalog texts journal place first now low pool kept None = (low ≡ place + 1) × (now ≡ first)
-Runs pages_told catalog texts journal place first now low pool kept (Some telling) =
-    (low ≡ place + 2) × IsRunning pages_told catalog texts journal place first now pool kept telling
+-- between two steps a text that is answered is told, since the sink was as at the first, or none
+abbrev pub Runs : (pages_told : Bool) → Catalog → (texts : List (List ℕ)) → Journal → (place : ℕ) → (since : Device) → (sink : Handed) → (now : SessionSide) → Pool → Replies → Option Telling → Type 0
+Runs pages_told catalog texts journal place since sink now pool kept None = now.sink ≡ sink
+Runs pages_told catalog texts journal place since sink now pool kept (Some telling) =
+    IsRunning pages_told catalog texts journal place since sink now pool kept telling
 
 -- the texts of a session between two steps
 pub record IsAmid (pages_told : Bool) (catalog : Catalog) (texts : List (List ℕ)) (journal : Journal) (since now : SessionSide) (pool : Pool) (pump : Pump) (teller : Teller) (kept : Replies) : Type 0 where
-  pub first : SessionSide
-  pub low : ℕ
-  pub going : IsGoing pages_told catalog texts journal since first low pump (texts_left teller) teller.count teller.counts kept
-  pub running : Runs pages_told catalog texts journal teller.count first now low pool kept teller.running
+  pub sink : Handed
+  pub going : IsGoing pages_told catalog texts journal since sink now.flash pool pump (texts_left teller) teller.count teller.counts kept
+  pub running : Runs pages_told catalog texts journal teller.count since.flash sink now pool kept teller.running
 
 -- and in a slice, of a text that was taken up
 pub record IsBegun (pages_told : Bool) (catalog : Catalog) (texts : List (List ℕ)) (journal : Journal) (since now : SessionSide) (pool : Pool) (pump : Pump) (teller : Teller) (kept : Replies) : Type 0 where
   pub first : SessionSide
-  pub going : IsGoing pages_told catalog texts journal since first (teller.count + 2) pump (texts_left teller) teller.count teller.counts kept
+  pub going : IsGoing pages_told catalog texts journal since first.sink now.flash pool pump (texts_left teller) teller.count teller.counts kept
   pub next : (want_of pump ≡ want.Closed → ⊥) → is_settled_in catalog texts journal (teller.count + 1) ≡ true
   pub state : ReplyState
+  pub half : Half
   pub telling : Telling
   pub runs : teller.running ≡ Some telling
-  pub taken : IsTaken pages_told catalog texts journal teller.count state first now pool kept telling
+  pub taken : IsTaken pages_told catalog texts journal teller.count state (is_lost kept (teller.count + 1)) half since.flash first now pool telling
 
 -- A session that went by a journal: its moves and its end of the channel; the texts that were told, with their lines, reasons
 -- and counts, the replies that are kept for the others, and the rows given and to come of the text that is told now; and the
@@ -161,9 +193,38 @@ pub data WentOn (goes : Journal → Type 0) (pages_told : Bool) (texts : List (L
   ByMove : WasMoved goes pages_told texts journal since now pool old session → WentOn goes pages_told texts journal since now pool old session
   BySlice : goes [] → IsLive pages_told texts journal since now pool session → WentOn goes pages_told texts journal since now pool old session
 
--- what a step does that is due, whatever the pages hold. A move gives no line, and the flash stays as it is.
+-- no ask of a text behind this one is at hand
+abbrev pub IsNear : Catalog → (texts : List (List ℕ)) → Journal → (most : ℕ) → Type 0
+IsNear catalog texts journal most =
+    (asked : NumberedAsk) → moves.asked_in (heard_in catalog texts journal).awaits ≡ Some asked → asked.text ≤ most
+
+-- a session stands before a move, with some texts and moves
+pub record IsMove (pages_told : Bool) (catalog : Catalog) (at : List ℕ) (device : Device) (pool : Pool) (exchange : Exchange) (teller : Teller) (kept : Replies) : Type 0 where
+  pub texts : List (List ℕ)
+  pub journal : Journal
+  pub since : SessionSide
+  pub sink : Handed
+  pub near : IsNear catalog texts journal (teller.count + 2)
+  pub channel : moves.IsLive catalog at (asked_of catalog.schema texts) journal exchange
+  pub amid : IsAmid pages_told catalog texts journal since (record { sink = sink; flash = device }) pool exchange.pump teller kept
+
+pub record IsSomeMove (pages_told : Bool) (catalog : Catalog) (at : List ℕ) (device : Device) (pool : Pool) (exchange : Exchange) (kept : Replies) : Type 0 where
+  pub teller : Teller
+  pub move : IsMove pages_told catalog at device pool exchange teller kept
+
+-- some session has such moves, texts and counts
+pub record IsSomeLive (pages_told : Bool) (now : SessionSide) (pool : Pool) (session : Session) : Type 0 where
+  pub texts : List (List ℕ)
+  pub journal : Journal
+  pub since : SessionSide
+  pub live : IsLive pages_told texts journal since now pool session
+
+-- What a step does that is due, whatever the pages hold. A move gives no line, and calls the flash so often at most as the rows
+-- of one frame need; the static pages stay as they are.
 pub record MakesMove (before after : SessionSide) (old new : Session) : Type 0 where
-  pub outside : after ≡ before
+  pub sink : after.sink ≡ before.sink
+  pub files : KeepsFiles old.cat.now before.flash after.flash
+  pub few : after.flash.calls ≤ before.flash.calls + 4
   pub teller : new.teller ≡ old.teller
   pub fewer : moves_left new.exchange.pump + 1 ≤ moves_left old.exchange.pump
 

@@ -8,3 +8,4 @@ pub mod Awaiting
 pub mod Going
 pub mod Answering
 pub mod Running
+pub mod Worlds

@@ -1,7 +1,6 @@
 -- The order of work. A slice of the text that comes next is due where its asks are all ended and either the pace still allows
 -- one before the next move, or the next move would send the first ask of a text two behind it at least, or the link is closed.
-use Rattle.std.specs.Prelude.{◌≡◌, ℕ, ◌+◌, ◌-◌, Bool, true, false, ◌&&◌, ◌||◌, nat_lt, nat_le, List, length, get_or, if◌then◌else◌, Option, None, Some, option_map}
-use Rattle.ghost_model.specs.core.Asks.{NumberedAsk}
+use Rattle.std.specs.Prelude.{◌≡◌, ℕ, ◌+◌, ◌-◌, Bool, true, false, ◌&&◌, ◌||◌, nat_lt, nat_le, List, length, get_or, if◌then◌else◌, Option, None, Some}
 use Rattle.channel_pump.specs.declared.state.Event.{Event}
 use Rattle.channel_pump.specs.declared.state.Event.TheVariants as event_is
 use Rattle.channel_pump.specs.declared.state.Want.{Want}

@@ -10,11 +10,11 @@ use Rattle.ghost_model.specs.core.Split.{hidden_of}
 use Rattle.ghost_model.specs.core.Lines.{Reason}
 use Rattle.channel_pump.specs.State.{counted}
 use Rattle.channel_session.specs.Entries.{is_short_entry, FaultsTell}
-use Rattle.key_exec.specs.Reading.{Knows}
+use Rattle.key_exec.specs.Reading.{Knows, KnowsBut}
 use Rattle.key_session.specs.Answering.{AnswersWhereSound}
 use Rattle.key_session.specs.Counting.{is_refusal, is_fault, is_flash, is_damage}
-use Rattle.key_session.specs.Damages.{IsSlot, MeetsFirst}
-use Rattle.key_session.specs.Reasons.{HaveReasons, HaveLines, is_refused_text}
+use Rattle.key_session.specs.Damages.{IsSlot, WasRead, MeetsFirst}
+use Rattle.key_session.specs.Reasons.{HaveReasons, HaveLines, HaveAnswerLines, is_refused_text}
 use Rattle.key_session.specs.Refusing.{first_code}
 use Rattle.key_session.specs.Telling.{SessionSide, AreTold}
 use Rattle.text_lines.specs.declared.damage.Damage.{Damage}
@@ -97,7 +97,11 @@ pub record HasRun (goes : Journal → Type 0) (link_before link_now : ℕ) (page
       (λ reasons. IsTallied pages_told since.flash.page catalog now.sink.failed (standing_after catalog (asked_of catalog.schema texts) journal) reasons tally) since.flash.faults now.flash.faults
   -- and these lines, whatever the pages hold
   pub lines : HaveLines catalog texts journal reasons.reasons since.sink now.sink
+  -- and where the pages are those of a database, but for slots that spell no value, the rows are those of the answer over it
+  pub answers : (database : Database) → KnowsBut pages_told since.flash.page catalog database
+      → HaveAnswerLines catalog (hidden_of catalog.schema database) texts journal reasons.reasons since.sink now.sink
   pub damaged : (damage : Damage) → tally.status ≡ status.Damaged damage → IsSlot pages_told since.flash.page catalog damage
+  pub damage_read : (damage : Damage) → tally.status ≡ status.Damaged damage → WasRead pages_told since.flash.calls now.flash catalog damage
   pub told : (database : Database) → Knows pages_told since.flash.page catalog database
       → AreTold catalog (hidden_of catalog.schema database) texts journal (length texts)
       (λ reasons. IsTally now.sink.failed (standing_after catalog (asked_of catalog.schema texts) journal) reasons tally) since now

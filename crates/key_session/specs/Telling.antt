@@ -8,20 +8,21 @@ use Rattle.ghost_model.specs.core.Values.{Database}
 use Rattle.ghost_model.specs.core.Query.{Query}
 use Rattle.ghost_model.specs.readings.QueryReading.{reading}
 use Rattle.ghost_model.specs.core.Channel.{Catalog, Journal}
-use Rattle.ghost_model.specs.core.Asks.{asked_of}
 use Rattle.ghost_model.specs.core.Split.{Hidden, hidden_of}
 use Rattle.ghost_model.specs.core.Lines.{Reason, AreLinesFor, session_text}
-use Rattle.edge_traits.specs.Devices.{Device, KeepsPages}
+use Rattle.ghost_model.specs.forms.Layout.{static_end, need}
+use Rattle.edge_traits.specs.Devices.{Device, ChangesOnly}
+use Rattle.page_pool.specs.Pools.{Pool}
 use Rattle.session_laws.specs.TextEnds.{heard_in}
 use Rattle.session_laws.specs.TextCases.{Outcome}
 use Rattle.key_lines.specs.Handing.{Handed, Hands, handed}
-use Rattle.session_replies.specs.Kept.{IsKept}
+use Rattle.session_replies.specs.Kept.{IsKept, is_lost}
 use Rattle.session_replies.specs.declared.replies.Replies.{Replies}
-use Rattle.key_exec.specs.Reading.{Knows}
+use Rattle.key_exec.specs.Reading.{Knows, KnowsBut}
 use Rattle.text_lines.specs.Rows.{PrintsSome}
-use Rattle.key_session.specs.Counting.{is_flash, is_damage, AreUndamaged}
-use Rattle.key_session.specs.Damages.{IsSlot, AreKept}
-use Rattle.key_session.specs.Reasons.{HaveReasons, HaveLines}
+use Rattle.key_session.specs.Counting.{is_flash, is_broken, is_damage, one_if, AreUndamaged}
+use Rattle.key_session.specs.Damages.{IsSlot, WasRead, AreKept}
+use Rattle.key_session.specs.Reasons.{AreBlamed, HaveSoFar, HaveLines, HaveAnswerLines, is_refused_text}
 use Rattle.text_lines.specs.declared.damage.Damage.{Damage}
 use Rattle.key_session.specs.declared.counts.Counts.{Counts}
 use Rattle.key_session.specs.declared.teller.Teller.{Teller}
@@ -63,7 +64,7 @@ pub record AreTold (catalog : Catalog) (kept : Hidden) (texts : List (List ℕ))
   pub each : (place : ℕ) (one : TextTold) → slice_get told place ≡ Some one → IsTold catalog kept texts journal place one
   pub handed_on : Hands (bytes_told told) since.sink now.sink
   pub blamed : min (since.flash.faults + count_by is_flash (reasons_of told)) last_count ≤ now.flash.faults
-  pub unblamed : list_any is_flash (reasons_of told) ≡ false → now.flash.faults ≡ since.flash.faults
+  pub unblamed : list_any is_flash (reasons_of told) ≡ false → list_any is_broken (reasons_of told) ≡ false → now.flash.faults ≡ since.flash.faults
   pub counted : Counted (reasons_of told)
 
 -- the texts that are left
@@ -81,21 +82,57 @@ CameOut catalog texts journal number =
 abbrev pub texts_left : Teller → List (List ℕ)
 texts_left teller = cons_option (option_map (λ text. text.now) teller.ahead) teller.texts
 
--- a teller has told some texts of a session that went by a journal, and the replies for those from `low` on are kept, none of
--- them for a text behind `top`
-pub record IsTelling (pages_told : Bool) (catalog : Catalog) (texts : List (List ℕ)) (journal : Journal) (low top : ℕ) (since now : SessionSide) (left : List (List ℕ)) (count : ℕ) (counts : Counts) (replies : Replies) : Type 0 where
+-- so many texts from the front were told, each by its lines, for reasons of which this holds
+pub record WereTold (catalog : Catalog) (kept : Hidden) (texts : List (List ℕ)) (journal : Journal) (count : ℕ) (Counted : List Reason → Type 0) (before now : Handed) : Type 0 where
+  pub told : List TextTold
+  pub as_many : length told ≡ count
+  pub each : (place : ℕ) (one : TextTold) → slice_get told place ≡ Some one → IsTold catalog kept texts journal place one
+  pub handed_on : Hands (bytes_told told) before now
+  pub counted : Counted (reasons_of told)
+
+-- how many texts are marked of those that were not told: the text at hand, and the one before it
+abbrev pub marks_behind : Replies → (count : ℕ) → ℕ
+marks_behind replies count = one_if (is_lost replies (count + 1)) + one_if (is_lost replies (count + 2))
+
+-- a text that is marked and was not told is an accepted one, and the flash was called for it
+pub record AreMarked (catalog : Catalog) (texts : List (List ℕ)) (count : ℕ) (before now : ℕ) (replies : Replies) : Type 0 where
+  pub called : (text : ℕ) → count + 1 ≤ text → is_lost replies text ≡ true → Rose before now
+  pub accepted : (place : ℕ) (written : List ℕ) → count ≤ place → slice_get texts place ≡ Some written → is_lost replies (suc place) ≡ true
+      → is_refused_text catalog.schema written ≡ false
+
+-- the texts with these reasons were counted, and so were the faults
+pub record AreKeptSoFar (pages_told : Bool) (page : ℕ → List ℕ) (catalog : Catalog) (counts : Counts) (marked before now : ℕ) (reasons : List Reason) : Type 0 where
+  pub kept : AreKept pages_told page catalog reasons counts
+  pub faults : AreBlamed marked reasons before now
+
+pub record AreUndamagedSoFar (counts : Counts) (marked before now : ℕ) (reasons : List Reason) : Type 0 where
+  pub undamaged : AreUndamaged reasons counts
+  pub faults : AreBlamed marked reasons before now
+
+-- what stays below the spool and behind it
+abbrev pub KeepsFiles : Catalog → (before now : Device) → Type 0
+KeepsFiles catalog before now = ChangesOnly (static_end catalog) (need catalog) before now
+
+-- A teller has told some texts of a session that went by a journal, the sink as it was after the last of them, and the flash as
+-- it is now. The replies for the others are kept, none of them for a text behind `top`.
+pub record IsTelling (pages_told : Bool) (catalog : Catalog) (texts : List (List ℕ)) (journal : Journal) (top : ℕ) (since : SessionSide) (sink : Handed) (device : Device) (pool : Pool) (left : List (List ℕ)) (count : ℕ) (counts : Counts) (replies : Replies) : Type 0 where
   pub left_are : AreLeft texts left count
-  pub kept : IsKept catalog (heard_in catalog texts journal) low top replies
+  pub kept : IsKept pages_told device pool catalog (heard_in catalog texts journal) (count + 1) top replies
   pub near : top ≤ count + 2
-  pub pages : KeepsPages since.flash now.flash
+  pub within : top ≤ length texts
+  pub pages : KeepsFiles catalog since.flash device
   -- at its last value a count stays
-  pub calls : min since.flash.calls last_count ≤ now.flash.calls
-  pub called : counts.by_flash ≡ true → Rose since.flash.calls now.flash.calls
-  pub damage_called : is_some counts.damage ≡ true → Rose since.flash.calls now.flash.calls
-  pub faults : min since.flash.faults last_count ≤ now.flash.faults
-  pub prints : PrintsSome since.sink now.sink
+  pub calls : min since.flash.calls last_count ≤ device.calls
+  pub called : counts.by_flash ≡ true → Rose since.flash.calls device.calls
+  pub damage_called : is_some counts.damage ≡ true → Rose since.flash.calls device.calls
+  pub faults : min since.flash.faults last_count ≤ device.faults
+  pub marked : AreMarked catalog texts count since.flash.calls device.calls replies
+  pub prints : PrintsSome since.sink sink
   pub damaged : (damage : Damage) → counts.damage ≡ Some damage → IsSlot pages_told since.flash.page catalog damage
-  pub reasons : HaveReasons catalog texts journal count (λ reasons. AreKept pages_told since.flash.page catalog reasons counts) since.flash.faults now.flash.faults
-  pub lines : HaveLines catalog texts journal reasons.reasons since.sink now.sink
+  pub read : (damage : Damage) → counts.damage ≡ Some damage → WasRead pages_told since.flash.calls device catalog damage
+  pub reasons : HaveSoFar catalog texts journal count (AreKeptSoFar pages_told since.flash.page catalog counts (marks_behind replies count) since.flash.faults device.faults)
+  pub lines : HaveLines catalog texts journal reasons.reasons since.sink sink
+  pub answers : (database : Database) → KnowsBut pages_told since.flash.page catalog database
+      → HaveAnswerLines catalog (hidden_of catalog.schema database) texts journal reasons.reasons since.sink sink
   pub told : (database : Database) → Knows pages_told since.flash.page catalog database
-      → AreTold catalog (hidden_of catalog.schema database) texts journal count (λ reasons. AreUndamaged reasons counts) since now
+      → WereTold catalog (hidden_of catalog.schema database) texts journal count (AreUndamagedSoFar counts (marks_behind replies count) since.flash.faults device.faults) since.sink sink

@@ -32,7 +32,7 @@ impl Counts {
             Told::Answered => {}
             Told::Refused => self.refused += 1,
             Told::Host | Told::Link | Told::Protocol => self.faulted += 1,
-            Told::Flash => {
+            Told::Marked | Told::Flash => {
                 self.faulted += 1;
                 self.by_flash = true;
             }

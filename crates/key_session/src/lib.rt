@@ -6,6 +6,7 @@
 #![tactic(auto)]
 
 mod counts;
+pub mod laws;
 pub mod options;
 pub mod pace;
 mod refusing;

@@ -8,7 +8,8 @@ ghost use Rattle.ghost_model.specs.core.Channel.{Journal};
 ghost use Rattle.ghost_model.specs.core.Moves.{taken};
 ghost use Rattle.ghost_model.specs.core.NextMove.{heard, standing_after};
 ghost use Rattle.ghost_model.specs.core.Texts.{texts_of};
-ghost use Rattle.edge_traits.specs.Devices.{Device, KeepsPages};
+ghost use Rattle.edge_traits.specs.Devices.{Device, ChangesOnly};
+ghost use Rattle.ghost_model.specs.forms.Layout as layout;
 ghost use Rattle.channel_pump.specs.Here.{moves_left};
 ghost use Rattle.channel_pump.specs.Marks.{asked_at};
 ghost use Rattle.channel_pump.specs.State.{IsAfter, want_of};
@@ -18,16 +19,17 @@ ghost use Rattle.channel_session.specs.Sessions as moves;
 ghost use Rattle.channel_session.specs.Sessions.{asked_in};
 ghost use Rattle.key_session.specs.declared.teller.Teller as tellers;
 ghost use Rattle.session_laws.specs.TextEnds.{heard_in};
-ghost use Rattle.session_replies.specs.Kept.{IsKept, Fits, none_heard};
+ghost use Rattle.session_replies.specs.Kept.{IsKept, lease_of};
+ghost use Rattle.reply_laws.specs.Fits.{Fits};
 ghost use Rattle.key_session.specs.Awaiting.{IsWithin, IsAwaiting};
 ghost use Rattle.key_session.specs.Refusing.{first_code};
 ghost use Rattle.key_exec.specs.Plans.{Suffices};
-ghost use Rattle.page_pool.specs.Pools.{Pool, IsIdle};
+ghost use Rattle.page_pool.specs.Pools.{Pool, IsIdle, IsOut, ChangesPage, given, free_count};
 ghost use Rattle.text_lines.specs.Rows.{PrintsSome, TakesTurn};
-ghost use Rattle.key_session.specs.Going.{CanStep, IsAmid, IsLive, IsNext, MovedOn, WasMoved, WentOn, MadeStep, due_in, left_of, steps_left};
+ghost use Rattle.key_session.specs.Going.{CanRun, CanStep, IsAmid, IsLive, IsNear, IsNext, IsMove, IsSomeLive, IsSomeMove, MovedOn, WasMoved, WentOn, MadeStep, due_in, left_of, steps_left};
 ghost use Rattle.key_session.specs.Order.{IsSliced, IsUnpaced, is_closed, is_first};
 ghost use Rattle.key_session.specs.Running.{HasRun, is_sink, status_with, blames_flash, is_damaged, spares_flash};
-ghost use Rattle.key_session.specs.Telling.{SessionSide, session_side};
+ghost use Rattle.key_session.specs.Telling.{SessionSide, KeepsFiles, session_side};
 
 use crate::options::Options;
 use crate::pace::{Due, Pace, comes_first};
@@ -42,13 +44,17 @@ use edge_traits::link::Link;
 use edge_traits::sink::Sink;
 use flash_layout::limits::a_catalog_has_a_layout;
 use key_lines::printer::pieces_join;
-use page_pool::PagePool;
-use reply_laws::stores::replies_fit;
+use page_pool::{Lease, PagePool};
+use reply_laws::fits::replies_fit;
 use reply_laws::texts::texts_come_in_order;
 use session_laws::honest_sessions::{honest_lines_are_printed, honest_sessions_are_smooth};
 use session_laws::text_cases::{texts_are_decided, texts_have_outcomes};
-use session_laws::text_ends::{ended_texts_stay, over_texts_are_settled, reasons_stay};
+use session_laws::text_ends::{
+    asks_are_awaited_in_order, ended_texts_stay, over_texts_are_settled, reasons_stay,
+};
 use session_replies::Replies;
+use session_replies::laws::{kept_halves_are_halves, later_texts_are_unmarked};
+use text_lines::laws::tellings_are_spared;
 use tree_schema::Catalog;
 use tree_schema::catalog_bytes::a_catalog_is_short;
 
@@ -73,16 +79,12 @@ pub struct Session<'a> {
 }
 
 impl<'a> Session<'a> {
-    /// The session of a script, which has at most 64 texts, before its first step. The replies are kept in stores that are
-    /// empty at first.
-    pub fn begin(
-        cat: &'a Catalog,
-        script: &'a [u8],
-        options: &Options<'a>,
-        replies: Replies,
-    ) -> Self
+    /// The session of a script, which has at most 64 texts, before its first step. The replies that come pass through the buffer
+    /// of the lease.
+    pub fn begin(cat: &'a Catalog, script: &'a [u8], options: &Options<'a>, lease: Lease) -> Self
         requires few { length (texts_of script.now) ≤ 64 }
-        ensures live { (told : Bool) (now : SessionSide) (pool : Pool) → IsKept cat.now (none_heard cat.now) 1 0 replies → IsLive told (texts_of script.now) [] now now pool result }
+        ensures live { (told : Bool) (now : SessionSide) (pool : Pool) → Suffices cat.now now.flash → IsOut pool lease → IsLive told (texts_of script.now) [] now now pool result }
+        ensures lease { lease_of result.replies ≡ lease }
         ensures cat { result.cat.now ≡ cat.now }
         ensures at { result.at.now ≡ options.now.at.now }
         ensures fresh { result.teller.printer.failed ≡ false }
@@ -94,7 +96,7 @@ impl<'a> Session<'a> {
             cat,
             at: options.at,
             exchange: Exchange::begin(Pump::begin(cat, script)),
-            replies,
+            replies: Replies::begin(cat, lease),
             teller: Teller::new(script, options.plan),
             pace: Pace::new(options.pace),
             refusal: None,
@@ -146,6 +148,7 @@ impl<'a> Session<'a> {
     )
         requires going { is_closed (want_of self.old.exchange.pump) ≡ true → is_some self.old.teller.ahead ≡ true }
         requires can { CanStep F.told (F.state flash.old) pool.old self.old }
+        requires some { IsSomeLive F.told (session_side self.old.teller.printer.failed (O.faults out.old) (O.written out.old) (F.state flash.old)) pool.old self.old }
         ensures can { CanStep F.told (F.state flash.new) pool.new self.new }
         ensures live { (texts : List (List ℕ)) (journal : Journal) (since : SessionSide) → IsLive F.told texts journal since (session_side self.old.teller.printer.failed (O.faults out.old) (O.written out.old) (F.state flash.old)) pool.old self.old
             → WentOn (WentBy (λ more. L.went link.old more link.new) (L.faults link.old) (L.faults link.new)) F.told texts journal since (session_side self.new.teller.printer.failed (O.faults out.new) (O.written out.new) (F.state flash.new)) pool.new self.old self.new }
@@ -164,19 +167,23 @@ impl<'a> Session<'a> {
         closed_is_finished();
         moves_join();
         match self.due() {
-            Due::Move => self.go(link),
+            Due::Move => self.go(pool, flash, link),
             Due::Slice => self.tell(pool, flash, out),
             Due::Ended => {}
         }
     }
 
     /// Makes the next move.
-    fn go<L: Link>(&mut self, link: &mut L)
+    fn go<F: Flash, L: Link>(&mut self, pool: &mut PagePool, flash: &mut F, link: &mut L)
         requires going { want_of self.old.exchange.pump ≢ Want.Closed }
-        ensures live { (told : Bool) (texts : List (List ℕ)) (journal : Journal) (since now : SessionSide) (pool : Pool)
-            → ((asked : NumberedAsk) → asked_in (heard_in self.old.cat.now texts journal).awaits ≡ Some asked → asked.text ≤ self.old.teller.count + 2)
-            → IsLive told texts journal since now pool self.old
-            → WasMoved (WentBy (λ more. L.went link.old more link.new) (L.faults link.old) (L.faults link.new)) told texts journal since now pool self.old self.new }
+        requires can { CanStep F.told (F.state flash.old) pool.old self.old }
+        requires some { IsMove F.told self.old.cat.now self.old.at.now (F.state flash.old) pool.old self.old.exchange self.old.teller self.old.replies }
+        ensures can { CanStep F.told (F.state flash.new) pool.new self.new }
+        ensures live { (texts : List (List ℕ)) (journal : Journal) (since : SessionSide) (sink : Handed)
+            → IsNear self.old.cat.now texts journal (self.old.teller.count + 2) → IsLive F.told texts journal since (record { sink = sink; flash = F.state flash.old }) pool.old self.old
+            → WasMoved (WentBy (λ more. L.went link.old more link.new) (L.faults link.old) (L.faults link.new)) F.told texts journal since (record { sink = sink; flash = F.state flash.new }) pool.new self.old self.new }
+        ensures files { KeepsFiles self.old.cat.now (F.state flash.old) (F.state flash.new) }
+        ensures few { (F.state flash.new).calls ≤ (F.state flash.old).calls + 4 }
         ensures teller { self.new.teller ≡ self.old.teller }
         ensures cat { self.new.cat ≡ self.old.cat }
         ensures at { self.new.at ≡ self.old.at }
@@ -189,6 +196,8 @@ impl<'a> Session<'a> {
             self.refusal,
             &mut self.exchange,
             &mut self.replies,
+            pool,
+            flash,
             link,
         );
         self.refusal = refusal;
@@ -199,6 +208,7 @@ impl<'a> Session<'a> {
     fn tell<F: Flash, O: Sink>(&mut self, pool: &mut PagePool, flash: &mut F, out: &mut O)
         requires left { is_some self.old.teller.ahead ≡ true }
         requires can { CanStep F.told (F.state flash.old) pool.old self.old }
+        requires some { IsSomeLive F.told (session_side self.old.teller.printer.failed (O.faults out.old) (O.written out.old) (F.state flash.old)) pool.old self.old }
         ensures can { CanStep F.told (F.state flash.new) pool.new self.new }
         ensures live { (texts : List (List ℕ)) (journal : Journal) (since : SessionSide) → IsNext self.old.cat.now texts journal self.old.exchange.pump (self.old.teller.count + 1)
             → IsLive F.told texts journal since (session_side self.old.teller.printer.failed (O.faults out.old) (O.written out.old) (F.state flash.old)) pool.old self.old
@@ -212,10 +222,30 @@ impl<'a> Session<'a> {
         ensures fewer { left_of self.new.teller < left_of self.old.teller }
         ensures sliced { IsSliced self.old.pace self.new.pace }
     {
+        a_catalog_has_a_layout(self.cat);
+        kept_halves_are_halves();
         self.teller
-            .take_up(self.cat, &self.exchange.pump, &mut self.replies);
-        self.teller.go_on(&self.replies, pool, flash, out);
+            .take_up(self.cat, &self.exchange.pump, &self.replies);
+        self.teller.go_on(pool, flash, out);
         self.pace.sliced();
+    }
+
+    /// Gives the buffer back, and answers what it counted and how it ended.
+    pub fn end(self, pool: &mut PagePool) -> Tally
+        requires out { IsOut pool.old (lease_of self.replies) }
+        ensures given { pool.new ≡ given pool.old (lease_of self.entry.replies) }
+        ensures counted { free_count pool.new ≡ free_count pool.old + 1 }
+        ensures texts { result.texts ≡ self.entry.teller.count }
+        ensures refused { result.refused ≡ self.entry.teller.counts.refused }
+        ensures faulted { result.faulted ≡ self.entry.teller.counts.faulted }
+        ensures sink { is_sink result.status ≡ self.entry.teller.printer.failed }
+        ensures status { (catalog : channel.Catalog) (asks : List NumberedAsk) (journal : Journal) → IsAfter catalog asks journal self.entry.exchange.pump
+            → self.entry.refusal ≡ first_code (standing_after catalog asks journal).heard.ended
+            → result.status ≡ status_with self.entry.teller.printer.failed (standing_after catalog asks journal) self.entry.teller.counts.by_flash self.entry.teller.counts.damage }
+    {
+        let tally = self.tally();
+        pool.give(self.replies.end());
+        tally
     }
 
     /// What it counted, and how it ended.
@@ -244,20 +274,29 @@ impl<'a> Session<'a> {
 
 /// Makes the next move, and takes in what it led to. Answers the code of the first ask that the host refused till then, and
 /// what came.
-fn make_move<L: Link>(
+fn make_move<F: Flash, L: Link>(
     cat: &Catalog,
     at: &str,
     refusal: Option<u8>,
     exchange: &mut Exchange<'_>,
     replies: &mut Replies,
+    pool: &mut PagePool,
+    flash: &mut F,
     link: &mut L,
 ) -> (Option<u8>, Event)
     requires going { want_of exchange.old.pump ≢ Want.Closed }
-    ensures moved { (told : Bool) (texts : List (List ℕ)) (journal : Journal) (since now : SessionSide) (pool : Pool) (teller : tellers.Teller)
-        → ((asked : NumberedAsk) → asked_in (heard_in cat.now texts journal).awaits ≡ Some asked → asked.text ≤ teller.count + 2)
-        → moves.IsLive cat.now at.now (asked_of cat.now.schema texts) journal exchange.old → IsAmid told cat.now texts journal since now pool exchange.old.pump teller replies.old
-        → refusal ≡ first_code (heard_in cat.now texts journal).ended
-        → MovedOn (WentBy (λ more. L.went link.old more link.new) (L.faults link.old) (L.faults link.new)) told cat.now at.now texts journal since now pool result.1 exchange.new teller replies.new result.0 }
+    requires some { IsSomeMove F.told cat.now at.now (F.state flash.old) pool.old exchange.old replies.old }
+    ensures moved { (texts : List (List ℕ)) (journal : Journal) (since : SessionSide) (sink : Handed) (teller : tellers.Teller)
+        → IsNear cat.now texts journal (teller.count + 2)
+        → moves.IsLive cat.now at.now (asked_of cat.now.schema texts) journal exchange.old → IsAmid F.told cat.now texts journal since (record { sink = sink; flash = F.state flash.old }) pool.old exchange.old.pump teller replies.old
+        → refusal ≡ first_code (heard_in cat.now texts journal).ended → CanRun F.told cat.now (F.state flash.old) pool.old (teller.count + 1) (lease_of replies.old) teller.running
+        → MovedOn (WentBy (λ more. L.went link.old more link.new) (L.faults link.old) (L.faults link.new)) F.told cat.now at.now texts journal since (record { sink = sink; flash = F.state flash.new }) pool.new result.1 exchange.new teller replies.new result.0 }
+    ensures can { (teller : tellers.Teller) → IsMove F.told cat.now at.now (F.state flash.old) pool.old exchange.old teller replies.old
+        → CanRun F.told cat.now (F.state flash.old) pool.old (teller.count + 1) (lease_of replies.old) teller.running → CanRun F.told cat.now (F.state flash.new) pool.new (teller.count + 1) (lease_of replies.old) teller.running }
+    ensures files { KeepsFiles cat.now (F.state flash.old) (F.state flash.new) }
+    ensures few { (F.state flash.new).calls ≤ (F.state flash.old).calls + 4 }
+    ensures buffer { ChangesPage pool.old pool.new (lease_of replies.old) }
+    ensures lease { lease_of replies.new ≡ lease_of replies.old }
     ensures fewer { moves_left exchange.new.pump < moves_left exchange.old.pump }
     ensures faults { L.faults link.old ≤ L.faults link.new }
 {
@@ -268,10 +307,12 @@ fn make_move<L: Link>(
     texts_have_outcomes();
     ended_texts_stay();
     over_texts_are_settled();
+    asks_are_awaited_in_order();
     texts_come_in_order();
+    tellings_are_spared();
     let is_awaited = await_reply(cat, &exchange.pump, replies);
     let event = exchange.step(at, link);
-    replies.hear(event, &exchange.page);
+    replies.hear(flash, pool, event, &exchange.page);
     (first_refusal(refusal, is_awaited, event), event)
 }
 
@@ -279,11 +320,12 @@ fn make_move<L: Link>(
 fn await_reply(cat: &Catalog, pump: &Pump, replies: &mut Replies) -> bool
     ensures awaited { (asks : List NumberedAsk) (journal : Journal) → IsAfter cat.now asks journal pump.now
         → result ≡ is_some (asked_in (heard cat.now asks (taken journal)).awaits) }
-    ensures kept { (asks : List NumberedAsk) (journal : Journal) (low top : ℕ) → IsAfter cat.now asks journal pump.now
-        → ((text : ℕ) → Fits cat.now (heard cat.now asks (taken journal)) text)
+    ensures kept { (told : Bool) (device : Device) (pool : Pool) (asks : List NumberedAsk) (journal : Journal) (low top : ℕ) → IsAfter cat.now asks journal pump.now
+        → Fits cat.now (heard cat.now asks (taken journal))
         → ((asked : NumberedAsk) → asked_in (heard cat.now asks (taken journal)).awaits ≡ Some asked → IsWithin low top asked.text)
-        → IsKept cat.now (heard cat.now asks (taken journal)) low top replies.old
-        → IsAwaiting cat.now (heard cat.now asks (taken journal)) low top replies.old replies.new }
+        → IsKept told device pool cat.now (heard cat.now asks (taken journal)) low top replies.old
+        → IsAwaiting told device pool cat.now (heard cat.now asks (taken journal)) low top replies.old replies.new }
+    ensures spool { replies.new.spool ≡ replies.old.spool }
 {
     match pump.asked() {
         None => false,
@@ -298,13 +340,12 @@ fn await_reply(cat: &Catalog, pump: &Pump, replies: &mut Replies) -> bool
 /// each text: the replies of the host and the key's own flash answer it.
 ///
 /// Every page that it reads of the flash lies in a buffer of the pool, of which none is out before it and none after it.
-/// The replies are kept in stores that are empty at first. After a failed write no further line is printed, but the session
-/// goes on to its end.
+/// The replies are written to the spool, behind the files of the hidden part, and to no other page. After a failed write of a
+/// line no further one is printed, but the session goes on to its end.
 pub fn run_session<F: Flash, L: Link, O: Sink>(
     cat: &Catalog,
     script: &[u8],
     options: &Options<'_>,
-    replies: Replies,
     pool: &mut PagePool,
     flash: &mut F,
     link: &mut L,
@@ -312,7 +353,6 @@ pub fn run_session<F: Flash, L: Link, O: Sink>(
 ) -> Tally
     requires few { length (texts_of script.now) ≤ 64 }
     requires suffices { Suffices cat.now (F.state flash.old) }
-    requires replies { IsKept cat.now (none_heard cat.now) 1 0 replies }
     requires idle { IsIdle pool.old }
     ensures ran { HasRun (λ journal. L.went link.old journal link.new) (L.faults link.old) (L.faults link.new) F.told cat.now options.now.at.now (texts_of script.now)
         (session_side false (O.faults out.old) (O.written out.old) (F.state flash.old)) (session_side (is_sink result.status) (O.faults out.new) (O.written out.new) (F.state flash.new)) result }
@@ -320,7 +360,7 @@ pub fn run_session<F: Flash, L: Link, O: Sink>(
     ensures prints { PrintsSome (handed false (O.faults out.old) (O.written out.old)) (handed (is_sink result.status) (O.faults out.new) (O.written out.new)) }
     ensures sink_rose { is_sink result.status ≡ true → Rose (O.faults out.old) (O.faults out.new) }
     ensures sink_same { is_sink result.status ≡ false → O.faults out.new ≡ O.faults out.old }
-    ensures pages { KeepsPages (F.state flash.old) (F.state flash.new) }
+    ensures pages { ChangesOnly (layout.static_end cat.now) (layout.need cat.now) (F.state flash.old) (F.state flash.new) }
     ensures idle { IsIdle pool.new }
     ensures flash_calls { min (F.state flash.old).calls last_count ≤ (F.state flash.new).calls }
     ensures flash_called { blames_flash result.status ≡ true → Rose (F.state flash.old).calls (F.state flash.new).calls }
@@ -337,10 +377,14 @@ pub fn run_session<F: Flash, L: Link, O: Sink>(
     a_catalog_has_a_layout(cat);
     honest_sessions_are_smooth();
     honest_lines_are_printed();
-    let mut session = Session::begin(cat, script, options, replies);
+    later_texts_are_unmarked();
+    let Some(lease) = pool.lease() else {
+        unreachable!()
+    };
+    let mut session = Session::begin(cat, script, options, lease);
     'steps: loop {
         match session.due() {
-            Due::Ended => return session.tally(),
+            Due::Ended => return session.end(pool),
             Due::Move | Due::Slice => session.step(pool, flash, link, out),
         }
     }

@@ -1,48 +1,66 @@
 //! The texts of a session, told one after another, a step at a time.
 
-ghost use Rattle.std.specs.Prelude.{◌≡◌, ◌<◌, ◌≤◌, ◌+◌, ◌-◌, ℕ, List, Bool, true, false, length, is_some};
+ghost use Rattle.std.specs.Prelude.{◌≡◌, ◌<◌, ◌≤◌, ◌+◌, ◌%◌, ℕ, List, Bool, true, length, is_some};
 ghost use Rattle.ghost_model.specs.core.Channel as channel;
 ghost use Rattle.ghost_model.specs.core.Channel.{Journal};
 ghost use Rattle.channel_pump.specs.declared.state.Pump as pumps;
 ghost use Rattle.ghost_model.specs.core.Asks.{asked_of};
-ghost use Rattle.edge_traits.specs.Devices.{Device, Counts, KeepsPages};
+ghost use Rattle.ghost_model.specs.core.Moves.{taken};
+ghost use Rattle.ghost_model.specs.forms.Frames.{AreBytes};
+ghost use Rattle.ghost_model.specs.laws.SchemaTrees.{IsTree};
+ghost use Rattle.edge_traits.specs.Devices.{Device, KeepsPages};
 ghost use Rattle.channel_pump.specs.State.{IsAfter};
 ghost use Rattle.key_lines.specs.Handing.{handed};
 ghost use Rattle.key_exec.specs.Plans.{Suffices};
 ghost use Rattle.page_pool.specs.Pools.{Pool};
 ghost use Rattle.text_lines.specs.Rows.{TakesTurn};
-ghost use Rattle.key_session.specs.Going.{CanRun, IsNext, IsAmid, IsBegun, EndsText, left_of, unbegun};
+ghost use Rattle.visible_spool.specs.Sparing.{IsHalf};
+ghost use Rattle.session_replies.specs.Kept.{half_in, lease_of};
+ghost use Rattle.session_replies.specs.declared.replies.Replies as held;
+ghost use Rattle.key_session.specs.Going.{CanRun, IsSomeRun, IsOutAlone, IsNext, IsAmid, IsBegun, EndsText, leases_of, left_of, unbegun};
 ghost use Rattle.key_session.specs.Telling.{SessionSide, session_side};
 
 use crate::teller::{Teller, next_text};
+use candidate_rows::laws::whole_replies_are_all;
 use channel_pump::state::Pump;
 use edge_traits::flash::Flash;
 use edge_traits::sink::Sink;
-use key_exec::laws::whole_replies_are_of_asked;
+use ghost_laws::selected::replies_are_whole;
+use key_exec::laws::{
+    damage_is_never_met, knowledge_is_enough, knowledge_stays, whole_replies_are_of_asked,
+};
 use key_lines::printer::pieces_join;
 use page_pool::PagePool;
-use reply_laws::stores::{replies_ascend, stored_are_given};
 use session_laws::text_cases::texts_are_decided;
 use session_replies::Replies;
+use session_replies::laws::{
+    kept_are_given, kept_halves_are_halves, later_texts_are_unmarked, low_rises, replies_stay_kept,
+};
 use text_lines::{Telling, Told};
 use tree_schema::Catalog;
 
 impl<'a> Teller<'a> {
     /// Begins the text that comes next, unless it was begun: its asks are over.
-    pub(crate) fn take_up(&mut self, cat: &Catalog, pump: &Pump, replies: &mut Replies)
+    pub(crate) fn take_up(&mut self, cat: &Catalog, pump: &Pump, replies: &Replies)
         requires left { is_some self.old.ahead ≡ true }
         ensures begun { is_some self.new.running ≡ true }
-        ensures can { (told : Bool) (device : Device) (pool : Pool) → Suffices cat.now device → CanRun told device pool self.old.running → CanRun told device pool self.new.running }
-        ensures told { (told : Bool) (texts : List (List ℕ)) (journal : Journal) (since now : SessionSide) (pool : Pool) → Suffices cat.now now.flash
+        ensures can { (told : Bool) (device : Device) (pool : Pool) (lease : ℕ) → Suffices cat.now device → IsHalf told cat.now ((self.old.count + 1) % 2) device (half_in replies.now (self.old.count + 1))
+            → CanRun told cat.now device pool (self.old.count + 1) lease self.old.running → CanRun told cat.now device pool (self.new.count + 1) lease self.new.running }
+        ensures told { (told : Bool) (texts : List (List ℕ)) (journal : Journal) (since now : SessionSide) (pool : Pool) → Suffices cat.now now.flash → AreBytes (taken journal)
             → IsAfter cat.now (asked_of cat.now.schema texts) journal pump.now → IsNext cat.now texts journal pump.now (self.old.count + 1)
-            → IsAmid told cat.now texts journal since now pool pump.now self.old replies.old → IsBegun told cat.now texts journal since now pool pump.now self.new replies.new }
-        ensures fewer { (told : Bool) (device : Device) (pool : Pool) → Suffices cat.now device → CanRun told device pool self.old.running → left_of self.new ≤ left_of self.old }
+            → IsAmid told cat.now texts journal since now pool pump.now self.old replies.now → IsBegun told cat.now texts journal since now pool pump.now self.new replies.now }
+        ensures fewer { (told : Bool) (device : Device) (pool : Pool) (lease : ℕ) → Suffices cat.now device → IsHalf told cat.now ((self.old.count + 1) % 2) device (half_in replies.now (self.old.count + 1))
+            → CanRun told cat.now device pool (self.old.count + 1) lease self.old.running → left_of self.new ≤ left_of self.old }
+        ensures count { self.new.count ≡ self.old.count }
         ensures printer { self.new.printer.failed ≡ self.old.printer.failed }
         ensures left { is_some self.new.ahead ≡ true }
     {
         texts_are_decided();
-        stored_are_given();
-        replies_ascend();
+        replies_are_whole();
+        whole_replies_are_all();
+        whole_replies_are_of_asked();
+        kept_are_given();
+        kept_halves_are_halves();
         if self.running.is_some() {
             return;
         }
@@ -50,25 +68,27 @@ impl<'a> Teller<'a> {
             unreachable!()
         };
         let number = self.count + 1;
-        replies.leave_earlier(number);
         let state = pump.reply_state(number);
-        self.running = Some(Telling::begin(cat, self.plan, number, text, state));
+        let half = replies.half(number);
+        let is_marked = replies.is_marked(number);
+        self.running = Some(Telling::begin(cat, self.plan, number, text, state, half, is_marked));
     }
 
     /// Makes a step of the text that was begun.
     pub(crate) fn go_on<F: Flash, O: Sink>(
         &mut self,
-        replies: &Replies,
         pool: &mut PagePool,
         flash: &mut F,
         out: &mut O,
     )
         requires begun { is_some self.old.running ≡ true }
-        requires can { CanRun F.told (F.state flash.old) pool.old self.old.running }
-        ensures can { CanRun F.told (F.state flash.new) pool.new self.new.running }
-        ensures told { (cat : channel.Catalog) (texts : List (List ℕ)) (journal : Journal) (since : SessionSide) (pump : pumps.Pump)
-            → IsBegun F.told cat texts journal since (session_side self.old.printer.failed (O.faults out.old) (O.written out.old) (F.state flash.old)) pool.old pump self.old replies.now
-            → IsAmid F.told cat texts journal since (session_side self.new.printer.failed (O.faults out.new) (O.written out.new) (F.state flash.new)) pool.new pump self.new replies.now }
+        requires can { IsSomeRun F.told (F.state flash.old) pool.old (self.old.count + 1) self.old.running }
+        ensures can { (cat : channel.Catalog) (lease : ℕ) → CanRun F.told cat (F.state flash.old) pool.old (self.old.count + 1) lease self.old.running
+            → CanRun F.told cat (F.state flash.new) pool.new (self.new.count + 1) lease self.new.running }
+        ensures told { (cat : channel.Catalog) (texts : List (List ℕ)) (journal : Journal) (since : SessionSide) (pump : pumps.Pump) (replies : held.Replies)
+            → IsTree cat.schema → IsOutAlone (leases_of self.old.running) pool.old (lease_of replies)
+            → IsBegun F.told cat texts journal since (session_side self.old.printer.failed (O.faults out.old) (O.written out.old) (F.state flash.old)) pool.old pump self.old replies
+            → IsAmid F.told cat texts journal since (session_side self.new.printer.failed (O.faults out.new) (O.written out.new) (F.state flash.new)) pool.new pump self.new replies }
         ensures turn { TakesTurn (handed self.old.printer.failed (O.faults out.old) (O.written out.old)) (handed self.new.printer.failed (O.faults out.new) (O.written out.new))
             (F.state flash.old).calls (F.state flash.new).calls }
         ensures kept { KeepsPages (F.state flash.old) (F.state flash.new) }
@@ -77,12 +97,16 @@ impl<'a> Teller<'a> {
     {
         pieces_join();
         texts_are_decided();
-        whole_replies_are_of_asked();
-        let number = self.count + 1;
+        knowledge_is_enough();
+        damage_is_never_met();
+        knowledge_stays();
+        replies_stay_kept();
+        later_texts_are_unmarked();
+        low_rises();
         let Some(telling) = &mut self.running else {
             unreachable!()
         };
-        match telling.step(&mut self.printer, out, replies.store(number), pool, flash) {
+        match telling.step(&mut self.printer, out, pool, flash) {
             None => {}
             Some(told) => self.end(told),
         }

@@ -1,21 +1,101 @@
-use Rattle.std.proofs.Common.{◌∙◌}
+use Rattle.std.proofs.Common.{◌+◌, subst}
 use Rattle.ghost_model.specs.core.Asks.{asked_of}
+use Rattle.page_pool.specs.Pools.{ChangesPage}
 use Rattle.session_laws.specs.TextEnds.{heard_in}
 use Rattle.channel_session.specs.Entries.{WentBy}
-use Rattle.key_session.proofs.Moving.{moved_on}
+use Rattle.key_session.proofs.Moving.{some_heard, tells_now, can_run, moved_amid, refusal_more, same_lease}
 use Rattle.key_session.proofs.session.make_move.Goals as goal
 
+pub hear-requires : goal.hear-requires
+hear-requires g c = record {
+  some = some_heard (record {
+    stay = c.ended_texts_stay.ensures;
+    reasons = c.reasons_stay.ensures;
+    decided = c.texts_are_decided.ensures;
+    over = c.over_texts_are_settled.ensures;
+    order = c.texts_come_in_order.ensures;
+    outcomes = c.texts_have_outcomes.ensures;
+    in_order = c.asks_are_awaited_in_order.ensures;
+    able = c.tellings_are_spared.ensures.able;
+    spared = c.tellings_are_spared.ensures.under_way;
+  }) c.replies_fit.ensures _ c.args.cat.now c.a_catalog_is_short.ensures.catalog.meant (WentBy (λ more. g.L.Link.went c.args.link.now more c.step-event.new.link) (g.L.Link.faults c.args.link.now) (g.L.Link.faults c.step-event.new.link))
+      g.F.Flash.told c.args.at.now c.requires.some.move.texts c.requires.some.move.journal c.requires.some.move.since c.requires.some.move.sink (g.F.Flash.state c.args.flash.now) c.args.pool.now c.args.exchange.now c.step-event.new.self c.requires.some.teller c.args.replies.now c.await_reply-is_awaited.new.replies c.step-event.result
+      c.requires.going c.requires.some.move.near c.requires.some.move.amid
+      (λ fits within kept. c.await_reply-is_awaited.ensures.kept g.F.Flash.told (g.F.Flash.state c.args.flash.now) c.args.pool.now (asked_of c.args.cat.now.schema c.requires.some.move.texts) c.requires.some.move.journal (c.requires.some.teller.count + 1) c.requires.some.move.amid.going.top c.requires.some.move.channel.after fits within kept)
+      (c.step-event.ensures.moved c.args.cat.now (asked_of c.args.cat.now.schema c.requires.some.move.texts) c.requires.some.move.journal c.requires.some.move.channel);
+}
+
+pub returns-clause-files : goal.returns-clause-files
+returns-clause-files g c =
+    let tells = tells_now (record {
+      stay = c.ended_texts_stay.ensures;
+      reasons = c.reasons_stay.ensures;
+      decided = c.texts_are_decided.ensures;
+      over = c.over_texts_are_settled.ensures;
+      order = c.texts_come_in_order.ensures;
+      outcomes = c.texts_have_outcomes.ensures;
+      in_order = c.asks_are_awaited_in_order.ensures;
+      able = c.tellings_are_spared.ensures.able;
+      spared = c.tellings_are_spared.ensures.under_way;
+    }) c.replies_fit.ensures _ c.args.cat.now c.a_catalog_is_short.ensures.catalog.meant (WentBy (λ more. g.L.Link.went c.args.link.now more c.step-event.new.link) (g.L.Link.faults c.args.link.now) (g.L.Link.faults c.step-event.new.link))
+    g.F.Flash.told c.args.at.now c.requires.some.move.texts c.requires.some.move.journal c.requires.some.move.since c.requires.some.move.sink (g.F.Flash.state c.args.flash.now) c.args.pool.now c.args.exchange.now c.step-event.new.self c.requires.some.teller c.args.replies.now c.await_reply-is_awaited.new.replies c.step-event.result
+    c.requires.going c.requires.some.move.near c.requires.some.move.amid
+    (λ fits within kept. c.await_reply-is_awaited.ensures.kept g.F.Flash.told (g.F.Flash.state c.args.flash.now) c.args.pool.now (asked_of c.args.cat.now.schema c.requires.some.move.texts) c.requires.some.move.journal (c.requires.some.teller.count + 1) c.requires.some.move.amid.going.top c.requires.some.move.channel.after fits within kept)
+    (c.step-event.ensures.moved c.args.cat.now (asked_of c.args.cat.now.schema c.requires.some.move.texts) c.requires.some.move.journal c.requires.some.move.channel)
+    (g.F.Flash.state c.hear.new.flash) c.hear.new.pool c.hear.new.self c.await_reply-is_awaited.ensures.spool
+    (λ later low top hears. (c.hear.ensures.kept c.args.cat.now (heard_in c.args.cat.now c.requires.some.move.texts c.requires.some.move.journal) later low top hears, c.hear.ensures.heard c.args.cat.now (heard_in c.args.cat.now c.requires.some.move.texts c.requires.some.move.journal) later low top hears))
+    c.hear.ensures.marks c.hear.ensures.unopened_flash c.hear.ensures.unopened_spool in
+    tells.files
+
+pub returns-clause-can : goal.returns-clause-can
+returns-clause-can g c = λ teller move run.
+    can_run (record {
+      stay = c.ended_texts_stay.ensures;
+      reasons = c.reasons_stay.ensures;
+      decided = c.texts_are_decided.ensures;
+      over = c.over_texts_are_settled.ensures;
+      order = c.texts_come_in_order.ensures;
+      outcomes = c.texts_have_outcomes.ensures;
+      in_order = c.asks_are_awaited_in_order.ensures;
+      able = c.tellings_are_spared.ensures.able;
+      spared = c.tellings_are_spared.ensures.under_way;
+    }) c.replies_fit.ensures _ c.args.cat.now c.a_catalog_is_short.ensures.catalog.meant (WentBy (λ more. g.L.Link.went c.args.link.now more c.step-event.new.link) (g.L.Link.faults c.args.link.now) (g.L.Link.faults c.step-event.new.link))
+    g.F.Flash.told c.args.at.now move.texts move.journal move.since move.sink (g.F.Flash.state c.args.flash.now) c.args.pool.now c.args.exchange.now c.step-event.new.self teller c.args.replies.now c.await_reply-is_awaited.new.replies c.step-event.result
+    c.requires.going move.near move.amid
+    (λ fits within kept. c.await_reply-is_awaited.ensures.kept g.F.Flash.told (g.F.Flash.state c.args.flash.now) c.args.pool.now (asked_of c.args.cat.now.schema move.texts) move.journal (teller.count + 1) move.amid.going.top move.channel.after fits within kept)
+    (c.step-event.ensures.moved c.args.cat.now (asked_of c.args.cat.now.schema move.texts) move.journal move.channel)
+    (g.F.Flash.state c.hear.new.flash) c.hear.new.pool c.hear.new.self c.await_reply-is_awaited.ensures.spool
+    (λ later low top hears. (c.hear.ensures.kept c.args.cat.now (heard_in c.args.cat.now move.texts move.journal) later low top hears, c.hear.ensures.heard c.args.cat.now (heard_in c.args.cat.now move.texts move.journal) later low top hears))
+    c.hear.ensures.marks c.hear.ensures.unopened_flash c.hear.ensures.unopened_spool
+    (subst (λ (lease : _). ChangesPage c.args.pool.now c.hear.new.pool lease) (same_lease c.args.replies.now c.await_reply-is_awaited.new.replies c.await_reply-is_awaited.ensures.spool) c.hear.ensures.buffer) run
+
 pub returns-clause-moved : goal.returns-clause-moved
-returns-clause-moved g c = λ told texts journal since now pool teller near channel amid refusal_is.
+returns-clause-moved g c = λ texts journal since sink teller near channel amid refusal_is run.
     let moved = c.step-event.ensures.moved c.args.cat.now (asked_of c.args.cat.now.schema texts) journal channel in
-    let both = moved_on c.ended_texts_stay.ensures c.reasons_stay.ensures c.texts_are_decided.ensures c.over_texts_are_settled.ensures c.texts_come_in_order.ensures c.texts_have_outcomes.ensures c.replies_fit.ensures _ c.args.cat.now
-    c.a_catalog_is_short.ensures.catalog.meant (WentBy (λ more. g.L.Link.went c.args.link.now more c.step-event.new.link) (g.L.Link.faults c.args.link.now) (g.L.Link.faults c.step-event.new.link))
-    told c.args.at.now texts journal since now pool c.args.exchange.now c.step-event.new.self teller c.args.replies.now c.await_reply-is_awaited.new.replies c.hear.new.self
-    c.args.refusal c.first_refusal.result c.step-event.result c.await_reply-is_awaited.result c.requires.going near amid refusal_is
-    (λ fits within kept. c.await_reply-is_awaited.ensures.kept (asked_of c.args.cat.now.schema texts) journal amid.low amid.going.top channel.after fits within kept)
-    moved
-    (λ after low top tells same greeting begun fits kept. c.hear.ensures.kept c.args.cat.now (heard_in c.args.cat.now texts journal) after low top tells same greeting begun fits kept)
-    (λ after low top other tells apart kept. c.hear.ensures.others c.args.cat.now (heard_in c.args.cat.now texts journal) after low top other tells apart kept)
-    (c.await_reply-is_awaited.ensures.awaited (asked_of c.args.cat.now.schema texts) journal channel.after)
-    c.first_refusal.ensures.first in
-    record { made = moved.made; went = moved.went; channel = moved.live; tells = moved.tells; amid = both.0; refusal_is = both.1 }
+    record {
+      made = moved.made;
+      went = moved.went;
+      channel = moved.live;
+      tells = moved.tells;
+      amid = moved_amid (record {
+        stay = c.ended_texts_stay.ensures;
+        reasons = c.reasons_stay.ensures;
+        decided = c.texts_are_decided.ensures;
+        over = c.over_texts_are_settled.ensures;
+        order = c.texts_come_in_order.ensures;
+        outcomes = c.texts_have_outcomes.ensures;
+        in_order = c.asks_are_awaited_in_order.ensures;
+        able = c.tellings_are_spared.ensures.able;
+        spared = c.tellings_are_spared.ensures.under_way;
+      }) c.replies_fit.ensures _ c.args.cat.now c.a_catalog_is_short.ensures.catalog.meant (WentBy (λ more. g.L.Link.went c.args.link.now more c.step-event.new.link) (g.L.Link.faults c.args.link.now) (g.L.Link.faults c.step-event.new.link))
+          g.F.Flash.told c.args.at.now texts journal since sink (g.F.Flash.state c.args.flash.now) c.args.pool.now c.args.exchange.now c.step-event.new.self teller c.args.replies.now c.await_reply-is_awaited.new.replies c.step-event.result
+          c.requires.going near amid
+          (λ fits within kept. c.await_reply-is_awaited.ensures.kept g.F.Flash.told (g.F.Flash.state c.args.flash.now) c.args.pool.now (asked_of c.args.cat.now.schema texts) journal (teller.count + 1) amid.going.top channel.after fits within kept)
+          moved
+          (g.F.Flash.state c.hear.new.flash) c.hear.new.pool c.hear.new.self c.await_reply-is_awaited.ensures.spool
+          (λ later low top hears. (c.hear.ensures.kept c.args.cat.now (heard_in c.args.cat.now texts journal) later low top hears, c.hear.ensures.heard c.args.cat.now (heard_in c.args.cat.now texts journal) later low top hears))
+          c.hear.ensures.marks c.hear.ensures.unopened_flash c.hear.ensures.unopened_spool
+          (subst (λ (lease : _). ChangesPage c.args.pool.now c.hear.new.pool lease) (same_lease c.args.replies.now c.await_reply-is_awaited.new.replies c.await_reply-is_awaited.ensures.spool) c.hear.ensures.buffer) run;
+      refusal_is = refusal_more c.args.cat.now c.step-event.new.self.page c.step-event.result (heard_in c.args.cat.now texts journal) _ c.args.refusal c.first_refusal.result c.await_reply-is_awaited.result moved.tells refusal_is
+          (c.await_reply-is_awaited.ensures.awaited (asked_of c.args.cat.now.schema texts) journal channel.after) c.first_refusal.ensures.first;
+    }

@@ -1,22 +1,20 @@
-use Rattle.std.proofs.Common.{◌≡◌, ◌≤◌, ◌∙◌, sym, refl, subst, arith, Bool, false, []}
+use Rattle.std.proofs.Common.{◌∙◌, sym, refl, subst, arith, Bool, false, []}
 use Rattle.ghost_model.specs.core.Texts.{texts_of}
 use Rattle.channel_session.specs.Entries.{WentBy}
 use Rattle.key_lines.specs.Handing.{handed}
 use Rattle.text_lines.specs.Rows.{PrintsSome}
-use Rattle.text_lines.specs.declared.telling.Telling.{Telling}
-use Rattle.std.specs.Prelude.{Option}
 use Rattle.key_session.specs.Telling.{session_side}
-use Rattle.key_session.specs.Going.{CanRun, IsLive}
+use Rattle.key_session.specs.Going.{IsLive}
 use Rattle.key_session.specs.Running.{HasRun}
 use Rattle.key_session.proofs.Running.{flash_rose, flash_same}
-use Rattle.key_session.proofs.Stepping.{last_of, come_on, cat_still, at_still, idle_over}
+use Rattle.key_session.proofs.Stepping.{last_of, come_on, cat_still, at_still, alone_over, leased_alone, out_over, idle_over}
 use Rattle.key_session.proofs.session.run_session.Goals as goal
 
 pub steps-init : goal.steps-init
 steps-init g c = (
   record {
     suffices = rw c.begin-session.ensures.cat c.requires.suffices;
-    can = subst (λ (running : Option Telling). CanRun g.F.Flash.told (g.F.Flash.state c.args.flash.now) c.args.pool.now running) (sym c.begin-session.ensures.running) c.requires.idle;
+    run = rw (c.begin-session.ensures.cat, c.begin-session.ensures.lease, c.begin-session.ensures.running) (record { can = tt; alone = leased_alone c.args.pool.now c.lease.new.self _ c.requires.idle c.in-Some.ensures.leased c.in-Some.ensures.is_out c.in-Some.ensures.counted });
   },
   c.begin-session.ensures.cat,
   c.begin-session.ensures.at,
@@ -25,8 +23,8 @@ steps-init g c = (
     journal = [];
     went = record { gone = g.met.L.Link.stays _; counts = c.moves_join.ensures.joined.none _; short = refl };
     live = subst (λ (failed : Bool). IsLive g.F.Flash.told (texts_of c.args.script.now) [] (session_side false (g.O.Sink.faults c.args.out.now) (g.O.Sink.written c.args.out.now) (g.F.Flash.state c.args.flash.now))
-        (session_side failed (g.O.Sink.faults c.args.out.now) (g.O.Sink.written c.args.out.now) (g.F.Flash.state c.args.flash.now)) c.args.pool.now c.begin-session.result) (sym c.begin-session.ensures.fresh)
-        (c.begin-session.ensures.live g.F.Flash.told (session_side false (g.O.Sink.faults c.args.out.now) (g.O.Sink.written c.args.out.now) (g.F.Flash.state c.args.flash.now)) c.args.pool.now c.requires.replies);
+        (session_side failed (g.O.Sink.faults c.args.out.now) (g.O.Sink.written c.args.out.now) (g.F.Flash.state c.args.flash.now)) c.lease.new.self c.begin-session.result) (sym c.begin-session.ensures.fresh)
+        (c.begin-session.ensures.live g.F.Flash.told (session_side false (g.O.Sink.faults c.args.out.now) (g.O.Sink.written c.args.out.now) (g.F.Flash.state c.args.flash.now)) c.lease.new.self c.requires.suffices c.in-Some.ensures.is_out);
   },
 )
 
@@ -53,100 +51,107 @@ steps-preserved g c =
 
 pub returns-in-Ended-clause-ran : goal.returns-in-Ended-clause-ran
 returns-in-Ended-clause-ran g c =
-    let last = last_of c.honest_sessions_are_smooth.ensures c.honest_lines_are_printed.ensures c.closed_is_finished.ensures.finished c.args.cat.now c.a_catalog_is_short.ensures.catalog (texts_of c.args.script.now) c.requires.few
+    let last = last_of c.later_texts_are_unmarked.ensures.unmarked c.honest_sessions_are_smooth.ensures c.honest_lines_are_printed.ensures c.closed_is_finished.ensures.finished c.args.cat.now c.a_catalog_is_short.ensures.catalog (texts_of c.args.script.now) c.requires.few
     (λ journal. g.L.Link.went c.args.link.now journal c.steps.link) (g.L.Link.faults c.args.link.now) (g.L.Link.faults c.steps.link) g.F.Flash.told c.args.options.now.at.now
-    (session_side false (g.O.Sink.faults c.args.out.now) (g.O.Sink.written c.args.out.now) (g.F.Flash.state c.args.flash.now)) (g.O.Sink.faults c.steps.out) (g.O.Sink.written c.steps.out) (g.F.Flash.state c.steps.flash) c.steps.pool c.steps.session c.tally.result
-    c.steps.invariant.1 c.steps.invariant.2 c.steps.invariant.4 (c.due.ensures.closed c.in-Ended.is) (c.due.ensures.none c.in-Ended.is) c.tally.ensures.texts c.tally.ensures.refused c.tally.ensures.faulted c.tally.ensures.status in
+    (session_side false (g.O.Sink.faults c.args.out.now) (g.O.Sink.written c.args.out.now) (g.F.Flash.state c.args.flash.now)) (g.O.Sink.faults c.steps.out) (g.O.Sink.written c.steps.out) (g.F.Flash.state c.steps.flash) c.steps.pool c.steps.session c.end.result
+    c.steps.invariant.1 c.steps.invariant.2 c.steps.invariant.4 (c.due.ensures.closed c.in-Ended.is) (c.due.ensures.none c.in-Ended.is) c.end.ensures.texts c.end.ensures.refused c.end.ensures.faulted c.end.ensures.status in
     subst (λ (failed : Bool). HasRun (λ journal. g.L.Link.went c.args.link.now journal c.steps.link) (g.L.Link.faults c.args.link.now) (g.L.Link.faults c.steps.link) g.F.Flash.told c.args.cat.now c.args.options.now.at.now (texts_of c.args.script.now)
-    (session_side false (g.O.Sink.faults c.args.out.now) (g.O.Sink.written c.args.out.now) (g.F.Flash.state c.args.flash.now)) (session_side failed (g.O.Sink.faults c.steps.out) (g.O.Sink.written c.steps.out) (g.F.Flash.state c.steps.flash)) c.tally.result) (sym c.tally.ensures.sink) last.ran
+    (session_side false (g.O.Sink.faults c.args.out.now) (g.O.Sink.written c.args.out.now) (g.F.Flash.state c.args.flash.now)) (session_side failed (g.O.Sink.faults c.steps.out) (g.O.Sink.written c.steps.out) (g.F.Flash.state c.steps.flash)) c.end.result) (sym c.end.ensures.sink) last.ran
 
 pub returns-in-Ended-clause-prints : goal.returns-in-Ended-clause-prints
 returns-in-Ended-clause-prints g c =
-    let last = last_of c.honest_sessions_are_smooth.ensures c.honest_lines_are_printed.ensures c.closed_is_finished.ensures.finished c.args.cat.now c.a_catalog_is_short.ensures.catalog (texts_of c.args.script.now) c.requires.few
+    let last = last_of c.later_texts_are_unmarked.ensures.unmarked c.honest_sessions_are_smooth.ensures c.honest_lines_are_printed.ensures c.closed_is_finished.ensures.finished c.args.cat.now c.a_catalog_is_short.ensures.catalog (texts_of c.args.script.now) c.requires.few
     (λ journal. g.L.Link.went c.args.link.now journal c.steps.link) (g.L.Link.faults c.args.link.now) (g.L.Link.faults c.steps.link) g.F.Flash.told c.args.options.now.at.now
-    (session_side false (g.O.Sink.faults c.args.out.now) (g.O.Sink.written c.args.out.now) (g.F.Flash.state c.args.flash.now)) (g.O.Sink.faults c.steps.out) (g.O.Sink.written c.steps.out) (g.F.Flash.state c.steps.flash) c.steps.pool c.steps.session c.tally.result
-    c.steps.invariant.1 c.steps.invariant.2 c.steps.invariant.4 (c.due.ensures.closed c.in-Ended.is) (c.due.ensures.none c.in-Ended.is) c.tally.ensures.texts c.tally.ensures.refused c.tally.ensures.faulted c.tally.ensures.status in
-    subst (λ (failed : Bool). PrintsSome (handed false (g.O.Sink.faults c.args.out.now) (g.O.Sink.written c.args.out.now)) (handed failed (g.O.Sink.faults c.steps.out) (g.O.Sink.written c.steps.out))) (sym c.tally.ensures.sink) last.prints
+    (session_side false (g.O.Sink.faults c.args.out.now) (g.O.Sink.written c.args.out.now) (g.F.Flash.state c.args.flash.now)) (g.O.Sink.faults c.steps.out) (g.O.Sink.written c.steps.out) (g.F.Flash.state c.steps.flash) c.steps.pool c.steps.session c.end.result
+    c.steps.invariant.1 c.steps.invariant.2 c.steps.invariant.4 (c.due.ensures.closed c.in-Ended.is) (c.due.ensures.none c.in-Ended.is) c.end.ensures.texts c.end.ensures.refused c.end.ensures.faulted c.end.ensures.status in
+    subst (λ (failed : Bool). PrintsSome (handed false (g.O.Sink.faults c.args.out.now) (g.O.Sink.written c.args.out.now)) (handed failed (g.O.Sink.faults c.steps.out) (g.O.Sink.written c.steps.out))) (sym c.end.ensures.sink) last.prints
 
 pub returns-in-Ended-clause-idle : goal.returns-in-Ended-clause-idle
-returns-in-Ended-clause-idle g c = idle_over g.F.Flash.told (g.F.Flash.state c.steps.flash) c.steps.pool c.steps.session.teller (c.due.ensures.none c.in-Ended.is) c.steps.invariant.0.can
+returns-in-Ended-clause-idle g c =
+    idle_over c.steps.pool _ c.end.new.pool (alone_over g.F.Flash.told _ (g.F.Flash.state c.steps.flash) c.steps.pool _ _ c.steps.session.teller (c.due.ensures.none c.in-Ended.is) c.steps.invariant.0.run) c.end.ensures.given c.end.ensures.counted
+
+pub end-requires : goal.end-requires
+end-requires g c = record { out = out_over c.steps.pool _ (alone_over g.F.Flash.told _ (g.F.Flash.state c.steps.flash) c.steps.pool _ _ c.steps.session.teller (c.due.ensures.none c.in-Ended.is) c.steps.invariant.0.run) }
+
+pub step-requires-clause-some : goal.step-requires-clause-some
+step-requires-clause-some g c = record { texts = _; journal = c.steps.invariant.4.journal; since = _; live = c.steps.invariant.4.live }
 
 pub returns-in-Ended-clause-texts : goal.returns-in-Ended-clause-texts
 returns-in-Ended-clause-texts g c =
-    let last = last_of c.honest_sessions_are_smooth.ensures c.honest_lines_are_printed.ensures c.closed_is_finished.ensures.finished c.args.cat.now c.a_catalog_is_short.ensures.catalog (texts_of c.args.script.now) c.requires.few
+    let last = last_of c.later_texts_are_unmarked.ensures.unmarked c.honest_sessions_are_smooth.ensures c.honest_lines_are_printed.ensures c.closed_is_finished.ensures.finished c.args.cat.now c.a_catalog_is_short.ensures.catalog (texts_of c.args.script.now) c.requires.few
     (λ journal. g.L.Link.went c.args.link.now journal c.steps.link) (g.L.Link.faults c.args.link.now) (g.L.Link.faults c.steps.link) g.F.Flash.told c.args.options.now.at.now
-    (session_side false (g.O.Sink.faults c.args.out.now) (g.O.Sink.written c.args.out.now) (g.F.Flash.state c.args.flash.now)) (g.O.Sink.faults c.steps.out) (g.O.Sink.written c.steps.out) (g.F.Flash.state c.steps.flash) c.steps.pool c.steps.session c.tally.result
-    c.steps.invariant.1 c.steps.invariant.2 c.steps.invariant.4 (c.due.ensures.closed c.in-Ended.is) (c.due.ensures.none c.in-Ended.is) c.tally.ensures.texts c.tally.ensures.refused c.tally.ensures.faulted c.tally.ensures.status in
+    (session_side false (g.O.Sink.faults c.args.out.now) (g.O.Sink.written c.args.out.now) (g.F.Flash.state c.args.flash.now)) (g.O.Sink.faults c.steps.out) (g.O.Sink.written c.steps.out) (g.F.Flash.state c.steps.flash) c.steps.pool c.steps.session c.end.result
+    c.steps.invariant.1 c.steps.invariant.2 c.steps.invariant.4 (c.due.ensures.closed c.in-Ended.is) (c.due.ensures.none c.in-Ended.is) c.end.ensures.texts c.end.ensures.refused c.end.ensures.faulted c.end.ensures.status in
     last.many
 
 pub returns-in-Ended-clause-sink_same : goal.returns-in-Ended-clause-sink_same
 returns-in-Ended-clause-sink_same g c =
-    let last = last_of c.honest_sessions_are_smooth.ensures c.honest_lines_are_printed.ensures c.closed_is_finished.ensures.finished c.args.cat.now c.a_catalog_is_short.ensures.catalog (texts_of c.args.script.now) c.requires.few
+    let last = last_of c.later_texts_are_unmarked.ensures.unmarked c.honest_sessions_are_smooth.ensures c.honest_lines_are_printed.ensures c.closed_is_finished.ensures.finished c.args.cat.now c.a_catalog_is_short.ensures.catalog (texts_of c.args.script.now) c.requires.few
     (λ journal. g.L.Link.went c.args.link.now journal c.steps.link) (g.L.Link.faults c.args.link.now) (g.L.Link.faults c.steps.link) g.F.Flash.told c.args.options.now.at.now
-    (session_side false (g.O.Sink.faults c.args.out.now) (g.O.Sink.written c.args.out.now) (g.F.Flash.state c.args.flash.now)) (g.O.Sink.faults c.steps.out) (g.O.Sink.written c.steps.out) (g.F.Flash.state c.steps.flash) c.steps.pool c.steps.session c.tally.result
-    c.steps.invariant.1 c.steps.invariant.2 c.steps.invariant.4 (c.due.ensures.closed c.in-Ended.is) (c.due.ensures.none c.in-Ended.is) c.tally.ensures.texts c.tally.ensures.refused c.tally.ensures.faulted c.tally.ensures.status in
-    λ e. (last.prints.handed.whole (sym c.tally.ensures.sink ∙ e)).faults
+    (session_side false (g.O.Sink.faults c.args.out.now) (g.O.Sink.written c.args.out.now) (g.F.Flash.state c.args.flash.now)) (g.O.Sink.faults c.steps.out) (g.O.Sink.written c.steps.out) (g.F.Flash.state c.steps.flash) c.steps.pool c.steps.session c.end.result
+    c.steps.invariant.1 c.steps.invariant.2 c.steps.invariant.4 (c.due.ensures.closed c.in-Ended.is) (c.due.ensures.none c.in-Ended.is) c.end.ensures.texts c.end.ensures.refused c.end.ensures.faulted c.end.ensures.status in
+    λ e. (last.prints.handed.whole (sym c.end.ensures.sink ∙ e)).faults
 
 pub returns-in-Ended-clause-flash_called : goal.returns-in-Ended-clause-flash_called
 returns-in-Ended-clause-flash_called g c =
-    let last = last_of c.honest_sessions_are_smooth.ensures c.honest_lines_are_printed.ensures c.closed_is_finished.ensures.finished c.args.cat.now c.a_catalog_is_short.ensures.catalog (texts_of c.args.script.now) c.requires.few
+    let last = last_of c.later_texts_are_unmarked.ensures.unmarked c.honest_sessions_are_smooth.ensures c.honest_lines_are_printed.ensures c.closed_is_finished.ensures.finished c.args.cat.now c.a_catalog_is_short.ensures.catalog (texts_of c.args.script.now) c.requires.few
     (λ journal. g.L.Link.went c.args.link.now journal c.steps.link) (g.L.Link.faults c.args.link.now) (g.L.Link.faults c.steps.link) g.F.Flash.told c.args.options.now.at.now
-    (session_side false (g.O.Sink.faults c.args.out.now) (g.O.Sink.written c.args.out.now) (g.F.Flash.state c.args.flash.now)) (g.O.Sink.faults c.steps.out) (g.O.Sink.written c.steps.out) (g.F.Flash.state c.steps.flash) c.steps.pool c.steps.session c.tally.result
-    c.steps.invariant.1 c.steps.invariant.2 c.steps.invariant.4 (c.due.ensures.closed c.in-Ended.is) (c.due.ensures.none c.in-Ended.is) c.tally.ensures.texts c.tally.ensures.refused c.tally.ensures.faulted c.tally.ensures.status in
+    (session_side false (g.O.Sink.faults c.args.out.now) (g.O.Sink.written c.args.out.now) (g.F.Flash.state c.args.flash.now)) (g.O.Sink.faults c.steps.out) (g.O.Sink.written c.steps.out) (g.F.Flash.state c.steps.flash) c.steps.pool c.steps.session c.end.result
+    c.steps.invariant.1 c.steps.invariant.2 c.steps.invariant.4 (c.due.ensures.closed c.in-Ended.is) (c.due.ensures.none c.in-Ended.is) c.end.ensures.texts c.end.ensures.refused c.end.ensures.faulted c.end.ensures.status in
     λ e. last.called e
 
 pub returns-in-Ended-clause-damage_called : goal.returns-in-Ended-clause-damage_called
 returns-in-Ended-clause-damage_called g c =
-    let last = last_of c.honest_sessions_are_smooth.ensures c.honest_lines_are_printed.ensures c.closed_is_finished.ensures.finished c.args.cat.now c.a_catalog_is_short.ensures.catalog (texts_of c.args.script.now) c.requires.few
+    let last = last_of c.later_texts_are_unmarked.ensures.unmarked c.honest_sessions_are_smooth.ensures c.honest_lines_are_printed.ensures c.closed_is_finished.ensures.finished c.args.cat.now c.a_catalog_is_short.ensures.catalog (texts_of c.args.script.now) c.requires.few
     (λ journal. g.L.Link.went c.args.link.now journal c.steps.link) (g.L.Link.faults c.args.link.now) (g.L.Link.faults c.steps.link) g.F.Flash.told c.args.options.now.at.now
-    (session_side false (g.O.Sink.faults c.args.out.now) (g.O.Sink.written c.args.out.now) (g.F.Flash.state c.args.flash.now)) (g.O.Sink.faults c.steps.out) (g.O.Sink.written c.steps.out) (g.F.Flash.state c.steps.flash) c.steps.pool c.steps.session c.tally.result
-    c.steps.invariant.1 c.steps.invariant.2 c.steps.invariant.4 (c.due.ensures.closed c.in-Ended.is) (c.due.ensures.none c.in-Ended.is) c.tally.ensures.texts c.tally.ensures.refused c.tally.ensures.faulted c.tally.ensures.status in
+    (session_side false (g.O.Sink.faults c.args.out.now) (g.O.Sink.written c.args.out.now) (g.F.Flash.state c.args.flash.now)) (g.O.Sink.faults c.steps.out) (g.O.Sink.written c.steps.out) (g.F.Flash.state c.steps.flash) c.steps.pool c.steps.session c.end.result
+    c.steps.invariant.1 c.steps.invariant.2 c.steps.invariant.4 (c.due.ensures.closed c.in-Ended.is) (c.due.ensures.none c.in-Ended.is) c.end.ensures.texts c.end.ensures.refused c.end.ensures.faulted c.end.ensures.status in
     λ e. last.damage_called e
 
 pub returns-in-Ended-clause-flash_rose : goal.returns-in-Ended-clause-flash_rose
 returns-in-Ended-clause-flash_rose g c =
-    let last = last_of c.honest_sessions_are_smooth.ensures c.honest_lines_are_printed.ensures c.closed_is_finished.ensures.finished c.args.cat.now c.a_catalog_is_short.ensures.catalog (texts_of c.args.script.now) c.requires.few
+    let last = last_of c.later_texts_are_unmarked.ensures.unmarked c.honest_sessions_are_smooth.ensures c.honest_lines_are_printed.ensures c.closed_is_finished.ensures.finished c.args.cat.now c.a_catalog_is_short.ensures.catalog (texts_of c.args.script.now) c.requires.few
     (λ journal. g.L.Link.went c.args.link.now journal c.steps.link) (g.L.Link.faults c.args.link.now) (g.L.Link.faults c.steps.link) g.F.Flash.told c.args.options.now.at.now
-    (session_side false (g.O.Sink.faults c.args.out.now) (g.O.Sink.written c.args.out.now) (g.F.Flash.state c.args.flash.now)) (g.O.Sink.faults c.steps.out) (g.O.Sink.written c.steps.out) (g.F.Flash.state c.steps.flash) c.steps.pool c.steps.session c.tally.result
-    c.steps.invariant.1 c.steps.invariant.2 c.steps.invariant.4 (c.due.ensures.closed c.in-Ended.is) (c.due.ensures.none c.in-Ended.is) c.tally.ensures.texts c.tally.ensures.refused c.tally.ensures.faulted c.tally.ensures.status in
+    (session_side false (g.O.Sink.faults c.args.out.now) (g.O.Sink.written c.args.out.now) (g.F.Flash.state c.args.flash.now)) (g.O.Sink.faults c.steps.out) (g.O.Sink.written c.steps.out) (g.F.Flash.state c.steps.flash) c.steps.pool c.steps.session c.end.result
+    c.steps.invariant.1 c.steps.invariant.2 c.steps.invariant.4 (c.due.ensures.closed c.in-Ended.is) (c.due.ensures.none c.in-Ended.is) c.end.ensures.texts c.end.ensures.refused c.end.ensures.faulted c.end.ensures.status in
     λ e. flash_rose last.ran e
 
 pub returns-in-Ended-clause-flash_same : goal.returns-in-Ended-clause-flash_same
 returns-in-Ended-clause-flash_same g c =
-    let last = last_of c.honest_sessions_are_smooth.ensures c.honest_lines_are_printed.ensures c.closed_is_finished.ensures.finished c.args.cat.now c.a_catalog_is_short.ensures.catalog (texts_of c.args.script.now) c.requires.few
+    let last = last_of c.later_texts_are_unmarked.ensures.unmarked c.honest_sessions_are_smooth.ensures c.honest_lines_are_printed.ensures c.closed_is_finished.ensures.finished c.args.cat.now c.a_catalog_is_short.ensures.catalog (texts_of c.args.script.now) c.requires.few
     (λ journal. g.L.Link.went c.args.link.now journal c.steps.link) (g.L.Link.faults c.args.link.now) (g.L.Link.faults c.steps.link) g.F.Flash.told c.args.options.now.at.now
-    (session_side false (g.O.Sink.faults c.args.out.now) (g.O.Sink.written c.args.out.now) (g.F.Flash.state c.args.flash.now)) (g.O.Sink.faults c.steps.out) (g.O.Sink.written c.steps.out) (g.F.Flash.state c.steps.flash) c.steps.pool c.steps.session c.tally.result
-    c.steps.invariant.1 c.steps.invariant.2 c.steps.invariant.4 (c.due.ensures.closed c.in-Ended.is) (c.due.ensures.none c.in-Ended.is) c.tally.ensures.texts c.tally.ensures.refused c.tally.ensures.faulted c.tally.ensures.status in
-    λ e. flash_same last.ran e
+    (session_side false (g.O.Sink.faults c.args.out.now) (g.O.Sink.written c.args.out.now) (g.F.Flash.state c.args.flash.now)) (g.O.Sink.faults c.steps.out) (g.O.Sink.written c.steps.out) (g.F.Flash.state c.steps.flash) c.steps.pool c.steps.session c.end.result
+    c.steps.invariant.1 c.steps.invariant.2 c.steps.invariant.4 (c.due.ensures.closed c.in-Ended.is) (c.due.ensures.none c.in-Ended.is) c.end.ensures.texts c.end.ensures.refused c.end.ensures.faulted c.end.ensures.status in
+    λ e. flash_same last.ran c.texts_have_outcomes.ensures e
 
 pub returns-in-Ended-clause-sink_rose : goal.returns-in-Ended-clause-sink_rose
 returns-in-Ended-clause-sink_rose g c =
-    let last = last_of c.honest_sessions_are_smooth.ensures c.honest_lines_are_printed.ensures c.closed_is_finished.ensures.finished c.args.cat.now c.a_catalog_is_short.ensures.catalog (texts_of c.args.script.now) c.requires.few
+    let last = last_of c.later_texts_are_unmarked.ensures.unmarked c.honest_sessions_are_smooth.ensures c.honest_lines_are_printed.ensures c.closed_is_finished.ensures.finished c.args.cat.now c.a_catalog_is_short.ensures.catalog (texts_of c.args.script.now) c.requires.few
     (λ journal. g.L.Link.went c.args.link.now journal c.steps.link) (g.L.Link.faults c.args.link.now) (g.L.Link.faults c.steps.link) g.F.Flash.told c.args.options.now.at.now
-    (session_side false (g.O.Sink.faults c.args.out.now) (g.O.Sink.written c.args.out.now) (g.F.Flash.state c.args.flash.now)) (g.O.Sink.faults c.steps.out) (g.O.Sink.written c.steps.out) (g.F.Flash.state c.steps.flash) c.steps.pool c.steps.session c.tally.result
-    c.steps.invariant.1 c.steps.invariant.2 c.steps.invariant.4 (c.due.ensures.closed c.in-Ended.is) (c.due.ensures.none c.in-Ended.is) c.tally.ensures.texts c.tally.ensures.refused c.tally.ensures.faulted c.tally.ensures.status in
-    λ e. last.prints.handed.rose refl (sym c.tally.ensures.sink ∙ e)
+    (session_side false (g.O.Sink.faults c.args.out.now) (g.O.Sink.written c.args.out.now) (g.F.Flash.state c.args.flash.now)) (g.O.Sink.faults c.steps.out) (g.O.Sink.written c.steps.out) (g.F.Flash.state c.steps.flash) c.steps.pool c.steps.session c.end.result
+    c.steps.invariant.1 c.steps.invariant.2 c.steps.invariant.4 (c.due.ensures.closed c.in-Ended.is) (c.due.ensures.none c.in-Ended.is) c.end.ensures.texts c.end.ensures.refused c.end.ensures.faulted c.end.ensures.status in
+    λ e. last.prints.handed.rose refl (sym c.end.ensures.sink ∙ e)
 
 pub returns-in-Ended-clause-pages : goal.returns-in-Ended-clause-pages
 returns-in-Ended-clause-pages g c =
-    let last = last_of c.honest_sessions_are_smooth.ensures c.honest_lines_are_printed.ensures c.closed_is_finished.ensures.finished c.args.cat.now c.a_catalog_is_short.ensures.catalog (texts_of c.args.script.now) c.requires.few
+    let last = last_of c.later_texts_are_unmarked.ensures.unmarked c.honest_sessions_are_smooth.ensures c.honest_lines_are_printed.ensures c.closed_is_finished.ensures.finished c.args.cat.now c.a_catalog_is_short.ensures.catalog (texts_of c.args.script.now) c.requires.few
     (λ journal. g.L.Link.went c.args.link.now journal c.steps.link) (g.L.Link.faults c.args.link.now) (g.L.Link.faults c.steps.link) g.F.Flash.told c.args.options.now.at.now
-    (session_side false (g.O.Sink.faults c.args.out.now) (g.O.Sink.written c.args.out.now) (g.F.Flash.state c.args.flash.now)) (g.O.Sink.faults c.steps.out) (g.O.Sink.written c.steps.out) (g.F.Flash.state c.steps.flash) c.steps.pool c.steps.session c.tally.result
-    c.steps.invariant.1 c.steps.invariant.2 c.steps.invariant.4 (c.due.ensures.closed c.in-Ended.is) (c.due.ensures.none c.in-Ended.is) c.tally.ensures.texts c.tally.ensures.refused c.tally.ensures.faulted c.tally.ensures.status in
+    (session_side false (g.O.Sink.faults c.args.out.now) (g.O.Sink.written c.args.out.now) (g.F.Flash.state c.args.flash.now)) (g.O.Sink.faults c.steps.out) (g.O.Sink.written c.steps.out) (g.F.Flash.state c.steps.flash) c.steps.pool c.steps.session c.end.result
+    c.steps.invariant.1 c.steps.invariant.2 c.steps.invariant.4 (c.due.ensures.closed c.in-Ended.is) (c.due.ensures.none c.in-Ended.is) c.end.ensures.texts c.end.ensures.refused c.end.ensures.faulted c.end.ensures.status in
     last.pages
 
 pub returns-in-Ended-clause-flash_calls : goal.returns-in-Ended-clause-flash_calls
 returns-in-Ended-clause-flash_calls g c =
-    let last = last_of c.honest_sessions_are_smooth.ensures c.honest_lines_are_printed.ensures c.closed_is_finished.ensures.finished c.args.cat.now c.a_catalog_is_short.ensures.catalog (texts_of c.args.script.now) c.requires.few
+    let last = last_of c.later_texts_are_unmarked.ensures.unmarked c.honest_sessions_are_smooth.ensures c.honest_lines_are_printed.ensures c.closed_is_finished.ensures.finished c.args.cat.now c.a_catalog_is_short.ensures.catalog (texts_of c.args.script.now) c.requires.few
     (λ journal. g.L.Link.went c.args.link.now journal c.steps.link) (g.L.Link.faults c.args.link.now) (g.L.Link.faults c.steps.link) g.F.Flash.told c.args.options.now.at.now
-    (session_side false (g.O.Sink.faults c.args.out.now) (g.O.Sink.written c.args.out.now) (g.F.Flash.state c.args.flash.now)) (g.O.Sink.faults c.steps.out) (g.O.Sink.written c.steps.out) (g.F.Flash.state c.steps.flash) c.steps.pool c.steps.session c.tally.result
-    c.steps.invariant.1 c.steps.invariant.2 c.steps.invariant.4 (c.due.ensures.closed c.in-Ended.is) (c.due.ensures.none c.in-Ended.is) c.tally.ensures.texts c.tally.ensures.refused c.tally.ensures.faulted c.tally.ensures.status in
+    (session_side false (g.O.Sink.faults c.args.out.now) (g.O.Sink.written c.args.out.now) (g.F.Flash.state c.args.flash.now)) (g.O.Sink.faults c.steps.out) (g.O.Sink.written c.steps.out) (g.F.Flash.state c.steps.flash) c.steps.pool c.steps.session c.end.result
+    c.steps.invariant.1 c.steps.invariant.2 c.steps.invariant.4 (c.due.ensures.closed c.in-Ended.is) (c.due.ensures.none c.in-Ended.is) c.end.ensures.texts c.end.ensures.refused c.end.ensures.faulted c.end.ensures.status in
     last.calls
 
 pub returns-in-Ended-clause-flash_faults : goal.returns-in-Ended-clause-flash_faults
 returns-in-Ended-clause-flash_faults g c =
-    let last = last_of c.honest_sessions_are_smooth.ensures c.honest_lines_are_printed.ensures c.closed_is_finished.ensures.finished c.args.cat.now c.a_catalog_is_short.ensures.catalog (texts_of c.args.script.now) c.requires.few
+    let last = last_of c.later_texts_are_unmarked.ensures.unmarked c.honest_sessions_are_smooth.ensures c.honest_lines_are_printed.ensures c.closed_is_finished.ensures.finished c.args.cat.now c.a_catalog_is_short.ensures.catalog (texts_of c.args.script.now) c.requires.few
     (λ journal. g.L.Link.went c.args.link.now journal c.steps.link) (g.L.Link.faults c.args.link.now) (g.L.Link.faults c.steps.link) g.F.Flash.told c.args.options.now.at.now
-    (session_side false (g.O.Sink.faults c.args.out.now) (g.O.Sink.written c.args.out.now) (g.F.Flash.state c.args.flash.now)) (g.O.Sink.faults c.steps.out) (g.O.Sink.written c.steps.out) (g.F.Flash.state c.steps.flash) c.steps.pool c.steps.session c.tally.result
-    c.steps.invariant.1 c.steps.invariant.2 c.steps.invariant.4 (c.due.ensures.closed c.in-Ended.is) (c.due.ensures.none c.in-Ended.is) c.tally.ensures.texts c.tally.ensures.refused c.tally.ensures.faulted c.tally.ensures.status in
+    (session_side false (g.O.Sink.faults c.args.out.now) (g.O.Sink.written c.args.out.now) (g.F.Flash.state c.args.flash.now)) (g.O.Sink.faults c.steps.out) (g.O.Sink.written c.steps.out) (g.F.Flash.state c.steps.flash) c.steps.pool c.steps.session c.end.result
+    c.steps.invariant.1 c.steps.invariant.2 c.steps.invariant.4 (c.due.ensures.closed c.in-Ended.is) (c.due.ensures.none c.in-Ended.is) c.end.ensures.texts c.end.ensures.refused c.end.ensures.faulted c.end.ensures.status in
     last.faults

@@ -1,4 +1,4 @@
-use Rattle.std.proofs.Common.{◌≡◌, ◌+◌, [], ap, arith, refl, sym, subst}
+use Rattle.std.proofs.Common.{[], ap, refl, sym, subst}
 use Rattle.std.specs.Prelude.{Option}
 use Rattle.ghost_model.specs.core.Texts.{texts_of}
 use Rattle.ghost_model.specs.core.Asks.{asked_of}
@@ -11,14 +11,13 @@ use Rattle.key_session.proofs.Running.{at_first}
 use Rattle.key_session.proofs.session.Session.begin.Goals as goal
 
 pub returns-clause-live : goal.returns-clause-live
-returns-clause-live c = λ told now pool kept. record {
+returns-clause-live c = λ told now pool suffices out. record {
   channel = c.begin-2.ensures.live c.args.cat.now c.args.options.now.at.now (asked_of c.args.cat.now.schema (texts_of c.args.script.now)) c.begin.ensures.after;
   amid = record {
-    first = now;
-    low = 1;
-    going = at_first c.pieces_join.ensures told c.args.cat.now (texts_of c.args.script.now) now _ c.new.result.count c.new.result.counts _ c.args.replies c.new.ensures.texts c.new.ensures.count c.new.ensures.counts kept;
-    running = subst (λ (running : Option Telling). Runs told c.args.cat.now (texts_of c.args.script.now) [] c.new.result.count now now 1 pool c.args.replies running) (sym c.new.ensures.running)
-        ((let none = c.new.ensures.count in omega (arith, none)), refl);
+    sink = now.sink;
+    going = at_first c.pieces_join.ensures told c.args.cat.now (texts_of c.args.script.now) now pool _ c.new.result.count c.new.result.counts _ c.begin-3.result c.new.ensures.texts c.new.ensures.count c.new.ensures.counts
+        (c.begin-3.ensures.kept told now.flash pool suffices.pages suffices.small out) c.begin-3.ensures.unmarked;
+    running = subst (λ (running : Option Telling). Runs told c.args.cat.now (texts_of c.args.script.now) [] c.new.result.count now.flash now.sink now pool c.begin-3.result running) (sym c.new.ensures.running) refl;
   };
   refusal_is = sym (ap (λ (heard : Heard). first_code heard.ended) (heard_none c.args.cat.now (texts_of c.args.script.now)));
 }

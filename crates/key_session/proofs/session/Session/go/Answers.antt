@@ -1,8 +1,11 @@
+use Rattle.std.proofs.Common.{◌+◌, ℕ, sym, subst}
+use Rattle.key_session.specs.Going.{CanRun}
+use Rattle.key_session.proofs.Stepping.{still_suffices}
 use Rattle.key_session.proofs.session.Session.go.Goals as goal
 
 pub returns-clause-live : goal.returns-clause-live
-returns-clause-live g c = λ told texts journal since now pool near live.
-    let moved = c.make_move-refusal.ensures.moved told texts journal since now pool c.args.self.now.teller near live.channel live.amid live.refusal_is in
+returns-clause-live g c = λ texts journal since sink near live.
+    let moved = c.make_move-refusal.ensures.moved texts journal since sink c.args.self.now.teller near live.channel live.amid live.refusal_is c.requires.can.run in
     record {
       made = moved.made;
       went = moved.went;
@@ -11,3 +14,12 @@ returns-clause-live g c = λ told texts journal since now pool near live.
       paced = c.moved.ensures.paced;
       live = record { channel = moved.channel; amid = moved.amid; refusal_is = moved.refusal_is };
     }
+
+pub make_move-refusal-requires-clause-some : goal.make_move-refusal-requires-clause-some
+make_move-refusal-requires-clause-some g c = record { teller = c.args.self.now.teller; move = c.requires.some }
+
+pub returns-clause-can : goal.returns-clause-can
+returns-clause-can g c = record {
+  suffices = still_suffices c.args.self.now.cat.now (g.F.Flash.state c.args.flash.now) (g.F.Flash.state c.make_move-refusal.new.flash) c.make_move-refusal.ensures.files.page_count c.requires.can.suffices;
+  run = subst (λ (lease : ℕ). CanRun g.F.Flash.told c.args.self.now.cat.now (g.F.Flash.state c.make_move-refusal.new.flash) c.make_move-refusal.new.pool (c.args.self.now.teller.count + 1) lease c.args.self.now.teller.running) (sym c.make_move-refusal.ensures.lease) (c.make_move-refusal.ensures.can c.args.self.now.teller c.requires.some c.requires.can.run);
+}

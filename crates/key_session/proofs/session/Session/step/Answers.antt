@@ -1,4 +1,4 @@
-use Rattle.std.proofs.Common.{◌≡◌, ◌≤◌, ◌<◌, ◌+◌, ◌∙◌, sym, ap, subst, arith, refl, Bool, true, false}
+use Rattle.std.proofs.Common.{◌≡◌, ◌+◌, ◌∙◌, sym, ap, subst, arith, refl, true, false}
 use Rattle.std.specs.Prelude.{is_some}
 use Rattle.ghost_model.specs.core.Asks.{asked_of}
 use Rattle.channel_pump.specs.Here.{moves_left}
@@ -10,11 +10,23 @@ use Rattle.key_session.specs.Order.{is_closed}
 use Rattle.key_session.specs.declared.pace.Due.{Due}
 use Rattle.key_session.specs.declared.teller.Teller.{Teller}
 use Rattle.key_session.proofs.Attending.{near_due, next_due}
-use Rattle.key_session.proofs.Stepping.{can_still}
+use Rattle.key_lines.specs.Handing.{handed}
 use Rattle.key_session.proofs.session.Session.step.Goals as goal
 
-pub returns-in-Move-clause-can : goal.returns-in-Move-clause-can
-returns-in-Move-clause-can g c = can_still g.F.Flash.told (g.F.Flash.state c.args.flash.now) c.args.pool.now c.args.self.now c.go.new.self c.go.ensures.cat c.go.ensures.teller c.requires.can
+pub go-requires-clause-some : goal.go-requires-clause-some
+go-requires-clause-some g c =
+    let some = c.requires.some in
+    let cat = c.args.self.now.cat.now in
+    record {
+      texts = some.texts;
+      journal = some.journal;
+      since = some.since;
+      sink = _;
+      near = near_due c.over_texts_are_settled.ensures c.texts_come_in_order.ensures c.texts_are_decided.ensures c.texts_have_outcomes.ensures cat c.args.self.now.at.now some.texts some.journal c.args.self.now.exchange.pump
+          c.args.self.now.teller c.args.self.now.pace.owed some.live.amid.going.telling.left_are (sym c.in-Move.is ∙ c.due.ensures.rule cat (asked_of cat.schema some.texts) some.journal some.live.channel.after);
+      channel = some.live.channel;
+      amid = some.live.amid;
+    }
 
 pub returns-in-Move-clause-live : goal.returns-in-Move-clause-live
 returns-in-Move-clause-live g c = λ texts journal since live.
@@ -22,17 +34,19 @@ returns-in-Move-clause-live g c = λ texts journal since live.
     let near = near_due c.over_texts_are_settled.ensures c.texts_come_in_order.ensures c.texts_are_decided.ensures c.texts_have_outcomes.ensures cat c.args.self.now.at.now texts journal c.args.self.now.exchange.pump
     c.args.self.now.teller c.args.self.now.pace.owed live.amid.going.telling.left_are (sym c.in-Move.is ∙ c.due.ensures.rule cat (asked_of cat.schema texts) journal live.channel.after) in
     ByMove (subst (λ (teller : Teller). WasMoved (WentBy (λ more. g.L.Link.went c.args.link.now more c.go.new.link) (g.L.Link.faults c.args.link.now) (g.L.Link.faults c.go.new.link)) g.F.Flash.told texts journal since
-    (session_side teller.printer.failed (g.O.Sink.faults c.args.out.now) (g.O.Sink.written c.args.out.now) (g.F.Flash.state c.args.flash.now)) c.args.pool.now c.args.self.now c.go.new.self) (sym c.go.ensures.teller)
-    (c.go.ensures.live g.F.Flash.told texts journal since (session_side c.args.self.now.teller.printer.failed (g.O.Sink.faults c.args.out.now) (g.O.Sink.written c.args.out.now) (g.F.Flash.state c.args.flash.now)) c.args.pool.now near live))
+    (session_side teller.printer.failed (g.O.Sink.faults c.args.out.now) (g.O.Sink.written c.args.out.now) (g.F.Flash.state c.go.new.flash)) c.go.new.pool c.args.self.now c.go.new.self) (sym c.go.ensures.teller)
+    (c.go.ensures.live texts journal since (handed c.args.self.now.teller.printer.failed (g.O.Sink.faults c.args.out.now) (g.O.Sink.written c.args.out.now)) near live))
 
 pub returns-in-Move-clause-made : goal.returns-in-Move-clause-made
 returns-in-Move-clause-made g c = λ catalog asks journal after.
     let less = c.go.ensures.fewer in
     let before = session_side c.args.self.now.teller.printer.failed (g.O.Sink.faults c.args.out.now) (g.O.Sink.written c.args.out.now) (g.F.Flash.state c.args.flash.now) in
-    subst (λ (due : Due). MadeStep due before (session_side c.go.new.self.teller.printer.failed (g.O.Sink.faults c.args.out.now) (g.O.Sink.written c.args.out.now) (g.F.Flash.state c.args.flash.now)) c.args.self.now c.go.new.self)
+    subst (λ (due : Due). MadeStep due before (session_side c.go.new.self.teller.printer.failed (g.O.Sink.faults c.args.out.now) (g.O.Sink.written c.args.out.now) (g.F.Flash.state c.go.new.flash)) c.args.self.now c.go.new.self)
     (sym c.in-Move.is ∙ c.due.ensures.rule catalog asks journal after)
     (record {
-      outside = ap (λ (teller : Teller). session_side teller.printer.failed (g.O.Sink.faults c.args.out.now) (g.O.Sink.written c.args.out.now) (g.F.Flash.state c.args.flash.now)) c.go.ensures.teller;
+      sink = ap (λ (teller : Teller). handed teller.printer.failed (g.O.Sink.faults c.args.out.now) (g.O.Sink.written c.args.out.now)) c.go.ensures.teller;
+      files = c.go.ensures.files;
+      few = c.go.ensures.few;
       teller = c.go.ensures.teller;
       fewer = omega (arith, less);
     })

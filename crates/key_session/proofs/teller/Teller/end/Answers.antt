@@ -1,4 +1,4 @@
-use Rattle.std.proofs.Common.{◌≡◌, ◌∷◌, ◌∙◌, ap, refl, sym, ℕ, List}
+use Rattle.std.proofs.Common.{◌∷◌, ◌∙◌, ap, refl, sym, ℕ, List}
 use Rattle.std.specs.Prelude.{is_some}
 use Rattle.key_session.proofs.Steps.{first_ahead, unbegun_same}
 use Rattle.key_session.proofs.teller.Teller.end.Goals as goal
