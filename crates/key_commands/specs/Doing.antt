@@ -153,7 +153,7 @@ pub record QueryDid (goes : Journal → Type 0) (link_before link_after : ℕ) (
   pub nothing_written : OnErr outcome (after.written ≡ before.written)
   pub sink_left : OnErr outcome (after.sink_faults ≡ before.sink_faults)
   pub no_deep_read : OnErr outcome (after.device.deep_reads ≡ before.device.deep_reads)
-  pub page : told ≡ true → after.device.page ≡ before.device.page
+  pub page : told ≡ true → OnErr outcome (after.device.page ≡ before.device.page)
   pub flash : outcome ≡ Err query_failure.Flash → Rose before.device.faults after.device.faults
   pub no_flash : IfErr outcome (λ fault. (fault ≡ query_failure.Flash → ⊥) → after.device.faults ≡ before.device.faults)
   pub depot : outcome ≡ Err query_failure.Depot → Rose before.depot_faults after.depot_faults

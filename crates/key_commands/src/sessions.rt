@@ -33,7 +33,7 @@ fn damage_line(
 /// The line of a flash that failed in a session.
 fn flash_line(alloc: Global, flash: &str) -> Result<String, AllocError> {
     format!(in alloc;
-        "{flash} could not always be read, and the texts that met that have the word flash, while the others are answered; see that the device can be read, and ask again"
+        "{flash} could not always be read or written, and the texts that met that have the word flash, while the others are answered; see that the device can be read and written, and ask again"
     )
 }
 

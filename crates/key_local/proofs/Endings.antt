@@ -6,14 +6,17 @@ use Rattle.ghost_model.specs.core.Causes.{Rose, last_count}
 use Rattle.ghost_model.specs.core.Channel.{Catalog, Journal}
 use Rattle.ghost_model.specs.core.Database.{IsDatabase}
 use Rattle.ghost_model.specs.forms.Flash.{HoldsFiles, HoldsFilesSoFar, Holds}
-use Rattle.ghost_model.specs.forms.Layout.{need}
+use Rattle.ghost_model.specs.forms.Layout.{need, static_end, public_pages}
+use Rattle.ghost_model.specs.laws.FlashLaws.{HoldingsAreKept}
+use Rattle.ghost_model.specs.laws.LayoutLaws.{LieInOrder}
+use Rattle.ghost_model.specs.laws.SchemaTrees.{IsTree}
 use Rattle.ghost_model.specs.core.Printed.{printed}
 use Rattle.ghost_model.specs.core.Schema.{Schema}
 use Rattle.ghost_model.specs.core.Split.{Hidden, hidden_of}
 use Rattle.ghost_model.specs.core.Texts.{texts_of}
 use Rattle.ghost_model.specs.core.Values.{Database}
 use Rattle.flash_build.specs.Building.{load_calls}
-use Rattle.edge_traits.specs.Devices.{Counts, KeepsPages}
+use Rattle.edge_traits.specs.Devices.{Device, Counts, ChangesOnly}
 use Rattle.edge_traits.specs.Written.{grown}
 use Rattle.key_inputs.specs.Openings.{Opening}
 use Rattle.key_words.specs.Words.{Local}
@@ -52,6 +55,14 @@ pub part_stands : (page : ℕ → List ℕ) (catalog : Catalog) (schema : Schema
 part_stands page catalog schema database hidden same is holds =
     subst (Holds page catalog) (is ∙ sym (ap (λ (c : Catalog). hidden_of c.schema database) same)) holds
 
+-- the catalog and the static files stay where only pages behind them change
+still_holds : HoldingsAreKept → (catalog : Catalog) (hidden : Hidden) → IsTree catalog.schema → LieInOrder catalog → (before after : Device) → ChangesOnly (static_end catalog) (need catalog) before after
+    → Holds before.page catalog hidden → Holds after.page catalog hidden
+still_holds laws catalog hidden tree order before after changes holds = record {
+  catalog = laws.catalog before.page after.page catalog (λ number from to. (changes.below number (omega (arith, to, order.some, order.static))).bytes) holds.catalog;
+  files = laws.files before.page after.page catalog hidden tree (λ number from to. (changes.below number (omega (arith, to, order.static))).bytes) holds.files;
+}
+
 -- column files and subtree key tables are among all files
 pub so_far : {page : ℕ → List ℕ} {catalog : Catalog} {hidden : Hidden} → HoldsFiles page catalog hidden → HoldsFilesSoFar page catalog hidden
 so_far holds = record { columns = holds.columns; subtrees = holds.subtrees }
@@ -78,9 +89,10 @@ pub ran_of : (told : Bool) (schema : Schema) (database : Database) (texts : List
     → HasLines middle.files words.journal []
     → middle.device.name ≡ Some words.flash → Counts (load_calls catalog (hidden_of schema database)) before.device.calls middle.device.calls
     → (told ≡ true → Holds middle.device.page catalog (hidden_of schema database))
-    → middle.device.page_count ≡ need catalog → KeepsPages middle.device after.device
+    → middle.device.page_count ≡ need catalog → ChangesOnly (static_end catalog) (need catalog) middle.device after.device
+    → HoldingsAreKept → IsTree catalog.schema → LieInOrder catalog
     → Ran told (subject schema database texts words) end before after
-ran_of told schema database texts words end catalog before middle after same ran faults appends sink written empty named counts there pages kept =
+ran_of told schema database texts words end catalog before middle after same ran faults appends sink written empty named counts there pages kept laws tree order =
     let mine : RanOver told (catalog_for schema database) database texts words.journal end middle after = subst (λ (c : Catalog). RanOver told c database texts words.journal end middle after) same ran in
     record {
       journal = mine.journal;
@@ -101,8 +113,8 @@ ran_of told schema database texts words end catalog before middle after same ran
           rose_after before.device.calls (load_calls (catalog_for schema database) (hidden_of schema database)) middle.device.calls after.device.calls built (mine.damage_called is);
       undamaged = mine.undamaged;
       damaged = mine.damaged;
-      holds = λ t. subst (λ (page : ℕ → List ℕ). Holds page (catalog_for schema database) (hidden_of schema database)) (sym kept.page)
-          (subst (λ (c : Catalog). Holds middle.device.page c (hidden_of schema database)) same (there t));
+      holds = λ t. subst (λ (c : Catalog). Holds after.device.page c (hidden_of schema database)) same
+          (still_holds laws catalog (hidden_of schema database) tree order middle.device after.device kept (there t));
       name = kept.name ∙ named;
       pages = kept.page_count ∙ (pages ∙ ap need same);
     }

@@ -10,7 +10,9 @@ use Rattle.ghost_model.specs.core.Printed.{printed}
 use Rattle.ghost_model.specs.core.Schema.{Schema}
 use Rattle.ghost_model.specs.core.Split.{hidden_of}
 use Rattle.ghost_model.specs.core.Values.{Database}
-use Rattle.edge_traits.specs.Devices.{Device, KeepsPages}
+use Rattle.ghost_model.specs.forms.Layout.{static_end, need}
+use Rattle.ghost_model.specs.laws.SchemaTrees.{IsTree}
+use Rattle.edge_traits.specs.Devices.{Device, ChangesOnly}
 use Rattle.edge_traits.specs.Files.{Files}
 use Rattle.edge_traits.specs.Written.{grown}
 use Rattle.session_laws.specs.Local.{IsLocal, IsUnbroken, LocalSessionsAreServed}
@@ -18,6 +20,7 @@ use Rattle.key_session.specs.Refusing.{first_code}
 use Rattle.key_session.specs.Running.{IsTally, status_of, blames_flash, is_sink as wrote_none, is_damaged as is_damage}
 use Rattle.key_session.specs.Telling.{SessionSide, AreTold}
 use Rattle.key_exec.specs.Blaming.{IsDamaged}
+use Rattle.key_exec.specs.Laws.{DamageStays}
 use Rattle.text_lines.specs.declared.damage.Damage.{Damage}
 use Rattle.key_session.specs.declared.tally.SessionStatus.{SessionStatus}
 use Rattle.key_session.specs.declared.tally.SessionStatus.TheVariants as status
@@ -63,19 +66,19 @@ gives_as schema database texts wrote failed before after same gives = record {
 
 -- a session was held to its end
 pub ran_over : (told : Bool) (catalog : Catalog) (database : Database) (texts : List (List ℕ)) (name : Option (List ℕ)) (end : LocalEnd) (tally : Tally) (before after : LocalSide) (journal : Journal)
-    → LocalSessionsAreServed → ToldTextsAreGiven
+    → LocalSessionsAreServed → ToldTextsAreGiven → DamageStays → IsTree catalog.schema
     → IsLocal catalog database [] texts journal → IsFinished journal
     → ((Rose before.append_faults after.append_faults → ⊥) → KeepsLines before.files after.files name journal)
     → (end ≡ ends.Ok → KeepsLines before.files after.files name journal)
     → (told ≡ true → AreTold catalog (hidden_of catalog.schema database) texts journal (length texts)
     (λ reasons. IsTally (wrote_none tally.status) (standing_after catalog (asked_of catalog.schema texts) journal) reasons tally) (session_side_in false before) (session_side_in (wrote_none tally.status) after))
     → GivesLines catalog texts journal (handed false before.sink_faults before.written) (handed (wrote_none tally.status) after.sink_faults after.written)
-    → ((damage : Damage) → tally.status ≡ status.Damaged damage → IsDamaged told before.device.page catalog damage.page damage.slot damage.found) → KeepsPages before.device after.device
+    → ((damage : Damage) → tally.status ≡ status.Damaged damage → IsDamaged told before.device.page catalog damage.page damage.slot damage.found) → ChangesOnly (static_end catalog) (need catalog) before.device after.device
     → is_sink end ≡ wrote_none tally.status → (end ≡ ends.Ok → tally.status ≡ status.Ok) → (end ≡ ends.Flash → blames_flash tally.status ≡ true)
     → (blames_flash tally.status ≡ true → Rose before.device.calls after.device.calls) → (is_damage tally.status ≡ true → Rose before.device.calls after.device.calls)
     → ((damage : Damage) → end ≡ ends.Damaged damage → tally.status ≡ status.Damaged damage)
     → RanOver told catalog database texts name end before after
-ran_over told catalog database texts name end tally before after journal served given is_local finished kept all_kept are_told lines blamed pages sink whole flash called read damaged =
+ran_over told catalog database texts name end tally before after journal served given stays_damaged tree is_local finished kept all_kept are_told lines blamed pages sink whole flash called read damaged =
     let unbroken = served catalog database [] texts journal is_local in
     let stays = going catalog database texts journal unbroken in
     let right = valid catalog database texts journal unbroken in
@@ -107,7 +110,8 @@ ran_over told catalog database texts name end tally before after journal served 
           let none_found : is_damage tally.status ≡ false = ap is_damage all.status_is ∙ no_damage (wrote_none tally.status) (standing_after catalog (asked_of catalog.schema texts) journal) (list_any is_cut all.gives.given) stays right none in
           false_is_not (sym none_found ∙ damage_found end tally.status damaged found));
       damaged = λ damage is.
-          subst (λ (pages : ℕ → List ℕ). IsDamaged told pages catalog damage.page damage.slot damage.found) (sym pages.page) (blamed damage (damaged damage is));
+          stays_damaged told before.device.page after.device.page catalog damage.page damage.slot damage.found tree
+          (λ number static. (pages.below number static).bytes) (blamed damage (damaged damage is));
     }
 
 -- and so over what the files and their counts are known to be

@@ -12,7 +12,6 @@ ghost use Rattle.session_laws.specs.Local.{holding_of};
 ghost use Rattle.edge_traits.specs.Files.{Files, AreSure};
 ghost use Rattle.ghost_model.specs.forms.Flash.{IsHidden};
 ghost use Rattle.page_pool.specs.Pools.{IsIdle};
-ghost use Rattle.session_replies.specs.Kept.{IsKept, none_heard};
 ghost use Rattle.key_words.specs.Views.{local_view};
 ghost use Rattle.key_inputs.specs.Openings.{InputFault, Spelled, Broken};
 ghost use Rattle.key_plain.specs.Openings.{PlainInput};
@@ -33,6 +32,8 @@ use edge_traits::depot::Depot;
 use edge_traits::flash::Flash;
 use edge_traits::mem_depot::MemDepot;
 use edge_traits::sink::Sink;
+use ghost_model::flash::holdings_are_kept;
+use ghost_model::layout::{catalogs_are_limited, files_lie_in_order};
 use key_words::LocalWords;
 use std::alloc::Global;
 
@@ -128,7 +129,6 @@ fn local_prepared<D: Depot, F: Flash, O: Sink>(
 ) -> Result<LocalEnd, LocalFailure>
     requires part { IsHidden prepared.cat prepared.hidden }
     requires few { length (texts_of script.now) ≤ 64 }
-    requires replies { IsKept prepared.cat (none_heard prepared.cat) 1 0 prepared.replies }
     requires idle { IsIdle prepared.pool }
     requires hosted { IsSomeHosted ⟦<MemDepot as Depot>⟧.contents ⟦<MemDepot as Depot>⟧.sure prepared.cat prepared.link }
     ensures ends { (schema : Schema) → (database : Database) → prepared.cat ≡ catalog_for schema database → prepared.hidden ≡ hidden_of schema database
@@ -150,20 +150,20 @@ fn local_prepared<D: Depot, F: Flash, O: Sink>(
     ensures flash { blames_flash result ≡ true → Rose (F.state flash.old).faults (F.state flash.new).faults }
     ensures no_flash { clears_flash result ≡ true → (F.state flash.new).faults ≡ (F.state flash.old).faults }
 {
+    files_lie_in_order();
+    holdings_are_kept();
+    catalogs_are_limited();
     let Prepared {
         cat,
         hidden,
         mut link,
-        replies,
         mut pool,
     } = prepared;
     match make_flash(alloc, &cat, hidden, flash, words.flash) {
         Err(fault) => Err(fault),
         Ok(()) => match begin_journal(words.journal, depot) {
             Err(_) => Err(LocalFailure::Depot),
-            Ok(()) => Ok(run(
-                &cat, script, words, &mut link, replies, &mut pool, depot, flash, out,
-            )),
+            Ok(()) => Ok(run(&cat, script, words, &mut link, &mut pool, depot, flash, out)),
         },
     }
 }

@@ -1,4 +1,4 @@
-//! What a session needs in memory: the parts of the tables, the host and its link, and the room for replies.
+//! What a session needs in memory: the parts of the tables, the host and its link, and the page buffers.
 
 ghost use Rattle.std.specs.Prelude.{◌≡◌, Some, IfOk, length};
 ghost use Rattle.ghost_model.specs.core.Channel as channel;
@@ -10,7 +10,6 @@ ghost use Rattle.session_laws.specs.Local.{holding_of};
 ghost use Rattle.edge_traits.specs.Files.{file_of};
 ghost use Rattle.ghost_model.specs.forms.Flash.{IsHidden};
 ghost use Rattle.page_pool.specs.Pools.{IsIdle};
-ghost use Rattle.session_replies.specs.Kept.{IsKept, none_heard};
 ghost use Rattle.key_words.specs.Blocks.{AreBuffers};
 ghost use Rattle.key_local.specs.Sessions.{catalog_for};
 ghost use Rattle.key_local.specs.Preparing.{IsSomeImage, IsHosted};
@@ -26,8 +25,6 @@ use host_exec::{BeginFault, Host};
 use key_inputs::Input;
 use local_links::host_link::HostLink;
 use page_pool::PagePool;
-use reply_store::ReplyStore;
-use session_replies::Replies;
 use std::alloc::{AllocError, Global};
 use tree_schema::Catalog;
 use tree_schema::catalog_bytes::a_catalog_is_short;
@@ -43,14 +40,13 @@ struct Parts {
     image: Vec<u8>,
 }
 
-/// The catalog and the hidden part of a database, the link to a host that holds its visible part, the room for replies, and
-/// the page buffers, of which none is out.
+/// The catalog and the hidden part of a database, the link to a host that holds its visible part, and the page buffers, of
+/// which none is out.
 #[derive(Drop)]
 pub(crate) struct Prepared {
     pub(crate) cat: Catalog,
     pub(crate) hidden: Hidden,
     pub(crate) link: HostLink<MemDepot>,
-    pub(crate) replies: Replies,
     pub(crate) pool: PagePool,
 }
 
@@ -107,15 +103,6 @@ fn link_over(alloc: Global, image: Vec<u8>) -> Result<HostLink<MemDepot>, AllocE
     }
 }
 
-/// Room for the replies of two texts, each for every row of every table.
-fn replies_for(alloc: Global, cat: &Catalog) -> Result<Replies, AllocError>
-    ensures kept { IfOk result (λ replies. IsKept cat.now (none_heard cat.now) 1 0 replies) }
-{
-    let even = ReplyStore::new(alloc, cat)?;
-    let odd = ReplyStore::new(alloc, cat)?;
-    Ok(Replies::new(even, odd))
-}
-
 /// Prepares a session over tables that were read, with so many page buffers, from 8 to 64.
 pub(crate) fn prepare(alloc: Global, input: Input, buffers: u32) -> Result<Prepared, AllocError>
     requires database { IsDatabase input.schema input.tables }
@@ -125,19 +112,16 @@ pub(crate) fn prepare(alloc: Global, input: Input, buffers: u32) -> Result<Prepa
     ensures hidden { IfOk result (λ prepared. prepared.hidden ≡ divided.hidden_of input.schema input.tables) }
     ensures part { IfOk result (λ prepared. IsHidden prepared.cat prepared.hidden) }
     ensures hosted { IfOk result (λ prepared. IsHosted ⟦<MemDepot as Depot>⟧.contents ⟦<MemDepot as Depot>⟧.sure (holding_of prepared.cat input.tables) prepared.link) }
-    ensures replies { IfOk result (λ prepared. IsKept prepared.cat (none_heard prepared.cat) 1 0 prepared.replies) }
     ensures idle { IfOk result (λ prepared. IsIdle prepared.pool) }
     ensures size { IfOk result (λ prepared. length prepared.pool.pages ≡ buffers) }
 {
     let Parts { cat, hidden, image } = parts_of(alloc, input)?;
     let link = link_over(alloc, image)?;
-    let replies = replies_for(alloc, &cat)?;
     let pool = PagePool::new(alloc, buffers)?;
     Ok(Prepared {
         cat,
         hidden,
         link,
-        replies,
         pool,
     })
 }

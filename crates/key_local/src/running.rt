@@ -8,10 +8,10 @@ ghost use Rattle.ghost_model.specs.core.Split.{hidden_of};
 ghost use Rattle.ghost_model.specs.core.Texts.{texts_of};
 ghost use Rattle.ghost_model.specs.core.Values.{Database};
 ghost use Rattle.session_laws.specs.Local.{holding_of};
-ghost use Rattle.edge_traits.specs.Devices.{KeepsPages};
+ghost use Rattle.ghost_model.specs.forms.Layout as layout;
+ghost use Rattle.edge_traits.specs.Devices.{ChangesOnly};
 ghost use Rattle.key_exec.specs.Plans.{Suffices};
 ghost use Rattle.page_pool.specs.Pools.{IsIdle};
-ghost use Rattle.session_replies.specs.Kept.{IsKept, none_heard};
 ghost use Rattle.local_links.specs.Keeping.{named};
 ghost use Rattle.key_words.specs.Views.{local_view};
 ghost use Rattle.key_session.specs.Running as session;
@@ -26,7 +26,8 @@ use edge_traits::depot::Depot;
 use edge_traits::flash::Flash;
 use edge_traits::mem_depot::MemDepot;
 use edge_traits::sink::Sink;
-use ghost_model::schema::schemas_are_trees;
+use ghost_model::layout::catalogs_are_limited;
+use key_exec::laws::knowledge_stays;
 use key_session::{Options, SessionStatus, run_session};
 use key_words::LocalWords;
 use local_lines::laws::told_texts_are_given;
@@ -35,7 +36,6 @@ use local_links::journaled::Journaled;
 use local_links::laws::{proper_journals_are_written, sessions_are_local};
 use page_pool::PagePool;
 use session_laws::local::local_sessions_are_served;
-use session_replies::Replies;
 use tree_schema::Catalog;
 use tree_schema::catalog_bytes::a_catalog_is_short;
 
@@ -72,7 +72,6 @@ fn hold<D: Depot, F: Flash, O: Sink>(
     cat: &Catalog,
     script: &[u8],
     words: &LocalWords<'_>,
-    replies: Replies,
     pool: &mut PagePool,
     flash: &mut F,
     link: &mut Journaled<'_, HostLink<MemDepot>, D>,
@@ -80,7 +79,6 @@ fn hold<D: Depot, F: Flash, O: Sink>(
 ) -> LocalEnd
     requires few { length (texts_of script.now) ≤ 64 }
     requires suffices { Suffices cat.now (F.state flash.old) }
-    requires replies { IsKept cat.now (none_heard cat.now) 1 0 replies }
     requires idle { IsIdle pool.old }
     requires going { link.old.failed ≡ false }
     requires hosted { IsSomeHosted ⟦<MemDepot as Depot>⟧.contents ⟦<MemDepot as Depot>⟧.sure cat.now link.old.link.now }
@@ -92,7 +90,7 @@ fn hold<D: Depot, F: Flash, O: Sink>(
         → RanOver F.told cat.now database (texts_of script.now) (named link.old) result
         (local_side (F.state flash.old) (D.contents link.old.depot.now) (D.append_faults link.old.depot.now) (O.faults out.old) (O.written out.old))
         (local_side (F.state flash.new) (D.contents link.new.depot.now) (D.append_faults link.new.depot.now) (O.faults out.new) (O.written out.new)) }
-    ensures pages { KeepsPages (F.state flash.old) (F.state flash.new) }
+    ensures pages { ChangesOnly (layout.static_end cat.now) (layout.need cat.now) (F.state flash.old) (F.state flash.new) }
     ensures others { SameBesides (named link.old) (D.contents link.old.depot.now) (D.contents link.new.depot.now) }
     ensures sink { is_sink result ≡ true → Rose (O.faults out.old) (O.faults out.new) }
     ensures no_sink { is_sink result ≡ false → O.faults out.new ≡ O.faults out.old }
@@ -104,17 +102,18 @@ fn hold<D: Depot, F: Flash, O: Sink>(
     ensures no_flash { clears_flash result ≡ true → (F.state flash.new).faults ≡ (F.state flash.old).faults }
 {
     a_catalog_is_short(cat);
-    schemas_are_trees();
+    catalogs_are_limited();
     sessions_are_local::<MemDepot>();
     proper_journals_are_written::<HostLink<MemDepot>, D>();
     local_sessions_are_served();
     told_texts_are_given();
+    knowledge_stays();
     let options = Options {
         at: "",
         plan: words.plan,
         pace: words.pace.as_slice(),
     };
-    let tally = run_session(cat, script, &options, replies, pool, flash, link, out);
+    let tally = run_session(cat, script, &options, pool, flash, link, out);
     end_of(tally.status, link.failed())
 }
 
@@ -124,7 +123,6 @@ pub(crate) fn run<D: Depot, F: Flash, O: Sink>(
     script: &[u8],
     words: &LocalWords<'_>,
     link: &mut HostLink<MemDepot>,
-    replies: Replies,
     pool: &mut PagePool,
     depot: &mut D,
     flash: &mut F,
@@ -132,7 +130,6 @@ pub(crate) fn run<D: Depot, F: Flash, O: Sink>(
 ) -> LocalEnd
     requires few { length (texts_of script.now) ≤ 64 }
     requires suffices { Suffices cat.now (F.state flash.old) }
-    requires replies { IsKept cat.now (none_heard cat.now) 1 0 replies }
     requires idle { IsIdle pool.old }
     requires hosted { IsSomeHosted ⟦<MemDepot as Depot>⟧.contents ⟦<MemDepot as Depot>⟧.sure cat.now link.old }
     ensures ran { (database : Database) → IsCatalogOf cat.now database
@@ -141,7 +138,7 @@ pub(crate) fn run<D: Depot, F: Flash, O: Sink>(
         → RanOver F.told cat.now database (texts_of script.now) (local_view words.now).journal result
         (local_side (F.state flash.old) (D.contents depot.old) (D.append_faults depot.old) (O.faults out.old) (O.written out.old))
         (local_side (F.state flash.new) (D.contents depot.new) (D.append_faults depot.new) (O.faults out.new) (O.written out.new)) }
-    ensures pages { KeepsPages (F.state flash.old) (F.state flash.new) }
+    ensures pages { ChangesOnly (layout.static_end cat.now) (layout.need cat.now) (F.state flash.old) (F.state flash.new) }
     ensures others { SameBesides (local_view words.now).journal (D.contents depot.old) (D.contents depot.new) }
     ensures sink { is_sink result ≡ true → Rose (O.faults out.old) (O.faults out.new) }
     ensures no_sink { is_sink result ≡ false → O.faults out.new ≡ O.faults out.old }
@@ -153,14 +150,5 @@ pub(crate) fn run<D: Depot, F: Flash, O: Sink>(
     ensures no_flash { clears_flash result ≡ true → (F.state flash.new).faults ≡ (F.state flash.old).faults }
 {
     let mut journaled = Journaled::new(link, depot, words.journal);
-    hold(
-        cat,
-        script,
-        words,
-        replies,
-        pool,
-        flash,
-        &mut journaled,
-        out,
-    )
+    hold(cat, script, words, pool, flash, &mut journaled, out)
 }

@@ -1,4 +1,4 @@
--- What a session is opened over: a script, a catalog whose pages the flash has, stores for the replies, and page buffers.
+-- What a session is opened over: a script, a catalog whose pages the flash has, and page buffers.
 use Rattle.std.specs.Prelude.{◌≡◌, ℕ, ◌≤◌, Bool, true, List, length, Option, Some}
 use Rattle.ghost_model.specs.core.Texts.{most_texts, texts_of}
 use Rattle.edge_traits.specs.Devices.{Device}
@@ -6,7 +6,6 @@ use Rattle.edge_traits.specs.Files.{Files}
 use Rattle.key_words.specs.Words.{Query}
 use Rattle.key_inputs.specs.Openings.{Spelled}
 use Rattle.key_inputs.specs.Scripts.{script_opening}
-use Rattle.session_replies.specs.Kept.{IsKept, none_heard}
 use Rattle.page_pool.specs.Pools.{IsIdle}
 use Rattle.key_exec.specs.Plans.{Suffices}
 use Rattle.key_query.specs.PublicPages.{HasCatalog}
@@ -22,7 +21,6 @@ pub record IsOpened (told : Bool) (words : Query) (contents : Option Files) (dev
   pub name : device.name ≡ Some words.flash
   pub catalog : told ≡ true → HasCatalog device opened.cat
   pub suffices : Suffices opened.cat device
-  pub stores : IsKept opened.cat (none_heard opened.cat) 1 0 opened.replies
   -- so many page buffers as the words say, of which none is out
   pub buffers : length opened.pool.pages ≡ words.buffers
   pub idle : IsIdle opened.pool

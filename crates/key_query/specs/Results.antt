@@ -3,9 +3,9 @@ use Rattle.std.specs.Prelude.{◌≡◌, ℕ, ◌≤◌, ◌<◌, Bool, true, fa
 use Rattle.ghost_model.specs.core.Causes.{Rose}
 use Rattle.ghost_model.specs.core.Channel.{Catalog, Journal}
 use Rattle.ghost_model.specs.forms.Catalog.{IsCatalog}
-use Rattle.ghost_model.specs.forms.Layout.{need}
+use Rattle.ghost_model.specs.forms.Layout.{static_end, need}
 use Rattle.ghost_model.specs.core.Texts.{texts_of}
-use Rattle.edge_traits.specs.Devices.{Device, KeepsPages}
+use Rattle.edge_traits.specs.Devices.{Device, ChangesOnly}
 use Rattle.edge_traits.specs.Files.{Files}
 use Rattle.key_words.specs.Words.{Query}
 use Rattle.key_inputs.specs.Openings.{Spelled, Broken}
@@ -42,7 +42,8 @@ pub record Runs (goes : Journal → Type 0) (link_before link_now : ℕ) (told :
   pub ran : HasRun goes link_before link_now told cat words.to (texts_of script) (record before { flash = opened }) now tally
   pub answered : AnswersWhereSound told cat (texts_of script) ran.journal (record before { flash = opened }) now tally
   pub texts : tally.texts ≡ length (texts_of script)
-  pub kept : KeepsPages opened now.flash
+  -- only pages behind the static ones changed, to which the replies are written
+  pub kept : ChangesOnly (static_end cat) (need cat) opened now.flash
   -- the flash is blamed, or a slot of it, only for a call of the session
   pub called : blames_flash tally.status ≡ true → Rose opened.calls now.flash.calls
   pub damage_called : is_damaged tally.status ≡ true → Rose opened.calls now.flash.calls

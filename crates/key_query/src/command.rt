@@ -27,8 +27,8 @@ use std::alloc::Global;
 use tree_schema::catalog_bytes::a_catalog_is_short;
 
 /// Does the command `query`: reads the script, attaches the flash, reads the catalog on its public pages, and takes the
-/// memory for two texts' replies and, last, for the page buffers of `--buffers`. Then it runs the session of the script with the host at the address of `--to`, and
-/// prints the lines of each text.
+/// memory for the page buffers of `--buffers`. Then it runs the session of the script with the host at the address of `--to`,
+/// which writes the replies to the flash's spool, and prints the lines of each text.
 ///
 /// After an error no move was made on the link, nothing was printed, and no page past the public ones was read. Once the
 /// session is begun no memory is taken, and no file is read.
@@ -57,7 +57,7 @@ pub fn query<D: Depot, F: Flash, L: Link, O: Sink>(
     ensures nothing_written { OnErr result (O.written out.new ≡ O.written out.old) }
     ensures sink_left { OnErr result (O.faults out.new ≡ O.faults out.old) }
     ensures no_deep_read { OnErr result ((F.state flash.new).deep_reads ≡ (F.state flash.old).deep_reads) }
-    ensures page { F.told ≡ true → (F.state flash.new).page ≡ (F.state flash.old).page }
+    ensures page { F.told ≡ true → OnErr result ((F.state flash.new).page ≡ (F.state flash.old).page) }
     ensures flash { result ≡ Err failure.Flash → Rose (F.state flash.old).faults (F.state flash.new).faults }
     ensures no_flash { IfErr result (λ fault. (fault ≡ failure.Flash → ⊥) → (F.state flash.new).faults ≡ (F.state flash.old).faults) }
     ensures flash_faults { min (F.state flash.old).faults last_count ≤ (F.state flash.new).faults }
@@ -75,7 +75,6 @@ pub fn query<D: Depot, F: Flash, L: Link, O: Sink>(
             let Opened {
                 script,
                 cat,
-                replies,
                 mut pool,
             } = opened;
             a_catalog_is_short(&cat);
@@ -84,9 +83,7 @@ pub fn query<D: Depot, F: Flash, L: Link, O: Sink>(
                 plan: words.plan,
                 pace: words.pace.as_slice(),
             };
-            Ok(run_session(
-                &cat, &script, &options, replies, &mut pool, flash, link, out,
-            ))
+            Ok(run_session(&cat, &script, &options, &mut pool, flash, link, out))
         }
         Err(failure) => Err(failure),
     }

@@ -9,7 +9,7 @@ use thiserror::Error;
 /// Why no session was begun.
 #[derive(Clone, Copy, Debug, Drop, Error)]
 pub enum QueryFailure {
-    /// There was no memory for the script, for what is known of the flash, or for the replies.
+    /// There was no memory for the script, for what is known of the flash, or for the page buffers.
     #[error("out of memory")]
     NoMemory,
 

@@ -7,7 +7,6 @@ ghost use Rattle.edge_traits.specs.Files.{Files, AreSure};
 ghost use Rattle.key_words.specs.Views.{query_view};
 ghost use Rattle.key_inputs.specs.Openings.{Spelled, Missing};
 ghost use Rattle.key_inputs.specs.Scripts.{script_opening};
-ghost use Rattle.session_replies.specs.Kept.{IsKept, none_heard};
 ghost use Rattle.page_pool.specs.Pools.{IsIdle};
 ghost use Rattle.key_exec.specs.Plans.{Suffices};
 ghost use Rattle.key_query.specs.Openings.{IsOpened};
@@ -23,9 +22,7 @@ use flash_layout::need;
 use key_inputs::open_script;
 use key_words::QueryWords;
 use page_pool::PagePool;
-use reply_store::ReplyStore;
-use session_replies::Replies;
-use std::alloc::{AllocError, Global};
+use std::alloc::Global;
 use tree_schema::Catalog;
 use tree_schema::catalog_bytes::a_catalog_is_short;
 
@@ -36,8 +33,6 @@ pub(crate) struct Opened {
     pub(crate) script: Vec<u8>,
     /// The catalog of the flash.
     pub(crate) cat: Catalog,
-    /// The stores of the replies, still empty.
-    pub(crate) replies: Replies,
     /// The page buffers, of which none is out.
     pub(crate) pool: PagePool,
 }
@@ -93,30 +88,6 @@ fn open_flash<F: Flash>(alloc: Global, name: &str, flash: &mut F) -> Result<Cata
     }
 }
 
-/// Two stores without replies, each with room for all rows of all tables.
-fn empty_replies(alloc: Global, cat: &Catalog) -> Result<Replies, AllocError>
-    ensures stores { IfOk result (λ replies. IsKept cat.now (none_heard cat.now) 1 0 replies) }
-{
-    let even = ReplyStore::new(alloc, cat)?;
-    let odd = ReplyStore::new(alloc, cat)?;
-    Ok(Replies::new(even, odd))
-}
-
-/// The memory of a session: the stores of the replies, and last the page buffers, so many as the words say.
-fn memory_for(
-    alloc: Global,
-    cat: &Catalog,
-    words: &QueryWords<'_>,
-) -> Result<(Replies, PagePool), AllocError>
-    ensures stores { IfOk result (λ memory. IsKept cat.now (none_heard cat.now) 1 0 memory.0) }
-    ensures idle { IfOk result (λ memory. IsIdle memory.1) }
-    ensures buffers { IfOk result (λ memory. length memory.1.pages ≡ words.now.buffers) }
-{
-    let replies = empty_replies(alloc, cat)?;
-    let pool = PagePool::new(alloc, words.buffers)?;
-    Ok((replies, pool))
-}
-
 /// Opens a session over a script that was read.
 fn open_over<F: Flash>(
     alloc: Global,
@@ -127,7 +98,6 @@ fn open_over<F: Flash>(
     ensures script { IfOk result (λ opened. opened.script ≡ script) }
     ensures catalog { IfOk result (λ opened. F.told ≡ true → HasCatalog (F.state flash.new) opened.cat) }
     ensures suffices { IfOk result (λ opened. Suffices opened.cat (F.state flash.new)) }
-    ensures stores { IfOk result (λ opened. IsKept opened.cat (none_heard opened.cat) 1 0 opened.replies) }
     ensures idle { IfOk result (λ opened. IsIdle opened.pool) }
     ensures buffers { IfOk result (λ opened. length opened.pool.pages ≡ words.now.buffers) }
     ensures named { IfOk result (λ opened. (F.state flash.new).name ≡ Some words.now.flash.now) }
@@ -141,21 +111,15 @@ fn open_over<F: Flash>(
     ensures attached { Rose (F.state flash.old).calls (F.state flash.new).calls }
 {
     match open_flash(alloc, words.flash, flash) {
-        Ok(cat) => match memory_for(alloc, &cat, words) {
-            Ok((replies, pool)) => Ok(Opened {
-                script,
-                cat,
-                replies,
-                pool,
-            }),
+        Ok(cat) => match PagePool::new(alloc, words.buffers) {
+            Ok(pool) => Ok(Opened { script, cat, pool }),
             Err(_) => Err(QueryFailure::NoMemory),
         },
         Err(fault) => Err(fault),
     }
 }
 
-/// Opens a session: reads the script, attaches the flash, reads its catalog, and takes the memory for the replies and, last,
-/// for the page buffers.
+/// Opens a session: reads the script, attaches the flash, reads its catalog, and takes the memory for the page buffers last.
 pub(crate) fn open<D: Depot, F: Flash>(
     alloc: Global,
     words: &QueryWords<'_>,

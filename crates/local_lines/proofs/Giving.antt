@@ -14,7 +14,7 @@ use Rattle.ghost_model.specs.core.Channel.{Catalog, Journal}
 use Rattle.ghost_model.specs.core.NextMove.{Standing}
 use Rattle.ghost_model.specs.core.Split.{hidden_of}
 use Rattle.ghost_model.specs.core.Lines.{Reason, WasRefused, WasBroken, WasAnswered, MetFault, OnFlash, OnDamage, AreLinesFor, ended_of, all_done, rows_from_replies, session_text}
-use Rattle.key_session.specs.Counting.{is_flash, is_damage}
+use Rattle.key_session.specs.Counting.{is_flash, is_damage, is_broken}
 use Rattle.key_lines.specs.Handing.{Hands}
 use Rattle.key_session.specs.Telling.{SessionSide, TextTold, IsTold, AreTold, reasons_of, bytes_of, bytes_told}
 use Rattle.key_session.specs.Running.{IsTally, status_of}
@@ -157,6 +157,22 @@ module _ (catalog : Catalog) (database : Database) (texts : List (List ℕ)) (jo
       same_some : (a b : List ℕ) (o : Option (List ℕ)) → o ≡ Some a → o ≡ Some b → a ≡ b
       same_some a b o e f = cc
 
+  -- no text's asks were broken off
+  unbroken :
+      (place : ℕ) (written : List ℕ) (lines : List (List ℕ)) (reason : Reason) → slice_get texts place ≡ Some written
+      → AreLinesFor reason (session_text catalog (hidden_of catalog.schema database) texts journal (suc place) written) lines → is_broken reason ≡ false
+  unbroken place written lines WasRefused here are = refl
+  unbroken place written lines WasBroken here are = absurd (false_is_not (sym are.broken ∙ done place written are.query here are.accepted))
+  unbroken place written lines WasAnswered here are = refl
+  unbroken place written lines (MetFault fault) here are = refl
+
+  none_broken : (told : List TextTold) → ((place : ℕ) (one : TextTold) → slice_get told place ≡ Some one → is_broken one.reason ≡ false)
+      → list_any is_broken (reasons_of told) ≡ false
+  none_broken [] each = refl
+  none_broken (one ∷ told) each =
+      ap (λ (v : Bool). v || list_any is_broken (reasons_of told)) (each 0 one refl)
+      ∙ none_broken told (λ place other stands. each (suc place) other stands)
+
   given_texts : (told : List TextTold) → length told ≡ length texts
       → ((place : ℕ) (one : TextTold) → slice_get told place ≡ Some one → IsTold catalog (hidden_of catalog.schema database) texts journal place one)
       → AreTextLines catalog.schema database texts (all_told told)
@@ -179,7 +195,10 @@ module _ (catalog : Catalog) (database : Database) (texts : List (List ℕ)) (jo
           lines = given_texts are.told are.as_many are.each;
           handed_on = subst (λ (bytes : List ℕ). Hands bytes since.sink now.sink) (sym (same_bytes are.told)) are.handed_on;
           blamed = rw (same_count are.told) are.blamed;
-          unblamed = λ none. are.unblamed (sym (same_any are.told) ∙ none);
+          unblamed = λ none. are.unblamed (sym (same_any are.told) ∙ none)
+              (none_broken are.told (λ place one stands.
+              let is : IsTold catalog (hidden_of catalog.schema database) texts journal place one = are.each place one stands in
+              unbroken place is.written one.lines one.reason is.stands is.lines_are));
         };
         status_is = are.counted.status_is ∙ ap (status_of failed session) (sym (same_any are.told));
       }

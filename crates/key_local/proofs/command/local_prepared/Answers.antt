@@ -23,6 +23,7 @@ returns-clause-ends g c = λ schema database same hidden stored hosted.
     (made.no_flash (λ e. let bad : ⊥ = cc in bad)) c.begin_journal.ensures.appends refl refl c.in-Ok-begin_journal.ensures.begun made.named
     (subst (λ (part : Hidden). Counts (load_calls cat part) (g.F.Flash.state c.args.flash.now).calls (g.F.Flash.state c.make_flash.new.flash).calls) hidden made.exact)
     (λ t. subst (Holds page cat) hidden (made.holds t)) made.pages c.run.ensures.pages
+    c.holdings_are_kept.ensures (c.catalogs_are_limited.ensures cat stored.proper).tree (c.files_lie_in_order.ensures cat)
 
 pub returns-clause-others : goal.returns-clause-others
 returns-clause-others g c = besides_joined _ _ _ _ c.begin_journal.ensures.others c.run.ensures.others
