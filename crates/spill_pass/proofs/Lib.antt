@@ -23,3 +23,4 @@ pub mod ReduceSteps
 pub mod PassContents
 pub mod PlacedContents
 pub mod ReduceContents
+pub mod Calls

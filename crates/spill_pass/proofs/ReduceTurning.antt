@@ -221,7 +221,7 @@ products p k left q m rest fewer most less = let all : (p + 1) * k ≤ q * m = m
 pub passed_less :
     {told : Bool} {before now : Device} {later : Pool} (pool : Pool) (source rest : Source) (areas : Areas) (old new begun : Groups) (was : Bool) (placed : PlacedLists) (calls first fan : ℕ)
     → PassEnds before now old new placed calls → IsNextPass areas placed first → new.into.rows ≡ old.into.rows
-    → PassedOn told now later rest areas new begun fan first placed.places.count
+    → PassedOn told now later rest areas new begun fan first placed
     → reduce_left later rest areas begun false < reduce_left pool source areas old was
 passed_less {later = later} pool source rest areas old new begun was placed calls first fan ends next rows on =
     let rank = ranks areas placed first old.size ends.half next in

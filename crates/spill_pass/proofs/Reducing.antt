@@ -172,7 +172,7 @@ pub passed_on :
     → CanPassOn device pool source areas old placed fan → IsNextPass areas placed first → IsForPlaces areas places → places ≢ placed.places.first
     → ReadsPlaced placed reader → AreOut pool (pass_held source old) → PassesOver pool later source (source_of reader) old new
     → IsBegun first places old.into.rows placed.places.count old.into.writer.lease old.places.lease new → IsGrouping told device later new
-    → PassedOn told device later (source_of reader) areas old new fan first placed.places.count
+    → PassedOn told device later (source_of reader) areas old new fan first placed
 passed_on {told = told} {device = device} {pool = pool} {later = later} source reader areas old new placed first fan places can next for_places differs reads are over begun grouping =
     let rest = source_of reader in
     let few = few_lists placed.places.count old.size can.half in
@@ -229,6 +229,8 @@ passed_on {told = told} {device = device} {pool = pool} {later = later} source r
         for_places = subst D (sym begun.places) for_places;
       };
       left = omega (arith, hand, no_read, no_list, counts, ids, can.ids, reads.at, reads.next);
+      ids = omega (arith, hand, begun.written, ids);
+      calls = omega (arith, no_read, counts, begun.size);
       rows = over.rows;
       size = begun.size;
       area = begun.lists;

@@ -7,6 +7,7 @@ pub mod Grouping
 pub mod Sources
 pub mod PlaceLaws
 pub mod Passing
+pub mod Calls
 pub mod Reducing
 pub mod Listings
 pub mod PassContents

@@ -12,6 +12,7 @@ use Rattle.spill_pass.specs.declared.groups.PlacedLists.{PlacedLists}
 use Rattle.spill_pass.specs.declared.reduce.Areas.{Areas}
 use Rattle.spill_pass.specs.Grouping.{AreApart, AreRunsOf, lists_at_hand}
 use Rattle.spill_pass.specs.Merging.{IsArea, MadeAtMost, area_pages}
+use Rattle.spill_pass.specs.Calls.{ids_in_pass, pass_calls, pass_calls_left}
 use Rattle.spill_pass.specs.Passing.{IsPassing, MadeFew, PassEnds, pass_held, pass_left}
 use Rattle.spill_pass.specs.Sources.{Source, UsesOutside}
 
@@ -92,11 +93,13 @@ pub record IsNextPass (areas : Areas) (placed : PlacedLists) (first : ℕ) : Typ
   pub many : (2 ≤ placed.places.count) ⊎ ((placed.lists.first ≢ areas.to) × (first ≡ areas.to))
 
 -- the next pass is begun
-pub record PassedOn (told : Bool) (now : Device) (later : Pool) (rest : Source) (areas : Areas) (old new : Groups) (fan first count : ℕ) : Type 0 where
+pub record PassedOn (told : Bool) (now : Device) (later : Pool) (rest : Source) (areas : Areas) (old new : Groups) (fan first : ℕ) (placed : PlacedLists) : Type 0 where
   pub reducing : IsReducing told now later rest areas new fan false
-  pub left : pass_left later rest new false ≤ 6 * count + 2 * old.into.rows + 1
+  pub left : pass_left later rest new false ≤ 6 * placed.places.count + 2 * old.into.rows + 1
+  pub ids : ids_in_pass rest new ≤ placed.lists.count
+  pub calls : pass_calls_left later rest new ≤ pass_calls new.size (ids_in_pass rest new)
   pub rows : new.into.rows ≡ old.into.rows
-  pub size : new.size ≡ count
+  pub size : new.size ≡ placed.places.count
   pub area : new.into.writer.filler.first ≡ first
 
 -- there is more to do, after at least one call
@@ -139,7 +142,7 @@ pub record PassesOver (pool later : Pool) (source rest : Source) (old new : Grou
 pub record PassesTo (told : Bool) (now : Device) (later : Pool) (rest : Source) (areas : Areas) (old new : Groups) (placed : PlacedLists) (fan : ℕ) : Type 0 where
   pub first : ℕ
   pub next : IsNextPass areas placed first
-  pub passed : PassedOn told now later rest areas old new fan first placed.places.count
+  pub passed : PassedOn told now later rest areas old new fan first placed
 
 -- what a turn leaves where there is more to do, after so many calls
 pub record ReduceTurned (told : Bool) (before now : Device) (pool later : Pool) (source rest : Source) (areas : Areas) (old new : Groups) (fan : ℕ) (was merging : Bool) (calls : ℕ) : Type 0 where
