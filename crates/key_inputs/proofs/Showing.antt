@@ -1,5 +1,5 @@
 -- What an error shows of a table's file, by where its fault stands.
-use Rattle.std.proofs.Common.{◌≡◌, ℕ, List, [], ◌∷◌, Option, Some, None, refl, sym, ap, ◌∙◌, subst, map as each}
+use Rattle.std.proofs.Common.{◌≡◌, ℕ, zero, suc, ◌<◌, arith, List, [], ◌∷◌, length, Option, Some, None, Result, Ok, Err, IfOk, refl, sym, ap, ◌∙◌, subst, map as each}
 use Rattle.std.specs.FinMap as map
 use Rattle.ghost_model.specs.core.Schema.{Schema, columns_of}
 use Rattle.ghost_model.specs.readings.SchemaReading.{schema_reading}
@@ -10,7 +10,7 @@ use Rattle.edge_traits.specs.Files.{Files}
 use Rattle.key_inputs.specs.Openings.{TableRule, table_file}
 use Rattle.key_inputs.specs.Rules.{table_rule}
 use Rattle.key_inputs.specs.Views.{TellsRule, AreFiles, rule_in, rule_or, name_at}
-use Rattle.key_inputs.specs.Naming.{IsNamedBy, IsShownBy, IsSpelledIn, OfTable, OfField, OfKey, OfRecord, ShowsField, ShowsKey, TellsLine}
+use Rattle.key_inputs.specs.Naming.{IsLineOf, IsNamedBy, IsShownBy, IsSpelledIn, OfTable, OfField, OfKey, OfRecord, ShowsField, ShowsKey, TellsLine}
 use Rattle.csv_split.specs.declared.faults.Place.{Place}
 use Rattle.key_inputs.specs.declared.shown.Shown.{Shown}
 use Rattle.key_inputs.specs.declared.broken_table.BrokenTable.{BrokenTable}
@@ -113,18 +113,18 @@ same_files (x ∷ one) (y ∷ other) h =
 
 broken_key : (files : Files) (folder : List ℕ) (schema : Schema) (read : List (List ℕ)) (tables : Database) (told : BrokenTable)
     → AreFiles files folder schema read → tables ≡ database_of schema read → IsOfKey (table_rule told)
-    → IsNamedBy schema told → OfKey (ShowsKey tables) told → IsShownBy files folder schema told
-broken_key files folder schema read tables (broken.FileLimit named) are is of names shows = absurd of
-broken_key files folder schema read tables (broken.Header named) are is of names shows = absurd of
-broken_key files folder schema read tables (broken.RowLimit named) are is of names shows = absurd of
-broken_key files folder schema read tables (broken.FieldCount named) are is of names shows = absurd of
-broken_key files folder schema read tables (broken.BadId field value) are is of names shows = absurd of
-broken_key files folder schema read tables (broken.BadInt field value) are is of names shows = absurd of
-broken_key files folder schema read tables (broken.BadChars field value) are is of names shows = absurd of
-broken_key files folder schema read tables (broken.BadReference field child value) are is of names shows = record {
+    → IsNamedBy schema told → OfKey (ShowsKey tables) told → OfRecord (IsLineOf files folder schema) told → IsShownBy files folder schema told
+broken_key files folder schema read tables (broken.FileLimit named) are is of names shows lines = absurd of
+broken_key files folder schema read tables (broken.Header named) are is of names shows lines = absurd of
+broken_key files folder schema read tables (broken.RowLimit named) are is of names shows lines = absurd of
+broken_key files folder schema read tables (broken.FieldCount named) are is of names shows lines = absurd of
+broken_key files folder schema read tables (broken.BadId field value) are is of names shows lines = absurd of
+broken_key files folder schema read tables (broken.BadInt field value) are is of names shows lines = absurd of
+broken_key files folder schema read tables (broken.BadChars field value) are is of names shows lines = absurd of
+broken_key files folder schema read tables (broken.BadReference field child value) are is of names shows lines = record {
   names = names;
   value = tt;
-  line = tt;
+  line = lines;
   key = λ other there.
       let same : read ≡ other = same_files read other (sym are ∙ there) in
       subst (λ (database : Database). ShowsKey database field.at value) (is ∙ ap (database_of schema) same) shows;
@@ -133,14 +133,34 @@ broken_key files folder schema read tables (broken.BadReference field child valu
 -- the error of foreign keys
 pub shown_of_keys : (files : Files) (folder : List ℕ) (schema : Schema) (read : List (List ℕ)) (tables : Database) (error : OpenFault)
     → AreFiles files folder schema read → tables ≡ database_of schema read → TellsRule (rule_in error) (load.reference_faults schema tables)
-    → OfTable (IsNamedBy schema) error → OfTable (OfKey (ShowsKey tables)) error → OfTable (IsShownBy files folder schema) error
-shown_of_keys files folder schema read tables open_fault.NoMemory are is rule names shows = tt
-shown_of_keys files folder schema read tables open_fault.Depot are is rule names shows = tt
-shown_of_keys files folder schema read tables (open_fault.Input fault.SchemaBytes) are is rule names shows = tt
-shown_of_keys files folder schema read tables (open_fault.Input (fault.Schema other)) are is rule names shows = tt
-shown_of_keys files folder schema read tables (open_fault.Input (fault.Table one)) are is rule names shows =
+    → OfTable (IsNamedBy schema) error → OfTable (OfKey (ShowsKey tables)) error → OfTable (OfRecord (IsLineOf files folder schema)) error
+    → OfTable (IsShownBy files folder schema) error
+shown_of_keys files folder schema read tables open_fault.NoMemory are is rule names shows lines = tt
+shown_of_keys files folder schema read tables open_fault.Depot are is rule names shows lines = tt
+shown_of_keys files folder schema read tables (open_fault.Input fault.SchemaBytes) are is rule names shows lines = tt
+shown_of_keys files folder schema read tables (open_fault.Input (fault.Schema other)) are is rule names shows lines = tt
+shown_of_keys files folder schema read tables (open_fault.Input (fault.Table one)) are is rule names shows lines =
     let same : rule.0 ≡ table_rule one = (let h = rule.1 in cc (h)) in
     broken_key files folder schema read tables one are is
-    (subst IsOfKey same (of_keys schema tables rule.0 rule.2)) names shows
-shown_of_keys files folder schema read tables (open_fault.Input fault.ScriptBytes) are is rule names shows = tt
-shown_of_keys files folder schema read tables (open_fault.Input fault.ScriptTexts) are is rule names shows = tt
+    (subst IsOfKey same (of_keys schema tables rule.0 rule.2)) names shows lines
+shown_of_keys files folder schema read tables (open_fault.Input fault.ScriptBytes) are is rule names shows lines = tt
+shown_of_keys files folder schema read tables (open_fault.Input fault.ScriptTexts) are is rule names shows lines = tt
+
+-- the file of a table was read, and is there
+pub file_is_there : (files : Files) (folder : List ℕ) (schema : Schema) (read : List (List ℕ)) (table : ℕ) → AreFiles files folder schema read
+    → table < length schema → (file : List ℕ) × (map.get files (table_file folder (name_at schema table)) ≡ Some file)
+file_is_there files folder [] read table are within = absurd (omega (arith, within))
+file_is_there files folder (declared ∷ schema) [] table are within = absurd (cc (are))
+file_is_there files folder (declared ∷ schema) (file ∷ read) zero are within = (file, cc (are))
+file_is_there files folder (declared ∷ schema) (file ∷ read) (suc table) are within =
+    file_is_there files folder schema read table (cc (are)) (omega (arith, within))
+
+-- the line at a place is told of a fault that stands there
+pub line_of_place : (files : Files) (folder : List ℕ) (schema : Schema) (place : Place) (stands : Option Place) → stands ≡ Some place
+    → (result : Result (Option ℕ) OpenFault) → IfOk result (IsLineOf files folder schema place)
+    → IfOk result (λ line. (at : Place) → stands ≡ Some at → IsLineOf files folder schema at line)
+line_of_place files folder schema place stands here (Ok line) tells = λ (at : Place) (is : stands ≡ Some at).
+    let both : Some place ≡ Some at = sym here ∙ is in
+    let same : place ≡ at = cc (both) in
+    subst (λ one. IsLineOf files folder schema one line) same tells
+line_of_place files folder schema place stands here (Err fault) tells = tt

@@ -8,7 +8,7 @@ use Rattle.ghost_model.specs.refusals.LoadFaults as load
 use Rattle.ghost_model.proofs.MeaningLemmas.OneRow.{both_true}
 use Rattle.ghost_model.specs.core.Values.{Database}
 use Rattle.ghost_model.specs.core.Database.{database_of}
-use Rattle.key_inputs.specs.Openings.{InputFault, Opening, Spelled, Broken, TablesInput, unless_broken, after_tables}
+use Rattle.key_inputs.specs.Openings.{InputFault, Opening, Spelled, Broken, Missing, TablesInput, unless_broken, after_tables}
 use Rattle.key_inputs.specs.declared.faults.OpenFault.{OpenFault}
 use Rattle.key_inputs.specs.Views.{TellsRule, IsBroken, rule_or}
 
@@ -54,3 +54,7 @@ pub keys_are_told : (schema : Schema) (read : List (List ℕ)) (tables : Databas
 keys_are_told schema read tables rule is h =
     subst (λ (database : Database). IsBroken {X = TablesInput} (unless_broken (Spelled (record { schema = schema; files = read })) (load.reference_faults schema database)) rule) is
     (broken_by (Spelled (record { schema = schema; files = read })) rule (load.reference_faults schema tables) h)
+
+-- nothing is missing where a read that goes well is said to fail
+pub never_missing : {X : Type 0} (opening : Opening X) → ⊥ → opening ≡ Missing
+never_missing opening failed = absurd failed

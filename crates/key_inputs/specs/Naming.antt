@@ -92,7 +92,7 @@ OfField says (broken.BadInt field value) = says field.at value
 OfField says (broken.BadChars field value) = says field.at value
 OfField says _ = ⊤
 
--- what is said of a record's place and of the line that is told, where the fault is found in the file
+-- what is said of a record's place and of the line that is told, where a record breaks a rule
 abbrev pub OfRecord : (Place → Option ℕ → Type 0) → BrokenTable → Type 0
 OfRecord says (broken.FileLimit named) = ⊤
 OfRecord says (broken.Header named) = says named.at named.line
@@ -101,7 +101,7 @@ OfRecord says (broken.FieldCount named) = says named.at named.line
 OfRecord says (broken.BadId field value) = says field.at field.line
 OfRecord says (broken.BadInt field value) = says field.at field.line
 OfRecord says (broken.BadChars field value) = says field.at field.line
-OfRecord says (broken.BadReference field child value) = ⊤
+OfRecord says (broken.BadReference field child value) = says field.at field.line
 
 -- what is said of a foreign key's place and of the value that is shown
 abbrev pub OfKey : (Place → Shown → Type 0) → BrokenTable → Type 0
@@ -119,6 +119,11 @@ ShowsField file at value = value ≢ Unread → option_map shown (field_at file 
 -- a line that is told is the one on which the record begins
 abbrev pub TellsLine : (file : List ℕ) → Place → Option ℕ → Type 0
 TellsLine file at line = IfSome line (BeginsOn file at.rec)
+
+-- a line that is told is that of the record in its table's file, which lies in a folder
+abbrev pub IsLineOf : Files → (folder : List ℕ) → Schema → Place → Option ℕ → Type 0
+IsLineOf files folder schema at line =
+    (file : List ℕ) → map.get files (table_file folder (name_at schema at.table)) ≡ Some file → TellsLine file at line
 
 -- the value is that of a row of the tables, a number in decimal
 abbrev pub ShowsKey : Database → Place → Shown → Type 0
@@ -160,8 +165,7 @@ pub record IsShownBy (files : Files) (folder : List ℕ) (schema : Schema) (told
   pub names : IsNamedBy schema told
   pub value : OfField (λ at value. (file : List ℕ) → map.get files (table_file folder (name_at schema at.table)) ≡ Some file
       → ShowsField file at value) told
-  pub line : OfRecord (λ at line. (file : List ℕ) → map.get files (table_file folder (name_at schema at.table)) ≡ Some file
-      → TellsLine file at line) told
+  pub line : OfRecord (IsLineOf files folder schema) told
   pub key : OfKey (λ at value. (read : List (List ℕ)) → AreFiles files folder schema read
       → ShowsKey (database_of schema read) at value) told
 

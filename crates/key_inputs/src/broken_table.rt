@@ -53,8 +53,7 @@ pub struct FieldNamed {
     /// The name of the column.
     pub column: Shown,
 
-    /// The line of the file, from 1, on which its record begins; none where it was not found again, as that of a foreign
-    /// key is not.
+    /// The line of the file, from 1, on which its record begins; none where it was not found again.
     pub line: Option<u32>,
 }
 

@@ -34,16 +34,23 @@ pub(crate) fn fault_of_file(
     }
 }
 
-/// What a fault of the foreign keys of tables is to the input. The tables show the key that breaks the rule.
-pub(crate) fn fault_of_keys(schema: &Schema, tables: &Tables, fault: LoadFault) -> OpenFault
+/// What a fault of the foreign keys of tables is to the input, told with the line of its record. The tables show the key that
+/// breaks the rule.
+pub(crate) fn fault_of_keys(
+    schema: &Schema,
+    tables: &Tables,
+    fault: LoadFault,
+    line: Option<u32>,
+) -> OpenFault
     ensures rule { rule_in result ≡ rule_or (told fault) }
     ensures not_depot { result ≡ OpenFault.Depot → ⊥ }
     ensures names { OfTable (IsNamedBy schema.now) result }
     ensures value { OfTable (OfKey (ShowsKey tables.now)) result }
+    ensures line { OfTable (OfRecord (IsIn fault line)) result }
 {
     match place_of(&fault) {
-        Some(at) => with_names(schema, fault, value_in(tables, &at), None),
-        None => with_names(schema, fault, Shown::Unread, None),
+        Some(at) => with_names(schema, fault, value_in(tables, &at), line),
+        None => with_names(schema, fault, Shown::Unread, line),
     }
 }
 
@@ -58,7 +65,7 @@ fn line_of_fault(alloc: Global, file: &[u8], fault: &LoadFault) -> Option<u32>
 }
 
 /// Where the record of a fault stands.
-fn record_of(fault: &LoadFault) -> Option<Place>
+pub(crate) fn record_of(fault: &LoadFault) -> Option<Place>
     ensures place { result ≡ record_place fault.now }
 {
     match fault {

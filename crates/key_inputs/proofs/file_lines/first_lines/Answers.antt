@@ -1,4 +1,4 @@
-use Rattle.std.proofs.Common.{arith, ◌≡◌, ℕ, ◌+◌, ◌-◌, ◌++◌, ◌∙◌, ap, take, drop, slice_index}
+use Rattle.std.proofs.Common.{arith, ◌≡◌, ℕ, ◌+◌, ◌++◌, ◌∙◌, ap, take, drop, slice_index}
 use Rattle.key_inputs.specs.FileLines.{first_lines}
 use Rattle.key_inputs.proofs.FileLineLemmas.{lines_done, file_done, lines_after, next_byte, after_end, after_other}
 use Rattle.key_inputs.proofs.file_lines.first_lines.Goals as goal
