@@ -1,7 +1,5 @@
-//! The clinic: its catalog, asks for its tables, and a device that has its hidden columns.
+//! The clinic: its catalog, and a device that has its hidden columns.
 
-use arrayvec::ArrayVec;
-use channel_codec::ask::Ask;
 use edge_traits::flash::{AttachFault, Flash};
 use edge_traits::mem_flash::MemFlash;
 use std::alloc::Global;
@@ -24,17 +22,6 @@ const COLUMNS: [(u32, &[u8]); 5] = [
         b"\x80\0\0\0\0\0\0\x01\x80\0\0\0\0\0\0\x02\x80\0\0\0\0\0\0\x01\x80\0\0\0\0\0\0\x02",
     ),
 ];
-
-/// An ask for a table's first column after the identifier.
-pub(crate) fn ask_for(table: u8) -> Ask {
-    let mut columns = ArrayVec::new();
-    let _ = columns.try_push(1);
-    Ask {
-        table,
-        columns,
-        tests: ArrayVec::new(),
-    }
-}
 
 /// A page that begins with these bytes.
 fn page_of(front: &[u8]) -> [u8; 2048] {

@@ -1,11 +1,9 @@
-//! Tests of the crates of a session: the plain answer, the asks of a script, the printed lines, the kept replies, the key's
-//! answer and whole sessions, each shown by a worked example over the clinic, and `local` over tables of many pages.
+//! Tests of the crates of a session: the plain answer, the asks of a script, the printed lines, the key's answer and whole
+//! sessions, each shown by a worked example over the clinic, and `local` over tables of many pages.
 #![tactic(auto)]
 
 #[cfg(test)]
 mod clinic;
-#[cfg(test)]
-mod kept_replies;
 #[cfg(test)]
 mod key_answers;
 #[cfg(test)]

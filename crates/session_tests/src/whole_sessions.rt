@@ -1,6 +1,6 @@
 //! A session over the clinic's flash, with a link, a device and an output in memory.
 
-use crate::clinic::{CATALOG, device};
+use crate::clinic::{CATALOG, device, failing_device};
 use edge_traits::flash::{AttachFault, Flash};
 use edge_traits::mem_link::{MemLink, Room};
 use edge_traits::mem_sink::MemSink;
@@ -9,8 +9,6 @@ use flash_layout::need;
 use key_session::{Options, SessionStatus, run_session};
 use leakless_plan::Plan;
 use page_pool::PagePool;
-use reply_store::ReplyStore;
-use session_replies::Replies;
 use spj_parse::text_count;
 use std::alloc::{AllocError, Global};
 use tree_schema::read_catalog;
@@ -90,20 +88,66 @@ fn a_session_is_told_alike_however_its_stream_is_cut(rt: HostRuntime) -> Result<
         };
         let mut link = MemLink::new(rt.alloc(), room, &peer, &[])?;
         let mut out = MemSink::new(rt.alloc(), 200, 99, &[])?;
-        let replies = Replies::new(
-            ReplyStore::new(rt.alloc(), &cat)?,
-            ReplyStore::new(rt.alloc(), &cat)?,
-        );
         let mut pool = PagePool::new(rt.alloc(), 8)?;
         assert!(rt; need(&cat) <= flash.pages());
         let tally = run_session(
-            &cat, SCRIPT, &options, replies, &mut pool, &mut flash, &mut link, &mut out,
+            &cat, SCRIPT, &options, &mut pool, &mut flash, &mut link, &mut out,
         );
         assert!(rt; tally.texts == 4 && tally.refused == 1 && tally.faulted == 0);
         assert!(rt; matches!(&tally.status, SessionStatus::Ok));
         assert!(rt; out.bytes() == LINES.as_bytes());
         let journal = link.journal().expect(&rt, "the moves");
         assert!(rt; journal.bytes == moved.as_slice());
+    }
+    Ok(())
+}
+
+/// A call on the device, whether it writes a row of a reply or reads one or a column, fails in one text at most.
+#[test]
+fn each_call_that_fails_is_told(rt: HostRuntime) -> Result<(), AttachFault> {
+    let cat = read_catalog(CATALOG).expect(&rt, "the catalog");
+    assert!(rt; text_count(SCRIPT) <= 64);
+    let said = wire(rt.alloc(), false)?;
+    let pace = [0u16];
+    let options = Options {
+        at: "h",
+        plan: Plan::Scan,
+        pace: &pace,
+    };
+    for call in 2..60u64 {
+        let mut flash = failing_device(rt.alloc(), &[call])?;
+        assert!(rt; need(&cat) <= flash.pages());
+        let peer = PeerScript {
+            bytes: &said,
+            pieces: &[],
+            ports: &[],
+        };
+        let room = Room {
+            moves: 600,
+            bytes: 2_000,
+        };
+        let mut link = MemLink::new(rt.alloc(), room, &peer, &[])?;
+        let mut out = MemSink::new(rt.alloc(), 200, 99, &[])?;
+        let mut pool = PagePool::new(rt.alloc(), 8)?;
+        let tally = run_session(
+            &cat, SCRIPT, &options, &mut pool, &mut flash, &mut link, &mut out,
+        );
+        let fails = call <= flash.script.calls;
+        assert!(rt;
+            matches!(&tally.status, SessionStatus::Flash) == fails,
+            "{call}"
+        );
+        assert!(rt;
+            matches!(&tally.status, SessionStatus::Ok) != fails,
+            "{call}"
+        );
+        assert!(rt;
+            tally.texts == 4 && tally.refused == 1 && (tally.faulted == 1) == fails,
+            "{call}"
+        );
+        for _ in 0..8u32 {
+            assert!(rt; pool.lease().is_some(), "{call}");
+        }
     }
     Ok(())
 }
