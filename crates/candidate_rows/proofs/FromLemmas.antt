@@ -3,15 +3,16 @@ use Rattle.std.proofs.Common.{◌≡◌, ◌∙◌, ℕ, zero, suc, ◌-◌, ◌
 use Rattle.std.specs.List.{list_all, list_any}
 use Rattle.std.proofs.lemmas.Bool.{eqb-true, eqb-false}
 use Rattle.std.proofs.lemmas.Bool.Decides.{nat_tests}
-use Rattle.std.proofs.lemmas.List.{get_or-set_same, get_or-set_other, length-set}
+use Rattle.std.proofs.lemmas.List.{get_or-set_same, get_or-set_other, length-map, length-set}
 use Rattle.ghost_model.specs.core.Schema.{Schema, parent, ancestor, is_visible, first_of}
 use Rattle.ghost_model.specs.core.Values.{Row, Database}
 use Rattle.ghost_model.specs.core.Channel.{Catalog}
-use Rattle.ghost_model.specs.core.Database.{row_of, rows_of, reference_column}
+use Rattle.ghost_model.specs.core.Database.{row_counts, row_of, rows_of, reference_column}
 use Rattle.ghost_model.specs.core.Query.{Query, Field, Condition, Compare, Join, is_among, top_of}
 use Rattle.ghost_model.specs.core.Meaning.{compares}
 use Rattle.ghost_model.specs.core.Replies.{Reply}
-use Rattle.ghost_model.specs.forms.Layout.{count_of}
+use Rattle.ghost_model.specs.forms.Layout.{count_of, descendants_of}
+use Rattle.ghost_model.specs.laws.LayoutLaws.{LevelsAreAncestors}
 use Rattle.ghost_model.specs.laws.SchemaTrees.{IsTree}
 use Rattle.ghost_model.specs.laws.QueryLaws.{OneReading}
 use Rattle.ghost_model.specs.laws.MeaningLaws.{IsAtOrBelow, LeadsFollowKeys, RowsLeadToRows}
@@ -31,16 +32,19 @@ use Rattle.candidate_rows.specs.declared.plan.Test.{Test}
 use Rattle.candidate_rows.specs.declared.plan.Check.{Check}
 use Rattle.candidate_rows.specs.declared.plan.Check.TheVariants.{Stands, Holds}
 use Rattle.candidate_rows.specs.declared.plan.RowPlan.{RowPlan}
+use Rattle.candidate_rows.specs.declared.plan.SubtreeFile.{SubtreeFile}
+use Rattle.candidate_rows.specs.declared.next.Next.TheVariants as next
 use Rattle.candidate_rows.specs.declared.next.Follow.{Follow}
 use Rattle.candidate_rows.specs.declared.work.RowWork.{RowWork}
 use Rattle.candidate_rows.specs.declared.plan.Known.{Known}
 use Rattle.candidate_rows.specs.Orders.{is_look_up, looks_up}
-use Rattle.candidate_rows.specs.Plans.{IsPlanOf, Suffices, IsHop, IsHopOrNone, AreHops, test_meets, check_meets, is_asked, is_tested, is_shown_of, is_compared_of}
-use Rattle.candidate_rows.specs.Working.{Knows, StandsFor, IsWorking, IsRowOf, IsLedTo, passes, told, look_of, way_to, along_hop, from_row, is_replied}
+use Rattle.candidate_rows.specs.Plans.{IsPlan, Suffices, IsHop, IsHopOrNone, AreHops, HasWays, test_meets, check_meets, conditions_tested, has_below, is_asked, is_below_top, is_tested, is_shown_of, is_compared_of, needs_below}
+use Rattle.candidate_rows.specs.Working.{Knows, StandsFor, IsWorking, IsRowOf, IsLedTo, IsSifted, HasKeysBut, passes, told, look_of, reached_at, way_to, way_by, along_hop, from_row, go_on, spread_from, is_replied}
 use Rattle.candidate_rows.specs.Steps.{row_known}
-use Rattle.candidate_rows.specs.Laws.{TestsAreThoseOfAnswers}
+use Rattle.candidate_rows.specs.Laws.{TestsAreThoseOfAnswers, RowsSiftedOutAreNoAnswers, RowsThatStandNotAreNoAnswers}
 use Rattle.candidate_rows.proofs.StepLemmas.{IsNowhere, Wanted, tested, selected, known_at, sought_new, searching_new}
-use Rattle.candidate_rows.proofs.TellLemmas.{holds_at_place}
+use Rattle.candidate_rows.proofs.SubtreeLemmas.{below_there, has_descendant, some_among}
+use Rattle.candidate_rows.proofs.TellLemmas.{conditions_pass, holds_at_place}
 use Rattle.candidate_rows.proofs.ValueLemmas.{seen}
 
 -- ---- lists
@@ -141,7 +145,7 @@ unlooked_meet table (test ∷ tests) none =
         ∙ ap not (sym (ap (λ c. is_look_up c && nat_eq test.known.field.table table) e) ∙ h)
     by (Holds operator literal) e h = ap (check_meets (λ t. not (nat_eq t table)) (λ _. true) test.known.field) e
 
-module _ (cat : Catalog) (asked : Query) (plan : RowPlan) (plan_is : IsPlanOf cat asked plan) (text : List ℕ) (read : IsMeant cat.schema text asked)
+module _ (cat : Catalog) (asked : Query) (plan : RowPlan) (plan_is : IsPlan cat asked plan) (text : List ℕ) (read : IsMeant cat.schema text asked)
     (tree : IsTree cat.schema) (one : OneReading) (accepted : AcceptedQueriesAreFollowed) where
   follows : IsFollowed cat.schema read.meant plan.top
   follows =
@@ -167,8 +171,9 @@ module _ (cat : Catalog) (asked : Query) (plan : RowPlan) (plan_is : IsPlanOf ca
       ∙ ap₂ (λ a b. a && b)
       (all_each (is_among asked.from) (filter (is_asked cat.schema asked) asked.from)
       (λ x a. among_is x asked.from (from_filter (is_asked cat.schema asked) x asked.from a).0))
+      (conditions_pass cat.schema asked (is_from asked.from) plan.sifted
       (all_each (is_from asked.from) (filter (is_tested cat.schema) asked.conditions)
-      (λ c a. pass_each (is_from asked.from) asked.conditions conditions_from c (from_filter (is_tested cat.schema) c asked.conditions a).0))
+      (λ c a. pass_each (is_from asked.from) asked.conditions conditions_from c (from_filter (is_tested cat.schema) c asked.conditions a).0)))
 
   test_from : (test : Test) → test_meets (is_among asked.from) (is_from asked.from) test ≡ true → is_among asked.from test.known.field.table ≡ true
   test_from test met = by test.check refl
@@ -197,7 +202,7 @@ module _ (cat : Catalog) (asked : Query) (plan : RowPlan) (plan_is : IsPlanOf ca
       ap (λ b. b || list_any (is_compared_of cat.schema table) asked.conditions) (any_at (is_shown_of cat.schema table) asked.select place at.field at.there shown) in
       let among : is_among asked.from table ≡ true = ap (is_among asked.from) (sym same) ∙ selected_from place at.field at.there in
       let missed = plan_is.tests (λ t. not (nat_eq t table)) (λ _. true)
-      ∙ ap (λ b. b && list_all (λ _. true) (filter (is_tested cat.schema) asked.conditions)) (unmet_among (is_asked cat.schema asked) table asked.from among is) in
+      ∙ ap (λ b. b && list_all (λ _. true) (conditions_tested cat.schema asked plan.sifted)) (unmet_among (is_asked cat.schema asked) table asked.from among is) in
       by table (list_any (looks_up table) plan.tests.items) refl missed
     where
       by : (table : ℕ) (b : Bool) → list_any (looks_up table) plan.tests.items ≡ b → list_all (test_meets (λ t. not (nat_eq t table)) (λ _. true)) plan.tests.items ≡ false → b ≡ true
@@ -219,7 +224,7 @@ module _ (cat : Catalog) (asked : Query) (plan : RowPlan) (plan_is : IsPlanOf ca
   -- ---- the tests are those of the answer
 
   module _ (page : ℕ → List ℕ) (database : Database) (half : Half) (given : List Reply) (identifier : ℕ) (knows : Knows page cat asked database half given)
-      (row : IsRowOf cat plan.top identifier) (keys : LeadsFollowKeys cat.schema database) where
+      (row : IsRowOf cat plan.top identifier) (sifted : IsSifted cat asked database given identifier plan) (keys : LeadsFollowKeys cat.schema database) where
     row_there : (place : ℕ) → place < count_of cat plan.top → (r : Row) × (row_of database plan.top (suc place) ≡ Some r)
     row_there place low =
         let size = ap (λ (ns : List ℕ). slice_index ns plan.top) (sym knows.counts) ∙ count_there database plan.top in
@@ -250,6 +255,14 @@ module _ (cat : Catalog) (asked : Query) (plan : RowPlan) (plan_is : IsPlanOf ca
         (shown (is_visible cat.schema field.table field.column) e)
     untested_holds (Join one other) e = refl
 
+    -- the conditions of which there are tests hold exactly where all of the key's do
+    conditions_along : (b : Bool)
+        → (b ≡ true → list_all (holds_or_asked_along cat.schema (known_along cat.schema database given plan.top identifier)) (filter (is_tested cat.schema) asked.conditions) ≡ true)
+        → list_all (holds_or_asked_along cat.schema (known_along cat.schema database given plan.top identifier)) (conditions_tested cat.schema asked b)
+        ≡ list_all (holds_or_asked_along cat.schema (known_along cat.schema database given plan.top identifier)) (filter (is_tested cat.schema) asked.conditions)
+    conditions_along true held = sym (held refl)
+    conditions_along false held = refl
+
     pub same_row : row_known cat asked database given identifier plan
         ≡ (if list_all (passes cat.schema database given plan.top identifier) plan.tests.items
         then told (known_along cat.schema database given plan.top identifier) asked.select ∷ [] else [])
@@ -259,11 +272,64 @@ module _ (cat : Catalog) (asked : Query) (plan : RowPlan) (plan_is : IsPlanOf ca
         sym (ap (λ b. if b then told (known_along cat.schema database given plan.top identifier) asked.select ∷ [] else [])
         (plan_is.tests stands holds
         ∙ ap₂ (λ a b. a && b) (all_filtered stands (is_asked cat.schema asked) asked.from unasked_stands)
-        (all_filtered holds (is_tested cat.schema) asked.conditions (λ c a e. untested_holds c e))))
+        (conditions_along plan.sifted sifted
+        ∙ all_filtered holds (is_tested cat.schema) asked.conditions (λ c a e. untested_holds c e))))
 
 pub tests_are : OneReading → AcceptedQueriesAreFollowed → RowsLeadToRows → TestsAreThoseOfAnswers
-tests_are one accepted rows page cat asked database half given identifier plan knows plan_is row =
-    same_row cat asked plan plan_is knows.text knows.meant knows.tree one accepted page database half given identifier knows row (rows cat.schema database knows.tree knows.is)
+tests_are one accepted rows page cat asked database half given identifier plan knows plan_is row sifted =
+    same_row cat asked plan plan_is knows.text knows.meant knows.tree one accepted page database half given identifier knows row sifted (rows cat.schema database knows.tree knows.is)
+
+-- ---- rows that are not in the answer
+
+-- what not all of some elements pass, not all elements do
+filter_fails : {X : Type 0} (p q : X → Bool) (xs : List X) → list_all p (filter q xs) ≡ false → list_all p xs ≡ false
+filter_fails p q [] e = e
+filter_fails p q (x ∷ xs) e = by (q x) (filter_fails p q xs) e
+  where
+    later : (a b : Bool) → b ≡ false → (a && b) ≡ false
+    later true b e = e
+    later false b e = refl
+
+    here : (a b c : Bool) → (b ≡ false → c ≡ false) → (a && b) ≡ false → (a && c) ≡ false
+    here true b c rest h = rest h
+    here false b c rest h = refl
+
+    by : (b : Bool) → (list_all p (filter q xs) ≡ false → list_all p xs ≡ false) → list_all p (if b then x ∷ filter q xs else filter q xs) ≡ false
+        → (p x && list_all p xs) ≡ false
+    by true rest h = here (p x) (list_all p (filter q xs)) (list_all p xs) rest h
+    by false rest h = later (p x) (list_all p xs) (rest h)
+
+among_fails : (p : ℕ → Bool) (tables : List ℕ) (table : ℕ) → is_among tables table ≡ true → p table ≡ false → list_all p tables ≡ false
+among_fails p [] table e h = absurd (cc (e))
+among_fails p (first ∷ tables) table e h = by (nat_eq first table) refl (λ a. among_fails p tables table a h) e
+  where
+    later : (a b : Bool) → b ≡ false → (a && b) ≡ false
+    later true b e = e
+    later false b e = refl
+
+    by : (b : Bool) → nat_eq first table ≡ b → (is_among tables table ≡ true → list_all p tables ≡ false) → (b || is_among tables table) ≡ true
+        → (p first && list_all p tables) ≡ false
+    by true same rest a = ap (λ b. b && list_all p tables) (ap p (eqb-true first table same) ∙ h)
+    by false same rest a = later (p first) (list_all p tables) (rest a)
+
+pub sifted_out : RowsSiftedOutAreNoAnswers
+sifted_out cat asked database given identifier plan fails =
+    let holds = holds_or_asked_along cat.schema (known_along cat.schema database given plan.top identifier) in
+    ap (λ b. if list_all (stands_along cat.schema database given plan.top identifier) asked.from && b
+    then told (known_along cat.schema database given plan.top identifier) asked.select ∷ [] else [])
+    (filter_fails holds (is_tested cat.schema) asked.conditions fails)
+    ∙ ap (λ b. if b then told (known_along cat.schema database given plan.top identifier) asked.select ∷ [] else [])
+    (none (list_all (stands_along cat.schema database given plan.top identifier) asked.from))
+  where
+    none : (b : Bool) → (b && false) ≡ false
+    none true = refl
+    none false = refl
+
+pub stands_not : RowsThatStandNotAreNoAnswers
+stands_not cat asked database given identifier table plan among fails =
+    let holds = holds_or_asked_along cat.schema (known_along cat.schema database given plan.top identifier) in
+    ap (λ b. if b && list_all holds asked.conditions then told (known_along cat.schema database given plan.top identifier) asked.select ∷ [] else [])
+    (among_fails (stands_along cat.schema database given plan.top identifier) asked.from table among fails)
 
 -- ---- there is a way to each table that is tested or selected of
 
@@ -312,34 +378,106 @@ way_there cat hops reached top identifier are here (suc steps) (suc most) table 
         let both = follow_none table hop (get_or reached hop.above None) (way_to hops reached most hop.above) h in
         rest hop.above (subst (λ t. ancestor cat.schema steps t ≡ Some top) same a) both.0 both.1
 
-pub nowhere_never : OneReading → AcceptedQueriesAreFollowed → (page : ℕ → List ℕ) (cat : Catalog) (asked : Query) (database : Database) (half : Half) (given : List Reply) (identifier : ℕ) (plan : RowPlan) (work : RowWork)
-    → Knows page cat asked database half given → IsPlanOf cat asked plan → StandsFor page cat asked database half given identifier plan work → IsNowhere plan work → ⊥
-nowhere_never one accepted page cat asked database half given identifier plan work knows plan_is stands is =
-    let below = wanted_below cat asked plan plan_is knows.text knows.meant knows.tree one accepted work is.table is.wanted in
-    by below.0 below.1
+index_within : (counts : List ℕ) (table identifier : ℕ) → 1 ≤ identifier → identifier ≤ slice_index counts table → table < length counts
+index_within [] table identifier some within = absurd (omega (arith, some, within))
+index_within (count ∷ counts) zero identifier some within = omega arith
+index_within (count ∷ counts) (suc table) identifier some within = let later = index_within counts table identifier some within in omega (arith, later)
+
+go_none : (way : Option Follow) → go_on way ≡ next.Nowhere → way ≡ None
+go_none None e = refl
+go_none (Some follow) e = absurd (cc (e))
+
+never_from : (is_below : Bool) (identifier : ℕ) → spread_from is_below (Some identifier) ≡ next.Nowhere → is_below ≡ false
+never_from false identifier e = refl
+never_from true identifier e = absurd (cc (e))
+
+-- what is needed of another table than the top one is found
+apart_from_top : (table top : ℕ) → (table ≡ top → ⊥) → not (nat_eq table top) ≡ true
+apart_from_top table top apart = by (nat_eq table top) refl
   where
-    by : (steps : ℕ) → ancestor cat.schema steps is.table ≡ Some plan.top → ⊥
-    by zero up = way_there cat plan.hops.items work.reached plan.top identifier plan_is.hops stands.top 0 12 is.table up is.unreached (omega arith) is.no_way
-    by (suc steps) up =
+    by : (b : Bool) → nat_eq table top ≡ b → not b ≡ true
+    by true e = absurd (apart (eqb-true table top e))
+    by false e = refl
+
+or_left : (a b : Bool) → a ≡ true → (a || b) ≡ true
+or_left true b e = refl
+or_left false b e = cc
+
+or_right : (a b : Bool) → b ≡ true → (a || b) ≡ true
+or_right true b e = refl
+or_right false b e = e
+
+wanted_needs : (plan : RowPlan) (work : RowWork) (table : ℕ) → Wanted plan work table → (table ≡ plan.top → ⊥)
+    → needs_below plan.top plan.tests.items plan.select.items ≡ true
+wanted_needs plan work table (tested test there e) apart =
+    or_left (list_any (λ one. is_below_top plan.top one.known) plan.tests.items) (list_any (is_below_top plan.top) plan.select.items)
+    (any_at (λ one. is_below_top plan.top one.known) plan.tests.items work.at test there (ap (λ t. not (nat_eq t plan.top)) e ∙ apart_from_top table plan.top apart))
+wanted_needs plan work table (selected known there e) apart =
+    or_right (list_any (λ one. is_below_top plan.top one.known) plan.tests.items) (list_any (is_below_top plan.top) plan.select.items)
+    (any_at (is_below_top plan.top) plan.select.items work.put known there (ap (λ t. not (nat_eq t plan.top)) e ∙ apart_from_top table plan.top apart))
+
+pub nowhere_never : OneReading → AcceptedQueriesAreFollowed → LevelsAreAncestors → (page : ℕ → List ℕ) (cat : Catalog) (asked : Query) (database : Database) (half : Half) (given : List Reply) (identifier : ℕ) (plan : RowPlan) (work : RowWork)
+    → Knows page cat asked database half given → IsPlan cat asked plan → StandsFor page cat asked database half given identifier plan work → IsNowhere plan work → ⊥
+nowhere_never one accepted levels page cat asked database half given identifier plan work knows plan_is stands is =
+    let below = wanted_below cat asked plan plan_is knows.text knows.meant knows.tree one accepted work is.table is.wanted in
+    by plan.keys refl plan_is.ways below.0 below.1
+  where
+    clash : {A : Type 0} {o : Option A} {x : A} → o ≡ Some x → o ≡ None → ⊥
+    clash s n = cc
+
+    no_both : {b : Bool} → b ≡ true → b ≡ false → ⊥
+    no_both t f = cc
+
+    apart : is.table ≡ plan.top → ⊥
+    apart same = clash stands.top (ap (reached_at work) (sym same) ∙ is.unreached)
+
+    by_hops : AreHops cat plan.hops.items → (steps : ℕ) → ancestor cat.schema steps is.table ≡ Some plan.top → way_to plan.hops.items work.reached 12 is.table ≡ None → ⊥
+    by_hops hops zero up none = way_there cat plan.hops.items work.reached plan.top identifier hops stands.top 0 12 is.table up is.unreached (omega arith) none
+    by_hops hops (suc steps) up none =
         let above = first_step cat.schema steps plan.top is.table up in
         let there = table_with_parent cat.schema knows.tree is.table above.0 above.1 in
         let short = way_is_short cat.schema knows.tree (suc steps) plan.top is.table there up in
         let few = knows.tree.few_tables in
-        way_there cat plan.hops.items work.reached plan.top identifier plan_is.hops stands.top (suc steps) 12 is.table up is.unreached (omega (arith, short, few)) is.no_way
+        way_there cat plan.hops.items work.reached plan.top identifier hops stands.top (suc steps) 12 is.table up is.unreached (omega (arith, short, few)) none
+
+    -- a table that is not the top one is among those below it
+    among : (steps : ℕ) → ancestor cat.schema steps is.table ≡ Some plan.top → is_among (descendants_of cat.schema plan.top) is.table ≡ true
+    among zero up = absurd (apart (sym (no_step cat.schema plan.top is.table up)))
+    among (suc steps) up =
+        let above = first_step cat.schema steps plan.top is.table up in
+        has_descendant levels cat.schema knows.tree steps plan.top is.table (table_with_parent cat.schema knows.tree is.table above.0 above.1) up
+
+    -- so there are such tables
+    has : (steps : ℕ) → ancestor cat.schema steps is.table ≡ Some plan.top → has_below cat.schema plan.top ≡ true
+    has steps up =
+        let here = index_within cat.counts plan.top identifier stands.row.some stands.row.within in
+        let counts : length (row_counts database) ≡ length cat.counts = ap length knows.counts in
+        below_there cat.schema plan.top (omega (arith, here, counts, knows.is.tables, length-map database (λ (rows : List Row). length rows)))
+        (some_among (descendants_of cat.schema plan.top) is.table (among steps up))
+
+    by : (found : Option SubtreeFile) → plan.keys ≡ found → HasWays cat plan found → (steps : ℕ) → ancestor cat.schema steps is.table ≡ Some plan.top → ⊥
+    by None e (inl hops) steps up =
+        by_hops hops steps up (go_none (way_to plan.hops.items work.reached 12 is.table) (sym (ap (way_by plan work is.table) e) ∙ is.no_way))
+    by None e (inr none) steps up =
+        no_both (ap₂ (λ a b. a && b) (wanted_needs plan work is.table is.wanted apart) (has steps up)) none
+    by (Some file) e file_is steps up =
+        no_both (ap (λ (tables : List ℕ). is_among tables is.table) file_is.below_are ∙ among steps up)
+        (never_from (is_among file.below.items is.table) identifier
+        (sym (ap (spread_from (is_among file.below.items is.table)) stands.top) ∙ sym (ap (way_by plan work is.table) e) ∙ is.no_way))
 
 -- the table of a look-up is one of FROM that is asked for
 pub record IsAskedOf (cat : Catalog) (asked : Query) (table : ℕ) : Type 0 where
   pub among : is_among asked.from table ≡ true
   pub is : is_asked cat.schema asked table ≡ true
 
-pub look_asked : (cat : Catalog) (asked : Query) (plan : RowPlan) → IsPlanOf cat asked plan → (at number : ℕ) (test : Test) → slice_get plan.tests.items at ≡ Some test
+pub look_asked : (cat : Catalog) (asked : Query) (plan : RowPlan) → IsPlan cat asked plan → (at number : ℕ) (test : Test) → slice_get plan.tests.items at ≡ Some test
     → test.check ≡ Stands number → IsAskedOf cat asked test.known.field.table
 look_asked cat asked plan plan_is at number test there e =
     let all : list_all (test_meets (λ t. is_among asked.from t && is_asked cat.schema asked t) (λ _. true)) plan.tests.items ≡ true =
     plan_is.tests (λ t. is_among asked.from t && is_asked cat.schema asked t) (λ _. true)
     ∙ ap₂ (λ a b. a && b)
     (all_each (λ t. is_among asked.from t && is_asked cat.schema asked t) (filter (is_asked cat.schema asked) asked.from) (λ x a. one x a))
-    (all_true (filter (is_tested cat.schema) asked.conditions)) in
+    (all_true (conditions_tested cat.schema asked plan.sifted)) in
     let met = holds_at_place (test_meets (λ t. is_among asked.from t && is_asked cat.schema asked t) (λ _. true)) plan.tests.items at test all there in
     let both = both_true (is_among asked.from test.known.field.table) (is_asked cat.schema asked test.known.field.table)
     (sym (ap (check_meets (λ t. is_among asked.from t && is_asked cat.schema asked t) (λ _. true) test.known.field) e) ∙ met) in
@@ -356,11 +494,6 @@ look_asked cat asked plan plan_is at number test there e =
 
 -- ---- the beginning
 
-index_within : (counts : List ℕ) (table identifier : ℕ) → 1 ≤ identifier → identifier ≤ slice_index counts table → table < length counts
-index_within [] table identifier some within = absurd (omega (arith, some, within))
-index_within (count ∷ counts) zero identifier some within = omega arith
-index_within (count ∷ counts) (suc table) identifier some within = let later = index_within counts table identifier some within in omega (arith, later)
-
 itself : (schema : Schema) (table : ℕ) → ancestor schema 0 table ≡ Some table
 unfolding ancestor
 itself schema table = refl
@@ -371,9 +504,10 @@ none_in (suc n) zero = refl
 none_in (suc n) (suc table) = none_in n table
 
 pub begin_stands : (page : ℕ → List ℕ) (cat : Catalog) (asked : Query) (database : Database) (half : Half) (given : List Reply) (identifier : ℕ) (plan : RowPlan) (work : RowWork)
-    → IsPlanOf cat asked plan → IsRowOf cat plan.top identifier → work.at ≡ 0 → work.put ≡ 0 → work.reached ≡ slice_set (replicate 12 None) plan.top (Some identifier) → work.search ≡ New
+    → IsPlan cat asked plan → IsRowOf cat plan.top identifier → IsSifted cat asked database given identifier plan → HasKeysBut page cat database plan
+    → work.at ≡ 0 → work.put ≡ 0 → work.reached ≡ slice_set (replicate 12 None) plan.top (Some identifier) → work.search ≡ New
     → StandsFor page cat asked database half given identifier plan work
-begin_stands page cat asked database half given identifier plan work plan_is row at_is put_is reached_are search_is =
+begin_stands page cat asked database half given identifier plan work plan_is row sifted keys at_is put_is reached_are search_is =
     let low = index_within cat.counts plan.top identifier row.some row.within in
     let few = plan_is.few_tables in
     let within : plan.top < 12 = below low few in
@@ -381,6 +515,8 @@ begin_stands page cat asked database half given identifier plan work plan_is row
     record {
       sought = sought_new page half (look_of plan work) work.search search_is;
       row = row;
+      sifted = sifted;
+      keys = keys;
       top = ap (λ (r : List (Option ℕ)). get_or r plan.top None) reached_are ∙ first;
       rows = λ table reached there. one_row within first table reached (nat_eq table plan.top) refl (sym (ap (λ (r : List (Option ℕ)). get_or r table None) reached_are) ∙ there);
       met = ap (λ n. list_all (passes cat.schema database given plan.top identifier) (take n plan.tests.items)) at_is;
@@ -437,8 +573,19 @@ set_is_row cat reached top identifier row within none table one false e there =
     clash_row : {o : Option ℕ} {x : ℕ} → o ≡ Some x → o ≡ None → ⊥
     clash_row s n = cc
 
+set_is_below : (cat : Catalog) (reached : List (Option ℕ)) (top identifier : ℕ)
+    → ((table : ℕ) → get_or reached table None ≡ None) → (table one : ℕ) (b : Bool) → nat_eq table top ≡ b
+    → get_or (slice_set reached top (Some identifier)) table None ≡ Some one → IsAtOrBelow cat.schema top table
+set_is_below cat reached top identifier none table one true e there =
+    subst (IsAtOrBelow cat.schema top) (sym (eqb-true table top e)) (0, itself cat.schema top)
+set_is_below cat reached top identifier none table one false e there =
+    absurd (clash_below (sym (get_or-set_other reached top table (Some identifier) None (eqb-false table top e)) ∙ there) (none table))
+  where
+    clash_below : {o : Option ℕ} {x : ℕ} → o ≡ Some x → o ≡ None → ⊥
+    clash_below s n = cc
+
 pub begin_working : (cat : Catalog) (asked : Query) (device : Device) (half : Half) (identifier : ℕ) (plan : RowPlan) (work : RowWork)
-    → IsPlanOf cat asked plan → Suffices cat device → AreReadable device half → IsRowOf cat plan.top identifier → work.at ≡ 0 → work.put ≡ 0
+    → IsPlan cat asked plan → Suffices cat device → AreReadable device half → IsRowOf cat plan.top identifier → work.at ≡ 0 → work.put ≡ 0
     → work.reached ≡ slice_set (replicate 12 None) plan.top (Some identifier) → work.search ≡ New → length work.values.items ≡ length plan.select.items
     → IsWorking cat asked device half plan work
 begin_working cat asked device half identifier plan work plan_is enough readable row at_is put_is reached_are search_is size =
@@ -453,6 +600,8 @@ begin_working cat asked device half identifier plan work plan_is enough readable
       puts = omega (arith, put_is);
       places = size;
       rows = λ table one there. set_is_row cat (replicate 12 None) plan.top identifier row (below low few) (λ t. none_in 12 t) table one (nat_eq table plan.top) refl
+          (sym (ap (λ (r : List (Option ℕ)). get_or r table None) reached_are) ∙ there);
+      below = λ none table one there. set_is_below cat (replicate 12 None) plan.top identifier (λ t. none_in 12 t) table one (nat_eq table plan.top) refl
           (sym (ap (λ (r : List (Option ℕ)). get_or r table None) reached_are) ∙ there);
       search = searching_new half (look_of plan work) work.search search_is;
     }

@@ -1,9 +1,11 @@
+mod SubtreeLemmas
 mod HopLemmas
 mod ReadLemmas
 mod ValueLemmas
 mod WayLemmas
 mod TestLemmas
 mod StepLemmas
+mod SparedLemmas
 mod TellLemmas
 mod FromLemmas
 mod AskLemmas

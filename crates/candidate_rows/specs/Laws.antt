@@ -1,31 +1,48 @@
 -- Laws of the work on rows.
-use Rattle.std.specs.Prelude.{◌≡◌, ℕ, ◌≤◌, false, Some, List, [], ◌∷◌, if◌then◌else◌, None}
+use Rattle.std.specs.Prelude.{◌≡◌, ℕ, ◌≤◌, true, false, Some, List, [], ◌∷◌, filter, if◌then◌else◌, None}
 use Rattle.std.specs.List.{list_all}
 use Rattle.ghost_model.specs.core.Schema.{Schema}
 use Rattle.ghost_model.specs.core.Values.{Database}
 use Rattle.ghost_model.specs.core.Channel.{Catalog}
-use Rattle.ghost_model.specs.core.Query.{Query}
+use Rattle.ghost_model.specs.core.Query.{Query, is_among}
 use Rattle.ghost_model.specs.core.Asks.{ask_for}
 use Rattle.ghost_model.specs.core.Replies.{Reply, reply_about}
-use Rattle.ghost_laws.specs.Scans.{known_along}
+use Rattle.ghost_laws.specs.Scans.{known_along, holds_or_asked_along, stands_along}
 use Rattle.ghost_laws.specs.Selected.{AreWholeReplies}
 use Rattle.candidate_rows.specs.declared.plan.RowPlan.{RowPlan}
 use Rattle.edge_traits.specs.Devices.{Device}
 use Rattle.visible_spool.specs.declared.half.Half.{Half}
+use Rattle.visible_spool.specs.Sparing.{AreInHalf, SparesHalf}
 use Rattle.candidate_rows.specs.declared.work.RowWork.{RowWork}
-use Rattle.candidate_rows.specs.Plans.{IsPlanOf, is_asked}
+use Rattle.candidate_rows.specs.Plans.{IsPlan, is_asked, is_tested}
 use Rattle.candidate_rows.specs.Rows.{AreAllAsked}
-use Rattle.candidate_rows.specs.Working.{Knows, IsRowOf, IsWorking, passes, told, steps_left, most_left}
+use Rattle.candidate_rows.specs.Working.{Knows, StandsFor, IsRowOf, IsWorking, IsSifted, passes, told, steps_left, most_left}
 use Rattle.candidate_rows.specs.Steps.{row_known}
 
--- the tests of a plan are exactly those of the answer: a row is in it where it meets them all, with the selected values
+-- The tests of a plan are exactly those of the answer: a row is in it where it meets them all, with the selected values. Where the
+-- plan has no tests of the key's conditions, the row is one that meets these.
 abbrev pub TestsAreThoseOfAnswers : Type 0
 TestsAreThoseOfAnswers =
     (page : ℕ → List ℕ) (cat : Catalog) (asked : Query) (database : Database) (half : Half) (given : List Reply) (identifier : ℕ) (plan : RowPlan)
-    → Knows page cat asked database half given → IsPlanOf cat asked plan → IsRowOf cat plan.top identifier
+    → Knows page cat asked database half given → IsPlan cat asked plan → IsRowOf cat plan.top identifier
+    → IsSifted cat asked database given identifier plan
     → row_known cat asked database given identifier plan
     ≡ (if list_all (passes cat.schema database given plan.top identifier) plan.tests.items
     then told (known_along cat.schema database given plan.top identifier) asked.select ∷ [] else [])
+
+-- a row of the top table along which a condition of the key does not hold, or that does not stand along some table of FROM, is not
+-- in the answer
+abbrev pub RowsSiftedOutAreNoAnswers : Type 0
+RowsSiftedOutAreNoAnswers =
+    (cat : Catalog) (asked : Query) (database : Database) (given : List Reply) (identifier : ℕ) (plan : RowPlan)
+    → list_all (holds_or_asked_along cat.schema (known_along cat.schema database given plan.top identifier)) (filter (is_tested cat.schema) asked.conditions) ≡ false
+    → row_known cat asked database given identifier plan ≡ []
+
+abbrev pub RowsThatStandNotAreNoAnswers : Type 0
+RowsThatStandNotAreNoAnswers =
+    (cat : Catalog) (asked : Query) (database : Database) (given : List Reply) (identifier table : ℕ) (plan : RowPlan)
+    → is_among asked.from table ≡ true → stands_along cat.schema database given plan.top identifier table ≡ false
+    → row_known cat asked database given identifier plan ≡ []
 
 -- one reply to each ask of a query is about asked tables alone
 abbrev pub WholeRepliesAreOfAsked : Type 0
@@ -48,3 +65,15 @@ abbrev pub FewStepsAreLeft : Type 0
 FewStepsAreLeft =
     (cat : Catalog) (asked : Query) (device : Device) (half : Half) (plan : RowPlan) (work : RowWork)
     → IsWorking cat asked device half plan work → steps_left plan work ≤ most_left
+
+-- the work on a row goes on as before where others spared the static pages and the half of its replies, and stands for the same
+abbrev pub WorkStaysReady : Type 0
+WorkStaysReady =
+    (cat : Catalog) (asked : Query) (side : ℕ) (before now : Device) (half : Half) (plan : RowPlan) (work : RowWork)
+    → SparesHalf cat side before now → IsWorking cat asked before half plan work → IsWorking cat asked now half plan work
+
+abbrev pub WorkStillStands : Type 0
+WorkStillStands =
+    (cat : Catalog) (asked : Query) (side : ℕ) (before now : Device) (half : Half) (given : List Reply) (database : Database) (identifier : ℕ) (plan : RowPlan) (work : RowWork)
+    → SparesHalf cat side before now → AreInHalf cat side half → IsWorking cat asked before half plan work
+    → StandsFor before.page cat asked database half given identifier plan work → StandsFor now.page cat asked database half given identifier plan work

@@ -1,10 +1,11 @@
 //! Laws of the work on rows.
 
-ghost use Rattle.candidate_rows.specs.Laws.{TestsAreThoseOfAnswers, WholeRepliesAreOfAsked, WholeRepliesAreAll, WholeRepliesAreToAsks, FewStepsAreLeft};
+ghost use Rattle.candidate_rows.specs.Laws.{TestsAreThoseOfAnswers, RowsSiftedOutAreNoAnswers, RowsThatStandNotAreNoAnswers, WholeRepliesAreOfAsked, WholeRepliesAreAll, WholeRepliesAreToAsks, FewStepsAreLeft, WorkStaysReady, WorkStillStands};
 
-use visible_spool::laws::searches_are_short;
+use visible_spool::laws::{searches_are_short, spared_halves_stay};
 
-/// A row of the top table is in the answer, with the selected values, exactly where it meets all tests of a plan.
+/// A row of the top table is in the answer, with the selected values, exactly where it meets all tests of a plan; for a plan that has
+/// no tests of the conditions on hidden columns and identifiers, a row that meets these.
 pub fn tests_are_those_of_answers()
     ensures same { TestsAreThoseOfAnswers }
 {
@@ -12,6 +13,13 @@ pub fn tests_are_those_of_answers()
     ghost_model::meaning::rows_lead_to_rows();
     ghost_laws::followed::accepted_queries_are_followed();
 }
+
+/// A row of the top table along which a condition on a hidden column or an identifier does not hold, or that does not stand along
+/// some table of FROM, is not in the answer.
+pub fn rows_sifted_out_are_no_answers()
+    ensures conditions { RowsSiftedOutAreNoAnswers }
+    ensures stands { RowsThatStandNotAreNoAnswers }
+{}
 
 /// One reply to each ask of a query is about asked tables alone.
 pub fn whole_replies_are_of_asked()
@@ -29,4 +37,12 @@ pub fn few_steps_are_left()
     ensures few { FewStepsAreLeft }
 {
     searches_are_short();
+}
+
+/// The work on a row goes on as before, and stands for the same, where the static pages and the half of its replies are spared.
+pub fn work_is_spared()
+    ensures ready { WorkStaysReady }
+    ensures stands { WorkStillStands }
+{
+    spared_halves_stay();
 }

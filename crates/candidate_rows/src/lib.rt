@@ -1,12 +1,15 @@
 //! Rows of a query's top table, one after another: whether a row is in the answer, and the values of its line, in steps of one
 //! call on the flash at most.
 //!
-//! A plan says what each row is judged by; it is made once a query. The work on a row follows a foreign key, makes a test or
-//! takes a value at each step, and reads each foreign key once at most. None of the calls takes memory.
+//! A plan says what each row is judged by; it is made once a query, for all rows of the top table or for those that are known to
+//! meet the conditions on hidden columns and identifiers. The work on a row makes a test, takes a value or goes on to the rows
+//! below at each step: it reads each foreign key once at most or, for such rows, one record of the subtree key table. None of the
+//! calls takes memory.
 #![tactic(auto)]
 
 mod cells;
 mod hops;
+mod keys;
 mod known;
 pub mod laws;
 pub mod next;
