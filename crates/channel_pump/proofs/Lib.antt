@@ -11,3 +11,5 @@ pub mod TookLemmas
 pub mod CauseLemmas
 pub mod ProgressLemmas
 pub mod MarkLemmas
+pub mod EntryLemmas
+pub mod MoveLemmas

@@ -9,3 +9,5 @@ pub mod State
 pub mod Turning
 pub mod Progress
 pub mod Pages
+pub mod Entries
+pub mod Sessions

@@ -1,9 +1,9 @@
 -- When a pump stands where a journal leaves the key: its fields are what the journal has led to, for a catalog and the
 -- asks of the session.
-use Rattle.std.specs.Prelude.{◌≡◌, ℕ, ◌+◌, ◌-◌, ◌^◌, ◌<◌, ◌≤◌, Bool, true, false, List, [], ◌∷◌, length, take, drop, flat_map, slice_get, min, Option, Some, None}
+use Rattle.std.specs.Prelude.{◌≡◌, ℕ, ◌+◌, ◌-◌, ◌^◌, ◌<◌, ◌≤◌, Bool, true, false, List, [], ◌∷◌, length, take, drop, slice_get, min, Option, Some, None}
 use Rattle.ghost_model.specs.core.Channel as channel
 use Rattle.ghost_model.specs.core.Channel.{Catalog, Journal, Move}
-use Rattle.ghost_model.specs.forms.Frames.{frame_bytes, kind_in}
+use Rattle.ghost_model.specs.forms.Frames.{kind_in}
 use Rattle.ghost_model.specs.core.Asks.{NumberedAsk}
 use Rattle.ghost_model.specs.core.Moves.{taken}
 use Rattle.ghost_model.specs.core.NextMove as next

@@ -1,11 +1,16 @@
-//! The key's side of the channel as a pump: what it wants to do next, and what each answer leads to.
+//! The key's side of the channel as a pump: what it wants to do next, and what each answer leads to; and a session of the key on
+//! a link, move by move.
 //!
 //! A pump is given a catalog and a script. It takes no memory: texts are read as their asks come due, the catalog's bytes
-//! are made as they are compared, and received bytes lie in a page of its caller. Its next move is the one that the definitions give for the moves so far and their answers, and nothing
-//! else decides it.
+//! are made as they are compared, and received bytes lie in a page of its caller. Its next move is the one that the definitions
+//! give for the moves so far and their answers, and nothing else decides it.
+//!
+//! In an exchange the pump says what is wanted, the link does it, and the pump is told how it went. So each move is the one that
+//! the definitions give for the moves before it and their answers, whatever the link answers.
 #![tactic(auto)]
 
 mod asks;
+pub mod exchange;
 mod forms;
 mod judging;
 pub mod laws;
@@ -14,3 +19,5 @@ pub mod pump;
 mod rows;
 pub mod state;
 mod turning;
+
+pub use exchange::Exchange;

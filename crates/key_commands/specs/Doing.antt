@@ -8,7 +8,7 @@ use Rattle.key_words.specs.Words.{Plain, Load, Local, Query}
 use Rattle.key_inputs.specs.Openings.{Spelled, TablesInput, tables_opening}
 use Rattle.key_inputs.specs.Scripts.{script_opening}
 use Rattle.key_lines.specs.Handing.{handed}
-use Rattle.text_lines.specs.Rows.{PrintsSome}
+use Rattle.key_exec.specs.Rows.{PrintsSome}
 use Rattle.key_session.specs.Running.{is_sink, blames_flash, spares_flash}
 use Rattle.key_session.specs.Telling as telling
 use Rattle.key_session.specs.declared.tally.Tally.{Tally}

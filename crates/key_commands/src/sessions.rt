@@ -2,12 +2,12 @@
 
 use crate::input_lines::{InputNames, input_line};
 use crate::telling::NO_MEMORY;
+use key_exec::Damage;
 use key_local::{LocalEnd, LocalFailure};
 use key_query::QueryFailure;
 use key_session::SessionStatus;
 use key_words::{LocalWords, QueryWords};
 use std::alloc::{AllocError, Global};
-use text_lines::Damage;
 
 /// What is told where lines could not be printed.
 const NO_OUTPUT: &str = "the lines could not be printed: see that the output takes them";

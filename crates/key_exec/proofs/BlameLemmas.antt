@@ -1,10 +1,11 @@
--- Which slot a step blames: that of a hidden column, or that of a row in a reply.
-use Rattle.std.proofs.Common.{◌≡◌, ◌<◌, ◌-◌, ◌∙◌, inl, inr, ℕ, zero, suc, refl, Bool, true, false, List, None, ap, sym, subst, arith}
+-- Which slot a step blames: that of a hidden column that is read for the query, or that of a row in a reply that it asks for.
+use Rattle.std.proofs.Common.{◌≡◌, ◌<◌, ◌-◌, ◌∙◌, inl, inr, ℕ, refl, Bool, true, false, List, None, ap, sym, subst, arith}
 use Rattle.std.specs.Prelude.{is_some}
 use Rattle.ghost_model.specs.core.Channel.{Catalog}
+use Rattle.ghost_model.specs.core.Query.{Query}
 use Rattle.ghost_model.specs.core.Asks.{kind_at}
 use Rattle.ghost_model.specs.forms.Runs.{Run, page_of, slot_of, record_at, found_in}
-use Rattle.ghost_model.specs.forms.Layout.{count_of, column_file, static_end}
+use Rattle.ghost_model.specs.forms.Layout.{count_of, column_file}
 use Rattle.ghost_model.specs.forms.Slots.{Cells, may_stand, spelled}
 use Rattle.ghost_base.specs.Runs.{run_of}
 use Rattle.edge_traits.specs.Devices.{Device, KeepsPages}
@@ -13,20 +14,18 @@ use Rattle.flash_pages.specs.declared.fault.PageFault.TheVariants.{Flash, Damage
 use Rattle.hidden_columns.specs.declared.file.ColumnFile.{ColumnFile}
 use Rattle.hidden_columns.specs.Files as columns
 use Rattle.hidden_columns.specs.Files.{IsFileOf, HasNoValue, FailsAt, slot_bytes, value_spelled}
-use Rattle.visible_spool.specs.declared.reply.Reply.{Reply}
 use Rattle.visible_spool.specs.declared.half.Half.{Half}
 use Rattle.visible_spool.specs.Replies as spool
 use Rattle.visible_spool.specs.Replies.{IsFlash}
 use Rattle.visible_spool.specs.Halves.{reply_of}
-use Rattle.visible_spool.specs.Areas.{half_begin, half_end}
-use Rattle.visible_spool.specs.Laws.{LiesWithin}
 use Rattle.visible_spool.specs.Sparing.{IsHalf}
 use Rattle.candidate_rows.specs.declared.next.Look.{Look}
 use Rattle.candidate_rows.specs.declared.next.Slot.{Slot}
-use Rattle.candidate_rows.specs.Working.{IsSlotOf, Need, NoNeed, OfSlot, OfRow, IsNeed}
+use Rattle.candidate_rows.specs.Working.{Need, NoNeed, OfSlot, OfRow, OfRecord}
 use Rattle.candidate_rows.specs.Steps.{BlamesNeeded, FailsNeeded}
 use Rattle.flash_pages.specs.Reads.{WasRead}
 use Rattle.key_exec.specs.Blaming.{Blames, BlamesRead}
+use Rattle.key_exec.proofs.ReadForLemmas.{IsReadSlot, IsReadNeed}
 
 -- bytes that spell no value of a file may not stand in the slots of its column
 may_not_stand : (cat : Catalog) (table column : ℕ) (file : ColumnFile) (bytes : List ℕ) → IsFileOf cat table column file
@@ -36,11 +35,11 @@ may_not_stand cat table column file bytes file_is none =
     ∙ ap (λ rows. spelled (kind_at cat.schema table column) rows bytes) file_is.range_is) ∙ none)
 
 slot_blamed :
-    (told : Bool) (since : ℕ) (before now : Device) (cat : Catalog) (slot : Slot) (fault : PageFault) → IsSlotOf cat slot
+    (told : Bool) (since : ℕ) (before now : Device) (cat : Catalog) (asked : Query) (top side : ℕ) (half : Half) (slot : Slot) (fault : PageFault) → IsReadSlot cat asked top slot
     → columns.Blames since now slot.file slot.identifier fault → (told ≡ true → FailsAt before.page slot.file slot.identifier fault)
-    → KeepsPages before now → Blames told now.page cat fault
-slot_blamed told since before now cat slot Flash is blames fails kept = tt
-slot_blamed told since before now cat slot (Damaged number place found) is blames fails kept =
+    → KeepsPages before now → Blames told now.page cat asked top side half fault
+slot_blamed told since before now cat asked top side half slot Flash is blames fails kept = tt
+slot_blamed told since before now cat asked top side half slot (Damaged number place found) is blames fails kept =
     let file = slot.file in
     let identifier = slot.identifier in
     let run : run_of file.run ≡ column_file cat is.table is.column = is.file.file_is.run_is in
@@ -53,58 +52,54 @@ slot_blamed told since before now cat slot (Damaged number place found) is blame
     inl (record {
       table = is.table;
       column = is.column;
-      place = identifier - 1;
-      hidden = is.file.hidden;
-      within = low;
-      page_is = page_is;
-      slot_is = slot_is;
-      bytes = blames.bytes;
-      wide = blames.wide ∙ ap (λ (r : Run). r.width) run;
-      may_not = may_not_stand cat is.table is.column file blames.bytes is.file.file_is blames.no_value;
-      found_is = blames.found_is;
-      stands = λ t. record {
-        has = is.file.hidden;
+      read_for = is.read_for;
+      cell = record {
+        place = identifier - 1;
+        hidden = is.file.hidden;
         within = low;
         page_is = page_is;
         slot_is = slot_is;
-        damaged = inl (ap (may_stand cat (Cells is.table is.column)) (sym bytes_are)
-            ∙ may_not_stand cat is.table is.column file (slot_bytes now.page file identifier) is.file.file_is (none t).no_value);
-        found_is = (none t).found_is ∙ ap found_in bytes_are;
+        bytes = blames.bytes;
+        wide = blames.wide ∙ ap (λ (r : Run). r.width) run;
+        may_not = may_not_stand cat is.table is.column file blames.bytes is.file.file_is blames.no_value;
+        found_is = blames.found_is;
+        stands = λ t. record {
+          has = is.file.hidden;
+          within = low;
+          page_is = page_is;
+          slot_is = slot_is;
+          damaged = inl (ap (may_stand cat (Cells is.table is.column)) (sym bytes_are)
+              ∙ may_not_stand cat is.table is.column file (slot_bytes now.page file identifier) is.file.file_is (none t).no_value);
+          found_is = (none t).found_is ∙ ap found_in bytes_are;
+        };
       };
     })
 
-slot_read : (told : Bool) (since : ℕ) (now : Device) (cat : Catalog) (slot : Slot) (fault : PageFault) → IsSlotOf cat slot
-    → columns.Blames since now slot.file slot.identifier fault → BlamesRead told since now cat fault
-slot_read told since now cat slot Flash is blames = tt
-slot_read told since now cat slot (Damaged number place found) is blames =
+slot_read : (told : Bool) (since : ℕ) (now : Device) (cat : Catalog) (asked : Query) (top side : ℕ) (half : Half) (slot : Slot) (fault : PageFault) → IsReadSlot cat asked top slot
+    → columns.Blames since now slot.file slot.identifier fault → BlamesRead told since now cat asked top side half fault
+slot_read told since now cat asked top side half slot Flash is blames = tt
+slot_read told since now cat asked top side half slot (Damaged number place found) is blames =
     let file = slot.file in
     let identifier = slot.identifier in
     let run : run_of file.run ≡ column_file cat is.table is.column = is.file.file_is.run_is in
     inl (record {
       table = is.table;
       column = is.column;
-      place = identifier - 1;
-      hidden = is.file.hidden;
-      within = omega (arith, is.some, is.within);
-      page_is = blames.page_is ∙ ap (λ (r : Run). page_of r (identifier - 1)) run;
-      slot_is = blames.slot_is ∙ ap (λ (r : Run). slot_of r (identifier - 1)) run;
-      bytes = blames.bytes;
-      read = subst (λ (r : Run). WasRead since now r (identifier - 1) blames.bytes) run blames.read;
-      may_not = may_not_stand cat is.table is.column file blames.bytes is.file.file_is blames.no_value;
-      found_is = blames.found_is;
+      read_for = is.read_for;
+      cell = record {
+        place = identifier - 1;
+        hidden = is.file.hidden;
+        within = omega (arith, is.some, is.within);
+        page_is = blames.page_is ∙ ap (λ (r : Run). page_of r (identifier - 1)) run;
+        slot_is = blames.slot_is ∙ ap (λ (r : Run). slot_of r (identifier - 1)) run;
+        bytes = blames.bytes;
+        read = subst (λ (r : Run). WasRead since now r (identifier - 1) blames.bytes) run blames.read;
+        may_not = may_not_stand cat is.table is.column file blames.bytes is.file.file_is blames.no_value;
+        found_is = blames.found_is;
+      };
     })
 
 -- ---- rows of replies
-
--- a reply in half 0 or 1 lies in the spool
-pub in_spool :
-    (cat : Catalog) (side : ℕ) (reply : Reply) → side < 2 → LiesWithin (half_begin cat side) (half_end cat side) reply
-    → LiesWithin (static_end cat) (half_end cat 1) reply
-in_spool cat zero reply low lies = λ place within.
-    let is = lies place within in (omega (arith, is.0), omega (arith, is.1))
-in_spool cat (suc zero) reply low lies = λ place within.
-    let is = lies place within in (omega (arith, is.0), is.1)
-in_spool cat (suc (suc side)) reply low lies = absurd (omega (arith, low))
 
 -- a row is blamed only where the pages are not told
 pub is_untold : (told : Bool) → (told ≡ true → ⊥) → told ≡ false
@@ -121,61 +116,73 @@ not_whole told cat side before half look fault there is fails = λ t.
     let some = is.whole t look.table there in fails t some.rows some.holds
 
 row_blamed :
-    (told : Bool) (since : ℕ) (before now : Device) (cat : Catalog) (side : ℕ) (half : Half) (look : Look) (fault : PageFault) → look.table < 12 → side < 2
-    → IsHalf told cat side before half → spool.Blames since now (reply_of half look.table) fault → NotWhole told fault → Blames told now.page cat fault
-row_blamed told since before now cat side half look Flash there low is blames fails = tt
-row_blamed told since before now cat side half look (Damaged number place found) there low is blames fails =
+    (told : Bool) (since : ℕ) (before now : Device) (cat : Catalog) (asked : Query) (top side : ℕ) (half : Half) (look : Look) (fault : PageFault)
+    → IsReadNeed cat asked top (OfRow look) → side < 2
+    → IsHalf told cat side before half → spool.Blames since now (reply_of half look.table) fault → NotWhole told fault → Blames told now.page cat asked top side half fault
+row_blamed told since before now cat asked top side half look Flash wanted low is blames fails = tt
+row_blamed told since before now cat asked top side half look (Damaged number place found) wanted low is blames fails =
     inr (record {
-      untold = is_untold told fails;
-      reply = reply_of half look.table;
-      sound = (is.readable look.table there).sound;
-      lies = in_spool cat side (reply_of half look.table) low (is.lies look.table there);
-      place = blames.place;
-      within = blames.within;
-      page_is = blames.page_is;
-      slot_is = blames.slot_is;
-      bytes = blames.bytes;
-      may_not = blames.wrong;
-      found_is = blames.found_is;
+      table = look.table;
+      there = wanted.0;
+      asked_for = wanted.1;
+      lies = is.lies look.table wanted.0;
+      row = record {
+        untold = is_untold told fails;
+        sound = (is.readable look.table wanted.0).sound;
+        place = blames.place;
+        within = blames.within;
+        page_is = blames.page_is;
+        slot_is = blames.slot_is;
+        bytes = blames.bytes;
+        may_not = blames.wrong;
+        found_is = blames.found_is;
+      };
     })
 
 row_read :
-    (told : Bool) (since : ℕ) (before now : Device) (cat : Catalog) (side : ℕ) (half : Half) (look : Look) (fault : PageFault) → look.table < 12 → side < 2
-    → IsHalf told cat side before half → spool.Blames since now (reply_of half look.table) fault → NotWhole told fault → BlamesRead told since now cat fault
-row_read told since before now cat side half look Flash there low is blames fails = tt
-row_read told since before now cat side half look (Damaged number place found) there low is blames fails =
+    (told : Bool) (since : ℕ) (before now : Device) (cat : Catalog) (asked : Query) (top side : ℕ) (half : Half) (look : Look) (fault : PageFault)
+    → IsReadNeed cat asked top (OfRow look) → side < 2
+    → IsHalf told cat side before half → spool.Blames since now (reply_of half look.table) fault → NotWhole told fault → BlamesRead told since now cat asked top side half fault
+row_read told since before now cat asked top side half look Flash wanted low is blames fails = tt
+row_read told since before now cat asked top side half look (Damaged number place found) wanted low is blames fails =
     inr (record {
-      untold = is_untold told fails;
-      reply = reply_of half look.table;
-      sound = (is.readable look.table there).sound;
-      lies = in_spool cat side (reply_of half look.table) low (is.lies look.table there);
-      place = blames.place;
-      within = blames.within;
-      page_is = blames.page_is;
-      slot_is = blames.slot_is;
-      bytes = blames.bytes;
-      read = blames.read;
-      may_not = blames.wrong;
-      found_is = blames.found_is;
+      table = look.table;
+      there = wanted.0;
+      asked_for = wanted.1;
+      lies = is.lies look.table wanted.0;
+      row = record {
+        untold = is_untold told fails;
+        sound = (is.readable look.table wanted.0).sound;
+        place = blames.place;
+        within = blames.within;
+        page_is = blames.page_is;
+        slot_is = blames.slot_is;
+        bytes = blames.bytes;
+        read = blames.read;
+        may_not = blames.wrong;
+        found_is = blames.found_is;
+      };
     })
 
 -- ---- what is needed
 
 pub blames_need :
-    (told : Bool) (since : ℕ) (before now : Device) (cat : Catalog) (side : ℕ) (half : Half) (need : Need) (fault : PageFault) → side < 2
-    → IsHalf told cat side before half → IsNeed cat need → BlamesNeeded since now half need fault
-    → (told ≡ true → FailsNeeded before.page half need fault) → KeepsPages before now → Blames told now.page cat fault
-blames_need told since before now cat side half NoNeed fault low is need blames fails kept = absurd blames
-blames_need told since before now cat side half (OfSlot slot) fault low is need blames fails kept =
-    slot_blamed told since before now cat slot fault need blames fails kept
-blames_need told since before now cat side half (OfRow look) fault low is need blames fails kept =
-    row_blamed told since before now cat side half look fault need low is blames (not_whole told cat side before half look fault need is fails)
+    (told : Bool) (since : ℕ) (before now : Device) (cat : Catalog) (asked : Query) (top side : ℕ) (half : Half) (need : Need) (fault : PageFault) → side < 2
+    → IsHalf told cat side before half → IsReadNeed cat asked top need → BlamesNeeded since now half need fault
+    → (told ≡ true → FailsNeeded before.page half need fault) → KeepsPages before now → Blames told now.page cat asked top side half fault
+blames_need told since before now cat asked top side half NoNeed fault low is need blames fails kept = absurd blames
+blames_need told since before now cat asked top side half (OfSlot slot) fault low is need blames fails kept =
+    slot_blamed told since before now cat asked top side half slot fault need blames fails kept
+blames_need told since before now cat asked top side half (OfRow look) fault low is need blames fails kept =
+    row_blamed told since before now cat asked top side half look fault need low is blames (not_whole told cat side before half look fault need.0 is fails)
+blames_need told since before now cat asked top side half (OfRecord file identifier) fault low is need blames fails kept = absurd need
 
 pub blames_read :
-    (told : Bool) (since : ℕ) (before now : Device) (cat : Catalog) (side : ℕ) (half : Half) (need : Need) (fault : PageFault) → side < 2
-    → IsHalf told cat side before half → IsNeed cat need → BlamesNeeded since now half need fault
-    → (told ≡ true → FailsNeeded before.page half need fault) → BlamesRead told since now cat fault
-blames_read told since before now cat side half NoNeed fault low is need blames fails = absurd blames
-blames_read told since before now cat side half (OfSlot slot) fault low is need blames fails = slot_read told since now cat slot fault need blames
-blames_read told since before now cat side half (OfRow look) fault low is need blames fails =
-    row_read told since before now cat side half look fault need low is blames (not_whole told cat side before half look fault need is fails)
+    (told : Bool) (since : ℕ) (before now : Device) (cat : Catalog) (asked : Query) (top side : ℕ) (half : Half) (need : Need) (fault : PageFault) → side < 2
+    → IsHalf told cat side before half → IsReadNeed cat asked top need → BlamesNeeded since now half need fault
+    → (told ≡ true → FailsNeeded before.page half need fault) → BlamesRead told since now cat asked top side half fault
+blames_read told since before now cat asked top side half NoNeed fault low is need blames fails = absurd blames
+blames_read told since before now cat asked top side half (OfSlot slot) fault low is need blames fails = slot_read told since now cat asked top side half slot fault need blames
+blames_read told since before now cat asked top side half (OfRow look) fault low is need blames fails =
+    row_read told since before now cat asked top side half look fault need low is blames (not_whole told cat side before half look fault need.0 is fails)
+blames_read told since before now cat asked top side half (OfRecord file identifier) fault low is need blames fails = absurd need

@@ -3,6 +3,8 @@ use Rattle.std.proofs.Common.{◌≡◌, ◌∙◌, inl, inr, ◌⊎◌, ◌≤�
 use Rattle.ghost_model.specs.core.Schema.{is_empty}
 use Rattle.ghost_model.specs.core.Values.{Database}
 use Rattle.ghost_model.specs.core.Channel.{Catalog}
+use Rattle.ghost_model.specs.core.Query.{Query}
+use Rattle.visible_spool.specs.declared.half.Half.{Half}
 use Rattle.ghost_model.specs.core.Asks.{kind_at}
 use Rattle.ghost_model.specs.forms.Runs.{Run, Stores, page_of, record_at, run_end, run_pages, found_in}
 use Rattle.ghost_model.specs.forms.Layout as layout
@@ -50,16 +52,17 @@ no_damaged page cat table column place may (inl not) = not_both (may_stand cat (
 no_damaged page cat table column place may (inr out) = no_broken page cat table column place out
 
 pub no_damage :
-    ColumnsGiveValues → (told : Bool) (page : ℕ → List ℕ) (cat : Catalog) (database : Database) (number slot found : ℕ) → IsTree cat.schema
-    → Knows told page cat database → IsDamaged told page cat number slot found → ⊥
-no_damage columns told page cat database number slot found tree knows (inl is) =
-    let at = is.stands knows.is_told in
-    let has = columns page cat database tree knows.is knows.counts knows.holds.columns is.table is.column is.hidden (is.place + 1) (omega arith) (omega (arith, is.within)) in
-    let same : is.place + 1 - 1 ≡ is.place = omega arith in
-    no_damaged page cat is.table is.column is.place
+    ColumnsGiveValues → (told : Bool) (page : ℕ → List ℕ) (cat : Catalog) (asked : Query) (top side : ℕ) (half : Half) (database : Database) (number slot found : ℕ) → IsTree cat.schema
+    → Knows told page cat database → IsDamaged told page cat asked top side half number slot found → ⊥
+no_damage columns told page cat asked top side half database number slot found tree knows (inl is) =
+    let cell = is.cell in
+    let at = cell.stands knows.is_told in
+    let has = columns page cat database tree knows.is knows.counts knows.holds.columns is.table is.column cell.hidden (cell.place + 1) (omega arith) (omega (arith, cell.within)) in
+    let same : cell.place + 1 - 1 ≡ cell.place = omega arith in
+    no_damaged page cat is.table is.column cell.place
     (ap is_some (ap (λ place. spelled (kind_at cat.schema is.table is.column) (child_rows cat is.table is.column) (record_at page (column_file cat is.table is.column) place)) (sym same) ∙ has.on_pages))
     at.damaged
-no_damage columns told page cat database number slot found tree knows (inr is) = not_both told knows.is_told is.untold
+no_damage columns told page cat asked top side half database number slot found tree knows (inr is) = not_both told knows.is_told is.row.untold
 
 -- ---- static pages
 
@@ -108,34 +111,38 @@ damaged_kept page now cat table column place same (inl not) = inl (ap (may_stand
 damaged_kept page now cat table column place same (inr out) = absurd (no_broken page cat table column place out)
 
 pub damage_kept :
-    LayoutIsSmall → FilesLieInOrder → RecordsStandWithin → (told : Bool) (page now : ℕ → List ℕ) (cat : Catalog) (number slot found : ℕ) → IsTree cat.schema
-    → KeepsStatic cat page now → IsDamaged told page cat number slot found → IsDamaged told now cat number slot found
-damage_kept small order stand told page now cat number slot found tree keeps (inl is) =
-    let same = slot_kept small order stand page now cat tree keeps is.table is.column is.place is.hidden is.within in
+    LayoutIsSmall → FilesLieInOrder → RecordsStandWithin → (told : Bool) (page now : ℕ → List ℕ) (cat : Catalog) (asked : Query) (top side : ℕ) (half : Half) (number slot found : ℕ) → IsTree cat.schema
+    → KeepsStatic cat page now → IsDamaged told page cat asked top side half number slot found → IsDamaged told now cat asked top side half number slot found
+damage_kept small order stand told page now cat asked top side half number slot found tree keeps (inl is) =
+    let cell = is.cell in
+    let same = slot_kept small order stand page now cat tree keeps is.table is.column cell.place cell.hidden cell.within in
     inl (record {
       table = is.table;
       column = is.column;
-      place = is.place;
-      hidden = is.hidden;
-      within = is.within;
-      page_is = is.page_is;
-      slot_is = is.slot_is;
-      bytes = is.bytes;
-      wide = is.wide;
-      may_not = is.may_not;
-      found_is = is.found_is;
-      stands = λ t.
-          let at = is.stands t in
-          record {
-            has = at.has;
-            within = at.within;
-            page_is = at.page_is;
-            slot_is = at.slot_is;
-            damaged = damaged_kept page now cat is.table is.column is.place same at.damaged;
-            found_is = at.found_is ∙ ap found_in (sym same);
-          };
+      read_for = is.read_for;
+      cell = record {
+        place = cell.place;
+        hidden = cell.hidden;
+        within = cell.within;
+        page_is = cell.page_is;
+        slot_is = cell.slot_is;
+        bytes = cell.bytes;
+        wide = cell.wide;
+        may_not = cell.may_not;
+        found_is = cell.found_is;
+        stands = λ t.
+            let at = cell.stands t in
+            record {
+              has = at.has;
+              within = at.within;
+              page_is = at.page_is;
+              slot_is = at.slot_is;
+              damaged = damaged_kept page now cat is.table is.column cell.place same at.damaged;
+              found_is = at.found_is ∙ ap found_in (sym same);
+            };
+      };
     })
-damage_kept small order stand told page now cat number slot found tree keeps (inr is) = inr is
+damage_kept small order stand told page now cat asked top side half number slot found tree keeps (inr is) = inr is
 
 -- a run within the static pages stays
 run_static :

@@ -1,9 +1,16 @@
 pub mod AskedLemmas
 pub mod KnowledgeLemmas
 pub mod RowLemmas
+pub mod ReadForLemmas
 pub mod BlameLemmas
 pub mod LeaseLemmas
 pub mod StepLemmas
 pub mod ScanLemmas
 pub mod SparedLemmas
 pub mod TurnLemmas
+pub mod LinkedLemmas
+pub mod LineLemmas
+pub mod RoomLemmas
+pub mod SliceLemmas
+pub mod EndingLemmas
+pub mod SparedTextLemmas

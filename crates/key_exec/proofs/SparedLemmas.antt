@@ -1,6 +1,6 @@
 -- What stays of a job where others spare its half and its buffers.
-use Rattle.std.proofs.Common.{◌≡◌, ◌∙◌, inl, inr, ◌≤◌, ◌<◌, ℕ, zero, suc, Bool, List, [], ◌∷◌, length, get_or, slice_get, Option, None, Some, refl, sym, subst, arith}
-use Rattle.std.specs.Prelude.{⊤, IfSome}
+use Rattle.std.proofs.Common.{◌∙◌, inl, inr, ◌≤◌, ℕ, Bool, List, get_or, Option, None, Some, sym, subst, arith}
+use Rattle.std.specs.Prelude.{IfSome}
 use Rattle.ghost_model.specs.core.Causes.{Rose}
 use Rattle.ghost_model.specs.core.Channel.{Catalog}
 use Rattle.ghost_model.specs.core.Query.{Query}
@@ -9,25 +9,15 @@ use Rattle.ghost_model.specs.core.Values.{Database}
 use Rattle.edge_traits.specs.Devices.{Device}
 use Rattle.page_pool.specs.Pools.{Pool}
 use Rattle.page_pool.proofs.Leases.{outs_kept}
-use Rattle.flash_pages.proofs.RunFrames.{records_kept}
 use Rattle.visible_spool.specs.declared.half.Half.{Half}
-use Rattle.visible_spool.specs.declared.search.Search.{Search}
 use Rattle.visible_spool.specs.Halves.{reply_of}
-use Rattle.visible_spool.specs.Replies.{HoldsRows}
 use Rattle.visible_spool.specs.Sparing as sparing
 use Rattle.visible_spool.specs.Sparing.{AreInHalf, SparesHalf, IsHalf, Uses, SparedRepliesStay, SparedRowsStay, SparedHalvesStay, BuffersStayFilled}
-use Rattle.candidate_rows.specs.declared.next.Look.{Look}
 use Rattle.candidate_rows.specs.declared.plan.RowPlan.{RowPlan}
 use Rattle.candidate_rows.specs.declared.work.RowWork.{RowWork}
 use Rattle.candidate_rows.specs.Plans.{Suffices}
-use Rattle.candidate_rows.specs.declared.next.Follow.{Follow}
-use Rattle.candidate_rows.specs.declared.next.Next.{Next}
-use Rattle.candidate_rows.specs.declared.next.Next.TheVariants.{Try, Put}
-use Rattle.candidate_rows.specs.declared.plan.Check.{Check}
-use Rattle.candidate_rows.specs.declared.plan.Check.TheVariants as check
-use Rattle.candidate_rows.specs.declared.plan.Known.{Known}
-use Rattle.candidate_rows.specs.declared.plan.Test.{Test}
-use Rattle.candidate_rows.specs.Working.{IsWorking, IsSoughtNext, look_of, next_look, go_on, with_row, check_look, next_value, next_test, reached_at, way_to}
+use Rattle.candidate_rows.specs.Working.{IsWorking}
+use Rattle.candidate_rows.specs.Laws.{WorkStillStands}
 use Rattle.candidate_rows.specs.Steps.{WereGiven, AreBlankOrRead}
 use Rattle.key_exec.specs.declared.job.Scan.{Scan}
 use Rattle.key_exec.specs.declared.job.Phase.{Phase}
@@ -65,6 +55,7 @@ working_still stay cat asked side before now half plan work spares is = record {
   puts = is.puts;
   places = is.places;
   rows = is.rows;
+  below = is.below;
   search = is.search;
 }
 
@@ -144,81 +135,18 @@ phase_still stay fill give cat asked side told before now pool later half plan r
 )
 phase_still stay fill give cat asked side told before now pool later half plan rows given spent work Over lies spares at = at
 
--- rows that stand in a half now stood there before
-rows_before :
-    SparedRowsStay → (cat : Catalog) (side : ℕ) (before now : Device) (half : Half) (table : ℕ) (rows : List (List ℕ)) → table < 12
-    → SparesHalf cat side before now → AreInHalf cat side half → HoldsRows now.page (reply_of half table) rows → HoldsRows before.page (reply_of half table) rows
-rows_before stay cat side before now half table rows there spares lies holds = record {
-  has = records_kept (λ place within.
-      let at = lies table there place within in
-      sym (spares.half _ at.0 at.1).bytes) holds.has;
-  are = holds.are;
-}
-
 -- ---- what a job stands for
 
--- a look-up is one of twelve tables
-abbrev IsLow : Option Look → Type 0
-IsLow None = ⊤
-IsLow (Some look) = look.table < 12
-
-reached_low : (reached : List (Option ℕ)) (table identifier : ℕ) → get_or reached table None ≡ Some identifier → table < length reached
-reached_low [] table identifier is = cc
-reached_low (first ∷ reached) zero identifier is = omega arith
-reached_low (first ∷ reached) (suc table) identifier is = omega (arith, reached_low reached table identifier is)
-
-go_low : (way : Option Follow) → IsLow (next_look (go_on way))
-go_low None = tt
-go_low (Some follow) = tt
-
-row_low :
-    (found : Option ℕ) (then_do : ℕ → Next) (way : Option Follow) → ((identifier : ℕ) → found ≡ Some identifier → IsLow (next_look (then_do identifier)))
-    → IsLow (next_look (with_row found then_do way))
-row_low None then_do way is = go_low way
-row_low (Some identifier) then_do way is = is identifier refl
-
-check_low : (check : Check) (table identifier : ℕ) → table < 12 → IsLow (check_look check table identifier)
-check_low (check.Stands number) table identifier low = low
-check_low (check.Holds operator literal) table identifier low = tt
-
-value_low : (plan : RowPlan) (work : RowWork) (found : Option Known) → IsLow (next_look (next_value plan work found))
-value_low plan work None = tt
-value_low plan work (Some known) =
-    row_low (reached_at work known.field.table) (Put known) (way_to plan.hops.items work.reached 12 known.field.table) (λ identifier there. tt)
-
-test_low : (plan : RowPlan) (work : RowWork) (found : Option Test) → length work.reached ≡ 12 → IsLow (next_look (next_test plan work found))
-test_low plan work None twelve = value_low plan work (slice_get plan.select.items work.put)
-test_low plan work (Some test) twelve =
-    let table = test.known.field.table in
-    row_low (reached_at work table) (Try test) (way_to plan.hops.items work.reached 12 table)
-    (λ identifier there. check_low test.check table identifier (omega (arith, reached_low work.reached table identifier there, twelve)))
-
-look_low : (plan : RowPlan) (work : RowWork) → length work.reached ≡ 12 → IsLow (look_of plan work)
-look_low plan work twelve = test_low plan work (slice_get plan.tests.items work.at) twelve
-
-sought_still :
-    SparedRowsStay → (cat : Catalog) (side : ℕ) (before now : Device) (half : Half) (look : Option Look) (search : Search) → IsLow look
-    → SparesHalf cat side before now → AreInHalf cat side half → IsSoughtNext before.page half look search → IsSoughtNext now.page half look search
-sought_still stay cat side before now half None search low spares lies sought = tt
-sought_still stay cat side before now half (Some look) search low spares lies sought = λ rows holds.
-    sought rows (rows_before stay cat side before now half look.table rows low spares lies holds)
-
 work_stands_still :
-    SparedRowsStay → (cat : Catalog) (asked : Query) (side : ℕ) (before now : Device) (half : Half) (plan : RowPlan) (rows next : ℕ) (work : Option RowWork)
+    WorkStillStands → (cat : Catalog) (asked : Query) (side : ℕ) (before now : Device) (half : Half) (plan : RowPlan) (rows next : ℕ) (work : Option RowWork)
     (database : Database) (given : List Reply) → SparesHalf cat side before now → AreInHalf cat side half → IsWorkAt cat asked before half plan rows next work
     → WorkStands cat asked database given before.page half plan next work → WorkStands cat asked database given now.page half plan next work
 work_stands_still stay cat asked side before now half plan rows next None database given spares lies is stands = tt
-work_stands_still stay cat asked side before now half plan rows next (Some work) database given spares lies is stands = record {
-  row = stands.row;
-  top = stands.top;
-  rows = stands.rows;
-  met = stands.met;
-  values = stands.values;
-  sought = sought_still stay cat side before now half (look_of plan work) work.search (look_low plan work is.working.tables) spares lies stands.sought;
-}
+work_stands_still stay cat asked side before now half plan rows next (Some work) database given spares lies is stands =
+    stay cat asked side before now half given database next plan work spares lies is.working stands
 
 pub stands_still :
-    SparedRowsStay → (cat : Catalog) (asked : Query) (side : ℕ) (told : Bool) (before now : Device) (pool : Pool) (half : Half) (plan : RowPlan) (rows count spent : ℕ)
+    WorkStillStands → (cat : Catalog) (asked : Query) (side : ℕ) (told : Bool) (before now : Device) (pool : Pool) (half : Half) (plan : RowPlan) (rows count spent : ℕ)
     (work : RowWork) (phase : Phase) (database : Database) (given : List Reply) → SparesHalf cat side before now → AreInHalf cat side half
     → IsAtPhase cat asked told before pool half plan rows count spent work phase
     → PhaseStands cat asked database given before.page half plan work phase → PhaseStands cat asked database given now.page half plan work phase

@@ -1,4 +1,4 @@
--- Laws of jobs.
+-- Laws of jobs, and of texts that are told.
 use Rattle.std.specs.Prelude.{◌≡◌, ℕ, ◌<◌, Bool, List}
 use Rattle.ghost_model.specs.core.Schema.{Schema}
 use Rattle.ghost_model.specs.core.Values.{Database}
@@ -18,6 +18,11 @@ use Rattle.key_exec.specs.Jobs.{leases_of}
 use Rattle.key_exec.specs.Reading.{Knows, KnowsBut, KnowsAll, AreOfAsked, AreAllAsked}
 use Rattle.key_exec.specs.Blaming.{IsDamaged}
 use Rattle.key_exec.specs.Ready.{IsReady, Stands, Spares}
+use Rattle.key_lines.specs.Handing.{Handed}
+use Rattle.channel_pump.specs.declared.state.ReplyState.{ReplyState}
+use Rattle.key_exec.specs.Telling.{CanTell, IsUnderWay}
+use Rattle.key_exec.specs.Telling as telling
+use Rattle.key_exec.specs.declared.telling.Telling.{Telling}
 
 -- replies to all asks of a query are about its asked tables alone, and about all of them
 abbrev pub WholeRepliesAreOfAsked : Type 0
@@ -34,8 +39,8 @@ KnowledgeIsEnough =
 
 abbrev pub DamageIsNeverMet : Type 0
 DamageIsNeverMet =
-    (told : Bool) (page : ℕ → List ℕ) (cat : Catalog) (database : Database) (number slot found : ℕ) → IsTree cat.schema
-    → Knows told page cat database → IsDamaged told page cat number slot found → ⊥
+    (told : Bool) (page : ℕ → List ℕ) (cat : Catalog) (asked : Query) (top side : ℕ) (half : Half) (database : Database) (number slot found : ℕ) → IsTree cat.schema
+    → Knows told page cat database → IsDamaged told page cat asked top side half number slot found → ⊥
 
 -- the static pages are as they were
 abbrev pub KeepsStatic : Catalog → (page now : ℕ → List ℕ) → Type 0
@@ -54,8 +59,8 @@ PagesStayKnownBut =
 
 abbrev pub DamageStays : Type 0
 DamageStays =
-    (told : Bool) (page now : ℕ → List ℕ) (cat : Catalog) (number slot found : ℕ) → IsTree cat.schema → KeepsStatic cat page now
-    → IsDamaged told page cat number slot found → IsDamaged told now cat number slot found
+    (told : Bool) (page now : ℕ → List ℕ) (cat : Catalog) (asked : Query) (top side : ℕ) (half : Half) (number slot found : ℕ) → IsTree cat.schema → KeepsStatic cat page now
+    → IsDamaged told page cat asked top side half number slot found → IsDamaged told now cat asked top side half number slot found
 
 -- what is known with a query and its replies stays known where the static pages and the half of the replies are spared
 abbrev pub KnowledgeIsSpared : Type 0
@@ -86,3 +91,15 @@ abbrev pub BuffersStayBlankOrRead : Type 0
 BuffersStayBlankOrRead =
     (cat : Catalog) (side : ℕ) (before now : Device) (pool later : Pool) (leases : List ℕ) (start : ℕ)
     → Spares cat side before now pool later leases → AreBlankOrRead start before.calls pool leases → AreBlankOrRead start now.calls later leases
+
+-- a text that is told may go on, and is under way, where others use other pages and buffers
+abbrev pub TellingsStayAble : Type 0
+TellingsStayAble =
+    (told : Bool) (cat : Catalog) (side : ℕ) (before now : Device) (pool later : Pool) (one : Telling) → Spares cat side before now pool later (telling.leases_of one)
+    → CanTell told cat side before pool one → CanTell told cat side now later one
+
+abbrev pub TellingsAreSpared : Type 0
+TellingsAreSpared =
+    (told : Bool) (cat : Catalog) (side : ℕ) (before now : Device) (pool later : Pool) (one : Telling) → Spares cat side before now pool later (telling.leases_of one)
+    → (text : List ℕ) (state : ReplyState) (is_marked : Bool) (half : Half) (start : Device) (first last : Handed)
+    → IsUnderWay told cat side text state is_marked half start before first last pool one → IsUnderWay told cat side text state is_marked half start now first last later one

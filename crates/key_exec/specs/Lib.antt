@@ -1,6 +1,10 @@
 pub mod Plans
 pub mod Reading
+pub mod ReadFor
 pub mod Blaming
 pub mod Jobs
 pub mod Ready
+pub mod Rows
+pub mod Texts
+pub mod Telling
 pub mod Laws

@@ -1,6 +1,6 @@
-//! Laws of jobs, which need no code.
+//! Laws of jobs and of texts that are told, which need no code.
 
-ghost use Rattle.key_exec.specs.Laws.{WholeRepliesAreOfAsked, WholeRepliesAreOfAll, KnowledgeIsEnough, DamageIsNeverMet, PagesStayKnown, PagesStayKnownBut, DamageStays, KnowledgeIsSpared, JobsStayReady, JobsStillStand, BuffersStayGiven, BuffersStayBlankOrRead};
+ghost use Rattle.key_exec.specs.Laws.{WholeRepliesAreOfAsked, WholeRepliesAreOfAll, KnowledgeIsEnough, DamageIsNeverMet, PagesStayKnown, PagesStayKnownBut, DamageStays, KnowledgeIsSpared, JobsStayReady, JobsStillStand, BuffersStayGiven, BuffersStayBlankOrRead, TellingsStayAble, TellingsAreSpared};
 
 /// One reply to each ask of a query is about asked tables alone, and about all of them.
 pub fn whole_replies_are_of_asked()
@@ -54,4 +54,13 @@ pub fn jobs_are_spared()
 {
     visible_spool::laws::spared_halves_stay();
     visible_spool::laws::jobs_keep_their_buffers();
+    candidate_rows::laws::work_is_spared();
+}
+
+/// A text that is told stays so where others use other pages and buffers.
+pub fn tellings_are_spared()
+    ensures able { TellingsStayAble }
+    ensures under_way { TellingsAreSpared }
+{
+    jobs_are_spared();
 }

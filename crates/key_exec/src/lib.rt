@@ -1,12 +1,24 @@
-//! The answer of a query by the key: row by row of its top table, from the hidden columns and the replies, which stand on the flash.
+//! The answer of a query by the key, row by row of its top table, from the hidden columns and the replies, which stand on the flash;
+//! and the lines of one text of a session.
 //!
 //! A row of the top table leads along the foreign keys, which are hidden, to one row of each table below. It is printed
 //! where the row of each asked table stands in its reply and each condition on a hidden column or an identifier holds. No
 //! call here takes memory. `docs/SESSION.md` states the rules.
+//!
+//! A refused text has the line of its refusal, a text whose asks did not all come to their end the line of what ended them,
+//! a text whose replies could not be written that of the flash's fault, and every other text the rows of its answer and their
+//! number, or a fault of the key's flash behind some of them. They are
+//! told in steps of one line, or of a few calls on the flash, at most.
 #![tactic(auto)]
 
+pub mod damage;
 pub mod job;
 pub mod laws;
 mod lending;
+pub mod telling;
+pub mod text;
 
+pub use damage::Damage;
 pub use job::{Job, Turn};
+pub use telling::Telling;
+pub use text::Told;

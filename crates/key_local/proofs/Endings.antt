@@ -1,12 +1,12 @@
 -- How the command ended, from what its parts did.
-use Rattle.std.proofs.Common.{◌≡◌, ◌⊎◌, inl, inr, ◌≤◌, ◌<◌, ◌+◌, min, ℕ, Bool, true, false, List, [], Option, None, Some, Result, Ok, Err, refl, sym, ap, ◌∙◌, subst, arith}
+use Rattle.std.proofs.Common.{◌≡◌, ◌⊎◌, inl, inr, ◌≤◌, ◌<◌, ◌+◌, min, ℕ, Bool, true, false, List, [], Option, Some, Result, Ok, Err, refl, sym, ap, ◌∙◌, subst, arith}
 use Rattle.std.specs.Prelude.{count_by}
 use Rattle.std.proofs.lemmas.Bool.{cases_lt}
 use Rattle.ghost_model.specs.core.Causes.{Rose, last_count}
 use Rattle.ghost_model.specs.core.Channel.{Catalog, Journal}
 use Rattle.ghost_model.specs.core.Database.{IsDatabase}
 use Rattle.ghost_model.specs.forms.Flash.{HoldsFiles, HoldsFilesSoFar, Holds}
-use Rattle.ghost_model.specs.forms.Layout.{need, static_end, public_pages}
+use Rattle.ghost_model.specs.forms.Layout.{need, static_end}
 use Rattle.ghost_model.specs.laws.FlashLaws.{HoldingsAreKept}
 use Rattle.ghost_model.specs.laws.LayoutLaws.{LieInOrder}
 use Rattle.ghost_model.specs.laws.SchemaTrees.{IsTree}
@@ -22,7 +22,7 @@ use Rattle.key_inputs.specs.Openings.{Opening}
 use Rattle.key_words.specs.Words.{Local}
 use Rattle.key_plain.specs.Openings.{PlainInput}
 use Rattle.key_lines.specs.Handing.{Hands, handed}
-use Rattle.local_lines.specs.Lines.{Gives, bytes_given, is_cut}
+use Rattle.key_local.specs.Lines.{Gives, bytes_given, is_cut}
 use Rattle.key_local.specs.Sessions.{Subject, subject, catalog_for, LocalSide, Ran, GivesLines, HasLines, session_side_in, is_sink}
 use Rattle.key_local.specs.Results.{EndsLocal, EndsLocalCall, EndsSomeLocal, IsMade, subject_of, blames_depot, blames_flash, is_faultless}
 use Rattle.key_local.specs.Making.{IsOfMaking}

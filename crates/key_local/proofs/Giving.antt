@@ -1,14 +1,12 @@
 -- What a session ran over, from what the key, the link and the journal's file tell.
-use Rattle.std.proofs.Common.{◌≡◌, ℕ, Bool, true, false, List, [], length, Option, None, Some, refl, sym, ap, ◌∙◌, subst}
+use Rattle.std.proofs.Common.{◌≡◌, ◌+◌, ℕ, Bool, true, false, List, [], Option, None, refl, sym, ap, ◌∙◌, subst}
+use Rattle.std.specs.Prelude.{◌%◌}
 use Rattle.std.specs.List.{list_any}
 use Rattle.ghost_model.specs.core.Asks.{asked_of}
 use Rattle.ghost_model.specs.core.Causes.{Rose}
 use Rattle.ghost_model.specs.core.Channel.{Catalog, Journal}
-use Rattle.ghost_model.specs.core.Moves.{taken}
-use Rattle.ghost_model.specs.core.NextMove.{Standing, standing_after, heard, IsFinished}
-use Rattle.ghost_model.specs.core.Printed.{printed}
+use Rattle.ghost_model.specs.core.NextMove.{Standing, standing_after, IsFinished}
 use Rattle.ghost_model.specs.core.Schema.{Schema}
-use Rattle.ghost_model.specs.core.Split.{hidden_of}
 use Rattle.ghost_model.specs.core.Values.{Database}
 use Rattle.ghost_model.specs.forms.Layout.{static_end, need}
 use Rattle.ghost_model.specs.laws.SchemaTrees.{IsTree}
@@ -17,16 +15,14 @@ use Rattle.edge_traits.specs.Files.{Files}
 use Rattle.edge_traits.specs.Written.{grown}
 use Rattle.session_laws.specs.Local.{IsLocal, IsUnbroken, LocalSessionsAreServed}
 use Rattle.key_session.specs.Refusing.{first_code}
-use Rattle.key_session.specs.Running.{IsTally, status_of, blames_flash, is_sink as wrote_none, is_damaged as is_damage}
-use Rattle.key_session.specs.Telling.{SessionSide, AreTold}
-use Rattle.key_exec.specs.Blaming.{IsDamaged}
-use Rattle.key_exec.specs.Laws.{DamageStays}
-use Rattle.text_lines.specs.declared.damage.Damage.{Damage}
-use Rattle.key_session.specs.declared.tally.SessionStatus.{SessionStatus}
+use Rattle.key_session.specs.Running.{blames_flash, is_sink as wrote_none, is_damaged as is_damage}
+use Rattle.key_session.specs.Damages.{IsSlot}
+use Rattle.key_exec.specs.Laws.{DamageStays, KeepsStatic}
+use Rattle.key_exec.specs.declared.damage.Damage.{Damage}
 use Rattle.key_session.specs.declared.tally.SessionStatus.TheVariants as status
 use Rattle.key_session.specs.declared.tally.Tally.{Tally}
 use Rattle.key_lines.specs.Handing.{Hands, handed}
-use Rattle.local_lines.specs.Lines.{Gives, GivesByTally, ToldTextsAreGiven, is_cut, bytes_given}
+use Rattle.key_local.specs.Lines.{AreAnswered, Gives, GivesByTally, ToldTextsAreGiven, is_cut, bytes_given}
 use Rattle.key_local.specs.Running.{RanOver, KeepsLines}
 use Rattle.key_local.specs.Sessions.{LocalSide, GivesLines, local_side, session_side_in, is_sink, is_damaged}
 use Rattle.key_local.specs.declared.ends.LocalEnd.{LocalEnd}
@@ -64,16 +60,35 @@ gives_as schema database texts wrote failed before after same gives = record {
   unblamed = gives.unblamed;
 }
 
+-- a damaged slot stays damaged where the static pages do
+slot_stays : DamageStays → (told : Bool) (page now : ℕ → List ℕ) (catalog : Catalog) (texts : List (List ℕ)) (damage : Damage) → IsTree catalog.schema → KeepsStatic catalog page now
+    → IsSlot told page catalog texts damage → IsSlot told now catalog texts damage
+slot_stays stays told page now catalog texts damage tree same slot =
+    let of = slot.1.is in (
+      slot.0,
+      record {
+        text = slot.1.text;
+        stands = slot.1.stands;
+        half = slot.1.half;
+        is = record {
+          query = of.query;
+          means = of.means;
+          top = of.top;
+          top_is = of.top_is;
+          is = stays told page now catalog of.query of.top ((slot.0 + 1) % 2) slot.1.half damage.page damage.slot damage.found tree same of.is;
+        };
+      },
+    )
+
 -- a session was held to its end
 pub ran_over : (told : Bool) (catalog : Catalog) (database : Database) (texts : List (List ℕ)) (name : Option (List ℕ)) (end : LocalEnd) (tally : Tally) (before after : LocalSide) (journal : Journal)
     → LocalSessionsAreServed → ToldTextsAreGiven → DamageStays → IsTree catalog.schema
     → IsLocal catalog database [] texts journal → IsFinished journal
     → ((Rose before.append_faults after.append_faults → ⊥) → KeepsLines before.files after.files name journal)
     → (end ≡ ends.Ok → KeepsLines before.files after.files name journal)
-    → (told ≡ true → AreTold catalog (hidden_of catalog.schema database) texts journal (length texts)
-    (λ reasons. IsTally (wrote_none tally.status) (standing_after catalog (asked_of catalog.schema texts) journal) reasons tally) (session_side_in false before) (session_side_in (wrote_none tally.status) after))
+    → (told ≡ true → AreAnswered told before.device.page catalog database texts journal (wrote_none tally.status) (standing_after catalog (asked_of catalog.schema texts) journal) tally (session_side_in false before) (session_side_in (wrote_none tally.status) after))
     → GivesLines catalog texts journal (handed false before.sink_faults before.written) (handed (wrote_none tally.status) after.sink_faults after.written)
-    → ((damage : Damage) → tally.status ≡ status.Damaged damage → IsDamaged told before.device.page catalog damage.page damage.slot damage.found) → ChangesOnly (static_end catalog) (need catalog) before.device after.device
+    → ((damage : Damage) → tally.status ≡ status.Damaged damage → IsSlot told before.device.page catalog texts damage) → ChangesOnly (static_end catalog) (need catalog) before.device after.device
     → is_sink end ≡ wrote_none tally.status → (end ≡ ends.Ok → tally.status ≡ status.Ok) → (end ≡ ends.Flash → blames_flash tally.status ≡ true)
     → (blames_flash tally.status ≡ true → Rose before.device.calls after.device.calls) → (is_damage tally.status ≡ true → Rose before.device.calls after.device.calls)
     → ((damage : Damage) → end ≡ ends.Damaged damage → tally.status ≡ status.Damaged damage)
@@ -84,7 +99,7 @@ ran_over told catalog database texts name end tally before after journal served 
     let right = valid catalog database texts journal unbroken in
     let none = granted catalog database texts journal unbroken in
     let by_tally : told ≡ true → GivesByTally (wrote_none tally.status) (standing_after catalog (asked_of catalog.schema texts) journal) tally catalog.schema database texts (session_side_in false before) (session_side_in (wrote_none tally.status) after) =
-    (λ t. given catalog database texts journal (wrote_none tally.status) (standing_after catalog (asked_of catalog.schema texts) journal) tally (session_side_in false before) (session_side_in (wrote_none tally.status) after) is_local finished (are_told t)) in
+    (λ t. given told before.device.page catalog database texts journal (wrote_none tally.status) (standing_after catalog (asked_of catalog.schema texts) journal) tally (session_side_in false before) (session_side_in (wrote_none tally.status) after) is_local finished (are_told t)) in
     record {
       journal = journal;
       is_local = is_local;
@@ -110,7 +125,7 @@ ran_over told catalog database texts name end tally before after journal served 
           let none_found : is_damage tally.status ≡ false = ap is_damage all.status_is ∙ no_damage (wrote_none tally.status) (standing_after catalog (asked_of catalog.schema texts) journal) (list_any is_cut all.gives.given) stays right none in
           false_is_not (sym none_found ∙ damage_found end tally.status damaged found));
       damaged = λ damage is.
-          stays_damaged told before.device.page after.device.page catalog damage.page damage.slot damage.found tree
+          slot_stays stays_damaged told before.device.page after.device.page catalog texts damage tree
           (λ number static. (pages.below number static).bytes) (blamed damage (damaged damage is));
     }
 

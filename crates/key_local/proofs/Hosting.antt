@@ -9,7 +9,7 @@ use Rattle.ghost_model.specs.core.Split.{Public, SpellsImage, cells_of_tables}
 use Rattle.edge_traits.specs.Files.{Files, file_of}
 use Rattle.host_exec.specs.Checked.{IsImage}
 use Rattle.host_exec.specs.Holdings.{HoldsFile, AreStarts, ImagesAreHeld}
-use Rattle.host_exec.specs.Hosts.{Holds, StandsAs, name_of}
+use Rattle.host_exec.specs.Hosts.{Holds, StandsAs}
 use Rattle.host_exec.specs.Replies.{source_of}
 use Rattle.host_exec.specs.Saying.{Stands}
 use Rattle.host_exec.specs.declared.host.Host.{Host}

@@ -1,6 +1,6 @@
 -- The file of a finished journal.
-use Rattle.std.proofs.Common.{◌≡◌, ℕ, zero, suc, ◌+◌, ◌≤◌, ◌<◌, List, [], ◌∷◌, ◌++◌, length, flat_map, Option, None, Some, refl, sym, ap, ◌∙◌, subst, arith, length-append}
-use Rattle.ghost_model.specs.core.Channel.{Journal, Entry, Move, Close, Answer}
+use Rattle.std.proofs.Common.{◌≡◌, ℕ, ◌<◌, List, [], ◌∷◌, length, Option, None, Some, sym, ap, subst, arith, length-append}
+use Rattle.ghost_model.specs.core.Channel.{Journal, Move, Close, Answer}
 use Rattle.ghost_model.specs.core.Moves.{line, lines, line_of}
 use Rattle.ghost_model.specs.core.NextMove.{IsFinished}
 use Rattle.edge_traits.specs.Files.{or_empty}

@@ -1,3 +1,4 @@
+pub mod LinesTold
 pub mod Settings
 pub mod Journals
 pub mod Keeping

@@ -1,14 +1,14 @@
 -- How a session with a host in the key's own process can end.
-use Rattle.std.proofs.Common.{◌≡◌, Bool, true, false, ◌||◌, List, [], ◌∷◌, map, Option, None, Some, refl, sym, ap, ◌∙◌, subst}
+use Rattle.std.proofs.Common.{◌≡◌, Bool, true, false, ◌||◌, List, [], ◌∷◌, Option, None, Some, refl, ap, ◌∙◌}
 use Rattle.std.specs.List.{list_any}
-use Rattle.ghost_model.specs.core.Channel.{Entry, Journal}
+use Rattle.ghost_model.specs.core.Channel.{Journal}
 use Rattle.ghost_model.specs.core.Moves.{answers}
 use Rattle.ghost_model.specs.core.NextMove.{Standing, EndedAsk, Ending, Answered, Refused, is_stop}
 use Rattle.ghost_model.specs.core.Lines.{was_refused, is_refused_by}
 use Rattle.std.specs.Option.{option_or}
 use Rattle.key_session.specs.Refusing.{first_code, code_of}
-use Rattle.key_session.specs.Running.{status_of, status_with, is_sink, blames_flash, is_damaged as is_damage}
-use Rattle.text_lines.specs.declared.damage.Damage.{Damage}
+use Rattle.key_session.specs.Running.{status_of, status_with, blames_flash, is_damaged as is_damage}
+use Rattle.key_exec.specs.declared.damage.Damage.{Damage}
 use Rattle.key_session.specs.declared.tally.SessionStatus.{SessionStatus}
 use Rattle.key_session.specs.declared.tally.SessionStatus.TheVariants as status
 use Rattle.key_local.specs.Running.{is_of_local}

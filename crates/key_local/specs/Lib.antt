@@ -1,3 +1,4 @@
+pub mod Lines
 pub mod Openings
 pub mod Sessions
 pub mod Results

@@ -3,7 +3,6 @@ use Rattle.std.specs.Prelude.{◌≡◌, ℕ, Bool, true, false, List, [], Optio
 use Rattle.std.specs.List.{list_any}
 use Rattle.ghost_model.specs.core.Causes.{Rose}
 use Rattle.ghost_model.specs.core.Channel.{Catalog, Journal}
-use Rattle.ghost_model.specs.core.Host.{Holding}
 use Rattle.ghost_model.specs.core.Moves.{lines}
 use Rattle.ghost_model.specs.core.NextMove.{IsFinished}
 use Rattle.ghost_model.specs.core.Printed.{printed}
@@ -14,12 +13,12 @@ use Rattle.edge_traits.specs.Files.{Files}
 use Rattle.edge_traits.specs.Written.{grown}
 use Rattle.local_links.specs.Journaling.{told_file}
 use Rattle.local_links.specs.declared.host_link.HostLink.{HostLink}
-use Rattle.key_exec.specs.Blaming.{IsDamaged}
-use Rattle.text_lines.specs.declared.damage.Damage.{Damage}
+use Rattle.key_session.specs.Damages.{IsSlot}
+use Rattle.key_exec.specs.declared.damage.Damage.{Damage}
 use Rattle.key_session.specs.declared.tally.SessionStatus.{SessionStatus}
 use Rattle.key_session.specs.declared.tally.SessionStatus.TheVariants as status
 use Rattle.key_lines.specs.Handing.{handed}
-use Rattle.local_lines.specs.Lines.{Gives, is_cut}
+use Rattle.key_local.specs.Lines.{Gives, is_cut}
 use Rattle.key_local.specs.Sessions.{LocalSide, GivesLines, session_side_in, is_sink, is_damaged}
 use Rattle.key_local.specs.Preparing.{IsHosted}
 use Rattle.key_local.specs.declared.ends.LocalEnd.{LocalEnd}
@@ -69,4 +68,4 @@ pub record RanOver (told : Bool) (catalog : Catalog) (database : Database) (text
   pub called : end ≡ ends.Flash → Rose before.device.calls after.device.calls
   pub damage_called : is_damaged end ≡ true → Rose before.device.calls after.device.calls
   pub undamaged : told ≡ true → is_damaged end ≡ false
-  pub damaged : (damage : Damage) → end ≡ ends.Damaged damage → IsDamaged told after.device.page catalog damage.page damage.slot damage.found
+  pub damaged : (damage : Damage) → end ≡ ends.Damaged damage → IsSlot told after.device.page catalog texts damage

@@ -1,6 +1,6 @@
 -- What a session with a host in the key's own process does: it goes by the one journal of its database and its texts, keeps
 -- that journal where a file is named for it, and gives each text's lines.
-use Rattle.std.specs.Prelude.{◌≡◌, ℕ, ◌+◌, Bool, true, false, List, [], ◌∷◌, length, Option, None, Some, ⊤}
+use Rattle.std.specs.Prelude.{◌≡◌, ℕ, ◌+◌, Bool, true, false, List, [], length, Option, None, Some, ⊤}
 use Rattle.std.specs.List.{list_any}
 use Rattle.ghost_model.specs.core.Causes.{Rose}
 use Rattle.ghost_model.specs.core.Channel.{Catalog, Journal}
@@ -18,14 +18,14 @@ use Rattle.session_laws.specs.Local.{IsLocal}
 use Rattle.edge_traits.specs.Devices.{Device}
 use Rattle.edge_traits.specs.Files.{Files, HasFile, SameBut}
 use Rattle.edge_traits.specs.Written.{grown}
-use Rattle.key_exec.specs.Blaming.{IsDamaged}
-use Rattle.text_lines.specs.declared.damage.Damage.{Damage}
+use Rattle.key_session.specs.Damages.{IsSlot}
+use Rattle.key_exec.specs.declared.damage.Damage.{Damage}
 use Rattle.ghost_model.specs.core.Lines.{Reason}
 use Rattle.key_lines.specs.Handing.{Handed, handed}
 use Rattle.key_session.specs.Reasons.{HaveLines}
 use Rattle.key_session.specs.Telling.{SessionSide, session_side}
 use Rattle.key_words.specs.Words.{Local}
-use Rattle.local_lines.specs.Lines.{Gives, is_cut}
+use Rattle.key_local.specs.Lines.{Gives, is_cut}
 use Rattle.key_local.specs.declared.ends.LocalEnd.{LocalEnd}
 use Rattle.key_local.specs.declared.ends.LocalEnd.TheVariants as ends
 
@@ -114,7 +114,7 @@ pub record Ran (told : Bool) (one : Subject) (end : LocalEnd) (before after : Lo
   -- pages are told none is
   pub damage_called : is_damaged end ≡ true → Rose (before.device.calls + load_calls (catalog_in one) (hidden_of one.schema one.database)) after.device.calls
   pub undamaged : told ≡ true → is_damaged end ≡ false
-  pub damaged : (damage : Damage) → end ≡ ends.Damaged damage → IsDamaged told after.device.page (catalog_in one) damage.page damage.slot damage.found
+  pub damaged : (damage : Damage) → end ≡ ends.Damaged damage → IsSlot told after.device.page (catalog_in one) one.texts damage
   -- and the flash has been made for it, under the name that the words say
   pub name : after.device.name ≡ Some one.words.flash
   pub holds : told ≡ true → Holds after.device.page (catalog_in one) (hidden_of one.schema one.database)

@@ -17,20 +17,20 @@ ghost use Rattle.key_words.specs.Views.{local_view};
 ghost use Rattle.key_session.specs.Running as session;
 ghost use Rattle.key_local.specs.Preparing.{IsHosted};
 ghost use Rattle.key_local.specs.Running.{RanOver, IsSomeHosted, is_of_local, clears_journal, clears_flash};
-ghost use Rattle.text_lines.specs.declared.damage.Damage.{Damage};
+ghost use Rattle.key_exec.specs.declared.damage.Damage.{Damage};
 ghost use Rattle.key_local.specs.declared.ends.LocalEnd.TheVariants as ends;
 ghost use Rattle.key_local.specs.Sessions.{SameBesides, is_sink, local_side};
 
 use crate::ends::LocalEnd;
+use crate::laws::told_texts_are_given;
 use edge_traits::depot::Depot;
 use edge_traits::flash::Flash;
 use edge_traits::mem_depot::MemDepot;
 use edge_traits::sink::Sink;
 use ghost_model::layout::catalogs_are_limited;
-use key_exec::laws::knowledge_stays;
+use key_exec::laws::{knowledge_is_enough, knowledge_stays};
 use key_session::{Options, SessionStatus, run_session};
 use key_words::LocalWords;
-use local_lines::laws::told_texts_are_given;
 use local_links::host_link::HostLink;
 use local_links::journaled::Journaled;
 use local_links::laws::{proper_journals_are_written, sessions_are_local};
@@ -107,6 +107,7 @@ fn hold<D: Depot, F: Flash, O: Sink>(
     proper_journals_are_written::<HostLink<MemDepot>, D>();
     local_sessions_are_served();
     told_texts_are_given();
+    knowledge_is_enough();
     knowledge_stays();
     let options = Options {
         at: "",

@@ -8,7 +8,7 @@ ghost use Rattle.key_words.specs.Views.{query_view};
 ghost use Rattle.key_inputs.specs.Openings.{Spelled, Missing};
 ghost use Rattle.key_inputs.specs.Scripts.{script_opening};
 ghost use Rattle.key_lines.specs.Handing.{handed};
-ghost use Rattle.text_lines.specs.Rows.{PrintsSome};
+ghost use Rattle.key_exec.specs.Rows.{PrintsSome};
 ghost use Rattle.key_session.specs.Running.{is_sink, blames_flash, spares_flash};
 ghost use Rattle.key_session.specs.Telling.{session_side};
 ghost use Rattle.key_query.specs.PublicPages.{HasCatalog};

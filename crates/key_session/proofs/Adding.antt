@@ -3,24 +3,24 @@ use Rattle.std.proofs.Common.{◌≡◌, ◌≤◌, ◌<◌, ℕ, zero, suc, ◌
 use Rattle.std.specs.Prelude.{⊤, if◌then◌else◌, count_by, min, is_some, flat_map}
 use Rattle.std.specs.List.{list_any, concat}
 use Rattle.std.proofs.lemmas.Grind.{flat_map-append}
+use Rattle.std.proofs.lemmas.List.{length-map}
 use Rattle.std.proofs.lemmas.List.Folds.{list_any-append}
 use Rattle.std.proofs.lemmas.List.Sums.{sum_by-append}
 use Rattle.ghost_model.specs.core.Causes.{Rose, last_count}
 use Rattle.ghost_model.specs.core.Channel.{Catalog, Journal}
-use Rattle.ghost_model.specs.core.Split.{Hidden}
 use Rattle.ghost_model.specs.core.Lines.{Reason}
 use Rattle.key_lines.specs.Handing.{Handed, Hands, PiecesJoin}
-use Rattle.text_lines.specs.Rows.{PrintsSome}
-use Rattle.text_lines.specs.Texts.{ToldTells, ToldCalls, ToldBlames}
-use Rattle.text_lines.specs.declared.text.Told.{Told}
-use Rattle.text_lines.specs.declared.text.Told.TheVariants as told
+use Rattle.key_exec.specs.Rows.{PrintsSome}
+use Rattle.key_exec.specs.Texts.{ToldTells, ToldCalls, ToldBlames}
+use Rattle.key_exec.specs.declared.text.Told.{Told}
+use Rattle.key_exec.specs.declared.text.Told.TheVariants as told
 use Rattle.key_session.specs.Counting.{damage_in, first_damage, first_of, reason_of, is_refusal, is_fault, is_flash, is_broken, is_damage, one_if, IsCounted, AreCounted}
-use Rattle.key_session.specs.Damages.{IsSlot, MeetsFirst}
+use Rattle.key_session.specs.Damages.{IsSoOfText, IsSlotOf, IsSlot, MeetsFirst}
 use Rattle.key_session.specs.Reasons.{HasReason, HaveSoFar, AreBlamed, HasLines, HaveLinesOf, HaveLines}
 use Rattle.std.proofs.lemmas.Option.{slice_get_within}
-use Rattle.key_session.specs.Telling.{TextTold, reasons_of, bytes_of, bytes_told, IsTold, WereTold, AreKeptSoFar, AreUndamagedSoFar, AreLeft}
+use Rattle.key_session.specs.Telling.{AreKeptSoFar, AreLeft}
 use Rattle.key_session.specs.declared.counts.Counts.{Counts}
-use Rattle.text_lines.specs.declared.damage.Damage.{Damage}
+use Rattle.key_exec.specs.declared.damage.Damage.{Damage}
 
 some_same : {X : Type 0} (x y : X) → Some x ≡ Some y → x ≡ y
 some_same x y e = cc
@@ -47,9 +47,6 @@ count_more p reasons reason =
 map_more : {X Y : Type 0} (f : X → Y) (xs : List X) (x : X) → map f (xs ++ x ∷ []) ≡ map f xs ++ f x ∷ []
 map_more f [] x = refl
 map_more {X} {Y} f (first ∷ xs) x = ap (λ (rest : List Y). f first ∷ rest) (map_more f xs x)
-
-reasons_more : (told : List TextTold) (one : TextTold) → reasons_of (told ++ one ∷ []) ≡ reasons_of told ++ one.reason ∷ []
-reasons_more told one = map_more (λ (text : TextTold). text.reason) told one
 
 or_none : (b : Bool) → (b || false) ≡ b
 or_none true = refl
@@ -240,23 +237,29 @@ damage_told told.Marked = refl
 damage_told told.Flash = refl
 damage_told (told.Damaged damage) = refl
 
-module _ (pages_told : Bool) (page : ℕ → List ℕ) (catalog : Catalog) where
-  slot_told : (result : Told) (damage : Damage) → ToldBlames pages_told page catalog result → damage_in result ≡ Some damage → IsSlot pages_told page catalog damage
-  slot_told told.Refused damage blames e = cc
-  slot_told told.Answered damage blames e = cc
-  slot_told told.Host damage blames e = cc
-  slot_told told.Link damage blames e = cc
-  slot_told told.Protocol damage blames e = cc
-  slot_told told.Marked damage blames e = cc
-  slot_told told.Flash damage blames e = cc
-  slot_told (told.Damaged met) damage blames e = subst (λ (d : Damage). IsSlot pages_told page catalog d) (some_same met damage e) blames
+module _ (pages_told : Bool) (page : ℕ → List ℕ) (catalog : Catalog) (texts : List (List ℕ)) where
+  -- a slot that is blamed for the text at a place
+  abbrev BlamedAt : (place : ℕ) → Told → Type 0
+  BlamedAt place result = IsSoOfText texts place (λ text side half. ToldBlames pages_told page catalog text side half result)
+
+  slot_told : (place : ℕ) (result : Told) (damage : Damage) → BlamedAt place result → damage_in result ≡ Some damage → IsSlotOf pages_told page catalog texts place damage
+  slot_told place told.Refused damage blames e = cc
+  slot_told place told.Answered damage blames e = cc
+  slot_told place told.Host damage blames e = cc
+  slot_told place told.Link damage blames e = cc
+  slot_told place told.Protocol damage blames e = cc
+  slot_told place told.Marked damage blames e = cc
+  slot_told place told.Flash damage blames e = cc
+  slot_told place (told.Damaged met) damage blames e =
+      subst (λ (d : Damage). IsSlotOf pages_told page catalog texts place d) (some_same met damage e)
+      (record { text = blames.text; stands = blames.stands; half = blames.half; is = blames.is })
 
   -- the damage that was met first is that of a slot
-  pub one_damage : (before after : Option Damage) (result : Told) → after ≡ first_damage before (damage_in result) → ToldBlames pages_told page catalog result
-      → ((damage : Damage) → before ≡ Some damage → IsSlot pages_told page catalog damage)
-      → (damage : Damage) → after ≡ Some damage → IsSlot pages_told page catalog damage
-  one_damage (Some first) after result is blames were damage e = were damage (sym is ∙ e)
-  one_damage None after result is blames were damage e = slot_told result damage blames (sym is ∙ e)
+  pub one_damage : (place : ℕ) (before after : Option Damage) (result : Told) → after ≡ first_damage before (damage_in result) → BlamedAt place result
+      → ((damage : Damage) → before ≡ Some damage → IsSlot pages_told page catalog texts damage)
+      → (damage : Damage) → after ≡ Some damage → IsSlot pages_told page catalog texts damage
+  one_damage place (Some first) after result is blames were damage e = were damage (sym is ∙ e)
+  one_damage place None after result is blames were damage e = (place, slot_told place result damage blames (sym is ∙ e))
 
   first_more : (damages : List (Option Damage)) (met : Option Damage) → first_of (damages ++ met ∷ []) ≡ first_damage (first_of damages) met
   first_more [] None = refl
@@ -265,9 +268,9 @@ module _ (pages_told : Bool) (page : ℕ → List ℕ) (catalog : Catalog) where
   first_more (Some damage ∷ damages) met = refl
 
   -- the first damage after one more text
-  met_more : (reasons : List Reason) (before after : Option Damage) (result : Told) → after ≡ first_damage before (damage_in result) → ToldBlames pages_told page catalog result
-      → MeetsFirst pages_told page catalog reasons before → MeetsFirst pages_told page catalog (reasons ++ reason_of result ∷ []) after
-  met_more reasons before after result is blames met = record {
+  met_more : (count : ℕ) (reasons : List Reason) (before after : Option Damage) (result : Told) → length reasons ≡ count → after ≡ first_damage before (damage_in result)
+      → BlamedAt count result → MeetsFirst pages_told page catalog texts reasons before → MeetsFirst pages_told page catalog texts (reasons ++ reason_of result ∷ []) after
+  met_more count reasons before after result long is blames met = record {
     damages = met.damages ++ damage_in result ∷ [];
     by_reason = map_more (λ (one : Option Damage). is_some one) met.damages (damage_in result)
         ∙ ap (λ (tests : List Bool). tests ++ is_some (damage_in result) ∷ []) met.by_reason
@@ -276,20 +279,23 @@ module _ (pages_told : Bool) (page : ℕ → List ℕ) (catalog : Catalog) where
     each = λ place damage e.
         elim (last_or_before met.damages (damage_in result) place (Some damage) e) [
           | inl f ↦ met.each place damage f
-          | inr f ↦ slot_told result damage blames f.1
+          | inr f ↦ subst (λ (n : ℕ). IsSlotOf pages_told page catalog texts n damage) (sym (f.0 ∙ as_many ∙ long)) (slot_told count result damage blames f.1)
         ];
     first_is = is ∙ ap (λ (first : Option Damage). first_damage first (damage_in result)) met.first_is ∙ sym (first_more met.damages (damage_in result));
   }
+    where
+      as_many : length met.damages ≡ length reasons
+      as_many = sym (length-map met.damages is_some) ∙ ap (λ (tests : List Bool). length tests) met.by_reason ∙ length-map reasons is_damage
 
   -- one more text has a reason, and lines for it
-  pub one_reason : PiecesJoin → (texts : List (List ℕ)) (journal : Journal) (count : ℕ) (old new : Counts) (since before now marks : ℕ) (marked : Bool) (result : Told)
+  pub one_reason : PiecesJoin → (journal : Journal) (count : ℕ) (old new : Counts) (since before now marks : ℕ) (marked : Bool) (result : Told)
       (first middle last : Handed) (lines : List (List ℕ))
-      → (are : HaveSoFar catalog texts journal count (AreKeptSoFar pages_told page catalog old (one_if marked + marks) since before)) → HasReason catalog texts journal count (reason_of result)
+      → (are : HaveSoFar catalog texts journal count (AreKeptSoFar pages_told page catalog texts old (one_if marked + marks) since before)) → HasReason catalog texts journal count (reason_of result)
       → ToldTells before now result → TellsMark marked result → IsCounted (reason_of result) old new
-      → new.damage ≡ first_damage old.damage (damage_in result) → ToldBlames pages_told page catalog result
+      → new.damage ≡ first_damage old.damage (damage_in result) → BlamedAt count result
       → HaveLines catalog texts journal are.reasons first middle → HasLines catalog texts journal count (reason_of result) lines → Hands (concat lines) middle last
-      → (more : HaveSoFar catalog texts journal (count + 1) (AreKeptSoFar pages_told page catalog new marks since now)) × HaveLines catalog texts journal more.reasons first last × (more.reasons ≡ are.reasons ++ reason_of result ∷ [])
-  one_reason join texts journal count old new since before now marks marked result first middle last lines are is tells mark counted met blames have has hands =
+      → (more : HaveSoFar catalog texts journal (count + 1) (AreKeptSoFar pages_told page catalog texts new marks since now)) × HaveLines catalog texts journal more.reasons first last × (more.reasons ≡ are.reasons ++ reason_of result ∷ [])
+  one_reason join journal count old new since before now marks marked result first middle last lines are is tells mark counted met blames have has hands =
       let long : length are.reasons ≡ count = are.as_many in
       let longer : length (are.reasons ++ reason_of result ∷ []) ≡ length are.reasons + 1 = length-append are.reasons (reason_of result ∷ []) in (
         record {
@@ -303,7 +309,7 @@ module _ (pages_told : Bool) (page : ℕ → List ℕ) (catalog : Catalog) where
           counted = record {
             kept = record {
               counted = counted_more are.reasons (reason_of result) old new are.counted.kept.counted counted;
-              met = met_more are.reasons old.damage new.damage result met blames are.counted.kept.met;
+              met = met_more count are.reasons old.damage new.damage result long met blames are.counted.kept.met;
             };
             faults = blamed_more are.reasons since before now marks marked result tells mark are.counted.faults;
           };
@@ -312,36 +318,6 @@ module _ (pages_told : Bool) (page : ℕ → List ℕ) (catalog : Catalog) where
             (subst (λ (n : ℕ). HasLines catalog texts journal n (reason_of result) lines) (sym long) has) hands,
         refl,
       )
-
-pub one_told : PiecesJoin → (catalog : Catalog) (kept : Hidden) (texts : List (List ℕ)) (journal : Journal) (count : ℕ) (old new : Counts) (since before now marks : ℕ) (marked : Bool) (first middle last : Handed) (result : Told) (lines : List (List ℕ))
-    → WereTold catalog kept texts journal count (AreUndamagedSoFar old (one_if marked + marks) since before) first middle
-    → IsTold catalog kept texts journal count (record { reason = reason_of result; lines = lines })
-    → Hands (concat lines) middle last → ToldTells before now result → TellsMark marked result → IsCounted (reason_of result) old new
-    → WereTold catalog kept texts journal (count + 1) (AreUndamagedSoFar new marks since now) first last
-one_told join catalog kept texts journal count old new since before now marks marked first middle last result lines are is hands tells mark counted =
-    let one : TextTold = record { reason = reason_of result; lines = lines } in
-    let long : length are.told ≡ count = are.as_many in
-    let longer : length (are.told ++ one ∷ []) ≡ length are.told + 1 = length-append are.told (one ∷ []) in
-    let bytes : bytes_told (are.told ++ one ∷ []) ≡ bytes_told are.told ++ concat lines =
-    flat_map-append bytes_of are.told (one ∷ []) ∙ ap (λ (bs : List ℕ). bytes_told are.told ++ bs) (append-nil (concat lines)) in
-    record {
-      told = are.told ++ one ∷ [];
-      as_many = omega (arith, long, longer);
-      each = λ place it e.
-          elim (last_or_before are.told one place it e) [
-            | inl f ↦ are.each place it f
-            | inr f ↦ subst (λ (x : TextTold). IsTold catalog kept texts journal place x) f.1 (subst (λ (n : ℕ). IsTold catalog kept texts journal n one) (sym (f.0 ∙ long)) is)
-          ];
-      handed_on = subst (λ (bs : List ℕ). Hands bs first last) (sym bytes) (join.two (bytes_told are.told) (concat lines) first middle last are.handed_on hands);
-      counted = subst (λ (rs : List Reason). AreUndamagedSoFar new marks since now rs) (sym (reasons_more are.told one))
-          (record {
-            undamaged = record {
-              counted = counted_more (reasons_of are.told) (reason_of result) old new are.counted.undamaged.counted counted;
-              undamaged = counted.damage is.undamaged ∙ are.counted.undamaged.undamaged;
-            };
-            faults = blamed_more (reasons_of are.told) since before now marks marked result tells mark are.counted.faults;
-          });
-    }
 
 -- the first of the texts that are left
 pub next_of : (texts : List (List ℕ)) (count : ℕ) (written : List ℕ) (later : List (List ℕ)) → drop count texts ≡ written ∷ later → slice_get texts count ≡ Some written

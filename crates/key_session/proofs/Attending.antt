@@ -2,7 +2,7 @@
 use Rattle.std.proofs.Common.{◌≡◌, ◌≤◌, ◌<◌, ℕ, zero, suc, ◌+◌, arith, Bool, true, false, ◌||◌, ◌==◌, List, [], ◌∷◌, length, drop, refl, sym, ap, ◌∙◌, subst, Some, None}
 use Rattle.std.proofs.lemmas.Bool.{eq-eqb}
 use Rattle.std.proofs.lemmas.Bool.Decides.{nat_tests}
-use Rattle.std.specs.Prelude.{not, nat_lt, ◌&&◌, if◌then◌else◌, codes, is_some, option_map, Option}
+use Rattle.std.specs.Prelude.{not, nat_lt, nat_le, ◌&&◌, if◌then◌else◌, codes, is_some, option_map, Option}
 use Rattle.std.specs.List.{list_any, cons_option}
 use Rattle.ghost_model.specs.core.Query.{Query}
 use Rattle.ghost_model.specs.core.Channel.{Catalog, Journal}
@@ -11,11 +11,15 @@ use Rattle.ghost_model.specs.core.Moves.{taken, answers}
 use Rattle.ghost_model.specs.core.NextMove.{Awaits, AwaitsCatalog, AwaitsReply, AwaitsNothing, is_stop}
 use Rattle.channel_pump.specs.Marks.{asked_at}
 use Rattle.channel_pump.specs.declared.state.Pump.{Pump}
-use Rattle.channel_session.specs.Sessions.{asked_in}
+use Rattle.ghost_model.specs.forms.Frames.{payload_in}
+use Rattle.channel_pump.specs.Progress.{MayCome, Tells}
+use Rattle.channel_pump.specs.Sessions.{asked_in, leads_on}
+use Rattle.channel_pump.specs.declared.state.Event.{Event}
+use Rattle.channel_pump.specs.declared.state.Event.TheVariants as event_is
 use Rattle.session_laws.specs.TextEnds.{heard_in, is_settled, is_settled_in, is_over, OverTextsAreSettled}
 use Rattle.session_laws.specs.TextCases.{is_refused_in, IsDecided, TextsAreDecided, Outcome, IsDone, ByHost}
-use Rattle.reply_laws.specs.Order.{TextsComeInOrder, IsInOrder}
-use Rattle.session_replies.specs.declared.replies.Replies.{Replies}
+use Rattle.key_session.specs.TextOrder.{TextsComeInOrder, IsInOrder}
+use Rattle.key_session.specs.declared.replies.Replies.{Replies}
 use Rattle.channel_pump.specs.State.{want_of}
 use Rattle.channel_pump.specs.declared.state.Want.{Want}
 use Rattle.channel_pump.specs.declared.state.Want.TheVariants as want_is
@@ -25,11 +29,11 @@ use Rattle.ghost_model.specs.core.NextMove.{Heard}
 use Rattle.edge_traits.specs.Devices.{Device}
 use Rattle.page_pool.specs.Pools.{Pool}
 use Rattle.key_lines.specs.Handing.{Handed}
-use Rattle.session_replies.specs.Kept.{IsKept}
+use Rattle.key_session.specs.Kept.{IsKept}
 use Rattle.key_session.specs.Awaiting.{IsWithin, IsAwaiting}
-use Rattle.key_session.specs.Order.{due_of, is_first, is_owed, is_closed}
+use Rattle.key_session.specs.Order.{due_of, is_first, is_owed, is_closed, owed_on}
 use Rattle.key_session.specs.Telling.{SessionSide, CameOut, AreLeft, texts_left}
-use Rattle.key_session.specs.Going.{IsGoing, IsNear, IsNext}
+use Rattle.key_session.specs.Going.{IsGoing, IsNear, IsNext, is_ready, is_far, rule_of}
 use Rattle.key_session.specs.declared.counts.Counts.{Counts}
 use Rattle.key_session.specs.declared.pace.Due.TheVariants as due
 use Rattle.key_session.specs.declared.teller.Teller.{Teller}
@@ -205,6 +209,108 @@ module _ (over : OverTextsAreSettled) (order : TextsComeInOrder) (decided : Text
     where
       from : (text count : ℕ) → (text ≤ count → ⊥) → count + 1 ≤ text
       from text count none = omega (arith, none)
+
+-- ---- the rule of what is due
+
+false_is_not : false ≡ true → ⊥
+false_is_not e = cc
+
+same_rule : (far allowed later : Bool) → (far ≡ true → later ≡ true) → (far || (allowed && later)) ≡ (later && (allowed || far))
+same_rule true true true e = refl
+same_rule true false true e = refl
+same_rule true allowed false e = absurd (false_is_not (e refl))
+same_rule false true true e = refl
+same_rule false true false e = refl
+same_rule false false true e = refl
+same_rule false false false e = refl
+
+or_true : (a : Bool) → (a || true) ≡ true
+or_true true = refl
+or_true false = refl
+
+and_false : (a : Bool) → (a && false) ≡ false
+and_false true = refl
+and_false false = refl
+
+far_later : (number text : ℕ) → nat_le (number + 2) text ≡ true → nat_lt number text ≡ true
+far_later number text e = grind (arith, nat_tests)
+
+not_below : (a b : ℕ) → nat_lt a b ≡ false → b ≤ a
+not_below a b e = grind (arith, nat_tests)
+
+is_below : (a b : ℕ) → nat_lt a b ≡ true → a < b
+is_below a b e = grind (arith, nat_tests)
+
+module _ (over : OverTextsAreSettled) (order : TextsComeInOrder) (decided : TextsAreDecided) (catalog : Catalog) (texts : List (List ℕ)) (journal : Journal) (count owed : ℕ)
+    (awaited : 0 < owed → is_some (asked_in (heard_in catalog texts journal).awaits) ≡ true) where
+  -- the next text is settled where an ask of a later one is at hand
+  settled_is : ((text : ℕ) → 1 ≤ text → text ≤ count → is_settled_in catalog texts journal text ≡ true) → (one : NumberedAsk) → asked_in (heard_in catalog texts journal).awaits ≡ Some one
+      → is_settled_in catalog texts journal (count + 1) ≡ nat_lt (count + 1) one.text
+  settled_is told one at = by (nat_lt (count + 1) one.text) refl
+    where
+      un : is_settled_in catalog texts journal one.text ≡ false
+      un = unsettled over order decided catalog texts journal one at
+
+      from : (one.text ≤ count → ⊥) → one.text ≤ count + 1 → one.text ≡ count + 1
+      from none upto = omega (arith, none, upto)
+
+      by : (later : Bool) → nat_lt (count + 1) one.text ≡ later → is_settled_in catalog texts journal (count + 1) ≡ later
+      by true e = before_settled over order decided catalog texts journal one at (count + 1) (is_below (count + 1) one.text e)
+      by false e =
+          let here : one.text ≡ count + 1 =
+          from (λ upto. true_is_not_false (sym (told one.text (order catalog texts (taken journal) one at).numbered upto) ∙ un)) (not_below (count + 1) one.text e) in
+          ap (λ (n : ℕ). is_settled_in catalog texts journal n) (sym here) ∙ un
+
+  none_allowed : asked_in (heard_in catalog texts journal).awaits ≡ None → nat_lt 0 owed ≡ false
+  none_allowed none = by (nat_lt 0 owed) refl
+    where
+      by : (allowed : Bool) → nat_lt 0 owed ≡ allowed → nat_lt 0 owed ≡ false
+      by false e = e
+      by true e = absurd (false_is_not (sym (ap (λ (one : Option NumberedAsk). is_some one) none) ∙ awaited (is_below 0 owed e)))
+
+  -- what is due is due by the rule
+  pub due_rule : (closed left : Bool) → (closed ≡ false → (text : ℕ) → 1 ≤ text → text ≤ count → is_settled_in catalog texts journal text ≡ true)
+      → due_of closed left owed (count + 1) (option_map (λ (one : NumberedAsk). one.text) (asked_at (heard_in catalog texts journal).awaits))
+      ≡ rule_of closed left (is_ready closed catalog texts journal (count + 1)) (nat_lt 0 owed) (is_far (count + 1) (asked_in (heard_in catalog texts journal).awaits))
+  due_rule true true told = ap (λ (b : Bool). if b then due.Slice else due.Ended) (sym (or_true (nat_lt 0 owed)))
+  due_rule true false told = refl
+  due_rule false false told = refl
+  due_rule false true told =
+      ap (λ (one : Option NumberedAsk). if is_first owed (count + 1) (option_map (λ (a : NumberedAsk). a.text) one) then due.Slice else due.Move) (same_asked (heard_in catalog texts journal).awaits)
+      ∙ ap (λ (b : Bool). if b then due.Slice else due.Move) (by (asked_in (heard_in catalog texts journal).awaits) refl)
+    where
+      by : (asked : Option NumberedAsk) → asked_in (heard_in catalog texts journal).awaits ≡ asked
+          → is_first owed (count + 1) (option_map (λ (a : NumberedAsk). a.text) (asked_in (heard_in catalog texts journal).awaits))
+          ≡ (is_settled_in catalog texts journal (count + 1) && (nat_lt 0 owed || is_far (count + 1) (asked_in (heard_in catalog texts journal).awaits)))
+      by None e =
+          ap (λ (one : Option NumberedAsk). is_first owed (count + 1) (option_map (λ (a : NumberedAsk). a.text) one)) e
+          ∙ sym (and_false (is_settled_in catalog texts journal (count + 1)))
+          ∙ ap (λ (b : Bool). is_settled_in catalog texts journal (count + 1) && (b || false)) (sym (none_allowed e))
+          ∙ ap (λ (one : Option NumberedAsk). is_settled_in catalog texts journal (count + 1) && (nat_lt 0 owed || is_far (count + 1) one)) (sym e)
+      by (Some one) e =
+          ap (λ (a : Option NumberedAsk). is_first owed (count + 1) (option_map (λ (a : NumberedAsk). a.text) a)) e
+          ∙ same_rule (nat_le (count + 1 + 2) one.text) (nat_lt 0 owed) (nat_lt (count + 1) one.text) (far_later (count + 1) one.text)
+          ∙ ap (λ (b : Bool). b && (nat_lt 0 owed || nat_le (count + 1 + 2) one.text)) (sym (settled_is (told refl) one e))
+          ∙ ap (λ (a : Option NumberedAsk). is_settled_in catalog texts journal (count + 1) && (nat_lt 0 owed || is_far (count + 1) a)) (sym e)
+
+came_asked : (catalog : Catalog) (awaits : Awaits) (payload : List ℕ) (n : ℕ) → MayCome catalog awaits payload n → is_some (asked_in awaits) ≡ true
+came_asked catalog (AwaitsCatalog bytes) payload n came = absurd came
+came_asked catalog (AwaitsReply asked serial later count last) payload n came = refl
+came_asked catalog AwaitsNothing payload n came = absurd came
+
+none_owed : (owed : ℕ) → owed ≡ 0 → 0 < owed → ⊥
+none_owed owed none some = omega (arith, none, some)
+
+-- slices are allowed only where a reply is awaited
+pub owed_behind : (catalog : Catalog) (page : List ℕ) (event : Event) (before after : Heard) (numbers : List ℕ) (place owed : ℕ) → Tells catalog page event before after
+    → (leads_on event ≡ false → asked_in after.awaits ≡ asked_in before.awaits) → owed ≡ owed_on event numbers place → 0 < owed → is_some (asked_in after.awaits) ≡ true
+owed_behind catalog page event_is.Part before after numbers place owed tells same is some = absurd (none_owed owed is some)
+owed_behind catalog page event_is.Welcome before after numbers place owed tells same is some = absurd (none_owed owed is some)
+owed_behind catalog page (event_is.Rows n) before after numbers place owed tells same is some =
+    ap (λ (one : Option NumberedAsk). is_some one) (same refl) ∙ came_asked catalog before.awaits (payload_in page) n tells.came
+owed_behind catalog page event_is.Done before after numbers place owed tells same is some = absurd (none_owed owed is some)
+owed_behind catalog page (event_is.Sorry code) before after numbers place owed tells same is some = absurd (none_owed owed is some)
+owed_behind catalog page (event_is.Invalid kind place_of) before after numbers place owed tells same is some = absurd (none_owed owed is some)
 
 -- the reply to the ask that is awaited was begun
 pub begun_reply : (told : Bool) (device : Device) (pool : Pool) (catalog : Catalog) (heard : Heard) (low top : ℕ) (old new : Replies) (asked : NumberedAsk) → asked_in heard.awaits ≡ Some asked → new.is_open ≡ true → new.hand.text ≡ asked.text

@@ -22,25 +22,25 @@ use Rattle.channel_pump.specs.declared.state.ReplyState.TheVariants as state_is
 use Rattle.session_laws.specs.TextEnds.{heard_in, is_settled_in}
 use Rattle.session_laws.specs.TextCases.{TextsAreDecided}
 use Rattle.visible_spool.specs.declared.half.Half.{Half}
-use Rattle.session_replies.specs.Kept.{IsKept, is_lost, half_in, lease_of}
-use Rattle.session_replies.specs.Given.{KeptAreGiven}
-use Rattle.session_replies.specs.Laws.{RepliesStayKept, LaterTextsAreUnmarked, LowRises}
-use Rattle.session_replies.specs.declared.replies.Replies.{Replies}
+use Rattle.key_session.specs.Kept.{IsKept, is_lost, half_in, lease_of}
+use Rattle.key_session.specs.Given.{KeptAreGiven}
+use Rattle.key_session.specs.Laws.{RepliesStayKept, LaterTextsAreUnmarked, LowRises}
+use Rattle.key_session.specs.declared.replies.Replies.{Replies}
 use Rattle.key_lines.specs.Handing.{Handed, PiecesJoin}
 use Rattle.candidate_rows.specs.Laws.{WholeRepliesAreToAsks}
 use Rattle.key_exec.specs.Laws.{WholeRepliesAreOfAsked, WholeRepliesAreOfAll}
-use Rattle.text_lines.specs.Texts.{IsAccepted, IsDone, ToldTells}
-use Rattle.text_lines.specs.Telling as lines
-use Rattle.text_lines.specs.Telling.{CanTell, IsUnderWay, HasTold, GoesOn, AreRepliesOf, AreRepliesTo}
-use Rattle.text_lines.specs.declared.telling.Telling.{Telling}
-use Rattle.text_lines.specs.declared.text.Told.{Told}
-use Rattle.key_session.specs.Telling.{SessionSide, IsTelling, AreKeptSoFar, AreUndamagedSoFar, marks_behind, reasons_of, texts_left}
+use Rattle.key_exec.specs.Texts.{IsAccepted, IsDone, ToldTells}
+use Rattle.key_exec.specs.Telling as lines
+use Rattle.key_exec.specs.Telling.{CanTell, IsUnderWay, HasTold, GoesOn, AreRepliesOf, AreRepliesTo}
+use Rattle.key_exec.specs.declared.telling.Telling.{Telling}
+use Rattle.key_exec.specs.declared.text.Told.{Told}
+use Rattle.key_session.specs.Telling.{SessionSide, IsTelling, AreKeptSoFar, marks_behind, texts_left}
 use Rattle.key_session.specs.Going.{CanRun, IsGoing, IsNext, IsTaken, IsRunning, Runs, IsAmid, IsBegun, IsOutAlone, EndsText, leases_of}
 use Rattle.key_session.specs.declared.counts.Counts.{Counts}
 use Rattle.key_session.specs.declared.teller.Teller.{Teller}
 use Rattle.key_session.proofs.Coming.{done_so}
 use Rattle.key_session.proofs.OneMore.{PageLaws, tell_one, no_fall, files_kept}
-use Rattle.key_session.proofs.Readings.{damage_on}
+use Rattle.key_session.proofs.Readings.{read_later}
 use Rattle.key_session.proofs.Marking.{marked_same}
 use Rattle.key_session.proofs.Adding.{next_of, still_no_fall, rose_before, either_of}
 
@@ -163,22 +163,15 @@ telling_spared pages_told catalog texts journal top since sink before now pool m
       marked = marked_same catalog texts count since.flash.calls before.calls now.calls store store (λ text. refl) calls telling.marked;
       prints = telling.prints;
       damaged = telling.damaged;
-      read = λ damage e. damage_on since.flash.calls since.flash.calls before now (omega arith) keeps.gave pages_told catalog damage.page damage.slot damage.found (telling.read damage e);
+      read = λ damage e. read_later since.flash.calls since.flash.calls before now (omega arith) keeps.gave pages_told catalog texts damage (telling.read damage e);
       reasons = record {
         reasons = telling.reasons.reasons;
         as_many = telling.reasons.as_many;
         each = telling.reasons.each;
-        counted = subst (λ (n : ℕ). AreKeptSoFar pages_told since.flash.page catalog counts (marks_behind store count) since.flash.faults n telling.reasons.reasons) (sym faults) telling.reasons.counted;
+        counted = subst (λ (n : ℕ). AreKeptSoFar pages_told since.flash.page catalog texts counts (marks_behind store count) since.flash.faults n telling.reasons.reasons) (sym faults) telling.reasons.counted;
       };
       lines = telling.lines;
       answers = telling.answers;
-      told = λ database knows. (let are = telling.told database knows in record {
-        told = are.told;
-        as_many = are.as_many;
-        each = are.each;
-        handed_on = are.handed_on;
-        counted = subst (λ (n : ℕ). AreUndamagedSoFar counts (marks_behind store count) since.flash.faults n (reasons_of are.told)) (sym faults) are.counted;
-      });
     }
 
 -- the buffer of the replies is none of those that the text has
@@ -302,7 +295,7 @@ module _ (join : PiecesJoin) (decided : TextsAreDecided) (laws : PageLaws) (stay
   still_runs goes = still_running pages_told catalog texts journal old.count begun.state begun.half since.flash begun.first before now pool more store text next has number goes.0 goes.1
 
   pub was_told : IsTree catalog.schema → (new : Teller) (result : Told) → ToldTells before.flash.faults now.flash.faults result
-      → HasTold pages_told catalog next.number has.written begun.state (is_lost store (old.count + 1)) begun.half begun.first.flash now.flash begun.first.sink now.sink result
+      → HasTold pages_told catalog ((old.count + 1) % 2) next.number has.written begun.state (is_lost store (old.count + 1)) begun.half begun.first.flash now.flash begun.first.sink now.sink result
       → EndsText result old new → IsAmid pages_told catalog texts journal since now more pump new store
   was_told tree new result tells ends ended = record {
     sink = now.sink;
@@ -310,7 +303,7 @@ module _ (join : PiecesJoin) (decided : TextsAreDecided) (laws : PageLaws) (stay
       top = begun.going.top;
       telling = tell_one join decided laws later rises pages_told catalog tree texts journal begun.going.top since begun.first before now old new pool more store begun.state begun.half text result
           begun.going.telling has
-          (subst (λ (n : ℕ). HasTold pages_told catalog n has.written begun.state (is_lost store (old.count + 1)) begun.half begun.first.flash now.flash begun.first.sink now.sink result) (number ∙ has.number) ends)
+          (subst (λ (n : ℕ). HasTold pages_told catalog ((old.count + 1) % 2) n has.written begun.state (is_lost store (old.count + 1)) begun.half begun.first.flash now.flash begun.first.sink now.sink result) (number ∙ has.number) ends)
           tells keeps kept_now ended;
       settled = λ opened other from upto.
           settled_by catalog texts journal other old.count (let count : new.count ≡ old.count + 1 = ended.count in omega (arith, count, upto))

@@ -10,7 +10,7 @@ use Rattle.ghost_model.specs.core.Moves.{answers}
 use Rattle.ghost_model.specs.core.NextMove.{Awaits, AwaitsCatalog, AwaitsReply, AwaitsNothing, Ending, Answered, Refused, EndedAsk, Standing, standing_after, is_stop}
 use Rattle.ghost_model.specs.core.Split.{Hidden}
 use Rattle.ghost_model.specs.core.Replies.{replies, answer_from}
-use Rattle.ghost_model.specs.core.Lines.{Reason, WasBroken, AreLinesFor, BrokenLines, ended_of, all_done, broken_word, is_refused_by, session_text}
+use Rattle.ghost_model.specs.core.Lines.{WasBroken, AreLinesFor, BrokenLines, ended_of, all_done, broken_word, is_refused_by, session_text}
 use Rattle.ghost_model.specs.core.Printed.{word_line}
 use Rattle.channel_pump.specs.Marks as marks
 use Rattle.channel_pump.specs.Marks.{is_refusal, awaited, state_of}
@@ -18,13 +18,12 @@ use Rattle.channel_pump.specs.declared.state.ReplyState.{ReplyState}
 use Rattle.channel_pump.specs.declared.state.ReplyState.TheVariants as state_is
 use Rattle.session_laws.specs.TextEnds.{not_ended, is_settled, heard_in, is_settled_in, EndedTextsStay}
 use Rattle.session_laws.specs.TextCases.{is_refused_in, IsDecided, TextsAreDecided, Outcome, IsDone, ByHost, ByLink, ByFrame}
-use Rattle.text_lines.specs.Texts.{broken_line, IsToldBy, Why, is_refused as why_refused, is_answered, is_broken, AreBrokenLines, AreAnswerLines}
-use Rattle.text_lines.specs.declared.text.Told.{Told}
-use Rattle.text_lines.specs.declared.text.Told.TheVariants as told
-use Rattle.key_session.specs.Counting.{reason_of, is_damage}
-use Rattle.text_lines.specs.Telling.{AreLinesOf}
+use Rattle.key_exec.specs.Texts.{broken_line, IsToldBy, Why, is_refused as why_refused, is_answered, is_broken, AreBrokenLines, AreAnswerLines}
+use Rattle.key_exec.specs.declared.text.Told.{Told}
+use Rattle.key_exec.specs.declared.text.Told.TheVariants as told
+use Rattle.key_session.specs.Counting.{reason_of}
+use Rattle.key_exec.specs.Telling.{AreLinesOf}
 use Rattle.key_session.specs.Reasons.{IsReason, CameTo, AreSomeLines, HasAnswerLines}
-use Rattle.key_session.specs.Telling.{IsTold}
 
 -- whether an ask of a text was refused
 abbrev is_refused : (text : ℕ) → List EndedAsk → Bool
@@ -210,10 +209,6 @@ answers_so catalog kept texts journal place written stands decided outcome state
   lines_are = broken_so catalog texts journal place written w.query kept lines w.accepted state
       (came catalog texts journal place written w.query (decided w.query w.accepted) (outcome w.query w.accepted) state is_state) w.not_done result w.are;
 }
-
-pub told_so : (catalog : Catalog) (kept : Hidden) (texts : List (List ℕ)) (journal : Journal) (place : ℕ) (lines : List (List ℕ)) (reason : Reason) → is_damage reason ≡ false
-    → HasAnswerLines catalog kept texts journal place reason lines → IsTold catalog kept texts journal place (record { reason = reason; lines = lines })
-told_so catalog kept texts journal place lines reason undamaged has = record { written = has.written; stands = has.stands; lines_are = has.lines_are; undamaged = undamaged }
 
 -- the reason for the lines of the text at a place
 module _ (catalog : Catalog) (texts : List (List ℕ)) (journal : Journal) (place : ℕ) (written : List ℕ) where

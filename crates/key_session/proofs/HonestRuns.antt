@@ -1,7 +1,7 @@
 -- A session with an honest host over sound pages prints what its texts print.
-use Rattle.std.proofs.Common.{◌≡◌, ℕ, suc, zero, ◌+◌, ◌≤◌, min, Bool, true, false, List, [], ◌∷◌, ◌++◌, length, map, flat_map, count_by, slice_get, Some, None, refl, sym, ap, ◌∙◌, subst, arith, append_assoc}
+use Rattle.std.proofs.Common.{◌≡◌, ℕ, suc, zero, ◌+◌, ◌≤◌, min, Bool, true, false, List, [], ◌∷◌, ◌++◌, length, flat_map, count_by, ◌||◌, slice_get, Option, Some, None, refl, sym, ap, ◌∙◌, subst, arith, append_assoc}
 use Rattle.std.specs.List.{list_any, concat}
-use Rattle.std.specs.Prelude.{cond}
+use Rattle.std.specs.Prelude.{cond, is_some}
 use Rattle.std.proofs.lemmas.List.Sums.{sum_by-cons}
 use Rattle.ghost_model.specs.core.Causes.{Rose, last_count}
 use Rattle.ghost_model.specs.core.Values.{Database}
@@ -15,30 +15,20 @@ use Rattle.ghost_model.specs.core.Lines.{Reason, WasRefused, WasBroken, WasAnswe
 use Rattle.ghost_model.specs.core.Printed.{printed}
 use Rattle.edge_traits.specs.Written.{grown}
 use Rattle.session_laws.specs.TextEnds.{heard_in}
-use Rattle.session_laws.specs.HonestSessions.{IsHonestSession, HonestSessionsAreSmooth, HonestLinesArePrinted, AreSoundLines, AreAllLines, is_own_fault}
-use Rattle.key_exec.specs.Reading.{Knows}
+use Rattle.session_laws.specs.HonestSessions.{IsHonestSession, HonestSessionsAreSmooth, HonestLinesArePrinted, AreAllLines, is_own_fault}
+use Rattle.ghost_model.specs.laws.SchemaTrees.{IsTree}
+use Rattle.key_exec.specs.Laws.{KnowledgeIsEnough}
+use Rattle.key_exec.specs.Reading.{Knows, KnowsBut}
 use Rattle.key_session.specs.Answering.{AnswersWhereSound}
 use Rattle.key_session.specs.Counting.{is_flash, is_damage}
 use Rattle.key_session.specs.Refusing.{first_code}
-use Rattle.key_session.specs.Running.{IsTally, status_of}
-use Rattle.key_session.specs.Telling.{SessionSide, AreTold, TextTold, IsTold, reasons_of, bytes_told, bytes_of}
+use Rattle.key_session.specs.Reasons.{HaveReasons, HaveAnswerLines, HasAnswerLines}
+use Rattle.key_session.specs.Running.{IsTallied, status_of, status_with}
+use Rattle.key_session.specs.Telling.{SessionSide}
+use Rattle.key_exec.specs.declared.damage.Damage.{Damage}
 use Rattle.key_session.specs.declared.tally.Tally.{Tally}
 use Rattle.key_session.specs.declared.tally.SessionStatus.TheVariants as status
 use Rattle.key_session.proofs.Settings.{setting, stored}
-
-abbrev lines_in : List TextTold → List (List (List ℕ))
-lines_in told = map (λ (one : TextTold). one.lines) told
-
--- a text that was told, by the place of its lines
-told_at : (told : List TextTold) (place : ℕ) (lines : List (List ℕ)) → slice_get (lines_in told) place ≡ Some lines
-    → (one : TextTold) × (slice_get told place ≡ Some one) × (one.lines ≡ lines)
-told_at [] place lines e = (let bad : ⊥ = cc in absurd bad)
-told_at (one ∷ told) zero lines e = (one, refl, cc)
-told_at (one ∷ told) (suc place) lines e = told_at told place lines e
-
-many_in : (told : List TextTold) → length (lines_in told) ≡ length told
-many_in [] = refl
-many_in (one ∷ told) = ap suc (many_in told)
 
 none_of_both : (test : Bool) (others : ℕ) → cond test 1 0 + others ≡ 0 → (test ≡ false) × (others ≡ 0)
 none_of_both true others none = (let bad : ⊥ = omega (arith, none) in absurd bad)
@@ -49,16 +39,26 @@ none_of_all : (reason : Reason) (reasons : List Reason) → count_by is_flash (r
 none_of_all reason reasons none =
     none_of_both (is_flash reason) (count_by is_flash reasons) (sym (sum_by-cons (λ (one : Reason). cond (is_flash one) 1 0) reason reasons) ∙ none)
 
--- none of the reasons is a fault of the flash
-none_counted : (told : List TextTold) (place : ℕ) (one : TextTold) → count_by is_flash (reasons_of told) ≡ 0
-    → slice_get told place ≡ Some one → is_flash one.reason ≡ false
-none_counted [] place one none e = (let bad : ⊥ = cc in absurd bad)
-none_counted (first ∷ told) zero one none e =
-    let first_not = (none_of_all first.reason (reasons_of told) none).0 in
-    let same : first ≡ one = cc in
-    subst (λ (told : TextTold). is_flash told.reason ≡ false) same first_not
-none_counted (first ∷ told) (suc place) one none e =
-    none_counted told place one (none_of_all first.reason (reasons_of told) none).1 e
+-- what none of the reasons is the one at a place is not
+or_false : (first second : Bool) → (first || second) ≡ false → (first ≡ false) × (second ≡ false)
+or_false true second e = cc
+or_false false second e = (refl, e)
+
+none_at : (test : Reason → Bool) (reasons : List Reason) (place : ℕ) (reason : Reason) → list_any test reasons ≡ false → slice_get reasons place ≡ Some reason → test reason ≡ false
+none_at test [] place reason none e = (let bad : ⊥ = cc in absurd bad)
+none_at test (first ∷ reasons) zero reason none e =
+    let same : first ≡ reason = cc in
+    subst (λ (one : Reason). test one ≡ false) same (or_false (test first) (list_any test reasons) none).0
+none_at test (first ∷ reasons) (suc place) reason none e =
+    none_at test reasons place reason (or_false (test first) (list_any test reasons) none).1 e
+
+-- the reason for the lines at a place
+reason_at : (reasons : List Reason) (lines : List (List (List ℕ))) (place : ℕ) (one : List (List ℕ)) → length lines ≡ length reasons → slice_get lines place ≡ Some one
+    → (reason : Reason) × (slice_get reasons place ≡ Some reason)
+reason_at reasons [] place one many e = (let bad : ⊥ = cc in absurd bad)
+reason_at [] (first ∷ lines) place one many e = absurd (omega (arith, many))
+reason_at (reason ∷ reasons) (first ∷ lines) zero one many e = (reason, refl)
+reason_at (reason ∷ reasons) (first ∷ lines) (suc place) one many e = reason_at reasons lines place one (omega (arith, many)) e
 
 none_any : (reasons : List Reason) → count_by is_flash reasons ≡ 0 → list_any is_flash reasons ≡ false
 none_any [] none = refl
@@ -81,10 +81,14 @@ concat_two : (first second : List (List ℕ)) → concat (first ++ second) ≡ c
 concat_two [] second = refl
 concat_two (line ∷ first) second = ap (λ xs. line ++ xs) (concat_two first second) ∙ sym (append_assoc line (concat first) (concat second))
 
-bytes_in : (told : List TextTold) → bytes_told told ≡ concat (flat_map (λ lines. lines) (lines_in told))
+bytes_in : (lines : List (List (List ℕ))) → flat_map concat lines ≡ concat (flat_map (λ one. one) lines)
 bytes_in [] = refl
-bytes_in (one ∷ told) =
-    ap (λ xs. bytes_of one ++ xs) (bytes_in told) ∙ sym (concat_two one.lines (flat_map (λ lines. lines) (lines_in told)))
+bytes_in (one ∷ lines) =
+    ap (λ xs. concat one ++ xs) (bytes_in lines) ∙ sym (concat_two one (flat_map (λ one. one) lines))
+
+no_damage : (damage : Option Damage) → is_some damage ≡ false → damage ≡ None
+no_damage None e = refl
+no_damage (Some damage) e = cc
 
 no_code : (ended : List EndedAsk) → was_refused ended ≡ false → first_code ended ≡ None
 no_code [] none = refl
@@ -106,35 +110,40 @@ all_well : (session : Standing) → session.stopped ≡ false → session.heard.
 all_well session stopped broken code = rw (stopped, broken, code) refl
 
 module _ (catalog : Catalog) (at : List ℕ) (texts : List (List ℕ)) (database : Database) (journal : Journal) where
-  sound_lines : (told : List TextTold) → count_by is_flash (reasons_of told) ≡ 0 → length told ≡ length texts
-      → ((place : ℕ) (one : TextTold) → slice_get told place ≡ Some one → IsTold catalog (hidden_of catalog.schema database) texts journal place one)
-      → AreAllLines catalog (hidden_of catalog.schema database) texts journal (lines_in told)
-  sound_lines told none many each = record {
-    as_many = many_in told ∙ many;
-    each = λ place lines e.
-        let found = told_at told place lines e in
-        let one = found.0 in
-        let is = each place one found.1 in
-        subst (λ (ls : List (List ℕ)). AreSoundLines catalog (hidden_of catalog.schema database) texts journal (suc place) ls) found.2
-        (record {
+  sound_lines : (reasons : List Reason) (lines : List (List (List ℕ))) → list_any is_flash reasons ≡ false → list_any is_damage reasons ≡ false → length reasons ≡ length texts → length lines ≡ length reasons
+      → ((place : ℕ) (reason : Reason) (one : List (List ℕ)) → slice_get reasons place ≡ Some reason → slice_get lines place ≡ Some one
+      → HasAnswerLines catalog (hidden_of catalog.schema database) texts journal place reason one)
+      → AreAllLines catalog (hidden_of catalog.schema database) texts journal lines
+  sound_lines reasons lines unfailed undamaged all many each = record {
+    as_many = many ∙ all;
+    each = λ place one e.
+        let found = reason_at reasons lines place one many e in
+        let is = each place found.0 one found.1 e in
+        record {
           lines_are = record {
             place = place;
             numbered = omega arith;
             written = is.written;
             stands = is.stands;
-            reason = one.reason;
+            reason = found.0;
             lines_are = is.lines_are;
           };
-          sound = not_own one.reason (none_counted told place one none found.1) is.undamaged;
-        });
+          sound = not_own found.0 (none_at is_flash reasons place found.0 unfailed found.1) (none_at is_damage reasons place found.0 undamaged found.1);
+        };
   }
 
-pub answers_all : HonestSessionsAreSmooth → HonestLinesArePrinted → (told : Bool) (cat : Catalog) (at : List ℕ) (texts : List (List ℕ)) (journal : Journal) (since now : SessionSide) (tally : Tally)
-    → IsCatalog cat → length texts ≤ 64 → IsProper cat at texts journal → IsFinished journal
-    → ((database : Database) → Knows told since.flash.page cat database
-    → AreTold cat (hidden_of cat.schema database) texts journal (length texts) (λ reasons. IsTally now.sink.failed (standing_after cat (asked_of cat.schema texts) journal) reasons tally) since now)
+-- what a finished session told of its texts
+pub record AreAnswered (told : Bool) (cat : Catalog) (texts : List (List ℕ)) (journal : Journal) (since now : SessionSide) (tally : Tally) : Type 0 where
+  pub reasons : HaveReasons cat texts journal (length texts)
+      (λ reasons. IsTallied told since.flash.page cat texts now.sink.failed (standing_after cat (asked_of cat.schema texts) journal) reasons tally) since.flash.faults now.flash.faults
+  pub answers : (database : Database) → KnowsBut told since.flash.page cat database
+      → HaveAnswerLines cat (hidden_of cat.schema database) texts journal reasons.reasons since.sink now.sink
+  pub undamaged : (database : Database) → Knows told since.flash.page cat database → list_any is_damage reasons.reasons ≡ false
+
+pub answers_all : HonestSessionsAreSmooth → HonestLinesArePrinted → KnowledgeIsEnough → (told : Bool) (cat : Catalog) (at : List ℕ) (texts : List (List ℕ)) (journal : Journal) (since now : SessionSide) (tally : Tally)
+    → IsCatalog cat → IsTree cat.schema → length texts ≤ 64 → IsProper cat at texts journal → IsFinished journal → AreAnswered told cat texts journal since now tally
     → AnswersWhereSound told cat texts journal since now tally
-answers_all smooth prints told cat at texts journal since now tally proper few is_proper finished tells = λ database sound.
+answers_all smooth prints enough told cat at texts journal since now tally proper tree few is_proper finished tells = λ database sound.
     let session_is : IsHonestSession cat database at texts journal =
     record {
       setting = setting cat texts proper few;
@@ -142,22 +151,25 @@ answers_all smooth prints told cat at texts journal since now tally proper few i
       proper = is_proper;
       honest = sound.host;
     } in
-    let are = tells database sound.pages in
-    let none : count_by is_flash (reasons_of are.told) ≡ 0 =
-    no_flash since.flash.faults (count_by is_flash (reasons_of are.told)) now.flash.faults are.blamed sound.flash in
+    let are = tells.reasons in
+    let have = tells.answers database (enough told since.flash.page cat database tree sound.pages) in
+    let undamaged = tells.undamaged database sound.pages in
+    let unfailed : list_any is_flash are.reasons ≡ false =
+    none_any are.reasons (no_flash since.flash.faults (count_by is_flash are.reasons) now.flash.faults are.blamed sound.flash) in
     let went = smooth cat database at texts journal session_is in
     let session = standing_after cat (asked_of cat.schema texts) journal in
     let ok : status_of false session false ≡ status.Ok =
     all_well session (no_stop journal sound.host.nothing_breaks_off) went.valid
     (no_code (heard_in cat texts journal).ended went.none_refused) in
-    let all : bytes_told are.told ≡ printed cat.schema texts database =
-    bytes_in are.told
-    ∙ ap concat (prints cat database at texts journal (lines_in are.told) session_is finished
-    (sound_lines cat at texts database journal are.told none are.as_many are.each)) in
+    let all : flat_map concat have.lines ≡ printed cat.schema texts database =
+    bytes_in have.lines
+    ∙ ap concat (prints cat database at texts journal have.lines session_is finished
+    (sound_lines cat at texts database journal are.reasons have.lines unfailed undamaged are.as_many have.as_many have.each)) in
     record {
-      printed_all = (are.handed_on.whole sound.sink).written ∙ ap (λ bytes. grown since.sink.written bytes) all;
+      printed_all = (have.handed_on.whole sound.sink).written ∙ ap (λ bytes. grown since.sink.written bytes) all;
       status_is =
           are.counted.status_is
-          ∙ (ap (λ (failed : Bool). status_of failed session (list_any is_flash (reasons_of are.told))) sound.sink
-          ∙ (ap (λ (by_flash : Bool). status_of false session by_flash) (none_any (reasons_of are.told) none) ∙ ok));
+          ∙ (ap (λ (failed : Bool). status_with failed session (list_any is_flash are.reasons) are.counted.damage) sound.sink
+          ∙ (ap (λ (by_flash : Bool). status_with false session by_flash are.counted.damage) unfailed
+          ∙ (ap (λ (damage : Option Damage). status_with false session false damage) (no_damage are.counted.damage (are.counted.found ∙ undamaged)) ∙ ok)));
     }

@@ -16,15 +16,15 @@ use Rattle.ghost_model.proofs.SessionLemmas.Answered.{of_text}
 use Rattle.edge_traits.specs.Devices.{Device}
 use Rattle.page_pool.specs.Pools.{Pool}
 use Rattle.channel_pump.specs.declared.state.ReplyState.{ReplyState}
-use Rattle.channel_session.specs.Sessions.{asked_in}
+use Rattle.channel_pump.specs.Sessions.{asked_in}
 use Rattle.session_laws.specs.TextEnds.{heard_in, AsksAreAwaitedInOrder}
-use Rattle.session_replies.specs.Kept.{IsKept, is_lost}
-use Rattle.session_replies.specs.Hearing.{MarkTells}
-use Rattle.session_replies.specs.Laws.{LaterTextsAreUnmarked}
-use Rattle.session_replies.specs.declared.replies.Replies.{Replies}
-use Rattle.text_lines.specs.Texts.{IsToldBy}
-use Rattle.text_lines.specs.declared.text.Told.{Told}
-use Rattle.text_lines.specs.declared.text.Told.TheVariants as told
+use Rattle.key_session.specs.Kept.{IsKept, is_lost}
+use Rattle.key_session.specs.Hearing.{MarkTells}
+use Rattle.key_session.specs.Laws.{LaterTextsAreUnmarked}
+use Rattle.key_session.specs.declared.replies.Replies.{Replies}
+use Rattle.key_exec.specs.Texts.{IsToldBy}
+use Rattle.key_exec.specs.declared.text.Told.{Told}
+use Rattle.key_exec.specs.declared.text.Told.TheVariants as told
 use Rattle.key_session.specs.Counting.{one_if}
 use Rattle.key_session.specs.Reasons.{AreBlamed, is_refused_text}
 use Rattle.key_session.specs.Telling.{AreMarked, marks_behind}

@@ -12,17 +12,17 @@ use Rattle.ghost_model.specs.core.Split.{hidden_of}
 use Rattle.channel_pump.specs.Progress.{Tells, ended_on}
 use Rattle.channel_pump.specs.declared.state.Event.{Event}
 use Rattle.channel_pump.specs.declared.state.Event.TheVariants as event_is
-use Rattle.channel_session.specs.Sessions.{Moved, asked_in}
-use Rattle.channel_session.specs.declared.exchange.Exchange.{Exchange}
+use Rattle.channel_pump.specs.Sessions.{Moved, asked_in}
+use Rattle.channel_pump.specs.declared.exchange.Exchange.{Exchange}
 use Rattle.session_laws.specs.TextEnds.{heard_in, is_settled_in, EndedTextsStay, ReasonsStay}
-use Rattle.reply_laws.specs.Fits.{Fits, RepliesFit}
-use Rattle.session_replies.specs.Kept.{IsKept, is_lost, lease_of, none_heard}
-use Rattle.session_replies.specs.Hearing.{Hears, IsSomeHeard, HasHeard, MarkTells}
-use Rattle.session_replies.specs.declared.replies.Replies.{Replies}
+use Rattle.key_session.specs.Fits.{Fits, RepliesFit}
+use Rattle.key_session.specs.Kept.{IsKept, is_lost, lease_of, none_heard}
+use Rattle.key_session.specs.Hearing.{Hears, IsSomeHeard, HasHeard, MarkTells, WritesHalf}
+use Rattle.key_session.specs.declared.replies.Replies.{Replies}
 use Rattle.std.specs.Option.{option_or}
 use Rattle.key_session.specs.Refusing.{code_of, first_code, code_on}
 use Rattle.session_laws.specs.TextCases.{TextsAreDecided, is_refused_in}
-use Rattle.text_lines.specs.Texts.{broken_line}
+use Rattle.key_exec.specs.Texts.{broken_line}
 use Rattle.key_session.specs.Reasons.{CameTo, IsReason, AreSomeLines}
 use Rattle.page_pool.specs.Pools.{Pool}
 use Rattle.session_laws.specs.TextEnds.{OverTextsAreSettled, StaysSettledIn, AsksAreAwaitedInOrder}
@@ -33,7 +33,7 @@ use Rattle.channel_pump.specs.State.{want_of}
 use Rattle.channel_pump.specs.declared.state.Pump.{Pump}
 use Rattle.channel_pump.specs.declared.state.Want.TheVariants as want_is
 use Rattle.channel_pump.specs.declared.state.ReplyState.TheVariants as state_is
-use Rattle.reply_laws.specs.Order.{TextsComeInOrder}
+use Rattle.key_session.specs.TextOrder.{TextsComeInOrder}
 use Rattle.ghost_model.specs.core.Causes.{Rose, last_count}
 use Rattle.ghost_model.specs.core.Replies.{Reply}
 use Rattle.edge_traits.specs.Devices.{Device}
@@ -44,21 +44,21 @@ use Rattle.visible_spool.specs.declared.spool.Spool.{Spool}
 use Rattle.visible_spool.specs.Sides.{is_marked}
 use Rattle.visible_spool.specs.Sparing.{SparesHalf}
 use Rattle.key_lines.specs.Handing.{Handed}
-use Rattle.text_lines.specs.Telling as lines
-use Rattle.text_lines.specs.Telling.{IsUnderWay, AreRepliesOf}
-use Rattle.text_lines.specs.Laws.{TellingsStayAble, TellingsAreSpared}
+use Rattle.key_exec.specs.Telling as lines
+use Rattle.key_exec.specs.Telling.{IsUnderWay, AreRepliesOf}
+use Rattle.key_exec.specs.Laws.{TellingsStayAble, TellingsAreSpared}
 use Rattle.key_exec.specs.Ready.{Spares}
-use Rattle.text_lines.specs.declared.telling.Telling.{Telling}
+use Rattle.key_exec.specs.declared.telling.Telling.{Telling}
 use Rattle.key_session.specs.Awaiting.{IsWithin, IsOpen, IsAwaiting}
-use Rattle.key_session.specs.Telling.{SessionSide, AreMarked, KeepsFiles, reasons_of, texts_left}
+use Rattle.key_session.specs.Telling.{SessionSide, AreMarked, KeepsFiles, texts_left}
 use Rattle.key_session.specs.Going.{CanRun, IsOutAlone, IsNear, IsGoing, IsTaken, IsRunning, Runs, IsAmid}
 use Rattle.key_session.specs.declared.counts.Counts.{Counts}
 use Rattle.key_session.specs.declared.teller.Teller.{Teller}
 use Rattle.key_session.proofs.Coming.{done_so, done_still}
 use Rattle.key_session.proofs.Attending.{settled_outcome, before_settled, unsettled, within_now}
-use Rattle.key_session.proofs.OneMore.{no_fall, files_on}
+use Rattle.key_session.proofs.OneMore.{no_fall, files_on, half_files}
 use Rattle.key_session.proofs.Adding.{still_no_fall, rose_before}
-use Rattle.key_session.proofs.Readings.{damage_on}
+use Rattle.key_session.proofs.Readings.{read_later}
 use Rattle.key_session.proofs.Marking.{MarksGo, marks_same, marks_go, marked_same, marked_go, awaited_accepted}
 
 or_else_twice : (a b c : Option ℕ) → option_or (option_or a b) c ≡ option_or a (option_or b c)
@@ -205,7 +205,7 @@ module _ (over : OverTextsAreSettled) (order : TextsComeInOrder) (decided : Text
       let same : now ≡ before = still (none_open none) in
       let lost : (text : ℕ) → is_lost kept text ≡ is_lost replies text = λ text. ap (λ (s : Spool). is_marked s.sides text) (still_spool (none_open none) ∙ spool) in
       record {
-        files = heard.writes;
+        files = half_files catalog middle.hand.text before now heard.writes;
         faults = marks.never_falls;
         marks = marks_same count before.faults now.faults replies kept lost (ap (λ (d : Device). d.faults) same);
         marked = λ since stayed are. marked_same catalog texts count since before.calls now.calls replies kept lost calls are;
@@ -232,7 +232,7 @@ module _ (over : OverTextsAreSettled) (order : TextsComeInOrder) (decided : Text
       λ settled. last_text one.text count from close
       (λ (e : one.text ≡ count + 1). true_is_not_false (sym settled ∙ (ap (λ (n : ℕ). is_settled_in catalog texts journal n) (sym e) ∙ unsettled over order decided catalog texts journal one is))) in
       record {
-        files = heard.writes;
+        files = half_files catalog middle.hand.text before now heard.writes;
         faults = marks.never_falls;
         marks = marks_go count one.text before now replies kept from close mine others;
         marked = λ since stayed are.
@@ -272,7 +272,7 @@ going_on stay reasons decided pages_told catalog texts journal more since sink b
     marked = tells.marked since.flash.calls going.telling.calls going.telling.marked;
     prints = going.telling.prints;
     damaged = going.telling.damaged;
-    read = λ damage e. damage_on since.flash.calls since.flash.calls before now (omega arith) tells.files.gave pages_told catalog damage.page damage.slot damage.found (going.telling.read damage e);
+    read = λ damage e. read_later since.flash.calls since.flash.calls before now (omega arith) tells.files.gave pages_told catalog texts damage (going.telling.read damage e);
     reasons = record {
       reasons = going.telling.reasons.reasons;
       as_many = going.telling.reasons.as_many;
@@ -318,28 +318,6 @@ going_on stay reasons decided pages_told catalog texts journal more since sink b
                     (settled_at place (slice_get_within going.telling.reasons.reasons place reason e)) has.stands has.lines_are;
               };
           handed_on = are.handed_on;
-        };
-    told = λ database knows.
-        let are = going.telling.told database knows in
-        record {
-          told = are.told;
-          as_many = are.as_many;
-          each = λ place one e.
-              let is = are.each place one e in
-              let many : length are.told ≡ count = are.as_many in
-              let within : place < length are.told = slice_get_within are.told place one e in
-              record {
-                written = is.written;
-                stands = is.stands;
-                lines_are = reasons catalog (hidden_of catalog.schema database) texts journal more place is.written one.lines one.reason
-                    (going.settled opened (suc place) (omega arith) (omega (arith, many, within))) is.stands is.lines_are;
-                undamaged = is.undamaged;
-              };
-          handed_on = are.handed_on;
-          counted = record {
-            undamaged = are.counted.undamaged;
-            faults = tells.marks.blamed (reasons_of are.told) since.flash.faults are.counted.faults;
-          };
         };
   };
   settled = λ still text from upto. (stay catalog texts journal more text (going.settled opened text from upto)).settled;
@@ -515,6 +493,9 @@ module _ (laws : TextLaws) (fit : RepliesFit) (schema_text : List ℕ) (catalog 
   pub tells_now : MoveTells catalog texts teller.count before now replies kept (is_settled_in catalog texts journal (teller.count + 1))
   tells_now =
       move_tells laws.over laws.order laws.decided laws.in_order catalog texts journal teller.count amid.going.top awaiting.last pages_told before now pool replies middle kept near within awaiting.awaited awaiting.kept spool both.1 marks still still_spool
+
+  pub written_now : WritesHalf catalog middle.hand.text before now
+  written_now = both.1.writes
 
   going_now : IsGoing pages_told catalog texts (journal ++ moved.made ∷ []) since amid.sink now after new.pump (texts_left teller) teller.count teller.counts kept
   going_now =

@@ -1,7 +1,7 @@
 -- A teller after one more text.
-use Rattle.std.proofs.Common.{[], ◌∷◌, ◌++◌, ◌≡◌, ◌≤◌, ℕ, suc, ◌+◌, arith, Bool, true, false, List, refl, sym, ap, ◌∙◌, subst, Some, slice_get}
-use Rattle.edge_traits.proofs.DeviceFrames.{changes_trans, changes_kept}
-use Rattle.std.specs.Prelude.{min}
+use Rattle.std.proofs.Common.{[], ◌∷◌, ◌++◌, ◌≡◌, ◌≤◌, ◌<◌, ℕ, zero, suc, ◌+◌, arith, Bool, true, List, sym, ap, ◌∙◌, subst, Some, slice_get}
+use Rattle.edge_traits.proofs.DeviceFrames.{changes_trans, changes_wider, changes_kept}
+use Rattle.std.specs.Prelude.{◌%◌, min}
 use Rattle.std.specs.List.{concat}
 use Rattle.ghost_model.specs.core.Lines.{Reason}
 use Rattle.ghost_model.specs.core.Causes.{last_count}
@@ -12,32 +12,36 @@ use Rattle.ghost_model.specs.core.NextMove.{standing_after}
 use Rattle.ghost_model.specs.core.Split.{hidden_of}
 use Rattle.ghost_model.specs.core.Replies.{replies}
 use Rattle.ghost_model.specs.laws.SchemaTrees.{IsTree}
+use Rattle.ghost_model.specs.forms.Layout.{static_end, need}
 use Rattle.edge_traits.specs.Devices.{Device, KeepsPages}
 use Rattle.channel_pump.specs.Marks.{state_of}
 use Rattle.channel_pump.specs.declared.state.ReplyState.{ReplyState}
 use Rattle.session_laws.specs.TextEnds.{heard_in}
 use Rattle.session_laws.specs.TextCases.{TextsAreDecided}
 use Rattle.visible_spool.specs.declared.half.Half.{Half}
-use Rattle.session_replies.specs.Kept.{IsKept, is_lost}
-use Rattle.session_replies.specs.Laws.{LaterTextsAreUnmarked, LowRises}
-use Rattle.session_replies.specs.declared.replies.Replies.{Replies}
+use Rattle.visible_spool.specs.Areas.{half_begin, half_end}
+use Rattle.key_session.specs.Hearing.{WritesHalf}
+use Rattle.key_session.specs.Kept.{IsKept, is_lost}
+use Rattle.key_session.specs.Laws.{LaterTextsAreUnmarked, LowRises}
+use Rattle.key_session.specs.declared.replies.Replies.{Replies}
 use Rattle.key_lines.specs.Handing.{PiecesJoin}
-use Rattle.key_exec.specs.Laws.{KnowledgeIsEnough, DamageIsNeverMet, KeepsStatic, PagesStayKnownBut, DamageStays}
-use Rattle.key_exec.specs.Reading.{Knows, KnowsBut}
-use Rattle.text_lines.specs.Texts.{ToldTells, ToldBlames, Why}
-use Rattle.text_lines.specs.Telling.{HasTold, AreLinesOf}
-use Rattle.text_lines.specs.declared.text.Told.{Told}
-use Rattle.text_lines.specs.declared.text.Told.TheVariants as told
-use Rattle.key_session.specs.Counting.{one_if, reason_of, is_damage, IsCounted}
+use Rattle.key_exec.specs.Laws.{KeepsStatic, PagesStayKnownBut, DamageStays}
+use Rattle.key_exec.specs.Reading.{KnowsBut}
+use Rattle.key_exec.specs.Texts.{ToldTells, ToldBlames, ToldReads, Why}
+use Rattle.key_exec.specs.Telling.{HasTold, AreLinesOf}
+use Rattle.key_exec.specs.declared.text.Told.{Told}
+use Rattle.key_exec.specs.declared.text.Told.TheVariants as told
+use Rattle.key_session.specs.Counting.{one_if, reason_of, IsCounted}
+use Rattle.key_session.specs.Damages.{IsSoOfText}
 use Rattle.key_session.specs.Reasons.{HaveSoFar, HasReason, HaveLines, HasLines, HasAnswerLines, HaveAnswerLines}
 use Rattle.page_pool.specs.Pools.{Pool}
-use Rattle.text_lines.specs.declared.telling.Telling.{Telling}
-use Rattle.key_session.specs.Telling.{SessionSide, IsTold, WereTold, AreMarked, AreKeptSoFar, AreUndamagedSoFar, AreLeft, KeepsFiles, IsTelling, marks_behind, reasons_of, texts_left}
+use Rattle.key_exec.specs.declared.telling.Telling.{Telling}
+use Rattle.key_session.specs.Telling.{SessionSide, AreMarked, AreKeptSoFar, AreLeft, KeepsFiles, IsTelling, marks_behind, texts_left}
 use Rattle.key_session.specs.Going.{IsTaken, EndsText}
 use Rattle.key_session.specs.declared.teller.Teller.{Teller}
-use Rattle.key_session.proofs.Coming.{answers_so, told_so, reason_so, lines_so}
-use Rattle.key_session.proofs.Adding.{TellsMark, one_lines, one_told, one_reason, one_damage, called_more, damage_called_more, still_no_fall, next_number, left_more, some_more}
-use Rattle.key_session.proofs.Readings.{damage_on, first_read, told_earlier}
+use Rattle.key_session.proofs.Coming.{answers_so, reason_so, lines_so}
+use Rattle.key_session.proofs.Adding.{TellsMark, one_lines, one_reason, one_damage, called_more, damage_called_more, still_no_fall, next_number, left_more, some_more}
+use Rattle.key_session.proofs.Readings.{read_later, first_read, told_earlier}
 use Rattle.key_session.proofs.Marking.{marks_next, marked_next, mark_told}
 
 -- the count of faults never falls, but for its last value
@@ -64,6 +68,18 @@ no_fall most before now up = omega (arith, up)
 pub files_on : (catalog : Catalog) (a b c : Device) → KeepsFiles catalog a b → KeepsFiles catalog b c → KeepsFiles catalog a c
 files_on catalog a b c first second = changes_trans first second
 
+-- so do they where the half of a text is written
+pub half_files : (catalog : Catalog) (text : ℕ) (a b : Device) → WritesHalf catalog text a b → KeepsFiles catalog a b
+half_files catalog text a b writes = (let lies = within (text % 2) (below text) in changes_wider writes (static_end catalog) (need catalog) lies.0 lies.1)
+  where
+    below : (n : ℕ) → n % 2 < 2
+    below n = omega arith
+
+    within : (side : ℕ) → side < 2 → (static_end catalog ≤ half_begin catalog side) × (half_end catalog side ≤ need catalog)
+    within zero less = (omega arith, omega arith)
+    within (suc zero) less = (omega arith, omega arith)
+    within (suc (suc side)) less = absurd (omega (arith, less))
+
 pub files_kept : (catalog : Catalog) (a b c : Device) → KeepsFiles catalog a b → KeepsPages b c → KeepsFiles catalog a c
 files_kept catalog a b c first second = changes_trans first (changes_kept second _ _)
 
@@ -75,34 +91,25 @@ pub static_earlier : (catalog : Catalog) (a b : Device) → KeepsFiles catalog a
 static_earlier catalog a b files = λ number less. sym (files.below number less).bytes
 
 -- a slot that is blamed is damaged since the first
-blamed_first : DamageStays → (pages_told : Bool) (page now : ℕ → List ℕ) (catalog : Catalog) (result : Told) → IsTree catalog.schema → KeepsStatic catalog page now
-    → ToldBlames pages_told page catalog result → ToldBlames pages_told now catalog result
-blamed_first stays pages_told page now catalog told.Refused tree same blames = blames
-blamed_first stays pages_told page now catalog told.Answered tree same blames = blames
-blamed_first stays pages_told page now catalog told.Host tree same blames = blames
-blamed_first stays pages_told page now catalog told.Link tree same blames = blames
-blamed_first stays pages_told page now catalog told.Protocol tree same blames = blames
-blamed_first stays pages_told page now catalog told.Marked tree same blames = blames
-blamed_first stays pages_told page now catalog told.Flash tree same blames = blames
-blamed_first stays pages_told page now catalog (told.Damaged damage) tree same blames = stays pages_told page now catalog damage.page damage.slot damage.found tree same blames
-
--- pages that hold the hidden columns are not damaged
-sound : DamageIsNeverMet → (pages_told : Bool) (page : ℕ → List ℕ) (catalog : Catalog) (database : Database) (result : Told) → IsTree catalog.schema → Knows pages_told page catalog database
-    → ToldBlames pages_told page catalog result → is_damage (reason_of result) ≡ false
-sound never pages_told page catalog database told.Refused tree knows blames = refl
-sound never pages_told page catalog database told.Answered tree knows blames = refl
-sound never pages_told page catalog database told.Host tree knows blames = refl
-sound never pages_told page catalog database told.Link tree knows blames = refl
-sound never pages_told page catalog database told.Protocol tree knows blames = refl
-sound never pages_told page catalog database told.Marked tree knows blames = refl
-sound never pages_told page catalog database told.Flash tree knows blames = refl
-sound never pages_told page catalog database (told.Damaged damage) tree knows blames =
-    absurd (never pages_told page catalog database damage.page damage.slot damage.found tree knows blames)
+blamed_first : DamageStays → (pages_told : Bool) (page now : ℕ → List ℕ) (catalog : Catalog) (text : List ℕ) (side : ℕ) (half : Half) (result : Told) → IsTree catalog.schema
+    → KeepsStatic catalog page now → ToldBlames pages_told page catalog text side half result → ToldBlames pages_told now catalog text side half result
+blamed_first stays pages_told page now catalog text side half told.Refused tree same blames = blames
+blamed_first stays pages_told page now catalog text side half told.Answered tree same blames = blames
+blamed_first stays pages_told page now catalog text side half told.Host tree same blames = blames
+blamed_first stays pages_told page now catalog text side half told.Link tree same blames = blames
+blamed_first stays pages_told page now catalog text side half told.Protocol tree same blames = blames
+blamed_first stays pages_told page now catalog text side half told.Marked tree same blames = blames
+blamed_first stays pages_told page now catalog text side half told.Flash tree same blames = blames
+blamed_first stays pages_told page now catalog text side half (told.Damaged damage) tree same blames = record {
+  query = blames.query;
+  means = blames.means;
+  top = blames.top;
+  top_is = blames.top_is;
+  is = stays pages_told page now catalog blames.query blames.top side half damage.page damage.slot damage.found tree same blames.is;
+}
 
 -- what the laws say of the pages
 pub record PageLaws : Type 0 where
-  pub enough : KnowledgeIsEnough
-  pub never : DamageIsNeverMet
   pub but : PagesStayKnownBut
   pub damage : DamageStays
 
@@ -110,7 +117,7 @@ module _ (join : PiecesJoin) (decided : TextsAreDecided) (laws : PageLaws) (late
     (old new : Teller) (pool more : Pool) (store : Replies) (state : ReplyState) (half : Half) (text : Telling) (result : Told)
     (telling : IsTelling pages_told catalog texts journal top since first.sink before.flash pool (texts_left old) old.count old.counts store)
     (taken : IsTaken pages_told catalog texts journal old.count state (is_lost store (old.count + 1)) half since.flash first before pool text)
-    (ends : HasTold pages_told catalog (old.count + 1) taken.written state (is_lost store (old.count + 1)) half first.flash now.flash first.sink now.sink result)
+    (ends : HasTold pages_told catalog ((old.count + 1) % 2) (old.count + 1) taken.written state (is_lost store (old.count + 1)) half first.flash now.flash first.sink now.sink result)
     (tells : ToldTells before.flash.faults now.flash.faults result) (kept_pages : KeepsPages before.flash now.flash)
     (kept : IsKept pages_told now.flash more catalog (heard_in catalog texts journal) (old.count + 1) top store) (ended : EndsText result old new) where
   abbrev marked : Bool
@@ -122,8 +129,21 @@ module _ (join : PiecesJoin) (decided : TextsAreDecided) (laws : PageLaws) (late
   files : KeepsFiles catalog since.flash now.flash
   files = files_kept catalog since.flash before.flash now.flash telling.pages kept_pages
 
-  blames_now : ToldBlames pages_told since.flash.page catalog result
-  blames_now = blamed_first laws.damage pages_told first.flash.page since.flash.page catalog result tree (static_earlier catalog since.flash first.flash taken.files) ends.blames
+  blames_now : IsSoOfText texts old.count (λ text side half. ToldBlames pages_told since.flash.page catalog text side half result)
+  blames_now = record {
+    text = taken.written;
+    stands = taken.stands;
+    half = half;
+    is = blamed_first laws.damage pages_told first.flash.page since.flash.page catalog taken.written ((old.count + 1) % 2) half result tree (static_earlier catalog since.flash first.flash taken.files) ends.blames;
+  }
+
+  read_now : IsSoOfText texts old.count (λ text side half. ToldReads pages_told since.flash.calls now.flash catalog text side half result)
+  read_now = record {
+    text = taken.written;
+    stands = taken.stands;
+    half = half;
+    is = told_earlier pages_told catalog since.flash.calls first.flash.calls now.flash taken.written ((old.count + 1) % 2) half result taken.files.never_falls ends.read;
+  }
 
   number : suc old.count ≡ old.count + 1
   number = sym (next_number old.count)
@@ -186,24 +206,11 @@ module _ (join : PiecesJoin) (decided : TextsAreDecided) (laws : PageLaws) (late
       (λ query accepted. taken.came old.count written query (next_number old.count) here accepted)
       state here_is ends.lines result (tells_why database knows)
 
-  is_told : (database : Database) → Knows pages_told since.flash.page catalog database
-      → IsTold catalog (hidden_of catalog.schema database) texts journal old.count (record { reason = reason_of result; lines = ends.lines })
-  is_told database knows =
-      told_so catalog (hidden_of catalog.schema database) texts journal old.count ends.lines (reason_of result)
-      (sound laws.never pages_told since.flash.page catalog database result tree knows blames_now)
-      (answers_now database (laws.enough pages_told since.flash.page catalog database tree knows))
-
-  both_now : (more : HaveSoFar catalog texts journal (old.count + 1) (AreKeptSoFar pages_told since.flash.page catalog new.counts marks since.flash.faults now.flash.faults))
+  both_now : (more : HaveSoFar catalog texts journal (old.count + 1) (AreKeptSoFar pages_told since.flash.page catalog texts new.counts marks since.flash.faults now.flash.faults))
       × HaveLines catalog texts journal more.reasons since.sink now.sink × (more.reasons ≡ telling.reasons.reasons ++ reason_of result ∷ [])
   both_now =
-      one_reason pages_told since.flash.page catalog join texts journal old.count old.counts new.counts since.flash.faults before.flash.faults now.flash.faults marks marked result
+      one_reason pages_told since.flash.page catalog texts join journal old.count old.counts new.counts since.flash.faults before.flash.faults now.flash.faults marks marked result
       since.sink first.sink now.sink ends.lines telling.reasons has_reason tells tells_mark counted ended.first blames_now telling.lines has_lines ends.handed_on
-
-  all_told : (database : Database) → Knows pages_told since.flash.page catalog database
-      → WereTold catalog (hidden_of catalog.schema database) texts journal (old.count + 1) (AreUndamagedSoFar new.counts marks since.flash.faults now.flash.faults) since.sink now.sink
-  all_told database knows =
-      one_told join catalog (hidden_of catalog.schema database) texts journal old.count old.counts new.counts since.flash.faults before.flash.faults now.flash.faults marks marked
-      since.sink first.sink now.sink result ends.lines (telling.told database knows) (is_told database knows) ends.handed_on tells tells_mark counted
 
   same_marks : marks ≡ marks_behind store new.count
   same_marks =
@@ -215,17 +222,6 @@ module _ (join : PiecesJoin) (decided : TextsAreDecided) (laws : PageLaws) (late
 
   stayed : min since.flash.calls last_count ≤ first.flash.calls
   stayed = no_fall last_count since.flash.calls first.flash.calls taken.files.never_falls
-
-  told_now : (database : Database) → Knows pages_told since.flash.page catalog database
-      → WereTold catalog (hidden_of catalog.schema database) texts journal new.count (AreUndamagedSoFar new.counts (marks_behind store new.count) since.flash.faults now.flash.faults) since.sink now.sink
-  told_now database knows =
-      let are = all_told database knows in record {
-        told = are.told;
-        as_many = are.as_many ∙ sym next_count;
-        each = are.each;
-        handed_on = are.handed_on;
-        counted = subst (λ (n : ℕ). AreUndamagedSoFar new.counts n since.flash.faults now.flash.faults (reasons_of are.told)) same_marks are.counted;
-      }
 
   pub tell_one : IsTelling pages_told catalog texts journal top since now.sink now.flash more (texts_left new) new.count new.counts store
   tell_one = record {
@@ -243,19 +239,17 @@ module _ (join : PiecesJoin) (decided : TextsAreDecided) (laws : PageLaws) (late
     marked = subst (λ (n : ℕ). AreMarked catalog texts n since.flash.calls now.flash.calls store) (sym next_count)
         (marked_next catalog texts old.count since.flash.calls before.flash.calls now.flash.calls store calls telling.marked);
     prints = some_more join since.sink first.sink now.sink telling.prints (record { piece = concat ends.lines; handed = ends.handed_on });
-    damaged = one_damage pages_told since.flash.page catalog old.counts.damage new.counts.damage result ended.first blames_now telling.damaged;
-    read = first_read pages_told catalog since.flash.calls now.flash old.counts.damage new.counts.damage result ended.first
-        (told_earlier pages_told catalog since.flash.calls first.flash.calls now.flash result taken.files.never_falls ends.read)
-        (λ damage e. damage_on since.flash.calls since.flash.calls before.flash now.flash (omega arith) kept_pages.gave pages_told catalog damage.page damage.slot damage.found (telling.read damage e));
+    damaged = one_damage pages_told since.flash.page catalog texts old.count old.counts.damage new.counts.damage result ended.first blames_now telling.damaged;
+    read = first_read pages_told catalog texts since.flash.calls now.flash old.count old.counts.damage new.counts.damage result ended.first read_now
+        (λ damage e. read_later since.flash.calls since.flash.calls before.flash now.flash (omega arith) kept_pages.gave pages_told catalog texts damage (telling.read damage e));
     reasons = record {
       reasons = both_now.0.reasons;
       as_many = both_now.0.as_many ∙ sym next_count;
       each = both_now.0.each;
-      counted = subst (λ (n : ℕ). AreKeptSoFar pages_told since.flash.page catalog new.counts n since.flash.faults now.flash.faults both_now.0.reasons) same_marks both_now.0.counted;
+      counted = subst (λ (n : ℕ). AreKeptSoFar pages_told since.flash.page catalog texts new.counts n since.flash.faults now.flash.faults both_now.0.reasons) same_marks both_now.0.counted;
     };
     lines = both_now.1;
     answers = λ database knows. subst (λ (rs : List Reason). HaveAnswerLines catalog (hidden_of catalog.schema database) texts journal rs since.sink now.sink) (sym both_now.2)
         (one_lines join (HasAnswerLines catalog (hidden_of catalog.schema database) texts journal) telling.reasons.reasons (reason_of result) since.sink first.sink now.sink ends.lines
         (telling.answers database knows) (subst (λ (n : ℕ). HasAnswerLines catalog (hidden_of catalog.schema database) texts journal n (reason_of result) ends.lines) (sym telling.reasons.as_many) (answers_now database knows)) ends.handed_on);
-    told = told_now;
   }

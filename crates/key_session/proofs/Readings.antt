@@ -1,16 +1,19 @@
 -- What a read gave it gave, after other calls as well.
-use Rattle.std.proofs.Common.{◌≡◌, ◌≤◌, ℕ, Bool, true, List, inl, inr, sym, ◌∙◌, subst, arith, Option, Some, None}
+use Rattle.std.proofs.Common.{◌≡◌, ◌≤◌, ℕ, ◌+◌, Bool, true, List, inl, inr, sym, ◌∙◌, subst, arith, Option, Some, None}
+use Rattle.std.specs.Prelude.{◌%◌}
 use Rattle.ghost_model.specs.core.Channel.{Catalog}
+use Rattle.ghost_model.specs.core.Query.{Query}
+use Rattle.visible_spool.specs.declared.half.Half.{Half}
 use Rattle.edge_traits.specs.Devices.{Device, GaveSince}
 use Rattle.flash_pages.specs.Reads as reads
 use Rattle.ghost_model.specs.forms.Runs as runs
 use Rattle.key_exec.specs.Blaming.{WasDamaged}
-use Rattle.text_lines.specs.Texts.{ToldReads}
-use Rattle.text_lines.specs.declared.damage.Damage.{Damage}
-use Rattle.text_lines.specs.declared.text.Told.{Told}
-use Rattle.text_lines.specs.declared.text.Told.TheVariants as told
+use Rattle.key_exec.specs.Texts.{ToldReads, WasDamagedFor}
+use Rattle.key_exec.specs.declared.damage.Damage.{Damage}
+use Rattle.key_exec.specs.declared.text.Told.{Told}
+use Rattle.key_exec.specs.declared.text.Told.TheVariants as told
 use Rattle.key_session.specs.Counting.{damage_in, first_damage}
-use Rattle.key_session.specs.Damages.{WasRead}
+use Rattle.key_session.specs.Damages.{IsSoOfText, WasRead}
 
 -- what reads gave
 abbrev pub KeepsGiven : (before now : Device) → Type 0
@@ -23,63 +26,100 @@ module _ (early since : ℕ) (before now : Device) (earlier : early ≤ since) (
   read_on : (run : runs.Run) (place : ℕ) (bytes : List ℕ) → reads.WasRead since before run place bytes → reads.WasRead early now run place bytes
   read_on run place bytes read = record { bytes = read.bytes; gave = gave_on read.bytes (runs.page_of run place) read.gave; record_is = read.record_is }
 
-  pub damage_on : (pages_told : Bool) (catalog : Catalog) (number slot found : ℕ) → WasDamaged pages_told since before catalog number slot found → WasDamaged pages_told early now catalog number slot found
-  damage_on pages_told catalog number slot found (inl was) = inl (record {
+  damage_on : (pages_told : Bool) (catalog : Catalog) (asked : Query) (top side : ℕ) (half : Half) (number slot found : ℕ)
+      → WasDamaged pages_told since before catalog asked top side half number slot found → WasDamaged pages_told early now catalog asked top side half number slot found
+  damage_on pages_told catalog asked top side half number slot found (inl was) = inl (record {
     table = was.table;
     column = was.column;
-    place = was.place;
-    hidden = was.hidden;
-    within = was.within;
-    page_is = was.page_is;
-    slot_is = was.slot_is;
-    bytes = was.bytes;
-    read = read_on _ was.place was.bytes was.read;
-    may_not = was.may_not;
-    found_is = was.found_is;
+    read_for = was.read_for;
+    cell = record {
+      place = was.cell.place;
+      hidden = was.cell.hidden;
+      within = was.cell.within;
+      page_is = was.cell.page_is;
+      slot_is = was.cell.slot_is;
+      bytes = was.cell.bytes;
+      read = read_on _ was.cell.place was.cell.bytes was.cell.read;
+      may_not = was.cell.may_not;
+      found_is = was.cell.found_is;
+    };
   })
-  damage_on pages_told catalog number slot found (inr was) = inr (record {
-    untold = was.untold;
-    reply = was.reply;
-    sound = was.sound;
+  damage_on pages_told catalog asked top side half number slot found (inr was) = inr (record {
+    table = was.table;
+    there = was.there;
+    asked_for = was.asked_for;
     lies = was.lies;
-    place = was.place;
-    within = was.within;
-    page_is = was.page_is;
-    slot_is = was.slot_is;
-    bytes = was.bytes;
-    read = read_on _ was.place was.bytes was.read;
-    may_not = was.may_not;
-    found_is = was.found_is;
+    row = record {
+      untold = was.row.untold;
+      sound = was.row.sound;
+      place = was.row.place;
+      within = was.row.within;
+      page_is = was.row.page_is;
+      slot_is = was.row.slot_is;
+      bytes = was.row.bytes;
+      read = read_on _ was.row.place was.row.bytes was.row.read;
+      may_not = was.row.may_not;
+      found_is = was.row.found_is;
+    };
   })
 
+  pub damage_for : (pages_told : Bool) (catalog : Catalog) (text : List ℕ) (side : ℕ) (half : Half) (number slot found : ℕ)
+      → WasDamagedFor pages_told since before catalog text side half number slot found → WasDamagedFor pages_told early now catalog text side half number slot found
+  damage_for pages_told catalog text side half number slot found was = record {
+    query = was.query;
+    means = was.means;
+    top = was.top;
+    top_is = was.top_is;
+    is = damage_on pages_told catalog was.query was.top side half number slot found was.is;
+  }
+
+  pub read_later : (pages_told : Bool) (catalog : Catalog) (texts : List (List ℕ)) (damage : Damage)
+      → WasRead pages_told since before catalog texts damage → WasRead pages_told early now catalog texts damage
+  read_later pages_told catalog texts damage was = (
+    was.0,
+    record {
+      text = was.1.text;
+      stands = was.1.stands;
+      half = was.1.half;
+      is = damage_for pages_told catalog was.1.text ((was.0 + 1) % 2) was.1.half damage.page damage.slot damage.found was.1.is;
+    },
+  )
+
 -- the damage that was met first, after one more text
-module _ (pages_told : Bool) (catalog : Catalog) (since : ℕ) (device : Device) where
-  slot_read : (result : Told) (damage : Damage) → ToldReads pages_told since device catalog result → damage_in result ≡ Some damage → WasRead pages_told since device catalog damage
-  slot_read told.Refused damage read e = cc
-  slot_read told.Answered damage read e = cc
-  slot_read told.Host damage read e = cc
-  slot_read told.Link damage read e = cc
-  slot_read told.Protocol damage read e = cc
-  slot_read told.Marked damage read e = cc
-  slot_read told.Flash damage read e = cc
-  slot_read (told.Damaged met) damage read e = subst (λ (d : Damage). WasRead pages_told since device catalog d) (some_same met damage e) read
+module _ (pages_told : Bool) (catalog : Catalog) (texts : List (List ℕ)) (since : ℕ) (device : Device) where
+  abbrev ReadAt : (place : ℕ) → Told → Type 0
+  ReadAt place result = IsSoOfText texts place (λ text side half. ToldReads pages_told since device catalog text side half result)
+
+  slot_read : (place : ℕ) (result : Told) (damage : Damage) → ReadAt place result → damage_in result ≡ Some damage → WasRead pages_told since device catalog texts damage
+  slot_read place told.Refused damage read e = cc
+  slot_read place told.Answered damage read e = cc
+  slot_read place told.Host damage read e = cc
+  slot_read place told.Link damage read e = cc
+  slot_read place told.Protocol damage read e = cc
+  slot_read place told.Marked damage read e = cc
+  slot_read place told.Flash damage read e = cc
+  slot_read place (told.Damaged met) damage read e =
+      subst (λ (d : Damage). WasRead pages_told since device catalog texts d) (some_same met damage e)
+      (place, record { text = read.text; stands = read.stands; half = read.half; is = read.is })
     where
       some_same : (x y : Damage) → Some x ≡ Some y → x ≡ y
       some_same x y f = cc
 
-  pub first_read : (before after : Option Damage) (result : Told) → after ≡ first_damage before (damage_in result) → ToldReads pages_told since device catalog result
-      → ((damage : Damage) → before ≡ Some damage → WasRead pages_told since device catalog damage)
-      → (damage : Damage) → after ≡ Some damage → WasRead pages_told since device catalog damage
-  first_read (Some first) after result is read were damage e = were damage (sym is ∙ e)
-  first_read None after result is read were damage e = slot_read result damage read (sym is ∙ e)
+  pub first_read : (place : ℕ) (before after : Option Damage) (result : Told) → after ≡ first_damage before (damage_in result) → ReadAt place result
+      → ((damage : Damage) → before ≡ Some damage → WasRead pages_told since device catalog texts damage)
+      → (damage : Damage) → after ≡ Some damage → WasRead pages_told since device catalog texts damage
+  first_read place (Some first) after result is read were damage e = were damage (sym is ∙ e)
+  first_read place None after result is read were damage e = slot_read place result damage read (sym is ∙ e)
 
 -- a text was told after the session had begun
-pub told_earlier : (pages_told : Bool) (catalog : Catalog) (early since : ℕ) (device : Device) (result : Told) → early ≤ since → ToldReads pages_told since device catalog result → ToldReads pages_told early device catalog result
-told_earlier pages_told catalog early since device told.Refused earlier read = read
-told_earlier pages_told catalog early since device told.Answered earlier read = read
-told_earlier pages_told catalog early since device told.Host earlier read = read
-told_earlier pages_told catalog early since device told.Link earlier read = read
-told_earlier pages_told catalog early since device told.Protocol earlier read = read
-told_earlier pages_told catalog early since device told.Marked earlier read = read
-told_earlier pages_told catalog early since device told.Flash earlier read = read
-told_earlier pages_told catalog early since device (told.Damaged damage) earlier read = damage_on early since device device earlier (λ at page bytes gave. gave) pages_told catalog damage.page damage.slot damage.found read
+pub told_earlier : (pages_told : Bool) (catalog : Catalog) (early since : ℕ) (device : Device) (text : List ℕ) (side : ℕ) (half : Half) (result : Told) → early ≤ since
+    → ToldReads pages_told since device catalog text side half result → ToldReads pages_told early device catalog text side half result
+told_earlier pages_told catalog early since device text side half told.Refused earlier read = read
+told_earlier pages_told catalog early since device text side half told.Answered earlier read = read
+told_earlier pages_told catalog early since device text side half told.Host earlier read = read
+told_earlier pages_told catalog early since device text side half told.Link earlier read = read
+told_earlier pages_told catalog early since device text side half told.Protocol earlier read = read
+told_earlier pages_told catalog early since device text side half told.Marked earlier read = read
+told_earlier pages_told catalog early since device text side half told.Flash earlier read = read
+told_earlier pages_told catalog early since device text side half (told.Damaged damage) earlier read =
+    damage_for early since device device earlier (λ at page bytes gave. gave) pages_told catalog text side half damage.page damage.slot damage.found read

@@ -1,7 +1,7 @@
 -- A whole session.
-use Rattle.std.proofs.Common.{◌≡◌, ◌≤◌, ◌<◌, ℕ, suc, ◌+◌, arith, Bool, true, false, ◌||◌, List, [], ◌∷◌, length, refl, sym, ap, ◌∙◌, subst, Option, None, Some, slice_get}
+use Rattle.std.proofs.Common.{◌≡◌, ◌≤◌, ◌<◌, ℕ, suc, ◌+◌, arith, Bool, true, false, ◌||◌, List, [], ◌∷◌, length, map, refl, sym, ap, ◌∙◌, subst, Option, None, Some, slice_get}
 use Rattle.edge_traits.proofs.DeviceFrames.{kept_same, changes_kept}
-use Rattle.std.specs.Prelude.{min, if◌then◌else◌, ◌==◌, ◌&&◌, count_by, is_err, is_some}
+use Rattle.std.specs.Prelude.{◌%◌, min, if◌then◌else◌, ◌==◌, ◌&&◌, count_by, is_err, is_some}
 use Rattle.std.specs.Option.{option_or}
 use Rattle.std.specs.List.{list_any}
 use Rattle.std.proofs.lemmas.List.Sums.{sum_by-cons}
@@ -11,11 +11,10 @@ use Rattle.ghost_model.specs.core.Channel.{Catalog, Journal}
 use Rattle.ghost_model.specs.core.Asks.{asked_of}
 use Rattle.ghost_model.specs.core.Lines.{Reason, WasRefused, WasBroken, WasAnswered, MetFault}
 use Rattle.ghost_model.specs.core.NextMove.{Standing, Heard, standing_after, IsProper, IsFinished}
-use Rattle.ghost_model.specs.core.Split.{hidden_of}
 use Rattle.page_pool.specs.Pools.{Pool}
-use Rattle.channel_session.specs.Entries.{WentBy}
-use Rattle.channel_session.specs.Sessions.{IsLive}
-use Rattle.channel_session.specs.declared.exchange.Exchange.{Exchange}
+use Rattle.channel_pump.specs.Entries.{WentBy}
+use Rattle.channel_pump.specs.Sessions.{IsLive}
+use Rattle.channel_pump.specs.declared.exchange.Exchange.{Exchange}
 use Rattle.session_laws.specs.TextEnds.{heard_in}
 use Rattle.ghost_model.specs.core.Query.{Query}
 use Rattle.ghost_model.specs.core.Channel.{Entry}
@@ -23,25 +22,29 @@ use Rattle.ghost_model.specs.core.Moves.{answers}
 use Rattle.ghost_model.specs.core.NextMove.{EndedAsk, Ending, Answered, Refused, is_stop}
 use Rattle.ghost_model.specs.core.Lines.{ended_of, all_done, is_refused_by}
 use Rattle.session_laws.specs.TextCases.{Outcome, IsDone, ByHost, ByLink, ByFrame, TextsHaveOutcomes}
-use Rattle.session_replies.specs.Kept.{IsKept, is_lost, none_heard}
-use Rattle.session_replies.specs.Laws.{LaterTextsAreUnmarked}
-use Rattle.session_replies.specs.declared.replies.Replies.{Replies}
+use Rattle.key_session.specs.Kept.{IsKept, is_lost, none_heard}
+use Rattle.key_session.specs.Laws.{LaterTextsAreUnmarked}
+use Rattle.key_session.specs.declared.replies.Replies.{Replies}
 use Rattle.key_lines.specs.Handing.{PiecesJoin}
+use Rattle.ghost_model.specs.laws.SchemaTrees.{IsTree}
+use Rattle.key_exec.specs.Laws.{DamageIsNeverMet}
 use Rattle.key_exec.specs.Reading.{Knows}
-use Rattle.text_lines.specs.Rows.{PrintsSome}
+use Rattle.key_exec.specs.Rows.{PrintsSome}
 use Rattle.key_session.specs.Answering.{AnswersWhereSound}
-use Rattle.key_session.specs.Counting.{AreCounted, is_refusal, is_flash, is_broken, one_if}
-use Rattle.key_session.specs.Reasons.{AreBlamed, CameTo, IsReason, HasReason, is_refused_text}
+use Rattle.key_session.specs.Counting.{AreCounted, is_refusal, is_flash, is_broken, is_damage, one_if}
+use Rattle.key_session.specs.Reasons.{HaveReasons, AreBlamed, CameTo, IsReason, HasReason, is_refused_text}
+use Rattle.key_session.specs.Damages.{IsSlot}
 use Rattle.key_session.specs.Refusing.{code_of, first_code}
-use Rattle.key_session.specs.Telling.{SessionSide, AreTold, AreLeft, KeepsFiles, IsTelling, marks_behind, reasons_of}
+use Rattle.key_session.specs.Telling.{SessionSide, AreLeft, KeepsFiles, IsTelling, marks_behind}
 use Rattle.key_session.specs.Going.{IsGoing}
 use Rattle.channel_pump.specs.declared.state.Pump.{Pump}
-use Rattle.key_session.specs.Running.{HasRun, IsTally, status_with, protocol_or, host_or, blames_flash, is_damaged, spares_flash}
+use Rattle.key_session.specs.Running.{HasRun, IsTallied, status_with, protocol_or, host_or, blames_flash, is_damaged, spares_flash}
 use Rattle.key_session.specs.declared.counts.Counts.{Counts}
-use Rattle.text_lines.specs.declared.damage.Damage.{Damage}
+use Rattle.key_exec.specs.declared.damage.Damage.{Damage}
 use Rattle.key_session.specs.declared.tally.SessionStatus.{SessionStatus}
 use Rattle.key_session.specs.declared.tally.SessionStatus.TheVariants as way
 use Rattle.key_session.specs.declared.tally.Tally.{Tally}
+use Rattle.key_session.proofs.HonestRuns.{AreAnswered}
 use Rattle.key_session.proofs.Attending.{none_behind, true_is_not_false}
 use Rattle.key_session.proofs.Moving.{heard_none}
 
@@ -86,16 +89,6 @@ at_first join pages_told catalog texts since pool pump count counts left replies
     };
     lines = record { lines = []; as_many = refl; each = λ place reason one e f. cc; handed_on = join.none since.sink };
     answers = λ database knows. record { lines = []; as_many = refl; each = λ place reason one e f. cc; handed_on = join.none since.sink };
-    told = λ database knows. record {
-      told = [];
-      as_many = sym none;
-      each = λ place one e. cc;
-      handed_on = join.none since.sink;
-      counted = record {
-        undamaged = record { counted = none_counted; undamaged = ap (λ (c : Counts). c.damage) is_none };
-        faults = no_faults;
-      };
-    };
   };
   settled = λ opened text from upto. (let bad : ⊥ = omega (arith, from, upto, none) in absurd bad);
   onward = λ text un. omega arith;
@@ -301,28 +294,30 @@ module _ {went : Journal → Type 0} {link_before link_now : ℕ} {pages_told : 
 blamed_last : (most since now count marks : ℕ) → min (since + (count + marks)) most ≤ now → min (since + count) most ≤ now
 blamed_last most since now count marks e = omega (arith, e)
 
-pub has_run : LaterTextsAreUnmarked → (went : Journal → Type 0) (link_before link_now : ℕ) (pages_told : Bool) (catalog : Catalog) (at : List ℕ) (texts : List (List ℕ)) (since now : SessionSide) (exchange : Exchange) (journal : Journal) (top : ℕ) (pool : Pool) (left : List (List ℕ)) (count : ℕ) (counts : Counts) (replies : Replies)
+-- where no slot is damaged no text met damage
+none_met : (Is : Damage → Type 0) → ((damage : Damage) → Is damage → ⊥) → (reasons : List Reason) (damages : List (Option Damage)) → map is_some damages ≡ map is_damage reasons
+    → ((place : ℕ) (damage : Damage) → slice_get damages place ≡ Some (Some damage) → Is damage) → list_any is_damage reasons ≡ false
+none_met Is none [] damages e each = refl
+none_met Is none (reason ∷ reasons) [] e each = cc
+none_met Is none (reason ∷ reasons) (None ∷ damages) e each =
+    let first : is_damage reason ≡ false = cc in
+    let later : map is_some damages ≡ map is_damage reasons = cc in
+    rw (first, none_met Is none reasons damages later (λ place damage f. each (suc place) damage f)) refl
+none_met Is none (reason ∷ reasons) (Some damage ∷ damages) e each = absurd (none damage (each 0 damage refl))
+
+pub has_run : LaterTextsAreUnmarked → DamageIsNeverMet → (went : Journal → Type 0) (link_before link_now : ℕ) (pages_told : Bool) (catalog : Catalog) (at : List ℕ) (texts : List (List ℕ)) (since now : SessionSide) (exchange : Exchange) (journal : Journal) (top : ℕ) (pool : Pool) (left : List (List ℕ)) (count : ℕ) (counts : Counts) (replies : Replies)
     (tally : Tally)
-    → WentBy went link_before link_now journal → IsLive catalog at (asked_of catalog.schema texts) journal exchange → IsFinished journal
+    → IsTree catalog.schema → WentBy went link_before link_now journal → IsLive catalog at (asked_of catalog.schema texts) journal exchange → IsFinished journal
     → IsTelling pages_told catalog texts journal top since now.sink now.flash pool left count counts replies
     → left ≡ []
     → tally.texts ≡ count → tally.refused ≡ counts.refused → tally.faulted ≡ counts.faulted
     → tally.status ≡ status_with now.sink.failed (standing_after catalog (asked_of catalog.schema texts) journal) counts.by_flash counts.damage
-    → (IsProper catalog at texts journal → IsFinished journal
-    → ((database : Database) → Knows pages_told since.flash.page catalog database
-    → AreTold catalog (hidden_of catalog.schema database) texts journal (length texts) (λ reasons. IsTally now.sink.failed (standing_after catalog (asked_of catalog.schema texts) journal) reasons tally) since now)
-    → AnswersWhereSound pages_told catalog texts journal since now tally)
+    → (IsProper catalog at texts journal → IsFinished journal → AreAnswered pages_told catalog texts journal since now tally → AnswersWhereSound pages_told catalog texts journal since now tally)
     → IsLast went link_before link_now pages_told catalog at texts since now tally
-has_run later went link_before link_now pages_told catalog at texts since now exchange journal top pool left many_told counts replies tally went_by live is_finished last none many refused faulted status_is answers = record {
-  ran = record {
-    journal = journal;
-    went = went_by.gone;
-    counts = went_by.counts;
-    short = went_by.short;
-    proper = live.proper;
-    finished = is_finished;
-    refused = refused ∙ last.reasons.counted.kept.counted.refused ∙ refusals_read catalog texts journal last.reasons.reasons (last.reasons.as_many ∙ count) last.reasons.each;
-    reasons = record {
+has_run later never went link_before link_now pages_told catalog at texts since now exchange journal top pool left many_told counts replies tally tree went_by live is_finished last none many refused faulted status_is answers =
+    let have : HaveReasons catalog texts journal (length texts)
+    (λ reasons. IsTallied pages_told since.flash.page catalog texts now.sink.failed (standing_after catalog (asked_of catalog.schema texts) journal) reasons tally) since.flash.faults now.flash.faults =
+    record {
       reasons = last.reasons.reasons;
       as_many = last.reasons.as_many ∙ count;
       each = last.reasons.each;
@@ -336,34 +331,44 @@ has_run later went link_before link_now pages_told catalog at texts since now ex
         first = last.reasons.counted.kept.met;
         status_is = status_is ∙ ap (λ (b : Bool). status_with now.sink.failed (standing_after catalog (asked_of catalog.schema texts) journal) b counts.damage) last.reasons.counted.kept.counted.by_flash;
       };
-    };
-    lines = last.lines;
-    answers = last.answers;
-    damaged = λ damage e.
-        last.damaged damage
-        (damaged_so now.sink.failed (standing_after catalog (asked_of catalog.schema texts) journal).stopped (standing_after catalog (asked_of catalog.schema texts) journal).heard.broken _ _ _ counts.by_flash counts.damage damage
-        (sym status_is ∙ e));
-    damage_read = λ damage e.
-        last.read damage
-        (damaged_so now.sink.failed (standing_after catalog (asked_of catalog.schema texts) journal).stopped (standing_after catalog (asked_of catalog.schema texts) journal).heard.broken _ _ _ counts.by_flash counts.damage damage
-        (sym status_is ∙ e));
-    told = told;
-    answered = answers live.proper is_finished told;
-  };
-  many = many ∙ count;
-  prints = last.prints;
-  pages = last.pages;
-  calls = last.calls;
-  called = λ e.
-      last.called
-      (blamed_so now.sink.failed (standing_after catalog (asked_of catalog.schema texts) journal).stopped (standing_after catalog (asked_of catalog.schema texts) journal).heard.broken _ _ _ counts.by_flash counts.damage
-      (ap blames_flash (sym status_is) ∙ e));
-  damage_called = λ e.
-      last.damage_called
-      (met_so now.sink.failed (standing_after catalog (asked_of catalog.schema texts) journal).stopped (standing_after catalog (asked_of catalog.schema texts) journal).heard.broken _ _ _ counts.by_flash counts.damage
-      (ap is_damaged (sym status_is) ∙ e));
-  faults = last.faults;
-}
+    } in
+    record {
+      ran = record {
+        journal = journal;
+        went = went_by.gone;
+        counts = went_by.counts;
+        short = went_by.short;
+        proper = live.proper;
+        finished = is_finished;
+        refused = refused ∙ last.reasons.counted.kept.counted.refused ∙ refusals_read catalog texts journal last.reasons.reasons (last.reasons.as_many ∙ count) last.reasons.each;
+        reasons = have;
+        lines = last.lines;
+        answers = last.answers;
+        damaged = λ damage e.
+            last.damaged damage
+            (damaged_so now.sink.failed (standing_after catalog (asked_of catalog.schema texts) journal).stopped (standing_after catalog (asked_of catalog.schema texts) journal).heard.broken _ _ _ counts.by_flash counts.damage damage
+            (sym status_is ∙ e));
+        damage_read = λ damage e.
+            last.read damage
+            (damaged_so now.sink.failed (standing_after catalog (asked_of catalog.schema texts) journal).stopped (standing_after catalog (asked_of catalog.schema texts) journal).heard.broken _ _ _ counts.by_flash counts.damage damage
+            (sym status_is ∙ e));
+        undamaged = undamaged;
+        answered = answers live.proper is_finished (record { reasons = have; answers = last.answers; undamaged = undamaged });
+      };
+      many = many ∙ count;
+      prints = last.prints;
+      pages = last.pages;
+      calls = last.calls;
+      called = λ e.
+          last.called
+          (blamed_so now.sink.failed (standing_after catalog (asked_of catalog.schema texts) journal).stopped (standing_after catalog (asked_of catalog.schema texts) journal).heard.broken _ _ _ counts.by_flash counts.damage
+          (ap blames_flash (sym status_is) ∙ e));
+      damage_called = λ e.
+          last.damage_called
+          (met_so now.sink.failed (standing_after catalog (asked_of catalog.schema texts) journal).stopped (standing_after catalog (asked_of catalog.schema texts) journal).heard.broken _ _ _ counts.by_flash counts.damage
+          (ap is_damaged (sym status_is) ∙ e));
+      faults = last.faults;
+    }
   where
     count : many_told ≡ length texts
     count = all_told texts left many_told last.left_are none
@@ -378,25 +383,14 @@ has_run later went link_before link_now pages_told catalog at texts since now ex
         ap one_if (later pages_told now.flash pool catalog (heard_in catalog texts journal) (many_told + 1) top (many_told + 2) replies last.kept (omega (arith, upto, count))) in
         omega (arith, one, two)
 
-    told : (database : Database) → Knows pages_told since.flash.page catalog database
-        → AreTold catalog (hidden_of catalog.schema database) texts journal (length texts) (λ reasons. IsTally now.sink.failed (standing_after catalog (asked_of catalog.schema texts) journal) reasons tally) since now
-    told database knows =
-        let are = last.told database knows in
-        record {
-          told = are.told;
-          as_many = are.as_many ∙ count;
-          each = are.each;
-          handed_on = are.handed_on;
-          blamed = blamed_last last_count since.flash.faults now.flash.faults (count_by is_flash (reasons_of are.told)) (marks_behind replies many_told) are.counted.faults.blamed;
-          unblamed = λ flash broken. are.counted.faults.unblamed flash broken no_marks;
-          counted = record {
-            refused = refused ∙ are.counted.undamaged.counted.refused;
-            faulted = faulted ∙ are.counted.undamaged.counted.faulted;
-            status_is = status_is
-                ∙ ap (λ (d : Option Damage). status_with now.sink.failed (standing_after catalog (asked_of catalog.schema texts) journal) counts.by_flash d) are.counted.undamaged.undamaged
-                ∙ ap (λ (b : Bool). status_with now.sink.failed (standing_after catalog (asked_of catalog.schema texts) journal) b None) are.counted.undamaged.counted.by_flash;
-          };
-        }
+    undamaged : (database : Database) → Knows pages_told since.flash.page catalog database → list_any is_damage last.reasons.reasons ≡ false
+    undamaged database knows =
+        let met = last.reasons.counted.kept.met in
+        none_met (IsSlot pages_told since.flash.page catalog texts)
+        (λ damage is.
+        let of = is.1.is in
+        never pages_told since.flash.page catalog of.query of.top ((is.0 + 1) % 2) is.1.half database damage.page damage.slot damage.found tree knows of.is)
+        last.reasons.reasons met.damages met.by_reason (λ place damage e. (place, met.each place damage e))
 
 -- a claim of whether a write failed, at the first and at last
 pub as_said : (P : Bool → Bool → Type 0) (first last said : Bool) → first ≡ false → said ≡ last → P first last → P false said

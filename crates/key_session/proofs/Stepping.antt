@@ -6,17 +6,24 @@ use Rattle.ghost_model.specs.core.Asks.{asked_of}
 use Rattle.edge_traits.specs.Devices.{Device}
 use Rattle.page_pool.specs.Pools.{Pool, IsIdle, IsOut, leased, given, free_count}
 use Rattle.ghost_model.specs.forms.Layout.{need}
+use Rattle.ghost_model.specs.laws.SchemaTrees.{IsTree}
+use Rattle.key_exec.specs.Laws.{KnowledgeIsEnough, DamageIsNeverMet}
 use Rattle.key_exec.specs.Plans.{Suffices}
-use Rattle.session_replies.specs.Kept.{lease_of}
-use Rattle.session_replies.specs.Laws.{LaterTextsAreUnmarked}
+use Rattle.key_session.specs.Kept.{lease_of}
+use Rattle.key_session.specs.Laws.{LaterTextsAreUnmarked}
 use Rattle.channel_pump.specs.declared.state.Pump.{Pump}
-use Rattle.channel_session.specs.Sessions as moves
-use Rattle.session_laws.specs.TextEnds.{heard_in}
-use Rattle.session_replies.specs.declared.replies.Replies.{Replies}
-use Rattle.text_lines.specs.declared.telling.Telling.{Telling}
+use Rattle.channel_pump.specs.Sessions as moves
+use Rattle.session_laws.specs.TextCases.{TextsAreDecided}
+use Rattle.session_laws.specs.TextEnds.{heard_in, is_settled_in, OverTextsAreSettled}
+use Rattle.key_session.specs.declared.replies.Replies.{Replies}
+use Rattle.key_exec.specs.declared.telling.Telling.{Telling}
+use Rattle.key_session.specs.Order.{is_closed}
 use Rattle.key_session.specs.Refusing.{first_code}
+use Rattle.key_session.specs.TextOrder.{TextsComeInOrder}
 use Rattle.key_session.specs.Telling.{SessionSide, texts_left}
-use Rattle.key_session.specs.Going.{CanStep, CanRun, IsOutAlone, IsAmid, IsGoing, IsLive, leases_of, WentOn, ByMove, BySlice, HasCome}
+use Rattle.key_session.specs.Going.{CanStep, CanRun, IsOutAlone, IsAmid, IsGoing, IsLive, leases_of, WentOn, HasCome, due_in, due_by_rule}
+use Rattle.key_session.specs.declared.pace.Due.{Due}
+use Rattle.key_session.specs.declared.pace.Due.TheVariants as due
 use Rattle.key_session.specs.declared.session.Session.{Session}
 use Rattle.key_session.specs.declared.teller.Teller.{Teller}
 use Rattle.ghost_model.specs.core.Asks.{NumberedAsk}
@@ -24,12 +31,12 @@ use Rattle.ghost_model.specs.core.NextMove.{standing_after}
 use Rattle.ghost_model.specs.forms.Catalog.{IsCatalog}
 use Rattle.channel_pump.specs.State.{IsAfter, want_of}
 use Rattle.channel_pump.specs.declared.state.Want.TheVariants as want_is
-use Rattle.channel_session.specs.Entries.{WentBy}
+use Rattle.channel_pump.specs.Entries.{WentBy}
 use Rattle.session_laws.specs.HonestSessions.{HonestSessionsAreSmooth, HonestLinesArePrinted}
 use Rattle.key_session.specs.Running.{status_with}
 use Rattle.key_session.specs.Telling.{session_side}
 use Rattle.key_session.specs.declared.tally.Tally.{Tally}
-use Rattle.key_session.proofs.Attending.{empty}
+use Rattle.key_session.proofs.Attending.{empty, due_rule, true_is_not_false}
 use Rattle.key_session.proofs.HonestRuns.{answers_all}
 use Rattle.key_session.proofs.Running.{IsLast, has_run}
 use Rattle.key_session.proofs.Beginning.{none_taken}
@@ -48,19 +55,34 @@ can_still told device pool old new cat teller lease suffices run = record {
   run = rw (cat, teller, lease) run;
 }
 
+-- what is due of a session is due by the rule
+pub by_rule : OverTextsAreSettled → TextsComeInOrder → TextsAreDecided → (catalog : Catalog) (texts : List (List ℕ)) (journal : Journal) (session : Session)
+    → (0 < session.pace.owed → is_some (moves.asked_in (heard_in catalog texts journal).awaits) ≡ true)
+    → ((want_of session.exchange.pump ≡ want_is.Closed → ⊥) → (text : ℕ) → 1 ≤ text → text ≤ session.teller.count → is_settled_in catalog texts journal text ≡ true)
+    → due_in catalog (asked_of catalog.schema texts) journal session ≡ due_by_rule catalog texts journal session
+by_rule over order decided catalog texts journal session owed settled =
+    due_rule over order decided catalog texts journal session.teller.count session.pace.owed owed (is_closed (want_of session.exchange.pump)) (is_some session.teller.ahead)
+    (λ opened. settled (λ shut. true_is_not_false (sym (ap is_closed shut) ∙ opened)))
+
+pub by_rule_live : OverTextsAreSettled → TextsComeInOrder → TextsAreDecided → (told : Bool) (texts : List (List ℕ)) (journal : Journal) (since now : SessionSide) (pool : Pool) (session : Session)
+    → IsLive told texts journal since now pool session → due_in session.cat.now (asked_of session.cat.now.schema texts) journal session ≡ due_by_rule session.cat.now texts journal session
+by_rule_live over order decided told texts journal since now pool session live =
+    by_rule over order decided session.cat.now texts journal session live.owed (λ opened. live.amid.going.settled opened)
+
 pub come_on : (before_it made later : Journal → Type 0) (told : Bool) (texts : List (List ℕ)) (since before now : SessionSide) (pool more : Pool) (old new : Session)
     → ((first then : Journal) → before_it first → made then → later (first ++ then))
-    → ((journal : Journal) → IsLive told texts journal since before pool old → WentOn made told texts journal since now more old new)
+    → ((journal : Journal) → IsLive told texts journal since before pool old → WentOn (due_by_rule old.cat.now texts journal old) made told texts journal since before now more old new)
     → HasCome before_it told texts since before pool old → HasCome later told texts since now more new
-come_on before_it made later told texts since before now pool more old new joins steps come = by (steps come.journal come.live)
+come_on before_it made later told texts since before now pool more old new joins steps come = by (due_by_rule old.cat.now texts come.journal old) (steps come.journal come.live)
   where
-    by : WentOn made told texts come.journal since now more old new → HasCome later told texts since now more new
-    by (ByMove moved) = record { journal = come.journal ++ moved.made ∷ []; went = joins come.journal (moved.made ∷ []) come.went moved.went; live = moved.live }
-    by (BySlice goes live) = record {
+    by : (d : Due) → WentOn d made told texts come.journal since before now more old new → HasCome later told texts since now more new
+    by due.Move moved = record { journal = come.journal ++ moved.made ∷ []; went = joins come.journal (moved.made ∷ []) come.went moved.went; live = moved.live }
+    by due.Slice sliced = record {
       journal = come.journal;
-      went = subst later (append-nil come.journal) (joins come.journal [] come.went goes);
-      live = live;
+      went = subst later (append-nil come.journal) (joins come.journal [] come.went sliced.went);
+      live = sliced.live;
     }
+    by due.Ended none = absurd none
 
 -- the live session over the catalog and the address that it was begun with
 pub record IsLiveAt (told : Bool) (cat : Catalog) (at : List ℕ) (texts : List (List ℕ)) (journal : Journal) (since now : SessionSide) (pool : Pool) (session : Session) : Type 0 where
@@ -129,7 +151,7 @@ pub at_still : (old new : Session) → new.at ≡ old.at → new.at.now ≡ old.
 at_still old new e = rw e refl
 
 -- the whole session, once nothing is due
-pub last_of : LaterTextsAreUnmarked → HonestSessionsAreSmooth → HonestLinesArePrinted → moves.ClosedIsFinished → (cat : Catalog) → IsCatalog cat → (texts : List (List ℕ)) → length texts ≤ 64
+pub last_of : LaterTextsAreUnmarked → KnowledgeIsEnough → DamageIsNeverMet → HonestSessionsAreSmooth → HonestLinesArePrinted → moves.ClosedIsFinished → (cat : Catalog) → IsCatalog cat → IsTree cat.schema → (texts : List (List ℕ)) → length texts ≤ 64
     → (went : Journal → Type 0) (link_before link_now : ℕ) (told : Bool) (at : List ℕ) (since : SessionSide) (faults : ℕ) (written : Option (List ℕ)) (device : Device) (pool : Pool) (session : Session) (tally : Tally)
     → session.cat.now ≡ cat → session.at.now ≡ at
     → HasCome (WentBy went link_before link_now) told texts since (session_side session.teller.printer.failed faults written device) pool session
@@ -138,12 +160,12 @@ pub last_of : LaterTextsAreUnmarked → HonestSessionsAreSmooth → HonestLinesA
     → ((catalog : Catalog) (asks : List NumberedAsk) (journal : Journal) → IsAfter catalog asks journal session.exchange.pump → session.refusal ≡ first_code (standing_after catalog asks journal).heard.ended
     → tally.status ≡ status_with session.teller.printer.failed (standing_after catalog asks journal) session.teller.counts.by_flash session.teller.counts.damage)
     → IsLast went link_before link_now told cat at texts since (session_side session.teller.printer.failed faults written device) tally
-last_of later smooth prints closed cat proper texts few went link_before link_now told at since faults written device pool session tally cat_is at_is come shut none many refused faulted status =
+last_of later enough never smooth prints closed cat proper tree texts few went link_before link_now told at since faults written device pool session tally cat_is at_is come shut none many refused faulted status =
     let now = session_side session.teller.printer.failed faults written device in
     let live = live_at told cat at texts come.journal since now pool session cat_is at_is come.live in
     let finished = closed cat at (asked_of cat.schema texts) come.journal session.exchange live.channel shut in
     let going = all_over told cat texts come.journal since now pool session.exchange.pump session.teller session.replies none live.amid in
-    has_run later went link_before link_now told cat at texts since now session.exchange come.journal going.top pool (texts_left session.teller) session.teller.count session.teller.counts session.replies tally
-    come.went live.channel finished going.telling (empty _ session.teller.ahead session.teller.texts none (session.teller.last none)) many refused faulted
+    has_run later never went link_before link_now told cat at texts since now session.exchange come.journal going.top pool (texts_left session.teller) session.teller.count session.teller.counts session.replies tally
+    tree come.went live.channel finished going.telling (empty _ session.teller.ahead session.teller.texts none (session.teller.last none)) many refused faulted
     (status cat (asked_of cat.schema texts) come.journal live.channel.after live.refusal_is)
-    (λ is_proper is_finished tells. answers_all smooth prints told cat at texts come.journal since now tally proper few is_proper is_finished tells)
+    (λ is_proper is_finished tells. answers_all smooth prints enough told cat at texts come.journal since now tally proper tree few is_proper is_finished tells)

@@ -12,10 +12,10 @@ use Rattle.key_exec.specs.declared.job.Phase.{Phase}
 use Rattle.key_exec.specs.declared.job.Phase.TheVariants.{Begun, Scanning, Over}
 use Rattle.key_exec.specs.Jobs as jobs
 use Rattle.key_exec.specs.Ready.{IsAtPhase}
-use Rattle.text_lines.specs.Telling.{CanTell, HasRoom, NeedsIn, left_in, left_of}
-use Rattle.text_lines.specs.declared.telling.Telling.{Telling}
-use Rattle.text_lines.specs.declared.telling.Stage.{Stage}
-use Rattle.text_lines.specs.declared.telling.Stage.TheVariants.{Refused, Broken, Marked, Answering}
+use Rattle.key_exec.specs.Telling.{CanTell, HasRoom, NeedsIn, left_in, left_of}
+use Rattle.key_exec.specs.declared.telling.Telling.{Telling}
+use Rattle.key_exec.specs.declared.telling.Stage.{Stage}
+use Rattle.key_exec.specs.declared.telling.Stage.TheVariants.{Refused, Broken, Marked, Answering}
 
 phase_few : (cat : Catalog) (asked : Query) (told : Bool) (device : Device) (pool : Pool) (job : Job) (phase : Phase) → job.rows ≤ 1000000
     → IsAtPhase cat asked told device pool job.half job.plan job.rows job.given job.spent job.work phase → jobs.left_in job.plan job.rows job.work phase ≤ most_left

@@ -5,9 +5,9 @@ use Rattle.ghost_model.specs.core.Asks.{NumberedAsk}
 use Rattle.ghost_model.specs.core.NextMove.{Heard}
 use Rattle.edge_traits.specs.Devices.{Device}
 use Rattle.page_pool.specs.Pools.{Pool}
-use Rattle.channel_session.specs.Sessions.{asked_in}
-use Rattle.session_replies.specs.Kept.{IsKept}
-use Rattle.session_replies.specs.declared.replies.Replies.{Replies}
+use Rattle.channel_pump.specs.Sessions.{asked_in}
+use Rattle.key_session.specs.Kept.{IsKept}
+use Rattle.key_session.specs.declared.replies.Replies.{Replies}
 
 -- a text is none before those that are not told, nor one behind the two of them whose replies are kept
 pub record IsWithin (low top text : ℕ) : Type 0 where

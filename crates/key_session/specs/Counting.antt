@@ -2,10 +2,10 @@
 use Rattle.std.specs.Prelude.{◌≡◌, ℕ, ◌+◌, Bool, true, false, ◌||◌, List, [], ◌∷◌, count_by, if◌then◌else◌, Option, None, Some, is_some}
 use Rattle.std.specs.List.{list_any}
 use Rattle.ghost_model.specs.core.Lines.{Reason, WasRefused, WasBroken, WasAnswered, MetFault, Fault, OnFlash, OnDamage}
-use Rattle.text_lines.specs.declared.text.Told.{Told}
-use Rattle.text_lines.specs.declared.text.Told.TheVariants as told
+use Rattle.key_exec.specs.declared.text.Told.{Told}
+use Rattle.key_exec.specs.declared.text.Told.TheVariants as told
 use Rattle.key_session.specs.declared.counts.Counts.{Counts}
-use Rattle.text_lines.specs.declared.damage.Damage.{Damage}
+use Rattle.key_exec.specs.declared.damage.Damage.{Damage}
 
 abbrev pub reason_of : Told → Reason
 reason_of told.Refused = WasRefused
@@ -79,8 +79,3 @@ pub record AreCounted (reasons : List Reason) (counts : Counts) : Type 0 where
   pub faulted : counts.faulted ≡ count_by is_fault reasons
   pub by_flash : counts.by_flash ≡ list_any is_flash reasons
   pub found : is_some counts.damage ≡ list_any is_damage reasons
-
--- and none of them met damage
-pub record AreUndamaged (reasons : List Reason) (counts : Counts) : Type 0 where
-  pub counted : AreCounted reasons counts
-  pub undamaged : counts.damage ≡ None

@@ -1,31 +1,46 @@
--- The damage that texts met: each text that it ended names a slot that is damaged, and the first of them in the order of the
--- texts is the one that is told.
-use Rattle.std.specs.Prelude.{◌≡◌, ℕ, Bool, List, map, slice_get, Option, Some, is_some}
+-- The damage that texts met: each text that it ended names a slot that is damaged, one that is read for this text, and the first of
+-- them in the order of the texts is the one that is told.
+use Rattle.std.specs.Prelude.{◌≡◌, ℕ, ◌+◌, ◌%◌, Bool, List, map, slice_get, Option, Some, is_some}
 use Rattle.ghost_model.specs.core.Channel.{Catalog}
 use Rattle.ghost_model.specs.core.Lines.{Reason}
-use Rattle.key_exec.specs.Blaming.{IsDamaged, WasDamaged}
+use Rattle.visible_spool.specs.declared.half.Half.{Half}
 use Rattle.edge_traits.specs.Devices.{Device}
+use Rattle.key_exec.specs.Texts.{IsDamagedFor, WasDamagedFor}
+use Rattle.key_exec.specs.declared.damage.Damage.{Damage}
 use Rattle.key_session.specs.Counting.{first_of, is_damage, AreCounted}
 use Rattle.key_session.specs.declared.counts.Counts.{Counts}
-use Rattle.text_lines.specs.declared.damage.Damage.{Damage}
 
--- whatever the pages hold
-abbrev pub IsSlot : (pages_told : Bool) (page : ℕ → List ℕ) → Catalog → Damage → Type 0
-IsSlot pages_told page catalog damage = IsDamaged pages_told page catalog damage.page damage.slot damage.found
+-- something is so of the text at a place, of the half of the spool that its replies lie in, and of some replies
+pub record IsSoOfText (texts : List (List ℕ)) (place : ℕ) (IsSo : (text : List ℕ) → (side : ℕ) → Half → Type 0) : Type 0 where
+  pub text : List ℕ
+  pub stands : slice_get texts place ≡ Some text
+  pub half : Half
+  pub is : IsSo text ((place + 1) % 2) half
 
--- and the session read it there, from so many calls on
-abbrev pub WasRead : (pages_told : Bool) (since : ℕ) → Device → Catalog → Damage → Type 0
-WasRead pages_told since device catalog damage = WasDamaged pages_told since device catalog damage.page damage.slot damage.found
+-- a damaged slot that is read for the text at a place, whatever the pages hold
+abbrev pub IsSlotOf : (pages_told : Bool) (page : ℕ → List ℕ) → Catalog → (texts : List (List ℕ)) (place : ℕ) → Damage → Type 0
+IsSlotOf pages_told page catalog texts place damage =
+    IsSoOfText texts place (λ text side half. IsDamagedFor pages_told page catalog text side half damage.page damage.slot damage.found)
+
+-- for one of the texts
+abbrev pub IsSlot : (pages_told : Bool) (page : ℕ → List ℕ) → Catalog → (texts : List (List ℕ)) → Damage → Type 0
+IsSlot pages_told page catalog texts damage = (place : ℕ) × IsSlotOf pages_told page catalog texts place damage
+
+-- and the session read it there for one of them, from so many calls on
+abbrev pub WasRead : (pages_told : Bool) (since : ℕ) → Device → Catalog → (texts : List (List ℕ)) → Damage → Type 0
+WasRead pages_told since device catalog texts damage =
+    (place : ℕ)
+    × IsSoOfText texts place (λ text side half. WasDamagedFor pages_told since device catalog text side half damage.page damage.slot damage.found)
 
 -- some texts have these reasons, and this is the damage that the first of them met that damage ended
-pub record MeetsFirst (pages_told : Bool) (page : ℕ → List ℕ) (catalog : Catalog) (reasons : List Reason) (first : Option Damage) : Type 0 where
+pub record MeetsFirst (pages_told : Bool) (page : ℕ → List ℕ) (catalog : Catalog) (texts : List (List ℕ)) (reasons : List Reason) (first : Option Damage) : Type 0 where
   -- of each text, in the order of the reasons
   pub damages : List (Option Damage)
   pub by_reason : map is_some damages ≡ map is_damage reasons
-  pub each : (place : ℕ) (damage : Damage) → slice_get damages place ≡ Some (Some damage) → IsSlot pages_told page catalog damage
+  pub each : (place : ℕ) (damage : Damage) → slice_get damages place ≡ Some (Some damage) → IsSlotOf pages_told page catalog texts place damage
   pub first_is : first ≡ first_of damages
 
 -- the texts with these reasons were counted, and the first damage was kept
-pub record AreKept (pages_told : Bool) (page : ℕ → List ℕ) (catalog : Catalog) (reasons : List Reason) (counts : Counts) : Type 0 where
+pub record AreKept (pages_told : Bool) (page : ℕ → List ℕ) (catalog : Catalog) (texts : List (List ℕ)) (reasons : List Reason) (counts : Counts) : Type 0 where
   pub counted : AreCounted reasons counts
-  pub met : MeetsFirst pages_told page catalog reasons counts.damage
+  pub met : MeetsFirst pages_told page catalog texts reasons counts.damage

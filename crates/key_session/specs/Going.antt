@@ -1,12 +1,12 @@
 -- A session that is under way.
-use Rattle.std.specs.Prelude.{◌≡◌, ℕ, ⊤, ◌≤◌, ◌<◌, ◌+◌, ◌*◌, ◌%◌, ◌&&◌, Bool, true, false, not, List, [], ◌∷◌, ◌++◌, length, get_or, count_by, slice_get, Option, None, Some, Ok, is_some, option_map, if◌then◌else◌}
+use Rattle.std.specs.Prelude.{◌≡◌, ℕ, ⊤, ◌≤◌, ◌<◌, ◌+◌, ◌*◌, ◌%◌, ◌&&◌, ◌||◌, nat_lt, nat_le, Bool, true, false, not, List, [], ◌∷◌, ◌++◌, length, get_or, count_by, slice_get, Option, None, Some, Ok, is_some, option_map, if◌then◌else◌}
 use Rattle.ghost_model.specs.core.Query.{Query}
 use Rattle.ghost_model.specs.readings.QueryReading.{reading}
 use Rattle.ghost_model.specs.core.Channel.{Catalog, Journal, Entry}
 use Rattle.ghost_model.specs.core.Asks.{NumberedAsk, asked_of}
 use Rattle.ghost_model.specs.core.NextMove.{standing_after}
 use Rattle.ghost_model.specs.core.Replies.{replies}
-use Rattle.edge_traits.specs.Devices.{Device}
+use Rattle.edge_traits.specs.Devices.{Device, KeepsPages}
 use Rattle.page_pool.specs.Pools.{Pool, others_out}
 use Rattle.visible_spool.specs.declared.half.Half.{Half}
 use Rattle.key_lines.specs.Handing.{Handed}
@@ -18,17 +18,18 @@ use Rattle.channel_pump.specs.declared.state.Pump.{Pump}
 use Rattle.channel_pump.specs.declared.state.Want.TheVariants as want
 use Rattle.channel_pump.specs.declared.state.ReplyState.{ReplyState}
 use Rattle.channel_pump.specs.declared.state.ReplyState.TheVariants as state_is
-use Rattle.channel_session.specs.Sessions as moves
-use Rattle.channel_session.specs.declared.exchange.Exchange.{Exchange}
-use Rattle.session_replies.specs.Kept.{is_lost, lease_of}
-use Rattle.session_replies.specs.declared.replies.Replies.{Replies}
+use Rattle.channel_pump.specs.Sessions as moves
+use Rattle.channel_pump.specs.declared.exchange.Exchange.{Exchange}
+use Rattle.key_session.specs.Hearing.{WritesHalf, pages_on}
+use Rattle.key_session.specs.Kept.{is_lost, lease_of}
+use Rattle.key_session.specs.declared.replies.Replies.{Replies}
 use Rattle.key_exec.specs.Plans.{Suffices}
-use Rattle.text_lines.specs.Rows.{TakesTurn}
-use Rattle.text_lines.specs.Telling as lines
-use Rattle.text_lines.specs.Texts.{IsDone}
-use Rattle.text_lines.specs.Telling.{CanTell, IsUnderWay, AreRepliesOf}
-use Rattle.text_lines.specs.declared.telling.Telling.{Telling}
-use Rattle.text_lines.specs.declared.text.Told.{Told}
+use Rattle.key_exec.specs.Rows.{TakesTurn}
+use Rattle.key_exec.specs.Telling as lines
+use Rattle.key_exec.specs.Texts.{IsDone}
+use Rattle.key_exec.specs.Telling.{CanTell, IsUnderWay, AreRepliesOf}
+use Rattle.key_exec.specs.declared.telling.Telling.{Telling}
+use Rattle.key_exec.specs.declared.text.Told.{Told}
 use Rattle.key_session.specs.Counting.{IsCounted, reason_of, damage_in, first_damage}
 use Rattle.ghost_model.specs.core.Moves.{taken}
 use Rattle.ghost_model.specs.core.NextMove.{heard}
@@ -169,6 +170,8 @@ pub record IsLive (pages_told : Bool) (texts : List (List ℕ)) (journal : Journ
   pub channel : moves.IsLive session.cat.now session.at.now (asked_of session.cat.now.schema texts) journal session.exchange
   pub amid : IsAmid pages_told session.cat.now texts journal since now pool session.exchange.pump session.teller session.replies
   pub refusal_is : session.refusal ≡ first_code (heard_in session.cat.now texts journal).ended
+  -- slices are allowed only behind rows of a reply, the end of which is awaited then
+  pub owed : 0 < session.pace.owed → is_some (moves.asked_in (heard_in session.cat.now texts journal).awaits) ≡ true
 
 -- one more move was made, which led to an event: of the channel, the texts and the first refusal
 pub record MovedOn (goes : Journal → Type 0) (pages_told : Bool) (catalog : Catalog) (at : List ℕ) (texts : List (List ℕ)) (journal : Journal) (since now : SessionSide) (pool : Pool) (event : Event) (exchange : Exchange) (teller : Teller) (kept : Replies) (refusal : Option ℕ) : Type 0 where
@@ -176,22 +179,31 @@ pub record MovedOn (goes : Journal → Type 0) (pages_told : Bool) (catalog : Ca
   pub went : goes (made ∷ [])
   pub channel : moves.IsLive catalog at (asked_of catalog.schema texts) (journal ++ made ∷ []) exchange
   pub tells : Tells catalog exchange.page event (heard_in catalog texts journal) (heard_in catalog texts (journal ++ made ∷ []))
+  pub same_ask : moves.leads_on event ≡ false → moves.asked_in (heard_in catalog texts (journal ++ made ∷ [])).awaits ≡ moves.asked_in (heard_in catalog texts journal).awaits
   pub amid : IsAmid pages_told catalog texts (journal ++ made ∷ []) since now pool exchange.pump teller kept
   pub refusal_is : refusal ≡ first_code (heard_in catalog texts (journal ++ made ∷ [])).ended
 
--- one more move was made, and the pace goes by what it led to
-pub record WasMoved (goes : Journal → Type 0) (pages_told : Bool) (texts : List (List ℕ)) (journal : Journal) (since now : SessionSide) (pool : Pool) (old session : Session) : Type 0 where
+-- One more move was made, and the pace goes by what it led to. The flash was called twice at most for each page of the spool that
+-- this completes, and else not at all.
+pub record WasMoved (goes : Journal → Type 0) (pages_told : Bool) (texts : List (List ℕ)) (journal : Journal) (since before now : SessionSide) (pool : Pool) (old session : Session) : Type 0 where
   pub made : Entry
   pub went : goes (made ∷ [])
   pub event : Event
   pub tells : Tells session.cat.now session.exchange.page event (heard_in session.cat.now texts journal) (heard_in session.cat.now texts (journal ++ made ∷ []))
   pub paced : IsPaced event old.pace session.pace
+  pub few : now.flash.calls ≤ before.flash.calls + 2 * pages_on event session.replies.hand old.replies.spool session.replies.spool
   pub live : IsLive pages_told texts (journal ++ made ∷ []) since now pool session
 
--- a step made one more move, or none, and the session lives on
-pub data WentOn (goes : Journal → Type 0) (pages_told : Bool) (texts : List (List ℕ)) (journal : Journal) (since now : SessionSide) (pool : Pool) (old session : Session) : Type 0 where
-  ByMove : WasMoved goes pages_told texts journal since now pool old session → WentOn goes pages_told texts journal since now pool old session
-  BySlice : goes [] → IsLive pages_told texts journal since now pool session → WentOn goes pages_told texts journal since now pool old session
+-- no move was made
+pub record WasSliced (goes : Journal → Type 0) (pages_told : Bool) (texts : List (List ℕ)) (journal : Journal) (since now : SessionSide) (pool : Pool) (session : Session) : Type 0 where
+  pub went : goes []
+  pub live : IsLive pages_told texts journal since now pool session
+
+-- a step made what was due, and the session lives on
+abbrev pub WentOn : Due → (goes : Journal → Type 0) → (pages_told : Bool) → (texts : List (List ℕ)) → Journal → (since before now : SessionSide) → Pool → (old session : Session) → Type 0
+WentOn due.Move goes pages_told texts journal since before now pool old session = WasMoved goes pages_told texts journal since before now pool old session
+WentOn due.Slice goes pages_told texts journal since before now pool old session = WasSliced goes pages_told texts journal since now pool session
+WentOn due.Ended goes pages_told texts journal since before now pool old session = ⊥
 
 -- no ask of a text behind this one is at hand
 abbrev pub IsNear : Catalog → (texts : List (List ℕ)) → Journal → (most : ℕ) → Type 0
@@ -219,20 +231,20 @@ pub record IsSomeLive (pages_told : Bool) (now : SessionSide) (pool : Pool) (ses
   pub since : SessionSide
   pub live : IsLive pages_told texts journal since now pool session
 
--- What a step does that is due, whatever the pages hold. A move gives no line, and calls the flash so often at most as the rows
--- of one frame need; the static pages stay as they are.
+-- What a step does that is due, whatever the pages hold. A move gives no line, and of the pages it changes none but those of the
+-- half of the text whose ask is at hand. How often it calls the flash, `WasMoved` says: it goes by what the move led to.
 pub record MakesMove (before after : SessionSide) (old new : Session) : Type 0 where
   pub sink : after.sink ≡ before.sink
-  pub files : KeepsFiles old.cat.now before.flash after.flash
-  pub few : after.flash.calls ≤ before.flash.calls + 4
+  pub writes : WritesHalf old.cat.now new.replies.hand.text before.flash after.flash
   pub teller : new.teller ≡ old.teller
   pub fewer : moves_left new.exchange.pump + 1 ≤ moves_left old.exchange.pump
 
--- A slice gives one line, or none and it calls the flash, eight times at most. The channel stays as it is.
+-- A slice gives one line, or none and it calls the flash, eight times at most. The channel and all pages stay as they are.
 pub record MakesSlice (before after : SessionSide) (old new : Session) : Type 0 where
   pub exchange : new.exchange ≡ old.exchange
   pub turn : TakesTurn before.sink after.sink before.flash.calls after.flash.calls
   pub few : after.flash.calls ≤ before.flash.calls + 8
+  pub kept : KeepsPages before.flash after.flash
   pub fewer : left_of new.teller + 1 ≤ left_of old.teller
   pub sliced : IsSliced old.pace new.pace
 
@@ -246,6 +258,27 @@ abbrev pub due_in : Catalog → (asks : List NumberedAsk) → Journal → Sessio
 due_in catalog asks journal session =
     due_of (is_closed (want_of session.exchange.pump)) (is_some session.teller.ahead) session.pace.owed (session.teller.count + 1)
     (option_map (λ (asked : NumberedAsk). asked.text) (asked_at (heard catalog asks (taken journal)).awaits))
+
+-- The rule of what is due. The text that comes next is ready where all its asks are ended, and on a closed link every ask counts as
+-- ended. A slice of it is due where the pace still allows one, the link is closed, or an ask of a text two behind it at least is at
+-- hand. Else a move is due, unless the link is closed.
+abbrev pub is_ready : (closed : Bool) → Catalog → (texts : List (List ℕ)) → Journal → (number : ℕ) → Bool
+is_ready closed catalog texts journal number = closed || is_settled_in catalog texts journal number
+
+abbrev pub is_far : (number : ℕ) → Option NumberedAsk → Bool
+is_far number None = false
+is_far number (Some asked) = nat_le (number + 2) asked.text
+
+abbrev pub rule_of : (closed left ready allowed far : Bool) → Due
+rule_of closed left ready allowed far =
+    if left && (ready && (allowed || (closed || far))) then due.Slice
+    else if closed then due.Ended else due.Move
+
+abbrev pub due_by_rule : Catalog → (texts : List (List ℕ)) → Journal → Session → Due
+due_by_rule catalog texts journal session =
+    rule_of (is_closed (want_of session.exchange.pump)) (is_some session.teller.ahead)
+    (is_ready (is_closed (want_of session.exchange.pump)) catalog texts journal (session.teller.count + 1))
+    (nat_lt 0 session.pace.owed) (is_far (session.teller.count + 1) (moves.asked_in (heard_in catalog texts journal).awaits))
 
 -- how many steps are left at most
 abbrev pub steps_left : Session → ℕ

@@ -1,3 +1,11 @@
+pub mod Fits
+pub mod TextOrder
+pub mod Rows
+pub mod Kept
+pub mod Hearing
+pub mod Pushing
+pub mod Given
+pub mod Laws
 pub mod Order
 pub mod Counting
 pub mod Damages

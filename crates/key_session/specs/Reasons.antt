@@ -12,8 +12,8 @@ use Rattle.ghost_model.specs.core.Channel.{Catalog, Journal}
 use Rattle.ghost_model.specs.core.Lines.{Reason, WasRefused, WasBroken, WasAnswered, MetFault, AreLinesFor, session_text, ended_of, all_done, broken_word, fault_word}
 use Rattle.ghost_model.specs.core.Split.{Hidden}
 use Rattle.key_lines.specs.Handing.{Handed, Hands}
-use Rattle.text_lines.specs.Texts.{IsRefusedText, broken_line}
-use Rattle.text_lines.specs.Telling.{AreRefusalLines, AreCountedLines, AreCutLines}
+use Rattle.key_exec.specs.Texts.{IsRefusedText, broken_line}
+use Rattle.key_exec.specs.Telling.{AreRefusalLines, AreCountedLines, AreCutLines}
 use Rattle.key_session.specs.Counting.{is_flash, is_broken}
 use Rattle.ghost_model.specs.core.Asks.{asked_of}
 

@@ -1,29 +1,28 @@
--- What a session told of its texts: the lines of each text from the front of its script, each for a reason that the
--- definitions know. A fault of the flash is a reason only as often as the flash failed, and damage never where its pages
--- are those of a database.
-use Rattle.std.specs.Prelude.{◌≡◌, ℕ, suc, ◌+◌, ◌≤◌, min, Bool, true, false, List, length, drop, map, flat_map, count_by, slice_get, Option, Some, Ok, is_some, option_map}
-use Rattle.std.specs.List.{concat, cons_option, list_any}
+-- What a session told of its texts so far: from the front of its script each text has its lines, for a reason that the
+-- definitions know. A fault of the flash is a reason only as often as the flash failed.
+use Rattle.std.specs.Prelude.{◌≡◌, ℕ, suc, ◌+◌, ◌≤◌, min, Bool, true, false, List, length, drop, slice_get, Option, Some, Ok, is_some, option_map}
+use Rattle.std.specs.List.{cons_option}
 use Rattle.ghost_model.specs.core.Causes.{Rose, last_count}
 use Rattle.ghost_model.specs.core.Values.{Database}
 use Rattle.ghost_model.specs.core.Query.{Query}
 use Rattle.ghost_model.specs.readings.QueryReading.{reading}
 use Rattle.ghost_model.specs.core.Channel.{Catalog, Journal}
-use Rattle.ghost_model.specs.core.Split.{Hidden, hidden_of}
-use Rattle.ghost_model.specs.core.Lines.{Reason, AreLinesFor, session_text}
+use Rattle.ghost_model.specs.core.Split.{hidden_of}
+use Rattle.ghost_model.specs.core.Lines.{Reason}
 use Rattle.ghost_model.specs.forms.Layout.{static_end, need}
 use Rattle.edge_traits.specs.Devices.{Device, ChangesOnly}
 use Rattle.page_pool.specs.Pools.{Pool}
 use Rattle.session_laws.specs.TextEnds.{heard_in}
 use Rattle.session_laws.specs.TextCases.{Outcome}
-use Rattle.key_lines.specs.Handing.{Handed, Hands, handed}
-use Rattle.session_replies.specs.Kept.{IsKept, is_lost}
-use Rattle.session_replies.specs.declared.replies.Replies.{Replies}
-use Rattle.key_exec.specs.Reading.{Knows, KnowsBut}
-use Rattle.text_lines.specs.Rows.{PrintsSome}
-use Rattle.key_session.specs.Counting.{is_flash, is_broken, is_damage, one_if, AreUndamaged}
+use Rattle.key_lines.specs.Handing.{Handed, handed}
+use Rattle.key_session.specs.Kept.{IsKept, is_lost}
+use Rattle.key_session.specs.declared.replies.Replies.{Replies}
+use Rattle.key_exec.specs.Reading.{KnowsBut}
+use Rattle.key_exec.specs.Rows.{PrintsSome}
+use Rattle.key_session.specs.Counting.{one_if}
 use Rattle.key_session.specs.Damages.{IsSlot, WasRead, AreKept}
 use Rattle.key_session.specs.Reasons.{AreBlamed, HaveSoFar, HaveLines, HaveAnswerLines, is_refused_text}
-use Rattle.text_lines.specs.declared.damage.Damage.{Damage}
+use Rattle.key_exec.specs.declared.damage.Damage.{Damage}
 use Rattle.key_session.specs.declared.counts.Counts.{Counts}
 use Rattle.key_session.specs.declared.teller.Teller.{Teller}
 
@@ -34,38 +33,6 @@ pub record SessionSide : Type 0 where
 
 abbrev pub session_side : (failed : Bool) → (faults : ℕ) → (written : Option (List ℕ)) → Device → SessionSide
 session_side failed faults written device = record { sink = handed failed faults written; flash = device }
-
--- the lines of one text, and the reason for them
-pub record TextTold : Type 0 where
-  pub reason : Reason
-  pub lines : List (List ℕ)
-
-abbrev pub reasons_of : List TextTold → List Reason
-reasons_of told = map (λ (one : TextTold). one.reason) told
-
-abbrev pub bytes_of : TextTold → List ℕ
-bytes_of one = concat one.lines
-
--- the bytes of all lines
-abbrev pub bytes_told : List TextTold → List ℕ
-bytes_told told = flat_map bytes_of told
-
--- the lines of the text at a place; the text at place 0 has number 1
-pub record IsTold (catalog : Catalog) (kept : Hidden) (texts : List (List ℕ)) (journal : Journal) (place : ℕ) (one : TextTold) : Type 0 where
-  pub written : List ℕ
-  pub stands : slice_get texts place ≡ Some written
-  pub lines_are : AreLinesFor one.reason (session_text catalog kept texts journal (suc place) written) one.lines
-  pub undamaged : is_damage one.reason ≡ false
-
--- so many texts from the front were told, each by its lines, and counted by their reasons
-pub record AreTold (catalog : Catalog) (kept : Hidden) (texts : List (List ℕ)) (journal : Journal) (count : ℕ) (Counted : List Reason → Type 0) (since now : SessionSide) : Type 0 where
-  pub told : List TextTold
-  pub as_many : length told ≡ count
-  pub each : (place : ℕ) (one : TextTold) → slice_get told place ≡ Some one → IsTold catalog kept texts journal place one
-  pub handed_on : Hands (bytes_told told) since.sink now.sink
-  pub blamed : min (since.flash.faults + count_by is_flash (reasons_of told)) last_count ≤ now.flash.faults
-  pub unblamed : list_any is_flash (reasons_of told) ≡ false → list_any is_broken (reasons_of told) ≡ false → now.flash.faults ≡ since.flash.faults
-  pub counted : Counted (reasons_of told)
 
 -- the texts that are left
 pub record AreLeft (texts left : List (List ℕ)) (count : ℕ) : Type 0 where
@@ -82,14 +49,6 @@ CameOut catalog texts journal number =
 abbrev pub texts_left : Teller → List (List ℕ)
 texts_left teller = cons_option (option_map (λ text. text.now) teller.ahead) teller.texts
 
--- so many texts from the front were told, each by its lines, for reasons of which this holds
-pub record WereTold (catalog : Catalog) (kept : Hidden) (texts : List (List ℕ)) (journal : Journal) (count : ℕ) (Counted : List Reason → Type 0) (before now : Handed) : Type 0 where
-  pub told : List TextTold
-  pub as_many : length told ≡ count
-  pub each : (place : ℕ) (one : TextTold) → slice_get told place ≡ Some one → IsTold catalog kept texts journal place one
-  pub handed_on : Hands (bytes_told told) before now
-  pub counted : Counted (reasons_of told)
-
 -- how many texts are marked of those that were not told: the text at hand, and the one before it
 abbrev pub marks_behind : Replies → (count : ℕ) → ℕ
 marks_behind replies count = one_if (is_lost replies (count + 1)) + one_if (is_lost replies (count + 2))
@@ -101,12 +60,8 @@ pub record AreMarked (catalog : Catalog) (texts : List (List ℕ)) (count : ℕ)
       → is_refused_text catalog.schema written ≡ false
 
 -- the texts with these reasons were counted, and so were the faults
-pub record AreKeptSoFar (pages_told : Bool) (page : ℕ → List ℕ) (catalog : Catalog) (counts : Counts) (marked before now : ℕ) (reasons : List Reason) : Type 0 where
-  pub kept : AreKept pages_told page catalog reasons counts
-  pub faults : AreBlamed marked reasons before now
-
-pub record AreUndamagedSoFar (counts : Counts) (marked before now : ℕ) (reasons : List Reason) : Type 0 where
-  pub undamaged : AreUndamaged reasons counts
+pub record AreKeptSoFar (pages_told : Bool) (page : ℕ → List ℕ) (catalog : Catalog) (texts : List (List ℕ)) (counts : Counts) (marked before now : ℕ) (reasons : List Reason) : Type 0 where
+  pub kept : AreKept pages_told page catalog texts reasons counts
   pub faults : AreBlamed marked reasons before now
 
 -- what stays below the spool and behind it
@@ -128,11 +83,9 @@ pub record IsTelling (pages_told : Bool) (catalog : Catalog) (texts : List (List
   pub faults : min since.flash.faults last_count ≤ device.faults
   pub marked : AreMarked catalog texts count since.flash.calls device.calls replies
   pub prints : PrintsSome since.sink sink
-  pub damaged : (damage : Damage) → counts.damage ≡ Some damage → IsSlot pages_told since.flash.page catalog damage
-  pub read : (damage : Damage) → counts.damage ≡ Some damage → WasRead pages_told since.flash.calls device catalog damage
-  pub reasons : HaveSoFar catalog texts journal count (AreKeptSoFar pages_told since.flash.page catalog counts (marks_behind replies count) since.flash.faults device.faults)
+  pub damaged : (damage : Damage) → counts.damage ≡ Some damage → IsSlot pages_told since.flash.page catalog texts damage
+  pub read : (damage : Damage) → counts.damage ≡ Some damage → WasRead pages_told since.flash.calls device catalog texts damage
+  pub reasons : HaveSoFar catalog texts journal count (AreKeptSoFar pages_told since.flash.page catalog texts counts (marks_behind replies count) since.flash.faults device.faults)
   pub lines : HaveLines catalog texts journal reasons.reasons since.sink sink
   pub answers : (database : Database) → KnowsBut pages_told since.flash.page catalog database
       → HaveAnswerLines catalog (hidden_of catalog.schema database) texts journal reasons.reasons since.sink sink
-  pub told : (database : Database) → Knows pages_told since.flash.page catalog database
-      → WereTold catalog (hidden_of catalog.schema database) texts journal count (AreUndamagedSoFar counts (marks_behind replies count) since.flash.faults device.faults) since.sink sink

@@ -3,7 +3,7 @@
 ghost use Rattle.std.specs.Prelude.{◌≡◌, ◌<◌, ◌≤◌, ◌+◌};
 ghost use Rattle.key_session.specs.Counting.{IsCounted, damage_in, first_damage, reason_of};
 
-use text_lines::{Damage, Told};
+use key_exec::{Damage, Told};
 
 /// What was counted of the texts that were told.
 #[derive(Clone, Copy)]

@@ -1,6 +1,6 @@
 //! A session, step by step.
 
-ghost use Rattle.std.specs.Prelude.{◌≡◌, ◌≢◌, ◌<◌, ◌≤◌, ◌+◌, ℕ, List, [], Bool, true, false, None, Some, is_some, min, length, option_map};
+ghost use Rattle.std.specs.Prelude.{◌≡◌, ◌≢◌, ◌<◌, ◌≤◌, ◌+◌, ◌*◌, ℕ, List, [], Bool, true, false, None, Some, is_some, min, length, option_map};
 ghost use Rattle.ghost_model.specs.core.Asks.{NumberedAsk, asked_of};
 ghost use Rattle.ghost_model.specs.core.Causes.{Rose, last_count};
 ghost use Rattle.ghost_model.specs.core.Channel as channel;
@@ -8,53 +8,54 @@ ghost use Rattle.ghost_model.specs.core.Channel.{Journal};
 ghost use Rattle.ghost_model.specs.core.Moves.{taken};
 ghost use Rattle.ghost_model.specs.core.NextMove.{heard, standing_after};
 ghost use Rattle.ghost_model.specs.core.Texts.{texts_of};
-ghost use Rattle.edge_traits.specs.Devices.{Device, ChangesOnly};
+ghost use Rattle.edge_traits.specs.Devices.{Device, ChangesOnly, KeepsPages};
 ghost use Rattle.ghost_model.specs.forms.Layout as layout;
 ghost use Rattle.channel_pump.specs.Here.{moves_left};
 ghost use Rattle.channel_pump.specs.Marks.{asked_at};
 ghost use Rattle.channel_pump.specs.State.{IsAfter, want_of};
-ghost use Rattle.channel_session.specs.Entries.{WentBy};
+ghost use Rattle.channel_pump.specs.Entries.{WentBy};
 ghost use Rattle.key_lines.specs.Handing.{Handed, handed};
-ghost use Rattle.channel_session.specs.Sessions as moves;
-ghost use Rattle.channel_session.specs.Sessions.{asked_in};
+ghost use Rattle.channel_pump.specs.Sessions as moves;
+ghost use Rattle.channel_pump.specs.Sessions.{asked_in};
 ghost use Rattle.key_session.specs.declared.teller.Teller as tellers;
 ghost use Rattle.session_laws.specs.TextEnds.{heard_in};
-ghost use Rattle.session_replies.specs.Kept.{IsKept, lease_of};
-ghost use Rattle.reply_laws.specs.Fits.{Fits};
+ghost use Rattle.key_session.specs.Hearing.{WritesHalf, pages_on};
+ghost use Rattle.key_session.specs.Kept.{IsKept, lease_of};
+ghost use Rattle.key_session.specs.Fits.{Fits};
 ghost use Rattle.key_session.specs.Awaiting.{IsWithin, IsAwaiting};
 ghost use Rattle.key_session.specs.Refusing.{first_code};
 ghost use Rattle.key_exec.specs.Plans.{Suffices};
 ghost use Rattle.page_pool.specs.Pools.{Pool, IsIdle, IsOut, ChangesPage, given, free_count};
-ghost use Rattle.text_lines.specs.Rows.{PrintsSome, TakesTurn};
-ghost use Rattle.key_session.specs.Going.{CanRun, CanStep, IsAmid, IsLive, IsNear, IsNext, IsMove, IsSomeLive, IsSomeMove, MovedOn, WasMoved, WentOn, MadeStep, due_in, left_of, steps_left};
+ghost use Rattle.key_exec.specs.Rows.{PrintsSome, TakesTurn};
+ghost use Rattle.key_session.specs.Going.{CanRun, CanStep, IsAmid, IsLive, IsNear, IsNext, IsMove, IsSomeLive, IsSomeMove, MovedOn, WasMoved, WentOn, MadeStep, due_by_rule, due_in, left_of, steps_left};
 ghost use Rattle.key_session.specs.Order.{IsSliced, IsUnpaced, is_closed, is_first};
 ghost use Rattle.key_session.specs.Running.{HasRun, is_sink, status_with, blames_flash, is_damaged, spares_flash};
-ghost use Rattle.key_session.specs.Telling.{SessionSide, KeepsFiles, session_side};
+ghost use Rattle.key_session.specs.Telling.{SessionSide, session_side};
 
+use crate::Replies;
+use crate::fits::replies_fit;
+use crate::laws::{kept_halves_are_halves, later_texts_are_unmarked};
 use crate::options::Options;
 use crate::pace::{Due, Pace, comes_first};
 use crate::refusing::first_refusal;
 use crate::tally::{Tally, status};
 use crate::teller::Teller;
+use crate::texts::texts_come_in_order;
+use channel_pump::Exchange;
+use channel_pump::laws::{closed_is_finished, moves_join};
 use channel_pump::state::{Event, Pump, Want};
-use channel_session::Exchange;
-use channel_session::laws::{closed_is_finished, moves_join};
 use edge_traits::flash::Flash;
 use edge_traits::link::Link;
 use edge_traits::sink::Sink;
 use flash_layout::limits::a_catalog_has_a_layout;
+use key_exec::laws::{damage_is_never_met, knowledge_is_enough, tellings_are_spared};
 use key_lines::printer::pieces_join;
 use page_pool::{Lease, PagePool};
-use reply_laws::fits::replies_fit;
-use reply_laws::texts::texts_come_in_order;
 use session_laws::honest_sessions::{honest_lines_are_printed, honest_sessions_are_smooth};
 use session_laws::text_cases::{texts_are_decided, texts_have_outcomes};
 use session_laws::text_ends::{
     asks_are_awaited_in_order, ended_texts_stay, over_texts_are_settled, reasons_stay,
 };
-use session_replies::Replies;
-use session_replies::laws::{kept_halves_are_halves, later_texts_are_unmarked};
-use text_lines::laws::tellings_are_spared;
 use tree_schema::Catalog;
 use tree_schema::catalog_bytes::a_catalog_is_short;
 
@@ -108,12 +109,16 @@ impl<'a> Session<'a> {
     /// with the link closed nothing once no text is left.
     pub fn due(&self) -> Due
         ensures rule { (catalog : channel.Catalog) (asks : List NumberedAsk) (journal : Journal) → IsAfter catalog asks journal self.now.exchange.pump → result ≡ due_in catalog asks journal self.now }
+        ensures by_rule { (told : Bool) (texts : List (List ℕ)) (journal : Journal) (since now : SessionSide) (pool : Pool) → IsLive told texts journal since now pool self.now → result ≡ due_by_rule self.now.cat.now texts journal self.now }
         ensures going { result ≡ Due.Move → want_of self.now.exchange.pump ≢ Want.Closed }
         ensures left { result ≡ Due.Slice → is_some self.now.teller.ahead ≡ true }
         ensures closed { result ≡ Due.Ended → want_of self.now.exchange.pump ≡ Want.Closed }
         ensures none { result ≡ Due.Ended → is_some self.now.teller.ahead ≡ false }
         ensures on { (result ≡ Due.Ended → ⊥) → is_closed (want_of self.now.exchange.pump) ≡ true → is_some self.now.teller.ahead ≡ true }
     {
+        texts_are_decided();
+        over_texts_are_settled();
+        texts_come_in_order();
         let is_left = self.teller.ahead.is_some();
         match self.exchange.pump.want() {
             Want::Closed => { if is_left { Due::Slice } else { Due::Ended } }
@@ -151,7 +156,8 @@ impl<'a> Session<'a> {
         requires some { IsSomeLive F.told (session_side self.old.teller.printer.failed (O.faults out.old) (O.written out.old) (F.state flash.old)) pool.old self.old }
         ensures can { CanStep F.told (F.state flash.new) pool.new self.new }
         ensures live { (texts : List (List ℕ)) (journal : Journal) (since : SessionSide) → IsLive F.told texts journal since (session_side self.old.teller.printer.failed (O.faults out.old) (O.written out.old) (F.state flash.old)) pool.old self.old
-            → WentOn (WentBy (λ more. L.went link.old more link.new) (L.faults link.old) (L.faults link.new)) F.told texts journal since (session_side self.new.teller.printer.failed (O.faults out.new) (O.written out.new) (F.state flash.new)) pool.new self.old self.new }
+            → WentOn (due_by_rule self.old.cat.now texts journal self.old) (WentBy (λ more. L.went link.old more link.new) (L.faults link.old) (L.faults link.new)) F.told texts journal since
+            (session_side self.old.teller.printer.failed (O.faults out.old) (O.written out.old) (F.state flash.old)) (session_side self.new.teller.printer.failed (O.faults out.new) (O.written out.new) (F.state flash.new)) pool.new self.old self.new }
         ensures made { (catalog : channel.Catalog) (asks : List NumberedAsk) (journal : Journal) → IsAfter catalog asks journal self.old.exchange.pump
             → MadeStep (due_in catalog asks journal self.old) (session_side self.old.teller.printer.failed (O.faults out.old) (O.written out.old) (F.state flash.old)) (session_side self.new.teller.printer.failed (O.faults out.new) (O.written out.new) (F.state flash.new)) self.old self.new }
         ensures fewer { steps_left self.new < steps_left self.old }
@@ -181,9 +187,8 @@ impl<'a> Session<'a> {
         ensures can { CanStep F.told (F.state flash.new) pool.new self.new }
         ensures live { (texts : List (List ℕ)) (journal : Journal) (since : SessionSide) (sink : Handed)
             → IsNear self.old.cat.now texts journal (self.old.teller.count + 2) → IsLive F.told texts journal since (record { sink = sink; flash = F.state flash.old }) pool.old self.old
-            → WasMoved (WentBy (λ more. L.went link.old more link.new) (L.faults link.old) (L.faults link.new)) F.told texts journal since (record { sink = sink; flash = F.state flash.new }) pool.new self.old self.new }
-        ensures files { KeepsFiles self.old.cat.now (F.state flash.old) (F.state flash.new) }
-        ensures few { (F.state flash.new).calls ≤ (F.state flash.old).calls + 4 }
+            → WasMoved (WentBy (λ more. L.went link.old more link.new) (L.faults link.old) (L.faults link.new)) F.told texts journal since (record { sink = sink; flash = F.state flash.old }) (record { sink = sink; flash = F.state flash.new }) pool.new self.old self.new }
+        ensures writes { WritesHalf self.old.cat.now self.new.replies.hand.text (F.state flash.old) (F.state flash.new) }
         ensures teller { self.new.teller ≡ self.old.teller }
         ensures cat { self.new.cat ≡ self.old.cat }
         ensures at { self.new.at ≡ self.old.at }
@@ -219,6 +224,7 @@ impl<'a> Session<'a> {
         ensures turn { TakesTurn (handed self.old.teller.printer.failed (O.faults out.old) (O.written out.old)) (handed self.new.teller.printer.failed (O.faults out.new) (O.written out.new))
             (F.state flash.old).calls (F.state flash.new).calls }
         ensures few { (F.state flash.new).calls ≤ (F.state flash.old).calls + 8 }
+        ensures kept { KeepsPages (F.state flash.old) (F.state flash.new) }
         ensures fewer { left_of self.new.teller < left_of self.old.teller }
         ensures sliced { IsSliced self.old.pace self.new.pace }
     {
@@ -293,8 +299,8 @@ fn make_move<F: Flash, L: Link>(
         → MovedOn (WentBy (λ more. L.went link.old more link.new) (L.faults link.old) (L.faults link.new)) F.told cat.now at.now texts journal since (record { sink = sink; flash = F.state flash.new }) pool.new result.1 exchange.new teller replies.new result.0 }
     ensures can { (teller : tellers.Teller) → IsMove F.told cat.now at.now (F.state flash.old) pool.old exchange.old teller replies.old
         → CanRun F.told cat.now (F.state flash.old) pool.old (teller.count + 1) (lease_of replies.old) teller.running → CanRun F.told cat.now (F.state flash.new) pool.new (teller.count + 1) (lease_of replies.old) teller.running }
-    ensures files { KeepsFiles cat.now (F.state flash.old) (F.state flash.new) }
-    ensures few { (F.state flash.new).calls ≤ (F.state flash.old).calls + 4 }
+    ensures writes { WritesHalf cat.now replies.new.hand.text (F.state flash.old) (F.state flash.new) }
+    ensures few { (F.state flash.new).calls ≤ (F.state flash.old).calls + 2 * pages_on result.1 replies.new.hand replies.old.spool replies.new.spool }
     ensures buffer { ChangesPage pool.old pool.new (lease_of replies.old) }
     ensures lease { lease_of replies.new ≡ lease_of replies.old }
     ensures fewer { moves_left exchange.new.pump < moves_left exchange.old.pump }
@@ -378,6 +384,8 @@ pub fn run_session<F: Flash, L: Link, O: Sink>(
     honest_sessions_are_smooth();
     honest_lines_are_printed();
     later_texts_are_unmarked();
+    knowledge_is_enough();
+    damage_is_never_met();
     let Some(lease) = pool.lease() else {
         unreachable!()
     };

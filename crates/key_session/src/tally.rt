@@ -9,7 +9,7 @@ ghost use Rattle.key_session.specs.Running.{is_sink, status_with};
 
 use crate::counts::Counts;
 use channel_pump::state::Cause;
-use text_lines::Damage;
+use key_exec::Damage;
 
 /// How a session ended: the first of these that is so, in the order `Sink`, `Link`, `Protocol`, `Host`, `Flash`, `Damaged`,
 /// `Ok`.

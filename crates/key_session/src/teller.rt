@@ -5,10 +5,10 @@ ghost use Rattle.std.specs.List.{cons_option};
 ghost use Rattle.ghost_model.specs.core.Texts.{texts_of};
 
 use crate::counts::Counts;
+use key_exec::Telling;
 use key_lines::Printer;
 use leakless_plan::Plan;
 use spj_parse::Texts;
-use text_lines::Telling;
 
 /// The texts of a script that are told one after another.
 #[derive(Drop)]

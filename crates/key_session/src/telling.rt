@@ -13,30 +13,28 @@ ghost use Rattle.channel_pump.specs.State.{IsAfter};
 ghost use Rattle.key_lines.specs.Handing.{handed};
 ghost use Rattle.key_exec.specs.Plans.{Suffices};
 ghost use Rattle.page_pool.specs.Pools.{Pool};
-ghost use Rattle.text_lines.specs.Rows.{TakesTurn};
+ghost use Rattle.key_exec.specs.Rows.{TakesTurn};
 ghost use Rattle.visible_spool.specs.Sparing.{IsHalf};
-ghost use Rattle.session_replies.specs.Kept.{half_in, lease_of};
-ghost use Rattle.session_replies.specs.declared.replies.Replies as held;
+ghost use Rattle.key_session.specs.Kept.{half_in, lease_of};
+ghost use Rattle.key_session.specs.declared.replies.Replies as held;
 ghost use Rattle.key_session.specs.Going.{CanRun, IsSomeRun, IsOutAlone, IsNext, IsAmid, IsBegun, EndsText, leases_of, left_of, unbegun};
 ghost use Rattle.key_session.specs.Telling.{SessionSide, session_side};
 
+use crate::Replies;
+use crate::laws::{
+    kept_are_given, kept_halves_are_halves, later_texts_are_unmarked, low_rises, replies_stay_kept,
+};
 use crate::teller::{Teller, next_text};
 use candidate_rows::laws::whole_replies_are_all;
 use channel_pump::state::Pump;
 use edge_traits::flash::Flash;
 use edge_traits::sink::Sink;
 use ghost_laws::selected::replies_are_whole;
-use key_exec::laws::{
-    damage_is_never_met, knowledge_is_enough, knowledge_stays, whole_replies_are_of_asked,
-};
+use key_exec::laws::{knowledge_stays, whole_replies_are_of_asked};
+use key_exec::{Telling, Told};
 use key_lines::printer::pieces_join;
 use page_pool::PagePool;
 use session_laws::text_cases::texts_are_decided;
-use session_replies::Replies;
-use session_replies::laws::{
-    kept_are_given, kept_halves_are_halves, later_texts_are_unmarked, low_rises, replies_stay_kept,
-};
-use text_lines::{Telling, Told};
 use tree_schema::Catalog;
 
 impl<'a> Teller<'a> {
@@ -97,8 +95,6 @@ impl<'a> Teller<'a> {
     {
         pieces_join();
         texts_are_decided();
-        knowledge_is_enough();
-        damage_is_never_met();
         knowledge_stays();
         replies_stay_kept();
         later_texts_are_unmarked();

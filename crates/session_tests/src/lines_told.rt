@@ -2,11 +2,11 @@
 
 use csv_split::Place;
 use key_commands::{Ended, line_of};
+use key_exec::Damage;
 use key_inputs::{BrokenTable, RecordNamed, Shown};
 use key_local::{LocalEnd, LocalFailure};
 use key_words::UsageFault;
 use std::alloc::AllocError;
-use text_lines::Damage;
 
 const LOCAL: &str =
     "key local --schema schema --data tables --flash flash --script script --journal journal";

@@ -12,7 +12,7 @@ returns c =
             ready.is_for.half_is.lies spares ready.at;
       };
       stands = λ cat asked side told before now pool job database given spares ready stands.
-          stands_still stay.rows cat asked side told before now pool job.half job.plan job.rows job.given job.spent job.work job.phase database given
+          stands_still c.work_is_spared.ensures.stands cat asked side told before now pool job.half job.plan job.rows job.given job.spent job.work job.phase database given
           spares ready.is_for.half_is.lies ready.at stands;
       given = given_still keep.given;
       blank = blank_still;

@@ -1,4 +1,4 @@
-use Rattle.std.proofs.Common.{ℕ, List, refl, sym, ◌∙◌, subst}
+use Rattle.std.proofs.Common.{refl, sym, ◌∙◌, subst}
 use Rattle.ghost_model.specs.forms.Flash.{Holds}
 use Rattle.ghost_model.specs.core.Split.{Hidden}
 use Rattle.flash_build.specs.Building.{load_calls}

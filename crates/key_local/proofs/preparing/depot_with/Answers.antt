@@ -1,6 +1,5 @@
-use Rattle.std.proofs.Common.{◌≡◌, Some, ap, ◌∙◌}
+use Rattle.std.proofs.Common.{Some, ap, ◌∙◌}
 use Rattle.std.specs.Prelude.{is_some}
-use Rattle.std.specs.FinMap as finite
 use Rattle.key_local.proofs.Begun.{put_there}
 use Rattle.key_local.proofs.preparing.depot_with.Goals as goal
 

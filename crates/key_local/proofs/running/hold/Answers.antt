@@ -1,9 +1,9 @@
 use Rattle.std.proofs.Common.{[], ap, sym, ◌∙◌}
 use Rattle.std.specs.List.{list_any}
 use Rattle.ghost_model.specs.core.Asks.{asked_of}
-use Rattle.ghost_model.specs.forms.Catalog.{canonical_text}
 use Rattle.ghost_model.specs.core.NextMove.{standing_after}
 use Rattle.ghost_model.specs.core.Texts.{texts_of}
+use Rattle.key_exec.specs.Reading.{Knows}
 use Rattle.key_session.specs.Counting.{is_flash}
 use Rattle.key_session.specs.Running.{is_sink}
 use Rattle.key_local.specs.Running.{clears_journal}
@@ -42,6 +42,11 @@ returns-clause-ran g c = λ database stored hosted columns.
     goes.is_local ran.finished
     (λ calm. lines_kept _ ran.journal _ _ wrote c.requires.going calm)
     (λ fine. lines_written _ ran.journal _ _ wrote (sym c.failed.ensures.failed ∙ c.end_of.ensures.no_depot (ap clears_journal fine)))
-    (λ t. ran.told database (record { is_told = t; is = stored.is_database; counts = stored.counts_are; holds = columns t }))
+    (λ t. let knows : Knows g.F.Flash.told (g.F.Flash.state c.args.flash.now).page cat database = record { is_told = t; is = stored.is_database; counts = stored.counts_are; holds = columns t } in
+    record {
+      reasons = ran.reasons;
+      answers = ran.answers database (c.knowledge_is_enough.ensures.enough g.F.Flash.told (g.F.Flash.state c.args.flash.now).page cat database (c.catalogs_are_limited.ensures cat is).tree knows);
+      undamaged = ran.undamaged database knows;
+    })
     (record { reasons = ran.reasons.reasons; as_many = ran.reasons.as_many; lines = ran.lines })
     ran.damaged c.run_session-tally.ensures.pages c.end_of.ensures.sink c.end_of.ensures.whole c.end_of.ensures.flash c.run_session-tally.ensures.flash_called c.run_session-tally.ensures.damage_called c.end_of.ensures.damaged

@@ -1,9 +1,12 @@
-use Rattle.std.proofs.Common.{◌+◌, subst}
+use Rattle.std.proofs.Common.{◌≤◌, ◌+◌, ◌*◌, sym, subst}
 use Rattle.ghost_model.specs.core.Asks.{asked_of}
 use Rattle.page_pool.specs.Pools.{ChangesPage}
 use Rattle.session_laws.specs.TextEnds.{heard_in}
-use Rattle.channel_session.specs.Entries.{WentBy}
-use Rattle.key_session.proofs.Moving.{some_heard, tells_now, can_run, moved_amid, refusal_more, same_lease}
+use Rattle.channel_pump.specs.Entries.{WentBy}
+use Rattle.visible_spool.specs.declared.spool.Spool.{Spool}
+use Rattle.key_session.specs.Hearing.{WritesHalf, pages_on}
+use Rattle.key_session.specs.declared.ask.AskAtHand.{AskAtHand}
+use Rattle.key_session.proofs.Moving.{some_heard, written_now, can_run, moved_amid, refusal_more, same_lease}
 use Rattle.key_session.proofs.session.make_move.Goals as goal
 
 pub hear-requires : goal.hear-requires
@@ -25,9 +28,15 @@ hear-requires g c = record {
       (c.step-event.ensures.moved c.args.cat.now (asked_of c.args.cat.now.schema c.requires.some.move.texts) c.requires.some.move.journal c.requires.some.move.channel);
 }
 
-pub returns-clause-files : goal.returns-clause-files
-returns-clause-files g c =
-    let tells = tells_now (record {
+pub returns-clause-few : goal.returns-clause-few
+returns-clause-few g c =
+    subst (λ (h : AskAtHand). (g.F.Flash.state c.hear.new.flash).calls ≤ (g.F.Flash.state c.args.flash.now).calls + 2 * pages_on c.step-event.result h c.args.replies.now.spool c.hear.new.self.spool) (sym c.hear.ensures.hand)
+    (subst (λ (s : Spool). (g.F.Flash.state c.hear.new.flash).calls ≤ (g.F.Flash.state c.args.flash.now).calls + 2 * pages_on c.step-event.result c.await_reply-is_awaited.new.replies.hand s c.hear.new.self.spool)
+    c.await_reply-is_awaited.ensures.spool c.hear.ensures.few)
+
+pub returns-clause-writes : goal.returns-clause-writes
+returns-clause-writes g c =
+    let written = written_now (record {
       stay = c.ended_texts_stay.ensures;
       reasons = c.reasons_stay.ensures;
       decided = c.texts_are_decided.ensures;
@@ -45,7 +54,7 @@ returns-clause-files g c =
     (g.F.Flash.state c.hear.new.flash) c.hear.new.pool c.hear.new.self c.await_reply-is_awaited.ensures.spool
     (λ later low top hears. (c.hear.ensures.kept c.args.cat.now (heard_in c.args.cat.now c.requires.some.move.texts c.requires.some.move.journal) later low top hears, c.hear.ensures.heard c.args.cat.now (heard_in c.args.cat.now c.requires.some.move.texts c.requires.some.move.journal) later low top hears))
     c.hear.ensures.marks c.hear.ensures.unopened_flash c.hear.ensures.unopened_spool in
-    tells.files
+    subst (λ (h : AskAtHand). WritesHalf c.args.cat.now h.text (g.F.Flash.state c.args.flash.now) (g.F.Flash.state c.hear.new.flash)) (sym c.hear.ensures.hand) written
 
 pub returns-clause-can : goal.returns-clause-can
 returns-clause-can g c = λ teller move run.
@@ -77,6 +86,7 @@ returns-clause-moved g c = λ texts journal since sink teller near channel amid 
       went = moved.went;
       channel = moved.live;
       tells = moved.tells;
+      same_ask = moved.same_ask;
       amid = moved_amid (record {
         stay = c.ended_texts_stay.ensures;
         reasons = c.reasons_stay.ensures;

@@ -1,8 +1,8 @@
 use Rattle.std.proofs.Common.{◌∙◌, sym, refl, subst, arith, Bool, false, []}
 use Rattle.ghost_model.specs.core.Texts.{texts_of}
-use Rattle.channel_session.specs.Entries.{WentBy}
+use Rattle.channel_pump.specs.Entries.{WentBy}
 use Rattle.key_lines.specs.Handing.{handed}
-use Rattle.text_lines.specs.Rows.{PrintsSome}
+use Rattle.key_exec.specs.Rows.{PrintsSome}
 use Rattle.key_session.specs.Telling.{session_side}
 use Rattle.key_session.specs.Going.{IsLive}
 use Rattle.key_session.specs.Running.{HasRun}
@@ -51,7 +51,7 @@ steps-preserved g c =
 
 pub returns-in-Ended-clause-ran : goal.returns-in-Ended-clause-ran
 returns-in-Ended-clause-ran g c =
-    let last = last_of c.later_texts_are_unmarked.ensures.unmarked c.honest_sessions_are_smooth.ensures c.honest_lines_are_printed.ensures c.closed_is_finished.ensures.finished c.args.cat.now c.a_catalog_is_short.ensures.catalog (texts_of c.args.script.now) c.requires.few
+    let last = last_of c.later_texts_are_unmarked.ensures.unmarked c.knowledge_is_enough.ensures.enough c.damage_is_never_met.ensures.never c.honest_sessions_are_smooth.ensures c.honest_lines_are_printed.ensures c.closed_is_finished.ensures.finished c.args.cat.now c.a_catalog_is_short.ensures.catalog c.a_catalog_has_a_layout.ensures.layout.tree (texts_of c.args.script.now) c.requires.few
     (λ journal. g.L.Link.went c.args.link.now journal c.steps.link) (g.L.Link.faults c.args.link.now) (g.L.Link.faults c.steps.link) g.F.Flash.told c.args.options.now.at.now
     (session_side false (g.O.Sink.faults c.args.out.now) (g.O.Sink.written c.args.out.now) (g.F.Flash.state c.args.flash.now)) (g.O.Sink.faults c.steps.out) (g.O.Sink.written c.steps.out) (g.F.Flash.state c.steps.flash) c.steps.pool c.steps.session c.end.result
     c.steps.invariant.1 c.steps.invariant.2 c.steps.invariant.4 (c.due.ensures.closed c.in-Ended.is) (c.due.ensures.none c.in-Ended.is) c.end.ensures.texts c.end.ensures.refused c.end.ensures.faulted c.end.ensures.status in
@@ -60,7 +60,7 @@ returns-in-Ended-clause-ran g c =
 
 pub returns-in-Ended-clause-prints : goal.returns-in-Ended-clause-prints
 returns-in-Ended-clause-prints g c =
-    let last = last_of c.later_texts_are_unmarked.ensures.unmarked c.honest_sessions_are_smooth.ensures c.honest_lines_are_printed.ensures c.closed_is_finished.ensures.finished c.args.cat.now c.a_catalog_is_short.ensures.catalog (texts_of c.args.script.now) c.requires.few
+    let last = last_of c.later_texts_are_unmarked.ensures.unmarked c.knowledge_is_enough.ensures.enough c.damage_is_never_met.ensures.never c.honest_sessions_are_smooth.ensures c.honest_lines_are_printed.ensures c.closed_is_finished.ensures.finished c.args.cat.now c.a_catalog_is_short.ensures.catalog c.a_catalog_has_a_layout.ensures.layout.tree (texts_of c.args.script.now) c.requires.few
     (λ journal. g.L.Link.went c.args.link.now journal c.steps.link) (g.L.Link.faults c.args.link.now) (g.L.Link.faults c.steps.link) g.F.Flash.told c.args.options.now.at.now
     (session_side false (g.O.Sink.faults c.args.out.now) (g.O.Sink.written c.args.out.now) (g.F.Flash.state c.args.flash.now)) (g.O.Sink.faults c.steps.out) (g.O.Sink.written c.steps.out) (g.F.Flash.state c.steps.flash) c.steps.pool c.steps.session c.end.result
     c.steps.invariant.1 c.steps.invariant.2 c.steps.invariant.4 (c.due.ensures.closed c.in-Ended.is) (c.due.ensures.none c.in-Ended.is) c.end.ensures.texts c.end.ensures.refused c.end.ensures.faulted c.end.ensures.status in
@@ -78,7 +78,7 @@ step-requires-clause-some g c = record { texts = _; journal = c.steps.invariant.
 
 pub returns-in-Ended-clause-texts : goal.returns-in-Ended-clause-texts
 returns-in-Ended-clause-texts g c =
-    let last = last_of c.later_texts_are_unmarked.ensures.unmarked c.honest_sessions_are_smooth.ensures c.honest_lines_are_printed.ensures c.closed_is_finished.ensures.finished c.args.cat.now c.a_catalog_is_short.ensures.catalog (texts_of c.args.script.now) c.requires.few
+    let last = last_of c.later_texts_are_unmarked.ensures.unmarked c.knowledge_is_enough.ensures.enough c.damage_is_never_met.ensures.never c.honest_sessions_are_smooth.ensures c.honest_lines_are_printed.ensures c.closed_is_finished.ensures.finished c.args.cat.now c.a_catalog_is_short.ensures.catalog c.a_catalog_has_a_layout.ensures.layout.tree (texts_of c.args.script.now) c.requires.few
     (λ journal. g.L.Link.went c.args.link.now journal c.steps.link) (g.L.Link.faults c.args.link.now) (g.L.Link.faults c.steps.link) g.F.Flash.told c.args.options.now.at.now
     (session_side false (g.O.Sink.faults c.args.out.now) (g.O.Sink.written c.args.out.now) (g.F.Flash.state c.args.flash.now)) (g.O.Sink.faults c.steps.out) (g.O.Sink.written c.steps.out) (g.F.Flash.state c.steps.flash) c.steps.pool c.steps.session c.end.result
     c.steps.invariant.1 c.steps.invariant.2 c.steps.invariant.4 (c.due.ensures.closed c.in-Ended.is) (c.due.ensures.none c.in-Ended.is) c.end.ensures.texts c.end.ensures.refused c.end.ensures.faulted c.end.ensures.status in
@@ -86,7 +86,7 @@ returns-in-Ended-clause-texts g c =
 
 pub returns-in-Ended-clause-sink_same : goal.returns-in-Ended-clause-sink_same
 returns-in-Ended-clause-sink_same g c =
-    let last = last_of c.later_texts_are_unmarked.ensures.unmarked c.honest_sessions_are_smooth.ensures c.honest_lines_are_printed.ensures c.closed_is_finished.ensures.finished c.args.cat.now c.a_catalog_is_short.ensures.catalog (texts_of c.args.script.now) c.requires.few
+    let last = last_of c.later_texts_are_unmarked.ensures.unmarked c.knowledge_is_enough.ensures.enough c.damage_is_never_met.ensures.never c.honest_sessions_are_smooth.ensures c.honest_lines_are_printed.ensures c.closed_is_finished.ensures.finished c.args.cat.now c.a_catalog_is_short.ensures.catalog c.a_catalog_has_a_layout.ensures.layout.tree (texts_of c.args.script.now) c.requires.few
     (λ journal. g.L.Link.went c.args.link.now journal c.steps.link) (g.L.Link.faults c.args.link.now) (g.L.Link.faults c.steps.link) g.F.Flash.told c.args.options.now.at.now
     (session_side false (g.O.Sink.faults c.args.out.now) (g.O.Sink.written c.args.out.now) (g.F.Flash.state c.args.flash.now)) (g.O.Sink.faults c.steps.out) (g.O.Sink.written c.steps.out) (g.F.Flash.state c.steps.flash) c.steps.pool c.steps.session c.end.result
     c.steps.invariant.1 c.steps.invariant.2 c.steps.invariant.4 (c.due.ensures.closed c.in-Ended.is) (c.due.ensures.none c.in-Ended.is) c.end.ensures.texts c.end.ensures.refused c.end.ensures.faulted c.end.ensures.status in
@@ -94,7 +94,7 @@ returns-in-Ended-clause-sink_same g c =
 
 pub returns-in-Ended-clause-flash_called : goal.returns-in-Ended-clause-flash_called
 returns-in-Ended-clause-flash_called g c =
-    let last = last_of c.later_texts_are_unmarked.ensures.unmarked c.honest_sessions_are_smooth.ensures c.honest_lines_are_printed.ensures c.closed_is_finished.ensures.finished c.args.cat.now c.a_catalog_is_short.ensures.catalog (texts_of c.args.script.now) c.requires.few
+    let last = last_of c.later_texts_are_unmarked.ensures.unmarked c.knowledge_is_enough.ensures.enough c.damage_is_never_met.ensures.never c.honest_sessions_are_smooth.ensures c.honest_lines_are_printed.ensures c.closed_is_finished.ensures.finished c.args.cat.now c.a_catalog_is_short.ensures.catalog c.a_catalog_has_a_layout.ensures.layout.tree (texts_of c.args.script.now) c.requires.few
     (λ journal. g.L.Link.went c.args.link.now journal c.steps.link) (g.L.Link.faults c.args.link.now) (g.L.Link.faults c.steps.link) g.F.Flash.told c.args.options.now.at.now
     (session_side false (g.O.Sink.faults c.args.out.now) (g.O.Sink.written c.args.out.now) (g.F.Flash.state c.args.flash.now)) (g.O.Sink.faults c.steps.out) (g.O.Sink.written c.steps.out) (g.F.Flash.state c.steps.flash) c.steps.pool c.steps.session c.end.result
     c.steps.invariant.1 c.steps.invariant.2 c.steps.invariant.4 (c.due.ensures.closed c.in-Ended.is) (c.due.ensures.none c.in-Ended.is) c.end.ensures.texts c.end.ensures.refused c.end.ensures.faulted c.end.ensures.status in
@@ -102,7 +102,7 @@ returns-in-Ended-clause-flash_called g c =
 
 pub returns-in-Ended-clause-damage_called : goal.returns-in-Ended-clause-damage_called
 returns-in-Ended-clause-damage_called g c =
-    let last = last_of c.later_texts_are_unmarked.ensures.unmarked c.honest_sessions_are_smooth.ensures c.honest_lines_are_printed.ensures c.closed_is_finished.ensures.finished c.args.cat.now c.a_catalog_is_short.ensures.catalog (texts_of c.args.script.now) c.requires.few
+    let last = last_of c.later_texts_are_unmarked.ensures.unmarked c.knowledge_is_enough.ensures.enough c.damage_is_never_met.ensures.never c.honest_sessions_are_smooth.ensures c.honest_lines_are_printed.ensures c.closed_is_finished.ensures.finished c.args.cat.now c.a_catalog_is_short.ensures.catalog c.a_catalog_has_a_layout.ensures.layout.tree (texts_of c.args.script.now) c.requires.few
     (λ journal. g.L.Link.went c.args.link.now journal c.steps.link) (g.L.Link.faults c.args.link.now) (g.L.Link.faults c.steps.link) g.F.Flash.told c.args.options.now.at.now
     (session_side false (g.O.Sink.faults c.args.out.now) (g.O.Sink.written c.args.out.now) (g.F.Flash.state c.args.flash.now)) (g.O.Sink.faults c.steps.out) (g.O.Sink.written c.steps.out) (g.F.Flash.state c.steps.flash) c.steps.pool c.steps.session c.end.result
     c.steps.invariant.1 c.steps.invariant.2 c.steps.invariant.4 (c.due.ensures.closed c.in-Ended.is) (c.due.ensures.none c.in-Ended.is) c.end.ensures.texts c.end.ensures.refused c.end.ensures.faulted c.end.ensures.status in
@@ -110,7 +110,7 @@ returns-in-Ended-clause-damage_called g c =
 
 pub returns-in-Ended-clause-flash_rose : goal.returns-in-Ended-clause-flash_rose
 returns-in-Ended-clause-flash_rose g c =
-    let last = last_of c.later_texts_are_unmarked.ensures.unmarked c.honest_sessions_are_smooth.ensures c.honest_lines_are_printed.ensures c.closed_is_finished.ensures.finished c.args.cat.now c.a_catalog_is_short.ensures.catalog (texts_of c.args.script.now) c.requires.few
+    let last = last_of c.later_texts_are_unmarked.ensures.unmarked c.knowledge_is_enough.ensures.enough c.damage_is_never_met.ensures.never c.honest_sessions_are_smooth.ensures c.honest_lines_are_printed.ensures c.closed_is_finished.ensures.finished c.args.cat.now c.a_catalog_is_short.ensures.catalog c.a_catalog_has_a_layout.ensures.layout.tree (texts_of c.args.script.now) c.requires.few
     (λ journal. g.L.Link.went c.args.link.now journal c.steps.link) (g.L.Link.faults c.args.link.now) (g.L.Link.faults c.steps.link) g.F.Flash.told c.args.options.now.at.now
     (session_side false (g.O.Sink.faults c.args.out.now) (g.O.Sink.written c.args.out.now) (g.F.Flash.state c.args.flash.now)) (g.O.Sink.faults c.steps.out) (g.O.Sink.written c.steps.out) (g.F.Flash.state c.steps.flash) c.steps.pool c.steps.session c.end.result
     c.steps.invariant.1 c.steps.invariant.2 c.steps.invariant.4 (c.due.ensures.closed c.in-Ended.is) (c.due.ensures.none c.in-Ended.is) c.end.ensures.texts c.end.ensures.refused c.end.ensures.faulted c.end.ensures.status in
@@ -118,7 +118,7 @@ returns-in-Ended-clause-flash_rose g c =
 
 pub returns-in-Ended-clause-flash_same : goal.returns-in-Ended-clause-flash_same
 returns-in-Ended-clause-flash_same g c =
-    let last = last_of c.later_texts_are_unmarked.ensures.unmarked c.honest_sessions_are_smooth.ensures c.honest_lines_are_printed.ensures c.closed_is_finished.ensures.finished c.args.cat.now c.a_catalog_is_short.ensures.catalog (texts_of c.args.script.now) c.requires.few
+    let last = last_of c.later_texts_are_unmarked.ensures.unmarked c.knowledge_is_enough.ensures.enough c.damage_is_never_met.ensures.never c.honest_sessions_are_smooth.ensures c.honest_lines_are_printed.ensures c.closed_is_finished.ensures.finished c.args.cat.now c.a_catalog_is_short.ensures.catalog c.a_catalog_has_a_layout.ensures.layout.tree (texts_of c.args.script.now) c.requires.few
     (λ journal. g.L.Link.went c.args.link.now journal c.steps.link) (g.L.Link.faults c.args.link.now) (g.L.Link.faults c.steps.link) g.F.Flash.told c.args.options.now.at.now
     (session_side false (g.O.Sink.faults c.args.out.now) (g.O.Sink.written c.args.out.now) (g.F.Flash.state c.args.flash.now)) (g.O.Sink.faults c.steps.out) (g.O.Sink.written c.steps.out) (g.F.Flash.state c.steps.flash) c.steps.pool c.steps.session c.end.result
     c.steps.invariant.1 c.steps.invariant.2 c.steps.invariant.4 (c.due.ensures.closed c.in-Ended.is) (c.due.ensures.none c.in-Ended.is) c.end.ensures.texts c.end.ensures.refused c.end.ensures.faulted c.end.ensures.status in
@@ -126,7 +126,7 @@ returns-in-Ended-clause-flash_same g c =
 
 pub returns-in-Ended-clause-sink_rose : goal.returns-in-Ended-clause-sink_rose
 returns-in-Ended-clause-sink_rose g c =
-    let last = last_of c.later_texts_are_unmarked.ensures.unmarked c.honest_sessions_are_smooth.ensures c.honest_lines_are_printed.ensures c.closed_is_finished.ensures.finished c.args.cat.now c.a_catalog_is_short.ensures.catalog (texts_of c.args.script.now) c.requires.few
+    let last = last_of c.later_texts_are_unmarked.ensures.unmarked c.knowledge_is_enough.ensures.enough c.damage_is_never_met.ensures.never c.honest_sessions_are_smooth.ensures c.honest_lines_are_printed.ensures c.closed_is_finished.ensures.finished c.args.cat.now c.a_catalog_is_short.ensures.catalog c.a_catalog_has_a_layout.ensures.layout.tree (texts_of c.args.script.now) c.requires.few
     (λ journal. g.L.Link.went c.args.link.now journal c.steps.link) (g.L.Link.faults c.args.link.now) (g.L.Link.faults c.steps.link) g.F.Flash.told c.args.options.now.at.now
     (session_side false (g.O.Sink.faults c.args.out.now) (g.O.Sink.written c.args.out.now) (g.F.Flash.state c.args.flash.now)) (g.O.Sink.faults c.steps.out) (g.O.Sink.written c.steps.out) (g.F.Flash.state c.steps.flash) c.steps.pool c.steps.session c.end.result
     c.steps.invariant.1 c.steps.invariant.2 c.steps.invariant.4 (c.due.ensures.closed c.in-Ended.is) (c.due.ensures.none c.in-Ended.is) c.end.ensures.texts c.end.ensures.refused c.end.ensures.faulted c.end.ensures.status in
@@ -134,7 +134,7 @@ returns-in-Ended-clause-sink_rose g c =
 
 pub returns-in-Ended-clause-pages : goal.returns-in-Ended-clause-pages
 returns-in-Ended-clause-pages g c =
-    let last = last_of c.later_texts_are_unmarked.ensures.unmarked c.honest_sessions_are_smooth.ensures c.honest_lines_are_printed.ensures c.closed_is_finished.ensures.finished c.args.cat.now c.a_catalog_is_short.ensures.catalog (texts_of c.args.script.now) c.requires.few
+    let last = last_of c.later_texts_are_unmarked.ensures.unmarked c.knowledge_is_enough.ensures.enough c.damage_is_never_met.ensures.never c.honest_sessions_are_smooth.ensures c.honest_lines_are_printed.ensures c.closed_is_finished.ensures.finished c.args.cat.now c.a_catalog_is_short.ensures.catalog c.a_catalog_has_a_layout.ensures.layout.tree (texts_of c.args.script.now) c.requires.few
     (λ journal. g.L.Link.went c.args.link.now journal c.steps.link) (g.L.Link.faults c.args.link.now) (g.L.Link.faults c.steps.link) g.F.Flash.told c.args.options.now.at.now
     (session_side false (g.O.Sink.faults c.args.out.now) (g.O.Sink.written c.args.out.now) (g.F.Flash.state c.args.flash.now)) (g.O.Sink.faults c.steps.out) (g.O.Sink.written c.steps.out) (g.F.Flash.state c.steps.flash) c.steps.pool c.steps.session c.end.result
     c.steps.invariant.1 c.steps.invariant.2 c.steps.invariant.4 (c.due.ensures.closed c.in-Ended.is) (c.due.ensures.none c.in-Ended.is) c.end.ensures.texts c.end.ensures.refused c.end.ensures.faulted c.end.ensures.status in
@@ -142,7 +142,7 @@ returns-in-Ended-clause-pages g c =
 
 pub returns-in-Ended-clause-flash_calls : goal.returns-in-Ended-clause-flash_calls
 returns-in-Ended-clause-flash_calls g c =
-    let last = last_of c.later_texts_are_unmarked.ensures.unmarked c.honest_sessions_are_smooth.ensures c.honest_lines_are_printed.ensures c.closed_is_finished.ensures.finished c.args.cat.now c.a_catalog_is_short.ensures.catalog (texts_of c.args.script.now) c.requires.few
+    let last = last_of c.later_texts_are_unmarked.ensures.unmarked c.knowledge_is_enough.ensures.enough c.damage_is_never_met.ensures.never c.honest_sessions_are_smooth.ensures c.honest_lines_are_printed.ensures c.closed_is_finished.ensures.finished c.args.cat.now c.a_catalog_is_short.ensures.catalog c.a_catalog_has_a_layout.ensures.layout.tree (texts_of c.args.script.now) c.requires.few
     (λ journal. g.L.Link.went c.args.link.now journal c.steps.link) (g.L.Link.faults c.args.link.now) (g.L.Link.faults c.steps.link) g.F.Flash.told c.args.options.now.at.now
     (session_side false (g.O.Sink.faults c.args.out.now) (g.O.Sink.written c.args.out.now) (g.F.Flash.state c.args.flash.now)) (g.O.Sink.faults c.steps.out) (g.O.Sink.written c.steps.out) (g.F.Flash.state c.steps.flash) c.steps.pool c.steps.session c.end.result
     c.steps.invariant.1 c.steps.invariant.2 c.steps.invariant.4 (c.due.ensures.closed c.in-Ended.is) (c.due.ensures.none c.in-Ended.is) c.end.ensures.texts c.end.ensures.refused c.end.ensures.faulted c.end.ensures.status in
@@ -150,7 +150,7 @@ returns-in-Ended-clause-flash_calls g c =
 
 pub returns-in-Ended-clause-flash_faults : goal.returns-in-Ended-clause-flash_faults
 returns-in-Ended-clause-flash_faults g c =
-    let last = last_of c.later_texts_are_unmarked.ensures.unmarked c.honest_sessions_are_smooth.ensures c.honest_lines_are_printed.ensures c.closed_is_finished.ensures.finished c.args.cat.now c.a_catalog_is_short.ensures.catalog (texts_of c.args.script.now) c.requires.few
+    let last = last_of c.later_texts_are_unmarked.ensures.unmarked c.knowledge_is_enough.ensures.enough c.damage_is_never_met.ensures.never c.honest_sessions_are_smooth.ensures c.honest_lines_are_printed.ensures c.closed_is_finished.ensures.finished c.args.cat.now c.a_catalog_is_short.ensures.catalog c.a_catalog_has_a_layout.ensures.layout.tree (texts_of c.args.script.now) c.requires.few
     (λ journal. g.L.Link.went c.args.link.now journal c.steps.link) (g.L.Link.faults c.args.link.now) (g.L.Link.faults c.steps.link) g.F.Flash.told c.args.options.now.at.now
     (session_side false (g.O.Sink.faults c.args.out.now) (g.O.Sink.written c.args.out.now) (g.F.Flash.state c.args.flash.now)) (g.O.Sink.faults c.steps.out) (g.O.Sink.written c.steps.out) (g.F.Flash.state c.steps.flash) c.steps.pool c.steps.session c.end.result
     c.steps.invariant.1 c.steps.invariant.2 c.steps.invariant.4 (c.due.ensures.closed c.in-Ended.is) (c.due.ensures.none c.in-Ended.is) c.end.ensures.texts c.end.ensures.refused c.end.ensures.faulted c.end.ensures.status in

@@ -1,6 +1,6 @@
 use Rattle.std.proofs.Common.{◌≡◌, ◌≤◌, false}
 use Rattle.ghost_model.specs.core.Texts.{texts_of}
-use Rattle.channel_session.specs.Entries.{WentBy}
+use Rattle.channel_pump.specs.Entries.{WentBy}
 use Rattle.key_session.specs.Going.{CanStep, HasCome, steps_left}
 use Rattle.key_session.specs.Telling.{session_side}
 use Rattle.key_session.proofs.session.run_session.Given as goal

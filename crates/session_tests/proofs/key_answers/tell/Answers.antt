@@ -1,7 +1,7 @@
 use Rattle.std.proofs.Common.{◌≡◌, ◌+◌, ◌≤◌, ◌∙◌, not, count_by, length, ap, sym, subst, arith}
 use Rattle.page_pool.specs.Pools.{others_out}
 use Rattle.visible_spool.specs.Sparing.{IsHalf}
-use Rattle.text_lines.specs.Telling.{leases_of}
+use Rattle.key_exec.specs.Telling.{leases_of}
 use Rattle.session_tests.proofs.key_answers.tell.Goals as goal
 
 pub steps-init : goal.steps-init

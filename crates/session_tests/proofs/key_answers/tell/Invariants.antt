@@ -1,6 +1,6 @@
 use Rattle.std.proofs.Common.{◌≡◌, not, count_by, length}
 use Rattle.page_pool.specs.Pools.{others_out}
-use Rattle.text_lines.specs.Telling.{CanTell, leases_of, left_of}
+use Rattle.key_exec.specs.Telling.{CanTell, leases_of, left_of}
 use Rattle.session_tests.proofs.key_answers.tell.Given as goal
 
 abbrev pub decreases-steps : goal.decreases-steps

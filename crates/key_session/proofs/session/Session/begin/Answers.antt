@@ -1,9 +1,9 @@
-use Rattle.std.proofs.Common.{[], ap, refl, sym, subst}
+use Rattle.std.proofs.Common.{[], arith, ap, refl, sym, subst}
 use Rattle.std.specs.Prelude.{Option}
 use Rattle.ghost_model.specs.core.Texts.{texts_of}
 use Rattle.ghost_model.specs.core.Asks.{asked_of}
 use Rattle.ghost_model.specs.core.NextMove.{Heard}
-use Rattle.text_lines.specs.declared.telling.Telling.{Telling}
+use Rattle.key_exec.specs.declared.telling.Telling.{Telling}
 use Rattle.key_session.specs.Going.{Runs}
 use Rattle.key_session.specs.Refusing.{first_code}
 use Rattle.key_session.proofs.Moving.{heard_none}
@@ -20,4 +20,5 @@ returns-clause-live c = λ told now pool suffices out. record {
     running = subst (λ (running : Option Telling). Runs told c.args.cat.now (texts_of c.args.script.now) [] c.new.result.count now.flash now.sink now pool c.begin-3.result running) (sym c.new.ensures.running) refl;
   };
   refusal_is = sym (ap (λ (heard : Heard). first_code heard.ended) (heard_none c.args.cat.now (texts_of c.args.script.now)));
+  owed = λ some. (let none = c.new-2.ensures.unpaced.owed in absurd (omega (arith, none, some)));
 }

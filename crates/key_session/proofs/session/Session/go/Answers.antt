@@ -1,5 +1,6 @@
 use Rattle.std.proofs.Common.{◌+◌, ℕ, sym, subst}
 use Rattle.key_session.specs.Going.{CanRun}
+use Rattle.key_session.proofs.Attending.{owed_behind}
 use Rattle.key_session.proofs.Stepping.{still_suffices}
 use Rattle.key_session.proofs.session.Session.go.Goals as goal
 
@@ -12,7 +13,13 @@ returns-clause-live g c = λ texts journal since sink near live.
       event = c.make_move-refusal.result.1;
       tells = moved.tells;
       paced = c.moved.ensures.paced;
-      live = record { channel = moved.channel; amid = moved.amid; refusal_is = moved.refusal_is };
+      few = c.make_move-refusal.ensures.few;
+      live = record {
+        channel = moved.channel;
+        amid = moved.amid;
+        refusal_is = moved.refusal_is;
+        owed = owed_behind c.args.self.now.cat.now _ c.make_move-refusal.result.1 _ _ _ _ _ moved.tells moved.same_ask c.moved.ensures.paced.owed;
+      };
     }
 
 pub make_move-refusal-requires-clause-some : goal.make_move-refusal-requires-clause-some
@@ -20,6 +27,6 @@ make_move-refusal-requires-clause-some g c = record { teller = c.args.self.now.t
 
 pub returns-clause-can : goal.returns-clause-can
 returns-clause-can g c = record {
-  suffices = still_suffices c.args.self.now.cat.now (g.F.Flash.state c.args.flash.now) (g.F.Flash.state c.make_move-refusal.new.flash) c.make_move-refusal.ensures.files.page_count c.requires.can.suffices;
+  suffices = still_suffices c.args.self.now.cat.now (g.F.Flash.state c.args.flash.now) (g.F.Flash.state c.make_move-refusal.new.flash) c.make_move-refusal.ensures.writes.page_count c.requires.can.suffices;
   run = subst (λ (lease : ℕ). CanRun g.F.Flash.told c.args.self.now.cat.now (g.F.Flash.state c.make_move-refusal.new.flash) c.make_move-refusal.new.pool (c.args.self.now.teller.count + 1) lease c.args.self.now.teller.running) (sym c.make_move-refusal.ensures.lease) (c.make_move-refusal.ensures.can c.args.self.now.teller c.requires.some c.requires.can.run);
 }

@@ -2,10 +2,10 @@ use Rattle.std.proofs.Common.{◌≡◌, ◌+◌, ◌∙◌, sym, ap, subst, ari
 use Rattle.std.specs.Prelude.{is_some}
 use Rattle.ghost_model.specs.core.Asks.{asked_of}
 use Rattle.channel_pump.specs.Here.{moves_left}
-use Rattle.channel_session.specs.Entries.{WentBy}
-use Rattle.channel_session.specs.declared.exchange.Exchange.{Exchange}
+use Rattle.channel_pump.specs.Entries.{WentBy}
+use Rattle.channel_pump.specs.declared.exchange.Exchange.{Exchange}
 use Rattle.key_session.specs.Telling.{session_side}
-use Rattle.key_session.specs.Going.{WasMoved, ByMove, BySlice, MadeStep, left_of}
+use Rattle.key_session.specs.Going.{WasMoved, WentOn, MadeStep, left_of}
 use Rattle.key_session.specs.Order.{is_closed}
 use Rattle.key_session.specs.declared.pace.Due.{Due}
 use Rattle.key_session.specs.declared.teller.Teller.{Teller}
@@ -33,7 +33,11 @@ returns-in-Move-clause-live g c = λ texts journal since live.
     let cat = c.args.self.now.cat.now in
     let near = near_due c.over_texts_are_settled.ensures c.texts_come_in_order.ensures c.texts_are_decided.ensures c.texts_have_outcomes.ensures cat c.args.self.now.at.now texts journal c.args.self.now.exchange.pump
     c.args.self.now.teller c.args.self.now.pace.owed live.amid.going.telling.left_are (sym c.in-Move.is ∙ c.due.ensures.rule cat (asked_of cat.schema texts) journal live.channel.after) in
-    ByMove (subst (λ (teller : Teller). WasMoved (WentBy (λ more. g.L.Link.went c.args.link.now more c.go.new.link) (g.L.Link.faults c.args.link.now) (g.L.Link.faults c.go.new.link)) g.F.Flash.told texts journal since
+    let before = session_side c.args.self.now.teller.printer.failed (g.O.Sink.faults c.args.out.now) (g.O.Sink.written c.args.out.now) (g.F.Flash.state c.args.flash.now) in
+    subst (λ (due : Due). WentOn due (WentBy (λ more. g.L.Link.went c.args.link.now more c.go.new.link) (g.L.Link.faults c.args.link.now) (g.L.Link.faults c.go.new.link)) g.F.Flash.told texts journal since before
+    (session_side c.go.new.self.teller.printer.failed (g.O.Sink.faults c.args.out.now) (g.O.Sink.written c.args.out.now) (g.F.Flash.state c.go.new.flash)) c.go.new.pool c.args.self.now c.go.new.self)
+    (sym c.in-Move.is ∙ c.due.ensures.by_rule g.F.Flash.told texts journal since before c.args.pool.now live)
+    (subst (λ (teller : Teller). WasMoved (WentBy (λ more. g.L.Link.went c.args.link.now more c.go.new.link) (g.L.Link.faults c.args.link.now) (g.L.Link.faults c.go.new.link)) g.F.Flash.told texts journal since before
     (session_side teller.printer.failed (g.O.Sink.faults c.args.out.now) (g.O.Sink.written c.args.out.now) (g.F.Flash.state c.go.new.flash)) c.go.new.pool c.args.self.now c.go.new.self) (sym c.go.ensures.teller)
     (c.go.ensures.live texts journal since (handed c.args.self.now.teller.printer.failed (g.O.Sink.faults c.args.out.now) (g.O.Sink.written c.args.out.now)) near live))
 
@@ -45,8 +49,7 @@ returns-in-Move-clause-made g c = λ catalog asks journal after.
     (sym c.in-Move.is ∙ c.due.ensures.rule catalog asks journal after)
     (record {
       sink = ap (λ (teller : Teller). handed teller.printer.failed (g.O.Sink.faults c.args.out.now) (g.O.Sink.written c.args.out.now)) c.go.ensures.teller;
-      files = c.go.ensures.files;
-      few = c.go.ensures.few;
+      writes = c.go.ensures.writes;
       teller = c.go.ensures.teller;
       fewer = omega (arith, less);
     })
@@ -64,7 +67,14 @@ returns-in-Slice-clause-live g c = λ texts journal since live.
     (is_some c.args.self.now.teller.ahead) c.args.self.now.pace.owed (c.args.self.now.teller.count + 1) live.channel.proper
     (λ closed. c.closed_is_finished.ensures.finished cat c.args.self.now.at.now (asked_of cat.schema texts) journal c.args.self.now.exchange live.channel closed)
     (sym c.in-Slice.is ∙ c.due.ensures.rule cat (asked_of cat.schema texts) journal live.channel.after) in
-    BySlice (record { gone = g.met.L.Link.stays _; counts = c.moves_join.ensures.joined.none _; short = refl }) (c.tell.ensures.live texts journal since next live)
+    subst (λ (due : Due). WentOn due (WentBy (λ more. g.L.Link.went c.args.link.now more c.args.link.now) (g.L.Link.faults c.args.link.now) (g.L.Link.faults c.args.link.now)) g.F.Flash.told texts journal since
+    (session_side c.args.self.now.teller.printer.failed (g.O.Sink.faults c.args.out.now) (g.O.Sink.written c.args.out.now) (g.F.Flash.state c.args.flash.now))
+    (session_side c.tell.new.self.teller.printer.failed (g.O.Sink.faults c.tell.new.out) (g.O.Sink.written c.tell.new.out) (g.F.Flash.state c.tell.new.flash)) c.tell.new.pool c.args.self.now c.tell.new.self)
+    (sym c.in-Slice.is ∙ c.due.ensures.by_rule g.F.Flash.told texts journal since (session_side c.args.self.now.teller.printer.failed (g.O.Sink.faults c.args.out.now) (g.O.Sink.written c.args.out.now) (g.F.Flash.state c.args.flash.now)) c.args.pool.now live)
+    (record {
+      went = record { gone = g.met.L.Link.stays _; counts = c.moves_join.ensures.joined.none _; short = refl };
+      live = c.tell.ensures.live texts journal since next live;
+    })
 
 pub returns-in-Slice-clause-made : goal.returns-in-Slice-clause-made
 returns-in-Slice-clause-made g c = λ catalog asks journal after.
@@ -72,7 +82,7 @@ returns-in-Slice-clause-made g c = λ catalog asks journal after.
     subst (λ (due : Due). MadeStep due (session_side c.args.self.now.teller.printer.failed (g.O.Sink.faults c.args.out.now) (g.O.Sink.written c.args.out.now) (g.F.Flash.state c.args.flash.now))
     (session_side c.tell.new.self.teller.printer.failed (g.O.Sink.faults c.tell.new.out) (g.O.Sink.written c.tell.new.out) (g.F.Flash.state c.tell.new.flash)) c.args.self.now c.tell.new.self)
     (sym c.in-Slice.is ∙ c.due.ensures.rule catalog asks journal after)
-    (record { exchange = c.tell.ensures.exchange; turn = c.tell.ensures.turn; few = c.tell.ensures.few; fewer = omega (arith, less); sliced = c.tell.ensures.sliced })
+    (record { exchange = c.tell.ensures.exchange; turn = c.tell.ensures.turn; few = c.tell.ensures.few; kept = c.tell.ensures.kept; fewer = omega (arith, less); sliced = c.tell.ensures.sliced })
 
 pub returns-in-Slice-clause-fewer : goal.returns-in-Slice-clause-fewer
 returns-in-Slice-clause-fewer g c =
@@ -81,8 +91,10 @@ returns-in-Slice-clause-fewer g c =
     omega (arith, less, same)
 
 pub returns-in-Ended-clause-live : goal.returns-in-Ended-clause-live
-returns-in-Ended-clause-live g c = λ texts journal since live.
-    BySlice (record { gone = g.met.L.Link.stays _; counts = c.moves_join.ensures.joined.none _; short = refl }) live
+returns-in-Ended-clause-live g c = λ texts journal since live. absurd (true_false (sym (c.requires.going (ap is_closed (c.due.ensures.closed c.in-Ended.is))) ∙ c.due.ensures.none c.in-Ended.is))
+  where
+    true_false : true ≡ false → ⊥
+    true_false e = cc
 
 pub returns-in-Ended-clause-made : goal.returns-in-Ended-clause-made
 returns-in-Ended-clause-made g c = λ catalog asks journal after. absurd (true_false (sym (c.requires.going (ap is_closed (c.due.ensures.closed c.in-Ended.is))) ∙ c.due.ensures.none c.in-Ended.is))

@@ -1,9 +1,9 @@
 use Rattle.std.proofs.Common.{◌+◌, sym, subst, arith, Bool}
 use Rattle.key_lines.specs.Handing.{handed}
-use Rattle.text_lines.specs.Rows.{TakesTurn}
+use Rattle.key_exec.specs.Rows.{TakesTurn}
 use Rattle.key_session.specs.Telling.{session_side}
 use Rattle.session_laws.specs.TextEnds.{heard_in}
-use Rattle.session_replies.specs.Kept.{lease_of}
+use Rattle.key_session.specs.Kept.{lease_of}
 use Rattle.key_session.specs.Going.{IsBegun}
 use Rattle.key_session.proofs.Stepping.{still_suffices}
 use Rattle.key_session.proofs.session.Session.tell.Goals as goal
@@ -44,6 +44,7 @@ returns-clause-live g c = λ texts journal since next live.
           (session_side failed (g.O.Sink.faults c.args.out.now) (g.O.Sink.written c.args.out.now) (g.F.Flash.state c.args.flash.now)) c.args.pool.now c.args.self.now.exchange.pump c.take_up.new.self c.args.self.now.replies)
           (sym c.take_up.ensures.printer) begun);
       refusal_is = live.refusal_is;
+      owed = λ some. (let is = c.sliced.ensures.sliced.owed in live.owed (omega (arith, is, some)));
     }
 
 pub returns-clause-turn : goal.returns-clause-turn

@@ -2,10 +2,10 @@ use Rattle.std.proofs.Common.{◌+◌, sym, subst}
 use Rattle.std.specs.Prelude.{◌%◌}
 use Rattle.key_lines.specs.Handing.{handed}
 use Rattle.key_lines.specs.declared.printer.Printer.{Printer}
-use Rattle.session_replies.specs.Kept.{is_lost, lease_of}
-use Rattle.text_lines.specs.Telling as lines
-use Rattle.text_lines.specs.Telling.{HasTold}
-use Rattle.text_lines.specs.Rows.{TakesTurn}
+use Rattle.key_session.specs.Kept.{is_lost, lease_of}
+use Rattle.key_exec.specs.Telling as lines
+use Rattle.key_exec.specs.Telling.{HasTold}
+use Rattle.key_exec.specs.Rows.{TakesTurn}
 use Rattle.key_session.specs.Telling.{session_side}
 use Rattle.key_session.proofs.Beginning.{has, still_going, still_runs, was_told, alone_still, ended_run, text_run, text_alone}
 use Rattle.key_session.proofs.OneMore.{PageLaws}
@@ -15,7 +15,7 @@ pub returns-in-None-clause-told : goal.returns-in-None-clause-told
 returns-in-None-clause-told g c = λ cat texts journal since pump replies tree alone begun.
     let before = session_side c.args.self.now.printer.failed (g.O.Sink.faults c.args.out.now) (g.O.Sink.written c.args.out.now) (g.F.Flash.state c.args.flash.now) in
     let now = session_side c.step.new.printer.failed (g.O.Sink.faults c.step.new.out) (g.O.Sink.written c.step.new.out) (g.F.Flash.state c.step.new.flash) in
-    let laws : PageLaws = record { enough = c.knowledge_is_enough.ensures.enough; never = c.damage_is_never_met.ensures.never; but = c.knowledge_stays.ensures.but; damage = c.knowledge_stays.ensures.damage } in
+    let laws : PageLaws = record { but = c.knowledge_stays.ensures.but; damage = c.knowledge_stays.ensures.damage } in
     let taken = has c.pieces_join.ensures c.texts_are_decided.ensures laws c.replies_stay_kept.ensures.kept c.later_texts_are_unmarked.ensures.unmarked c.low_rises.ensures.kept g.F.Flash.told cat texts journal since before now c.args.pool.now c.step.new.pool pump c.args.self.now replies
     c.in-Some.telling c.step.new.self c.in-Some.is begun c.step.ensures.kept c.step.ensures.number c.step.ensures.others c.step.ensures.kept_others (text_alone c.args.pool.now (lease_of replies) c.args.self.now.running c.in-Some.telling c.in-Some.is alone) in
     record {
@@ -31,13 +31,13 @@ pub returns-in-Some-step-clause-told : goal.returns-in-Some-step-clause-told
 returns-in-Some-step-clause-told g c = λ cat texts journal since pump replies tree alone begun.
     let before = session_side c.args.self.now.printer.failed (g.O.Sink.faults c.args.out.now) (g.O.Sink.written c.args.out.now) (g.F.Flash.state c.args.flash.now) in
     let now = session_side c.end.new.self.printer.failed (g.O.Sink.faults c.step.new.out) (g.O.Sink.written c.step.new.out) (g.F.Flash.state c.step.new.flash) in
-    let laws : PageLaws = record { enough = c.knowledge_is_enough.ensures.enough; never = c.damage_is_never_met.ensures.never; but = c.knowledge_stays.ensures.but; damage = c.knowledge_stays.ensures.damage } in
+    let laws : PageLaws = record { but = c.knowledge_stays.ensures.but; damage = c.knowledge_stays.ensures.damage } in
     let taken = has c.pieces_join.ensures c.texts_are_decided.ensures laws c.replies_stay_kept.ensures.kept c.later_texts_are_unmarked.ensures.unmarked c.low_rises.ensures.kept g.F.Flash.told cat texts journal since before now c.args.pool.now c.step.new.pool pump c.args.self.now replies
     c.in-Some.telling c.step.new.self c.in-Some.is begun c.step.ensures.kept c.step.ensures.number c.step.ensures.others c.step.ensures.kept_others (text_alone c.args.pool.now (lease_of replies) c.args.self.now.running c.in-Some.telling c.in-Some.is alone) in
     was_told c.pieces_join.ensures c.texts_are_decided.ensures laws c.replies_stay_kept.ensures.kept c.later_texts_are_unmarked.ensures.unmarked c.low_rises.ensures.kept g.F.Flash.told cat texts journal since before now c.args.pool.now c.step.new.pool pump c.args.self.now replies
     c.in-Some.telling c.step.new.self c.in-Some.is begun c.step.ensures.kept c.step.ensures.number c.step.ensures.others c.step.ensures.kept_others (text_alone c.args.pool.now (lease_of replies) c.args.self.now.running c.in-Some.telling c.in-Some.is alone)
     tree c.end.new.self c.in-Some-step.told c.in-Some-step.ensures.faults
-    (subst (λ (printer : Printer). HasTold g.F.Flash.told cat c.step.new.self.number taken.written begun.state (is_lost replies (c.args.self.now.count + 1)) begun.half begun.first.flash (g.F.Flash.state c.step.new.flash) begun.first.sink
+    (subst (λ (printer : Printer). HasTold g.F.Flash.told cat ((c.args.self.now.count + 1) % 2) c.step.new.self.number taken.written begun.state (is_lost replies (c.args.self.now.count + 1)) begun.half begun.first.flash (g.F.Flash.state c.step.new.flash) begun.first.sink
     (handed printer.failed (g.O.Sink.faults c.step.new.out) (g.O.Sink.written c.step.new.out)) c.in-Some-step.told) (sym c.end.ensures.printer)
     (c.in-Some-step.ensures.goes cat ((c.args.self.now.count + 1) % 2) taken.written begun.state (is_lost replies (c.args.self.now.count + 1)) begun.half begun.first.flash begun.first.sink taken.under_way))
     (record { texts = c.end.ensures.ended.texts; count = c.end.ensures.ended.count; running = c.end.ensures.ended.running; counted = c.end.ensures.ended.counted; first = c.end.ensures.ended.first })

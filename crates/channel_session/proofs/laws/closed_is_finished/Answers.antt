@@ -1,8 +1,0 @@
-use Rattle.std.proofs.Common.{◌∙◌}
-use Rattle.channel_session.proofs.MoveLemmas.{closed_stage}
-use Rattle.channel_session.proofs.laws.closed_is_finished.Goals as goal
-
-pub returns : goal.returns
-returns c = record {
-  finished = λ catalog at asks journal exchange live wanted. live.finished (live.after.closed ∙ closed_stage exchange.pump exchange.pump.stage wanted);
-}

@@ -1,0 +1,247 @@
+-- What is kept at first, what stays of it, and what it gives.
+use Rattle.std.proofs.Common.{◌≡◌, ◌≤◌, ◌<◌, ◌+◌, ◌%◌, ◌^◌, ℕ, arith, Bool, true, false, ◌==◌, List, [], ◌∷◌, map, filter_map, refl, sym, ◌∙◌, ap, subst, Some, None, if◌then◌else◌}
+use Rattle.std.specs.List.{cons_option}
+use Rattle.std.proofs.lemmas.Bool.{eqb-true, eq-eqb}
+use Rattle.ghost_model.specs.core.Schema.{Schema}
+use Rattle.ghost_model.specs.core.Channel.{Catalog}
+use Rattle.ghost_model.specs.core.Asks.{NumberedAsk, RowCells, row_in, row_width, rows_in}
+use Rattle.ghost_model.specs.core.Split.{RowValues}
+use Rattle.ghost_model.specs.core.Moves.{taken}
+use Rattle.ghost_model.specs.core.NextMove.{Heard, EndedAsk, Ending, Answered, Refused, heard}
+use Rattle.ghost_model.specs.core.Replies as given
+use Rattle.ghost_model.specs.core.Replies.{reply_for, reply_about, replied_row}
+use Rattle.edge_traits.specs.Devices.{Device}
+use Rattle.edge_traits.proofs.DeviceFrames.{same_kept}
+use Rattle.page_pool.specs.Pools.{Pool}
+use Rattle.channel_pump.specs.Sessions.{asked_in}
+use Rattle.key_session.specs.Fits.{Fits, was_ended}
+use Rattle.visible_spool.specs.declared.half.Half.{Half}
+use Rattle.visible_spool.specs.declared.reply.Reply.{Reply}
+use Rattle.visible_spool.specs.declared.spool.Spool.{Spool}
+use Rattle.visible_spool.specs.Areas.{AreAreasOf, is_even, half_begin, half_end}
+use Rattle.visible_spool.specs.Halves.{reply_of, no_reply, no_half}
+use Rattle.visible_spool.specs.Laws.{RepliesStayReadable, TextsWithoutRows}
+use Rattle.visible_spool.specs.Replies.{HoldsRows}
+use Rattle.visible_spool.specs.Sides.{is_marked, replies_of, side_of}
+use Rattle.visible_spool.specs.SpoolLaws.{Spares, StaysSpooling, StillPushed}
+use Rattle.visible_spool.specs.Spools.{IsSpooling, PushedIf, area_at, is_at}
+use Rattle.key_session.specs.Rows.{rows_at, rows_cut}
+use Rattle.key_session.specs.Kept.{IsKept, IsAskOf, HasCome, IsBy, IsOver, AreKept, IsKeptReply, HasEnding, HasEndings, half_in, none_heard}
+use Rattle.key_session.specs.Given.{HoldsGiven, KeptAreGiven}
+use Rattle.key_session.specs.Laws.{RepliesStayKept, KeptHalvesAreHalves}
+use Rattle.key_session.specs.declared.replies.Replies.{Replies}
+use Rattle.key_session.proofs.Elsewhere.{in_areas, half_by}
+use Rattle.key_session.proofs.Keeping.{none_of_half, no_replies, side_by}
+use Rattle.key_session.proofs.PushRows.{no_rows}
+use Rattle.key_session.proofs.RowLemmas.{cells_cut}
+use Rattle.key_session.proofs.RowsHeard.{hand_text, is_awaited}
+use Rattle.key_session.proofs.Closing.{its_table}
+use Rattle.key_session.proofs.WriteLemmas.{true_is_not_false}
+
+-- ---- at first
+
+none_kept : TextsWithoutRows → (told : Bool) (device : Device) (spool : Spool) (text table : ℕ) → device.page_count < 2 ^ 32 → IsKeptReply told device spool text table no_reply
+none_kept nothing told device spool text table small = record {
+  readable = (nothing 0 (omega arith)).readable device small;
+  lies = record { visible = λ some. absurd (omega (arith, some)); lies = λ place within. absurd (omega (arith, within)) };
+  whole = λ is_told. record { rows = []; holds = (nothing 0 (omega arith)).holds device.page };
+}
+
+pub first_kept : TextsWithoutRows → (told : Bool) (device : Device) (pool : Pool) (catalog : Catalog) (replies : Replies) → device.page_count < 2 ^ 32 → IsSpooling device pool replies.spool
+    → AreAreasOf catalog replies.spool.areas.items → replies.spool.hand.text ≡ 0 → replies.spool.sides.even.text ≡ 0 → replies.spool.sides.odd.text ≡ 0 → replies.is_open ≡ false
+    → IsKept told device pool catalog (none_heard catalog) 1 0 replies
+first_kept nothing told device pool catalog replies small spooling areas hand even odd closed =
+    let bound : IsBy 0 replies.spool = record { even = omega (arith, even); odd = omega (arith, odd); hand = omega (arith, hand) } in
+    record {
+      spooling = spooling;
+      areas = areas;
+      bound = bound;
+      at = λ is_on. absurd (true_is_not_false (sym is_on ∙ closed));
+      closed = λ _. refl;
+      over = λ _ some. absurd (some hand);
+      halves = λ text from.
+          (let half : replies_of replies.spool.sides text ≡ no_half = no_replies (side_of replies.spool.sides text) 0 text (side_by 0 text replies.spool bound) (omega (arith, from)) in
+          let none : (table : ℕ) → reply_of (replies_of replies.spool.sides text) table ≡ no_reply = λ table. ap (λ (h : Half). reply_of h table) half ∙ none_of_half table in
+          record {
+            each = λ table. subst (λ (r : Reply). IsKeptReply told device replies.spool text table r) (sym (none table)) (none_kept nothing told device replies.spool text table small);
+            none = λ table _. none table;
+          });
+      texts = λ text from not. tt;
+    }
+
+-- ---- the reply to an ask is begun
+
+pub opened : (told : Bool) (device : Device) (pool : Pool) (catalog : Catalog) (heard : Heard) (asked : NumberedAsk) (low top text : ℕ) (old new : Replies) → old.is_open ≡ false → new.spool ≡ old.spool
+    → new.is_open ≡ true → asked_in heard.awaits ≡ Some asked → asked.text ≡ text → top ≤ text → text ≤ low + 1 → Fits catalog heard → IsAskOf catalog.schema asked new.hand
+    → IsKept told device pool catalog heard low top old → IsKept told device pool catalog heard low text new
+opened told device pool catalog heard asked low top text old new shut same is_on awaited its_text up near fits ask k =
+    record {
+      spooling = subst (λ (s : Spool). IsSpooling device pool s) (sym same) k.spooling;
+      areas = subst (λ (s : Spool). AreAreasOf catalog s.areas.items) (sym same) k.areas;
+      bound = subst (λ (s : Spool). IsBy text s) (sym same)
+          (let even = k.bound.even in let odd = k.bound.odd in let hand = k.bound.hand in record { even = omega (arith, even, up); odd = omega (arith, odd, up); hand = omega (arith, hand, up) });
+      at = λ _. record {
+        asked = asked;
+        awaited = awaited;
+        near = omega (arith, near, its_text);
+        latest = its_text;
+        ask = ask;
+        come = subst (λ (s : Spool). HasCome told device.page pool heard.ended new.hand heard.rows s) (sym same) come;
+      };
+      closed = λ c. absurd (true_is_not_false (sym is_on ∙ c));
+      over = λ c. absurd (true_is_not_false (sym is_on ∙ c));
+      halves = λ other from. subst (λ (s : Spool). AreKept told device heard.ended s other) (sym same) (k.halves other from);
+      texts = λ other from not. subst (λ (s : Spool). HasEndings told device.page catalog.schema other (replies_of s.sides other) heard.ended) (sym same)
+          (k.texts other from (subst (λ (s : Spool). is_marked s.sides other ≡ false) same not));
+    }
+  where
+    over : IsOver heard.ended old.spool.hand
+    over = k.over shut
+
+    first : was_ended new.hand.text new.hand.table heard.ended ≡ false
+    first =
+        ap (λ t. was_ended t new.hand.table heard.ended) ask.text_is
+        ∙ (ap (λ t. was_ended asked.text t heard.ended) ask.table_is ∙ (is_awaited catalog heard.ended heard.rows heard.awaits asked fits awaited).1.first)
+
+    not_at : (b : Bool) → is_at old.spool new.hand.text new.hand.table ≡ b → b ≡ false
+    not_at true at =
+        let text_is = hand_text old.spool new.hand.text new.hand.table at in
+        let some = ask.some in
+        let was = over (λ none. (omega (arith, some, text_is, none))) in
+        let table_is = its_table old.spool new.hand.text new.hand.table at in
+        absurd (true_is_not_false (sym (ap (λ t. was_ended t old.spool.hand.table heard.ended) (sym text_is) ∙ was) ∙ (ap (λ t. was_ended new.hand.text t heard.ended) table_is ∙ first)))
+    not_at false at = refl
+
+    elsewhere : is_at old.spool new.hand.text new.hand.table ≡ false
+    elsewhere = not_at (is_at old.spool new.hand.text new.hand.table) refl ∙ refl
+
+    no_last : (b : Bool) → b ≡ false → (if b then old.spool.hand.last else 0) ≡ 0
+    no_last true e = absurd (true_is_not_false e)
+    no_last false e = refl
+
+    come : HasCome told device.page pool heard.ended new.hand heard.rows old.spool
+    come =
+        let least = ask.least in
+        let none : rows_at new.hand.width heard.rows ≡ [] = ap (λ bytes. rows_at new.hand.width bytes) (k.closed shut) ∙ no_rows new.hand.width [] (omega (arith, least)) in
+        let zero_last = no_last (is_at old.spool new.hand.text new.hand.table) elsewhere in
+        record {
+          kinds = λ at. absurd (true_is_not_false (sym at ∙ elsewhere));
+          width = λ at. absurd (true_is_not_false (sym at ∙ elsewhere));
+          last = omega (arith, zero_last);
+          pushed = λ not. subst (λ b. PushedIf b told device.page pool old.spool (rows_at new.hand.width heard.rows)) (sym elsewhere) none;
+          others = λ _. over;
+        }
+
+-- ---- what stays
+
+pub stay_kept : StaysSpooling → StillPushed → RepliesStayReadable → RepliesStayKept
+stay_kept stays pushed readable told before now pool later catalog heard low top replies keeps out buffer k =
+    let spares : Spares before now pool later replies.spool = record { page_count = keeps.page_count; area = λ number from to. same_kept keeps number; out = out; buffer = buffer } in
+    record {
+      spooling = stays before now pool later replies.spool spares k.spooling;
+      areas = k.areas;
+      bound = k.bound;
+      at = λ is_on. (let at = k.at is_on in record {
+        asked = at.asked;
+        awaited = at.awaited;
+        near = at.near;
+        latest = at.latest;
+        ask = at.ask;
+        come = record {
+          kinds = at.come.kinds;
+          width = at.come.width;
+          last = at.come.last;
+          pushed = λ not. pushed told before now pool later replies.spool replies.hand.text replies.hand.table (rows_at replies.hand.width heard.rows) at.ask.some not spares k.spooling (at.come.pushed not);
+          others = at.come.others;
+        };
+      });
+      closed = k.closed;
+      over = k.over;
+      halves = λ text from. record {
+        each = λ table. (let each = (k.halves text from).each table in record {
+          readable = readable before now (reply_of (replies_of replies.spool.sides text) table) keeps.page_count each.readable;
+          lies = each.lies;
+          whole = λ is_told. record {
+            rows = (each.whole is_told).rows;
+            holds = subst (λ (page : ℕ → List ℕ). HoldsRows page (reply_of (replies_of replies.spool.sides text) table) (each.whole is_told).rows) (sym keeps.page) (each.whole is_told).holds;
+          };
+        });
+        none = (k.halves text from).none;
+      };
+      texts = λ text from not. subst (λ (page : ℕ → List ℕ). HasEndings told page catalog.schema text (half_in replies text) heard.ended) (sym keeps.page) (k.texts text from not);
+    }
+
+-- ---- what it gives
+
+pub its_half : (text : ℕ) (b : Bool) → is_even text ≡ b → (if b then 0 else 1) ≡ text % 2
+its_half text true e = sym (eqb-true (text % 2) 0 e)
+its_half text false e = odd text (λ z. true_is_not_false (sym (eq-eqb (text % 2) 0 z) ∙ e))
+  where
+    odd : (n : ℕ) → (n % 2 ≡ 0 → ⊥) → 1 ≡ n % 2
+    odd n not = omega (arith, not)
+
+pub halves_are : KeptHalvesAreHalves
+halves_are told device pool catalog heard low top text replies k from =
+    let each = (k.halves text from).each in
+    record {
+      readable = λ table there. (each table).readable;
+      lies = λ table there place within.
+          (let lies = (each table).lies in
+          let wide = lies.visible (omega (arith, within)) in
+          let here = lies.lies place within in
+          let is = k.areas.each table (in_areas replies.spool.areas.items table wide) in
+          let half = half_by catalog table text (area_at replies.spool table) is wide (is_even text) refl in
+          let e = its_half text (is_even text) refl in
+          let low_end = ap (λ n. half_begin catalog n) e in
+          let high_end = ap (λ n. half_end catalog n) e in
+          let lower = half.from in
+          let upper = half.to in
+          (omega (arith, here.0, lower, low_end), omega (arith, here.1, upper, high_end)));
+      whole = λ is_told table there. (each table).whole is_told;
+    }
+
+map_twice : (f : RowCells → RowValues) (rows : List (List ℕ)) → map f (map row_in rows) ≡ map (λ bytes. f (row_in bytes)) rows
+map_twice f [] = refl
+map_twice f (row ∷ rows) = ap (λ (xs : List RowValues). f (row_in row) ∷ xs) (map_twice f rows)
+
+same_given : (a b : given.Reply) → Some a ≡ Some b → a ≡ b
+same_given a b e = cc
+
+module _ (page : ℕ → List ℕ) (schema : Schema) (text table : ℕ) (half : Half) (one : given.Reply) where
+  given_by : (ends : List EndedAsk) → HasEndings true page schema text half ends → reply_about table (filter_map (reply_for schema text) ends) ≡ Some one
+      → HoldsGiven page schema (reply_of half table) one
+  given_by [] had e = let bad : ⊥ = cc in absurd bad
+  given_by (end ∷ ends) had e = by (end.asked.text == text) refl end.ending (had.0) (λ later. given_by ends had.1 later) e
+    where
+      by : (b : Bool) → (end.asked.text == text) ≡ b → (ending : Ending)
+          → (end.asked.text ≡ text → HasEnding true page schema end.asked.ask ending (reply_of half end.asked.ask.table))
+          → (reply_about table (filter_map (reply_for schema text) ends) ≡ Some one → HoldsGiven page schema (reply_of half table) one)
+          → reply_about table (cons_option (if b then given.reply_of schema end.asked ending else None) (filter_map (reply_for schema text) ends)) ≡ Some one
+          → HoldsGiven page schema (reply_of half table) one
+      by false not ending has later e = later e
+      by true is (Refused code) has later e = later e
+      by true is (Answered rows) has later e = at (end.asked.ask.table == table) refl e
+        where
+          reply : given.Reply
+          reply = record { ask = end.asked.ask; rows = map (replied_row schema end.asked.ask) (rows_in schema end.asked.ask rows) }
+
+          at : (b : Bool) → (end.asked.ask.table == table) ≡ b
+              → (if b then Some (record { ask = end.asked.ask; rows = map (replied_row schema end.asked.ask) (rows_in schema end.asked.ask rows) }) else reply_about table (filter_map (reply_for schema text) ends)) ≡ Some one
+              → HoldsGiven page schema (reply_of half table) one
+          at false not e = later e
+          at true here e =
+              let answer = has (eqb-true end.asked.text text is) in
+              let same_table = eqb-true end.asked.ask.table table here in
+              subst (λ (r : given.Reply). HoldsGiven page schema (reply_of half table) r) (same_given _ one e)
+              (subst (λ t. HoldsGiven page schema (reply_of half t) (record { ask = end.asked.ask; rows = map (replied_row schema end.asked.ask) (rows_in schema end.asked.ask rows) })) same_table
+              (record {
+                rows = rows_cut schema end.asked.ask rows;
+                holds = answer.holds refl;
+                kinds_are = answer.kinds;
+                are = ap (λ (cells : List RowCells). map (replied_row schema end.asked.ask) cells) (cells_cut (row_width schema end.asked.ask) _ rows)
+                    ∙ map_twice (replied_row schema end.asked.ask) (rows_cut schema end.asked.ask rows);
+              }))
+
+pub are_given : KeptAreGiven
+are_given device pool catalog asks journal low top text kept k from not table one e =
+    given_by device.page catalog.schema text table (half_in kept text) one (heard catalog asks (taken journal)).ended (k.texts text from not) e

@@ -1,8 +1,0 @@
-//! A law of the order in which the asks of texts are awaited.
-
-ghost use Rattle.reply_laws.specs.Order.{TextsComeInOrder};
-
-/// Where an ask is awaited, none of a later text was ended, and none of an earlier one will be awaited.
-pub fn texts_come_in_order()
-    ensures { TextsComeInOrder }
-{}

@@ -1,5 +1,0 @@
-use Rattle.session_replies.proofs.KeptLaws.{halves_are}
-use Rattle.session_replies.proofs.laws.kept_halves_are_halves.Goals as goal
-
-pub returns : goal.returns
-returns c = record { half = halves_are }

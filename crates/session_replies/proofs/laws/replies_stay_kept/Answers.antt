@@ -1,5 +1,0 @@
-use Rattle.session_replies.proofs.KeptLaws.{stay_kept}
-use Rattle.session_replies.proofs.laws.replies_stay_kept.Goals as goal
-
-pub returns : goal.returns
-returns c = record { kept = stay_kept c.the_spool_is_spared.ensures.stays c.the_spool_is_spared.ensures.pushed c.replies_stay_readable.ensures.readable }

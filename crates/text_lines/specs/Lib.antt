@@ -1,4 +1,0 @@
-pub mod Rows
-pub mod Texts
-pub mod Telling
-pub mod Laws
