@@ -10,7 +10,7 @@ use flash_pages::fault::PageFault;
 use ghost_base::runs::{Run, per_page};
 
 /// The fault of the slot of a record of a run, counted from 0, which has these bytes.
-pub(crate) fn damage(run: &Run, place: u32, bytes: &[u8]) -> PageFault
+pub fn damage(run: &Run, place: u32, bytes: &[u8]) -> PageFault
     requires width { 0 < run.now.width }
     requires fits { run.now.width ≤ 2048 }
     requires page { page_of (run_of run.now) place < 2 ^ 32 }

@@ -3,7 +3,7 @@
 ghost use Rattle.std.specs.Prelude.{◌≡◌, ◌<◌, ◌≤◌, ◌+◌, ◌*◌, ℕ, true, length, Some, IfOk, IfErr, OnOk, slice_get, option_map};
 ghost use Rattle.ghost_base.specs.Runs.{run_of};
 ghost use Rattle.page_pool.specs.Pools.{page_at};
-ghost use Rattle.flash_pages.specs.Reads.{Reads, CanRead, WasGiven, must_read, page_after};
+ghost use Rattle.flash_pages.specs.Reads.{Reads, CanRead, WasGiven, WasRead, must_read, page_after};
 ghost use Rattle.climbing_index.specs.Directories.{IsReadable, GivesEntry, GivesList, BlamesRecord, BlamesPage, GivesPlace, entry_page, entry_stands, are_places, spells, most_cell, file_of};
 
 use crate::damage::damage;
@@ -112,6 +112,7 @@ impl Directory {
         requires ready { CanRead F.told (F.state flash.old) pool.old lease.now }
         ensures gives { F.told ≡ true → GivesEntry (F.state flash.old).page self.now entry out.new result }
         ensures stands { OnOk result (entry_stands self.now out.new ≡ true) }
+        ensures was_read { (since : ℕ) → since ≤ (F.state flash.old).calls → WasGiven since (F.state flash.old) pool.old lease.now → OnOk result (WasRead since (F.state flash.new) (run_of self.now.run) entry out.new) }
         ensures blames { (since : ℕ) → since ≤ (F.state flash.old).calls → WasGiven since (F.state flash.old) pool.old lease.now → IfErr result (λ fault. BlamesRecord since (F.state flash.new) (run_of self.now.run) (entry_stands self.now) entry fault) }
         ensures page { IfErr result (BlamesPage (entry_page self.now entry)) }
         ensures readable { IsReadable (F.state flash.new) self.now }
@@ -162,8 +163,8 @@ impl Directory {
         }
     }
 
-    /// The list that an entry has at a level.
-    fn list_in(&self, bytes: &[u8], level: usize) -> ListRef
+    /// The list that an entry with these bytes has at a level, counted from 0.
+    pub fn list_in(&self, bytes: &[u8], level: usize) -> ListRef
         requires width { length bytes.now ≡ self.now.cell + 8 * length self.now.levels.items }
         requires stands { entry_stands self.now bytes.now ≡ true }
         requires level { level < length self.now.levels.items }

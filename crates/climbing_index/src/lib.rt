@@ -5,7 +5,7 @@
 //! an entry stands at a level. A slot that is out of its range is damaged. None of the calls takes memory.
 #![tactic(auto)]
 
-mod damage;
+pub mod damage;
 pub mod directory;
 pub mod find;
 pub mod ids;
