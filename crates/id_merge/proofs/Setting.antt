@@ -177,7 +177,8 @@ damages_set page cursors i new within (Err (Damaged number slot found)) damage =
   at = i;
   run = new;
   is = get_or-set_same cursors i (OfList new) nothing within;
-  damage = damage;
+  place = damage.place;
+  damage = damage.damage;
 }
 
 pub given_at : (since : ℕ) (device : Device) (pool : Pool) (cursors : List Cursor) (i : ℕ) (run : RunCursor) → cursor_at cursors i ≡ OfList run

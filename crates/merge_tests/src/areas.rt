@@ -82,7 +82,8 @@ fn lease_three(pool: &mut PagePool) -> Three
     }
 }
 
-/// Reduces the lists of a run to one, which lies from page `first` on, and gives all leases back.
+/// Reduces the lists of a run to one, which lies from page `first` on, and gives all leases back. The calls that are counted are
+/// added to `spent`.
 pub fn reduced(
     flash: &mut MemFlash,
     pool: &mut PagePool,
@@ -91,6 +92,7 @@ pub fn reduced(
     first: u32,
     rows: u32,
     room: u32,
+    spent: &mut u64,
 ) -> Result<Option<Run>, PageFault>
     requires least { 6 ≤ room }
     requires most { room ≤ 62 }
@@ -108,7 +110,10 @@ pub fn reduced(
     let reader = PlaceReader::begin(places, lists, three.source);
     let mut reduce = Reduce::begin(reader, areas, rows, room, three.lists, three.places);
     'steps: loop {
-        match reduce.step(flash, pool) {
+        let mut made = 0;
+        let stands = reduce.step(flash, pool, &mut made);
+        *spent = spent.saturating_add(made);
+        match stands {
             Err(fault) => {
                 reduce.end(pool);
                 return Err(fault);

@@ -36,7 +36,7 @@ fn lists_are_reduced_to_one(rt: HostRuntime) -> Result<(), AttachFault> {
         for room in [6u32, 62] {
             let came = reduce(rt.alloc(), &drawn.ids, &drawn.places, ROWS, room, &[])?;
             assert!(rt;
-                came.calls <= bound && came.left == 64,
+                came.calls <= bound && came.spent == came.calls && came.left == 64,
                 "{lists} lists at room {room}"
             );
             match came.run {
@@ -76,7 +76,7 @@ fn a_damaged_place_or_list_is_named(rt: HostRuntime) -> Result<(), AttachFault> 
         ([0, 3, 3, 3], 0, 4),
     ] {
         let came = reduce(rt.alloc(), &ids, &places, 20, 6, &[])?;
-        assert!(rt; came.left == 64);
+        assert!(rt; came.left == 64 && came.spent == came.calls);
         match came.run {
             Err(
                 PageFault::Damaged {

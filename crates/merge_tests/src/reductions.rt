@@ -68,6 +68,8 @@ pub struct Came {
     pub flash: MemFlash,
     /// How many calls the reduction made.
     pub calls: u64,
+    /// How many it counted.
+    pub spent: u64,
     /// How many of them read page 64 or a later one.
     pub reads: u64,
     /// How many leases were left.
@@ -110,6 +112,7 @@ pub fn reduce(
         width: 8,
         count: laid.other.count / 2,
     };
+    let mut spent = 0;
     let run = reduced(
         &mut laid.flash,
         &mut pool,
@@ -118,9 +121,11 @@ pub fn reduce(
         laid.free,
         rows,
         room,
+        &mut spent,
     );
     Ok(Came {
         run,
+        spent,
         calls: laid.flash.script.calls.saturating_sub(before),
         reads: laid.flash.deep_reads().saturating_sub(reads),
         left: left_in(&mut pool),

@@ -1,7 +1,6 @@
 -- How many calls of the flash are left: in a pass, where a list was taken or a merge went on, and over all passes.
-use Rattle.std.proofs.Common.{◌≡◌, ℕ, zero, suc, ◌+◌, ◌-◌, ◌*◌, ◌/◌, ◌^◌, ◌<◌, ◌≤◌, ◌⊎◌, inl, inr, Bool, true, false, mul-le-mul, pow-suc, ap, sym, refl, subst, arith, ◌∙◌}
-use Rattle.std.specs.Prelude.{Option, Some, None, Result, Ok, Err, IsErrAnd}
-use Rattle.flash_pages.specs.declared.fault.PageFault.{PageFault}
+use Rattle.std.proofs.Common.{◌≡◌, ℕ, zero, suc, ◌+◌, ◌-◌, ◌*◌, ◌/◌, ◌^◌, ◌<◌, ◌≤◌, ◌⊎◌, inl, inr, Bool, mul-le-mul, pow-suc, ap, sym, refl, subst, arith, ◌∙◌}
+use Rattle.std.specs.Prelude.{Option, Some, None, Ok}
 use Rattle.ghost_model.specs.forms.Runs.{per_page}
 use Rattle.ghost_base.specs.declared.runs.ListRef.{ListRef}
 use Rattle.edge_traits.specs.Devices.{Device}
@@ -10,12 +9,12 @@ use Rattle.id_merge.specs.Cursors.{unread_in}
 use Rattle.spill_pass.specs.declared.groups.Groups.{Groups}
 use Rattle.spill_pass.specs.declared.groups.PlacedLists.{PlacedLists}
 use Rattle.spill_pass.specs.declared.passes.PassTurn.{PassTurn}
-use Rattle.spill_pass.specs.declared.passes.PassTurn.TheVariants.{Went, Placed}
+use Rattle.spill_pass.specs.declared.passes.PassTurn.TheVariants.{Went}
 use Rattle.spill_pass.specs.declared.reduce.Areas.{Areas}
-use Rattle.spill_pass.specs.Calls.{CallsLeft, FewerCalls, PassSpent, PassSpends, TurnSpends, StepSpends, group_calls_left, ids_in_pass, pass_calls, pass_calls_left}
-use Rattle.spill_pass.specs.Grouping.{IsBegun, IsGrouping, ListStands, TookMore, WentOn, calls_to_come, ids_at_hand}
-use Rattle.spill_pass.specs.Passing.{MadeFew, PassEnds, PassGoes, pass_held}
-use Rattle.spill_pass.specs.Reducing.{IsNextPass, PassedOn, PassesTo}
+use Rattle.spill_pass.specs.Calls.{CallsLeft, FewerCalls, PassSpent, PassSpends, TurnSpends, group_calls_left, ids_in_pass, pass_calls, pass_calls_left}
+use Rattle.spill_pass.specs.Grouping.{IsBegun, IsGrouping, TookMore, calls_to_come, ids_at_hand}
+use Rattle.spill_pass.specs.Passing.{PassEnds, pass_held}
+use Rattle.spill_pass.specs.Reducing.{IsNextPass, PassesTo}
 use Rattle.spill_pass.specs.Sources.{Source, SameSource, GaveList}
 use Rattle.spill_pass.proofs.Closing.{none_hand}
 use Rattle.spill_pass.proofs.Grouping.{places_below}

@@ -1,9 +1,14 @@
 -- What a turn came to, and calls counted over several of them.
-use Rattle.std.proofs.Common.{◌≡◌, ℕ, ◌+◌, ◌<◌, ◌≤◌, inl, inr, Bool, List, [], Option, Some, None, subst, Ok, arith}
+use Rattle.std.proofs.Common.{◌≡◌, ℕ, ◌+◌, ◌-◌, ◌<◌, ◌≤◌, inl, inr, Bool, List, [], Option, Some, None, subst, Ok, arith}
+use Rattle.std.specs.Prelude.{Result, Err}
 use Rattle.std.proofs.lemmas.Bool.{cases_lt}
 use Rattle.ghost_model.specs.core.Causes.{Rose}
 use Rattle.ghost_base.specs.declared.runs.Run.{Run}
-use Rattle.edge_traits.specs.Devices.{Device}
+use Rattle.edge_traits.specs.Devices.{Counts, Device}
+use Rattle.edge_traits.proofs.DeviceFrames.{counts_more}
+use Rattle.flash_pages.specs.declared.fault.PageFault.{PageFault}
+use Rattle.flash_pages.specs.declared.fault.PageFault.TheVariants.{Flash, Damaged}
+use Rattle.spill_pass.specs.Causes.{CountsCalls, QuietAtDamage}
 use Rattle.page_pool.specs.Pools.{Pool}
 use Rattle.id_merge.specs.declared.merge.Merge.{Merge}
 use Rattle.spill_pass.specs.declared.merging.MergeInto.{MergeInto}
@@ -18,7 +23,7 @@ went_gives {told = told} {right = right} {page = page} {merge = merge} {pool = p
     let P : Turn → Type 0 = λ turn. TurnGives told right merge page pool into (Ok turn) in subst P is gives
 
 pub done_gives :
-    (told : Bool) {right page : ℕ → List ℕ} {merge : Merge} (pool : Pool) (into : MergeInto) {turn : Turn} {run : Run} → turn ≡ Done run
+    (told : Bool) {right page : ℕ → List ℕ} {merge : Merge} (pool : Pool) (into : MergeInto) {turn : Turn} {run : Run} {calls : ℕ} → turn ≡ Done run calls
     → TurnGives told right merge page pool into (Ok turn) → IsListOf right merge page run
 done_gives told {right = right} {page = page} {merge = merge} pool into is gives =
     let P : Turn → Type 0 = λ turn. TurnGives told right merge page pool into (Ok turn) in subst P is gives
@@ -62,3 +67,43 @@ rose_again spent calls before mid now one two first second some =
       | inl earlier ↦ omega (arith, first earlier, one, two)
       | inr none ↦ omega (arith, second (omega (arith, none, some)), one, two)
     ]
+
+-- calls that were made after none
+pub counts_from : {calls before mid now : ℕ} → mid ≡ before → Counts calls mid now → Counts calls before now
+counts_from {calls = calls} {now = now} same counts = let P : ℕ → Type 0 = λ n. Counts calls n now in subst P same counts
+
+-- what was added to a count is how many calls were made
+pub counts_added : {calls before now : ℕ} (old new : ℕ) → new ≡ old + calls → Counts calls before now → Counts (new - old) before now
+counts_added old new added counts = record { most = omega (arith, added, counts.most); exact = λ below. omega (arith, added, counts.exact below) }
+
+pub counts_again : {a b c : ℕ} (old mid new : ℕ) → old ≤ mid → mid ≤ new → Counts (mid - old) a b → Counts (new - mid) b c → Counts (new - old) a c
+counts_again {a = a} {c = c} old mid new one two first second =
+    let P : ℕ → Type 0 = λ n. Counts n a c in
+    let sum : (mid - old) + (new - mid) ≡ new - old = omega (arith, one, two) in
+    subst P sum (counts_more first second)
+
+-- the same whatever the answer
+pub calls_any : {T : Type 0} (before now old new : ℕ) (result : Result T PageFault) → Counts (new - old) before now → CountsCalls before now old new result
+calls_any before now old new (Ok value) counts = counts
+calls_any before now old new (Err Flash) counts = tt
+calls_any before now old new (Err (Damaged page slot found)) counts = counts
+
+pub calls_again :
+    {T : Type 0} (a b c old mid new : ℕ) (result : Result T PageFault) → old ≤ mid → mid ≤ new → Counts (mid - old) a b
+    → CountsCalls b c mid new result → CountsCalls a c old new result
+calls_again a b c old mid new (Ok value) one two first second = counts_again old mid new one two first second
+calls_again a b c old mid new (Err Flash) one two first second = tt
+calls_again a b c old mid new (Err (Damaged page slot found)) one two first second = counts_again old mid new one two first second
+
+-- nothing was added, and no call was made before the slot was blamed
+pub calls_quiet : (T : Type 0) (before now old : ℕ) (fault : PageFault) → QuietAtDamage {T = T} before now (Err fault) → CountsCalls {T = T} before now old old (Err fault)
+calls_quiet T before now old Flash quiet = tt
+calls_quiet T before now old (Damaged page slot found) quiet = record { most = omega (arith, quiet); exact = λ below. omega (arith, quiet) }
+
+-- the same after some calls
+pub calls_then :
+    (T : Type 0) (a b c old new : ℕ) (fault : PageFault) → old ≤ new → Counts (new - old) a b → QuietAtDamage {T = T} b c (Err fault)
+    → CountsCalls {T = T} a c old new (Err fault)
+calls_then T a b c old new Flash rises counts quiet = tt
+calls_then T a b c old new (Damaged page slot found) rises counts quiet =
+    record { most = omega (arith, quiet, counts.most); exact = λ below. omega (arith, quiet, counts.exact (omega (arith, quiet, below))) }

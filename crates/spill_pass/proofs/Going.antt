@@ -19,6 +19,7 @@ use Rattle.id_merge.specs.Merges.{CanMerge}
 use Rattle.spill_pass.specs.declared.merging.MergeInto.{MergeInto}
 use Rattle.spill_pass.specs.Merging.{area_pages, area_end, leases_held, LiesOutside, IsMerging, Goes}
 use Rattle.spill_pass.proofs.Holders.{others_move}
+use Rattle.spill_pass.proofs.Over.{over_same}
 use Rattle.spill_pass.proofs.Writing.{page_in_area, pages_below}
 
 moves_out :
@@ -55,6 +56,7 @@ stepped {told = told} {before = before} old merge are moves = record {
   still = still_out old.writer.lease moves are;
   given = moves.given;
   outside = λ low high is i. outside_same told before.page low high (cursor_at old.merge.cursors.items i) (cursor_at merge.cursors.items i) (moves.same i) (is i);
+  over = λ run rows over i. over_same told before.page run rows (cursor_at old.merge.cursors.items i) (cursor_at merge.cursors.items i) (moves.same i) (over i);
   count = moves.count;
   first = refl;
   rows = refl;
@@ -92,6 +94,7 @@ goes_none {device = device} {pool = pool} into are = record {
   still = are;
   given = λ since from given. given;
   outside = λ low high is. is;
+  over = λ run rows over. over;
   count = refl;
   first = refl;
   rows = refl;
@@ -114,6 +117,7 @@ goes_trans {pool = pool} {then = then} {later = later} {old = old} {mid = mid} o
       still = two.still;
       given = λ since from given. two.given since (omega (arith, from, one.changes.never_falls)) (one.given since from given);
       outside = λ low high is. two.outside low high (one.outside low high is);
+      over = λ run rows over. two.over run rows (one.over run rows over);
       count = two.count ∙ one.count;
       first = two.first ∙ one.first;
       rows = two.rows ∙ one.rows;

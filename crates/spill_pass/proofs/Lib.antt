@@ -7,6 +7,7 @@ pub mod PlaceCells
 pub mod SparedLemmas
 pub mod Grouping
 pub mod Closing
+pub mod Over
 pub mod Taking
 pub mod Listing
 pub mod Finishing
@@ -22,5 +23,6 @@ pub mod ReduceTurning
 pub mod ReduceSteps
 pub mod PassContents
 pub mod PlacedContents
+pub mod PlacedSure
 pub mod ReduceContents
 pub mod Calls

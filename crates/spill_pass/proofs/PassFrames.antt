@@ -63,6 +63,7 @@ pass_of_groups {before = before} {now = now} {pool = pool} {later = later} sourc
   read = λ since from given. given_kept since before now goes.changes.gave (same_beside source.lease (groups_held old) are goes.others) given;
   lease = refl;
   uses = λ page is. is;
+  run = refl;
   lists_first = goes.lists_first;
   places_first = goes.places_first;
   rows = goes.rows;
@@ -108,6 +109,7 @@ pass_of_source {now = now} {pool = pool} {later = later} source then groups kept
           subst Q (sym same.lease) (read since from given);
       lease = same.lease;
       uses = same.uses;
+      run = same.run;
       lists_first = refl;
       places_first = refl;
       rows = refl;
@@ -131,6 +133,7 @@ pass_goes_on {pool = pool} {then = then} {later = later} {old = old} {mid = mid}
       read = λ since from given. second.read since (omega (arith, from, first.changes.never_falls)) (first.read since from given);
       lease = second.lease ∙ first.lease;
       uses = λ page is. first.uses page (second.uses page is);
+      run = second.run ∙ first.run;
       lists_first = second.lists_first ∙ first.lists_first;
       places_first = second.places_first ∙ first.places_first;
       rows = second.rows ∙ first.rows;

@@ -1,20 +1,17 @@
 -- What holds of a pass where the merge of the group at hand went on, where its list stands, and at the beginning and the end.
 use Rattle.std.proofs.Common.{◌≡◌, ◌∙◌, ℕ, zero, suc, ◌+◌, ◌*◌, ◌<◌, ◌≤◌, ◌⊎◌, inl, inr, Bool, true, false, List, [], ◌∷◌, length, ap, sym, refl, subst, arith}
-use Rattle.std.specs.Prelude.{Result, Ok, Err}
 use Rattle.ghost_model.specs.core.Causes.{Rose}
 use Rattle.edge_traits.specs.Devices.{Device}
 use Rattle.page_pool.specs.Pools.{Pool, AreOut}
-use Rattle.flash_pages.specs.declared.fault.PageFault.{PageFault}
-use Rattle.flash_pages.specs.declared.fault.PageFault.TheVariants.{Flash, Damaged}
-use Rattle.id_merge.specs.declared.cursor.Cursor.{Cursor}
-use Rattle.id_merge.specs.Cursors.{BlamesLists, leases_of}
+use Rattle.id_merge.specs.Cursors.{leases_of}
 use Rattle.spill_pass.specs.declared.groups.Groups.{Groups}
 use Rattle.spill_pass.specs.declared.groups.PlacedLists.{PlacedLists}
 use Rattle.spill_pass.specs.Grouping.{IsBegun, AreRunsOf, Made, IsGrouping, WentOn, ListStands, groups_held, lists_at_hand}
-use Rattle.spill_pass.specs.Merging.{MadeAtMost, area_pages}
-use Rattle.spill_pass.specs.Passing.{CanPass, BlamesPass, IsPassing, PassGoes, ArePairs, IsComplete, MadeFew, PassWent, PassEnds, pass_held, pass_left}
+use Rattle.spill_pass.specs.Merging.{AllOver, MadeAtMost, area_pages}
+use Rattle.spill_pass.specs.Passing.{CanPass, IsPassing, PassGoes, ArePairs, IsComplete, MadeFew, PassWent, PassEnds, pass_held, pass_left}
 use Rattle.spill_pass.specs.Sources.{Source}
 use Rattle.spill_pass.proofs.Closing.{none_hand}
+use Rattle.spill_pass.proofs.Over.{over_none, over_of}
 use Rattle.spill_pass.proofs.PassFrames.{buffers_same}
 use Rattle.spill_pass.proofs.PassTaking.{no_truth, outside_still}
 
@@ -30,8 +27,8 @@ complete_same source old new lists (inr (one, end)) = inr (omega (arith, one, li
 pub passing_went :
     {told : Bool} {before now : Device} {pool later : Pool} (source : Source) (old new : Groups) (fan : ℕ)
     → IsPassing told before pool source old fan true → WentOn told now pool later old new → PassGoes before now pool later source source old new
-    → IsPassing told now later source new fan true
-passing_went {pool = pool} {later = later} source old new fan is went goes = record {
+    → AllOver source.run old.into.rows new.into.merge.cursors.items → IsPassing told now later source new fan true
+passing_went {pool = pool} {later = later} source old new fan is went goes over = record {
   grouping = went.grouping;
   leases = goes.still;
   buffers = omega (arith, is.buffers, buffers_same pool later (pass_held source old) (pass_held source new) is.leases goes.still goes.beside);
@@ -46,6 +43,7 @@ passing_went {pool = pool} {later = later} source old new fan is went goes = rec
   begins = λ e. absurd (no_truth (sym e));
   complete = λ e. complete_same source old new went.lists (is.complete refl);
   pairs = pairs_same source old new went.lists went.placed goes.size is.pairs;
+  over = over_of new.into.merge.cursors.items refl goes.rows over;
 }
 
 -- a group of two lists or more became one list, or the last one did
@@ -60,8 +58,8 @@ pairs_listed source old new none placed size (inr (one, end)) (inr (half, (no_li
 pub passing_listed :
     {told : Bool} {before now : Device} {pool later : Pool} (source : Source) (old new : Groups) (fan : ℕ)
     → IsPassing told before pool source old fan true → ListStands told now pool later old new → PassGoes before now pool later source source old new
-    → IsPassing told now later source new fan false
-passing_listed {pool = pool} {later = later} source old new fan is stands goes = record {
+    → AllOver source.run old.into.rows new.into.merge.cursors.items → IsPassing told now later source new fan false
+passing_listed {pool = pool} {later = later} source old new fan is stands goes over = record {
   grouping = stands.grouping;
   leases = goes.still;
   buffers = omega (arith, is.buffers, buffers_same pool later (pass_held source old) (pass_held source new) is.leases goes.still goes.beside);
@@ -76,6 +74,7 @@ passing_listed {pool = pool} {later = later} source old new fan is stands goes =
   begins = λ e. stands.none_found;
   complete = λ e. absurd (no_truth e);
   pairs = pairs_listed source old new stands.lists stands.placed goes.size (is.complete refl) is.pairs;
+  over = over_of new.into.merge.cursors.items refl goes.rows over;
 }
 
 -- some lists are at hand
@@ -137,6 +136,7 @@ passing_complete source groups fan is complete = record {
   begins = λ e. absurd (no_truth (sym e));
   complete = λ e. complete;
   pairs = is.pairs;
+  over = is.over;
 }
 
 one_or_more : (n left : ℕ) → 0 < n → left ≡ 0 → (2 ≤ n) ⊎ ((n ≡ 1) × (left ≡ 0))
@@ -181,14 +181,6 @@ went_less source old new went = omega (arith, went.lists, went.fewer)
 pub made_two : {calls : ℕ} {before now : Device} → Made calls before now → MadeFew calls before now
 made_two made = record { few = omega (arith, made.few); at_most = made.at_most; called = made.called }
 
--- a slot of a list at hand is blamed
-pub lists_blamed :
-    {T : Type 0} (blamed : ℕ → ℕ → ℕ → Type 0) (since : ℕ) (device : Device) (cursors : List Cursor) (result : Result T PageFault)
-    → BlamesLists since device cursors result → BlamesPass blamed since device cursors result
-lists_blamed blamed since device cursors (Ok answer) blames = tt
-lists_blamed blamed since device cursors (Err Flash) blames = tt
-lists_blamed blamed since device cursors (Err (Damaged number slot found)) blames = inr blames
-
 -- a pass begins
 pub pass_begun :
     {device : Device} {pool : Pool} (told : Bool) (source : Source) (groups : Groups) (to places rows fan lists_lease places_lease : ℕ)
@@ -215,4 +207,5 @@ pass_begun {pool = pool} told source groups to places rows fan lists_lease place
       begins = λ e. begun.none_found;
       complete = λ e. absurd (no_truth e);
       pairs = inl (omega (arith, none, begun.placed, begun.size));
+      over = over_none source.run groups.into.rows groups.into.merge.cursors.items begun.none;
     }

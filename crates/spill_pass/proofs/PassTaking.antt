@@ -1,5 +1,5 @@
 -- What holds of a pass where it took a list, or found none left, and where it went on with its groups.
-use Rattle.std.proofs.Common.{◌≡◌, ℕ, ◌+◌, ◌/◌, ◌<◌, ◌≤◌, ◌⊎◌, inl, inr, Bool, true, false, ap, sym, refl, subst, arith}
+use Rattle.std.proofs.Common.{◌≡◌, ◌∙◌, ℕ, ◌+◌, ◌/◌, ◌<◌, ◌≤◌, ◌⊎◌, inl, inr, Bool, true, false, ap, sym, refl, subst, arith}
 use Rattle.ghost_model.specs.forms.Runs.{page_of, per_page}
 use Rattle.ghost_base.specs.declared.runs.ListRef.{ListRef}
 use Rattle.ghost_base.specs.Runs.{run_of}
@@ -12,6 +12,7 @@ use Rattle.spill_pass.specs.Merging.{area_end, area_pages}
 use Rattle.spill_pass.specs.Passing.{IsPassing, PassGoes, ArePairs, pass_held, pass_left}
 use Rattle.spill_pass.specs.Sources.{Source, SameSource, SparesSource, UsesOutside, GaveList}
 use Rattle.spill_pass.proofs.Holders.{same_beside}
+use Rattle.spill_pass.proofs.Over.{over_of}
 use Rattle.spill_pass.proofs.PassFrames.{buffers_same, few_leases, grouping_spared, lists_apart, source_spares, unread_beside}
 
 pub no_truth : false ≡ true → ⊥
@@ -51,6 +52,7 @@ passing_source {told = told} {before = before} {now = now} {pool = pool} {later 
   begins = is.begins;
   complete = λ e. absurd (no_truth e);
   pairs = pairs_fewer source rest groups same.lists is.pairs;
+  over = over_of groups.into.merge.cursors.items same.run refl is.over;
 }
 
 -- the list may be taken
@@ -82,11 +84,11 @@ pairs_taken device source rest old new list gave more placed size (inr (half, (n
 
 pub passing_taken :
     {told : Bool} {before now : Device} {pool mid later : Pool} (source rest : Source) (old new : Groups) (fan : ℕ) (list : ListRef)
-    → IsPassing told before pool source old fan false → IsPassing told now mid rest old fan false → GaveList now source rest list
+    → IsPassing told before pool source old fan false → IsPassing told now mid rest old fan false → GaveList now source rest list → SameSource source rest
     → lists_at_hand old < fan → TookMore told now mid later list old new → AreOut later (pass_held rest new)
     → PassGoes now now mid later rest rest old new
     → IsPassing told now later rest new fan false
-passing_taken {now = now} {mid = mid} {later = later} source rest old new fan list first is gave less more still goes = record {
+passing_taken {now = now} {mid = mid} {later = later} source rest old new fan list first is gave same less more still goes = record {
   grouping = more.grouping;
   leases = still;
   buffers = omega (arith, is.buffers, buffers_same mid later (pass_held rest old) (pass_held rest new) is.leases still goes.beside);
@@ -101,6 +103,8 @@ passing_taken {now = now} {mid = mid} {later = later} source rest old new fan li
   begins = λ e. more.none_found;
   complete = λ e. absurd (no_truth e);
   pairs = pairs_taken now source rest old new list gave more.lists more.placed goes.size first.pairs;
+  over =
+      over_of new.into.merge.cursors.items (same.run ∙ sym gave.run_is) goes.rows (more.over (over_of old.into.merge.cursors.items gave.run_is refl first.over));
 }
 
 -- less is left to do

@@ -1,15 +1,20 @@
 -- The list that a place gives, by right pages.
-use Rattle.std.proofs.Common.{◌≡◌, ◌∙◌, ℕ, ◌+◌, ◌-◌, ◌^◌, ◌<◌, ◌++◌, List, [], ◌∷◌, length, get_or, ap, sym, refl, subst, arith}
+use Rattle.std.proofs.Common.{◌≡◌, ◌∙◌, ℕ, ◌+◌, ◌^◌, ◌<◌, ◌++◌, List, [], ◌∷◌, length, get_or, ap, sym, refl, subst, arith}
 use Rattle.std.specs.Prelude.{Option, Some, None, Result, Ok, Err, IfOk, MatchOption}
 use Rattle.std.proofs.lemmas.Nat.{from_be_bytes-to_be_bytes_4}
 use Rattle.ghost_model.specs.forms.Runs.{number_in, number_cell}
 use Rattle.ghost_base.specs.declared.runs.Run.{Run}
 use Rattle.ghost_base.specs.declared.runs.ListRef.{ListRef}
 use Rattle.flash_pages.specs.declared.fault.PageFault.{PageFault}
+use Rattle.flash_pages.specs.declared.fault.PageFault.TheVariants.{Flash, Damaged}
 use Rattle.spill_pass.specs.declared.places.PlaceReader.{PlaceReader}
 use Rattle.spill_pass.specs.Lists.{IsOrdered, id_of}
-use Rattle.spill_pass.specs.Places.{GivesPlace, IsNextList, IsPlaceOf, HasPlace, HasPlaces, ReaderHas, SamePlaces, place_at}
-use Rattle.spill_pass.specs.Sources.{GivesLists, GivesFirst}
+use Rattle.spill_pass.specs.Places.{GivesPlace, IsDamagedPlace, IsNextPlace, IsNextList, IsPlaceOf, HasPlace, HasPlaces, ReaderHas, SamePlaces, place_at}
+use Rattle.spill_pass.specs.Sources.{BlamesSource, GivesLists, GivesFirst}
+
+first_number : (a n : ℕ) → a < 2 ^ 32 → number_in (number_cell a ++ number_cell n) 0 ≡ a
+unfolding number_in
+first_number a n fits = from_be_bytes-to_be_bytes_4 a fits
 
 second_number : (a n : ℕ) → n < 2 ^ 32 → number_in (number_cell a ++ number_cell n) 4 ≡ n
 unfolding number_in
@@ -89,3 +94,29 @@ gives_list page now right rows before new lists (Ok None) pages gives step same 
 gives_list page now right rows before new lists (Ok (Some list)) pages gives step same small has =
     gives_first page now right rows before new list lists pages small gives step same has
 gives_list page now right rows before new lists (Err fault) pages gives step same small has = tt
+
+-- where the reader has its places, none of them is damaged
+right_place :
+    (page right : ℕ → List ℕ) (rows : ℕ) (before : PlaceReader) (first : List ℕ) → before.lists.count < 2 ^ 32
+    → HasPlace page right rows before.places before.lists before.at before.next first → IsNextPlace before (place_at page before)
+right_place page right rows before first small has =
+    let P : List ℕ → Type 0 = IsNextPlace before in
+    subst P (sym has.place)
+    (record {
+      first = first_number before.next (length first) (omega (arith, has.inside, small));
+      count = omega (arith, second_number before.next (length first) (omega (arith, has.inside, small)), has.inside);
+    })
+
+none_damaged :
+    (page right : ℕ → List ℕ) (rows : ℕ) (before : PlaceReader) (lists : List (List ℕ)) → before.lists.count < 2 ^ 32 → IsDamagedPlace page before
+    → ReaderHas page right rows before lists → ⊥
+none_damaged page right rows before [] small damaged has = absurd (omega (arith, damaged.more, has.has))
+none_damaged page right rows before (first ∷ rest) small damaged has = damaged.not_next (right_place page right rows before first small has.has.0)
+
+pub gives_sound :
+    (page right : ℕ → List ℕ) (rows : ℕ) (before : PlaceReader) (lists : List (List ℕ)) (damages : ℕ → ℕ → ℕ → Type 0) (result : Result (Option ListRef) PageFault)
+    → GivesPlace page before result → before.lists.count < 2 ^ 32 → ReaderHas page right rows before lists → BlamesSource damages result
+gives_sound page right rows before lists damages (Ok answer) gives small has = tt
+gives_sound page right rows before lists damages (Err Flash) gives small has = tt
+gives_sound page right rows before lists damages (Err (Damaged number slot found)) gives small has =
+    absurd (none_damaged page right rows before lists small gives has)

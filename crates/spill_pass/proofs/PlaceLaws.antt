@@ -1,21 +1,19 @@
 -- What a reader of places keeps where the pages and the buffer that it uses stay as they were, and what it gives as a source.
-use Rattle.std.proofs.Common.{◌≡◌, ◌∙◌, ℕ, zero, suc, ◌+◌, ◌-◌, ◌*◌, ◌/◌, ◌^◌, ◌<◌, ◌≤◌, ◌&&◌, ◌||◌, ◌++◌, Bool, true, false, List, [], ◌∷◌, length, nat_le, nat_lt, ap, sym, refl, subst, arith}
-use Rattle.std.specs.Prelude.{IfSome, Option, Some, None}
+use Rattle.std.proofs.Common.{◌≡◌, ◌∙◌, ℕ, ◌+◌, ◌/◌, ◌<◌, ◌&&◌, ◌||◌, Bool, true, false, List, [], ◌∷◌, length, nat_le, nat_lt, ap, sym, refl, subst, arith}
+use Rattle.std.specs.Prelude.{IfSome, Option}
 use Rattle.std.proofs.lemmas.Bool.Decides.{nat_tests}
-use Rattle.ghost_model.specs.forms.Runs.{page_of, pages_of, record_at, number_in, number_cell}
+use Rattle.ghost_model.specs.forms.Runs.{page_of, pages_of, number_in}
 use Rattle.ghost_base.specs.declared.runs.Run.{Run}
 use Rattle.ghost_base.specs.declared.runs.ListRef.{ListRef}
 use Rattle.ghost_base.specs.Runs.{run_of}
-use Rattle.edge_traits.specs.Devices.{Device}
-use Rattle.page_pool.specs.Pools.{Pool, page_at}
+use Rattle.page_pool.specs.Pools.{page_at}
 use Rattle.flash_pages.specs.Cursors.{IsPageOf}
 use Rattle.flash_pages.proofs.RunFrames.{run_kept, record_kept}
 use Rattle.flash_pages.proofs.LeaseFrames.{can_read_kept, some_then}
 use Rattle.spill_pass.specs.declared.places.PlaceReader.{PlaceReader}
-use Rattle.spill_pass.specs.Lists.{IsOrdered, id_of}
-use Rattle.spill_pass.specs.Places.{CanGive, HasPlace, HasPlaces, HoldsPlaces, is_of, source_of}
+use Rattle.spill_pass.specs.Lists.{id_of}
+use Rattle.spill_pass.specs.Places.{HasPlace, HasPlaces, is_of, source_of}
 use Rattle.spill_pass.specs.PlaceLaws.{ReaderStays, ReaderHasStill}
-use Rattle.spill_pass.specs.Sources.{SparesSource}
 
 -- the pages of the places and of the lists are used
 eighths : (first count i : ℕ) → i < count → (nat_le first (first + i / 256) && nat_lt (first + i / 256) (first + pages_of count 8)) ≡ true

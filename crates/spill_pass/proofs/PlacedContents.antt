@@ -1,5 +1,5 @@
 -- The lists that a pass left, as a reader of their places gives them.
-use Rattle.std.proofs.Common.{◌≡◌, ◌∙◌, ℕ, zero, suc, ◌+◌, ◌-◌, ◌^◌, ◌<◌, ◌≤◌, List, [], ◌∷◌, ◌++◌, length, map, get_or, ap, sym, refl, subst, arith}
+use Rattle.std.proofs.Common.{◌≡◌, ◌∙◌, ℕ, zero, suc, ◌+◌, ◌^◌, ◌<◌, ◌≤◌, List, [], ◌∷◌, ◌++◌, length, map, get_or, ap, sym, refl, subst, arith}
 use Rattle.std.specs.List.{concat}
 use Rattle.std.proofs.lemmas.List.{get_or-append-add, length-append, length-map}
 use Rattle.std.proofs.lemmas.Nat.{from_be_bytes-to_be_bytes_4}
@@ -13,16 +13,16 @@ use Rattle.spill_pass.specs.Grouping.{AreRowLists, IsRowList, StoresLists, place
 use Rattle.spill_pass.specs.Places.{HasPlace, HasPlaces, ReaderHas}
 use Rattle.spill_pass.proofs.Reducing.{ReadsPlaced}
 
-first_number : (n : ℕ) → n < 2 ^ 32 → number_in (number_cell n) 0 ≡ n
+pub first_number : (n : ℕ) → n < 2 ^ 32 → number_in (number_cell n) 0 ≡ n
 unfolding number_in
 first_number n fits = from_be_bytes-to_be_bytes_4 n fits
 
-get_left : (xs ys : List ℕ) (i : ℕ) → i < length xs → get_or (xs ++ ys) i 0 ≡ get_or xs i 0
+pub get_left : (xs ys : List ℕ) (i : ℕ) → i < length xs → get_or (xs ++ ys) i 0 ≡ get_or xs i 0
 get_left [] ys i within = absurd (omega (arith, within))
 get_left (x ∷ xs) ys zero within = refl
 get_left (x ∷ xs) ys (suc i) within = get_left xs ys i (omega (arith, within))
 
-get_cell : (xs : List ℕ) (i : ℕ) → i < length xs → get_or (map number_cell xs) i [] ≡ number_cell (get_or xs i 0)
+pub get_cell : (xs : List ℕ) (i : ℕ) → i < length xs → get_or (map number_cell xs) i [] ≡ number_cell (get_or xs i 0)
 get_cell [] i within = absurd (omega (arith, within))
 get_cell (x ∷ xs) zero within = refl
 get_cell (x ∷ xs) (suc i) within = get_cell xs i (omega (arith, within))

@@ -1,10 +1,10 @@
 -- The source of the next pass, and the first pass.
-use Rattle.std.proofs.Common.{◌≡◌, ◌∙◌, ℕ, ◌+◌, ◌-◌, ◌*◌, ◌/◌, ◌^◌, ◌<◌, ◌≤◌, inl, Bool, true, false, [], ◌∷◌, ap, sym, refl, subst, arith}
+use Rattle.std.proofs.Common.{◌≡◌, ◌∙◌, ℕ, ◌+◌, ◌*◌, ◌/◌, ◌^◌, ◌<◌, ◌≤◌, inl, Bool, true, false, [], ◌∷◌, ap, sym, refl, subst, arith}
 use Rattle.std.specs.Prelude.{Option, IfSome}
 use Rattle.ghost_base.specs.declared.runs.Run.{Run}
 use Rattle.ghost_base.specs.Runs.{run_of}
 use Rattle.edge_traits.specs.Devices.{Device}
-use Rattle.page_pool.specs.Pools.{Pool, given, bytes_at}
+use Rattle.page_pool.specs.Pools.{Pool, bytes_at}
 use Rattle.flash_pages.specs.Cursors.{IsPageOf}
 use Rattle.flash_pages.specs.Reads.{CanRead}
 use Rattle.flash_pages.specs.Runs.{HasRun}

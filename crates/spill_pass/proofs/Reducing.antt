@@ -1,5 +1,5 @@
 -- The next pass begins: its leases, its areas and its source.
-use Rattle.std.proofs.Common.{◌≡◌, ◌≢◌, ◌∙◌, ℕ, ◌+◌, ◌-◌, ◌*◌, ◌<◌, ◌≤◌, ◌⊎◌, inl, inr, ◌||◌, Bool, true, false, List, [], ◌∷◌, length, ap, sym, refl, subst, arith}
+use Rattle.std.proofs.Common.{◌≡◌, ◌≢◌, ◌∙◌, ℕ, ◌+◌, ◌*◌, ◌<◌, ◌≤◌, ◌⊎◌, inl, inr, ◌||◌, Bool, true, false, List, [], ◌∷◌, length, ap, sym, refl, subst, arith}
 use Rattle.std.specs.Prelude.{None}
 use Rattle.std.proofs.lemmas.Bool.Decides.{nat_tests}
 use Rattle.std.proofs.lemmas.List.{append-nil}
@@ -20,6 +20,7 @@ use Rattle.spill_pass.specs.Passing.{pass_held}
 use Rattle.spill_pass.specs.Places.{is_of, source_of}
 use Rattle.spill_pass.specs.Reducing.{CanPassOn, HasAreas, IsForLists, IsForPlaces, IsNextPass, PassesOver, PassedOn, Renews}
 use Rattle.spill_pass.specs.Sources.{Source, UsesOutside}
+use Rattle.spill_pass.proofs.Over.{over_none}
 use Rattle.spill_pass.proofs.Closing.{none_hand}
 use Rattle.spill_pass.proofs.PassFrames.{buffers_same}
 
@@ -222,6 +223,7 @@ passed_on {told = told} {device = device} {pool = pool} {later = later} source r
           begins = λ e. begun.none_found;
           complete = λ e. absurd (no_truth e);
           pairs = inl (omega (arith, begun.placed, no_list, counts, begun.size, reads.at));
+          over = over_none rest.run new.into.rows new.into.merge.cursors.items begun.none;
         };
         areas_are = subst A (sym over.rows) (subst B (sym begun.size) (areas_fewer placed.places.count few can.areas_are));
         few = omega (arith, over.rows, can.few);

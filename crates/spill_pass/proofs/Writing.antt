@@ -1,5 +1,5 @@
 -- What a call of the writer leaves: its area holds the page that is written, and the lists and their buffers stay.
-use Rattle.std.proofs.Common.{◌≡◌, ◌∙◌, ℕ, suc, ◌+◌, ◌-◌, ◌*◌, ◌%◌, ◌<◌, ◌≤◌, ◌⊎◌, inl, inr, Bool, true, false, ◌&&◌, List, [], ◌∷◌, Option, nat_eq, nat_lt, sum_by, if◌then◌else◌, ap, sym, refl, subst, arith}
+use Rattle.std.proofs.Common.{◌≡◌, ◌∙◌, ℕ, suc, ◌+◌, ◌-◌, ◌*◌, ◌^◌, ◌%◌, ◌<◌, ◌≤◌, ◌⊎◌, inl, inr, Bool, true, false, ◌&&◌, List, [], ◌∷◌, Option, nat_eq, nat_lt, sum_by, if◌then◌else◌, ap, sym, refl, subst, arith}
 use Rattle.std.proofs.lemmas.Bool.Decides.{nat_tests}
 use Rattle.std.proofs.lemmas.List.Sums.{sum_by-cons}
 use Rattle.ghost_model.specs.forms.Runs.{page_of, number_in}
@@ -94,6 +94,7 @@ wrote {before = before} {now = now} {pool = pool} {later = later} old writer are
       given = λ since from given i.
           given_cursor since before now (cursor_at old.merge.cursors.items i) changes.gave buffer (each_another pool old.writer.lease old.merge.cursors.items i are) (given i);
       outside = λ low high is. is;
+      over = λ run rows over. over;
       count = refl;
       first = first;
       rows = refl;
@@ -184,3 +185,9 @@ pub pages_below :
     {told : Bool} {device : Device} {pool : Pool} {into : MergeInto} → IsMerging told device pool into
     → into.writer.filler.pages * 512 + into.writer.filler.held ≡ into.writer.filler.count
 pages_below {into = into} is = whole_pages into.writer.filler 4 into.writer.filler.count is.width refl
+
+-- the page that is written next has a number of 32 bits
+pub small_page : {told : Bool} {device : Device} {pool : Pool} {into : MergeInto} → IsMerging told device pool into → next_page into.writer.filler < 2 ^ 32
+small_page {into = into} is =
+    let pages : into.writer.filler.pages * 512 ≤ into.rows = omega (arith, pages_below is, is.count) in
+    omega (arith, pages, is.can.area.there, is.can.area.small)

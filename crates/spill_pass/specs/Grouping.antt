@@ -5,7 +5,7 @@ use Rattle.ghost_model.specs.core.Causes.{Rose}
 use Rattle.ghost_model.specs.forms.Runs as runs
 use Rattle.ghost_base.specs.declared.runs.ListRef.{ListRef}
 use Rattle.ghost_base.specs.Runs.{run_of}
-use Rattle.edge_traits.specs.Devices.{Device, SamePage}
+use Rattle.edge_traits.specs.Devices.{Device, Counts, SamePage}
 use Rattle.page_pool.specs.Pools.{Pool, AreOut, KeepsOthers, others_out}
 use Rattle.flash_pages.specs.declared.fault.PageFault.{PageFault}
 use Rattle.flash_pages.specs.Writing.{IsEntered}
@@ -18,7 +18,7 @@ use Rattle.spill_pass.specs.declared.groups.GroupTurn.{GroupTurn}
 use Rattle.spill_pass.specs.declared.groups.GroupTurn.TheVariants.{Went, Listed}
 use Rattle.spill_pass.specs.declared.groups.PlacedLists.{PlacedLists}
 use Rattle.spill_pass.specs.Lists.{InList, IsReadable, ListOutside}
-use Rattle.spill_pass.specs.Merging.{IsArea, IsMerging, Gathers, AreAscending, IsOneOf, AllOutside, MadeAtMost, leases_held, area_pages, area_end, left_of, calls_left}
+use Rattle.spill_pass.specs.Merging.{IsArea, IsMerging, Gathers, AreAscending, IsOneOf, AllOutside, AllOver, MadeAtMost, leases_held, area_pages, area_end, left_of, calls_left}
 
 -- the leases of the places' writer, of the lists' writer and of the lists at hand
 abbrev pub groups_held : Groups → List ℕ
@@ -121,12 +121,14 @@ pub record TookMore (told : Bool) (device : Device) (pool later : Pool) (list : 
   pub calls : calls_to_come later new ≤ calls_to_come pool old + list.count / runs.per_page list.run.width + 2
   pub placed : new.places.filler.count ≡ old.places.filler.count
   pub none_found : new.into.merge.last ≡ 0
+  pub over : AllOver list.run old.into.rows old.into.merge.cursors.items → AllOver list.run old.into.rows new.into.merge.cursors.items
 
--- so many calls were made at most: at least one unless there are none, and never more than two
+-- so many calls were made, and never more than two
 pub record Made (calls : ℕ) (before now : Device) : Type 0 where
   pub few : calls ≤ 2
   pub at_most : MadeAtMost calls before now
   pub called : 0 < calls → Rose before.calls now.calls
+  pub exact : Counts calls before.calls now.calls
 
 -- the merge of the group at hand went on
 pub record WentOn (told : Bool) (now : Device) (pool later : Pool) (old new : Groups) : Type 0 where

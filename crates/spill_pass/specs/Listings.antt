@@ -1,9 +1,12 @@
 -- The lists of a first pass, by what is said of their source, and those of later ones.
-use Rattle.std.specs.Prelude.{ℕ, Bool, List}
+use Rattle.std.specs.Prelude.{ℕ, ◌<◌, ◌≤◌, Bool, List}
+use Rattle.ghost_model.specs.forms.Runs as runs
+use Rattle.ghost_base.specs.Runs.{run_of}
 use Rattle.edge_traits.specs.Devices.{Device}
 use Rattle.page_pool.specs.Pools.{Pool}
 use Rattle.spill_pass.specs.declared.lists.Lists.{Lists}
 use Rattle.spill_pass.specs.declared.lists.Lists.TheVariants.{Given, Placed}
+use Rattle.spill_pass.specs.declared.places.PlaceReader.{PlaceReader}
 use Rattle.spill_pass.specs.Places.{CanGive, DamagesPlace, ReaderHas, reads_place, source_of}
 use Rattle.spill_pass.specs.Sources.{Source}
 
@@ -19,10 +22,21 @@ abbrev pub calls_in : {S : Type 0} → (Pool → S → Bool) → Pool → Lists 
 calls_in of pool (Given lists) = of pool lists
 calls_in of pool (Placed reader) = reads_place pool reader
 
+-- a reader has the lists that a pass wrote: each record of their run has an identifier of the rows
+pub record PlacedHas (page right : ℕ → List ℕ) (rows : ℕ) (reader : PlaceReader) (ids : List (List ℕ)) : Type 0 where
+  pub has : ReaderHas page right rows reader ids
+  pub above : (i : ℕ) → i < reader.lists.count → 0 < runs.id_at page (run_of reader.lists) i
+  pub within : (i : ℕ) → i < reader.lists.count → runs.id_at page (run_of reader.lists) i ≤ rows
+
 abbrev pub has_in : {S : Type 0} → ((ℕ → List ℕ) → (ℕ → List ℕ) → ℕ → S → List (List ℕ) → Type 0) → (page right : ℕ → List ℕ) → (rows : ℕ) → Lists S → List (List ℕ) → Type 0
 has_in of page right rows (Given lists) ids = of page right rows lists ids
-has_in of page right rows (Placed reader) ids = ReaderHas page right rows reader ids
+has_in of page right rows (Placed reader) ids = PlacedHas page right rows reader ids
 
 abbrev pub blamed_in : {S : Type 0} → (ℕ → Device → S → ℕ → ℕ → ℕ → Type 0) → (since : ℕ) → Device → Lists S → (number slot found : ℕ) → Type 0
 blamed_in of since device (Given lists) number slot found = of since device lists number slot found
 blamed_in of since device (Placed reader) number slot found = DamagesPlace since device reader number slot found
+
+-- in lists that a pass wrote nothing is damaged
+abbrev pub damaged_in : {S : Type 0} → ((ℕ → List ℕ) → ℕ → S → ℕ → ℕ → ℕ → Type 0) → (page : ℕ → List ℕ) → (rows : ℕ) → Lists S → (number slot found : ℕ) → Type 0
+damaged_in of page rows (Given lists) number slot found = of page rows lists number slot found
+damaged_in of page rows (Placed reader) number slot found = ⊥

@@ -1,6 +1,7 @@
 -- Lists of identifiers on flash, and what several of them have together.
 use Rattle.std.specs.Prelude.{◌≡◌, ℕ, ◌+◌, ◌<◌, ◌≤◌, ◌⊎◌, List}
 use Rattle.ghost_model.specs.forms.Runs as runs
+use Rattle.ghost_base.specs.declared.runs.Run.{Run}
 use Rattle.ghost_base.specs.declared.runs.ListRef.{ListRef}
 use Rattle.ghost_base.specs.Runs.{run_of}
 use Rattle.edge_traits.specs.Devices.{Device}
@@ -34,3 +35,12 @@ pub record IsReadable (device : Device) (list : ListRef) : Type 0 where
 abbrev pub ListOutside : (low high : ℕ) → ListRef → Type 0
 ListOutside low high list =
     (i : ℕ) → i < list.run.count → (runs.page_of (run_of list.run) i < low) ⊎ (high ≤ runs.page_of (run_of list.run) i)
+
+-- by the bytes of the pages, the slot is that of a record of the run, which has no identifier of the rows
+pub record OutOfRowsIn (page : ℕ → List ℕ) (run : Run) (rows number slot found : ℕ) : Type 0 where
+  pub at : ℕ
+  pub within : at < run.count
+  pub page_is : number ≡ runs.page_of (run_of run) at
+  pub slot_is : slot ≡ runs.slot_of (run_of run) at
+  pub found_is : found ≡ runs.found_in (runs.record_at page (run_of run) at)
+  pub out : 0 < runs.id_at page (run_of run) at → runs.id_at page (run_of run) at ≤ rows → ⊥

@@ -4,11 +4,12 @@ use Rattle.ghost_model.specs.core.Causes.{Rose}
 use Rattle.ghost_model.specs.forms.Runs as runs
 use Rattle.ghost_base.specs.declared.runs.Run.{Run}
 use Rattle.ghost_base.specs.Runs.{run_of}
-use Rattle.edge_traits.specs.Devices.{Device, KeepsPages, ChangesOnly}
+use Rattle.edge_traits.specs.Devices.{Device, Counts, KeepsPages, ChangesOnly}
 use Rattle.page_pool.specs.Pools.{Pool, AreOut, KeepsOthers, others_out}
 use Rattle.flash_pages.specs.declared.fault.PageFault.{PageFault}
 use Rattle.flash_pages.specs.Writing.{IsEntered}
 use Rattle.flash_pages.specs.Writers.{HasPut, next_page}
+use Rattle.flash_pages.specs.declared.cursor.RunCursor.{RunCursor}
 use Rattle.id_merge.specs.declared.cursor.Cursor.{Cursor}
 use Rattle.id_merge.specs.declared.cursor.Cursor.TheVariants.{List as OfList, Range}
 use Rattle.id_merge.specs.declared.merge.Merge.{Merge}
@@ -44,6 +45,19 @@ LiesOutside low high (Range first last) = ⊤
 
 abbrev pub AllOutside : (low high : ℕ) → List Cursor → Type 0
 AllOutside low high cursors = (i : ℕ) → LiesOutside low high (cursor_at cursors i)
+
+-- a cursor is over a list in the run, for identifiers of the rows
+pub record IsOver (run : Run) (rows : ℕ) (cursor : RunCursor) : Type 0 where
+  pub run_is : cursor.list.run ≡ run
+  pub rows_are : cursor.rows ≡ rows
+  pub inside : cursor.list.first + cursor.list.count ≤ run.count
+
+abbrev pub CursorOver : (run : Run) (rows : ℕ) → Cursor → Type 0
+CursorOver run rows (OfList cursor) = IsOver run rows cursor
+CursorOver run rows (Range first last) = ⊤
+
+abbrev pub AllOver : (run : Run) (rows : ℕ) → List Cursor → Type 0
+AllOver run rows cursors = (i : ℕ) → CursorOver run rows (cursor_at cursors i)
 
 -- how much is to do: the pages to be read, and the identifiers that may be found
 abbrev pub left_of : Pool → MergeInto → ℕ
@@ -117,7 +131,7 @@ AdvanceGives told right merge earlier page pool into (Err fault) = ⊤
 
 abbrev pub TurnGives : (told : Bool) (right : ℕ → List ℕ) → Merge → (page : ℕ → List ℕ) → Pool → MergeInto → Result Turn PageFault → Type 0
 TurnGives told right merge page pool into (Ok (Went calls)) = Gathers told right merge [] page pool into
-TurnGives told right merge page pool into (Ok (Done run)) = IsListOf right merge page run
+TurnGives told right merge page pool into (Ok (Done run calls)) = IsListOf right merge page run
 TurnGives told right merge page pool into (Err fault) = ⊤
 
 -- the list lies at the beginning of its area, and has no more identifiers than there are rows
@@ -136,6 +150,7 @@ pub record Goes (told : Bool) (before now : Device) (pool later : Pool) (old new
   pub still : AreOut later (leases_held new)
   pub given : (since : ℕ) → since ≤ before.calls → AllGiven since before pool old.merge.cursors.items → AllGiven since now later new.merge.cursors.items
   pub outside : (low high : ℕ) → AllOutside low high old.merge.cursors.items → AllOutside low high new.merge.cursors.items
+  pub over : (run : Run) (rows : ℕ) → AllOver run rows old.merge.cursors.items → AllOver run rows new.merge.cursors.items
   pub count : length new.merge.cursors.items ≡ length old.merge.cursors.items
   pub first : new.writer.filler.first ≡ old.writer.filler.first
   pub rows : new.rows ≡ old.rows
@@ -161,6 +176,7 @@ pub record WentOn (told : Bool) (before now : Device) (pool later : Pool) (old n
   pub at_most : MadeAtMost calls before now
   pub spent : now.calls + calls_left later new ≤ before.calls + calls_left pool old
   pub called : 0 < calls → Rose before.calls now.calls
+  pub exact : Counts calls before.calls now.calls
   pub unions : new.merge.unions ≡ old.merge.unions
   pub written : old.writer.filler.count ≤ new.writer.filler.count
   pub room : new.writer.filler.count + at_hand new.merge ≤ old.writer.filler.count + at_hand old.merge
@@ -182,9 +198,16 @@ abbrev pub AdvanceTells : (told : Bool) (before now : Device) (pool later : Pool
 AdvanceTells told before now pool later old new (Some calls) = WentOn told before now pool later old new calls
 AdvanceTells told before now pool later old new None = CameToEnd told before now pool later old new
 
+-- the list stands, after so many calls
+pub record ListDone (before now : Device) (pool : Pool) (old : MergeInto) (run : Run) (calls : ℕ) : Type 0 where
+  pub placed : IsPlaced old run
+  pub spent : now.calls ≤ before.calls + calls_left pool old
+  pub few : calls ≤ 2
+  pub exact : Counts calls before.calls now.calls
+
 abbrev pub TurnTells : (told : Bool) (before now : Device) (pool later : Pool) (old new : MergeInto) → Turn → Type 0
 TurnTells told before now pool later old new (Went calls) = WentOn told before now pool later old new calls
-TurnTells told before now pool later old new (Done run) = IsPlaced old run × (now.calls ≤ before.calls + calls_left pool old)
+TurnTells told before now pool later old new (Done run calls) = ListDone before now pool old run calls
 
 -- what is spent of the calls that may be made: a fault may cost one more
 abbrev pub Spends : (before now : Device) (pool later : Pool) (old new : MergeInto) → Result (Option Run) PageFault → Type 0

@@ -1,19 +1,23 @@
 -- A pass over lists: what it has taken and what is still to come, which leases are held, and what it leaves.
 use Rattle.std.specs.Prelude.{◌≡◌, ℕ, ◌+◌, ◌*◌, ◌<◌, ◌≤◌, ◌⊎◌, Bool, true, false, if◌then◌else◌, ⊤, List, [], ◌∷◌, length, Option, Some, None, Result, Ok, Err}
 use Rattle.ghost_model.specs.core.Causes.{Rose}
+use Rattle.ghost_base.specs.declared.runs.Run.{Run}
 use Rattle.edge_traits.specs.Devices.{Device}
 use Rattle.page_pool.specs.Pools.{Pool, AreOut, KeepsOthers, others_out, free_count}
 use Rattle.flash_pages.specs.Reads.{WasGiven}
+use Rattle.flash_pages.specs.declared.cursor.RunCursor.{RunCursor}
 use Rattle.flash_pages.specs.declared.fault.PageFault.{PageFault}
 use Rattle.flash_pages.specs.declared.fault.PageFault.TheVariants.{Flash, Damaged}
+use Rattle.flash_pages.specs.Cursors.{BlamesSlot}
 use Rattle.id_merge.specs.declared.cursor.Cursor.{Cursor}
-use Rattle.id_merge.specs.Cursors.{AllGiven, BlamesList}
+use Rattle.id_merge.specs.declared.cursor.Cursor.TheVariants.{List as OfList}
+use Rattle.id_merge.specs.Cursors.{AllGiven, cursor_at}
 use Rattle.spill_pass.specs.declared.groups.Groups.{Groups}
 use Rattle.spill_pass.specs.declared.groups.PlacedLists.{PlacedLists}
 use Rattle.spill_pass.specs.declared.passes.PassTurn.{PassTurn}
 use Rattle.spill_pass.specs.declared.passes.PassTurn.TheVariants.{Went, Placed}
 use Rattle.spill_pass.specs.Grouping.{CanBegin, IsGrouping, ChangesAreas, AreRunsOf, groups_held, lists_at_hand, ids_at_hand, places_end}
-use Rattle.spill_pass.specs.Merging.{MadeAtMost, area_end, area_pages, left_of}
+use Rattle.spill_pass.specs.Merging.{AllOver, MadeAtMost, area_end, area_pages, left_of}
 use Rattle.spill_pass.specs.Sources.{Source, UsesOutside}
 
 -- the lease of the source, and those of the groups
@@ -44,6 +48,7 @@ pub record IsPassing (told : Bool) (device : Device) (pool : Pool) (source : Sou
   pub begins : merging ≡ false → groups.into.merge.last ≡ 0
   pub complete : merging ≡ true → IsComplete source groups
   pub pairs : ArePairs source groups
+  pub over : AllOver source.run groups.into.rows groups.into.merge.cursors.items
 
 -- what is done whatever the answer: of the pages only those of the two areas changed, of the buffers only those of the leases
 -- held and of those leased since. Those that are held now are out
@@ -56,6 +61,7 @@ pub record PassGoes (before now : Device) (pool later : Pool) (source rest : Sou
   pub read : (since : ℕ) → since ≤ before.calls → WasGiven since before pool source.lease → WasGiven since now later rest.lease
   pub lease : rest.lease ≡ source.lease
   pub uses : (page : ℕ) → rest.uses page ≡ true → source.uses page ≡ true
+  pub run : rest.run ≡ source.run
   pub lists_first : new.into.writer.filler.first ≡ old.into.writer.filler.first
   pub places_first : new.places.filler.first ≡ old.places.filler.first
   pub rows : new.into.rows ≡ old.into.rows
@@ -98,11 +104,19 @@ abbrev pub PassTells : (told : Bool) (before now : Device) (pool later : Pool) (
 PassTells told before now pool later source rest old new fan was merging (Went calls) = PassWent told before now pool later source rest old new fan was merging calls
 PassTells told before now pool later source rest old new fan was merging (Placed placed calls) = PassEnds before now old new placed calls
 
--- a slot that is blamed is one that the source blames, or one of the lists at hand
-abbrev pub BlamesPass : (blamed : ℕ → ℕ → ℕ → Type 0) → (since : ℕ) → Device → List Cursor → {T : Type 0} → Result T PageFault → Type 0
-BlamesPass blamed since device cursors (Ok answer) = ⊤
-BlamesPass blamed since device cursors (Err Flash) = ⊤
-BlamesPass blamed since device cursors (Err (Damaged number slot found)) = blamed number slot found ⊎ BlamesList since device cursors number slot found
+-- the slot of the next record of one of the lists at hand is blamed, which lies in the run
+pub record BlamesListIn (run : Run) (since : ℕ) (device : Device) (cursors : List Cursor) (number slot found : ℕ) : Type 0 where
+  pub at : ℕ
+  pub cursor : RunCursor
+  pub is : cursor_at cursors at ≡ OfList cursor
+  pub run_is : cursor.list.run ≡ run
+  pub blames : BlamesSlot since device cursor cursor.at number slot found
+
+-- a slot that is blamed is one that the source blames, or one of the lists at hand, in the run of the source
+abbrev pub BlamesPass : (blamed : ℕ → ℕ → ℕ → Type 0) → Run → (since : ℕ) → Device → List Cursor → {T : Type 0} → Result T PageFault → Type 0
+BlamesPass blamed run since device cursors (Ok answer) = ⊤
+BlamesPass blamed run since device cursors (Err Flash) = ⊤
+BlamesPass blamed run since device cursors (Err (Damaged number slot found)) = blamed number slot found ⊎ BlamesListIn run since device cursors number slot found
 
 -- a pass may be begun: with three leases, over lists that lie outside of its areas and have no more identifiers than there are rows
 pub record CanPass (device : Device) (pool : Pool) (source : Source) (to places rows fan lists_lease places_lease : ℕ) : Type 0 where

@@ -12,7 +12,7 @@ use Rattle.flash_pages.specs.Runs.{HasRun}
 use Rattle.flash_pages.specs.Cursors.{IsPageOf}
 use Rattle.flash_pages.specs.Reads.{CanRead, WasRead, must_read}
 use Rattle.spill_pass.specs.declared.places.PlaceReader.{PlaceReader}
-use Rattle.spill_pass.specs.Lists.{IsOrdered}
+use Rattle.spill_pass.specs.Lists.{IsOrdered, OutOfRowsIn}
 use Rattle.spill_pass.specs.Sources.{Source}
 
 -- the place that is read next
@@ -33,12 +33,17 @@ pub record IsPlaceOf (place : List ℕ) (list : ListRef) : Type 0 where
   pub first : list.first ≡ runs.number_in place 0
   pub count : list.count ≡ runs.number_in place 4
 
+-- by the bytes of the pages, the place that is read next may not come next
+pub record IsDamagedPlace (page : ℕ → List ℕ) (before : PlaceReader) : Type 0 where
+  pub more : before.at < before.places.count
+  pub not_next : IsNextPlace before (place_at page before) → ⊥
+
 -- by the bytes of the pages: the list of the next place, or that this place may not come next
 abbrev pub GivesPlace : (page : ℕ → List ℕ) → PlaceReader → Result (Option ListRef) PageFault → Type 0
 GivesPlace page before (Ok None) = ⊤
 GivesPlace page before (Ok (Some list)) = IsPlaceOf (place_at page before) list
 GivesPlace page before (Err Flash) = ⊤
-GivesPlace page before (Err (Damaged number slot found)) = IsNextPlace before (place_at page before) → ⊥
+GivesPlace page before (Err (Damaged number slot found)) = IsDamagedPlace page before
 
 -- whatever the pages hold: a list that begins where the one before it ended, and ends within the run
 pub record IsNextList (before now : PlaceReader) (list : ListRef) : Type 0 where
@@ -91,6 +96,7 @@ source_of reader = record {
   ids_left = reader.lists.count - reader.next;
   lease = reader.lease;
   uses = λ page. is_of reader.places 8 page || is_of reader.lists 4 page;
+  run = reader.lists;
 }
 
 -- its next list may be asked for
@@ -118,3 +124,7 @@ pub record ReaderHas (page right : ℕ → List ℕ) (rows : ℕ) (reader : Plac
   pub places_width : reader.places.width ≡ 8
   pub lists_width : reader.lists.width ≡ 4
   pub has : HasPlaces page right rows reader.places reader.lists reader.at reader.next ids
+
+-- by the bytes of the pages no place is damaged, but a record of the lists may be
+abbrev pub DamagesReader : (page : ℕ → List ℕ) → (rows : ℕ) → PlaceReader → (number slot found : ℕ) → Type 0
+DamagesReader page rows reader number slot found = OutOfRowsIn page reader.lists rows number slot found

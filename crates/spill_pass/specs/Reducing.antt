@@ -10,10 +10,10 @@ use Rattle.id_merge.specs.Cursors.{AllGiven}
 use Rattle.spill_pass.specs.declared.groups.Groups.{Groups}
 use Rattle.spill_pass.specs.declared.groups.PlacedLists.{PlacedLists}
 use Rattle.spill_pass.specs.declared.reduce.Areas.{Areas}
-use Rattle.spill_pass.specs.Grouping.{AreApart, AreRunsOf, lists_at_hand}
-use Rattle.spill_pass.specs.Merging.{IsArea, MadeAtMost, area_pages}
+use Rattle.spill_pass.specs.Grouping.{AreApart, lists_at_hand}
+use Rattle.spill_pass.specs.Merging.{IsArea, area_pages}
 use Rattle.spill_pass.specs.Calls.{ids_in_pass, pass_calls, pass_calls_left}
-use Rattle.spill_pass.specs.Passing.{IsPassing, MadeFew, PassEnds, pass_held, pass_left}
+use Rattle.spill_pass.specs.Passing.{IsPassing, MadeFew, pass_held, pass_left}
 use Rattle.spill_pass.specs.Sources.{Source, UsesOutside}
 
 -- the first page of an area for lists, and of one for places

@@ -2,6 +2,7 @@
 use Rattle.std.specs.Prelude.{◌≡◌, ℕ, ◌+◌, ◌*◌, ◌<◌, ◌≤◌, ◌⊎◌, Bool, true, false, ⊤, List, [], ◌∷◌, length, get_or, Option, Some, None, Result, Ok, Err, OnOk}
 use Rattle.ghost_model.specs.core.Causes.{Rose}
 use Rattle.ghost_model.specs.forms.Runs as runs
+use Rattle.ghost_base.specs.declared.runs.Run.{Run}
 use Rattle.ghost_base.specs.declared.runs.ListRef.{ListRef}
 use Rattle.ghost_base.specs.Runs.{run_of}
 use Rattle.edge_traits.specs.Devices.{Device, KeepsPages}
@@ -20,8 +21,10 @@ pub record Source : Type 0 where
   pub ids_left : ℕ
   -- the buffer that it reads through
   pub lease : ℕ
-  -- the pages that it reads, and those of the lists' runs
+  -- the pages that it reads, and those of the lists' run
   pub uses : ℕ → Bool
+  -- the run in which all its lists lie
+  pub run : Run
 
 -- it uses no page of an area
 abbrev pub UsesOutside : (low high : ℕ) → Source → Type 0
@@ -34,16 +37,19 @@ pub record SparesSource (before now : Device) (pool later : Pool) (source : Sour
   pub out : IsOut later source.lease
   pub buffer : SameBuffer pool later source.lease
 
--- it uses the same buffer and no other pages, and no more is to come
+-- it uses the same buffer and no other pages, its lists lie in the same run, and no more is to come
 pub record SameSource (old new : Source) : Type 0 where
   pub lease : new.lease ≡ old.lease
   pub uses : (page : ℕ) → new.uses page ≡ true → old.uses page ≡ true
+  pub run : new.run ≡ old.run
   pub lists : new.lists_left ≤ old.lists_left
   pub ids : new.ids_left ≤ old.ids_left
 
--- one list is given: the device has it, on pages that are used, and its identifiers are some of those that were to come
+-- one list is given: the device has it, in the source's run, on pages that are used, and its identifiers are some of those that
+-- were to come
 pub record GaveList (device : Device) (old new : Source) (list : ListRef) : Type 0 where
   pub readable : IsReadable device list
+  pub run_is : list.run ≡ old.run
   pub used : (i : ℕ) → i < list.run.count → old.uses (runs.page_of (run_of list.run) i) ≡ true
   pub width : list.run.width ≡ 4
   pub lists : old.lists_left ≡ new.lists_left + 1
@@ -84,7 +90,7 @@ GivesLists has page right rows lists (Ok None) = (lists ≡ []) × has []
 GivesLists has page right rows lists (Ok (Some list)) = GivesFirst has page right rows lists list
 GivesLists has page right rows lists (Err fault) = ⊤
 
--- a slot that is blamed is one that the source blames
+-- a slot that is blamed is one of those of the source
 abbrev pub BlamesSource : (blamed : ℕ → ℕ → ℕ → Type 0) → {T : Type 0} → Result T PageFault → Type 0
 BlamesSource blamed (Ok answer) = ⊤
 BlamesSource blamed (Err Flash) = ⊤

@@ -17,7 +17,7 @@ pub enum Lists<S> {
 }
 
 impl<S: ListSource + Drop> ListSource for Lists<S> {
-    ghost use Rattle.spill_pass.specs.Listings.{source_in, ready_in, calls_in, has_in, blamed_in};
+    ghost use Rattle.spill_pass.specs.Listings.{source_in, ready_in, calls_in, has_in, blamed_in, damaged_in};
 
     ghost source = { source_in S.source };
 
@@ -29,14 +29,17 @@ impl<S: ListSource + Drop> ListSource for Lists<S> {
 
     ghost blamed = { blamed_in S.blamed };
 
+    ghost damaged = { damaged_in S.damaged };
+
     fn next_list<F: Flash>(
         &mut self,
         flash: &mut F,
         pool: &mut PagePool,
+        spent: &mut u64,
     ) -> Result<Option<ListRef>, PageFault> {
         match self {
-            Lists::Given(lists) => lists.next_list(flash, pool),
-            Lists::Placed(reader) => reader.next_list(flash, pool),
+            Lists::Given(lists) => lists.next_list(flash, pool, spent),
+            Lists::Placed(reader) => reader.next_list(flash, pool, spent),
         }
     }
 

@@ -1,6 +1,6 @@
 //! Lists that lie one behind another in a run, as a source of lists.
 
-ghost use Rattle.spill_pass.specs.Places.{CanGive, DamagesPlace, ReaderHas, reads_place, source_of};
+ghost use Rattle.spill_pass.specs.Places.{CanGive, DamagesPlace, DamagesReader, ReaderHas, reads_place, source_of};
 
 use crate::places::PlaceReader;
 use crate::source::ListSource;
@@ -20,11 +20,17 @@ impl ListSource for PlaceReader {
 
     ghost blamed = { DamagesPlace };
 
+    ghost damaged = { DamagesReader };
+
     fn next_list<F: Flash>(
         &mut self,
         flash: &mut F,
         pool: &mut PagePool,
+        spent: &mut u64,
     ) -> Result<Option<ListRef>, PageFault> {
+        if self.will_read(pool) {
+            *spent += 1;
+        }
         self.next(flash, pool)
     }
 

@@ -1,9 +1,10 @@
 //! What gives lists one after another.
 
-ghost use Rattle.std.specs.Prelude.{◌≡◌, ◌≤◌, Bool, true, ℕ, List, IfOk};
-ghost use Rattle.edge_traits.specs.Devices.{Device};
+ghost use Rattle.std.specs.Prelude.{◌≡◌, ◌+◌, ◌-◌, ◌*◌, ◌^◌, ◌<◌, ◌≤◌, Bool, true, ℕ, List, IfOk, OnOk};
+ghost use Rattle.edge_traits.specs.Devices.{Device, Counts};
 ghost use Rattle.page_pool.specs.Pools.{Pool};
 ghost use Rattle.flash_pages.specs.Reads.{WasGiven};
+ghost use Rattle.spill_pass.specs.Lists.{OutOfRowsIn};
 ghost use Rattle.spill_pass.specs.Sources.{Source, SparesSource, LooksUp, GaveNext, GivesLists, BlamesSource};
 
 use edge_traits::flash::Flash;
@@ -31,17 +32,30 @@ pub trait ListSource {
     /// A slot that may be blamed, for what a read from that count of calls on gave.
     ghost blamed: { (since : ℕ) → Device → Self → (number slot found : ℕ) → Type 0 };
 
-    /// The next list, or `None` at their end. It makes at most three calls of the flash. After a fault the same call is made anew.
+    /// A slot that is damaged, by the bytes of the pages: what it has may not stand there by itself. It is one of the source's, or
+    /// that of a record of its run that has no identifier of the rows.
+    ghost damaged: { (page : ℕ → List ℕ) → (rows : ℕ) → Self → (number slot found : ℕ) → Type 0 };
+
+    /// The next list, or `None` at their end. It makes at most three calls of the flash, which it adds to `spent`. After a fault the
+    /// same call is made anew.
     fn next_list<F: Flash>(
         &mut self,
         flash: &mut F,
         pool: &mut PagePool,
+        spent: &mut u64,
     ) -> Result<Option<ListRef>, PageFault>
         requires ready { ready F.told (F.state flash.old) pool.old self.old }
+        requires few { spent.old + 3 < 2 ^ 64 }
         ensures gives { F.told ≡ true → (right : ℕ → List ℕ) → (rows : ℕ) → (lists : List (List ℕ)) → has_lists (F.state flash.old).page right rows self.old lists → GivesLists (has_lists (F.state flash.new).page right rows self.new) (F.state flash.new).page right rows lists result }
         ensures blames { (since : ℕ) → since ≤ (F.state flash.old).calls → WasGiven since (F.state flash.old) pool.old (source self.old).lease → BlamesSource (blamed since (F.state flash.new) self.new) result }
+        ensures sound { F.told ≡ true → (right : ℕ → List ℕ) → (rows : ℕ) → (lists : List (List ℕ)) → has_lists (F.state flash.old).page right rows self.old lists → BlamesSource (damaged (F.state flash.new).page rows self.old) result }
+        ensures less { (page : ℕ → List ℕ) → (rows : ℕ) → (number slot found : ℕ) → damaged page rows self.new number slot found → damaged page rows self.old number slot found }
         ensures gave { IfOk result (GaveNext (F.state flash.new) (source self.old) (source self.new)) }
         ensures looks { LooksUp (F.state flash.old) (F.state flash.new) pool.old pool.new (source self.old).lease (calls pool.old self.old) (source self.old) (source self.new) result }
+        ensures counted { Counts (spent.new - spent.old) (F.state flash.old).calls (F.state flash.new).calls }
+        ensures rises { spent.old ≤ spent.new }
+        ensures most { spent.new ≤ spent.old + 3 }
+        ensures a_list { OnOk result (spent.new + 3 * (source self.new).lists_left ≤ spent.old + 3 * (source self.old).lists_left) }
         ensures ready { ready F.told (F.state flash.new) pool.new self.new };
 
     /// Whether the next call makes one of the flash.
@@ -57,8 +71,10 @@ pub trait ListSource {
     fn end(self) -> Lease
         ensures lease { result ≡ (source self).lease };
 
-    /// A law: the next list may be asked for where nobody changed the pages and the buffer in use, and the lists are the same.
+    /// A law: the next list may be asked for where nobody changed the pages and the buffer in use, and the lists are the same. A
+    /// record of their run that has no identifier of the rows is damaged.
     fn spared(&self)
         ensures stays { (told : Bool) → (before now : Device) → (pool later : Pool) → SparesSource before now pool later (source self.now) → ready told before pool self.now → ready told now later self.now }
-        ensures same { (page now right : ℕ → List ℕ) → (rows : ℕ) → (ids : List (List ℕ)) → ((number : ℕ) → (source self.now).uses number ≡ true → now number ≡ page number) → has_lists page right rows self.now ids → has_lists now right rows self.now ids };
+        ensures same { (page now right : ℕ → List ℕ) → (rows : ℕ) → (ids : List (List ℕ)) → ((number : ℕ) → (source self.now).uses number ≡ true → now number ≡ page number) → has_lists page right rows self.now ids → has_lists now right rows self.now ids }
+        ensures judged { (page right : ℕ → List ℕ) → (rows : ℕ) → (ids : List (List ℕ)) → has_lists page right rows self.now ids → (number slot found : ℕ) → OutOfRowsIn page (source self.now).run rows number slot found → damaged page rows self.now number slot found };
 }

@@ -1,4 +1,24 @@
+use Rattle.spill_pass.proofs.PlacedSure.{placed_gives, placed_sound}
 use Rattle.spill_pass.proofs.lists.ListsListSource.next_list.Goals as goal
 
+pub returns-in-Given-clause-sound : goal.returns-in-Given-clause-sound
+returns-in-Given-clause-sound g c = rw c.in-Given.is c.next_list.ensures.sound
+
+pub returns-in-Given-clause-less : goal.returns-in-Given-clause-less
+returns-in-Given-clause-less g c = rw c.in-Given.is c.next_list.ensures.less
+
 pub returns-in-Placed-clause-gives : goal.returns-in-Placed-clause-gives
-returns-in-Placed-clause-gives g c = rw c.in-Placed.is c.next_list-in-Placed.ensures.gives
+returns-in-Placed-clause-gives g c =
+    let n = c.next_list-in-Placed.ensures in
+    rw c.in-Placed.is
+    (λ told right rows lists has.
+    placed_gives (g.F.Flash.state c.args.flash.now).page (g.F.Flash.state c.next_list-in-Placed.new.flash).page right rows _ _ lists
+    c.next_list-in-Placed.result n.looks.kept.page n.looks.same.run has (n.gives told right rows lists has.has))
+
+pub returns-in-Placed-clause-sound : goal.returns-in-Placed-clause-sound
+returns-in-Placed-clause-sound g c =
+    let n = c.next_list-in-Placed.ensures in
+    rw c.in-Placed.is
+    (λ told right rows lists has.
+    placed_sound (g.F.Flash.state c.args.flash.now).page (g.F.Flash.state c.next_list-in-Placed.new.flash).page right rows _ lists _
+    c.next_list-in-Placed.result n.looks.kept.page has (n.sound told right rows lists has.has))

@@ -1,6 +1,8 @@
-use Rattle.std.proofs.Common.{ℕ, arith, subst}
+use Rattle.std.proofs.Common.{ℕ, sym, subst}
+use Rattle.std.proofs.lemmas.Result.{err_from_is_err_and}
 use Rattle.spill_pass.specs.PassContents.{PassHas}
-use Rattle.spill_pass.proofs.PassContents.{took_none}
+use Rattle.spill_pass.proofs.PassContents.{took_none, took_some}
+use Rattle.spill_pass.proofs.Over.{none_blamed, none_damaged}
 use Rattle.spill_pass.proofs.PassFrames.{pass_goes_on}
 use Rattle.spill_pass.proofs.passes.Pass.fill.Goals as goal
 
@@ -9,8 +11,18 @@ returns-clause-goes g c = pass_goes_on c.take.ensures.goes c.finish.ensures.goes
 
 pub returns-clause-blames : goal.returns-clause-blames
 returns-clause-blames g c = λ since from given read.
-    let goes = c.take.ensures.goes in
-    c.finish.ensures.blames since (omega (arith, from, goes.changes.never_falls)) (goes.given since from given) (goes.read since from read)
+    none_blamed (g.S.ListSource.blamed since (g.F.Flash.state c.finish.new.flash) c.finish.new.self.lists)
+    (g.S.ListSource.source c.finish.new.self.lists).run since (g.F.Flash.state c.finish.new.flash) c.finish.new.self.groups.into.merge.cursors.items
+    c.finish.result c.finish.ensures.no_slot
+
+pub returns-clause-sound : goal.returns-clause-sound
+returns-clause-sound g c = λ told right lists h.
+    none_damaged (g.S.ListSource.damaged (g.F.Flash.state c.finish.new.flash).page c.args.self.now.groups.into.rows c.args.self.now.lists) c.finish.result
+    c.finish.ensures.no_slot
+
+pub returns-clause-less : goal.returns-clause-less
+returns-clause-less g c = λ page rows number slot found damaged.
+    c.take.ensures.less page rows number slot found (rw (sym c.finish.ensures.lists) damaged)
 
 pub returns-clause-has : goal.returns-clause-has
 returns-clause-has g c = λ told right lists h.
@@ -21,3 +33,14 @@ returns-clause-has g c = λ told right lists h.
     lists c.finish.result in
     let took = took_none _ c.in_default.is (n.has told right lists h) in
     subst R c.take.ensures.goes.rows (c.finish.ensures.has told right lists took.1)
+
+pub returns-in_err-calls-clause-sound : goal.returns-in_err-calls-clause-sound
+returns-in_err-calls-clause-sound g c = λ told right lists h.
+    let p = err_from_is_err_and c.from_residual.result c.from_residual.ensures.1 in
+    rw (p.1, p.2) (c.in_err-calls.ensures.sound told right lists h)
+
+pub returns-in-Some-clause-has : goal.returns-in-Some-clause-has
+returns-in-Some-clause-has g c = λ told right lists h. took_some c.in-Some.is (c.in_ok-calls.ensures.has told right lists h)
+
+pub returns-then-lists-gt0-clause-has : goal.returns-then-lists-gt0-clause-has
+returns-then-lists-gt0-clause-has g c = λ told right lists h. (took_none _ c.in_default.is (c.in_ok-calls.ensures.has told right lists h)).0
