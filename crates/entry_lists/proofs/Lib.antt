@@ -1,0 +1,14 @@
+pub mod Groups
+pub mod EntryPages
+pub mod ListGiving
+pub mod EntryFrames
+pub mod Ascending
+pub mod ListSizes
+pub mod EntryLaws
+pub mod ValueLists
+pub mod DamagedLists
+pub mod Taking
+pub mod TwoReads
+pub mod ReplyGiving
+pub mod ReplyFrames
+pub mod RepliedLists
