@@ -1,0 +1,9 @@
+pub mod TermLemmas
+pub mod BoundLemmas
+pub mod GroupLemmas
+pub mod KindLemmas
+pub mod RowLemmas
+pub mod MeetLemmas
+pub mod FilterLemmas
+pub mod MemberLemmas
+pub mod ListLemmas

@@ -1,0 +1,60 @@
+//! Laws of terms.
+
+ghost use Rattle.condition_lists.specs.Laws.{BoundsAreOfValues, EachTermIsOfTheQuery, TermsAreThoseOfQueries, TermsSiftRows, ListsAreOfTerms, ListsComeInOrder, GroupsAscend};
+
+/// Cells lie between bounds of their kind as their values do, and identifiers as the numbers that they are.
+pub fn bounds_are_of_values()
+    ensures { BoundsAreOfValues }
+{
+    ghost_base::laws::cell_order_is_value_order();
+}
+
+/// Each term of a query is that of one of its conditions, or that of the reply of a FROM table with conditions on visible columns.
+pub fn each_term_is_of_the_query()
+    ensures { EachTermIsOfTheQuery }
+{}
+
+/// A row of the top table meets all terms of an accepted query exactly where all conditions that are the key's to test hold along
+/// it, and it stands along each table with conditions on visible columns.
+pub fn terms_are_those_of_queries()
+    ensures { TermsAreThoseOfQueries }
+{
+    ghost_model::query::one_reading();
+    ghost_model::meaning::rows_lead_to_rows();
+    ghost_model::flash::hidden_values_of_databases();
+    ghost_model::layout::levels_are_ancestors();
+    ghost_laws::followed::accepted_queries_are_followed();
+}
+
+/// Along a row of the top table that meets all terms all conditions that are the key's to test hold, and one that does not meet
+/// them has no line in what the key answers.
+pub fn terms_sift_rows()
+    ensures { TermsSiftRows }
+{
+    terms_are_those_of_queries();
+}
+
+/// The second of the groups that searches find by the bounds of an operator and a literal begins behind the first.
+pub fn groups_ascend()
+    ensures { GroupsAscend }
+{
+    bounds_are_of_values();
+    ghost_base::laws::cell_order_is_value_order();
+    ghost_model::flash::hidden_cells_of_databases();
+}
+
+/// The lists of a term have exactly the rows of the top table that meet it.
+pub fn lists_are_of_terms()
+    ensures { ListsAreOfTerms }
+{
+    bounds_are_of_values();
+    ghost_model::meaning::rows_lead_to_rows();
+    ghost_model::flash::rows_lead_by_hidden_values();
+    ghost_model::flash::hidden_cells_of_databases();
+    ghost_model::layout::levels_are_ancestors();
+}
+
+/// The lists of entries one after another have what the lists of these entries have.
+pub fn lists_come_in_order()
+    ensures { ListsComeInOrder }
+{}

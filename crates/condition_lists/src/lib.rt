@@ -1,0 +1,15 @@
+//! The conditions of a query as lists of identifiers of its top table.
+//!
+//! Each condition that is the key's to test, and each reply to an ask with conditions, is a term: the lists that an index has
+//! at the top table's level for the entries between bounds, for identifiers or for the rows of a reply. A row of the top table
+//! meets a term exactly where it stands in one of its lists. None of the calls takes memory.
+#![tactic(auto)]
+
+pub mod bounds;
+pub mod laws;
+pub mod term;
+pub mod terms;
+
+pub use bounds::{Between, Bounds, bounds_of};
+pub use term::Term;
+pub use terms::terms_of;
