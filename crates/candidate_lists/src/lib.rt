@@ -1,0 +1,20 @@
+//! The candidates of a text: the identifiers of its top table's rows that are in each of several unions of ascending lists.
+//!
+//! They begin as all rows. A union of ranges, of one list, or of all lists of a source is taken in, one after another. What fits
+//! the buffers is a union of one merge that is not run yet, and each of its lists has a buffer. Where the merge in hand would leave
+//! too few buffers, the candidates are written to the flash as one list, which takes one buffer, or none until it is opened again.
+#![tactic(auto)]
+
+pub mod candidates;
+pub mod closing;
+pub mod opening;
+pub mod reduced;
+pub mod reducing;
+pub mod scratch;
+pub mod spared;
+
+pub use candidates::Candidates;
+pub use closing::{Closed, Closing};
+pub use opening::Opening;
+pub use reducing::Reducing;
+pub use scratch::Scratch;
