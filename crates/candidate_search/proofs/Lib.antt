@@ -1,0 +1,5 @@
+pub mod Places
+pub mod RowLists
+pub mod ListDamage
+pub mod TermsTaken
+pub mod RowReplies

@@ -1,0 +1,12 @@
+use Rattle.candidate_search.proofs.RowLists.{entries, identifiers, replied}
+use Rattle.candidate_search.proofs.laws.lists_have_their_rows.Goals as goal
+
+pub returns : goal.returns
+returns c =
+    let of_terms = c.lists_are_of_terms.ensures in
+    let order = c.lists_come_in_order.ensures in
+    record {
+      entries = entries c.entries_have_their_lists.ensures.values c.groups_ascend.ensures of_terms order;
+      identifiers = identifiers c.entries_have_their_lists.ensures.identifiers of_terms order;
+      replies = replied c.replies_have_their_lists.ensures.identifiers of_terms order;
+    }

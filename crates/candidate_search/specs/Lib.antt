@@ -1,0 +1,5 @@
+pub mod Begun
+pub mod TermLists
+pub mod Searching
+pub mod Laws
+pub mod Gathered
