@@ -37,9 +37,13 @@ impl FileName {
     }
 }
 
-/// The characters as they are, with a question mark for each control character, up to one that is cut.
+/// The characters as they are, with a question mark for each control character, up to one that is cut. The empty name is
+/// told as such.
 impl Display for FileName {
     fn fmt<W: Write>(&self, f: &mut Formatter<W>) -> Result<(), FormatError> {
+        if self.len == 0 {
+            return f.write_str("(no name)");
+        }
         for letter in shown_of(&self.places, self.len).chars() {
             f.write_char(if letter.is_control() { '?' } else { letter })?;
         }

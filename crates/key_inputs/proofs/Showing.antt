@@ -1,16 +1,16 @@
 -- What an error shows of a table's file, by where its fault stands.
-use Rattle.std.proofs.Common.{◌≡◌, ℕ, zero, suc, ◌<◌, arith, List, [], ◌∷◌, length, Option, Some, None, Result, Ok, Err, IfOk, refl, sym, ap, ◌∙◌, subst, map as each}
+use Rattle.std.proofs.Common.{◌≡◌, ℕ, zero, suc, ◌<◌, arith, true, List, [], ◌∷◌, length, Option, Some, None, Result, Ok, Err, IfOk, refl, sym, ap, ◌∙◌, subst, map as each}
 use Rattle.std.specs.FinMap as map
 use Rattle.ghost_model.specs.core.Schema.{Schema, columns_of}
 use Rattle.ghost_model.specs.readings.SchemaReading.{schema_reading}
 use Rattle.ghost_model.specs.refusals.LoadFaults as load
 use Rattle.ghost_model.specs.core.Values.{Database}
-use Rattle.ghost_model.specs.core.Database.{database_of}
+use Rattle.ghost_model.specs.core.Database.{database_of, records_of}
 use Rattle.edge_traits.specs.Files.{Files}
 use Rattle.key_inputs.specs.Openings.{TableRule, table_file}
 use Rattle.key_inputs.specs.Rules.{table_rule}
 use Rattle.key_inputs.specs.Views.{TellsRule, AreFiles, rule_in, rule_or, name_at}
-use Rattle.key_inputs.specs.Naming.{IsLineOf, IsNamedBy, IsShownBy, IsSpelledIn, OfTable, OfField, OfKey, OfRecord, ShowsField, ShowsKey, TellsLine}
+use Rattle.key_inputs.specs.Naming.{IsLineOf, IsNamedBy, IsShownBy, IsSpelledIn, OfTable, OfField, OfKey, OfRecord, ShowsField, ShowsKey, TellsLine, tells_empty}
 use Rattle.csv_split.specs.declared.faults.Place.{Place}
 use Rattle.key_inputs.specs.declared.shown.Shown.{Shown}
 use Rattle.key_inputs.specs.declared.broken_table.BrokenTable.{BrokenTable}
@@ -45,38 +45,52 @@ line_of_file files folder schema table file at line found is tells other here =
     let same : file ≡ other = cc (both) in
     subst (λ f. TellsLine f at line) same tells
 
+empty_file : (files : Files) (folder : List ℕ) (schema : Schema) (table : ℕ) (file : List ℕ) (at : Place)
+    → map.get files (table_file folder (name_at schema table)) ≡ Some file → at.table ≡ table → records_of file ≡ []
+    → (other : List ℕ) → map.get files (table_file folder (name_at schema at.table)) ≡ Some other → records_of other ≡ []
+empty_file files folder schema table file at found is none other here =
+    let both : Some file ≡ Some other = sym found ∙ ap (λ t. map.get files (table_file folder (name_at schema t))) (sym is) ∙ here in
+    let same : file ≡ other = cc (both) in
+    ap records_of (sym same) ∙ none
+
 broken_in_file : (files : Files) (folder : List ℕ) (schema : Schema) (table : ℕ) (file : List ℕ) (told : BrokenTable)
     → map.get files (table_file folder (name_at schema table)) ≡ Some file → IsOfFile table (table_rule told)
-    → IsNamedBy schema told → OfField (ShowsField file) told → OfRecord (TellsLine file) told → IsShownBy files folder schema told
-broken_in_file files folder schema table file (broken.FileLimit named) found of names shows lines = record { names = names; value = tt; line = tt; key = tt }
-broken_in_file files folder schema table file (broken.Header named) found of names shows lines =
-    record { names = names; value = tt; line = line_of_file files folder schema table file named.at named.line found of lines; key = tt }
-broken_in_file files folder schema table file (broken.RowLimit named) found of names shows lines =
-    record { names = names; value = tt; line = line_of_file files folder schema table file named.at named.line found of lines; key = tt }
-broken_in_file files folder schema table file (broken.FieldCount named) found of names shows lines =
-    record { names = names; value = tt; line = line_of_file files folder schema table file named.at named.line found of lines; key = tt }
-broken_in_file files folder schema table file (broken.BadId field value) found of names shows lines =
+    → IsNamedBy schema told → OfField (ShowsField file) told → OfRecord (TellsLine file) told
+    → (tells_empty (open_fault.Input (fault.Table told)) ≡ true → records_of file ≡ []) → IsShownBy files folder schema told
+broken_in_file files folder schema table file (broken.FileLimit named) found of names shows lines none = record { names = names; value = tt; line = tt; empty = tt; key = tt }
+broken_in_file files folder schema table file (broken.Header named) found of names shows lines none =
+    record { names = names; value = tt; line = line_of_file files folder schema table file named.at named.line found of lines; empty = tt; key = tt }
+broken_in_file files folder schema table file (broken.Empty named) found of names shows lines none =
+    record { names = names; value = tt; line = tt; empty = empty_file files folder schema table file named.at found of (none refl); key = tt }
+broken_in_file files folder schema table file (broken.RowLimit named) found of names shows lines none =
+    record { names = names; value = tt; line = line_of_file files folder schema table file named.at named.line found of lines; empty = tt; key = tt }
+broken_in_file files folder schema table file (broken.FieldCount named) found of names shows lines none =
+    record { names = names; value = tt; line = line_of_file files folder schema table file named.at named.line found of lines; empty = tt; key = tt }
+broken_in_file files folder schema table file (broken.BadId field value) found of names shows lines none =
     record {
       names = names;
       value = value_of_file files folder schema table file field value found of shows;
       line = line_of_file files folder schema table file field.at field.line found of lines;
+      empty = tt;
       key = tt;
     }
-broken_in_file files folder schema table file (broken.BadInt field value) found of names shows lines =
+broken_in_file files folder schema table file (broken.BadInt field value) found of names shows lines none =
     record {
       names = names;
       value = value_of_file files folder schema table file field value found of shows;
       line = line_of_file files folder schema table file field.at field.line found of lines;
+      empty = tt;
       key = tt;
     }
-broken_in_file files folder schema table file (broken.BadChars field value) found of names shows lines =
+broken_in_file files folder schema table file (broken.BadChars field value) found of names shows lines none =
     record {
       names = names;
       value = value_of_file files folder schema table file field value found of shows;
       line = line_of_file files folder schema table file field.at field.line found of lines;
+      empty = tt;
       key = tt;
     }
-broken_in_file files folder schema table file (broken.BadReference field child value) found of names shows lines = absurd of
+broken_in_file files folder schema table file (broken.BadReference field child value) found of names shows lines none = absurd of
 
 rule_first : (told : Option load.LoadFault) (rule : load.LoadFault) (faults : List load.LoadFault) → load.TellsFirst told faults
     → Some (TableRule rule) ≡ rule_or told → load.IsFirst rule faults
@@ -89,17 +103,18 @@ pub shown_of_file : (files : Files) (folder : List ℕ) (schema : Schema) (table
     → map.get files (table_file folder (name_at schema table)) ≡ Some file
     → load.TellsFirst told (load.file_faults table (columns_of schema table) file) → rule_in error ≡ rule_or told
     → OfTable (IsNamedBy schema) error → OfTable (OfField (ShowsField file)) error → OfTable (OfRecord (TellsLine file)) error
+    → (tells_empty error ≡ true → records_of file ≡ [])
     → OfTable (IsShownBy files folder schema) error
-shown_of_file files folder schema table file told open_fault.NoMemory found first rule names shows lines = tt
-shown_of_file files folder schema table file told open_fault.Depot found first rule names shows lines = tt
-shown_of_file files folder schema table file told (open_fault.Input fault.SchemaBytes) found first rule names shows lines = tt
-shown_of_file files folder schema table file told (open_fault.Input (fault.Schema other)) found first rule names shows lines = tt
-shown_of_file files folder schema table file told (open_fault.Input (fault.Table one)) found first rule names shows lines =
+shown_of_file files folder schema table file told open_fault.NoMemory found first rule names shows lines none = tt
+shown_of_file files folder schema table file told open_fault.Depot found first rule names shows lines none = tt
+shown_of_file files folder schema table file told (open_fault.Input fault.SchemaBytes) found first rule names shows lines none = tt
+shown_of_file files folder schema table file told (open_fault.Input (fault.Schema other)) found first rule names shows lines none = tt
+shown_of_file files folder schema table file told (open_fault.Input (fault.Table one)) found first rule names shows lines none =
     broken_in_file files folder schema table file one found
     (of_file table (columns_of schema table) file (table_rule one) (rule_first told (table_rule one) (load.file_faults table (columns_of schema table) file) first rule))
-    names shows lines
-shown_of_file files folder schema table file told (open_fault.Input fault.ScriptBytes) found first rule names shows lines = tt
-shown_of_file files folder schema table file told (open_fault.Input fault.ScriptTexts) found first rule names shows lines = tt
+    names shows lines none
+shown_of_file files folder schema table file told (open_fault.Input fault.ScriptBytes) found first rule names shows lines none = tt
+shown_of_file files folder schema table file told (open_fault.Input fault.ScriptTexts) found first rule names shows lines none = tt
 
 same_files : (one other : List (List ℕ)) → each Some one ≡ each Some other → one ≡ other
 same_files [] [] h = refl
@@ -116,6 +131,7 @@ broken_key : (files : Files) (folder : List ℕ) (schema : Schema) (read : List 
     → IsNamedBy schema told → OfKey (ShowsKey tables) told → OfRecord (IsLineOf files folder schema) told → IsShownBy files folder schema told
 broken_key files folder schema read tables (broken.FileLimit named) are is of names shows lines = absurd of
 broken_key files folder schema read tables (broken.Header named) are is of names shows lines = absurd of
+broken_key files folder schema read tables (broken.Empty named) are is of names shows lines = absurd of
 broken_key files folder schema read tables (broken.RowLimit named) are is of names shows lines = absurd of
 broken_key files folder schema read tables (broken.FieldCount named) are is of names shows lines = absurd of
 broken_key files folder schema read tables (broken.BadId field value) are is of names shows lines = absurd of
@@ -125,6 +141,7 @@ broken_key files folder schema read tables (broken.BadReference field child valu
   names = names;
   value = tt;
   line = lines;
+  empty = tt;
   key = λ other there.
       let same : read ≡ other = same_files read other (sym are ∙ there) in
       subst (λ (database : Database). ShowsKey database field.at value) (is ∙ ap (database_of schema) same) shows;

@@ -1,5 +1,5 @@
 -- The names and the value that a fault shows: those of the schema and of the file at the place where the rule is broken.
-use Rattle.std.specs.Prelude.{◌≡◌, ◌≢◌, ℕ, ◌-◌, nat_le, List, [], length, take, slice_get, Option, Some, None, IfSome, option_map, option_and_then, Ok, if◌then◌else◌, ⊤}
+use Rattle.std.specs.Prelude.{◌≡◌, ◌≢◌, ℕ, ◌-◌, nat_le, Bool, true, false, List, [], length, take, slice_get, Option, Some, None, IfSome, option_map, option_and_then, Ok, if◌then◌else◌, ⊤}
 use Rattle.std.specs.FinMap as map
 use Rattle.ghost_model.specs.core.Schema.{Schema, Column, column_at}
 use Rattle.ghost_model.specs.readings.SchemaReading.{schema_reading}
@@ -72,6 +72,7 @@ pub record IsFieldNamedBy (schema : Schema) (field : FieldNamed) : Type 0 where
 abbrev pub IsNamedBy : Schema → BrokenTable → Type 0
 IsNamedBy schema (broken.FileLimit named) = IsRecordNamedBy schema named
 IsNamedBy schema (broken.Header named) = IsRecordNamedBy schema named
+IsNamedBy schema (broken.Empty named) = IsRecordNamedBy schema named
 IsNamedBy schema (broken.RowLimit named) = IsRecordNamedBy schema named
 IsNamedBy schema (broken.FieldCount named) = IsRecordNamedBy schema named
 IsNamedBy schema (broken.BadId field value) = IsFieldNamedBy schema field
@@ -96,6 +97,7 @@ OfField says _ = ⊤
 abbrev pub OfRecord : (Place → Option ℕ → Type 0) → BrokenTable → Type 0
 OfRecord says (broken.FileLimit named) = ⊤
 OfRecord says (broken.Header named) = says named.at named.line
+OfRecord says (broken.Empty named) = ⊤
 OfRecord says (broken.RowLimit named) = says named.at named.line
 OfRecord says (broken.FieldCount named) = says named.at named.line
 OfRecord says (broken.BadId field value) = says field.at field.line
@@ -107,6 +109,16 @@ OfRecord says (broken.BadReference field child value) = says field.at field.line
 abbrev pub OfKey : (Place → Shown → Type 0) → BrokenTable → Type 0
 OfKey says (broken.BadReference field child value) = says field.at value
 OfKey says _ = ⊤
+
+-- what is said of the place of a file that is told as empty
+abbrev pub OfEmpty : (Place → Type 0) → BrokenTable → Type 0
+OfEmpty says (broken.Empty named) = says named.at
+OfEmpty says _ = ⊤
+
+-- whether an error tells a table's file as empty
+abbrev pub tells_empty : OpenFault → Bool
+tells_empty (open_fault.Input (fault.Table (broken.Empty named))) = true
+tells_empty _ = false
 
 -- the field of a file at a place
 abbrev pub field_at : (file : List ℕ) → Place → Option (List ℕ)
@@ -160,12 +172,14 @@ pub record IsIn (told : LoadFault) (given : Option ℕ) (at : Place) (line : Opt
   pub line_given : line ≡ given
 
 -- a broken rule of a table's file shows the names of a schema, and the line and the value of the file, which lies in a
--- folder, or the value of the rows that the files spell
+-- folder, or the value of the rows that the files spell; a file that is told as empty spells no record
 pub record IsShownBy (files : Files) (folder : List ℕ) (schema : Schema) (told : BrokenTable) : Type 0 where
   pub names : IsNamedBy schema told
   pub value : OfField (λ at value. (file : List ℕ) → map.get files (table_file folder (name_at schema at.table)) ≡ Some file
       → ShowsField file at value) told
   pub line : OfRecord (IsLineOf files folder schema) told
+  pub empty : OfEmpty (λ at. (file : List ℕ) → map.get files (table_file folder (name_at schema at.table)) ≡ Some file
+      → records_of file ≡ []) told
   pub key : OfKey (λ at value. (read : List (List ℕ)) → AreFiles files folder schema read
       → ShowsKey (database_of schema read) at value) told
 

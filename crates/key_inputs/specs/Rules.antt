@@ -21,6 +21,7 @@ schema_rule (broken_schema.NotOneRoot roots) = schemas.NotOneRoot roots
 abbrev pub table_rule : BrokenTable → load.LoadFault
 table_rule (broken_table.FileLimit named) = load.FileLimit (place_of named.at)
 table_rule (broken_table.Header named) = load.Header (place_of named.at)
+table_rule (broken_table.Empty named) = load.Header (place_of named.at)
 table_rule (broken_table.RowLimit named) = load.RowLimit (place_of named.at)
 table_rule (broken_table.FieldCount named) = load.FieldCount (place_of named.at)
 table_rule (broken_table.BadId field value) = load.BadId (place_of field.at)

@@ -80,6 +80,10 @@ pub enum BrokenTable {
     #[error("{0}: the first line must name the table's columns in their order")]
     Header(RecordNamed),
 
+    /// The file spells no record, so that the first one is missing: it has empty lines at most.
+    #[error("{}.csv: the file is empty, and its first line must name the table's columns in their order", .0.table)]
+    Empty(RecordNamed),
+
     /// There is one more row than a table may have.
     #[error("{0}: the table has more than 1000000 rows")]
     RowLimit(RecordNamed),
@@ -125,7 +129,9 @@ impl BrokenTable {
     {
         match self {
             BrokenTable::FileLimit(record) => LoadFault::FileLimit(record.at),
-            BrokenTable::Header(record) => LoadFault::Header(record.at),
+            BrokenTable::Header(record) | BrokenTable::Empty(record) => {
+                LoadFault::Header(record.at)
+            }
             BrokenTable::RowLimit(record) => LoadFault::RowLimit(record.at),
             BrokenTable::FieldCount(record) => LoadFault::FieldCount(record.at),
             BrokenTable::BadId { field, .. } => LoadFault::BadId(field.at),

@@ -1,6 +1,7 @@
 //! The lines of a table's file.
 
-ghost use Rattle.std.specs.Prelude.{◌≡◌, IfSome, true};
+ghost use Rattle.std.specs.Prelude.{◌≡◌, [], IfSome, true};
+ghost use Rattle.ghost_model.specs.core.Database.{records_of};
 ghost use Rattle.key_inputs.specs.FileLines.{BeginsOn, spells};
 ghost use Rattle.key_inputs.specs.FileLines as lines;
 
@@ -19,6 +20,18 @@ pub fn line_of_record(alloc: Global, file: &[u8], rec: u32) -> Option<u32>
         Some(line)
     } else {
         None
+    }
+}
+
+/// Whether a file is found to spell no record, which for want of memory it is not.
+pub(crate) fn spells_none(alloc: Global, file: &[u8]) -> bool
+    ensures none { result ≡ true → records_of file.now ≡ [] }
+{
+    let mut row = ByteRecord::new(alloc);
+    let mut records = Records::open(alloc, file);
+    match records.read(&mut row) {
+        Ok(found) => !found,
+        Err(_) => false,
     }
 }
 

@@ -1,14 +1,16 @@
 //! The names of a schema and the value of a field, put into a fault of a table's file.
 
-ghost use Rattle.std.specs.Prelude.{◌≡◌, Some};
+ghost use Rattle.std.specs.Prelude.{◌≡◌, [], true, false, Some, IfSome};
+ghost use Rattle.ghost_model.specs.core.Database.{records_of};
+ghost use Rattle.csv_split.specs.declared.faults.LoadFault.TheVariants as load_fault;
 ghost use Rattle.csv_split.specs.Faults.{told};
-ghost use Rattle.key_inputs.specs.Naming.{IsAt, IsFieldNamedBy, IsIn, IsNamedBy, IsRecordNamedBy, OfField, OfKey, OfRecord, OfTable, ShowsField, ShowsKey, TellsLine, child_name_at, column_name_at, field_place, name_of_child, record_place, shown};
+ghost use Rattle.key_inputs.specs.Naming.{IsAt, IsFieldNamedBy, IsIn, IsNamedBy, IsRecordNamedBy, OfField, OfKey, OfRecord, OfTable, ShowsField, ShowsKey, TellsLine, child_name_at, column_name_at, field_place, name_of_child, record_place, shown, tells_empty};
 ghost use Rattle.key_inputs.specs.Views.{name_at, rule_in, rule_or};
 
 use crate::broken_table::{BrokenTable, FieldNamed, RecordNamed};
 use crate::faults::{InputFault, OpenFault};
 use crate::field_values::{field_in, value_in};
-use crate::file_lines::line_of_record;
+use crate::file_lines::{line_of_record, spells_none};
 use crate::shown::Shown;
 use csv_split::{LoadFault, Place, Tables};
 use std::alloc::Global;
@@ -26,11 +28,27 @@ pub(crate) fn fault_of_file(
     ensures names { OfTable (IsNamedBy schema.now) result }
     ensures value { OfTable (OfField (ShowsField file.now)) result }
     ensures line { OfTable (OfRecord (TellsLine file.now)) result }
+    ensures empty { tells_empty result ≡ true → records_of file.now ≡ [] }
 {
+    if let Some(at) = empty_at(alloc, file, &fault) {
+        let record = record_named(schema, at, None);
+        return OpenFault::Input(InputFault::Table(BrokenTable::Empty(record)));
+    }
     let line = line_of_fault(alloc, file, &fault);
     match place_of(&fault) {
         Some(at) => with_names(schema, fault, field_in(alloc, file, &at), line),
         None => with_names(schema, fault, Shown::Unread, line),
+    }
+}
+
+/// Where the header is missing, if that is the fault and the file is found to spell no record.
+fn empty_at(alloc: Global, file: &[u8], fault: &LoadFault) -> Option<Place>
+    ensures header { IfSome result (λ at. fault.now ≡ load_fault.Header at) }
+    ensures empty { IfSome result (λ _. records_of file.now ≡ []) }
+{
+    match fault {
+        LoadFault::Header(at) if spells_none(alloc, file) => Some(*at),
+        _ => None,
     }
 }
 
@@ -96,6 +114,7 @@ fn with_names(schema: &Schema, fault: LoadFault, value: Shown, line: Option<u32>
     ensures field { OfTable (OfField (IsAt fault value)) result }
     ensures key { OfTable (OfKey (IsAt fault value)) result }
     ensures line { OfTable (OfRecord (IsIn fault line)) result }
+    ensures not_empty { tells_empty result ≡ false }
 {
     let broken = match fault {
         LoadFault::NoMemory => return OpenFault::NoMemory,

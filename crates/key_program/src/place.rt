@@ -159,6 +159,14 @@ fn shown(byte: u8) -> char
     }
 }
 
+/// Where a token of a text is shown: the end behind the last token that is there.
+pub(crate) fn place_in(text: &[u8], token: &Token<'_>) -> usize {
+    match token.mark {
+        Mark::End => text.trim_ascii_end().len(),
+        _ => token.at,
+    }
+}
+
 /// A token as a line tells of it.
 #[derive(Clone, Copy)]
 pub(crate) struct Word<'a>(pub(crate) Token<'a>);
@@ -167,7 +175,7 @@ impl<'a> Display for Word<'a> {
     fn fmt<W: Write>(&self, f: &mut Formatter<W>) -> Result<(), FormatError> {
         let bytes = self.0.bytes;
         match self.0.mark {
-            Mark::End => f.write_str("nothing more"),
+            Mark::End => f.write_str("its end"),
             Mark::Bad if bytes == b"'".as_slice() => {
                 f.write_str("a text that has no closing ' or a byte outside 0x20 to 0x7E")
             }

@@ -5,9 +5,14 @@ ghost use Rattle.ghost_model.specs.core.Texts.{texts_of};
 
 use crate::heard_sink::Refused;
 use crate::kept_depot::KeptText;
-use crate::place::{Place, Word, token_from};
+use crate::place::{Place, Word, place_in, token_from};
 use edge_real::file_name::FileName;
 use spj_parse::{Refusal, Texts};
+use tree_schema::Mark;
+
+/// What a text is to be.
+const FORM: &str =
+    "write SELECT columns FROM tables, and if need be WHERE and conditions with AND between them";
 
 /// A text of a script.
 #[derive(Clone, Copy)]
@@ -34,12 +39,18 @@ fn tell_found(rt: &HostRuntime, script: &KeptText<'_>, refused: &Refused, found:
     let number = refused.text;
     let name = FileName::of(script.name());
     let token = token_from(found.text, offset_of(&refused.refusal));
-    let place = Place::of(script.bytes(), found.at.saturating_add(token.at));
+    let at = place_in(found.text, &token);
+    let place = Place::of(script.bytes(), found.at.saturating_add(at));
     let numbers = place.numbers();
     let _told = match remedy(&refused.refusal) {
+        None if token.mark == Mark::End => {
+            eprintln!(rt; "{name}, {numbers}: text {number} cannot end here: {FORM}\n{place}")
+        }
         None => {
             let word = Word(token);
-            eprintln!(rt; "{name}, {numbers}: text {number} cannot go on with {word}\n{place}")
+            eprintln!(rt;
+                "{name}, {numbers}: text {number} cannot go on with {word}: {FORM}\n{place}"
+            )
         }
         Some(remedy) => eprintln!(rt; "{name}, {numbers}: text {number} {remedy}"),
     };
@@ -51,7 +62,7 @@ fn tell_lost(rt: &HostRuntime, refused: &Refused) {
     let _told = match remedy(&refused.refusal) {
         None => {
             let at = offset_of(&refused.refusal);
-            eprintln!(rt; "text {number} cannot go on as it does at byte {at}")
+            eprintln!(rt; "text {number} cannot go on as it does at byte {at}: {FORM}")
         }
         Some(remedy) => eprintln!(rt; "text {number} {remedy}"),
     };

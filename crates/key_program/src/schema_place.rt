@@ -1,9 +1,10 @@
 //! Where in its text the rule of a schema is broken.
 
 use crate::kept_depot::KeptText;
-use crate::place::{Place, Word, token_from};
+use crate::place::{Place, Word, place_in, token_from};
 use edge_real::file_name::FileName;
 use key_inputs::BrokenSchema;
+use std::fmt::{Display, Error as FormatError, Formatter, Write};
 use tree_schema::{Cursor, Mark, Token};
 
 /// The most tables of a schema.
@@ -24,23 +25,40 @@ pub(crate) fn tell_place(rt: &HostRuntime, schema: &KeptText<'_>, broken: &Broke
     let name = FileName::of(schema.name());
     let _told = match token_of(schema.bytes(), broken) {
         Some(token) => {
-            let place = Place::of(schema.bytes(), token.at);
+            let place = Place::of(schema.bytes(), place_in(schema.bytes(), &token));
             let numbers = place.numbers();
             let word = Word(token);
             eprintln!(rt; "{name}, {numbers}, at {word}:\n{place}")
         }
-        None => {
-            let remedy = remedy(broken);
-            eprintln!(rt; "{name}: {remedy}")
-        }
+        None => Ok(()),
     };
+    if let Some(remedy) = remedy(broken) {
+        let _told = eprintln!(rt; "{name}: {remedy}");
+    }
 }
 
-/// What to write where a schema has not one table that no foreign key names.
-fn remedy(broken: &BrokenSchema) -> &'static str {
+/// What to write in place of what breaks the rule, where the rule itself does not say it.
+fn remedy(broken: &BrokenSchema) -> Option<&'static str> {
     match broken {
-        BrokenSchema::NotOneRoot { roots: 0 } => "write CREATE TABLE for each table",
-        _ => "REFERENCES of another table must name each table but one",
+        BrokenSchema::Syntax { .. } => Some(
+            "write for each table CREATE TABLE name (id INTEGER PRIMARY KEY, column, column); a column being a name and INTEGER, CHAR(n) or INTEGER REFERENCES table(id), and HIDDEN behind it where only the key may have it",
+        ),
+        BrokenSchema::UnknownTable(_) => {
+            Some("write CREATE TABLE for this table too, or the name of one that is there")
+        }
+        BrokenSchema::TwoParents(_) => Some(
+            "leave out REFERENCES in all but one of the columns that name this table: the tables must form a tree",
+        ),
+        BrokenSchema::Cycle(_) => {
+            Some("leave out a REFERENCES that leads back: the tables must form a tree")
+        }
+        BrokenSchema::NotOneRoot { roots: 0 } => {
+            Some("there is no table in it: write CREATE TABLE for each one")
+        }
+        BrokenSchema::NotOneRoot { .. } => {
+            Some("REFERENCES of another table must name each table but one")
+        }
+        _ => None,
     }
 }
 
@@ -53,9 +71,8 @@ fn token_of<'a>(schema: &'a [u8], broken: &BrokenSchema) -> Option<Token<'a>> {
         | BrokenSchema::NoId(named)
         | BrokenSchema::TwoParents(named)
         | BrokenSchema::Cycle(named) => table_name(schema, named.table),
-        BrokenSchema::DuplicateColumn(named) | BrokenSchema::UnknownTable(named) => {
-            column_name(schema, named.table, named.column)
-        }
+        BrokenSchema::DuplicateColumn(named) => column_name(schema, named.table, named.column),
+        BrokenSchema::UnknownTable(named) => child_name(schema, named.table, named.column),
         BrokenSchema::NotOneRoot { .. } => None,
     }
 }
@@ -65,14 +82,49 @@ fn table_name(schema: &[u8], table: usize) -> Option<Token<'_>> {
     Tokens::of(schema).behind(Mark::Table, table)
 }
 
-/// The name of a column of a schema that is in the grammar, by the places of its table and of the column in it. A comma
-/// stands there between two columns and nowhere else.
+/// The name of a column of a schema that is in the grammar, by the places of its table and of the column in it.
 fn column_name(schema: &[u8], table: usize, column: usize) -> Option<Token<'_>> {
+    Tokens::of(schema).to_column(table, column)
+}
+
+/// The table that a foreign key of a schema names, by the places of its own table and of its column in it.
+fn child_name(schema: &[u8], table: usize, column: usize) -> Option<Token<'_>> {
     let mut tokens = Tokens::of(schema);
-    tokens.behind(Mark::Table, table)?;
-    match column.checked_sub(1) {
-        None => tokens.behind(Mark::Open, 0),
-        Some(earlier) => tokens.behind(Mark::Comma, earlier),
+    tokens.to_column(table, column)?;
+    tokens.behind(Mark::References, 0)
+}
+
+/// The most bytes of a text in a column, as the schema writes them.
+pub(crate) fn length_of(schema: &[u8], table: usize, column: usize) -> Option<Token<'_>> {
+    let mut tokens = Tokens::of(schema);
+    tokens.to_column(table, column)?;
+    tokens.behind(Mark::Open, 0)
+}
+
+/// The names of a table's columns, with commas between them, as the first line of its file has them.
+#[derive(Clone, Copy)]
+pub(crate) struct Columns<'a> {
+    /// The schema's text.
+    pub(crate) schema: &'a [u8],
+
+    /// The table's place.
+    pub(crate) table: usize,
+}
+
+impl<'a> Display for Columns<'a> {
+    fn fmt<W: Write>(&self, f: &mut Formatter<W>) -> Result<(), FormatError> {
+        let mut tokens = Tokens::of(self.schema);
+        let Some(first) = tokens.to_column(self.table, 0) else {
+            return Ok(());
+        };
+        write!(f, "{}", Word(first))?;
+        for _ in 0..self.schema.len() {
+            let Some(next) = tokens.next_column() else {
+                return Ok(());
+            };
+            write!(f, ",{}", Word(next))?;
+        }
+        Ok(())
     }
 }
 
@@ -83,7 +135,29 @@ struct Tokens<'a> {
     most: usize,
 }
 
+/// A schema is in the grammar where its columns are sought. A comma stands there between two columns and nowhere else.
 impl<'a> Tokens<'a> {
+    /// The name of a column, by the places of its table and of the column in it.
+    fn to_column(&mut self, table: usize, column: usize) -> Option<Token<'a>> {
+        self.behind(Mark::Table, table)?;
+        match column.checked_sub(1) {
+            None => self.behind(Mark::Open, 0),
+            Some(earlier) => self.behind(Mark::Comma, earlier),
+        }
+    }
+
+    /// The name of the next column of the same table.
+    fn next_column(&mut self) -> Option<Token<'a>> {
+        for _ in 0..self.most {
+            match self.cursor.next()?.mark {
+                Mark::Comma => return self.cursor.next(),
+                Mark::Semicolon => return None,
+                _ => {}
+            }
+        }
+        None
+    }
+
     /// All tokens of a schema.
     fn of(schema: &'a [u8]) -> Tokens<'a> {
         Tokens {

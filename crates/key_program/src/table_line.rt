@@ -1,6 +1,7 @@
 //! The line of a table's file in which a record begins.
 
 use crate::place::Bytes;
+use crate::table_remedy::Remedy;
 use edge_real::file_name::FileName;
 use edge_traits::depot::Depot;
 use key_inputs::BrokenTable;
@@ -94,47 +95,57 @@ impl Search {
     }
 }
 
-/// The record's number, from 1, that a broken rule is told of, and the name of its file in a folder.
+/// The record's number, from 1, that a broken rule is told of, or 0 for the whole file, and the name of its file in a folder.
 fn record_of(
     alloc: Global,
     folder: &str,
     broken: &BrokenTable,
 ) -> Result<(String, u32), AllocError> {
-    let (at, table) = match broken {
-        BrokenTable::FileLimit(record)
-        | BrokenTable::Header(record)
+    let (rec, table) = match broken {
+        BrokenTable::FileLimit(whole) | BrokenTable::Empty(whole) => (0, whole.table),
+        BrokenTable::Header(record)
         | BrokenTable::RowLimit(record)
-        | BrokenTable::FieldCount(record) => (record.at, record.table),
+        | BrokenTable::FieldCount(record) => (record.at.rec, record.table),
         BrokenTable::BadId { field, .. }
         | BrokenTable::BadInt { field, .. }
         | BrokenTable::BadChars { field, .. }
-        | BrokenTable::BadReference { field, .. } => (field.at, field.table),
+        | BrokenTable::BadReference { field, .. } => (field.at.rec, field.table),
     };
     let name = format!(in alloc; "{folder}/{table}.csv")?;
-    Ok((name, at.rec))
+    Ok((name, rec))
 }
 
-/// Prints on standard error the number and the bytes of the line in which the record begins that breaks a rule.
-pub(crate) fn tell_line<D: Depot>(
+/// Prints on standard error the number and the bytes of the line in which the record begins that breaks a rule, and what to
+/// write in a file that `schema` describes.
+pub(crate) fn tell_record<D: Depot>(
     rt: &HostRuntime,
     depot: &mut D,
     folder: &str,
+    schema: &[u8],
     broken: &BrokenTable,
 ) {
     let Ok((name, record)) = record_of(rt.alloc(), folder, broken) else {
         return;
     };
-    if record == 0 || !is_file(rt, name.as_str()) {
-        return;
+    if record != 0 && is_file(rt, name.as_str()) {
+        tell_line(rt, depot, name.as_str(), record);
     }
+    let file = FileName::of(name.as_str());
+    let broken = *broken;
+    let remedy = Remedy { schema, broken };
+    let _told = eprintln!(rt; "{file}: {remedy}");
+}
+
+/// Prints on standard error the number and the bytes of the line of a file in which a record begins, where it is found.
+fn tell_line<D: Depot>(rt: &HostRuntime, depot: &mut D, name: &str, record: u32) {
     let mut search = Search {
         spot: Spot::Between,
         left: record,
         line: 1,
         shown: Vec::new(rt.alloc()),
     };
-    if is_found(depot, name.as_str(), &mut search) {
-        let file = FileName::of(name.as_str());
+    if is_found(depot, name, &mut search) {
+        let file = FileName::of(name);
         let line = search.line;
         let shown = Bytes(search.shown.as_slice());
         let _told = eprintln!(rt; "{file}, line {line}: {shown}");

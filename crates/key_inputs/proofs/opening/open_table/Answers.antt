@@ -1,10 +1,11 @@
-use Rattle.std.proofs.Common.{◌∙◌, subst}
+use Rattle.std.proofs.Common.{◌≡◌, true, [], ◌∙◌, subst}
+use Rattle.ghost_model.specs.core.Database.{records_of}
 use Rattle.ghost_model.specs.core.Schema.{columns_of}
 use Rattle.ghost_model.specs.refusals.LoadFaults.{TellsFirst, file_faults}
 use Rattle.csv_split.specs.Faults.{told}
 use Rattle.edge_traits.specs.Files.{HasFile}
 use Rattle.key_inputs.specs.Openings.{table_file}
-use Rattle.key_inputs.specs.Naming.{OfField, OfRecord, OfTable, ShowsField, TellsLine}
+use Rattle.key_inputs.specs.Naming.{OfField, OfRecord, OfTable, ShowsField, TellsLine, tells_empty}
 use Rattle.key_inputs.specs.Views.{name_at}
 use Rattle.key_inputs.proofs.Showing.{shown_of_file}
 use Rattle.key_inputs.proofs.opening.open_table.Goals as goal
@@ -21,3 +22,4 @@ returns-clause-names g c files h =
     c.fault_of_file.ensures.rule c.fault_of_file.ensures.names
     (subst (λ bytes. OfTable (OfField (ShowsField bytes)) c.fault_of_file.result) c.deref-in-Err-read_table.ensures.value c.fault_of_file.ensures.value)
     (subst (λ bytes. OfTable (OfRecord (TellsLine bytes)) c.fault_of_file.result) c.deref-in-Err-read_table.ensures.value c.fault_of_file.ensures.line)
+    (subst (λ bytes. tells_empty c.fault_of_file.result ≡ true → records_of bytes ≡ []) c.deref-in-Err-read_table.ensures.value c.fault_of_file.ensures.empty)
