@@ -1,0 +1,10 @@
+use Rattle.std.proofs.Common.{◌-◌}
+use Rattle.std.proofs.lemmas.Result.{IfOk-weaker}
+use Rattle.ghost_base.specs.Runs.{run_of}
+use Rattle.index_tests.proofs.ListRuns.{listed}
+use Rattle.index_tests.proofs.ids.list_at.Goals as goal
+
+pub returns-clause-run : goal.returns-clause-run
+returns-clause-run c =
+    IfOk-weaker c.list.result _ _ (λ list is. listed _ c.args.index.now.directory c.list.ensures.readable (c.args.level - 1) (run_of list.run) is)
+    c.list.ensures.run

@@ -1,0 +1,159 @@
+//! Damaged slots: the reader whose slot it is tells it, and the others give what they gave.
+
+use crate::device::{Loaded, load};
+use crate::found::found;
+use crate::ids::ids_between;
+use crate::lines::{Line, put, put_number};
+use crate::rows::{cells_of, rows_below};
+use crate::shapes::{THREE, THREE_FILES};
+use edge_traits::mem_flash::MemFlash;
+use std::alloc::Global;
+
+/// A byte of a page that is written over: the page, its place there, and the byte; and the reader that meets it, by its
+/// number, with the line that it gives.
+type Damage<'a> = (u32, usize, u8, usize, &'a str);
+
+/// What the readers give where nothing is damaged.
+const WHOLE: [&str; 10] = [
+    " A B A C",
+    "#0/ 1 3/ 2 3 4/ 1 2 4 5#1/ 2/ 1/ 3#2/ 4//",
+    "#0/ 2 4/ 1 4 5#1/ 1/ 3#2/ 3/ 2#3//",
+    " 2 1 3 1",
+    "# 2# 1# 3# 1",
+    "#0/ 2 4/ 1 4 5#1/ 1/ 3#2/ 3/ 2",
+    "#0/ 3#1/ 5#2/ 2#3/ 1 4",
+    " 4 3 1 4 2",
+    "# 1 4# 3 3# 2 1# 1 4# 1 2",
+    "#0/ 3#1/ 5#2/ 2#3/ 1 4",
+];
+
+/// What a reader gives, by its number: those of the first table, of the second, and of the third.
+fn told(alloc: Global, loaded: &mut Loaded, reader: usize) -> Line {
+    match reader {
+        0 => cells_of(alloc, loaded, (0, 2)),
+        1 => found(alloc, loaded, (0, 2), "-", "-"),
+        2 => ids_between(alloc, loaded, 0, "-", "-"),
+        3 => cells_of(alloc, loaded, (1, 2)),
+        4 => rows_below(alloc, loaded, 1),
+        5 => found(alloc, loaded, (1, 2), "-", "-"),
+        6 => ids_between(alloc, loaded, 1, "-", "-"),
+        7 => cells_of(alloc, loaded, (2, 2)),
+        8 => rows_below(alloc, loaded, 2),
+        _ => found(alloc, loaded, (2, 2), "-", "-"),
+    }
+}
+
+/// The first reader whose line is another one than it should be, and that line, where that of one reader should be `line`.
+fn other_told(alloc: Global, loaded: &mut Loaded, hit: usize, line: &str) -> Line {
+    let mut other = Line::new();
+    for (reader, whole) in WHOLE.iter().enumerate() {
+        let given = told(alloc, loaded, reader);
+        let wanted = if reader == hit { line } else { *whole };
+        if given.as_str() != wanted {
+            put_number(&mut other, reader as u64);
+            put(&mut other, ":");
+            put(&mut other, given.as_str());
+            return other;
+        }
+    }
+    other
+}
+
+/// Writes over a byte of a page, and answers the one that stood there.
+fn swap(flash: &mut MemFlash, page: u32, at: usize, byte: u8) -> u8 {
+    let Some(found) = flash.page(page) else {
+        return byte;
+    };
+    let mut bytes = *found;
+    if at >= 2048 {
+        return byte;
+    }
+    let old = bytes[at];
+    bytes[at] = byte;
+    flash.put_page(page, &bytes);
+    old
+}
+
+/// The first line that is another one than it should be, over all damages, each of them alone.
+fn other_of(alloc: Global, cases: &[Damage<'_>]) -> Line {
+    let mut other = Line::new();
+    let Some(mut loaded) = load(alloc, THREE, &THREE_FILES) else {
+        put(&mut other, "not loaded");
+        return other;
+    };
+    for (page, at, byte, reader, line) in cases {
+        let old = swap(&mut loaded.flash, *page, *at, *byte);
+        other = other_told(alloc, &mut loaded, *reader, line);
+        if !other.is_empty() {
+            return other;
+        }
+        swap(&mut loaded.flash, *page, *at, old);
+    }
+    other
+}
+
+#[test]
+fn damaged_slots_of_rows_are_told(rt: HostRuntime) {
+    let cases = [
+        (64u32, 0usize, b'A', 0usize, " A B A C"),
+        (64, 16, 1u8, 0, " A B!64.2=72057594037927936 C"),
+        (73, 31, 5, 3, " 2 1 3!73.3=9223372036854775813"),
+        (74, 3, 5, 4, "#!74.0=21474836480# 1# 3# 1"),
+        (81, 7, 0, 7, "!81.0=9223372036854775808 3 1 4 2"),
+        (82, 39, 0, 8, "# 1 4# 3 3# 2 1# 1 4#!82.4=4294967296"),
+    ];
+    let line = other_of(rt.alloc(), &cases);
+    assert_eq!(rt; line.as_str(), "");
+}
+
+#[test]
+fn damaged_slots_of_a_climbing_index_are_told(rt: HostRuntime) {
+    let cases = [
+        (65u32, 0usize, 1u8, 1usize, "!65.0=72057606922829824"),
+        (75, 3, 0, 5, "!75.0=0"),
+        (
+            66,
+            32,
+            1,
+            1,
+            "#0/ 1 3/ 2 3 4/ 1 2 4 5#1/!66.1=72057594037927936",
+        ),
+        (
+            66,
+            88,
+            1,
+            1,
+            "#0/ 1 3/ 2 3 4/ 1 2 4 5#1/ 2/ 1/ 3#2/!66.2=4827858800541171712",
+        ),
+        (67, 3, 0, 1, "#0/!67.0=0"),
+        (68, 7, 2, 1, "#0/ 1 3/ 2!68.1=8589934592"),
+        (
+            69,
+            19,
+            6,
+            1,
+            "#0/ 1 3/ 2 3 4/ 1 2 4 5#1/ 2/ 1/!69.4=25769803776",
+        ),
+        (85, 7, 6, 9, "#0/ 3#1/!85.1=25769803776"),
+    ];
+    let line = other_of(rt.alloc(), &cases);
+    assert_eq!(rt; line.as_str(), "");
+}
+
+#[test]
+fn damaged_slots_of_an_id_index_are_told(rt: HostRuntime) {
+    let cases = [
+        (
+            70u32,
+            55usize,
+            1u8,
+            2usize,
+            "#0/ 2 4/ 1 4 5#1/ 1/ 3#2/ 3/ 2#3/!70.3=17179869185",
+        ),
+        (72, 3, 9, 2, "#0/ 2 4/!72.0=38654705664"),
+        (79, 0, 1, 6, "#0/!79.0=72057594037927937"),
+        (80, 19, 1, 6, "#0/ 3#1/ 5#2/ 2#3/ 1!80.4=4294967296"),
+    ];
+    let line = other_of(rt.alloc(), &cases);
+    assert_eq!(rt; line.as_str(), "");
+}
