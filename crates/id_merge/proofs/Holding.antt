@@ -9,7 +9,7 @@ use Rattle.id_merge.specs.declared.cursor.Cursor.{Cursor}
 use Rattle.id_merge.specs.declared.cursor.Cursor.TheVariants.{List as OfList, Range}
 use Rattle.id_merge.specs.Cursors.{cursor_at, leases_of}
 
-lease_of_same : (one other : RunCursor) → OfList one ≡ OfList other → one.lease ≡ other.lease
+pub lease_of_same : (one other : RunCursor) → OfList one ≡ OfList other → one.lease ≡ other.lease
 lease_of_same one other is = let same : one ≡ other = cc in ap (λ (run : RunCursor). run.lease) same
 
 -- what a list's cursor holds is out

@@ -209,7 +209,7 @@ bit_none : (b : Bool) → (b ≡ true → ⊥) → bit b ≡ 0
 bit_none true none = absurd (none refl)
 bit_none false none = refl
 
-bit_most : (b : Bool) → bit b ≤ 1
+pub bit_most : (b : Bool) → bit b ≤ 1
 bit_most true = omega arith
 bit_most false = omega arith
 

@@ -7,3 +7,4 @@ pub mod Unions
 pub mod Rounds
 pub mod Steps
 pub mod Laws
+pub mod Sparing

@@ -1,3 +1,4 @@
 pub mod Cursors
 pub mod Merges
 pub mod Moving
+pub mod Spared

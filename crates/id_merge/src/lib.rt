@@ -8,6 +8,7 @@ pub mod cursor;
 pub mod merge;
 mod reach;
 mod round;
+pub mod spared;
 
 pub use cursor::Cursor;
 pub use merge::{MAX_CURSORS, Merge, Step};

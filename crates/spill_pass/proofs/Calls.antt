@@ -42,7 +42,7 @@ place_pages : (pages held count size : ℕ) → pages * 256 + held ≡ count →
 place_pages pages held count size is few = (omega arith, omega arith)
 
 -- what the groups called, over fewer identifiers than there is room for
-group_spends :
+pub group_spends :
     {told : Bool} {before now : Device} {pool later : Pool} (old new : Groups) (ids left a b x : ℕ)
     → IsGrouping told before pool old → IsGrouping told now later new → new.into.rows ≡ old.into.rows → new.size ≡ old.size
     → ids_at_hand new ≤ left → left ≤ ids → a + calls_to_come later new ≤ b + calls_to_come pool old + x
@@ -121,7 +121,7 @@ spent_merging {before = before} {now = now} source old new was is rows size ids 
     record { ids = omega (arith, ids); calls = omega (arith, group) }
 
 -- the pass went on
-more_passes : (p size size' ids ids' : ℕ) → size' ≤ size → ids' ≤ ids → p * pass_calls size' ids' ≤ p * pass_calls size ids
+pub more_passes : (p size size' ids ids' : ℕ) → size' ≤ size → ids' ≤ ids → p * pass_calls size' ids' ≤ p * pass_calls size ids
 more_passes p size size' ids ids' few fewer =
     let q : p ≤ p = omega arith in
     let m : pass_calls size' ids' ≤ pass_calls size ids = omega (arith, few, fewer) in
@@ -165,7 +165,7 @@ pub record After (areas : Areas) (size at passes : ℕ) : Type 0 where
   pub halved : size ≤ 2 ^ rest
   pub elsewhere : (at ≡ areas.to) ⊎ (1 ≤ rest)
 
-after : (areas : Areas) (placed : PlacedLists) (old first size passes : ℕ) → 2 * placed.places.count ≤ size + 1 → placed.lists.first ≡ old
+pub after : (areas : Areas) (placed : PlacedLists) (old first size passes : ℕ) → 2 * placed.places.count ≤ size + 1 → placed.lists.first ≡ old
     → size ≤ 2 ^ passes → (old ≡ areas.to) ⊎ (1 ≤ passes) → IsNextPass areas placed first → After areas placed.places.count first passes
 after areas placed old first size zero half at few elsewhere next =
     elim next.many [
@@ -187,7 +187,7 @@ after areas placed old first size (suc q) half at few elsewhere next =
       ];
     }
 
-one_pass : (p q a b : ℕ) → q + 1 ≤ p → a ≤ b → a + q * a ≤ p * b
+pub one_pass : (p q a b : ℕ) → q + 1 ≤ p → a ≤ b → a + q * a ≤ p * b
 one_pass p q a b fewer less = let all : (q + 1) * a ≤ p * b = mul-le-mul fewer less in omega (arith, all)
 
 -- the next pass was begun
@@ -222,13 +222,13 @@ fewer_passes {later = later} source rest areas old new begun placed fan calls le
     }
 
 -- at the beginning
-begins_with : (size l : ℕ) → 5 * size + l / 512 + (0 + 2 * (l / 512) + 2 * ((size + 1) / 512)) + 4 ≤ 8 * size + l / 64 + 8
+pub begins_with : (size l : ℕ) → 5 * size + l / 512 + (0 + 2 * (l / 512) + 2 * ((size + 1) / 512)) + 4 ≤ 8 * size + l / 64 + 8
 begins_with size l = omega arith
 
-less_power : (k size : ℕ) → size < 2 ^ k → size ≤ 2 ^ suc k
+pub less_power : (k size : ℕ) → size < 2 ^ k → size ≤ 2 ^ suc k
 less_power k size few = omega (arith, few, pow-suc 2 k)
 
-in_all : (k a b c : ℕ) → a ≤ c → b ≡ suc k * c → a + b ≤ (k + 2) * c
+pub in_all : (k a b c : ℕ) → a ≤ c → b ≡ suc k * c → a + b ≤ (k + 2) * c
 in_all k a b c first rest = omega (arith, first, rest)
 
 pub calls_begun :

@@ -1,9 +1,6 @@
 -- What a step of the merge leaves, and several calls one after another.
-use Rattle.std.proofs.Common.{◌≡◌, ◌∙◌, ℕ, ◌<◌, ◌≤◌, ◌⊎◌, Bool, true, false, List, ◌∷◌, length, nat_lt, ap, sym, refl, subst, arith}
+use Rattle.std.proofs.Common.{◌≡◌, ◌∙◌, ℕ, ◌<◌, ◌≤◌, Bool, true, false, List, ◌∷◌, length, nat_lt, ap, sym, refl, subst, arith}
 use Rattle.std.proofs.lemmas.Bool.Decides.{nat_tests}
-use Rattle.ghost_model.specs.forms.Runs.{page_of}
-use Rattle.ghost_base.specs.declared.runs.ListRef.{ListRef}
-use Rattle.ghost_base.specs.Runs.{run_of}
 use Rattle.edge_traits.specs.Devices.{Device, KeepsPages, ChangesOnly}
 use Rattle.edge_traits.proofs.DeviceFrames.{kept_same, changes_kept, changes_wider, changes_trans}
 use Rattle.page_pool.specs.Pools.{Pool, AreOut, ChangesPage, KeepsOthers, others_out, bytes_at, page_at}
@@ -12,14 +9,14 @@ use Rattle.page_pool.proofs.Leases.{outs_kept, others_kept, others_same, others_
 use Rattle.flash_pages.specs.Writing.{reach}
 use Rattle.flash_pages.specs.Writers.{next_page, waits}
 use Rattle.id_merge.specs.declared.cursor.Cursor.{Cursor}
-use Rattle.id_merge.specs.declared.cursor.Cursor.TheVariants.{List as OfList, Range}
 use Rattle.id_merge.specs.declared.merge.Merge.{Merge}
-use Rattle.id_merge.specs.Cursors.{cursor_at, leases_of, SameSource, Moves}
+use Rattle.id_merge.specs.Cursors.{cursor_at, leases_of, Moves}
 use Rattle.id_merge.specs.Merges.{CanMerge}
+use Rattle.id_merge.proofs.Sparing.{outside_same}
 use Rattle.spill_pass.specs.declared.merging.MergeInto.{MergeInto}
-use Rattle.spill_pass.specs.Merging.{area_pages, area_end, leases_held, LiesOutside, IsMerging, Goes}
+use Rattle.spill_pass.specs.Merging.{area_pages, area_end, leases_held, IsMerging, Goes}
 use Rattle.spill_pass.proofs.Holders.{others_move}
-use Rattle.spill_pass.proofs.Over.{over_same}
+use Rattle.spill_pass.proofs.Over.{list_again, list_kept, list_same, over_same}
 use Rattle.spill_pass.proofs.Writing.{page_in_area, pages_below}
 
 moves_out :
@@ -34,15 +31,6 @@ still_out {later = later} {old = old} lease moves are =
     let P : List ℕ → Type 0 = λ leases. AreOut later (lease ∷ leases) in
     subst P (sym moves.leases) (outs_kept (lease ∷ leases_of old) (moves_out moves) are)
 
-outside_same : (told : Bool) (page : ℕ → List ℕ) (low high : ℕ) (before now : Cursor) → SameSource told page before now → LiesOutside low high before → LiesOutside low high now
-outside_same told page low high (OfList before) (OfList now) same outside =
-    let P : ListRef → Type 0 = λ list. (i : ℕ) → i < list.run.count → (page_of (run_of list.run) i < low) ⊎ (high ≤ page_of (run_of list.run) i) in
-    subst P (sym same.list) outside
-outside_same told page low high (OfList before) (Range first last) same outside = absurd same
-outside_same told page low high (Range first last) now same outside =
-    let P : Cursor → Type 0 = λ cursor. LiesOutside low high cursor in
-    subst P (sym same) tt
-
 -- a step of the merge
 pub stepped :
     {told : Bool} {before now : Device} {pool later : Pool} (old : MergeInto) (merge : Merge) → AreOut pool (leases_held old)
@@ -55,6 +43,7 @@ stepped {told = told} {before = before} old merge are moves = record {
   held = ap (λ leases. old.writer.lease ∷ leases) moves.leases;
   still = still_out old.writer.lease moves are;
   given = moves.given;
+  same = λ i. list_kept told before.page (cursor_at old.merge.cursors.items i) (cursor_at merge.cursors.items i) (moves.same i);
   outside = λ low high is i. outside_same told before.page low high (cursor_at old.merge.cursors.items i) (cursor_at merge.cursors.items i) (moves.same i) (is i);
   over = λ run rows over i. over_same told before.page run rows (cursor_at old.merge.cursors.items i) (cursor_at merge.cursors.items i) (moves.same i) (over i);
   count = moves.count;
@@ -93,6 +82,7 @@ goes_none {device = device} {pool = pool} into are = record {
   held = refl;
   still = are;
   given = λ since from given. given;
+  same = λ i. list_same (cursor_at into.merge.cursors.items i);
   outside = λ low high is. is;
   over = λ run rows over. over;
   count = refl;
@@ -104,7 +94,7 @@ goes_none {device = device} {pool = pool} into are = record {
 pub goes_trans :
     {told : Bool} {a b c : Device} {pool then later : Pool} {old mid new : MergeInto} → Goes told a b pool then old mid
     → Goes told b c then later mid new → Goes told a c pool later old new
-goes_trans {pool = pool} {then = then} {later = later} {old = old} {mid = mid} one two =
+goes_trans {pool = pool} {then = then} {later = later} {old = old} {mid = mid} {new = new} one two =
     let ends : area_pages mid.rows ≡ area_pages old.rows = ap (λ n. area_pages n) one.rows in
     let P : List Bool → Type 0 = λ others. KeepsOthers others then later in
     record {
@@ -116,6 +106,8 @@ goes_trans {pool = pool} {then = then} {later = later} {old = old} {mid = mid} o
       held = two.held ∙ one.held;
       still = two.still;
       given = λ since from given. two.given since (omega (arith, from, one.changes.never_falls)) (one.given since from given);
+      same = λ i.
+          list_again (cursor_at old.merge.cursors.items i) (cursor_at mid.merge.cursors.items i) (cursor_at new.merge.cursors.items i) (one.same i) (two.same i);
       outside = λ low high is. two.outside low high (one.outside low high is);
       over = λ run rows over. two.over run rows (one.over run rows over);
       count = two.count ∙ one.count;

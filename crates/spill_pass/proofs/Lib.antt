@@ -26,3 +26,6 @@ pub mod PlacedContents
 pub mod PlacedSure
 pub mod ReduceContents
 pub mod Calls
+pub mod SparedMerging
+pub mod SparedReducing
+pub mod ListCalls

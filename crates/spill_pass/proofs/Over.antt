@@ -1,5 +1,5 @@
 -- In which run the lists at hand lie, and what is blamed of them.
-use Rattle.std.proofs.Common.{◌≡◌, ◌∙◌, ℕ, ◌+◌, ◌<◌, ◌≤◌, List, [], ◌∷◌, ◌++◌, ap, sym, subst, arith, inr}
+use Rattle.std.proofs.Common.{◌≡◌, ◌∙◌, ℕ, ◌+◌, ◌<◌, ◌≤◌, List, [], ◌∷◌, ◌++◌, ap, sym, refl, subst, arith, inr}
 use Rattle.std.specs.Prelude.{Result, Ok, Err, Bool}
 use Rattle.ghost_model.specs.forms.Runs.{found_in, id_at, page_of, record_at, slot_of}
 use Rattle.ghost_base.specs.declared.runs.ListRef.{ListRef}
@@ -15,7 +15,7 @@ use Rattle.id_merge.specs.declared.cursor.Cursor.TheVariants.{List as OfList, Ra
 use Rattle.id_merge.specs.Cursors.{BlamesLists, BlamesOutOfRows, SameSource, cursor_at}
 use Rattle.id_merge.proofs.Laws.{each_pushed}
 use Rattle.spill_pass.specs.Lists.{OutOfRowsIn}
-use Rattle.spill_pass.specs.Merging.{AllOver, CursorOver, IsOver}
+use Rattle.spill_pass.specs.Merging.{AllOutside, AllOver, CursorOver, IsOver, LiesOutside, SameList}
 use Rattle.spill_pass.specs.Passing.{BlamesPass}
 use Rattle.spill_pass.specs.Sources.{BlamesSource}
 use Rattle.spill_pass.proofs.Grouping.{each_none}
@@ -31,6 +31,22 @@ over_same told page run rows (OfList before) (Range first last) same over = absu
 over_same told page run rows (Range first last) now same over =
     let P : Cursor → Type 0 = λ cursor. CursorOver run rows cursor in
     subst P (sym same) tt
+
+-- it is the same list
+pub list_same : (cursor : Cursor) → SameList cursor cursor
+list_same (OfList run) = (refl, (refl, refl))
+list_same (Range low high) = refl
+
+pub list_kept : (told : Bool) (page : ℕ → List ℕ) (before now : Cursor) → SameSource told page before now → SameList before now
+list_kept told page (OfList before) (OfList now) same = (same.list, (same.rows, same.lease))
+list_kept told page (OfList before) (Range first last) same = same
+list_kept told page (Range first last) now same = same
+
+pub list_again : (one two three : Cursor) → SameList one two → SameList two three → SameList one three
+list_again (OfList one) (OfList two) (OfList three) first second = (second.0 ∙ first.0, (second.1.0 ∙ first.1.0, second.1.1 ∙ first.1.1))
+list_again (OfList one) (OfList two) (Range low high) first second = second
+list_again (OfList one) (Range low high) three first second = absurd first
+list_again (Range low high) two three first second = let P : Cursor → Type 0 = λ cursor. SameList cursor three in subst P first second
 
 -- no list is at hand
 pub over_none : (run : Run) (rows : ℕ) (cursors : List Cursor) → cursors ≡ [] → AllOver run rows cursors
@@ -50,6 +66,16 @@ pub over_pushed :
 over_pushed run rows cursors pushed cursor is one over =
     let P : List Cursor → Type 0 = λ cs. (i : ℕ) → CursorOver run rows (cursor_at cs i) in
     subst P (sym is) (each_pushed (CursorOver run rows) cursors (OfList cursor) tt over one)
+
+pub outside_pushed :
+    (low high : ℕ) (cursors pushed : List Cursor) (cursor : RunCursor) → pushed ≡ cursors ++ OfList cursor ∷ [] → LiesOutside low high (OfList cursor)
+    → AllOutside low high cursors → AllOutside low high pushed
+outside_pushed low high cursors pushed cursor is one outside =
+    let P : List Cursor → Type 0 = λ cs. (i : ℕ) → LiesOutside low high (cursor_at cs i) in
+    subst P (sym is) (each_pushed (LiesOutside low high) cursors (OfList cursor) tt outside one)
+
+pub outside_none : (low high : ℕ) (cursors : List Cursor) → cursors ≡ [] → AllOutside low high cursors
+outside_none low high cursors none = each_none (LiesOutside low high) cursors none tt
 
 -- a slot of theirs that has no identifier of the rows is one of the run's
 pub out_in :

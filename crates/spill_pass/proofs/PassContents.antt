@@ -1,5 +1,5 @@
 -- What the lists of a pass have together stays the same.
-use Rattle.std.proofs.Common.{◌≡◌, ◌∙◌, ℕ, zero, suc, ◌+◌, ◌<◌, ◌⊎◌, inl, inr, Bool, List, [], ◌∷◌, ◌++◌, length, get_or, ap, sym, subst, arith}
+use Rattle.std.proofs.Common.{◌≡◌, ◌∙◌, ℕ, zero, suc, ◌+◌, ◌<◌, ◌⊎◌, inl, inr, Bool, List, [], ◌∷◌, ◌++◌, length, get_or, ap, sym, refl, subst, arith}
 use Rattle.std.specs.Prelude.{Option, Some, None, Ok}
 use Rattle.ghost_base.specs.declared.runs.ListRef.{ListRef}
 use Rattle.edge_traits.specs.Devices.{Device, KeepsPages}
@@ -240,3 +240,33 @@ begun_has {right = right} {groups = groups} has ids left union grouped = record 
     ],
   );
 }
+
+-- what is still to come in what all lists have
+pub took_left :
+    {has has' : List (List ℕ) → Type 0} {told : Bool} {right page now : ℕ → List ℕ} {pool later : Pool} {old new : Groups} {lists : List (List ℕ)} {rows : ℕ} {list : ListRef}
+    (h : HasAll has told right page pool old lists) (gives : GivesFirst has' now right rows h.left list)
+    (takes : TakesList told right h.merge h.done now later list old new) (more : lists_at_hand new ≡ lists_at_hand old + 1)
+    → (took_has h gives takes more).left ≡ gives.rest
+unfolding took_has
+took_left h gives takes more = refl
+
+pub same_left :
+    {has : List (List ℕ) → Type 0} {told : Bool} {right page now : ℕ → List ℕ} {pool later : Pool} {old new : Groups} {lists : List (List ℕ)} (has' : List (List ℕ) → Type 0)
+    (h : HasAll has told right page pool old lists) (left : has' h.left) (grouped : IsGrouped told right h.merge h.done now later new)
+    (count : lists_at_hand new ≡ lists_at_hand old) → (same_has has' h left grouped count).left ≡ h.left
+unfolding same_has
+same_left has' h left grouped count = refl
+
+pub listed_left :
+    {has : List (List ℕ) → Type 0} {told : Bool} {right page now : ℕ → List ℕ} {pool later : Pool} {old new : Groups} {lists : List (List ℕ)} (has' : List (List ℕ) → Type 0)
+    (h : HasAll has told right page pool old lists) (left : has' h.left) (group : ListsGroup told right h.merge h.done now later new)
+    → (listed_has has' h left group).left ≡ h.left
+unfolding listed_has
+listed_left has' h left group = refl
+
+pub begun_left :
+    {told : Bool} {page right : ℕ → List ℕ} {pool : Pool} {groups : Groups} (has : List (List ℕ) → Type 0) (ids : List (List ℕ)) (left : has ids)
+    (union : groups.into.merge.unions.items ≡ 0 ∷ []) (grouped : IsGrouped told right groups.into.merge [] page pool groups)
+    → (begun_has has ids left union grouped).left ≡ ids
+unfolding begun_has
+begun_left has ids left union grouped = refl

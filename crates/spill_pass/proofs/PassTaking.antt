@@ -8,6 +8,7 @@ use Rattle.edge_traits.proofs.DeviceFrames.{same_kept}
 use Rattle.page_pool.specs.Pools.{Pool, AreOut, ChangesPage, free_count}
 use Rattle.spill_pass.specs.declared.groups.Groups.{Groups}
 use Rattle.spill_pass.specs.Grouping.{GoesOn, CanTake, TookMore, groups_held, lists_at_hand, ids_at_hand, places_end}
+use Rattle.spill_pass.specs.Lists.{ListOutside}
 use Rattle.spill_pass.specs.Merging.{area_end, area_pages}
 use Rattle.spill_pass.specs.Passing.{IsPassing, PassGoes, ArePairs, pass_held, pass_left}
 use Rattle.spill_pass.specs.Sources.{Source, SameSource, SparesSource, UsesOutside, GaveList}
@@ -68,6 +69,11 @@ can_take source rest groups list gave lists places room none = record {
   room = omega (arith, gave.ids, room);
   none_found = none;
 }
+
+pub list_unused :
+    {device : Device} {source rest : Source} {list : ListRef} (low high : ℕ) → GaveList device source rest list → UsesOutside low high source
+    → ListOutside low high list
+list_unused {list = list} low high gave outside = λ i within. outside (page_of (run_of list.run) i) (gave.used i within)
 
 -- a buffer is free for it
 pub is_free :

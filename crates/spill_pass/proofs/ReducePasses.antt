@@ -13,12 +13,13 @@ use Rattle.spill_pass.specs.declared.groups.Groups.{Groups}
 use Rattle.spill_pass.specs.declared.groups.PlacedLists.{PlacedLists}
 use Rattle.spill_pass.specs.declared.places.PlaceReader.{PlaceReader}
 use Rattle.spill_pass.specs.declared.reduce.Areas.{Areas}
-use Rattle.spill_pass.specs.Grouping.{IsBegun}
+use Rattle.spill_pass.specs.Grouping.{AreApart, IsBegun}
 use Rattle.spill_pass.specs.Merging.{area_pages}
 use Rattle.spill_pass.specs.Passing.{CanPass, IsPassing, pass_held}
 use Rattle.spill_pass.specs.Places.{CanReadPlaces, CanGive, source_of}
-use Rattle.spill_pass.specs.Reducing.{CanReduce, CanPassOn, HasAreas, IsForLists, IsReducing, PassesOver}
-use Rattle.spill_pass.specs.Sources.{Source}
+use Rattle.spill_pass.specs.Reducing.{CanReduce, CanPassOn, HasAreas, IsForLists, IsForPlaces, IsReducing, PassesOver, ReduceOutside}
+use Rattle.spill_pass.specs.Sources.{Source, UsesOutside}
+use Rattle.spill_pass.proofs.Over.{outside_none}
 use Rattle.spill_pass.proofs.Reducing.{outs_rest, ReadsPlaced}
 
 -- the lists that a pass left may be given
@@ -108,3 +109,20 @@ held_begun source groups to places rows lists_lease places_lease begun =
     ap (λ cs. source.lease ∷ groups.places.lease ∷ groups.into.writer.lease ∷ leases_of cs) begun.none
     ∙ ap (λ (l : ℕ). source.lease ∷ l ∷ groups.into.writer.lease ∷ []) begun.places_lease
     ∙ ap (λ (l : ℕ). source.lease ∷ places_lease ∷ l ∷ []) begun.lists_lease
+
+-- it begins outside of an area outside of which the lists and all areas lie
+pub outside_begun :
+    (low high : ℕ) (source : Source) (areas : Areas) (groups : Groups) (to rows lists_lease places_lease : ℕ)
+    → IsBegun to areas.places rows source.lists_left lists_lease places_lease groups → UsesOutside low high source
+    → ((first : ℕ) → IsForLists areas first → AreApart first (first + area_pages rows) low high)
+    → ((first : ℕ) → IsForPlaces areas first → AreApart first (first + area_pages source.lists_left) low high)
+    → ReduceOutside low high source areas groups
+outside_begun low high source areas groups to rows lists_lease places_lease begun uses lists places =
+    let R : ℕ → Type 0 = λ n. (first : ℕ) → IsForLists areas first → AreApart first (first + area_pages n) low high in
+    let S : ℕ → Type 0 = λ n. (first : ℕ) → IsForPlaces areas first → AreApart first (first + area_pages n) low high in
+    record {
+      source = uses;
+      lists = outside_none low high groups.into.merge.cursors.items begun.none;
+      areas_lists = subst R (sym begun.rows) lists;
+      areas_places = subst S (sym begun.size) places;
+    }

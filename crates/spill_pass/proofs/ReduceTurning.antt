@@ -12,10 +12,11 @@ use Rattle.spill_pass.specs.declared.groups.PlacedLists.{PlacedLists}
 use Rattle.spill_pass.specs.declared.passes.PassTurn.{PassTurn}
 use Rattle.spill_pass.specs.declared.passes.PassTurn.TheVariants.{Went, Placed}
 use Rattle.spill_pass.specs.declared.reduce.Areas.{Areas}
-use Rattle.spill_pass.specs.Merging.{IsArea, area_pages}
+use Rattle.spill_pass.specs.Grouping.{AreApart}
+use Rattle.spill_pass.specs.Merging.{IsArea, AllOutside, LiesOutside, area_pages}
 use Rattle.spill_pass.specs.Passing.{PassGoes, PassTells, PassWent, PassEnds, pass_held, pass_left}
 use Rattle.spill_pass.specs.Reducing.{CanPassOn, HasAreas, IsForLists, IsForPlaces, IsNextPass, IsOutside, IsReducing, PassesOver, PassesTo, PassedOn, ReduceGoes, ReduceTurned, passes_left, pass_most, reduce_left}
-use Rattle.spill_pass.specs.Sources.{Source}
+use Rattle.spill_pass.specs.Sources.{Source, UsesOutside}
 use Rattle.spill_pass.proofs.Grouping.{each_none}
 use Rattle.spill_pass.proofs.PassFrames.{buffers_same}
 
@@ -23,8 +24,10 @@ use Rattle.spill_pass.proofs.PassFrames.{buffers_same}
 pub reduce_of_pass :
     {told merging : Bool} {before now : Device} {pool later : Pool} {fan : ℕ} (source rest : Source) (areas : Areas) (old new : Groups)
     → IsReducing told before pool source areas old fan merging → PassGoes before now pool later source rest old new
+    → ((low high : ℕ) → UsesOutside low high source → AllOutside low high old.into.merge.cursors.items → AllOutside low high new.into.merge.cursors.items)
     → ReduceGoes areas before now pool later source rest old new
-reduce_of_pass source rest areas old new is goes = record {
+reduce_of_pass source rest areas old new is goes lists = record {
+  name = goes.changes.name;
   page_count = goes.changes.page_count;
   stays = λ page outside. goes.changes.stays page (outside.lists old.into.writer.filler.first is.for_lists) (outside.places old.places.filler.first is.for_places);
   never_falls = goes.changes.never_falls;
@@ -34,18 +37,34 @@ reduce_of_pass source rest areas old new is goes = record {
   still = goes.still;
   given = goes.given;
   read = goes.read;
+  outside = λ low high out.
+      let R : ℕ → Type 0 = λ rows. (first : ℕ) → IsForLists areas first → AreApart first (first + area_pages rows) low high in
+      let S : ℕ → Type 0 = λ size. (first : ℕ) → IsForPlaces areas first → AreApart first (first + area_pages size) low high in
+      record {
+        source = λ page is. out.source page (goes.uses page is);
+        lists = lists low high out.source out.lists;
+        areas_lists = subst R (sym goes.rows) out.areas_lists;
+        areas_places = subst S (sym goes.size) out.areas_places;
+      };
   rows = goes.rows;
   size = omega (arith, goes.size);
 }
+
+apart_fewer : (first low high size fewer : ℕ) → fewer ≤ size → AreApart first (first + area_pages size) low high → AreApart first (first + area_pages fewer) low high
+apart_fewer first low high size fewer few (inl before) = inl (omega (arith, before, few))
+apart_fewer first low high size fewer few (inr behind) = inr behind
 
 -- the next pass begun after it
 pub reduce_then :
     {before now : Device} {pool mid later : Pool} (source rest next : Source) (areas : Areas) (old new begun : Groups)
     → ReduceGoes areas before now pool mid source rest old new → PassesOver mid later rest next new begun → begun.size ≤ old.size
+    → ((low high : ℕ) → ((first : ℕ) → IsForLists areas first → AreApart first (first + area_pages new.into.rows) low high)
+    → ((first : ℕ) → IsForPlaces areas first → AreApart first (first + area_pages new.size) low high) → UsesOutside low high next)
     → ReduceGoes areas before now pool later source next old begun
-reduce_then {now = now} {mid = mid} {later = later} source rest next areas old new begun goes over size =
+reduce_then {now = now} {mid = mid} {later = later} source rest next areas old new begun goes over size uses =
     let P : List Bool → Type 0 = λ others. KeepsOthers others mid later in
     record {
+      name = goes.name;
       page_count = goes.page_count;
       stays = goes.stays;
       never_falls = goes.never_falls;
@@ -57,6 +76,15 @@ reduce_then {now = now} {mid = mid} {later = later} source rest next areas old n
       read = λ since from given.
           let Q : Option ℕ → Type 0 = λ page. IfSome page (GaveSince since now (bytes_at later next.lease)) in
           subst Q (sym over.no_page) tt;
+      outside = λ low high out.
+          let R : ℕ → Type 0 = λ rows. (first : ℕ) → IsForLists areas first → AreApart first (first + area_pages rows) low high in
+          let still = goes.outside low high out in
+          record {
+            source = uses low high still.areas_lists still.areas_places;
+            lists = each_none (LiesOutside low high) begun.into.merge.cursors.items over.none tt;
+            areas_lists = subst R (sym over.rows) still.areas_lists;
+            areas_places = λ first is. apart_fewer first low high old.size begun.size size (out.areas_places first is);
+          };
       rows = over.rows ∙ goes.rows;
       size = size;
     }
@@ -79,6 +107,7 @@ pub reduce_goes_on :
 reduce_goes_on {mid = mid} {later = later} first second =
     let P : List Bool → Type 0 = λ others. KeepsOthers others mid later in
     record {
+      name = second.name ∙ first.name;
       page_count = second.page_count ∙ first.page_count;
       stays = λ page outside. same_trans (first.stays page outside) (second.stays page (outside_fewer first.rows first.size outside));
       never_falls = omega (arith, first.never_falls, second.never_falls);
@@ -88,6 +117,7 @@ reduce_goes_on {mid = mid} {later = later} first second =
       still = second.still;
       given = λ since from given. second.given since (omega (arith, from, first.never_falls)) (first.given since from given);
       read = λ since from given. second.read since (omega (arith, from, first.never_falls)) (first.read since from given);
+      outside = λ low high out. second.outside low high (first.outside low high out);
       rows = second.rows ∙ first.rows;
       size = omega (arith, first.size, second.size);
     }
@@ -97,6 +127,7 @@ pub reduce_none :
     {areas : Areas} {device : Device} {pool : Pool} (source : Source) (groups : Groups) → AreOut pool (pass_held source groups)
     → ReduceGoes areas device device pool pool source source groups groups
 reduce_none source groups are = record {
+  name = refl;
   page_count = refl;
   stays = λ page outside. record { bytes = refl; blank = refl };
   never_falls = omega arith;
@@ -106,6 +137,7 @@ reduce_none source groups are = record {
   still = are;
   given = λ since from given. given;
   read = λ since from given. given;
+  outside = λ low high out. out;
   rows = refl;
   size = omega arith;
 }
@@ -114,7 +146,7 @@ reduce_none source groups are = record {
 area_still : (before now : Device) (first rows : ℕ) → now.page_count ≡ before.page_count → IsArea before first rows → IsArea now first rows
 area_still before now first rows count area = record { block = area.block; there = omega (arith, area.there, count); small = omega (arith, area.small, count) }
 
-areas_still : {before now : Device} {areas : Areas} {rows size : ℕ} → now.page_count ≡ before.page_count → HasAreas before areas rows size → HasAreas now areas rows size
+pub areas_still : {before now : Device} {areas : Areas} {rows size : ℕ} → now.page_count ≡ before.page_count → HasAreas before areas rows size → HasAreas now areas rows size
 areas_still {before = before} {now = now} {rows = rows} {size = size} count has = record {
   lists = λ first is. area_still before now first rows count (has.lists first is);
   places = λ first is. area_still before now first size count (has.places first is);

@@ -114,6 +114,10 @@ lists_from : (target end first count rows page : ℕ) → count ≤ rows → fir
 lists_from target end first count rows page few from to (inl before) = inl (omega (arith, before, few, to))
 lists_from target end first count rows page few from to (inr behind) = inr (omega (arith, behind, from))
 
+places_from : (target end first count size page : ℕ) → 2 * count ≤ size + 1 → first ≤ page → page < first + pages_of count 8 → AreApart first (first + area_pages size) target end → (page < target) ⊎ (end ≤ page)
+places_from target end first count size page half from to (inl before) = inl (omega (arith, before, half, to))
+places_from target end first count size page half from to (inr behind) = inr (omega (arith, behind, from))
+
 -- the reader of what the last pass left
 pub record ReadsPlaced (placed : PlacedLists) (reader : PlaceReader) : Type 0 where
   pub places : reader.places ≡ placed.places
@@ -232,6 +236,12 @@ passed_on {told = told} {device = device} {pool = pool} {later = later} source r
       };
       left = omega (arith, hand, no_read, no_list, counts, ids, can.ids, reads.at, reads.next);
       ids = omega (arith, hand, begun.written, ids);
+      outside = λ low high for_lists for_places.
+          uses_beside placed reader low high reads
+          (λ page from to.
+          places_from low high placed.places.first placed.places.count old.size page can.half from to (for_places placed.places.first can.for_places))
+          (λ page from to.
+          lists_from low high placed.lists.first placed.lists.count old.into.rows page can.ids from to (for_lists placed.lists.first can.for_lists));
       calls = omega (arith, no_read, counts, begun.size);
       rows = over.rows;
       size = begun.size;

@@ -202,7 +202,7 @@ begins_ready told device pool list rows run begins readable free =
       buffer = record { out = leased_is_out pool lease free; filled = subst F (sym none) tt };
     }
 
-outside_list : (low high : ℕ) (list : ListRef) (rows : ℕ) (run : RunCursor) → Begins list rows run → ListOutside low high list → LiesOutside low high (OfList run)
+pub outside_list : (low high : ℕ) (list : ListRef) (rows : ℕ) (run : RunCursor) → Begins list rows run → ListOutside low high list → LiesOutside low high (OfList run)
 outside_list low high list rows run begins outside =
     let P : ListRef → Type 0 = λ l. ListOutside low high l in subst P (sym begins.list_is) outside
 

@@ -23,6 +23,7 @@ use Rattle.id_merge.specs.Cursors.{cursor_at, leases_of, CursorReady, CursorGive
 use Rattle.spill_pass.specs.declared.merging.MergeInto.{MergeInto}
 use Rattle.spill_pass.specs.Merging.{area_pages, area_end, leases_held, LiesOutside, CanBegin, IsMerging, Goes, SameIds, KeepsIds}
 use Rattle.spill_pass.proofs.Holders.{IsAnother, each_another}
+use Rattle.spill_pass.proofs.Over.{list_same}
 
 -- the page that is written next, and the block that begins with it, lie in the area
 reaches_if : (begins : Bool) (block one end : ℕ) → one ≤ end → (begins ≡ true → block ≤ end) → (if begins then block else one) ≤ end
@@ -93,6 +94,7 @@ wrote {before = before} {now = now} {pool = pool} {later = later} old writer are
       still = subst P (sym lease) (outs_kept (leases_held old) (change_keeps_out buffer) are);
       given = λ since from given i.
           given_cursor since before now (cursor_at old.merge.cursors.items i) changes.gave buffer (each_another pool old.writer.lease old.merge.cursors.items i are) (given i);
+      same = λ i. list_same (cursor_at old.merge.cursors.items i);
       outside = λ low high is. is;
       over = λ run rows over. over;
       count = refl;

@@ -122,6 +122,7 @@ pub record TookMore (told : Bool) (device : Device) (pool later : Pool) (list : 
   pub placed : new.places.filler.count ≡ old.places.filler.count
   pub none_found : new.into.merge.last ≡ 0
   pub over : AllOver list.run old.into.rows old.into.merge.cursors.items → AllOver list.run old.into.rows new.into.merge.cursors.items
+  pub outside : (low high : ℕ) → ListOutside low high list → AllOutside low high old.into.merge.cursors.items → AllOutside low high new.into.merge.cursors.items
 
 -- so many calls were made, and never more than two
 pub record Made (calls : ℕ) (before now : Device) : Type 0 where

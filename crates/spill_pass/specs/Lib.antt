@@ -12,3 +12,5 @@ pub mod Reducing
 pub mod Listings
 pub mod PassContents
 pub mod ReduceContents
+pub mod Sparing
+pub mod ListCalls

@@ -15,6 +15,7 @@ use Rattle.id_merge.specs.declared.cursor.Cursor.TheVariants.{List as OfList, Ra
 use Rattle.id_merge.specs.declared.merge.Merge.{Merge}
 use Rattle.id_merge.specs.Cursors.{cursor_at, id_in, leases_of, AreRight, AllAtMost, AllGiven}
 use Rattle.id_merge.specs.Merges.{CanMerge, Remains, unread, at_hand}
+pub use Rattle.id_merge.specs.Spared.{LiesOutside, AllOutside}
 use Rattle.spill_pass.specs.declared.merging.MergeInto.{MergeInto}
 use Rattle.spill_pass.specs.declared.merging.Turn.{Turn}
 use Rattle.spill_pass.specs.declared.merging.Turn.TheVariants.{Went, Done}
@@ -36,15 +37,6 @@ area_end into = into.writer.filler.first + area_pages into.rows
 -- the lease of the writer, and those of the lists
 abbrev pub leases_held : MergeInto → List ℕ
 leases_held into = into.writer.lease ∷ leases_of into.merge.cursors.items
-
--- no page of a list's run lies in an area
-abbrev pub LiesOutside : (low high : ℕ) → Cursor → Type 0
-LiesOutside low high (OfList run) =
-    (i : ℕ) → i < run.list.run.count → (runs.page_of (run_of run.list.run) i < low) ⊎ (high ≤ runs.page_of (run_of run.list.run) i)
-LiesOutside low high (Range first last) = ⊤
-
-abbrev pub AllOutside : (low high : ℕ) → List Cursor → Type 0
-AllOutside low high cursors = (i : ℕ) → LiesOutside low high (cursor_at cursors i)
 
 -- a cursor is over a list in the run, for identifiers of the rows
 pub record IsOver (run : Run) (rows : ℕ) (cursor : RunCursor) : Type 0 where
@@ -140,6 +132,12 @@ pub record IsPlaced (into : MergeInto) (run : Run) : Type 0 where
   pub width : run.width ≡ 4
   pub count : run.count ≤ into.rows
 
+-- it is over the same list for the same rows, with the same lease, or is the same range
+abbrev pub SameList : (old new : Cursor) → Type 0
+SameList (OfList old) (OfList new) = (new.list ≡ old.list) × ((new.rows ≡ old.rows) × (new.lease ≡ old.lease))
+SameList (OfList old) (Range low high) = ⊥
+SameList (Range low high) new = new ≡ Range low high
+
 -- what is done whatever the answer: of the pages only those of the area changed, of the buffers only those of the leases held,
 -- which are still held
 pub record Goes (told : Bool) (before now : Device) (pool later : Pool) (old new : MergeInto) : Type 0 where
@@ -149,6 +147,7 @@ pub record Goes (told : Bool) (before now : Device) (pool later : Pool) (old new
   pub held : leases_held new ≡ leases_held old
   pub still : AreOut later (leases_held new)
   pub given : (since : ℕ) → since ≤ before.calls → AllGiven since before pool old.merge.cursors.items → AllGiven since now later new.merge.cursors.items
+  pub same : (i : ℕ) → SameList (cursor_at old.merge.cursors.items i) (cursor_at new.merge.cursors.items i)
   pub outside : (low high : ℕ) → AllOutside low high old.merge.cursors.items → AllOutside low high new.merge.cursors.items
   pub over : (run : Run) (rows : ℕ) → AllOver run rows old.merge.cursors.items → AllOver run rows new.merge.cursors.items
   pub count : length new.merge.cursors.items ≡ length old.merge.cursors.items

@@ -11,7 +11,7 @@ use Rattle.spill_pass.specs.declared.groups.Groups.{Groups}
 use Rattle.spill_pass.specs.declared.groups.PlacedLists.{PlacedLists}
 use Rattle.spill_pass.specs.declared.reduce.Areas.{Areas}
 use Rattle.spill_pass.specs.Grouping.{AreApart, lists_at_hand}
-use Rattle.spill_pass.specs.Merging.{IsArea, area_pages}
+use Rattle.spill_pass.specs.Merging.{IsArea, AllOutside, area_pages}
 use Rattle.spill_pass.specs.Calls.{ids_in_pass, pass_calls, pass_calls_left}
 use Rattle.spill_pass.specs.Passing.{IsPassing, MadeFew, pass_held, pass_left}
 use Rattle.spill_pass.specs.Sources.{Source, UsesOutside}
@@ -53,9 +53,17 @@ pub record IsReducing (told : Bool) (device : Device) (pool : Pool) (source : So
   pub for_lists : IsForLists areas groups.into.writer.filler.first
   pub for_places : IsForPlaces areas groups.places.filler.first
 
+-- the source, the lists at hand and all areas lie outside of an area of others
+pub record ReduceOutside (low high : ℕ) (given : Source) (areas : Areas) (groups : Groups) : Type 0 where
+  pub source : UsesOutside low high given
+  pub lists : AllOutside low high groups.into.merge.cursors.items
+  pub areas_lists : (first : ℕ) → IsForLists areas first → AreApart first (first + area_pages groups.into.rows) low high
+  pub areas_places : (first : ℕ) → IsForPlaces areas first → AreApart first (first + area_pages groups.size) low high
+
 -- what is done whatever the answer: of the pages only those of the areas changed, of the buffers only those of the leases held
 -- and of those leased since. Those that are held now are out
 pub record ReduceGoes (areas : Areas) (before now : Device) (pool later : Pool) (source rest : Source) (old new : Groups) : Type 0 where
+  pub name : now.name ≡ before.name
   pub page_count : now.page_count ≡ before.page_count
   pub stays : (page : ℕ) → IsOutside areas old.into.rows old.size page → SamePage before now page
   pub never_falls : before.calls ≤ now.calls
@@ -65,6 +73,7 @@ pub record ReduceGoes (areas : Areas) (before now : Device) (pool later : Pool) 
   pub still : AreOut later (pass_held rest new)
   pub given : (since : ℕ) → since ≤ before.calls → AllGiven since before pool old.into.merge.cursors.items → AllGiven since now later new.into.merge.cursors.items
   pub read : (since : ℕ) → since ≤ before.calls → WasGiven since before pool source.lease → WasGiven since now later rest.lease
+  pub outside : (low high : ℕ) → ReduceOutside low high source areas old → ReduceOutside low high rest areas new
   pub rows : new.into.rows ≡ old.into.rows
   pub size : new.size ≤ old.size
 
@@ -97,6 +106,9 @@ pub record PassedOn (told : Bool) (now : Device) (later : Pool) (rest : Source) 
   pub reducing : IsReducing told now later rest areas new fan false
   pub left : pass_left later rest new false ≤ 6 * placed.places.count + 2 * old.into.rows + 1
   pub ids : ids_in_pass rest new ≤ placed.lists.count
+  pub outside :
+      (low high : ℕ) → ((first : ℕ) → IsForLists areas first → AreApart first (first + area_pages old.into.rows) low high)
+      → ((first : ℕ) → IsForPlaces areas first → AreApart first (first + area_pages old.size) low high) → UsesOutside low high rest
   pub calls : pass_calls_left later rest new ≤ pass_calls new.size (ids_in_pass rest new)
   pub rows : new.into.rows ≡ old.into.rows
   pub size : new.size ≡ placed.places.count

@@ -10,7 +10,7 @@ use Rattle.spill_pass.proofs.Writing.{few_put_calls, bit_most}
 use Rattle.spill_pass.proofs.Grouping.{places_below}
 use Rattle.spill_pass.proofs.Closing.{put_goes, closed_goes, closed_grouping, can_place, place_reach, none_hand}
 use Rattle.spill_pass.proofs.Taking.{outs_of_two}
-use Rattle.spill_pass.proofs.Over.{over_none}
+use Rattle.spill_pass.proofs.Over.{outside_none, over_none}
 use Rattle.spill_pass.proofs.Listing.{closed_lists}
 use Rattle.spill_pass.proofs.groups.Groups.close.Goals as goal
 
@@ -118,3 +118,7 @@ returns-clause-closes g c = λ told right first lists was.
 pub returns-clause-over : goal.returns-clause-over
 returns-clause-over g c = λ run rows over.
     over_none run rows c.replace-merge.new.dest.cursors.items (ap (λ (m : Merge). m.cursors.items) c.replace-merge.ensures.after ∙ c.no_lists.ensures.cursors)
+
+pub returns-clause-outside : goal.returns-clause-outside
+returns-clause-outside g c = λ low high outside.
+    outside_none low high c.replace-merge.new.dest.cursors.items (ap (λ (m : Merge). m.cursors.items) c.replace-merge.ensures.after ∙ c.no_lists.ensures.cursors)

@@ -1,6 +1,7 @@
 use Rattle.std.proofs.Common.{ℕ, sym, subst}
 use Rattle.std.proofs.lemmas.Result.{err_from_is_err_and}
 use Rattle.spill_pass.specs.PassContents.{PassHas}
+use Rattle.spill_pass.proofs.ListCalls.{ends_counts}
 use Rattle.spill_pass.proofs.PassContents.{took_none, took_some}
 use Rattle.spill_pass.proofs.Over.{none_blamed, none_damaged}
 use Rattle.spill_pass.proofs.PassFrames.{pass_goes_on}
@@ -44,3 +45,16 @@ returns-in-Some-clause-has g c = λ told right lists h. took_some c.in-Some.is (
 
 pub returns-then-lists-gt0-clause-has : goal.returns-then-lists-gt0-clause-has
 returns-then-lists-gt0-clause-has g c = λ told right lists h. (took_none _ c.in_default.is (c.in_ok-calls.ensures.has told right lists h)).0
+
+pub returns-clause-outside : goal.returns-clause-outside
+returns-clause-outside g c = λ low high uses outside.
+    c.finish.ensures.outside low high (λ page is. uses page (c.take.ensures.goes.uses page is)) (c.take.ensures.outside low high uses outside)
+
+pub returns-clause-counts : goal.returns-clause-counts
+returns-clause-counts g c = λ told right lists h. ends_counts _ _ _ _ _ c.finish.result (c.in_ok-calls.ensures.counts told right lists h) c.finish.ensures.ends
+
+pub returns-in-Some-clause-counts : goal.returns-in-Some-clause-counts
+returns-in-Some-clause-counts g c = λ told right lists h. c.in_ok-calls.ensures.counts told right lists h
+
+pub returns-then-lists-gt0-clause-counts : goal.returns-then-lists-gt0-clause-counts
+returns-then-lists-gt0-clause-counts g c = λ told right lists h. c.in_ok-calls.ensures.counts told right lists h

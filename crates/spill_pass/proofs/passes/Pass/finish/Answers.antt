@@ -1,4 +1,6 @@
-use Rattle.std.proofs.Common.{sym}
+use Rattle.std.proofs.Common.{sym, arith}
+use Rattle.std.proofs.lemmas.List.{nil_from_length}
+use Rattle.spill_pass.proofs.Over.{outside_none}
 use Rattle.spill_pass.proofs.PassContents.{stands_all}
 use Rattle.spill_pass.proofs.PassFrames.{pass_of_groups}
 use Rattle.spill_pass.proofs.PassGoing.{made_four, made_none, pass_ends}
@@ -38,3 +40,14 @@ pub returns-clause-has : goal.returns-clause-has
 returns-clause-has g c = λ told right lists h.
     let n = c.in_ok-placed.ensures in
     stands_all h c.requires.none (n.stores told right h.merge h.done h.grouped)
+
+pub returns-in_err-placed-clause-outside : goal.returns-in_err-placed-clause-outside
+returns-in_err-placed-clause-outside g c = λ low high uses outside.
+    outside_none low high c.finish.new.self.into.merge.cursors.items (nil_from_length c.finish.new.self.into.merge.cursors.items c.finish.ensures.empty)
+
+pub returns-clause-outside : goal.returns-clause-outside
+returns-clause-outside g c = λ low high uses outside.
+    outside_none low high c.finish.new.self.into.merge.cursors.items (nil_from_length c.finish.new.self.into.merge.cursors.items c.finish.ensures.empty)
+
+pub returns-clause-ends : goal.returns-clause-ends
+returns-clause-ends g c = omega (arith, c.in_ok-placed.ensures.runs.lists_count)
