@@ -6,3 +6,5 @@ pub mod Standing
 pub mod Staying
 pub mod Beside
 pub mod Counting
+pub mod Damaging
+pub mod Sparing

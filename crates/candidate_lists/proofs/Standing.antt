@@ -36,7 +36,7 @@ page_within run area rows i is within =
     let at : P 4 = (omega (arith, is.first), omega (arith, is.first, is.count, within)) in
     subst P (sym is.width) at
 
-apart_page : {first end other other_end : ℕ} (page : ℕ) → AreApart first end other other_end → first ≤ page → page < end → (page < other) ⊎ (other_end ≤ page)
+pub apart_page : {first end other other_end : ℕ} (page : ℕ) → AreApart first end other other_end → first ≤ page → page < end → (page < other) ⊎ (other_end ≤ page)
 apart_page page (inl before) from to = inl (omega arith)
 apart_page page (inr behind) from to = inr (omega arith)
 
@@ -94,7 +94,7 @@ pub record Listed (page : ℕ → List ℕ) (run : Run) (low rows : ℕ) (ids : 
   pub small : (i : ℕ) → i < length ids → get_or ids i 0 < 2 ^ 32
   pub from : low ≤ run.first
 
-inside : {page : ℕ → List ℕ} {run : Run} (ids : List ℕ) (stores : Stores page (run_of run) (map number_cell ids)) (i : ℕ) → i < run.count → i < length ids
+pub inside : {page : ℕ → List ℕ} {run : Run} (ids : List ℕ) (stores : Stores page (run_of run) (map number_cell ids)) (i : ℕ) → i < run.count → i < length ids
 inside ids stores i within = omega (arith, within, stores.has.count, length-map ids number_cell)
 
 counted : {page : ℕ → List ℕ} {run : Run} (ids : List ℕ) (stores : Stores page (run_of run) (map number_cell ids)) (i : ℕ) → i < length ids → i < run.count
@@ -105,15 +105,19 @@ id_over :
 id_over right page low i run from =
     ap (λ r. number_in r 0) (record_same page (over right page low) run (0 + i) (over_from right page low (page_of (run_of run) (0 + i)) (omega (arith, from))))
 
+pub id_listed :
+    (page : ℕ → List ℕ) (low rows : ℕ) (run : Run) (ids : List ℕ) → Listed page run low rows ids → (i : ℕ) → i < run.count
+    → id_at page (run_of run) i ≡ get_or ids i 0
+id_listed page low rows run ids is i within =
+    ap (λ r. number_in r 0) (is.stores.has.each i within ∙ get_cell ids i (inside ids is.stores i within))
+    ∙ first_number (get_or ids i 0) (is.small i (inside ids is.stores i within))
+
 listed_at :
     (right page : ℕ → List ℕ) (low rows : ℕ) (run : Run) (ids : List ℕ) → Listed page run low rows ids → (i : ℕ) → i < run.count
     → id_of (over right page low) (whole_list run) i ≡ get_or ids i 0
 listed_at right page low rows run ids is i within =
     let at : 0 + i ≡ i = omega arith in
-    id_over right page low i run is.from
-    ∙ ap (λ n. id_at page (run_of run) n) at
-    ∙ ap (λ r. number_in r 0) (is.stores.has.each i within ∙ get_cell ids i (inside ids is.stores i within))
-    ∙ first_number (get_or ids i 0) (is.small i (inside ids is.stores i within))
+    id_over right page low i run is.from ∙ ap (λ n. id_at page (run_of run) n) at ∙ id_listed page low rows run ids is i within
 
 pub listed_ordered :
     (right page : ℕ → List ℕ) (low rows : ℕ) (run : Run) (ids : List ℕ) → Listed page run low rows ids
@@ -146,7 +150,7 @@ listed_to right page low rows run ids id is one =
 one_at : (ids : List ℕ) (i : ℕ) → i < length ids → IsOneOf ids (get_or ids i 0)
 one_at ids i within = record { at = i; within = within; is = refl }
 
-closed_listed :
+pub closed_listed :
     {page first : ℕ → List ℕ} {low : ℕ} {merge : Merge} {closed : Closed} (all : ListsAll page first low merge closed)
     → Listed page closed.run low closed.rows all.list.ids
 closed_listed all =
@@ -161,7 +165,7 @@ closed_listed all =
     }
 
 -- the one list that passes leave
-union_listed :
+pub union_listed :
     {page : ℕ → List ℕ} {lists : List (List ℕ)} {run : Run} (low rows : ℕ) (union : IsUnion page lists run)
     → ((id : ℕ) → InLists lists id → IsRow rows id) → rows < 2 ^ 32 → low ≤ run.first → Listed page run low rows union.ids
 union_listed low rows union are small from =

@@ -5,3 +5,6 @@ pub mod Closes
 pub mod Reduced
 pub mod Spared
 pub mod Reduces
+pub mod Damaging
+pub mod Outside
+pub mod Staying

@@ -1,6 +1,10 @@
 //! What stays where others write other areas.
 
 ghost use Rattle.candidate_lists.specs.Spared.{ClosedStays, ClosingSpares, ListsStay, ReduceKeeps, ScratchStays};
+ghost use Rattle.candidate_lists.specs.Staying.{BesideStays, ClosedIsKept, ClosingCallsStay, ClosingHasStays, ClosingIsSmall, ClosingLeftStays, ClosingStays, DamageStays, HeldStays, OpenedStays, OpeningStays, ReducedStays, ScratchIsOutside, SparesRest};
+
+use id_merge::spared::cursors_are_spared;
+use spill_pass::spared::merging_is_spared;
 
 /// A law: candidates that stand as a list stay where nobody writes their area, so while lists are merged into one; and a source that
 /// waits stays where candidates are written. The areas are there for as long as the device has as many pages, and for fewer rows and
@@ -12,3 +16,26 @@ pub fn spared()
     ensures closing { ClosingSpares }
     ensures scratch { ScratchStays }
 {}
+
+/// A law: where others write only pages of a region that the candidates lie outside of, and use other buffers, the lists in hand may
+/// still be read and opened, the candidates may still be written, and what was written has what it had. As much is left to do. No
+/// slot is damaged of the lists that was not before.
+pub fn candidates_are_spared()
+    ensures rest { SparesRest }
+    ensures held { HeldStays }
+    ensures damage { DamageStays }
+    ensures opening { OpeningStays }
+    ensures opened { OpenedStays }
+    ensures closing { ClosingStays }
+    ensures closing_has { ClosingHasStays }
+    ensures closing_left { ClosingLeftStays }
+    ensures closing_calls { ClosingCallsStay }
+    ensures closing_small { ClosingIsSmall }
+    ensures closed { ClosedIsKept }
+    ensures beside { BesideStays }
+    ensures reduced { ReducedStays }
+    ensures scratch { ScratchIsOutside }
+{
+    cursors_are_spared();
+    merging_is_spared();
+}
