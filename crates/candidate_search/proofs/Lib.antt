@@ -3,3 +3,13 @@ pub mod RowLists
 pub mod ListDamage
 pub mod TermsTaken
 pub mod RowReplies
+pub mod TermDamage
+pub mod TakingFrames
+pub mod TakingOpens
+pub mod TakingReduces
+pub mod TakingCloses
+pub mod TakingLeases
+pub mod TakingBegins
+pub mod TakingPasses
+pub mod TakingSteps
+pub mod TakingSpared

@@ -3,3 +3,5 @@ pub mod TermLists
 pub mod Searching
 pub mod Laws
 pub mod Gathered
+pub mod Taking
+pub mod Taken
