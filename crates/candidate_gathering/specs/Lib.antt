@@ -1,0 +1,6 @@
+pub mod Terms
+pub mod Places
+pub mod Stages
+pub mod Contents
+pub mod Turns
+pub mod Laws

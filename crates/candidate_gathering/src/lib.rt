@@ -1,0 +1,16 @@
+//! The candidates of a query: the rows of its top table that meet all terms, gathered term by term from the indexes and the replies.
+//!
+//! `Gathering` takes the terms in one after another: ranges of identifiers and the reply of the top table at once, the entries of a
+//! hidden column after a search, and the lists of entries and of replies through `Taking`. Where the lists in hand leave too few
+//! buffers, the candidates are written to scratch as one list. At the end it answers a merge that gives the candidates, ascending.
+#![tactic(auto)]
+
+pub mod beginning;
+pub mod gathering;
+pub mod going;
+pub mod lists;
+pub mod places;
+pub mod stage;
+
+pub use gathering::Gathering;
+pub use stage::Stage;

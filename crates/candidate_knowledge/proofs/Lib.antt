@@ -1,0 +1,9 @@
+pub mod TablesThere
+pub mod FilePages
+pub mod NumberOrders
+pub mod DirectoryOrders
+pub mod NoDamage
+pub mod Staying
+pub mod BadSlots
+pub mod Candidates
+pub mod Holding

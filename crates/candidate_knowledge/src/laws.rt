@@ -1,0 +1,77 @@
+//! Laws of what is known of the pages.
+
+ghost use Rattle.candidate_knowledge.specs.Laws.{HeldFilesAreKnown, HeldFilesHaveNoDamage, KnowledgeStays, DamageIsBad, RepliesHaveNoDamage, RowsBetweenAreNoAnswers, CandidatesAreSifted};
+
+/// Pages that hold all files of a database are right pages, and known by themselves.
+pub fn held_files_are_known()
+    ensures known { HeldFilesAreKnown }
+{
+    climbing_index::laws::held_indexes_are_whole();
+    climbing_index::laws::whole_indexes_are_held_but();
+    subtree_keys::laws::held_tables_are_held_but();
+    subtree_keys::laws::tables_are_right_but_for_damage();
+}
+
+/// None of their slots is damaged.
+pub fn held_files_have_no_damage()
+    ensures none { HeldFilesHaveNoDamage }
+{
+    held_files_are_known();
+    hidden_columns::laws::columns_give_values();
+    subtree_keys::laws::tables_give_rows();
+    ghost_base::laws::cell_order_is_value_order();
+    ghost_model::layout::layout_is_small();
+    ghost_model::layout::files_lie_in_order();
+    ghost_model::layout::levels_are_ancestors();
+    ghost_model::flash::hidden_cells_fit();
+    ghost_model::flash::hidden_parts_go_with_catalogs();
+    ghost_model::flash::records_are_as_wide();
+    ghost_model::flash::lists_partition();
+    ghost_model::flash::id_lists_partition();
+    ghost_model::runs::numbers_are_read();
+}
+
+/// What is known stays known, and bad slots stay bad, where the static pages are as they were.
+pub fn knowledge_stays()
+    ensures { KnowledgeStays }
+{
+    ghost_model::layout::files_lie_as_summed();
+    ghost_model::layout::files_lie_in_order();
+    ghost_model::layout::layout_is_small();
+    ghost_model::layout::records_stand_within();
+    ghost_model::layout::levels_are_ancestors();
+    ghost_model::flash::holdings_are_kept();
+    ghost_model::flash::lists_partition();
+    ghost_model::flash::id_lists_partition();
+    ghost_model::runs::numbers_are_read();
+}
+
+/// What searches, lists and reads of rows can blame is bad: pages that hold all files have no such slot.
+pub fn damage_is_bad()
+    ensures { DamageIsBad }
+{
+    held_files_have_no_damage();
+    climbing_index::laws::damage_is_of_slots();
+    candidate_search::laws::damage_of_lists_is_of_slots();
+    hidden_columns::laws::files_are_of_columns();
+    subtree_keys::laws::tables_are_of_slots();
+}
+
+/// Where the pages have the rows of a reply, none of its records is without an identifier of the table's rows.
+pub fn replies_have_no_damage()
+    ensures none { RepliesHaveNoDamage }
+{}
+
+/// Rows of the top table between two candidates have no line in the answer.
+pub fn rows_between_are_no_answers()
+    ensures none { RowsBetweenAreNoAnswers }
+{
+    condition_lists::laws::terms_sift_rows();
+}
+
+/// Candidates meet the conditions that a plan for candidates does not test, and its subtree key table is known.
+pub fn candidates_are_sifted()
+    ensures { CandidatesAreSifted }
+{
+    condition_lists::laws::terms_sift_rows();
+}
