@@ -148,7 +148,7 @@ pub enum UsageFault {
     NotUtf8,
 
     /// `--plan` has a value that it does not take.
-    #[error("--plan takes scan alone")]
+    #[error("--plan takes scan or pre")]
     Plan,
 
     /// `--pace` has a value that it does not take.

@@ -4,4 +4,5 @@ use Rattle.leakless_plan.specs.declared.plan.Plan.{Plan}
 use Rattle.leakless_plan.specs.declared.plan.Plan.TheVariants as plan
 
 abbrev pub plan_named : List ℕ → Option Plan
-plan_named name = if bytes_eq name (codes "scan") then Some plan.Scan else None
+plan_named name =
+    if bytes_eq name (codes "scan") then Some plan.Scan else if bytes_eq name (codes "pre") then Some plan.Pre else None

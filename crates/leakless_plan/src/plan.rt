@@ -8,6 +8,9 @@ ghost use Rattle.leakless_plan.specs.Names as names;
 pub enum Plan {
     /// Row by row of the top table, each value read where it lies.
     Scan,
+    /// By the indexes: the rows of the top table that meet the conditions on hidden columns and identifiers are gathered first, and
+    /// these alone are looked at, row by row.
+    Pre,
 }
 
 /// The plan of a name, as the option `--plan` takes it.
@@ -16,6 +19,9 @@ pub fn plan_named(name: &str) -> Option<Plan>
 {
     if name.as_bytes() == "scan".as_bytes() {
         return Some(Plan::Scan);
+    }
+    if name.as_bytes() == "pre".as_bytes() {
+        return Some(Plan::Pre);
     }
     None
 }
