@@ -1,6 +1,6 @@
 -- Which slot a step blames: that of a hidden column that is read for the query, or that of a row in a reply that it asks for.
 use Rattle.std.proofs.Common.{◌≡◌, ◌<◌, ◌-◌, ◌∙◌, inl, inr, ℕ, refl, Bool, true, false, List, None, ap, sym, subst, arith}
-use Rattle.std.specs.Prelude.{is_some}
+use Rattle.std.specs.Prelude.{is_some, IfErr, Result, Ok, Err}
 use Rattle.ghost_model.specs.core.Channel.{Catalog}
 use Rattle.ghost_model.specs.core.Query.{Query}
 use Rattle.ghost_model.specs.core.Asks.{kind_at}
@@ -24,6 +24,7 @@ use Rattle.candidate_rows.specs.declared.next.Slot.{Slot}
 use Rattle.candidate_rows.specs.Working.{Need, NoNeed, OfSlot, OfRow, OfRecord}
 use Rattle.candidate_rows.specs.Steps.{BlamesNeeded, FailsNeeded}
 use Rattle.flash_pages.specs.Reads.{WasRead}
+use Rattle.key_exec.specs.declared.job.Went.{Went}
 use Rattle.key_exec.specs.Blaming.{Blames, BlamesRead}
 use Rattle.key_exec.proofs.ReadForLemmas.{IsReadSlot, IsReadNeed}
 
@@ -186,3 +187,20 @@ blames_read told since before now cat asked top side half (OfSlot slot) fault lo
 blames_read told since before now cat asked top side half (OfRow look) fault low is need blames fails =
     row_read told since before now cat asked top side half look fault need low is blames (not_whole told cat side before half look fault need.0 is fails)
 blames_read told since before now cat asked top side half (OfRecord file identifier) fault low is need blames fails = absurd need
+
+-- where a step fails
+pub needed_blames :
+    (told : Bool) (since : ℕ) (before now : Device) (cat : Catalog) (asked : Query) (top side : ℕ) (half : Half) (need : Need) (result : Result Went PageFault) → side < 2
+    → IsHalf told cat side before half → IsReadNeed cat asked top need → IfErr result (BlamesNeeded since now half need)
+    → (told ≡ true → IfErr result (FailsNeeded before.page half need)) → KeepsPages before now → IfErr result (Blames told now.page cat asked top side half)
+needed_blames told since before now cat asked top side half need (Ok went) low is wanted blames fails kept = tt
+needed_blames told since before now cat asked top side half need (Err fault) low is wanted blames fails kept =
+    blames_need told since before now cat asked top side half need fault low is wanted blames fails kept
+
+pub needed_read :
+    (told : Bool) (since : ℕ) (before now : Device) (cat : Catalog) (asked : Query) (top side : ℕ) (half : Half) (need : Need) (result : Result Went PageFault) → side < 2
+    → IsHalf told cat side before half → IsReadNeed cat asked top need → IfErr result (BlamesNeeded since now half need)
+    → (told ≡ true → IfErr result (FailsNeeded before.page half need)) → IfErr result (BlamesRead told since now cat asked top side half)
+needed_read told since before now cat asked top side half need (Ok went) low is wanted blames fails = tt
+needed_read told since before now cat asked top side half need (Err fault) low is wanted blames fails =
+    blames_read told since before now cat asked top side half need fault low is wanted blames fails

@@ -15,8 +15,17 @@ use Rattle.ghost_model.specs.laws.LayoutLaws.{LayoutIsSmall, FilesLieInOrder, Re
 use Rattle.ghost_model.specs.laws.LayoutSums as sums
 use Rattle.flash_pages.proofs.RunFrames.{record_kept, stores_kept}
 use Rattle.hidden_columns.specs.Laws.{ColumnsGiveValues}
-use Rattle.key_exec.specs.Reading.{Knows, KnowsBut}
-use Rattle.key_exec.specs.Blaming.{IsDamaged}
+use Rattle.leakless_plan.specs.declared.plan.Plan.{Plan}
+use Rattle.leakless_plan.specs.declared.plan.Plan.TheVariants as plans
+use Rattle.ghost_model.specs.core.Database.{IsDatabase, row_counts}
+use Rattle.ghost_model.specs.core.Split.{hidden_of}
+use Rattle.ghost_model.specs.forms.Flash.{HoldsFiles}
+use Rattle.ghost_model.specs.laws.LayoutLaws.{IsLimited}
+use Rattle.ghost_model.specs.laws.FlashLaws.{HoldingsAreKept}
+use Rattle.climbing_index.specs.Laws.{IsOf}
+use Rattle.candidate_knowledge.specs.Laws.{HeldFilesAreKnown, KnowledgeStays}
+use Rattle.key_exec.specs.Reading.{Knows, KnowsBut, KnowsBy, KnowsButBy}
+use Rattle.key_exec.specs.Blaming.{IsDamaged, IsDamagedInScan}
 use Rattle.key_exec.specs.Laws.{KeepsStatic}
 
 -- ---- columns that are held
@@ -51,10 +60,10 @@ no_damaged :
 no_damaged page cat table column place may (inl not) = not_both (may_stand cat (Cells table column) (in_slot page cat (Cells table column) place)) may not
 no_damaged page cat table column place may (inr out) = no_broken page cat table column place out
 
-pub no_damage :
+no_scan_damage :
     ColumnsGiveValues → (told : Bool) (page : ℕ → List ℕ) (cat : Catalog) (asked : Query) (top side : ℕ) (half : Half) (database : Database) (number slot found : ℕ) → IsTree cat.schema
-    → Knows told page cat database → IsDamaged told page cat asked top side half number slot found → ⊥
-no_damage columns told page cat asked top side half database number slot found tree knows (inl is) =
+    → Knows told page cat database → IsDamagedInScan told page cat asked top side half number slot found → ⊥
+no_scan_damage columns told page cat asked top side half database number slot found tree knows (inl is) =
     let cell = is.cell in
     let at = cell.stands knows.is_told in
     let has = columns page cat database tree knows.is knows.counts knows.holds.columns is.table is.column cell.hidden (cell.place + 1) (omega arith) (omega (arith, cell.within)) in
@@ -62,7 +71,43 @@ no_damage columns told page cat asked top side half database number slot found t
     no_damaged page cat is.table is.column cell.place
     (ap is_some (ap (λ place. spelled (kind_at cat.schema is.table is.column) (child_rows cat is.table is.column) (record_at page (column_file cat is.table is.column) place)) (sym same) ∙ has.on_pages))
     at.damaged
-no_damage columns told page cat asked top side half database number slot found tree knows (inr is) = not_both told knows.is_told is.row.untold
+no_scan_damage columns told page cat asked top side half database number slot found tree knows (inr is) = not_both told knows.is_told is.row.untold
+
+-- ---- by either plan
+
+-- pages that hold all files
+database_is : (told : Bool) (page : ℕ → List ℕ) (cat : Catalog) (database : Database) → KnowsBy plans.Pre told page cat database → IsOf cat database
+database_is told page cat database knows = record { limited = knows.1.limited; is = knows.0.is; counts = knows.0.counts }
+
+pub held_but_by :
+    ColumnsGiveValues → HeldFilesAreKnown → (by : Plan) (told : Bool) (page : ℕ → List ℕ) (cat : Catalog) (database : Database) → IsTree cat.schema
+    → KnowsBy by told page cat database → KnowsButBy by told page cat database
+held_but_by columns known plans.Scan told page cat database tree knows = held_but columns told page cat database tree knows
+held_but_by columns known plans.Pre told page cat database tree knows = (
+  held_but columns told page cat database tree knows.0,
+  record { right = page; are = known page cat database (database_is told page cat database knows) knows.1.files },
+)
+
+scan_known :
+    (told : Bool) (page : ℕ → List ℕ) (cat : Catalog) (database : Database) → told ≡ true → IsDatabase cat.schema database
+    → row_counts database ≡ cat.counts → HoldsFiles page cat (hidden_of cat.schema database) → Knows told page cat database
+scan_known told page cat database is_told is counts files =
+    record { is_told = is_told; is = is; counts = counts; holds = record { columns = files.columns; subtrees = files.subtrees } }
+
+pub held_known :
+    (by : Plan) (told : Bool) (page : ℕ → List ℕ) (cat : Catalog) (database : Database) → told ≡ true → IsDatabase cat.schema database
+    → row_counts database ≡ cat.counts → IsLimited cat → HoldsFiles page cat (hidden_of cat.schema database) → KnowsBy by told page cat database
+held_known plans.Scan told page cat database is_told is counts limited files = scan_known told page cat database is_told is counts files
+held_known plans.Pre told page cat database is_told is counts limited files =
+    (scan_known told page cat database is_told is counts files, record { limited = limited; files = files })
+
+pub no_damage :
+    ColumnsGiveValues → HeldFilesAreKnown → (by : Plan) (told : Bool) (page : ℕ → List ℕ) (cat : Catalog) (asked : Query) (top side : ℕ) (half : Half) (database : Database) (number slot found : ℕ)
+    → IsTree cat.schema → KnowsBy by told page cat database → IsDamaged by told page cat asked top side half number slot found → ⊥
+no_damage columns known plans.Scan told page cat asked top side half database number slot found tree knows is =
+    no_scan_damage columns told page cat asked top side half database number slot found tree knows is
+no_damage columns known plans.Pre told page cat asked top side half database number slot found tree knows is =
+    (is database (held_but_by columns known plans.Pre told page cat database tree knows)).never knows.1.files
 
 -- ---- static pages
 
@@ -89,7 +134,7 @@ slot_kept small order stand page now cat tree keeps table column place hidden wi
     record_kept page now (column_file cat table column) place
     (keeps (page_of (column_file cat table column) place) (slot_is_static small order stand cat tree table column place hidden within))
 
-pub columns_kept :
+columns_kept :
     LayoutIsSmall → FilesLieInOrder → RecordsStandWithin → (told : Bool) (page now : ℕ → List ℕ) (cat : Catalog) (database : Database) → IsTree cat.schema
     → KeepsStatic cat page now → KnowsBut told page cat database → KnowsBut told now cat database
 columns_kept small order stand told page now cat database tree keeps knows = record {
@@ -110,10 +155,10 @@ damaged_kept :
 damaged_kept page now cat table column place same (inl not) = inl (ap (may_stand cat (Cells table column)) same ∙ not)
 damaged_kept page now cat table column place same (inr out) = absurd (no_broken page cat table column place out)
 
-pub damage_kept :
+scan_damage_kept :
     LayoutIsSmall → FilesLieInOrder → RecordsStandWithin → (told : Bool) (page now : ℕ → List ℕ) (cat : Catalog) (asked : Query) (top side : ℕ) (half : Half) (number slot found : ℕ) → IsTree cat.schema
-    → KeepsStatic cat page now → IsDamaged told page cat asked top side half number slot found → IsDamaged told now cat asked top side half number slot found
-damage_kept small order stand told page now cat asked top side half number slot found tree keeps (inl is) =
+    → KeepsStatic cat page now → IsDamagedInScan told page cat asked top side half number slot found → IsDamagedInScan told now cat asked top side half number slot found
+scan_damage_kept small order stand told page now cat asked top side half number slot found tree keeps (inl is) =
     let cell = is.cell in
     let same = slot_kept small order stand page now cat tree keeps is.table is.column cell.place cell.hidden cell.within in
     inl (record {
@@ -142,7 +187,7 @@ damage_kept small order stand told page now cat asked top side half number slot 
             };
       };
     })
-damage_kept small order stand told page now cat asked top side half number slot found tree keeps (inr is) = inr is
+scan_damage_kept small order stand told page now cat asked top side half number slot found tree keeps (inr is) = inr is
 
 -- a run within the static pages stays
 run_static :
@@ -182,10 +227,10 @@ subtree_inside summed order cat table low some =
         → after ≤ last → end ≡ last → end ≤ static → first + pages ≤ static
     by begin columns subtree later after last end static first pages a b c d e f = omega (arith, a, b, c, d, e, f)
 
-pub files_kept :
+scan_files_kept :
     LayoutIsSmall → FilesLieInOrder → FilesLieAsSummed → RecordsStandWithin → (told : Bool) (page now : ℕ → List ℕ) (cat : Catalog) (database : Database) → IsTree cat.schema
     → KeepsStatic cat page now → Knows told page cat database → Knows told now cat database
-files_kept small order summed stand told page now cat database tree keeps knows = record {
+scan_files_kept small order summed stand told page now cat database tree keeps knows = record {
   is_told = knows.is_told;
   is = knows.is;
   counts = knows.counts;
@@ -204,3 +249,38 @@ files_kept small order summed stand told page now cat database tree keeps knows 
         (knows.holds.subtrees table low some);
   };
 }
+
+-- ---- what stays, by either plan
+
+pub columns_kept_by :
+    LayoutIsSmall → FilesLieInOrder → RecordsStandWithin → KnowledgeStays → (by : Plan) (told : Bool) (page now : ℕ → List ℕ) (cat : Catalog) (database : Database) → IsTree cat.schema
+    → KeepsStatic cat page now → KnowsButBy by told page cat database → KnowsButBy by told now cat database
+columns_kept_by small order stand stays plans.Scan told page now cat database tree keeps knows = columns_kept small order stand told page now cat database tree keeps knows
+columns_kept_by small order stand stays plans.Pre told page now cat database tree keeps knows = (
+  columns_kept small order stand told page now cat database tree keeps knows.0,
+  record { right = knows.1.right; are = stays.pages page now knows.1.right cat database keeps knows.1.are },
+)
+
+pub damage_kept :
+    LayoutIsSmall → FilesLieInOrder → RecordsStandWithin → KnowledgeStays → (by : Plan) (told : Bool) (page now : ℕ → List ℕ) (cat : Catalog) (asked : Query) (top side : ℕ) (half : Half) (number slot found : ℕ)
+    → IsTree cat.schema → KeepsStatic cat page now → IsDamaged by told page cat asked top side half number slot found → IsDamaged by told now cat asked top side half number slot found
+damage_kept small order stand stays plans.Scan told page now cat asked top side half number slot found tree keeps is =
+    scan_damage_kept small order stand told page now cat asked top side half number slot found tree keeps is
+damage_kept small order stand stays plans.Pre told page now cat asked top side half number slot found tree keeps is = λ database knows.
+    stays.bad page now cat database tree keeps number slot found
+    (is database (columns_kept_by small order stand stays plans.Pre told now page cat database tree (λ at low. sym (keeps at low)) knows))
+
+pub files_kept :
+    LayoutIsSmall → FilesLieInOrder → FilesLieAsSummed → RecordsStandWithin → HoldingsAreKept → (by : Plan) (told : Bool) (page now : ℕ → List ℕ) (cat : Catalog) (database : Database) → IsTree cat.schema
+    → KeepsStatic cat page now → KnowsBy by told page cat database → KnowsBy by told now cat database
+files_kept small order summed stand holdings plans.Scan told page now cat database tree keeps knows =
+    scan_files_kept small order summed stand told page now cat database tree keeps knows
+files_kept small order summed stand holdings plans.Pre told page now cat database tree keeps knows = (
+  scan_files_kept small order summed stand told page now cat database tree keeps knows.0,
+  record {
+    limited = knows.1.limited;
+    files = holdings.files page now cat (hidden_of cat.schema database) tree
+        (λ number from to. (let rounded : files_end cat ≤ static_end cat = (order cat).static in keeps number (omega (arith, to, rounded))))
+        knows.1.files;
+  },
+)

@@ -6,6 +6,7 @@ pub mod BlameLemmas
 pub mod LeaseLemmas
 pub mod StepLemmas
 pub mod ScanLemmas
+pub mod HalfLemmas
 pub mod SparedLemmas
 pub mod TurnLemmas
 pub mod LinkedLemmas
@@ -14,3 +15,11 @@ pub mod RoomLemmas
 pub mod SliceLemmas
 pub mod EndingLemmas
 pub mod SparedTextLemmas
+pub mod LeftLemmas
+pub mod WalkLemmas
+pub mod CandidateLemmas
+pub mod WalkingLemmas
+pub mod WalkLaws
+pub mod BeginLemmas
+pub mod GatherLemmas
+pub mod ByLemmas

@@ -1,24 +1,24 @@
 -- What stays of a text that is told where others use other pages and buffers.
-use Rattle.std.proofs.Common.{◌∙◌, ℕ, Bool, List, refl, arith}
+use Rattle.std.proofs.Common.{◌∙◌, ◌<◌, ℕ, Bool, List, refl, arith}
 use Rattle.ghost_model.specs.core.Channel.{Catalog}
 use Rattle.ghost_model.specs.core.Query.{Query}
-use Rattle.edge_traits.specs.Devices.{Device, KeepsPages}
-use Rattle.edge_traits.proofs.DeviceFrames.{same_trans, same_kept}
+use Rattle.edge_traits.specs.Devices.{Device}
+use Rattle.edge_traits.proofs.DeviceFrames.{same_trans}
 use Rattle.page_pool.specs.Pools.{Pool, AreOut}
 use Rattle.visible_spool.specs.declared.half.Half.{Half}
 use Rattle.visible_spool.specs.Sparing.{SparesHalf}
 use Rattle.key_lines.specs.Handing.{Handed}
 use Rattle.key_exec.specs.declared.job.Job.{Job}
 use Rattle.key_exec.specs.declared.job.Phase.{Phase}
-use Rattle.key_exec.specs.declared.job.Phase.TheVariants.{Begun, Scanning, Over}
+use Rattle.key_exec.specs.declared.job.Phase.TheVariants.{Begun, Scanning, Gathering, Walking, Over}
 use Rattle.key_exec.specs.Jobs as jobs
 use Rattle.key_exec.specs.Ready.{IsReady, IsAtPhase, Spares}
-use Rattle.key_exec.specs.Laws.{JobsStayReady, JobsStillStand, BuffersStayGiven, BuffersStayBlankOrRead}
-use Rattle.channel_pump.specs.declared.state.ReplyState.{ReplyState}
-use Rattle.key_exec.specs.Telling.{CanTell, NeedsIn, HasGiven, IsAtStage, IsUnderWay, leases_of, leases_in}
+use Rattle.leakless_plan.specs.declared.plan.Plan.{Plan}
+use Rattle.key_exec.specs.Reading.{KeepsBy}
+use Rattle.key_exec.specs.Laws.{JobStaysReady, JobStillStands, BuffersStayGiven, BuffersStayBlankOrRead}
+use Rattle.key_exec.specs.Telling.{CanTell, CanGoOn, NeedsIn, HasGiven, leases_of}
 use Rattle.key_exec.specs.declared.telling.Telling.{Telling}
-use Rattle.key_exec.specs.declared.telling.Stage.{Stage}
-use Rattle.key_exec.specs.declared.telling.Stage.TheVariants.{Refused, Broken, Marked, Answering}
+use Rattle.key_exec.proofs.HalfLemmas.{jobs_spare}
 use Rattle.key_exec.proofs.RoomLemmas.{room_spared, out_spared}
 
 pub spares_first : (cat : Catalog) (side : ℕ) (device : Device) → SparesHalf cat side device device
@@ -39,53 +39,51 @@ spares_on first second = record {
   gave = λ at page bytes gave. second.gave at page bytes (first.gave at page bytes gave);
 }
 
-pub spares_after : {cat : Catalog} {side : ℕ} {a b c : Device} → SparesHalf cat side a b → KeepsPages b c → SparesHalf cat side a c
-spares_after first kept = record {
-  page_count = kept.page_count ∙ first.page_count;
-  static = λ number within. same_trans (first.static number within) (same_kept kept number);
-  half = λ number from to. same_trans (first.half number from to) (same_kept kept number);
-  never_falls = omega (arith, first.never_falls, kept.never_falls);
-  gave = λ at page bytes gave. kept.gave at page bytes (first.gave at page bytes gave);
-}
+pub spares_after : (by : Plan) {cat : Catalog} {side : ℕ} {a b c : Device} → side < 2 → SparesHalf cat side a b → KeepsBy by cat b c → SparesHalf cat side a c
+spares_after by {cat = cat} {side = side} {b = b} {c = c} low first kept = spares_on first (jobs_spare by cat side b c low kept)
 
 -- the leases of a job that is ready are out
 pub out_ready : (cat : Catalog) (asked : Query) (side : ℕ) (told : Bool) (device : Device) (pool : Pool) (job : Job) → IsReady cat asked side told device pool job → AreOut pool (jobs.leases_of job)
-out_ready cat asked side told device pool job ready = by job.phase ready.at
+out_ready cat asked side told device pool job ready = at job.phase ready.at
   where
-    by : (phase : Phase) → IsAtPhase cat asked told device pool job.half job.plan job.rows job.given job.spent job.work phase → AreOut pool (jobs.leases_in phase)
-    by Begun at = tt
-    by (Scanning leases scan) at = at.1.usable.out
-    by Over at = tt
+    at : (phase : Phase) → IsAtPhase job.by cat asked side told device pool job.half job.plan job.rows job.left job.given job.spent job.work phase → AreOut pool (jobs.leases_in phase)
+    at Begun is = tt
+    at (Scanning leases scan) is = is.1.1.usable.out
+    at (Gathering gathering) is = is.1.is.buffers.out
+    at (Walking leases merge scan) is = is.1.0.out
+    at Over is = tt
 
-module _ (told : Bool) (cat : Catalog) (side : ℕ) (before now : Device) (pool later : Pool) (ready : JobsStayReady) where
-  needs_spared : (stage : Stage) → Spares cat side before now pool later (leases_in stage) → NeedsIn told cat side before pool stage → NeedsIn told cat side now later stage
-  needs_spared (Refused refusal) spares needs = tt
-  needs_spared (Broken state) spares needs = tt
-  needs_spared Marked spares needs = tt
-  needs_spared (Answering job) spares needs = record {
-    asked = needs.asked;
-    ready = ready cat needs.asked side told before now pool later job spares needs.ready;
-    going = needs.going;
-  }
-
-  pub able : (telling : Telling) → Spares cat side before now pool later (leases_of telling) → CanTell told cat side before pool telling → CanTell told cat side now later telling
-  able telling spares can = record {
-    needs = needs_spared telling.stage spares can.needs;
+-- a text that is told may go on
+module _ (by : Plan) (told : Bool) (cat : Catalog) (side : ℕ) (before now : Device) (pool later : Pool) where
+  pub able : (telling : Telling) → (needs : NeedsIn by told cat side before pool telling.stage → NeedsIn by told cat side now later telling.stage)
+      → Spares cat side before now pool later (leases_of telling) → CanTell by told cat side before pool telling → CanTell by told cat side now later telling
+  able telling needs spares can = record {
+    needs = needs can.needs;
     out = out_spared pool later (leases_of telling) spares.out can.out;
     room = room_spared pool later (leases_of telling) spares.out can.room;
   }
 
-  module _ (stand : JobsStillStand) (blank : BuffersStayBlankOrRead) (reads : BuffersStayGiven) (text : List ℕ) (state : ReplyState) (is_marked : Bool) (half : Half) (start : Device) (first last : Handed) where
-    given_spared : (job : Job) → Spares cat side before now pool later (jobs.leases_of job) → HasGiven told cat side text half start before first last pool job
-        → HasGiven told cat side text half start now first last later job
-    given_spared job spares has = record {
+  pub job_able : (job : Job) → JobStaysReady job → Spares cat side before now pool later (jobs.leases_of job) → CanGoOn by told cat side before pool job
+      → CanGoOn by told cat side now later job
+  job_able job ready spares needs = record {
+    by_is = needs.by_is;
+    asked = needs.asked;
+    ready = ready cat needs.asked side told before now pool later spares needs.ready;
+    going = needs.going;
+  }
+
+  module _ (blank : BuffersStayBlankOrRead) (reads : BuffersStayGiven) (text : List ℕ) (half : Half) (start : Device) (first last : Handed) where
+    pub given_spared : (job : Job) → JobStaysReady job → JobStillStands job → Spares cat side before now pool later (jobs.leases_of job)
+        → HasGiven by told cat side text half start before first last pool job → HasGiven by told cat side text half start now first last later job
+    given_spared job ready stand spares has = record {
       asked = has.asked;
       read = has.read;
       tree = has.tree;
+      by_is = has.by_is;
       half_is = has.half_is;
-      ready = ready cat has.asked side told before now pool later job spares has.ready;
-      blank = blank cat side before now pool later (jobs.leases_of job) start.calls spares has.blank;
-      reads = reads cat side before now pool later (jobs.leases_of job) start.calls spares has.reads;
+      ready = ready cat has.asked side told before now pool later spares has.ready;
+      blank = λ scan. blank cat side before now pool later (jobs.leases_of job) start.calls spares (has.blank scan);
+      reads = λ scan. reads cat side before now pool later (jobs.leases_of job) start.calls spares (has.reads scan);
       given = has.given;
       handed_on = has.handed_on;
       counted = has.counted;
@@ -93,20 +91,6 @@ module _ (told : Bool) (cat : Catalog) (side : ℕ) (before now : Device) (pool 
           let were = has.left database replies knows in
           record {
             answer = were.answer;
-            stands = stand cat has.asked side told before now pool job database replies spares.device has.ready were.stands;
+            stands = stand cat has.asked side told before now pool later database replies spares has.ready were.stands;
           };
-    }
-
-    stage_spared : (stage : Stage) → Spares cat side before now pool later (leases_in stage) → IsAtStage told cat side text state is_marked half start before first last pool stage
-        → IsAtStage told cat side text state is_marked half start now first last later stage
-    stage_spared (Refused refusal) spares at = at
-    stage_spared (Broken by) spares at = at
-    stage_spared Marked spares at = at
-    stage_spared (Answering job) spares at = (at.0, given_spared job spares at.1)
-
-    pub under_way : (telling : Telling) → Spares cat side before now pool later (leases_of telling) → IsUnderWay told cat side text state is_marked half start before first last pool telling
-        → IsUnderWay told cat side text state is_marked half start now first last later telling
-    under_way telling spares under = record {
-      kept = spares_on under.kept spares.device;
-      at = stage_spared telling.stage spares under.at;
     }

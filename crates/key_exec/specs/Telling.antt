@@ -12,7 +12,7 @@ use Rattle.ghost_model.specs.core.Replies.{Reply, answer_from}
 use Rattle.ghost_model.specs.core.Printed.{row_line, answer_lines, word_line, refusal_line}
 use Rattle.ghost_model.specs.refusals.QueryMeaning.{Refusal}
 use Rattle.ghost_model.specs.laws.SchemaTrees.{IsTree}
-use Rattle.edge_traits.specs.Devices.{Device}
+use Rattle.edge_traits.specs.Devices.{Device, Counts}
 use Rattle.page_pool.specs.Pools.{Pool, AreOut, others_out}
 use Rattle.spj_parse.specs.Resolved.{IsMeant}
 use Rattle.spj_parse.specs.Views.{refusal_of}
@@ -22,8 +22,10 @@ use Rattle.key_lines.specs.Handing.{Handed, Hands}
 use Rattle.candidate_rows.specs.Rows.{HoldsReplies}
 use Rattle.key_exec.specs.declared.job.Job.{Job}
 use Rattle.key_exec.specs.Jobs as jobs
-use Rattle.key_exec.specs.Jobs.{is_over, rows_left}
-use Rattle.key_exec.specs.Reading.{KnowsBut, AreOfAsked, AreAllAsked}
+use Rattle.key_exec.specs.Jobs.{ForScan, is_over, rows_left}
+use Rattle.leakless_plan.specs.declared.plan.Plan.{Plan}
+use Rattle.leakless_plan.specs.declared.plan.Plan.TheVariants as plan
+use Rattle.key_exec.specs.Reading.{KnowsButBy, AreOfAsked, AreAllAsked, AreOfRows}
 use Rattle.candidate_rows.specs.Steps.{AreBlankOrRead, WereGiven}
 use Rattle.key_exec.specs.Ready.{IsReady, Stands}
 use Rattle.channel_pump.specs.declared.state.ReplyState.{ReplyState}
@@ -69,6 +71,18 @@ spent_of telling = spent_in telling.stage
 abbrev pub answering : (number : ℕ) → Job → Telling
 answering number job = record { number = number; stage = Answering job }
 
+-- so many calls were made in a step; by the indexes that is said where the flash did not fail
+abbrev pub ToldCounts : Plan → (more before now : ℕ) → Option Told → Type 0
+ToldCounts by more before now None = Counts more before now
+ToldCounts by more before now (Some told.Refused) = Counts more before now
+ToldCounts by more before now (Some told.Answered) = Counts more before now
+ToldCounts by more before now (Some told.Host) = Counts more before now
+ToldCounts by more before now (Some told.Link) = Counts more before now
+ToldCounts by more before now (Some told.Protocol) = Counts more before now
+ToldCounts by more before now (Some told.Marked) = Counts more before now
+ToldCounts by more before now (Some told.Flash) = ForScan by (Counts more before now)
+ToldCounts by more before now (Some (told.Damaged damage)) = Counts more before now
+
 -- ---- what it needs
 
 -- beside these leases two buffers are out at most, and there are as many as a pool has at least
@@ -76,81 +90,86 @@ pub record HasRoom (leases : List ℕ) (pool : Pool) : Type 0 where
   pub enough : 8 ≤ length pool.pages
   pub free : length pool.pages ≤ count_by not (others_out pool leases) + 2
 
--- a job goes on
-pub record CanGoOn (told : Bool) (cat : Catalog) (side : ℕ) (device : Device) (pool : Pool) (job : Job) : Type 0 where
+-- a job by a plan goes on
+pub record CanGoOn (by : Plan) (told : Bool) (cat : Catalog) (side : ℕ) (device : Device) (pool : Pool) (job : Job) : Type 0 where
+  pub by_is : job.by ≡ by
   pub asked : Query
   pub ready : IsReady cat asked side told device pool job
   pub going : is_over job ≡ false
 
-abbrev pub NeedsIn : (told : Bool) → Catalog → (side : ℕ) → Device → Pool → Stage → Type 0
-NeedsIn told cat side device pool (Refused refusal) = ⊤
-NeedsIn told cat side device pool (Broken state) = ⊤
-NeedsIn told cat side device pool Marked = ⊤
-NeedsIn told cat side device pool (Answering job) = CanGoOn told cat side device pool job
+abbrev pub NeedsIn : Plan → (told : Bool) → Catalog → (side : ℕ) → Device → Pool → Stage → Type 0
+NeedsIn by told cat side device pool (Refused refusal) = ⊤
+NeedsIn by told cat side device pool (Broken state) = ⊤
+NeedsIn by told cat side device pool Marked = ⊤
+NeedsIn by told cat side device pool (Answering job) = CanGoOn by told cat side device pool job
 
--- over a catalog, with replies in one half of the spool
-pub record CanTell (told : Bool) (cat : Catalog) (side : ℕ) (device : Device) (pool : Pool) (telling : Telling) : Type 0 where
-  pub needs : NeedsIn told cat side device pool telling.stage
+-- by a plan over a catalog, with replies in one half of the spool
+pub record CanTell (by : Plan) (told : Bool) (cat : Catalog) (side : ℕ) (device : Device) (pool : Pool) (telling : Telling) : Type 0 where
+  pub needs : NeedsIn by told cat side device pool telling.stage
   pub out : AreOut pool (leases_of telling)
   pub room : HasRoom (leases_of telling) pool
 
--- over some catalog, with replies in some half
+-- by some plan over some catalog, with replies in some half
 pub record CanTellSomewhere (told : Bool) (device : Device) (pool : Pool) (telling : Telling) : Type 0 where
+  pub by : Plan
   pub cat : Catalog
   pub side : ℕ
-  pub can : CanTell told cat side device pool telling
+  pub can : CanTell by told cat side device pool telling
 
 -- ---- what it stands for
 
--- a half holds the replies to the asks of a query: one about each table that it asks for, and about no other
-pub record AreRepliesTo (page : ℕ → List ℕ) (schema : Schema) (asked : Query) (half : Half) (replies : List Reply) : Type 0 where
-  pub held : HoldsReplies page schema asked half replies
-  pub of_asked : AreOfAsked schema asked replies
-  pub all_asked : AreAllAsked schema asked replies
+-- a half holds the replies to the asks of a query: one about each table that it asks for, and about no other, with rows of that table
+pub record AreRepliesTo (page : ℕ → List ℕ) (cat : Catalog) (asked : Query) (half : Half) (replies : List Reply) : Type 0 where
+  pub held : HoldsReplies page cat.schema asked half replies
+  pub of_asked : AreOfAsked cat.schema asked replies
+  pub all_asked : AreAllAsked cat.schema asked replies
+  pub of_rows : AreOfRows cat replies
 
 abbrev pub AreRepliesOf : (page : ℕ → List ℕ) → Catalog → (text : List ℕ) → Half → List Reply → Type 0
-AreRepliesOf page cat text half replies = (asked : Query) → reading cat.schema text ≡ Ok asked → AreRepliesTo page cat.schema asked half replies
+AreRepliesOf page cat text half replies = (asked : Query) → reading cat.schema text ≡ Ok asked → AreRepliesTo page cat asked half replies
 
--- the pages are those of a database, but for slots that spell no value, and the half holds the replies to the text's asks
-pub record KnowsText (pages_told : Bool) (page : ℕ → List ℕ) (cat : Catalog) (text : List ℕ) (half : Half) (replies : List Reply) (database : Database) : Type 0 where
-  pub pages : KnowsBut pages_told page cat database
+-- the pages are those of a database, but for slots that may not stand as they do, and the half holds the replies to the text's asks
+pub record KnowsText (by : Plan) (pages_told : Bool) (page : ℕ → List ℕ) (cat : Catalog) (text : List ℕ) (half : Half) (replies : List Reply) (database : Database) : Type 0 where
+  pub pages : KnowsButBy by pages_told page cat database
   pub of_text : AreRepliesOf page cat text half replies
 
 -- these rows were given, and those that are left come behind them in the answer
-pub record AreLeft (cat : Catalog) (asked meant : Query) (replies : List Reply) (page : ℕ → List ℕ) (given : List Row) (job : Job) (database : Database) : Type 0 where
+pub record AreLeft (cat : Catalog) (asked meant : Query) (replies : List Reply) (pages_told : Bool) (page : ℕ → List ℕ) (pool : Pool) (given : List Row) (job : Job) (database : Database) : Type 0 where
   pub answer : answer_from cat.schema (hidden_of cat.schema database) meant replies ≡ given ++ rows_left cat asked database replies job
-  pub stands : Stands cat asked database replies page job
+  pub stands : Stands cat asked database replies pages_told page pool job
 
 -- some rows were given, whatever the pages hold; where they hold a database, from the front of the text's answer
-pub record HasGiven (pages_told : Bool) (cat : Catalog) (side : ℕ) (text : List ℕ) (half : Half) (start device : Device) (before now : Handed) (pool : Pool) (job : Job) : Type 0 where
+pub record HasGiven (by : Plan) (pages_told : Bool) (cat : Catalog) (side : ℕ) (text : List ℕ) (half : Half) (start device : Device) (before now : Handed) (pool : Pool) (job : Job) : Type 0 where
   pub asked : Query
   pub read : IsMeant cat.schema text asked
   pub tree : IsTree cat.schema
+  pub by_is : job.by ≡ by
   pub half_is : job.half ≡ half
   pub ready : IsReady cat asked side pages_told device pool job
-  pub blank : AreBlankOrRead start.calls device.calls pool (jobs.leases_of job)
-  pub reads : WereGiven start.calls device pool (jobs.leases_of job)
+  -- where all rows are looked at, what its buffers hold was read since
+  pub blank : by ≡ plan.Scan → AreBlankOrRead start.calls device.calls pool (jobs.leases_of job)
+  pub reads : by ≡ plan.Scan → WereGiven start.calls device pool (jobs.leases_of job)
   pub given : List Row
   pub handed_on : Hands (concat (map row_line given)) before now
   pub counted : job.given ≡ length given
-  pub left : (database : Database) (replies : List Reply) → KnowsText pages_told start.page cat text half replies database
-      → AreLeft cat asked read.meant replies device.page given job database
+  pub left : (database : Database) (replies : List Reply) → KnowsText by pages_told start.page cat text half replies database
+      → AreLeft cat asked read.meant replies pages_told device.page pool given job database
 
-abbrev pub IsAtStage : (pages_told : Bool) (cat : Catalog) (side : ℕ) (text : List ℕ) → ReplyState → (is_marked : Bool) → Half → (start device : Device) (before now : Handed) → Pool → Stage → Type 0
-IsAtStage pages_told cat side text state is_marked half start device before now pool (Refused refusal) =
+abbrev pub IsAtStage : Plan → (pages_told : Bool) (cat : Catalog) (side : ℕ) (text : List ℕ) → ReplyState → (is_marked : Bool) → Half → (start device : Device) (before now : Handed) → Pool → Stage → Type 0
+IsAtStage by pages_told cat side text state is_marked half start device before now pool (Refused refusal) =
     (reading cat.schema text ≡ Err (refusal_of refusal)) × (now ≡ before)
-IsAtStage pages_told cat side text state is_marked half start device before now pool (Broken by) =
-    IsAccepted cat.schema text (state ≡ state_is.Done → ⊥) × ((by ≡ state) × (now ≡ before))
-IsAtStage pages_told cat side text state is_marked half start device before now pool Marked =
+IsAtStage by pages_told cat side text state is_marked half start device before now pool (Broken one) =
+    IsAccepted cat.schema text (state ≡ state_is.Done → ⊥) × ((one ≡ state) × (now ≡ before))
+IsAtStage by pages_told cat side text state is_marked half start device before now pool Marked =
     IsAccepted cat.schema text (IsDone state is_marked true) × (now ≡ before)
-IsAtStage pages_told cat side text state is_marked half start device before now pool (Answering job) =
-    IsDone state is_marked false × HasGiven pages_told cat side text half start device before now pool job
+IsAtStage by pages_told cat side text state is_marked half start device before now pool (Answering job) =
+    IsDone state is_marked false × HasGiven by pages_told cat side text half start device before now pool job
 
--- A text is told by the replies in a half, since the flash and the sink were as at the first. It stays so as long as the pages of
+-- A text is told by a plan and by the replies in a half, since the flash and the sink were as at the first. It stays so as long as the pages of
 -- that half, those of the catalog's columns and the buffers of its leases stay as they are.
-pub record IsUnderWay (pages_told : Bool) (cat : Catalog) (side : ℕ) (text : List ℕ) (state : ReplyState) (is_marked : Bool) (half : Half) (start device : Device) (before now : Handed) (pool : Pool) (telling : Telling) : Type 0 where
+pub record IsUnderWay (by : Plan) (pages_told : Bool) (cat : Catalog) (side : ℕ) (text : List ℕ) (state : ReplyState) (is_marked : Bool) (half : Half) (start device : Device) (before now : Handed) (pool : Pool) (telling : Telling) : Type 0 where
   pub kept : SparesHalf cat side start device
-  pub at : IsAtStage pages_told cat side text state is_marked half start device before now pool telling.stage
+  pub at : IsAtStage by pages_told cat side text state is_marked half start device before now pool telling.stage
 
 -- ---- what it told
 
@@ -178,23 +197,33 @@ AreLinesOf schema number text lines told.Marked = lines ≡ broken_line number (
 AreLinesOf schema number text lines told.Flash = AreCutLines number (codes "flash") lines
 AreLinesOf schema number text lines (told.Damaged damage) = AreCutLines number (codes "damaged") lines
 
+-- The half has the replies to the asks of a text, all of which came to their end, where pages are told: what has to be so, by the
+-- indexes, where a slot is blamed.
+pub record HasReplies (page : ℕ → List ℕ) (cat : Catalog) (text : List ℕ) (half : Half) : Type 0 where
+  pub replies : List Reply
+  pub are : AreRepliesOf page cat text half replies
+
+abbrev pub AreThere : Plan → (pages_told : Bool) (page : ℕ → List ℕ) → Catalog → (text : List ℕ) → ReplyState → (is_marked : Bool) → Half → Type 0
+AreThere plan.Scan pages_told page cat text state is_marked half = ⊤
+AreThere plan.Pre pages_told page cat text state is_marked half = IsDone state is_marked false → pages_told ≡ true → HasReplies page cat text half
+
 -- The text was told to its end, since the flash and the sink were as at the first. Where the pages are those of a database, but
--- for slots that spell no value, its lines are of its answer over it.
-pub record HasTold (pages_told : Bool) (cat : Catalog) (side number : ℕ) (text : List ℕ) (state : ReplyState) (is_marked : Bool) (half : Half) (start device : Device) (before now : Handed) (result : Told) : Type 0 where
-  pub called : ToldCalls start.calls device.calls result
-  pub blames : ToldBlames pages_told start.page cat text side half result
-  pub read : ToldReads pages_told start.calls device cat text side half result
-  pub by : IsToldBy cat.schema text state is_marked result
+-- for slots that may not stand as they do, its lines are of its answer over it.
+pub record HasTold (by : Plan) (pages_told : Bool) (cat : Catalog) (side number : ℕ) (text : List ℕ) (state : ReplyState) (is_marked : Bool) (half : Half) (start device : Device) (before now : Handed) (result : Told) : Type 0 where
+  pub called : ToldCalls by start.calls device.calls result
+  pub blames : AreThere by pages_told start.page cat text state is_marked half → ToldBlames by pages_told start.page cat text side half result
+  pub read : ToldReads by pages_told start.calls device cat text side half result
+  pub told_by : IsToldBy cat.schema text state is_marked result
   pub lines : List (List ℕ)
   pub handed_on : Hands (concat lines) before now
   pub are : AreLinesOf cat.schema number text lines result
-  pub why : (database : Database) (replies : List Reply) → KnowsBut pages_told start.page cat database
+  pub why : (database : Database) (replies : List Reply) → KnowsButBy by pages_told start.page cat database
       → (IsDone state is_marked false → AreRepliesOf start.page cat text half replies)
       → Why cat.schema (hidden_of cat.schema database) replies number text state lines result
 
 -- after a step a text that is answered is under way as before, or it was told
-abbrev pub GoesOn : (pages_told : Bool) (cat : Catalog) (side : ℕ) (text : List ℕ) → ReplyState → (is_marked : Bool) → Half → (start device : Device) (before now : Handed) → Pool → Telling → Option Told → Type 0
-GoesOn pages_told cat side text state is_marked half start device before now pool telling None =
-    IsAccepted cat.schema text (IsDone state is_marked false) × IsUnderWay pages_told cat side text state is_marked half start device before now pool telling
-GoesOn pages_told cat side text state is_marked half start device before now pool telling (Some result) =
-    HasTold pages_told cat side telling.number text state is_marked half start device before now result
+abbrev pub GoesOn : Plan → (pages_told : Bool) (cat : Catalog) (side : ℕ) (text : List ℕ) → ReplyState → (is_marked : Bool) → Half → (start device : Device) (before now : Handed) → Pool → Telling → Option Told → Type 0
+GoesOn by pages_told cat side text state is_marked half start device before now pool telling None =
+    IsAccepted cat.schema text (IsDone state is_marked false) × IsUnderWay by pages_told cat side text state is_marked half start device before now pool telling
+GoesOn by pages_told cat side text state is_marked half start device before now pool telling (Some result) =
+    HasTold by pages_told cat side telling.number text state is_marked half start device before now result

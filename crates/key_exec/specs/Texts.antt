@@ -13,6 +13,8 @@ use Rattle.ghost_model.specs.core.Replies.{Reply, answer_from}
 use Rattle.ghost_model.specs.core.Printed.{row_line, answer_lines, word_line, refusal_line}
 use Rattle.edge_traits.specs.Devices.{Device}
 use Rattle.visible_spool.specs.declared.half.Half.{Half}
+use Rattle.leakless_plan.specs.declared.plan.Plan.{Plan}
+use Rattle.key_exec.specs.Jobs.{ForScan}
 use Rattle.key_exec.specs.Blaming.{IsDamaged, WasDamaged}
 use Rattle.key_lines.specs.Handing.{Handed, Hands}
 use Rattle.channel_pump.specs.declared.state.ReplyState.{ReplyState}
@@ -96,16 +98,16 @@ abbrev pub StepTells : (before now : ℕ) → Option Told → Type 0
 StepTells before now None = now ≡ before
 StepTells before now (Some result) = ToldTells before now result
 
--- a flash that failed a step, or whose slot is blamed, was called
-abbrev pub ToldCalls : (before now : ℕ) → Told → Type 0
-ToldCalls before now told.Refused = ⊤
-ToldCalls before now told.Answered = ⊤
-ToldCalls before now told.Host = ⊤
-ToldCalls before now told.Link = ⊤
-ToldCalls before now told.Protocol = ⊤
-ToldCalls before now told.Marked = ⊤
-ToldCalls before now told.Flash = Rose before now
-ToldCalls before now (told.Damaged damage) = Rose before now
+-- a flash that failed a step, or whose slot is blamed, was called, where all rows are looked at
+abbrev pub ToldCalls : Plan → (before now : ℕ) → Told → Type 0
+ToldCalls by before now told.Refused = ⊤
+ToldCalls by before now told.Answered = ⊤
+ToldCalls by before now told.Host = ⊤
+ToldCalls by before now told.Link = ⊤
+ToldCalls by before now told.Protocol = ⊤
+ToldCalls by before now told.Marked = ⊤
+ToldCalls by before now told.Flash = ForScan by (Rose before now)
+ToldCalls by before now (told.Damaged damage) = ForScan by (Rose before now)
 
 -- why a text is told so, whatever the pages of the flash hold: its reading, and the state of its replies
 pub record IsRefusedText (schema : Schema) (text : List ℕ) : Type 0 where
@@ -139,33 +141,34 @@ pub record IsSoOfQuery (schema : Schema) (text : List ℕ) (IsSo : Query → (to
   pub top_is : top_of schema query ≡ Some top
   pub is : IsSo query top
 
--- a slot that is blamed for a text, with its replies in one half of the spool, is one that is read for its query
-abbrev pub IsDamagedFor : (pages_told : Bool) (page : ℕ → List ℕ) → Catalog → (text : List ℕ) → (side : ℕ) → Half → (number slot found : ℕ) → Type 0
-IsDamagedFor pages_told page catalog text side half number slot found =
-    IsSoOfQuery catalog.schema text (λ query top. IsDamaged pages_told page catalog query top side half number slot found)
+-- a slot that is blamed for a text by a plan, with its replies in one half of the spool: where all rows are looked at it is one that is
+-- read for its query
+abbrev pub IsDamagedFor : Plan → (pages_told : Bool) (page : ℕ → List ℕ) → Catalog → (text : List ℕ) → (side : ℕ) → Half → (number slot found : ℕ) → Type 0
+IsDamagedFor by pages_told page catalog text side half number slot found =
+    IsSoOfQuery catalog.schema text (λ query top. IsDamaged by pages_told page catalog query top side half number slot found)
 
-abbrev pub WasDamagedFor : (pages_told : Bool) (since : ℕ) → Device → Catalog → (text : List ℕ) → (side : ℕ) → Half → (number slot found : ℕ) → Type 0
-WasDamagedFor pages_told since device catalog text side half number slot found =
-    IsSoOfQuery catalog.schema text (λ query top. WasDamaged pages_told since device catalog query top side half number slot found)
+abbrev pub WasDamagedFor : Plan → (pages_told : Bool) (since : ℕ) → Device → Catalog → (text : List ℕ) → (side : ℕ) → Half → (number slot found : ℕ) → Type 0
+WasDamagedFor by pages_told since device catalog text side half number slot found =
+    IsSoOfQuery catalog.schema text (λ query top. WasDamaged by pages_told since device catalog query top side half number slot found)
 
--- a slot that is blamed has bytes that may not stand in it, whatever the pages hold
-abbrev pub ToldBlames : (pages_told : Bool) (page : ℕ → List ℕ) → Catalog → (text : List ℕ) → (side : ℕ) → Half → Told → Type 0
-ToldBlames pages_told page catalog text side half told.Refused = ⊤
-ToldBlames pages_told page catalog text side half told.Answered = ⊤
-ToldBlames pages_told page catalog text side half told.Host = ⊤
-ToldBlames pages_told page catalog text side half told.Link = ⊤
-ToldBlames pages_told page catalog text side half told.Protocol = ⊤
-ToldBlames pages_told page catalog text side half told.Marked = ⊤
-ToldBlames pages_told page catalog text side half told.Flash = ⊤
-ToldBlames pages_told page catalog text side half (told.Damaged damage) = IsDamagedFor pages_told page catalog text side half damage.page damage.slot damage.found
+-- a slot that is blamed has bytes that may not stand in it: where all rows are looked at, whatever the pages hold
+abbrev pub ToldBlames : Plan → (pages_told : Bool) (page : ℕ → List ℕ) → Catalog → (text : List ℕ) → (side : ℕ) → Half → Told → Type 0
+ToldBlames by pages_told page catalog text side half told.Refused = ⊤
+ToldBlames by pages_told page catalog text side half told.Answered = ⊤
+ToldBlames by pages_told page catalog text side half told.Host = ⊤
+ToldBlames by pages_told page catalog text side half told.Link = ⊤
+ToldBlames by pages_told page catalog text side half told.Protocol = ⊤
+ToldBlames by pages_told page catalog text side half told.Marked = ⊤
+ToldBlames by pages_told page catalog text side half told.Flash = ⊤
+ToldBlames by pages_told page catalog text side half (told.Damaged damage) = IsDamagedFor by pages_told page catalog text side half damage.page damage.slot damage.found
 
 -- a slot that is blamed has bytes that a read gave, from so many calls on
-abbrev pub ToldReads : (pages_told : Bool) (since : ℕ) → Device → Catalog → (text : List ℕ) → (side : ℕ) → Half → Told → Type 0
-ToldReads pages_told since device catalog text side half told.Refused = ⊤
-ToldReads pages_told since device catalog text side half told.Answered = ⊤
-ToldReads pages_told since device catalog text side half told.Host = ⊤
-ToldReads pages_told since device catalog text side half told.Link = ⊤
-ToldReads pages_told since device catalog text side half told.Protocol = ⊤
-ToldReads pages_told since device catalog text side half told.Marked = ⊤
-ToldReads pages_told since device catalog text side half told.Flash = ⊤
-ToldReads pages_told since device catalog text side half (told.Damaged damage) = WasDamagedFor pages_told since device catalog text side half damage.page damage.slot damage.found
+abbrev pub ToldReads : Plan → (pages_told : Bool) (since : ℕ) → Device → Catalog → (text : List ℕ) → (side : ℕ) → Half → Told → Type 0
+ToldReads by pages_told since device catalog text side half told.Refused = ⊤
+ToldReads by pages_told since device catalog text side half told.Answered = ⊤
+ToldReads by pages_told since device catalog text side half told.Host = ⊤
+ToldReads by pages_told since device catalog text side half told.Link = ⊤
+ToldReads by pages_told since device catalog text side half told.Protocol = ⊤
+ToldReads by pages_told since device catalog text side half told.Marked = ⊤
+ToldReads by pages_told since device catalog text side half told.Flash = ⊤
+ToldReads by pages_told since device catalog text side half (told.Damaged damage) = WasDamagedFor by pages_told since device catalog text side half damage.page damage.slot damage.found

@@ -1,6 +1,6 @@
 //! Laws of jobs and of texts that are told, which need no code.
 
-ghost use Rattle.key_exec.specs.Laws.{WholeRepliesAreOfAsked, WholeRepliesAreOfAll, KnowledgeIsEnough, DamageIsNeverMet, PagesStayKnown, PagesStayKnownBut, DamageStays, KnowledgeIsSpared, JobsStayReady, JobsStillStand, BuffersStayGiven, BuffersStayBlankOrRead, TellingsStayAble, TellingsAreSpared};
+ghost use Rattle.key_exec.specs.Laws.{WholeRepliesAreOfAsked, WholeRepliesAreOfAll, KnowledgeIsEnough, HeldPagesAreKnown, DamageIsNeverMet, PagesStayKnown, PagesStayKnownBut, DamageStays, KnowledgeIsSpared, BuffersStayGiven, BuffersStayBlankOrRead, OthersSpareHalves, JobsSpareHalves, ReadersKeep, KeptStays, FewStepsAreLeft};
 
 /// One reply to each ask of a query is about asked tables alone, and about all of them.
 pub fn whole_replies_are_of_asked()
@@ -11,18 +11,25 @@ pub fn whole_replies_are_of_asked()
     candidate_rows::laws::whole_replies_are_all();
 }
 
-/// Pages that hold the hidden columns hold them but for damaged slots.
+/// Pages that hold the hidden columns hold them but for damaged slots, and those that hold all static files hold these so as well.
 pub fn knowledge_is_enough()
     ensures enough { KnowledgeIsEnough }
 {
     hidden_columns::laws::columns_give_values();
+    candidate_knowledge::laws::held_files_are_known();
 }
 
-/// Where pages hold the hidden columns no slot is damaged.
+/// Pages that hold all static files are enough for each plan.
+pub fn held_pages_are_known()
+    ensures known { HeldPagesAreKnown }
+{}
+
+/// Where pages hold the hidden columns no slot is damaged in a scan, and where they hold all static files none is by the indexes.
 pub fn damage_is_never_met()
     ensures never { DamageIsNeverMet }
 {
     hidden_columns::laws::columns_give_values();
+    candidate_knowledge::laws::held_files_are_known();
 }
 
 /// What is known of the static pages stays so where they are as they were.
@@ -35,6 +42,8 @@ pub fn knowledge_stays()
     ghost_model::layout::files_lie_in_order();
     ghost_model::layout::files_lie_as_summed();
     ghost_model::layout::records_stand_within();
+    ghost_model::flash::holdings_are_kept();
+    candidate_knowledge::laws::knowledge_stays();
 }
 
 /// What is known with a query and its replies stays so where the static pages and the half of the replies are spared.
@@ -45,22 +54,29 @@ pub fn knowledge_is_spared()
     visible_spool::laws::spared_halves_stay();
 }
 
-/// A job goes on as before where the static pages, the half of its replies and its buffers are spared.
-pub fn jobs_are_spared()
-    ensures ready { JobsStayReady }
-    ensures stands { JobsStillStand }
+/// Buffers of a job have what they had where others write only the other half of the spool, and use others.
+pub fn buffers_are_spared()
     ensures given { BuffersStayGiven }
     ensures blank { BuffersStayBlankOrRead }
 {
-    visible_spool::laws::spared_halves_stay();
     visible_spool::laws::jobs_keep_their_buffers();
-    candidate_rows::laws::work_is_spared();
 }
 
-/// A text that is told stays so where others use other pages and buffers.
-pub fn tellings_are_spared()
-    ensures able { TellingsStayAble }
-    ensures under_way { TellingsAreSpared }
+/// What writes only to the other half of the spool spares a half, and what a job writes spares both.
+pub fn halves_are_spared()
+    ensures others { OthersSpareHalves }
+    ensures jobs { JobsSpareHalves }
+{}
+
+/// A job may leave what reads alone leave, and one slice after another leave what one may.
+pub fn what_jobs_keep_adds_up()
+    ensures readers { ReadersKeep }
+    ensures stays { KeptStays }
 {
-    jobs_are_spared();
+    ghost_model::layout::layout_is_small();
 }
+
+/// A text goes on for 2 ^ 56 steps at most.
+pub fn few_steps_are_left()
+    ensures few { FewStepsAreLeft }
+{}

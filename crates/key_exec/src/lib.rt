@@ -1,9 +1,11 @@
-//! The answer of a query by the key, row by row of its top table, from the hidden columns and the replies, which stand on the flash;
-//! and the lines of one text of a session.
+//! The answer of a query by the key, row by row of its top table, from the hidden columns, their indexes and the replies, which stand
+//! on the flash; and the lines of one text of a session.
 //!
 //! A row of the top table leads along the foreign keys, which are hidden, to one row of each table below. It is printed
-//! where the row of each asked table stands in its reply and each condition on a hidden column or an identifier holds. No
-//! call here takes memory. `docs/SESSION.md` states the rules.
+//! where the row of each asked table stands in its reply and each condition on a hidden column or an identifier holds. By the plan
+//! that scans each row of the top table is looked at. By the one that goes by the indexes the rows that meet the key's conditions
+//! and stand in the replies that conditions were sent for are gathered first, in scratch behind the spool, and these alone are
+//! looked at. No call here takes memory. `docs/SESSION.md` states the rules.
 //!
 //! A refused text has the line of its refusal, a text whose asks did not all come to their end the line of what ended them,
 //! a text whose replies could not be written that of the flash's fault, and every other text the rows of its answer and their
@@ -17,6 +19,7 @@ pub mod laws;
 mod lending;
 pub mod telling;
 pub mod text;
+mod walking;
 
 pub use damage::Damage;
 pub use job::{Job, Turn};
