@@ -10,6 +10,9 @@ use Rattle.ghost_model.specs.core.Causes.{Rose, last_count}
 use Rattle.ghost_model.specs.core.Channel.{Catalog, Journal}
 use Rattle.ghost_model.specs.core.Lines.{Reason}
 use Rattle.key_lines.specs.Handing.{Handed, Hands, PiecesJoin}
+use Rattle.leakless_plan.specs.declared.plan.Plan.{Plan}
+use Rattle.leakless_plan.specs.declared.plan.Plan.TheVariants.{Scan, Pre}
+use Rattle.key_exec.specs.Jobs.{ForScan}
 use Rattle.key_exec.specs.Rows.{PrintsSome}
 use Rattle.key_exec.specs.Texts.{ToldTells, ToldCalls, ToldBlames}
 use Rattle.key_exec.specs.declared.text.Told.{Told}
@@ -145,8 +148,17 @@ rose_before most since before now e f = omega (arith, e, f)
 pub rose_then : (most since before now : ℕ) → min since most ≤ before → min (before + 1) most ≤ now → min (since + 1) most ≤ now
 rose_then most since before now e f = omega (arith, e, f)
 
+-- what is said of a session that looks at all rows
+pub said : {Said : Type 0} → (plan : Plan) → Said → ForScan plan Said
+said Scan is = is
+said Pre is = tt
+
+pub said_then : {One Other : Type 0} → (plan : Plan) → (One → Other) → ForScan plan One → ForScan plan Other
+said_then Scan goes is = goes is
+said_then Pre goes is = tt
+
 -- a text that was ended by the flash was marked, or the flash was called for it
-flash_called : (since start now : ℕ) (marked : Bool) (result : Told) → min since last_count ≤ start → ToldCalls start now result → TellsMark marked result → (marked ≡ true → Rose since now)
+flash_called : (since start now : ℕ) (marked : Bool) (result : Told) → min since last_count ≤ start → ToldCalls Scan start now result → TellsMark marked result → (marked ≡ true → Rose since now)
     → is_flash (reason_of result) ≡ true → Rose since now
 flash_called since start now marked told.Flash stayed called mark rose e = rose_then last_count since start now stayed called
 flash_called since start now marked told.Marked stayed called mark rose e = rose mark
@@ -157,7 +169,7 @@ flash_called since start now marked told.Link stayed called mark rose e = cc
 flash_called since start now marked told.Protocol stayed called mark rose e = cc
 flash_called since start now marked (told.Damaged damage) stayed called mark rose e = cc
 
-damage_called : (since start now : ℕ) (result : Told) → min since last_count ≤ start → ToldCalls start now result → is_damage (reason_of result) ≡ true → Rose since now
+damage_called : (since start now : ℕ) (result : Told) → min since last_count ≤ start → ToldCalls Scan start now result → is_damage (reason_of result) ≡ true → Rose since now
 damage_called since start now told.Flash stayed called e = cc
 damage_called since start now told.Marked stayed called e = cc
 damage_called since start now told.Refused stayed called e = cc
@@ -175,18 +187,20 @@ rose_more since now first second called calls e =
     ]
 
 -- the flash was called where one of the texts met a fault of it
-pub called_more : (since start before now : ℕ) (old new : Counts) (marked : Bool) (result : Told) → IsCounted (reason_of result) old new
-    → (old.by_flash ≡ true → Rose since before) → min before last_count ≤ now → min since last_count ≤ start → ToldCalls start now result
-    → TellsMark marked result → (marked ≡ true → Rose since before) → new.by_flash ≡ true → Rose since now
-called_more since start before now old new marked result counted called stays stayed calls mark rose e =
+pub called_more : (plan : Plan) (since start before now : ℕ) (old new : Counts) (marked : Bool) (result : Told) → IsCounted (reason_of result) old new
+    → ForScan plan (old.by_flash ≡ true → Rose since before) → min before last_count ≤ now → min since last_count ≤ start → ToldCalls plan start now result
+    → TellsMark marked result → (marked ≡ true → Rose since before) → ForScan plan (new.by_flash ≡ true → Rose since now)
+called_more Pre since start before now old new marked result counted called stays stayed calls mark rose = tt
+called_more Scan since start before now old new marked result counted called stays stayed calls mark rose = λ e.
     rose_more since now old.by_flash (is_flash (reason_of result)) (λ f. rose_before last_count since before now (called f) stays)
     (flash_called since start now marked result stayed calls mark (λ m. rose_before last_count since before now (rose m) stays)) (sym counted.by_flash ∙ e)
 
 -- and where one of them met damage
-pub damage_called_more : (since start before now : ℕ) (old new : Counts) (result : Told) → IsCounted (reason_of result) old new
-    → (is_some old.damage ≡ true → Rose since before) → min before last_count ≤ now → min since last_count ≤ start → ToldCalls start now result
-    → is_some new.damage ≡ true → Rose since now
-damage_called_more since start before now old new result counted called stays stayed calls e =
+pub damage_called_more : (plan : Plan) (since start before now : ℕ) (old new : Counts) (result : Told) → IsCounted (reason_of result) old new
+    → ForScan plan (is_some old.damage ≡ true → Rose since before) → min before last_count ≤ now → min since last_count ≤ start → ToldCalls plan start now result
+    → ForScan plan (is_some new.damage ≡ true → Rose since now)
+damage_called_more Pre since start before now old new result counted called stays stayed calls = tt
+damage_called_more Scan since start before now old new result counted called stays stayed calls = λ e.
     rose_more since now (is_some old.damage) (is_damage (reason_of result)) (λ f. rose_before last_count since before now (called f) stays)
     (damage_called since start now result stayed calls) (sym counted.found ∙ e)
 
@@ -237,12 +251,12 @@ damage_told told.Marked = refl
 damage_told told.Flash = refl
 damage_told (told.Damaged damage) = refl
 
-module _ (pages_told : Bool) (page : ℕ → List ℕ) (catalog : Catalog) (texts : List (List ℕ)) where
+module _ (plan : Plan) (pages_told : Bool) (page : ℕ → List ℕ) (catalog : Catalog) (texts : List (List ℕ)) where
   -- a slot that is blamed for the text at a place
   abbrev BlamedAt : (place : ℕ) → Told → Type 0
-  BlamedAt place result = IsSoOfText texts place (λ text side half. ToldBlames pages_told page catalog text side half result)
+  BlamedAt place result = IsSoOfText texts place (λ text side half. ToldBlames plan pages_told page catalog text side half result)
 
-  slot_told : (place : ℕ) (result : Told) (damage : Damage) → BlamedAt place result → damage_in result ≡ Some damage → IsSlotOf pages_told page catalog texts place damage
+  slot_told : (place : ℕ) (result : Told) (damage : Damage) → BlamedAt place result → damage_in result ≡ Some damage → IsSlotOf plan pages_told page catalog texts place damage
   slot_told place told.Refused damage blames e = cc
   slot_told place told.Answered damage blames e = cc
   slot_told place told.Host damage blames e = cc
@@ -251,13 +265,13 @@ module _ (pages_told : Bool) (page : ℕ → List ℕ) (catalog : Catalog) (text
   slot_told place told.Marked damage blames e = cc
   slot_told place told.Flash damage blames e = cc
   slot_told place (told.Damaged met) damage blames e =
-      subst (λ (d : Damage). IsSlotOf pages_told page catalog texts place d) (some_same met damage e)
+      subst (λ (d : Damage). IsSlotOf plan pages_told page catalog texts place d) (some_same met damage e)
       (record { text = blames.text; stands = blames.stands; half = blames.half; is = blames.is })
 
   -- the damage that was met first is that of a slot
   pub one_damage : (place : ℕ) (before after : Option Damage) (result : Told) → after ≡ first_damage before (damage_in result) → BlamedAt place result
-      → ((damage : Damage) → before ≡ Some damage → IsSlot pages_told page catalog texts damage)
-      → (damage : Damage) → after ≡ Some damage → IsSlot pages_told page catalog texts damage
+      → ((damage : Damage) → before ≡ Some damage → IsSlot plan pages_told page catalog texts damage)
+      → (damage : Damage) → after ≡ Some damage → IsSlot plan pages_told page catalog texts damage
   one_damage place (Some first) after result is blames were damage e = were damage (sym is ∙ e)
   one_damage place None after result is blames were damage e = (place, slot_told place result damage blames (sym is ∙ e))
 
@@ -269,7 +283,7 @@ module _ (pages_told : Bool) (page : ℕ → List ℕ) (catalog : Catalog) (text
 
   -- the first damage after one more text
   met_more : (count : ℕ) (reasons : List Reason) (before after : Option Damage) (result : Told) → length reasons ≡ count → after ≡ first_damage before (damage_in result)
-      → BlamedAt count result → MeetsFirst pages_told page catalog texts reasons before → MeetsFirst pages_told page catalog texts (reasons ++ reason_of result ∷ []) after
+      → BlamedAt count result → MeetsFirst plan pages_told page catalog texts reasons before → MeetsFirst plan pages_told page catalog texts (reasons ++ reason_of result ∷ []) after
   met_more count reasons before after result long is blames met = record {
     damages = met.damages ++ damage_in result ∷ [];
     by_reason = map_more (λ (one : Option Damage). is_some one) met.damages (damage_in result)
@@ -279,7 +293,7 @@ module _ (pages_told : Bool) (page : ℕ → List ℕ) (catalog : Catalog) (text
     each = λ place damage e.
         elim (last_or_before met.damages (damage_in result) place (Some damage) e) [
           | inl f ↦ met.each place damage f
-          | inr f ↦ subst (λ (n : ℕ). IsSlotOf pages_told page catalog texts n damage) (sym (f.0 ∙ as_many ∙ long)) (slot_told count result damage blames f.1)
+          | inr f ↦ subst (λ (n : ℕ). IsSlotOf plan pages_told page catalog texts n damage) (sym (f.0 ∙ as_many ∙ long)) (slot_told count result damage blames f.1)
         ];
     first_is = is ∙ ap (λ (first : Option Damage). first_damage first (damage_in result)) met.first_is ∙ sym (first_more met.damages (damage_in result));
   }
@@ -290,11 +304,11 @@ module _ (pages_told : Bool) (page : ℕ → List ℕ) (catalog : Catalog) (text
   -- one more text has a reason, and lines for it
   pub one_reason : PiecesJoin → (journal : Journal) (count : ℕ) (old new : Counts) (since before now marks : ℕ) (marked : Bool) (result : Told)
       (first middle last : Handed) (lines : List (List ℕ))
-      → (are : HaveSoFar catalog texts journal count (AreKeptSoFar pages_told page catalog texts old (one_if marked + marks) since before)) → HasReason catalog texts journal count (reason_of result)
+      → (are : HaveSoFar catalog texts journal count (AreKeptSoFar plan pages_told page catalog texts old (one_if marked + marks) since before)) → HasReason catalog texts journal count (reason_of result)
       → ToldTells before now result → TellsMark marked result → IsCounted (reason_of result) old new
       → new.damage ≡ first_damage old.damage (damage_in result) → BlamedAt count result
       → HaveLines catalog texts journal are.reasons first middle → HasLines catalog texts journal count (reason_of result) lines → Hands (concat lines) middle last
-      → (more : HaveSoFar catalog texts journal (count + 1) (AreKeptSoFar pages_told page catalog texts new marks since now)) × HaveLines catalog texts journal more.reasons first last × (more.reasons ≡ are.reasons ++ reason_of result ∷ [])
+      → (more : HaveSoFar catalog texts journal (count + 1) (AreKeptSoFar plan pages_told page catalog texts new marks since now)) × HaveLines catalog texts journal more.reasons first last × (more.reasons ≡ are.reasons ++ reason_of result ∷ [])
   one_reason join journal count old new since before now marks marked result first middle last lines are is tells mark counted met blames have has hands =
       let long : length are.reasons ≡ count = are.as_many in
       let longer : length (are.reasons ++ reason_of result ∷ []) ≡ length are.reasons + 1 = length-append are.reasons (reason_of result ∷ []) in (

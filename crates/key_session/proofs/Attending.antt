@@ -36,6 +36,7 @@ use Rattle.key_session.specs.Telling.{SessionSide, CameOut, AreLeft, texts_left}
 use Rattle.key_session.specs.Going.{IsGoing, IsNear, IsNext, is_ready, is_far, rule_of}
 use Rattle.key_session.specs.declared.counts.Counts.{Counts}
 use Rattle.key_session.specs.declared.pace.Due.TheVariants as due
+use Rattle.leakless_plan.specs.declared.plan.Plan.{Plan}
 use Rattle.key_session.specs.declared.teller.Teller.{Teller}
 
 pub same_asked : (awaits : Awaits) → asked_at awaits ≡ asked_in awaits
@@ -193,10 +194,10 @@ module _ (over : OverTextsAreSettled) (order : TextsComeInOrder) (decided : Text
           omega (arith, behind, place)
 
   -- the text of the ask that is awaited is none before the next one, and near
-  pub within_now : (pages_told : Bool) (since : SessionSide) (sink : Handed) (device : Device) (pool : Pool) (left : List (List ℕ)) (count : ℕ) (counts : Counts) (kept : Replies) (going : IsGoing pages_told catalog texts journal since sink device pool pump left count counts kept)
+  pub within_now : (plan : Plan) (pages_told : Bool) (since : SessionSide) (sink : Handed) (device : Device) (pool : Pool) (left : List (List ℕ)) (count : ℕ) (counts : Counts) (kept : Replies) (going : IsGoing plan pages_told catalog texts journal since sink device pool pump left count counts kept)
       → (want_of pump ≡ want_is.Closed → ⊥) → IsNear catalog texts journal (count + 2)
       → (asked : NumberedAsk) → asked_in (heard_in catalog texts journal).awaits ≡ Some asked → IsWithin (count + 1) going.top asked.text
-  within_now pages_told since sink device pool left count counts kept going opened near asked awaited =
+  within_now plan pages_told since sink device pool left count counts kept going opened near asked awaited =
       let in_order = order catalog texts (taken journal) asked awaited in
       let un : is_settled_in catalog texts journal asked.text ≡ false = unsettled over order decided catalog texts journal asked awaited in
       let close : asked.text ≤ count + 2 = near asked awaited in

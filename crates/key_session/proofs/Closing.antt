@@ -155,13 +155,20 @@ module _ (apart : AreasLieApart) (keeps : RepliesAreKept) (readable : RepliesSta
   same_areas : area_at new.spool old.hand.table ≡ area_at old.spool old.hand.table
   same_areas = areas_same old.spool new.spool old.hand.table writes.areas
 
+  area_rows : is_at old.spool old.hand.text old.hand.table ≡ true → old.spool.hand.reply.rows ≡ (area_at old.spool old.hand.table).rows
+  area_rows at =
+      let text_is = hand_text old.spool old.hand.text old.hand.table at in
+      let some = is.at.ask.some in
+      let held = is.kept.spooling.hand (λ none. (omega (arith, some, text_is, none))) in
+      held.rows ∙ ap (λ (table : ℕ). (area_at old.spool table).rows) (its_table old.spool old.hand.text old.hand.table at)
+
   own_by : (a b : Bool) → is_at old.spool old.hand.text old.hand.table ≡ a → is_marked new.spool.sides old.hand.text ≡ b → IsKeptReply told now new.spool old.hand.text old.hand.table reply
   own_by a true ea eb = none_still (ends.marked eb)
   own_by false false ea eb = none_still (ap (λ (s : Spool). replies_of s.sides old.hand.text) (ends.none ea))
   own_by true false ea eb = record {
     readable = ends.readable ea eb;
     lies = lies_still old.spool new.spool old.hand.text old.hand.table reply writes.areas
-        (record { visible = λ some. area_visible told before pool catalog heard low top old is; lies = ends.lies ea eb });
+        (record { most = λ some. ends.rows ea eb ∙ area_rows ea; visible = λ some. area_visible told before pool catalog heard low top old is; lies = ends.lies ea eb });
     whole = λ is_told. record { rows = rows_at old.hand.width heard.rows; holds = ends.holds ea eb (rows_at old.hand.width heard.rows) (pushed_all eb) is_told };
   }
 

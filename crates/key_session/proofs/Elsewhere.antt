@@ -42,9 +42,10 @@ half_by catalog table text area is wide false e =
 
 pub lies_still : (old new : Spool) (other at : ℕ) (reply : Reply) → new.areas ≡ old.areas → LiesInArea old other at reply → LiesInArea new other at reply
 lies_still old new other at reply same lies =
-    let both : (0 < reply.run.count → 4 < (area_at new at).width) × LiesWithin (first_of (area_at new at) other) (end_of (area_at new at) other) reply =
-    subst (λ (area : Area). (0 < reply.run.count → 4 < area.width) × LiesWithin (first_of area other) (end_of area other) reply) (sym (areas_same old new at same)) (lies.visible, lies.lies) in
-    record { visible = both.0; lies = both.1 }
+    let all : (0 < reply.run.count → reply.rows ≡ (area_at new at).rows) × (0 < reply.run.count → 4 < (area_at new at).width) × LiesWithin (first_of (area_at new at) other) (end_of (area_at new at) other) reply =
+    subst (λ (area : Area). (0 < reply.run.count → reply.rows ≡ area.rows) × (0 < reply.run.count → 4 < area.width) × LiesWithin (first_of area other) (end_of area other) reply) (sym (areas_same old new at same))
+    (lies.most, lies.visible, lies.lies) in
+    record { most = all.0; visible = all.1; lies = all.2 }
 
 module _ (apart : AreasLieApart) (catalog : Catalog) (spool : Spool) (areas : AreAreasOf catalog spool.areas.items) (text table : ℕ) (there : table < length spool.areas.items)
     (visible : 4 < (area_at spool table).width) (before now : Device)

@@ -16,7 +16,6 @@ use Rattle.visible_spool.specs.declared.half.Half.{Half}
 use Rattle.visible_spool.specs.declared.spool.Spool.{Spool}
 use Rattle.visible_spool.specs.Areas.{LiesIn, first_of, end_of, half_begin, half_end, is_even}
 use Rattle.visible_spool.specs.Sides.{is_marked, side_of}
-use Rattle.visible_spool.specs.Sparing.{WritesSpareTheOther, ReadersSpareHalves}
 use Rattle.visible_spool.specs.Spools.{area_at}
 use Rattle.key_session.specs.Counting.{one_if}
 use Rattle.key_session.specs.Kept.{IsKept, HasEndings, IsOver}
@@ -61,10 +60,10 @@ may_come told device pool catalog page payload n heard after low top old same h 
     record { last = r.is.last; are = subst (λ (p : List ℕ). AreNext old.spool old.hand p r.is.last) (sym same) (are_next told device pool catalog heard low top old r.is (payload_in page) n r.came) }
 
 -- what was written for the text at hand
-pub has_heard : WritesSpareTheOther → (told : Bool) (before now : Device) (pool later : Pool) (catalog : Catalog) (heard : Heard) (low top : ℕ) (old new : Replies) → IsHere told before pool catalog heard low top old
+pub has_heard : (told : Bool) (before now : Device) (pool later : Pool) (catalog : Catalog) (heard : Heard) (low top : ℕ) (old new : Replies) → IsHere told before pool catalog heard low top old
     → Writes old.hand.text old.hand.table before now pool later old.spool new.spool → (side_of new.spool.sides old.hand.text).text ≤ old.hand.text
     → HasHeard catalog low old.hand.text before now old new
-has_heard law told before now pool later catalog heard low top old new is writes side =
+has_heard told before now pool later catalog heard low top old new is writes side =
     let there = area_there told before pool catalog heard low top old is in
     let visible = area_visible told before pool catalog heard low top old is in
     let area = is.kept.areas.each old.hand.table there in
@@ -72,7 +71,6 @@ has_heard law told before now pool later catalog heard low top old new is writes
     subst (λ (side : ℕ). LiesIn catalog side (first_of (area_at old.spool old.hand.table) old.hand.text) (end_of (area_at old.spool old.hand.table) old.hand.text)) (its_half old.hand.text (is_even old.hand.text) refl)
     (half_by catalog old.hand.table old.hand.text (area_at old.spool old.hand.table) area visible (is_even old.hand.text) refl) in
     record {
-      spares = λ half few other. law catalog half old.hand.table (area_at old.spool old.hand.table) old.hand.text before now few other visible area writes.others;
       writes = changes_wider writes.others (half_begin catalog (old.hand.text % 2)) (half_end catalog (old.hand.text % 2)) lies.from lies.to;
       marks = λ other from ne. marks_same old.hand.text old.spool.sides new.spool.sides writes.changes low near side_old side other from ne;
     }
@@ -83,11 +81,10 @@ has_heard law told before now pool later catalog heard low top old new is writes
     side_old : (side_of old.spool.sides old.hand.text).text ≤ old.hand.text
     side_old = let had = side_by top old.hand.text old.spool is.kept.bound in let e = is.at.ask.text_is in let l = is.at.latest in omega (arith, had, e, l)
 
-pub nothing_heard : ReadersSpareHalves → (catalog : Catalog) (low text : ℕ) (before now : Device) (old new : Replies) → now ≡ before → new.spool ≡ old.spool → HasHeard catalog low text before now old new
-nothing_heard law catalog low text before now old new same spool =
+pub nothing_heard : (catalog : Catalog) (low text : ℕ) (before now : Device) (old new : Replies) → now ≡ before → new.spool ≡ old.spool → HasHeard catalog low text before now old new
+nothing_heard catalog low text before now old new same spool =
     subst (λ (d : Device). HasHeard catalog low text before d old new) (sym same)
     (record {
-      spares = λ side few other. law catalog side before before (kept_same before);
       writes = changes_kept (kept_same before) (half_begin catalog (text % 2)) (half_end catalog (text % 2));
       marks = λ other from ne. ap (λ (s : Spool). is_marked s.sides other) spool;
     })

@@ -18,7 +18,8 @@ use Rattle.session_laws.specs.TextEnds.{heard_in}
 use Rattle.session_laws.specs.HonestSessions.{IsHonestSession, HonestSessionsAreSmooth, HonestLinesArePrinted, AreAllLines, is_own_fault}
 use Rattle.ghost_model.specs.laws.SchemaTrees.{IsTree}
 use Rattle.key_exec.specs.Laws.{KnowledgeIsEnough}
-use Rattle.key_exec.specs.Reading.{Knows, KnowsBut}
+use Rattle.key_exec.specs.Reading.{KnowsBy, KnowsButBy}
+use Rattle.leakless_plan.specs.declared.plan.Plan.{Plan}
 use Rattle.key_session.specs.Answering.{AnswersWhereSound}
 use Rattle.key_session.specs.Counting.{is_flash, is_damage}
 use Rattle.key_session.specs.Refusing.{first_code}
@@ -44,7 +45,7 @@ or_false : (first second : Bool) → (first || second) ≡ false → (first ≡ 
 or_false true second e = cc
 or_false false second e = (refl, e)
 
-none_at : (test : Reason → Bool) (reasons : List Reason) (place : ℕ) (reason : Reason) → list_any test reasons ≡ false → slice_get reasons place ≡ Some reason → test reason ≡ false
+pub none_at : (test : Reason → Bool) (reasons : List Reason) (place : ℕ) (reason : Reason) → list_any test reasons ≡ false → slice_get reasons place ≡ Some reason → test reason ≡ false
 none_at test [] place reason none e = (let bad : ⊥ = cc in absurd bad)
 none_at test (first ∷ reasons) zero reason none e =
     let same : first ≡ reason = cc in
@@ -53,24 +54,24 @@ none_at test (first ∷ reasons) (suc place) reason none e =
     none_at test reasons place reason (or_false (test first) (list_any test reasons) none).1 e
 
 -- the reason for the lines at a place
-reason_at : (reasons : List Reason) (lines : List (List (List ℕ))) (place : ℕ) (one : List (List ℕ)) → length lines ≡ length reasons → slice_get lines place ≡ Some one
+pub reason_at : (reasons : List Reason) (lines : List (List (List ℕ))) (place : ℕ) (one : List (List ℕ)) → length lines ≡ length reasons → slice_get lines place ≡ Some one
     → (reason : Reason) × (slice_get reasons place ≡ Some reason)
 reason_at reasons [] place one many e = (let bad : ⊥ = cc in absurd bad)
 reason_at [] (first ∷ lines) place one many e = absurd (omega (arith, many))
 reason_at (reason ∷ reasons) (first ∷ lines) zero one many e = (reason, refl)
 reason_at (reason ∷ reasons) (first ∷ lines) (suc place) one many e = reason_at reasons lines place one (omega (arith, many)) e
 
-none_any : (reasons : List Reason) → count_by is_flash reasons ≡ 0 → list_any is_flash reasons ≡ false
+pub none_any : (reasons : List Reason) → count_by is_flash reasons ≡ 0 → list_any is_flash reasons ≡ false
 none_any [] none = refl
 none_any (reason ∷ reasons) none =
     let both = none_of_all reason reasons none in
     rw (both.0, none_any reasons both.1) refl
 
-no_flash : (before count now : ℕ) → min (before + count) last_count ≤ now → (Rose before now → ⊥) → count ≡ 0
+pub no_flash : (before count now : ℕ) → min (before + count) last_count ≤ now → (Rose before now → ⊥) → count ≡ 0
 no_flash before zero now blamed rose = refl
 no_flash before (suc count) now blamed rose = absurd (rose (omega (arith, blamed)))
 
-not_own : (reason : Reason) → is_flash reason ≡ false → is_damage reason ≡ false → is_own_fault reason ≡ false
+pub not_own : (reason : Reason) → is_flash reason ≡ false → is_damage reason ≡ false → is_own_fault reason ≡ false
 not_own WasRefused flash damage = refl
 not_own WasBroken flash damage = refl
 not_own WasAnswered flash damage = refl
@@ -133,26 +134,26 @@ module _ (catalog : Catalog) (at : List ℕ) (texts : List (List ℕ)) (database
   }
 
 -- what a finished session told of its texts
-pub record AreAnswered (told : Bool) (cat : Catalog) (texts : List (List ℕ)) (journal : Journal) (since now : SessionSide) (tally : Tally) : Type 0 where
+pub record AreAnswered (plan : Plan) (told : Bool) (cat : Catalog) (texts : List (List ℕ)) (journal : Journal) (since now : SessionSide) (tally : Tally) : Type 0 where
   pub reasons : HaveReasons cat texts journal (length texts)
-      (λ reasons. IsTallied told since.flash.page cat texts now.sink.failed (standing_after cat (asked_of cat.schema texts) journal) reasons tally) since.flash.faults now.flash.faults
-  pub answers : (database : Database) → KnowsBut told since.flash.page cat database
+      (λ reasons. IsTallied plan told since.flash.page cat texts now.sink.failed (standing_after cat (asked_of cat.schema texts) journal) reasons tally) since.flash.faults now.flash.faults
+  pub answers : (database : Database) → KnowsButBy plan told since.flash.page cat database
       → HaveAnswerLines cat (hidden_of cat.schema database) texts journal reasons.reasons since.sink now.sink
-  pub undamaged : (database : Database) → Knows told since.flash.page cat database → list_any is_damage reasons.reasons ≡ false
+  pub undamaged : (database : Database) → KnowsBy plan told since.flash.page cat database → list_any is_damage reasons.reasons ≡ false
 
-pub answers_all : HonestSessionsAreSmooth → HonestLinesArePrinted → KnowledgeIsEnough → (told : Bool) (cat : Catalog) (at : List ℕ) (texts : List (List ℕ)) (journal : Journal) (since now : SessionSide) (tally : Tally)
-    → IsCatalog cat → IsTree cat.schema → length texts ≤ 64 → IsProper cat at texts journal → IsFinished journal → AreAnswered told cat texts journal since now tally
-    → AnswersWhereSound told cat texts journal since now tally
-answers_all smooth prints enough told cat at texts journal since now tally proper tree few is_proper finished tells = λ database sound.
+pub answers_all : HonestSessionsAreSmooth → HonestLinesArePrinted → KnowledgeIsEnough → (plan : Plan) (told : Bool) (cat : Catalog) (at : List ℕ) (texts : List (List ℕ)) (journal : Journal) (since now : SessionSide) (tally : Tally)
+    → IsCatalog cat → IsTree cat.schema → length texts ≤ 64 → IsProper cat at texts journal → IsFinished journal → AreAnswered plan told cat texts journal since now tally
+    → AnswersWhereSound plan told cat texts journal since now tally
+answers_all smooth prints enough plan told cat at texts journal since now tally proper tree few is_proper finished tells = λ database sound.
     let session_is : IsHonestSession cat database at texts journal =
     record {
       setting = setting cat texts proper few;
-      stored = stored told since.flash.page cat database proper sound.pages;
+      stored = stored plan told since.flash.page cat database proper sound.pages;
       proper = is_proper;
       honest = sound.host;
     } in
     let are = tells.reasons in
-    let have = tells.answers database (enough told since.flash.page cat database tree sound.pages) in
+    let have = tells.answers database (enough plan told since.flash.page cat database tree sound.pages) in
     let undamaged = tells.undamaged database sound.pages in
     let unfailed : list_any is_flash are.reasons ≡ false =
     none_any are.reasons (no_flash since.flash.faults (count_by is_flash are.reasons) now.flash.faults are.blamed sound.flash) in

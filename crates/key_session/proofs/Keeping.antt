@@ -111,7 +111,7 @@ not_ended false b e = (refl, e)
 pub other_table : (text table : ℕ) (asked : NumberedAsk) → is_ask_of text table asked ≡ false → asked.text ≡ text → asked.ask.table ≡ table → ⊥
 other_table text table asked not same_text same_table = cc (not, ap (λ (b : Bool). b && (asked.ask.table == table)) (eq-eqb asked.text text same_text), eq-eqb asked.ask.table table same_table)
 
-ending_kept : (told : Bool) (page now : ℕ → List ℕ) (schema : Schema) (ask : Ask) (ending : Ending) (reply later : Reply) → RepliesAreKept → later ≡ reply → KeepsReply page now reply
+pub ending_kept : (told : Bool) (page now : ℕ → List ℕ) (schema : Schema) (ask : Ask) (ending : Ending) (reply later : Reply) → RepliesAreKept → later ≡ reply → KeepsReply page now reply
     → HasEnding told page schema ask ending reply → HasEnding told now schema ask ending later
 ending_kept told page now schema ask (Answered rows) reply later kept same keeps was =
     subst (λ (r : Reply). HasAnswer told now schema ask rows r) (sym same)

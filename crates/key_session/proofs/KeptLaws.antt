@@ -1,5 +1,5 @@
 -- What is kept at first, what stays of it, and what it gives.
-use Rattle.std.proofs.Common.{◌≡◌, ◌≤◌, ◌<◌, ◌+◌, ◌%◌, ◌^◌, ℕ, arith, Bool, true, false, ◌==◌, List, [], ◌∷◌, map, filter_map, refl, sym, ◌∙◌, ap, subst, Some, None, if◌then◌else◌}
+use Rattle.std.proofs.Common.{◌≡◌, ◌≤◌, ◌<◌, ◌+◌, ◌%◌, ◌^◌, ℕ, zero, suc, arith, Bool, true, false, ◌==◌, List, [], ◌∷◌, length, map, filter_map, slice_index_or, Contains, refl, sym, ◌∙◌, ap, subst, Some, None, if◌then◌else◌}
 use Rattle.std.specs.List.{cons_option}
 use Rattle.std.proofs.lemmas.Bool.{eqb-true, eq-eqb}
 use Rattle.ghost_model.specs.core.Schema.{Schema}
@@ -10,29 +10,34 @@ use Rattle.ghost_model.specs.core.Moves.{taken}
 use Rattle.ghost_model.specs.core.NextMove.{Heard, EndedAsk, Ending, Answered, Refused, heard}
 use Rattle.ghost_model.specs.core.Replies as given
 use Rattle.ghost_model.specs.core.Replies.{reply_for, reply_about, replied_row}
-use Rattle.edge_traits.specs.Devices.{Device}
-use Rattle.edge_traits.proofs.DeviceFrames.{same_kept}
-use Rattle.page_pool.specs.Pools.{Pool}
+use Rattle.ghost_model.specs.forms.Layout.{spool_end, need}
+use Rattle.ghost_model.specs.forms.Runs.{page_of}
+use Rattle.ghost_base.specs.Runs.{run_of}
+use Rattle.edge_traits.specs.Devices.{Device, ChangesOnly}
+use Rattle.page_pool.specs.Pools.{Pool, IsOut}
+use Rattle.page_pool.specs.Laws.{SameBuffer}
 use Rattle.channel_pump.specs.Sessions.{asked_in}
 use Rattle.key_session.specs.Fits.{Fits, was_ended}
 use Rattle.visible_spool.specs.declared.half.Half.{Half}
 use Rattle.visible_spool.specs.declared.reply.Reply.{Reply}
 use Rattle.visible_spool.specs.declared.spool.Spool.{Spool}
-use Rattle.visible_spool.specs.Areas.{AreAreasOf, is_even, half_begin, half_end}
+use Rattle.visible_spool.specs.Areas.{AreAreasOf, is_even, end_of, half_begin, half_end}
 use Rattle.visible_spool.specs.Halves.{reply_of, no_reply, no_half}
-use Rattle.visible_spool.specs.Laws.{RepliesStayReadable, TextsWithoutRows}
-use Rattle.visible_spool.specs.Replies.{HoldsRows}
+use Rattle.visible_spool.specs.Laws.{KeepsReply, RepliesAreKept, RepliesStayReadable, TextsWithoutRows}
 use Rattle.visible_spool.specs.Sides.{is_marked, replies_of, side_of}
 use Rattle.visible_spool.specs.SpoolLaws.{Spares, StaysSpooling, StillPushed}
-use Rattle.visible_spool.specs.Spools.{IsSpooling, PushedIf, area_at, is_at}
+use Rattle.visible_spool.specs.Spools.{IsSpooling, HasPushed, PushedIf, area_at, is_at}
+use Rattle.visible_spool.proofs.SpoolLemmas.{area_within}
+use Rattle.visible_spool.proofs.Spooling.{area_kept}
 use Rattle.key_session.specs.Rows.{rows_at, rows_cut}
-use Rattle.key_session.specs.Kept.{IsKept, IsAskOf, HasCome, IsBy, IsOver, AreKept, IsKeptReply, HasEnding, HasEndings, half_in, none_heard}
-use Rattle.key_session.specs.Given.{HoldsGiven, KeptAreGiven}
+use Rattle.key_session.specs.Kept.{IsKept, IsAskOf, HasCome, IsBy, IsOver, AreKept, IsKeptReply, LiesInArea, HasEnding, HasEndings, half_in, none_heard}
+use Rattle.visible_spool.specs.Replies.{id_of}
+use Rattle.key_session.specs.Given.{HoldsGiven, KeptAreGiven, KeptAreOfRows}
 use Rattle.key_session.specs.Laws.{RepliesStayKept, KeptHalvesAreHalves}
 use Rattle.key_session.specs.declared.replies.Replies.{Replies}
 use Rattle.key_session.proofs.Elsewhere.{in_areas, half_by}
-use Rattle.key_session.proofs.Keeping.{none_of_half, no_replies, side_by}
-use Rattle.key_session.proofs.PushRows.{no_rows}
+use Rattle.key_session.proofs.Keeping.{ending_kept, none_of_half, no_replies, side_by}
+use Rattle.key_session.proofs.PushRows.{no_rows, identifier_is}
 use Rattle.key_session.proofs.RowLemmas.{cells_cut}
 use Rattle.key_session.proofs.RowsHeard.{hand_text, is_awaited}
 use Rattle.key_session.proofs.Closing.{its_table}
@@ -43,7 +48,7 @@ use Rattle.key_session.proofs.WriteLemmas.{true_is_not_false}
 none_kept : TextsWithoutRows → (told : Bool) (device : Device) (spool : Spool) (text table : ℕ) → device.page_count < 2 ^ 32 → IsKeptReply told device spool text table no_reply
 none_kept nothing told device spool text table small = record {
   readable = (nothing 0 (omega arith)).readable device small;
-  lies = record { visible = λ some. absurd (omega (arith, some)); lies = λ place within. absurd (omega (arith, within)) };
+  lies = record { most = λ some. absurd (omega (arith, some)); visible = λ some. absurd (omega (arith, some)); lies = λ place within. absurd (omega (arith, within)) };
   whole = λ is_told. record { rows = []; holds = (nothing 0 (omega arith)).holds device.page };
 }
 
@@ -134,42 +139,107 @@ opened told device pool catalog heard asked low top text old new shut same is_on
 
 -- ---- what stays
 
-pub stay_kept : StaysSpooling → StillPushed → RepliesStayReadable → RepliesStayKept
-stay_kept stays pushed readable told before now pool later catalog heard low top replies keeps out buffer k =
-    let spares : Spares before now pool later replies.spool = record { page_count = keeps.page_count; area = λ number from to. same_kept keeps number; out = out; buffer = buffer } in
-    record {
-      spooling = stays before now pool later replies.spool spares k.spooling;
-      areas = k.areas;
-      bound = k.bound;
-      at = λ is_on. (let at = k.at is_on in record {
-        asked = at.asked;
-        awaited = at.awaited;
-        near = at.near;
-        latest = at.latest;
-        ask = at.ask;
-        come = record {
-          kinds = at.come.kinds;
-          width = at.come.width;
-          last = at.come.last;
-          pushed = λ not. pushed told before now pool later replies.spool replies.hand.text replies.hand.table (rows_at replies.hand.width heard.rows) at.ask.some not spares k.spooling (at.come.pushed not);
-          others = at.come.others;
-        };
-      });
-      closed = k.closed;
-      over = k.over;
-      halves = λ text from. record {
-        each = λ table. (let each = (k.halves text from).each table in record {
-          readable = readable before now (reply_of (replies_of replies.spool.sides text) table) keeps.page_count each.readable;
-          lies = each.lies;
-          whole = λ is_told. record {
-            rows = (each.whole is_told).rows;
-            holds = subst (λ (page : ℕ → List ℕ). HoldsRows page (reply_of (replies_of replies.spool.sides text) table) (each.whole is_told).rows) (sym keeps.page) (each.whole is_told).holds;
-          };
-        });
-        none = (k.halves text from).none;
-      };
-      texts = λ text from not. subst (λ (page : ℕ → List ℕ). HasEndings told page catalog.schema text (half_in replies text) heard.ended) (sym keeps.page) (k.texts text from not);
-    }
+-- an area lies below the end of the spool
+side_upto : (catalog : Catalog) (b : Bool) → half_end catalog (if b then 0 else 1) ≤ spool_end catalog
+side_upto catalog true = omega arith
+side_upto catalog false = omega arith
+
+area_upto : (catalog : Catalog) (spool : Spool) (table text : ℕ) → AreAreasOf catalog spool.areas.items → 4 < (area_at spool table).width → end_of (area_at spool table) text ≤ spool_end catalog
+area_upto catalog spool table text areas wide =
+    let lies = half_by catalog table text (area_at spool table) (areas.each table (in_areas spool.areas.items table wide)) wide (is_even text) refl in
+    let to = lies.to in
+    let upto = side_upto catalog (is_even text) in
+    omega (arith, to, upto)
+
+module _ (stays : StaysSpooling) (pushed : StillPushed) (readable : RepliesStayReadable) (is_kept : RepliesAreKept) (told : Bool) (before now : Device) (pool later : Pool) (catalog : Catalog) (spool : Spool)
+    (changes : ChangesOnly (spool_end catalog) (need catalog) before now) (out : IsOut later spool.hand.writer.lease) (buffer : SameBuffer pool later spool.hand.writer.lease)
+    (areas : AreAreasOf catalog spool.areas.items) (spooling : IsSpooling before pool spool) where
+  spares : (spool.hand.text ≡ 0 → ⊥) → Spares before now pool later spool
+  spares some =
+      let is = spooling.hand some in
+      let there = is.there in
+      let within = area_within (area_at spool spool.hand.table) spool.hand.text spool.hand.reply (spooling.areas spool.hand.table there).narrow is.first is.rows is.wide is.width in
+      let upto = area_upto catalog spool spool.hand.table spool.hand.text areas is.visible in
+      record { page_count = changes.page_count; area = λ number from to. changes.below number (omega (arith, to, within, upto)); out = out; buffer = buffer }
+
+  spooling_still : IsSpooling now later spool
+  spooling_still =
+      let small = spooling.small in
+      let count = changes.page_count in
+      record {
+        out = out;
+        areas = λ table there. area_kept before now (area_at spool table) changes.page_count (spooling.areas table there);
+        few = spooling.few;
+        small = omega (arith, small, count);
+        hand = λ some. (stays before now pool later spool (spares some) spooling).hand some;
+      }
+
+  pushed_still : (text table : ℕ) (rows : List (List ℕ)) → 0 < text → is_marked spool.sides text ≡ false → HasPushed told before.page pool spool text table rows → HasPushed told now.page later spool text table rows
+  pushed_still text table rows some not was = by (is_at spool text table) refl was
+    where
+      by : (b : Bool) → is_at spool text table ≡ b → PushedIf b told before.page pool spool rows → HasPushed told now.page later spool text table rows
+      by false e none = subst (λ b. PushedIf b told now.page later spool rows) (sym e) none
+      by true e put =
+          let text_is = hand_text spool text table e in
+          pushed told before now pool later spool text table rows some not (spares (λ none. omega (arith, some, text_is, none))) spooling (subst (λ b. PushedIf b told before.page pool spool rows) (sym e) put)
+
+  reply_pages : (text table : ℕ) (reply : Reply) → LiesInArea spool text table reply → KeepsReply before.page now.page reply
+  reply_pages text table reply lies place within =
+      let here = lies.lies place within in
+      let upto = area_upto catalog spool table text areas (lies.visible (omega (arith, within))) in
+      let to = here.1 in
+      (changes.below (page_of (run_of reply.run) place) (omega (arith, to, upto))).bytes
+
+  reply_still : (text table : ℕ) (reply : Reply) → IsKeptReply told before spool text table reply → IsKeptReply told now spool text table reply
+  reply_still text table reply was = record {
+    readable = readable before now reply changes.page_count was.readable;
+    lies = was.lies;
+    whole = λ is_told. record {
+      rows = (was.whole is_told).rows;
+      holds = is_kept before.page now.page reply (was.whole is_told).rows (reply_pages text table reply was.lies) (was.whole is_told).holds;
+    };
+  }
+
+  endings_still : (schema : Schema) (text : ℕ) (half : Half) → ((table : ℕ) → KeepsReply before.page now.page (reply_of half table)) → (ends : List EndedAsk)
+      → HasEndings told before.page schema text half ends → HasEndings told now.page schema text half ends
+  endings_still schema text half keeps [] was = tt
+  endings_still schema text half keeps (end ∷ ends) was = (
+    λ mine. ending_kept told before.page now.page schema end.asked.ask end.ending (reply_of half end.asked.ask.table) (reply_of half end.asked.ask.table) is_kept refl (keeps end.asked.ask.table) (was.0 mine),
+    endings_still schema text half keeps ends was.1,
+  )
+
+pub stay_kept : StaysSpooling → StillPushed → RepliesStayReadable → RepliesAreKept → RepliesStayKept
+stay_kept stays pushed readable is_kept told before now pool later catalog heard low top replies changes out buffer k = record {
+  spooling = spooling_still stays pushed readable is_kept told before now pool later catalog replies.spool changes out buffer k.areas k.spooling;
+  areas = k.areas;
+  bound = k.bound;
+  at = λ is_on. (let at = k.at is_on in record {
+    asked = at.asked;
+    awaited = at.awaited;
+    near = at.near;
+    latest = at.latest;
+    ask = at.ask;
+    come = record {
+      kinds = at.come.kinds;
+      width = at.come.width;
+      last = at.come.last;
+      pushed = λ not. pushed_still stays pushed readable is_kept told before now pool later catalog replies.spool changes out buffer k.areas k.spooling
+          replies.hand.text replies.hand.table (rows_at replies.hand.width heard.rows) at.ask.some not (at.come.pushed not);
+      others = at.come.others;
+    };
+  });
+  closed = k.closed;
+  over = k.over;
+  halves = λ text from. record {
+    each = λ table. reply_still stays pushed readable is_kept told before now pool later catalog replies.spool changes out buffer k.areas k.spooling
+        text table (reply_of (replies_of replies.spool.sides text) table) ((k.halves text from).each table);
+    none = (k.halves text from).none;
+  };
+  texts = λ text from not. endings_still stays pushed readable is_kept told before now pool later catalog replies.spool changes out buffer k.areas k.spooling
+      catalog.schema text (half_in replies text)
+      (λ table. reply_pages stays pushed readable is_kept told before now pool later catalog replies.spool changes out buffer k.areas k.spooling
+      text table (reply_of (half_in replies text) table) ((k.halves text from).each table).lies) heard.ended (k.texts text from not);
+}
 
 -- ---- what it gives
 
@@ -245,3 +315,30 @@ module _ (page : ℕ → List ℕ) (schema : Schema) (text table : ℕ) (half : 
 pub are_given : KeptAreGiven
 are_given device pool catalog asks journal low top text kept k from not table one e =
     given_by device.page catalog.schema text table (half_in kept text) one (heard catalog asks (taken journal)).ended (k.texts text from not) e
+
+-- the row of an identifier in a reply
+picked : (f : List ℕ → RowValues) (rows : List (List ℕ)) → ((bytes : List ℕ) → (f bytes).identifier ≡ (row_in bytes).identifier) → (k x : ℕ)
+    → k < length (map (λ (row : RowValues). row.identifier) (map f rows)) → slice_index_or (map (λ (row : RowValues). row.identifier) (map f rows)) k x ≡ x
+    → (k < length rows) × (id_of rows k ≡ x)
+picked f [] same k x low e = absurd (omega (arith, low))
+picked f (row ∷ rows) same zero x low e = (omega arith, identifier_is row ∙ (sym (same row) ∙ e))
+picked f (row ∷ rows) same (suc k) x low e =
+    let later = picked f rows same k x (omega (arith, low)) e in
+    let within = later.0 in
+    (omega (arith, within), later.1)
+
+pub are_of_rows : KeptAreOfRows
+are_of_rows device pool catalog asks journal low top text kept k from not table one about identifier held =
+    let has = are_given device pool catalog asks journal low top text kept k from not table one about in
+    let ids = subst (λ (rows : List RowValues). Contains (map (λ (row : RowValues). row.identifier) rows) identifier) has.are held in
+    let at = picked (λ bytes. replied_row catalog.schema one.ask (row_in bytes)) has.rows (λ bytes. refl) ids.0 identifier ids.1 ids.2 in
+    let here = at.0 in
+    let number = at.1 in
+    let many = has.holds.has.count in
+    let lies = ((k.halves text from).each table).lies in
+    let some : 0 < (reply_of (half_in kept text) table).run.count = omega (arith, here, many) in
+    let most = lies.most some in
+    let rows = (k.areas.each table (in_areas kept.spool.areas.items table (lies.visible some))).rows_is in
+    let least = has.holds.are.some ids.0 here in
+    let within = has.holds.are.within ids.0 here in
+    record { some = omega (arith, least, number); within = omega (arith, within, number, most, rows) }

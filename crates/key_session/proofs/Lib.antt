@@ -30,3 +30,4 @@ pub mod Stepping
 pub mod Settings
 pub mod HonestRuns
 pub mod Running
+pub mod Agreeing

@@ -1,5 +1,5 @@
 -- One more move of a session.
-use Rattle.std.proofs.Common.{◌≡◌, ◌≢◌, ◌≤◌, ◌<◌, ℕ, suc, ◌+◌, arith, Bool, true, false, List, [], ◌∷◌, ◌++◌, length, refl, sym, ap, ◌∙◌, Option, Some, None, subst}
+use Rattle.std.proofs.Common.{◌≡◌, ◌≢◌, ◌≤◌, ◌<◌, ℕ, suc, ◌+◌, ◌-◌, arith, Bool, true, false, List, [], ◌∷◌, ◌++◌, length, refl, sym, ap, ◌∙◌, Option, Some, None, subst}
 use Rattle.std.proofs.lemmas.Option.{slice_get_within}
 use Rattle.std.specs.Prelude.{◌%◌, min, is_some, option_map, not, ◌&&◌, slice_get, get_or, count_by}
 use Rattle.ghost_model.specs.core.Channel.{Catalog, Journal}
@@ -22,6 +22,7 @@ use Rattle.key_session.specs.declared.replies.Replies.{Replies}
 use Rattle.std.specs.Option.{option_or}
 use Rattle.key_session.specs.Refusing.{code_of, first_code, code_on}
 use Rattle.session_laws.specs.TextCases.{TextsAreDecided, is_refused_in}
+use Rattle.leakless_plan.specs.declared.plan.Plan.{Plan}
 use Rattle.key_exec.specs.Texts.{broken_line}
 use Rattle.key_session.specs.Reasons.{CameTo, IsReason, AreSomeLines}
 use Rattle.page_pool.specs.Pools.{Pool}
@@ -36,28 +37,29 @@ use Rattle.channel_pump.specs.declared.state.ReplyState.TheVariants as state_is
 use Rattle.key_session.specs.TextOrder.{TextsComeInOrder}
 use Rattle.ghost_model.specs.core.Causes.{Rose, last_count}
 use Rattle.ghost_model.specs.core.Replies.{Reply}
-use Rattle.edge_traits.specs.Devices.{Device}
+use Rattle.edge_traits.specs.Devices.{Device, ChangesOnly}
+use Rattle.edge_traits.proofs.DeviceFrames.{changes_kept, kept_same}
 use Rattle.page_pool.specs.Pools.{ChangesPage}
 use Rattle.page_pool.specs.Laws.{KeepsOut}
 use Rattle.page_pool.proofs.Leases.{change_keeps_out, change_elsewhere, other_apart, others_kept}
 use Rattle.visible_spool.specs.declared.spool.Spool.{Spool}
 use Rattle.visible_spool.specs.Sides.{is_marked}
-use Rattle.visible_spool.specs.Sparing.{SparesHalf}
+use Rattle.visible_spool.specs.Areas.{half_begin, half_end}
 use Rattle.key_lines.specs.Handing.{Handed}
 use Rattle.key_exec.specs.Telling as lines
 use Rattle.key_exec.specs.Telling.{IsUnderWay, AreRepliesOf}
-use Rattle.key_exec.specs.Laws.{TellingsStayAble, TellingsAreSpared}
+use Rattle.key_exec.specs.Laws.{TellingIsSpared}
 use Rattle.key_exec.specs.Ready.{Spares}
 use Rattle.key_exec.specs.declared.telling.Telling.{Telling}
 use Rattle.key_session.specs.Awaiting.{IsWithin, IsOpen, IsAwaiting}
 use Rattle.key_session.specs.Telling.{SessionSide, AreMarked, KeepsFiles, texts_left}
-use Rattle.key_session.specs.Going.{CanRun, IsOutAlone, IsNear, IsGoing, IsTaken, IsRunning, Runs, IsAmid}
+use Rattle.key_session.specs.Going.{CanRun, RunIsSpared, IsOutAlone, IsNear, IsGoing, IsTaken, IsRunning, Runs, IsAmid}
 use Rattle.key_session.specs.declared.counts.Counts.{Counts}
 use Rattle.key_session.specs.declared.teller.Teller.{Teller}
 use Rattle.key_session.proofs.Coming.{done_so, done_still}
 use Rattle.key_session.proofs.Attending.{settled_outcome, before_settled, unsettled, within_now}
 use Rattle.key_session.proofs.OneMore.{no_fall, files_on, half_files}
-use Rattle.key_session.proofs.Adding.{still_no_fall, rose_before}
+use Rattle.key_session.proofs.Adding.{said_then, still_no_fall, rose_before}
 use Rattle.key_session.proofs.Readings.{read_later}
 use Rattle.key_session.proofs.Marking.{MarksGo, marks_same, marks_go, marked_same, marked_go, awaited_accepted}
 
@@ -158,12 +160,12 @@ pub record MoveTells (catalog : Catalog) (texts : List (List ℕ)) (count : ℕ)
   pub faults : before.faults ≤ now.faults
   pub marks : MarksGo count before.faults now.faults old new
   pub marked : (since : ℕ) → min since last_count ≤ before.calls → AreMarked catalog texts count since before.calls old → AreMarked catalog texts count since now.calls new
-  -- the half of the next text, once its asks are over
-  pub half : settled ≡ true → SparesHalf catalog ((count + 1) % 2) before now
+  -- what is written lies in the half that is not the next text's, once its asks are over
+  pub half : settled ≡ true → ChangesOnly (half_begin catalog (1 - (count + 1) % 2)) (half_end catalog (1 - (count + 1) % 2)) before now
   pub unmarked : settled ≡ true → is_lost new (count + 1) ≡ is_lost old (count + 1)
 
-other_half : (count text : ℕ) → text ≡ count + 2 → (count + 1) % 2 ≢ text % 2
-other_half count text is = λ (e : (count + 1) % 2 ≡ text % 2). omega (arith, is, e)
+other_half : (count text : ℕ) → text ≡ count + 2 → text % 2 ≡ 1 - (count + 1) % 2
+other_half count text is = omega (arith, is)
 
 half_below : (n : ℕ) → n % 2 < 2
 half_below n = omega arith
@@ -174,7 +176,7 @@ not_above a b e = omega (arith, e)
 last_text : (text count : ℕ) → count + 1 ≤ text → text ≤ count + 2 → text ≢ count + 1 → text ≡ count + 2
 last_text text count from near apart = omega (arith, from, near, apart)
 
-module _ (over : OverTextsAreSettled) (order : TextsComeInOrder) (decided : TextsAreDecided) (in_order : AsksAreAwaitedInOrder) (catalog : Catalog) (texts : List (List ℕ)) (journal : Journal) (count top last : ℕ) (pages_told : Bool) (before now : Device) (pool : Pool)
+module _ (over : OverTextsAreSettled) (order : TextsComeInOrder) (decided : TextsAreDecided) (in_order : AsksAreAwaitedInOrder) (catalog : Catalog) (texts : List (List ℕ)) (journal : Journal) (count top last : ℕ) (plan : Plan) (pages_told : Bool) (before now : Device) (pool : Pool)
     (replies middle kept : Replies) (near : IsNear catalog texts journal (count + 2)) (within : (asked : NumberedAsk) → asked_in (heard_in catalog texts journal).awaits ≡ Some asked → IsWithin (count + 1) top asked.text)
     (awaited : (asked : NumberedAsk) → asked_in (heard_in catalog texts journal).awaits ≡ Some asked → IsOpen asked.text last middle)
     (stands : IsKept pages_told before pool catalog (heard_in catalog texts journal) (count + 1) last middle) (spool : middle.spool ≡ replies.spool)
@@ -209,8 +211,8 @@ module _ (over : OverTextsAreSettled) (order : TextsComeInOrder) (decided : Text
         faults = marks.never_falls;
         marks = marks_same count before.faults now.faults replies kept lost (ap (λ (d : Device). d.faults) same);
         marked = λ since stayed are. marked_same catalog texts count since before.calls now.calls replies kept lost calls are;
-        half = λ _. subst (λ (d : Device). SparesHalf catalog ((count + 1) % 2) before d) (sym same)
-            (record { page_count = refl; static = λ number less. record { bytes = refl; blank = refl }; half = λ number from to. record { bytes = refl; blank = refl }; never_falls = omega arith; gave = λ at page bytes gave. gave });
+        half = λ _. subst (λ (d : Device). ChangesOnly (half_begin catalog (1 - (count + 1) % 2)) (half_end catalog (1 - (count + 1) % 2)) before d) (sym same)
+            (changes_kept (kept_same before) _ _);
         unmarked = λ _. lost (count + 1);
       }
 
@@ -238,7 +240,7 @@ module _ (over : OverTextsAreSettled) (order : TextsComeInOrder) (decided : Text
         marked = λ since stayed are.
             marked_go catalog texts count one.text since before.calls now.calls replies kept stayed calls
             (λ place written at stands_at. awaited_accepted in_order catalog texts journal one is place written at stands_at) called others are;
-        half = λ settled. heard.spares ((count + 1) % 2) (half_below (count + 1)) (λ (e : (count + 1) % 2 ≡ middle.hand.text % 2). other_half count one.text (behind settled) (e ∙ ap (λ (n : ℕ). n % 2) hand));
+        half = λ settled. subst (λ (side : ℕ). ChangesOnly (half_begin catalog side) (half_end catalog side) before now) (ap (λ (n : ℕ). n % 2) hand ∙ other_half count one.text (behind settled)) heard.writes;
         unmarked = λ settled. others (count + 1) (omega arith) (λ (e : count + 1 ≡ one.text). (let b : one.text ≡ count + 2 = behind settled in omega (arith, e, b)));
       }
 
@@ -251,13 +253,13 @@ module _ (over : OverTextsAreSettled) (order : TextsComeInOrder) (decided : Text
 
 -- ---- the texts that were told, after one more move
 
-pub going_on : EndedTextsStay → ReasonsStay → TextsAreDecided → (pages_told : Bool) (catalog : Catalog) (texts : List (List ℕ)) (journal more : Journal) (since : SessionSide) (sink : Handed) (before now : Device) (pool after : Pool) (top : ℕ) (pump later : Pump) (left : List (List ℕ)) (count : ℕ) (counts : Counts) (replies new : Replies) (settled : Bool)
-    → (going : IsGoing pages_told catalog texts journal since sink before pool pump left count counts replies) → (want_of pump ≡ want_is.Closed → ⊥) → top ≤ count + 2 → top ≤ length texts
+pub going_on : EndedTextsStay → ReasonsStay → TextsAreDecided → (plan : Plan) (pages_told : Bool) (catalog : Catalog) (texts : List (List ℕ)) (journal more : Journal) (since : SessionSide) (sink : Handed) (before now : Device) (pool after : Pool) (top : ℕ) (pump later : Pump) (left : List (List ℕ)) (count : ℕ) (counts : Counts) (replies new : Replies) (settled : Bool)
+    → (going : IsGoing plan pages_told catalog texts journal since sink before pool pump left count counts replies) → (want_of pump ≡ want_is.Closed → ⊥) → top ≤ count + 2 → top ≤ length texts
     → ((text : ℕ) → is_settled_in catalog texts journal text ≡ false → top ≤ text)
     → MoveTells catalog texts count before now replies new settled
     → IsKept pages_told now after catalog (heard_in catalog texts (journal ++ more)) (count + 1) top new
-    → IsGoing pages_told catalog texts (journal ++ more) since sink now after later left count counts new
-going_on stay reasons decided pages_told catalog texts journal more since sink before now pool after top pump later left count counts replies new settled going opened close within onward tells kept = record {
+    → IsGoing plan pages_told catalog texts (journal ++ more) since sink now after later left count counts new
+going_on stay reasons decided plan pages_told catalog texts journal more since sink before now pool after top pump later left count counts replies new settled going opened close within onward tells kept = record {
   top = top;
   telling = record {
     left_are = going.telling.left_are;
@@ -266,13 +268,13 @@ going_on stay reasons decided pages_told catalog texts journal more since sink b
     within = within;
     pages = files_on catalog since.flash before now going.telling.pages tells.files;
     calls = still_no_fall last_count since.flash.calls before.calls now.calls going.telling.calls calls;
-    called = λ e. rose_before last_count since.flash.calls before.calls now.calls (going.telling.called e) calls;
-    damage_called = λ e. rose_before last_count since.flash.calls before.calls now.calls (going.telling.damage_called e) calls;
+    called = said_then plan (λ rose e. rose_before last_count since.flash.calls before.calls now.calls (rose e) calls) going.telling.called;
+    damage_called = said_then plan (λ rose e. rose_before last_count since.flash.calls before.calls now.calls (rose e) calls) going.telling.damage_called;
     faults = still_no_fall last_count since.flash.faults before.faults now.faults going.telling.faults (no_fall last_count before.faults now.faults tells.faults);
     marked = tells.marked since.flash.calls going.telling.calls going.telling.marked;
     prints = going.telling.prints;
     damaged = going.telling.damaged;
-    read = λ damage e. read_later since.flash.calls since.flash.calls before now (omega arith) tells.files.gave pages_told catalog texts damage (going.telling.read damage e);
+    read = λ damage e. read_later since.flash.calls since.flash.calls before now (omega arith) tells.files.gave plan pages_told catalog texts damage (going.telling.read damage e);
     reasons = record {
       reasons = going.telling.reasons.reasons;
       as_many = going.telling.reasons.as_many;
@@ -334,9 +336,10 @@ going_on stay reasons decided pages_told catalog texts journal more since sink b
 
 -- ---- the text that is told, after one more move: its asks came to the same, and its half and its buffers stay
 
-spares_telling : (catalog : Catalog) (side : ℕ) (before now : Device) (pool after : Pool) (lease : ℕ) (telling : Telling) → SparesHalf catalog side before now → ChangesPage pool after lease → IsOutAlone (lines.leases_of telling) pool lease
+spares_telling : (catalog : Catalog) (side : ℕ) (before now : Device) (pool after : Pool) (lease : ℕ) (telling : Telling) → side < 2 → ChangesOnly (half_begin catalog (1 - side)) (half_end catalog (1 - side)) before now → ChangesPage pool after lease → IsOutAlone (lines.leases_of telling) pool lease
     → Spares catalog side before now pool after (lines.leases_of telling)
-spares_telling catalog side before now pool after lease telling half changes alone = record {
+spares_telling catalog side before now pool after lease telling less half changes alone = record {
+  side_is = less;
   device = half;
   out = change_keeps_out changes;
   buffers = λ i within. change_elsewhere changes (apart i within);
@@ -345,12 +348,12 @@ spares_telling catalog side before now pool after lease telling half changes alo
     apart : (i : ℕ) → i < length (lines.leases_of telling) → get_or (lines.leases_of telling) i 0 ≢ lease
     apart i within e = other_apart pool (lines.leases_of telling) lease i 0 within alone.out (sym e)
 
-pub running_on : EndedTextsStay → TextsAreDecided → TellingsAreSpared → (pages_told : Bool) (catalog : Catalog) (texts : List (List ℕ)) (journal more : Journal) (place : ℕ) (since : Device) (sink : Handed) (before now : SessionSide) (pool after : Pool) (old new : Replies) (telling : Telling)
-    → before.sink ≡ now.sink
+pub running_on : EndedTextsStay → TextsAreDecided → (plan : Plan) (pages_told : Bool) (catalog : Catalog) (texts : List (List ℕ)) (journal more : Journal) (place : ℕ) (since : Device) (sink : Handed) (before now : SessionSide) (pool after : Pool) (old new : Replies) (telling : Telling)
+    → TellingIsSpared telling → before.sink ≡ now.sink
     → ((is_settled_in catalog texts journal (place + 1) ≡ true) → Spares catalog ((place + 1) % 2) before.flash now.flash pool after (lines.leases_of telling))
     → ((is_settled_in catalog texts journal (place + 1) ≡ true) → is_lost new (place + 1) ≡ is_lost old (place + 1))
-    → IsRunning pages_told catalog texts journal place since sink before pool old telling → IsRunning pages_told catalog texts (journal ++ more) place since sink now after new telling
-running_on stay decided spared pages_told catalog texts journal more place since sink before now pool after old new telling same_sink spares unmarked running = record {
+    → IsRunning plan pages_told catalog texts journal place since sink before pool old telling → IsRunning plan pages_told catalog texts (journal ++ more) place since sink now after new telling
+running_on stay decided plan pages_told catalog texts journal more place since sink before now pool after old new telling spared same_sink spares unmarked running = record {
   start = running.start;
   half = running.half;
   taken = record {
@@ -365,15 +368,15 @@ running_on stay decided spared pages_told catalog texts journal more place since
     given = λ done is_told.
         subst (λ (given : List Reply). AreRepliesOf running.start.page catalog taken.written running.half given) (sym still.replied) (taken.given done is_told);
     files = taken.files;
-    under_way = subst (λ (s : Handed). IsUnderWay pages_told catalog ((place + 1) % 2) taken.written state_is.Done false running.half running.start now.flash sink s after telling) same_sink
-        (spared pages_told catalog ((place + 1) % 2) before.flash now.flash pool after telling (spares settled) taken.written state_is.Done false running.half running.start sink before.sink taken.under_way);
+    under_way = subst (λ (s : Handed). IsUnderWay plan pages_told catalog ((place + 1) % 2) taken.written state_is.Done false running.half running.start now.flash sink s after telling) same_sink
+        (spared plan pages_told catalog ((place + 1) % 2) before.flash now.flash pool after (spares settled) taken.written state_is.Done false running.half running.start sink before.sink taken.under_way);
   };
   query = running.query;
   accepted = running.accepted;
   unmarked = unmarked settled ∙ running.unmarked;
 }
   where
-    taken : IsTaken pages_told catalog texts journal place state_is.Done false running.half since (record { sink = sink; flash = running.start }) before pool telling
+    taken : IsTaken plan pages_told catalog texts journal place state_is.Done false running.half since (record { sink = sink; flash = running.start }) before pool telling
     taken = running.taken
 
     number : suc place ≡ place + 1
@@ -416,14 +419,12 @@ pub record TextLaws : Type 0 where
   pub order : TextsComeInOrder
   pub outcomes : TextsHaveOutcomes
   pub in_order : AsksAreAwaitedInOrder
-  pub able : TellingsStayAble
-  pub spared : TellingsAreSpared
 
 -- one more move: what is heard of the reply at hand
 module _ (laws : TextLaws) (fit : RepliesFit) (schema_text : List ℕ) (catalog : Catalog) (meant : MeansSchema schema_text catalog.schema)
-    (goes : Journal → Type 0) (pages_told : Bool) (at : List ℕ) (texts : List (List ℕ)) (journal : Journal) (since : SessionSide) (sink : Handed) (before : Device) (pool : Pool) (old new : Exchange) (teller : Teller) (replies middle : Replies) (event : Event)
+    (goes : Journal → Type 0) (plan : Plan) (pages_told : Bool) (at : List ℕ) (texts : List (List ℕ)) (journal : Journal) (since : SessionSide) (sink : Handed) (before : Device) (pool : Pool) (old new : Exchange) (teller : Teller) (replies middle : Replies) (event : Event)
     (opened : want_of old.pump ≡ want_is.Closed → ⊥) (near : IsNear catalog texts journal (teller.count + 2))
-    (amid : IsAmid pages_told catalog texts journal since (record { sink = sink; flash = before }) pool old.pump teller replies)
+    (amid : IsAmid plan pages_told catalog texts journal since (record { sink = sink; flash = before }) pool old.pump teller replies)
     (awaits : Fits catalog (heard_in catalog texts journal)
     → ((asked : NumberedAsk) → asked_in (heard_in catalog texts journal).awaits ≡ Some asked → IsWithin (teller.count + 1) amid.going.top asked.text)
     → IsKept pages_told before pool catalog (heard_in catalog texts journal) (teller.count + 1) amid.going.top replies
@@ -433,7 +434,7 @@ module _ (laws : TextLaws) (fit : RepliesFit) (schema_text : List ℕ) (catalog 
   fits = fit catalog schema_text texts (taken journal) meant
 
   pub within_of : (asked : NumberedAsk) → asked_in (heard_in catalog texts journal).awaits ≡ Some asked → IsWithin (teller.count + 1) amid.going.top asked.text
-  within_of = within_now laws.over laws.order laws.decided laws.outcomes catalog at texts journal old.pump pages_told since amid.sink before pool (texts_left teller) teller.count teller.counts replies amid.going opened near
+  within_of = within_now laws.over laws.order laws.decided laws.outcomes catalog at texts journal old.pump plan pages_told since amid.sink before pool (texts_left teller) teller.count teller.counts replies amid.going opened near
 
   pub awaiting_of : IsAwaiting pages_told before pool catalog (heard_in catalog texts journal) (teller.count + 1) amid.going.top replies middle
   awaiting_of = awaits fits within_of amid.going.telling.kept
@@ -460,9 +461,9 @@ module _ (laws : TextLaws) (fit : RepliesFit) (schema_text : List ℕ) (catalog 
 
 -- and what it makes of the texts
 module _ (laws : TextLaws) (fit : RepliesFit) (schema_text : List ℕ) (catalog : Catalog) (meant : MeansSchema schema_text catalog.schema)
-    (goes : Journal → Type 0) (pages_told : Bool) (at : List ℕ) (texts : List (List ℕ)) (journal : Journal) (since : SessionSide) (sink : Handed) (before : Device) (pool : Pool) (old new : Exchange) (teller : Teller) (replies middle : Replies) (event : Event)
+    (goes : Journal → Type 0) (plan : Plan) (pages_told : Bool) (at : List ℕ) (texts : List (List ℕ)) (journal : Journal) (since : SessionSide) (sink : Handed) (before : Device) (pool : Pool) (old new : Exchange) (teller : Teller) (replies middle : Replies) (event : Event)
     (opened : want_of old.pump ≡ want_is.Closed → ⊥) (near : IsNear catalog texts journal (teller.count + 2))
-    (amid : IsAmid pages_told catalog texts journal since (record { sink = sink; flash = before }) pool old.pump teller replies)
+    (amid : IsAmid plan pages_told catalog texts journal since (record { sink = sink; flash = before }) pool old.pump teller replies)
     (awaits : Fits catalog (heard_in catalog texts journal)
     → ((asked : NumberedAsk) → asked_in (heard_in catalog texts journal).awaits ≡ Some asked → IsWithin (teller.count + 1) amid.going.top asked.text)
     → IsKept pages_told before pool catalog (heard_in catalog texts journal) (teller.count + 1) amid.going.top replies
@@ -480,26 +481,26 @@ module _ (laws : TextLaws) (fit : RepliesFit) (schema_text : List ℕ) (catalog 
   now_heard = heard_in catalog texts journal
 
   abbrev within : (asked : NumberedAsk) → asked_in (heard_in catalog texts journal).awaits ≡ Some asked → IsWithin (teller.count + 1) amid.going.top asked.text
-  within = within_of laws fit schema_text catalog meant goes pages_told at texts journal since sink before pool old new teller replies middle event opened near amid awaits moved
+  within = within_of laws fit schema_text catalog meant goes plan pages_told at texts journal since sink before pool old new teller replies middle event opened near amid awaits moved
 
   abbrev awaiting : IsAwaiting pages_told before pool catalog (heard_in catalog texts journal) (teller.count + 1) amid.going.top replies middle
-  awaiting = awaiting_of laws fit schema_text catalog meant goes pages_told at texts journal since sink before pool old new teller replies middle event opened near amid awaits moved
+  awaiting = awaiting_of laws fit schema_text catalog meant goes plan pages_told at texts journal since sink before pool old new teller replies middle event opened near amid awaits moved
 
   both : IsKept pages_told now after catalog (heard_in catalog texts (journal ++ moved.made ∷ [])) (teller.count + 1) awaiting.last kept × HasHeard catalog (teller.count + 1) middle.hand.text before now middle kept
   both =
       hears (heard_in catalog texts (journal ++ moved.made ∷ [])) (teller.count + 1) awaiting.last
-      (hearing laws fit schema_text catalog meant goes pages_told at texts journal since sink before pool old new teller replies middle event opened near amid awaits moved)
+      (hearing laws fit schema_text catalog meant goes plan pages_told at texts journal since sink before pool old new teller replies middle event opened near amid awaits moved)
 
   pub tells_now : MoveTells catalog texts teller.count before now replies kept (is_settled_in catalog texts journal (teller.count + 1))
   tells_now =
-      move_tells laws.over laws.order laws.decided laws.in_order catalog texts journal teller.count amid.going.top awaiting.last pages_told before now pool replies middle kept near within awaiting.awaited awaiting.kept spool both.1 marks still still_spool
+      move_tells laws.over laws.order laws.decided laws.in_order catalog texts journal teller.count amid.going.top awaiting.last plan pages_told before now pool replies middle kept near within awaiting.awaited awaiting.kept spool both.1 marks still still_spool
 
   pub written_now : WritesHalf catalog middle.hand.text before now
   written_now = both.1.writes
 
-  going_now : IsGoing pages_told catalog texts (journal ++ moved.made ∷ []) since amid.sink now after new.pump (texts_left teller) teller.count teller.counts kept
+  going_now : IsGoing plan pages_told catalog texts (journal ++ moved.made ∷ []) since amid.sink now after new.pump (texts_left teller) teller.count teller.counts kept
   going_now =
-      going_on laws.stay laws.reasons laws.decided pages_told catalog texts journal more since amid.sink before now pool after awaiting.last old.pump new.pump (texts_left teller) teller.count teller.counts replies kept (is_settled_in catalog texts journal (teller.count + 1))
+      going_on laws.stay laws.reasons laws.decided plan pages_told catalog texts journal more since amid.sink before now pool after awaiting.last old.pump new.pump (texts_left teller) teller.count teller.counts replies kept (is_settled_in catalog texts journal (teller.count + 1))
       amid.going opened
       (last_now (asked_in now_heard.awaits) awaiting.last amid.going.top teller.count (λ one e. (awaiting.awaited one e).last_is) awaiting.still near amid.going.telling.near)
       (last_within (asked_in now_heard.awaits) awaiting.last amid.going.top (length texts) (λ one e. (awaiting.awaited one e).last_is) awaiting.still (λ one e. (laws.order catalog texts (taken journal) one e).within) amid.going.telling.within)
@@ -508,8 +509,8 @@ module _ (laws : TextLaws) (fit : RepliesFit) (schema_text : List ℕ) (catalog 
       tells_now both.0
 
   -- the text that is told may go on
-  pub can_run : ChangesPage pool after (lease_of replies) → CanRun pages_told catalog before pool (teller.count + 1) (lease_of replies) teller.running → CanRun pages_told catalog now after (teller.count + 1) (lease_of replies) teller.running
-  can_run changes run = by teller.running amid.running run
+  pub can_run : (one : Plan) → RunIsSpared teller.running → ChangesPage pool after (lease_of replies) → CanRun one pages_told catalog before pool (teller.count + 1) (lease_of replies) teller.running → CanRun one pages_told catalog now after (teller.count + 1) (lease_of replies) teller.running
+  can_run one spared changes run = by teller.running spared amid.running run
     where
       keeps : KeepsOut pool after
       keeps = change_keeps_out changes
@@ -527,31 +528,32 @@ module _ (laws : TextLaws) (fit : RepliesFit) (schema_text : List ℕ) (catalog 
             free = subst (λ (out : List Bool). count_by not out + 1 ≡ length after.pages) (sym same) (is.free ∙ sym size);
           }
 
-      by : (running : Option Telling) → Runs pages_told catalog texts journal teller.count since.flash amid.sink (record { sink = sink; flash = before }) pool replies running
-          → CanRun pages_told catalog before pool (teller.count + 1) (lease_of replies) running → CanRun pages_told catalog now after (teller.count + 1) (lease_of replies) running
-      by None runs run = record { can = tt; alone = alone [] run.alone }
-      by (Some telling) runs run = record {
-        can = laws.able pages_told catalog ((teller.count + 1) % 2) before now pool after telling
-            (spares_telling catalog ((teller.count + 1) % 2) before now pool after (lease_of replies) telling (tells_now.half (done_so catalog texts journal (teller.count + 1) (sym runs.taken.is_state)).1) changes run.alone)
+      by : (running : Option Telling) → RunIsSpared running → Runs plan pages_told catalog texts journal teller.count since.flash amid.sink (record { sink = sink; flash = before }) pool replies running
+          → CanRun one pages_told catalog before pool (teller.count + 1) (lease_of replies) running → CanRun one pages_told catalog now after (teller.count + 1) (lease_of replies) running
+      by None spared runs run = record { can = tt; alone = alone [] run.alone }
+      by (Some telling) spared runs run = record {
+        can = spared.0 one pages_told catalog ((teller.count + 1) % 2) before now pool after
+            (spares_telling catalog ((teller.count + 1) % 2) before now pool after (lease_of replies) telling (half_below (teller.count + 1)) (tells_now.half (done_so catalog texts journal (teller.count + 1) (sym runs.taken.is_state)).1) changes run.alone)
             run.can;
         alone = alone (lines.leases_of telling) run.alone;
       }
 
-  pub moved_amid : ChangesPage pool after (lease_of replies) → CanRun pages_told catalog before pool (teller.count + 1) (lease_of replies) teller.running
-      → IsAmid pages_told catalog texts (journal ++ moved.made ∷ []) since (record { sink = sink; flash = now }) after new.pump teller kept
-  moved_amid changes run = record {
+  pub moved_amid : RunIsSpared teller.running → ChangesPage pool after (lease_of replies) → CanRun plan pages_told catalog before pool (teller.count + 1) (lease_of replies) teller.running
+      → IsAmid plan pages_told catalog texts (journal ++ moved.made ∷ []) since (record { sink = sink; flash = now }) after new.pump teller kept
+  moved_amid spared changes run = record {
+    plan = amid.plan;
     sink = amid.sink;
     going = going_now;
-    running = by teller.running amid.running run;
+    running = by teller.running spared amid.running run;
   }
     where
-      by : (running : Option Telling) → Runs pages_told catalog texts journal teller.count since.flash amid.sink (record { sink = sink; flash = before }) pool replies running
-          → CanRun pages_told catalog before pool (teller.count + 1) (lease_of replies) running
-          → Runs pages_told catalog texts (journal ++ moved.made ∷ []) teller.count since.flash amid.sink (record { sink = sink; flash = now }) after kept running
-      by None runs run = runs
-      by (Some telling) runs run =
-          running_on laws.stay laws.decided laws.spared pages_told catalog texts journal more teller.count since.flash amid.sink (record { sink = sink; flash = before }) (record { sink = sink; flash = now }) pool after replies kept telling refl
-          (λ settled. spares_telling catalog ((teller.count + 1) % 2) before now pool after (lease_of replies) telling (tells_now.half settled) changes run.alone)
+      by : (running : Option Telling) → RunIsSpared running → Runs plan pages_told catalog texts journal teller.count since.flash amid.sink (record { sink = sink; flash = before }) pool replies running
+          → CanRun plan pages_told catalog before pool (teller.count + 1) (lease_of replies) running
+          → Runs plan pages_told catalog texts (journal ++ moved.made ∷ []) teller.count since.flash amid.sink (record { sink = sink; flash = now }) after kept running
+      by None spared runs run = runs
+      by (Some telling) spared runs run =
+          running_on laws.stay laws.decided plan pages_told catalog texts journal more teller.count since.flash amid.sink (record { sink = sink; flash = before }) (record { sink = sink; flash = now }) pool after replies kept telling spared.1 refl
+          (λ settled. spares_telling catalog ((teller.count + 1) % 2) before now pool after (lease_of replies) telling (half_below (teller.count + 1)) (tells_now.half settled) changes run.alone)
           tells_now.unmarked runs
 
 -- the reply to an ask is begun in the same buffer

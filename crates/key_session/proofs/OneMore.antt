@@ -1,6 +1,6 @@
 -- A teller after one more text.
-use Rattle.std.proofs.Common.{[], ◌∷◌, ◌++◌, ◌≡◌, ◌≤◌, ◌<◌, ℕ, zero, suc, ◌+◌, arith, Bool, true, List, sym, ap, ◌∙◌, subst, Some, slice_get}
-use Rattle.edge_traits.proofs.DeviceFrames.{changes_trans, changes_wider, changes_kept}
+use Rattle.std.proofs.Common.{[], ◌∷◌, ◌++◌, ◌≡◌, ◌≤◌, ◌<◌, ℕ, zero, suc, ◌+◌, arith, Bool, true, false, List, sym, ap, ◌∙◌, subst, Some, slice_get}
+use Rattle.edge_traits.proofs.DeviceFrames.{changes_trans, changes_wider}
 use Rattle.std.specs.Prelude.{◌%◌, min}
 use Rattle.std.specs.List.{concat}
 use Rattle.ghost_model.specs.core.Lines.{Reason}
@@ -10,10 +10,10 @@ use Rattle.ghost_model.specs.core.Channel.{Catalog, Journal}
 use Rattle.ghost_model.specs.core.Asks.{asked_of}
 use Rattle.ghost_model.specs.core.NextMove.{standing_after}
 use Rattle.ghost_model.specs.core.Split.{hidden_of}
-use Rattle.ghost_model.specs.core.Replies.{replies}
+use Rattle.ghost_model.specs.core.Replies.{Reply, replies}
 use Rattle.ghost_model.specs.laws.SchemaTrees.{IsTree}
-use Rattle.ghost_model.specs.forms.Layout.{static_end, need}
-use Rattle.edge_traits.specs.Devices.{Device, KeepsPages}
+use Rattle.ghost_model.specs.forms.Layout.{static_end, spool_end, need}
+use Rattle.edge_traits.specs.Devices.{Device, ChangesOnly}
 use Rattle.channel_pump.specs.Marks.{state_of}
 use Rattle.channel_pump.specs.declared.state.ReplyState.{ReplyState}
 use Rattle.session_laws.specs.TextEnds.{heard_in}
@@ -25,10 +25,12 @@ use Rattle.key_session.specs.Kept.{IsKept, is_lost}
 use Rattle.key_session.specs.Laws.{LaterTextsAreUnmarked, LowRises}
 use Rattle.key_session.specs.declared.replies.Replies.{Replies}
 use Rattle.key_lines.specs.Handing.{PiecesJoin}
+use Rattle.leakless_plan.specs.declared.plan.Plan.{Plan}
+use Rattle.leakless_plan.specs.declared.plan.Plan.TheVariants.{Scan, Pre}
 use Rattle.key_exec.specs.Laws.{KeepsStatic, PagesStayKnownBut, DamageStays}
-use Rattle.key_exec.specs.Reading.{KnowsBut}
-use Rattle.key_exec.specs.Texts.{ToldTells, ToldBlames, ToldReads, Why}
-use Rattle.key_exec.specs.Telling.{HasTold, AreLinesOf}
+use Rattle.key_exec.specs.Reading.{KnowsButBy}
+use Rattle.key_exec.specs.Texts.{IsDone, ToldTells, ToldBlames, ToldReads, Why}
+use Rattle.key_exec.specs.Telling.{HasTold, AreLinesOf, AreRepliesOf, AreThere}
 use Rattle.key_exec.specs.declared.text.Told.{Told}
 use Rattle.key_exec.specs.declared.text.Told.TheVariants as told
 use Rattle.key_session.specs.Counting.{one_if, reason_of, IsCounted}
@@ -80,8 +82,9 @@ half_files catalog text a b writes = (let lies = within (text % 2) (below text) 
     within (suc zero) less = (omega arith, omega arith)
     within (suc (suc side)) less = absurd (omega (arith, less))
 
-pub files_kept : (catalog : Catalog) (a b c : Device) → KeepsFiles catalog a b → KeepsPages b c → KeepsFiles catalog a c
-files_kept catalog a b c first second = changes_trans first (changes_kept second _ _)
+-- and where pages behind the spool are
+pub files_kept : (catalog : Catalog) (a b c : Device) → KeepsFiles catalog a b → ChangesOnly (spool_end catalog) (need catalog) b c → KeepsFiles catalog a c
+files_kept catalog a b c first second = changes_trans first (changes_wider second (static_end catalog) (need catalog) (omega arith) (omega arith))
 
 -- and so do the pages below the spool
 pub static_later : (catalog : Catalog) (a b : Device) → KeepsFiles catalog a b → KeepsStatic catalog a.page b.page
@@ -91,34 +94,45 @@ pub static_earlier : (catalog : Catalog) (a b : Device) → KeepsFiles catalog a
 static_earlier catalog a b files = λ number less. sym (files.below number less).bytes
 
 -- a slot that is blamed is damaged since the first
-blamed_first : DamageStays → (pages_told : Bool) (page now : ℕ → List ℕ) (catalog : Catalog) (text : List ℕ) (side : ℕ) (half : Half) (result : Told) → IsTree catalog.schema
-    → KeepsStatic catalog page now → ToldBlames pages_told page catalog text side half result → ToldBlames pages_told now catalog text side half result
-blamed_first stays pages_told page now catalog text side half told.Refused tree same blames = blames
-blamed_first stays pages_told page now catalog text side half told.Answered tree same blames = blames
-blamed_first stays pages_told page now catalog text side half told.Host tree same blames = blames
-blamed_first stays pages_told page now catalog text side half told.Link tree same blames = blames
-blamed_first stays pages_told page now catalog text side half told.Protocol tree same blames = blames
-blamed_first stays pages_told page now catalog text side half told.Marked tree same blames = blames
-blamed_first stays pages_told page now catalog text side half told.Flash tree same blames = blames
-blamed_first stays pages_told page now catalog text side half (told.Damaged damage) tree same blames = record {
+blamed_first : DamageStays → (plan : Plan) (pages_told : Bool) (page now : ℕ → List ℕ) (catalog : Catalog) (text : List ℕ) (side : ℕ) (half : Half) (result : Told) → IsTree catalog.schema
+    → KeepsStatic catalog page now → ToldBlames plan pages_told page catalog text side half result → ToldBlames plan pages_told now catalog text side half result
+blamed_first stays plan pages_told page now catalog text side half told.Refused tree same blames = blames
+blamed_first stays plan pages_told page now catalog text side half told.Answered tree same blames = blames
+blamed_first stays plan pages_told page now catalog text side half told.Host tree same blames = blames
+blamed_first stays plan pages_told page now catalog text side half told.Link tree same blames = blames
+blamed_first stays plan pages_told page now catalog text side half told.Protocol tree same blames = blames
+blamed_first stays plan pages_told page now catalog text side half told.Marked tree same blames = blames
+blamed_first stays plan pages_told page now catalog text side half told.Flash tree same blames = blames
+blamed_first stays plan pages_told page now catalog text side half (told.Damaged damage) tree same blames = record {
   query = blames.query;
   means = blames.means;
   top = blames.top;
   top_is = blames.top_is;
-  is = stays pages_told page now catalog blames.query blames.top side half damage.page damage.slot damage.found tree same blames.is;
+  is = stays plan pages_told page now catalog blames.query blames.top side half damage.page damage.slot damage.found tree same blames.is;
 }
+
+-- what is known is known of pages that are told
+told_known : (plan : Plan) (pages_told : Bool) (page : ℕ → List ℕ) (catalog : Catalog) (database : Database) → KnowsButBy plan pages_told page catalog database → pages_told ≡ true
+told_known Scan pages_told page catalog database knows = knows.is_told
+told_known Pre pages_told page catalog database knows = knows.0.is_told
+
+-- and the replies of a text are there
+are_there : (plan : Plan) (pages_told : Bool) (page : ℕ → List ℕ) (catalog : Catalog) (text : List ℕ) (state : ReplyState) (marked : Bool) (half : Half) (given : List Reply)
+    → (IsDone state marked false → pages_told ≡ true → AreRepliesOf page catalog text half given) → AreThere plan pages_told page catalog text state marked half
+are_there Scan pages_told page catalog text state marked half given are = tt
+are_there Pre pages_told page catalog text state marked half given are = λ done is_told. record { replies = given; are = are done is_told }
 
 -- what the laws say of the pages
 pub record PageLaws : Type 0 where
   pub but : PagesStayKnownBut
   pub damage : DamageStays
 
-module _ (join : PiecesJoin) (decided : TextsAreDecided) (laws : PageLaws) (later : LaterTextsAreUnmarked) (rises : LowRises) (pages_told : Bool) (catalog : Catalog) (tree : IsTree catalog.schema) (texts : List (List ℕ)) (journal : Journal) (top : ℕ) (since first before now : SessionSide)
+module _ (join : PiecesJoin) (decided : TextsAreDecided) (laws : PageLaws) (later : LaterTextsAreUnmarked) (rises : LowRises) (plan : Plan) (pages_told : Bool) (catalog : Catalog) (tree : IsTree catalog.schema) (texts : List (List ℕ)) (journal : Journal) (top : ℕ) (since first before now : SessionSide)
     (old new : Teller) (pool more : Pool) (store : Replies) (state : ReplyState) (half : Half) (text : Telling) (result : Told)
-    (telling : IsTelling pages_told catalog texts journal top since first.sink before.flash pool (texts_left old) old.count old.counts store)
-    (taken : IsTaken pages_told catalog texts journal old.count state (is_lost store (old.count + 1)) half since.flash first before pool text)
-    (ends : HasTold pages_told catalog ((old.count + 1) % 2) (old.count + 1) taken.written state (is_lost store (old.count + 1)) half first.flash now.flash first.sink now.sink result)
-    (tells : ToldTells before.flash.faults now.flash.faults result) (kept_pages : KeepsPages before.flash now.flash)
+    (telling : IsTelling plan pages_told catalog texts journal top since first.sink before.flash pool (texts_left old) old.count old.counts store)
+    (taken : IsTaken plan pages_told catalog texts journal old.count state (is_lost store (old.count + 1)) half since.flash first before pool text)
+    (ends : HasTold plan pages_told catalog ((old.count + 1) % 2) (old.count + 1) taken.written state (is_lost store (old.count + 1)) half first.flash now.flash first.sink now.sink result)
+    (tells : ToldTells before.flash.faults now.flash.faults result) (kept_pages : ChangesOnly (spool_end catalog) (need catalog) before.flash now.flash)
     (kept : IsKept pages_told now.flash more catalog (heard_in catalog texts journal) (old.count + 1) top store) (ended : EndsText result old new) where
   abbrev marked : Bool
   marked = is_lost store (old.count + 1)
@@ -129,20 +143,21 @@ module _ (join : PiecesJoin) (decided : TextsAreDecided) (laws : PageLaws) (late
   files : KeepsFiles catalog since.flash now.flash
   files = files_kept catalog since.flash before.flash now.flash telling.pages kept_pages
 
-  blames_now : IsSoOfText texts old.count (λ text side half. ToldBlames pages_told since.flash.page catalog text side half result)
+  blames_now : IsSoOfText texts old.count (λ text side half. ToldBlames plan pages_told since.flash.page catalog text side half result)
   blames_now = record {
     text = taken.written;
     stands = taken.stands;
     half = half;
-    is = blamed_first laws.damage pages_told first.flash.page since.flash.page catalog taken.written ((old.count + 1) % 2) half result tree (static_earlier catalog since.flash first.flash taken.files) ends.blames;
+    is = blamed_first laws.damage plan pages_told first.flash.page since.flash.page catalog taken.written ((old.count + 1) % 2) half result tree (static_earlier catalog since.flash first.flash taken.files)
+        (ends.blames (are_there plan pages_told first.flash.page catalog taken.written state marked half (replies catalog (asked_of catalog.schema texts) journal (old.count + 1)) taken.given));
   }
 
-  read_now : IsSoOfText texts old.count (λ text side half. ToldReads pages_told since.flash.calls now.flash catalog text side half result)
+  read_now : IsSoOfText texts old.count (λ text side half. ToldReads plan pages_told since.flash.calls now.flash catalog text side half result)
   read_now = record {
     text = taken.written;
     stands = taken.stands;
     half = half;
-    is = told_earlier pages_told catalog since.flash.calls first.flash.calls now.flash taken.written ((old.count + 1) % 2) half result taken.files.never_falls ends.read;
+    is = told_earlier plan pages_told catalog since.flash.calls first.flash.calls now.flash taken.written ((old.count + 1) % 2) half result taken.files.never_falls ends.read;
   }
 
   number : suc old.count ≡ old.count + 1
@@ -162,7 +177,7 @@ module _ (join : PiecesJoin) (decided : TextsAreDecided) (laws : PageLaws) (late
 
   tells_mark : TellsMark (is_lost store (old.count + 1)) result
   tells_mark =
-      mark_told catalog.schema written state (is_lost store (old.count + 1)) result ends.by
+      mark_told catalog.schema written state (is_lost store (old.count + 1)) result ends.told_by
       (λ is. telling.marked.accepted old.count written (omega arith) here (subst (λ (n : ℕ). is_lost store n ≡ true) (sym number) is))
 
   here_is : state ≡ state_of (asked_of catalog.schema texts) (suc old.count) (standing_after catalog (asked_of catalog.schema texts) journal)
@@ -175,7 +190,7 @@ module _ (join : PiecesJoin) (decided : TextsAreDecided) (laws : PageLaws) (late
     is_reason = reason_so catalog texts journal old.count written state here_is
         (λ query accepted. decided catalog texts journal old.count written query here accepted)
         (λ query accepted. taken.came old.count written query (next_number old.count) here accepted)
-        (is_lost store (old.count + 1)) result ends.by;
+        (is_lost store (old.count + 1)) result ends.told_by;
   }
 
   has_lines : HasLines catalog texts journal old.count (reason_of result) ends.lines
@@ -185,20 +200,20 @@ module _ (join : PiecesJoin) (decided : TextsAreDecided) (laws : PageLaws) (late
     lines_are = lines_so catalog texts journal old.count written state here_is
         (λ query accepted. decided catalog texts journal old.count written query here accepted)
         (λ query accepted. taken.came old.count written query (next_number old.count) here accepted)
-        (is_lost store (old.count + 1)) ends.lines result ends.by (subst (λ (n : ℕ). AreLinesOf catalog.schema n written ends.lines result) (sym number) ends.are);
+        (is_lost store (old.count + 1)) ends.lines result ends.told_by (subst (λ (n : ℕ). AreLinesOf catalog.schema n written ends.lines result) (sym number) ends.are);
   }
 
-  but_first : (database : Database) → KnowsBut pages_told since.flash.page catalog database → KnowsBut pages_told first.flash.page catalog database
-  but_first database knows = laws.but pages_told since.flash.page first.flash.page catalog database tree (static_later catalog since.flash first.flash taken.files) knows
+  but_first : (database : Database) → KnowsButBy plan pages_told since.flash.page catalog database → KnowsButBy plan pages_told first.flash.page catalog database
+  but_first database knows = laws.but plan pages_told since.flash.page first.flash.page catalog database tree (static_later catalog since.flash first.flash taken.files) knows
 
-  tells_why : (database : Database) → KnowsBut pages_told since.flash.page catalog database
+  tells_why : (database : Database) → KnowsButBy plan pages_told since.flash.page catalog database
       → Why catalog.schema (hidden_of catalog.schema database) (replies catalog (asked_of catalog.schema texts) journal (suc old.count)) (suc old.count) written state ends.lines result
   tells_why database knows =
       subst (λ (n : ℕ). Why catalog.schema (hidden_of catalog.schema database) (replies catalog (asked_of catalog.schema texts) journal n) n written state ends.lines result) (sym number)
       (ends.why database (replies catalog (asked_of catalog.schema texts) journal (old.count + 1)) (but_first database knows)
-      (λ done. taken.given done knows.is_told))
+      (λ done. taken.given done (told_known plan pages_told since.flash.page catalog database knows)))
 
-  answers_now : (database : Database) → KnowsBut pages_told since.flash.page catalog database
+  answers_now : (database : Database) → KnowsButBy plan pages_told since.flash.page catalog database
       → HasAnswerLines catalog (hidden_of catalog.schema database) texts journal old.count (reason_of result) ends.lines
   answers_now database knows =
       answers_so catalog (hidden_of catalog.schema database) texts journal old.count written here
@@ -206,10 +221,10 @@ module _ (join : PiecesJoin) (decided : TextsAreDecided) (laws : PageLaws) (late
       (λ query accepted. taken.came old.count written query (next_number old.count) here accepted)
       state here_is ends.lines result (tells_why database knows)
 
-  both_now : (more : HaveSoFar catalog texts journal (old.count + 1) (AreKeptSoFar pages_told since.flash.page catalog texts new.counts marks since.flash.faults now.flash.faults))
+  both_now : (more : HaveSoFar catalog texts journal (old.count + 1) (AreKeptSoFar plan pages_told since.flash.page catalog texts new.counts marks since.flash.faults now.flash.faults))
       × HaveLines catalog texts journal more.reasons since.sink now.sink × (more.reasons ≡ telling.reasons.reasons ++ reason_of result ∷ [])
   both_now =
-      one_reason pages_told since.flash.page catalog texts join journal old.count old.counts new.counts since.flash.faults before.flash.faults now.flash.faults marks marked result
+      one_reason plan pages_told since.flash.page catalog texts join journal old.count old.counts new.counts since.flash.faults before.flash.faults now.flash.faults marks marked result
       since.sink first.sink now.sink ends.lines telling.reasons has_reason tells tells_mark counted ended.first blames_now telling.lines has_lines ends.handed_on
 
   same_marks : marks ≡ marks_behind store new.count
@@ -223,7 +238,7 @@ module _ (join : PiecesJoin) (decided : TextsAreDecided) (laws : PageLaws) (late
   stayed : min since.flash.calls last_count ≤ first.flash.calls
   stayed = no_fall last_count since.flash.calls first.flash.calls taken.files.never_falls
 
-  pub tell_one : IsTelling pages_told catalog texts journal top since now.sink now.flash more (texts_left new) new.count new.counts store
+  pub tell_one : IsTelling plan pages_told catalog texts journal top since now.sink now.flash more (texts_left new) new.count new.counts store
   tell_one = record {
     left_are = subst (λ (n : ℕ). AreLeft texts (texts_left new) n) (sym next_count) (left_more texts old.count (texts_left old) (texts_left new) ended.texts.0 telling.left_are ended.texts.1);
     kept = subst (λ (n : ℕ). IsKept pages_told now.flash more catalog (heard_in catalog texts journal) (n + 1) top store) (sym next_count)
@@ -232,21 +247,21 @@ module _ (join : PiecesJoin) (decided : TextsAreDecided) (laws : PageLaws) (late
     within = telling.within;
     pages = files;
     calls = still_no_fall last_count since.flash.calls before.flash.calls now.flash.calls telling.calls calls;
-    called = called_more since.flash.calls first.flash.calls before.flash.calls now.flash.calls old.counts new.counts marked result counted telling.called calls stayed ends.called tells_mark
+    called = called_more plan since.flash.calls first.flash.calls before.flash.calls now.flash.calls old.counts new.counts marked result counted telling.called calls stayed ends.called tells_mark
         (telling.marked.called (old.count + 1) (omega arith));
-    damage_called = damage_called_more since.flash.calls first.flash.calls before.flash.calls now.flash.calls old.counts new.counts result counted telling.damage_called calls stayed ends.called;
+    damage_called = damage_called_more plan since.flash.calls first.flash.calls before.flash.calls now.flash.calls old.counts new.counts result counted telling.damage_called calls stayed ends.called;
     faults = never_falls since.flash.faults before.flash.faults now.flash.faults result telling.faults tells;
     marked = subst (λ (n : ℕ). AreMarked catalog texts n since.flash.calls now.flash.calls store) (sym next_count)
         (marked_next catalog texts old.count since.flash.calls before.flash.calls now.flash.calls store calls telling.marked);
     prints = some_more join since.sink first.sink now.sink telling.prints (record { piece = concat ends.lines; handed = ends.handed_on });
-    damaged = one_damage pages_told since.flash.page catalog texts old.count old.counts.damage new.counts.damage result ended.first blames_now telling.damaged;
-    read = first_read pages_told catalog texts since.flash.calls now.flash old.count old.counts.damage new.counts.damage result ended.first read_now
-        (λ damage e. read_later since.flash.calls since.flash.calls before.flash now.flash (omega arith) kept_pages.gave pages_told catalog texts damage (telling.read damage e));
+    damaged = one_damage plan pages_told since.flash.page catalog texts old.count old.counts.damage new.counts.damage result ended.first blames_now telling.damaged;
+    read = first_read plan pages_told catalog texts since.flash.calls now.flash old.count old.counts.damage new.counts.damage result ended.first read_now
+        (λ damage e. read_later since.flash.calls since.flash.calls before.flash now.flash (omega arith) kept_pages.gave plan pages_told catalog texts damage (telling.read damage e));
     reasons = record {
       reasons = both_now.0.reasons;
       as_many = both_now.0.as_many ∙ sym next_count;
       each = both_now.0.each;
-      counted = subst (λ (n : ℕ). AreKeptSoFar pages_told since.flash.page catalog texts new.counts n since.flash.faults now.flash.faults both_now.0.reasons) same_marks both_now.0.counted;
+      counted = subst (λ (n : ℕ). AreKeptSoFar plan pages_told since.flash.page catalog texts new.counts n since.flash.faults now.flash.faults both_now.0.reasons) same_marks both_now.0.counted;
     };
     lines = both_now.1;
     answers = λ database knows. subst (λ (rs : List Reason). HaveAnswerLines catalog (hidden_of catalog.schema database) texts journal rs since.sink now.sink) (sym both_now.2)

@@ -7,6 +7,8 @@ use Rattle.visible_spool.specs.declared.half.Half.{Half}
 use Rattle.edge_traits.specs.Devices.{Device, GaveSince}
 use Rattle.flash_pages.specs.Reads as reads
 use Rattle.ghost_model.specs.forms.Runs as runs
+use Rattle.leakless_plan.specs.declared.plan.Plan.{Plan}
+use Rattle.leakless_plan.specs.declared.plan.Plan.TheVariants.{Scan, Pre}
 use Rattle.key_exec.specs.Blaming.{WasDamaged}
 use Rattle.key_exec.specs.Texts.{ToldReads, WasDamagedFor}
 use Rattle.key_exec.specs.declared.damage.Damage.{Damage}
@@ -26,9 +28,10 @@ module _ (early since : ℕ) (before now : Device) (earlier : early ≤ since) (
   read_on : (run : runs.Run) (place : ℕ) (bytes : List ℕ) → reads.WasRead since before run place bytes → reads.WasRead early now run place bytes
   read_on run place bytes read = record { bytes = read.bytes; gave = gave_on read.bytes (runs.page_of run place) read.gave; record_is = read.record_is }
 
-  damage_on : (pages_told : Bool) (catalog : Catalog) (asked : Query) (top side : ℕ) (half : Half) (number slot found : ℕ)
-      → WasDamaged pages_told since before catalog asked top side half number slot found → WasDamaged pages_told early now catalog asked top side half number slot found
-  damage_on pages_told catalog asked top side half number slot found (inl was) = inl (record {
+  damage_on : (plan : Plan) (pages_told : Bool) (catalog : Catalog) (asked : Query) (top side : ℕ) (half : Half) (number slot found : ℕ)
+      → WasDamaged plan pages_told since before catalog asked top side half number slot found → WasDamaged plan pages_told early now catalog asked top side half number slot found
+  damage_on Pre pages_told catalog asked top side half number slot found was = tt
+  damage_on Scan pages_told catalog asked top side half number slot found (inl was) = inl (record {
     table = was.table;
     column = was.column;
     read_for = was.read_for;
@@ -44,7 +47,7 @@ module _ (early since : ℕ) (before now : Device) (earlier : early ≤ since) (
       found_is = was.cell.found_is;
     };
   })
-  damage_on pages_told catalog asked top side half number slot found (inr was) = inr (record {
+  damage_on Scan pages_told catalog asked top side half number slot found (inr was) = inr (record {
     table = was.table;
     there = was.there;
     asked_for = was.asked_for;
@@ -63,34 +66,34 @@ module _ (early since : ℕ) (before now : Device) (earlier : early ≤ since) (
     };
   })
 
-  pub damage_for : (pages_told : Bool) (catalog : Catalog) (text : List ℕ) (side : ℕ) (half : Half) (number slot found : ℕ)
-      → WasDamagedFor pages_told since before catalog text side half number slot found → WasDamagedFor pages_told early now catalog text side half number slot found
-  damage_for pages_told catalog text side half number slot found was = record {
+  pub damage_for : (plan : Plan) (pages_told : Bool) (catalog : Catalog) (text : List ℕ) (side : ℕ) (half : Half) (number slot found : ℕ)
+      → WasDamagedFor plan pages_told since before catalog text side half number slot found → WasDamagedFor plan pages_told early now catalog text side half number slot found
+  damage_for plan pages_told catalog text side half number slot found was = record {
     query = was.query;
     means = was.means;
     top = was.top;
     top_is = was.top_is;
-    is = damage_on pages_told catalog was.query was.top side half number slot found was.is;
+    is = damage_on plan pages_told catalog was.query was.top side half number slot found was.is;
   }
 
-  pub read_later : (pages_told : Bool) (catalog : Catalog) (texts : List (List ℕ)) (damage : Damage)
-      → WasRead pages_told since before catalog texts damage → WasRead pages_told early now catalog texts damage
-  read_later pages_told catalog texts damage was = (
+  pub read_later : (plan : Plan) (pages_told : Bool) (catalog : Catalog) (texts : List (List ℕ)) (damage : Damage)
+      → WasRead plan pages_told since before catalog texts damage → WasRead plan pages_told early now catalog texts damage
+  read_later plan pages_told catalog texts damage was = (
     was.0,
     record {
       text = was.1.text;
       stands = was.1.stands;
       half = was.1.half;
-      is = damage_for pages_told catalog was.1.text ((was.0 + 1) % 2) was.1.half damage.page damage.slot damage.found was.1.is;
+      is = damage_for plan pages_told catalog was.1.text ((was.0 + 1) % 2) was.1.half damage.page damage.slot damage.found was.1.is;
     },
   )
 
 -- the damage that was met first, after one more text
-module _ (pages_told : Bool) (catalog : Catalog) (texts : List (List ℕ)) (since : ℕ) (device : Device) where
+module _ (plan : Plan) (pages_told : Bool) (catalog : Catalog) (texts : List (List ℕ)) (since : ℕ) (device : Device) where
   abbrev ReadAt : (place : ℕ) → Told → Type 0
-  ReadAt place result = IsSoOfText texts place (λ text side half. ToldReads pages_told since device catalog text side half result)
+  ReadAt place result = IsSoOfText texts place (λ text side half. ToldReads plan pages_told since device catalog text side half result)
 
-  slot_read : (place : ℕ) (result : Told) (damage : Damage) → ReadAt place result → damage_in result ≡ Some damage → WasRead pages_told since device catalog texts damage
+  slot_read : (place : ℕ) (result : Told) (damage : Damage) → ReadAt place result → damage_in result ≡ Some damage → WasRead plan pages_told since device catalog texts damage
   slot_read place told.Refused damage read e = cc
   slot_read place told.Answered damage read e = cc
   slot_read place told.Host damage read e = cc
@@ -99,27 +102,27 @@ module _ (pages_told : Bool) (catalog : Catalog) (texts : List (List ℕ)) (sinc
   slot_read place told.Marked damage read e = cc
   slot_read place told.Flash damage read e = cc
   slot_read place (told.Damaged met) damage read e =
-      subst (λ (d : Damage). WasRead pages_told since device catalog texts d) (some_same met damage e)
+      subst (λ (d : Damage). WasRead plan pages_told since device catalog texts d) (some_same met damage e)
       (place, record { text = read.text; stands = read.stands; half = read.half; is = read.is })
     where
       some_same : (x y : Damage) → Some x ≡ Some y → x ≡ y
       some_same x y f = cc
 
   pub first_read : (place : ℕ) (before after : Option Damage) (result : Told) → after ≡ first_damage before (damage_in result) → ReadAt place result
-      → ((damage : Damage) → before ≡ Some damage → WasRead pages_told since device catalog texts damage)
-      → (damage : Damage) → after ≡ Some damage → WasRead pages_told since device catalog texts damage
+      → ((damage : Damage) → before ≡ Some damage → WasRead plan pages_told since device catalog texts damage)
+      → (damage : Damage) → after ≡ Some damage → WasRead plan pages_told since device catalog texts damage
   first_read place (Some first) after result is read were damage e = were damage (sym is ∙ e)
   first_read place None after result is read were damage e = slot_read place result damage read (sym is ∙ e)
 
 -- a text was told after the session had begun
-pub told_earlier : (pages_told : Bool) (catalog : Catalog) (early since : ℕ) (device : Device) (text : List ℕ) (side : ℕ) (half : Half) (result : Told) → early ≤ since
-    → ToldReads pages_told since device catalog text side half result → ToldReads pages_told early device catalog text side half result
-told_earlier pages_told catalog early since device text side half told.Refused earlier read = read
-told_earlier pages_told catalog early since device text side half told.Answered earlier read = read
-told_earlier pages_told catalog early since device text side half told.Host earlier read = read
-told_earlier pages_told catalog early since device text side half told.Link earlier read = read
-told_earlier pages_told catalog early since device text side half told.Protocol earlier read = read
-told_earlier pages_told catalog early since device text side half told.Marked earlier read = read
-told_earlier pages_told catalog early since device text side half told.Flash earlier read = read
-told_earlier pages_told catalog early since device text side half (told.Damaged damage) earlier read =
-    damage_for early since device device earlier (λ at page bytes gave. gave) pages_told catalog text side half damage.page damage.slot damage.found read
+pub told_earlier : (plan : Plan) (pages_told : Bool) (catalog : Catalog) (early since : ℕ) (device : Device) (text : List ℕ) (side : ℕ) (half : Half) (result : Told) → early ≤ since
+    → ToldReads plan pages_told since device catalog text side half result → ToldReads plan pages_told early device catalog text side half result
+told_earlier plan pages_told catalog early since device text side half told.Refused earlier read = read
+told_earlier plan pages_told catalog early since device text side half told.Answered earlier read = read
+told_earlier plan pages_told catalog early since device text side half told.Host earlier read = read
+told_earlier plan pages_told catalog early since device text side half told.Link earlier read = read
+told_earlier plan pages_told catalog early since device text side half told.Protocol earlier read = read
+told_earlier plan pages_told catalog early since device text side half told.Marked earlier read = read
+told_earlier plan pages_told catalog early since device text side half told.Flash earlier read = read
+told_earlier plan pages_told catalog early since device text side half (told.Damaged damage) earlier read =
+    damage_for early since device device earlier (λ at page bytes gave. gave) plan pages_told catalog text side half damage.page damage.slot damage.found read

@@ -27,9 +27,12 @@ use Rattle.key_session.specs.Laws.{LaterTextsAreUnmarked}
 use Rattle.key_session.specs.declared.replies.Replies.{Replies}
 use Rattle.key_lines.specs.Handing.{PiecesJoin}
 use Rattle.ghost_model.specs.laws.SchemaTrees.{IsTree}
+use Rattle.leakless_plan.specs.declared.plan.Plan.{Plan}
 use Rattle.key_exec.specs.Laws.{DamageIsNeverMet}
-use Rattle.key_exec.specs.Reading.{Knows}
+use Rattle.key_exec.specs.Reading.{KnowsBy}
 use Rattle.key_exec.specs.Rows.{PrintsSome}
+use Rattle.key_exec.specs.Jobs.{ForScan}
+use Rattle.key_session.proofs.Adding.{said, said_then}
 use Rattle.key_session.specs.Answering.{AnswersWhereSound}
 use Rattle.key_session.specs.Counting.{AreCounted, is_refusal, is_flash, is_broken, is_damage, one_if}
 use Rattle.key_session.specs.Reasons.{HaveReasons, AreBlamed, CameTo, IsReason, HasReason, is_refused_text}
@@ -52,11 +55,11 @@ abbrev no_counts : Counts
 no_counts = record { refused = 0; faulted = 0; by_flash = false; damage = None }
 
 -- before the first move
-pub at_first : PiecesJoin → (pages_told : Bool) (catalog : Catalog) (texts : List (List ℕ)) (since : SessionSide) (pool : Pool) (pump : Pump) (count : ℕ) (counts : Counts) (left : List (List ℕ)) (replies : Replies)
+pub at_first : PiecesJoin → (plan : Plan) (pages_told : Bool) (catalog : Catalog) (texts : List (List ℕ)) (since : SessionSide) (pool : Pool) (pump : Pump) (count : ℕ) (counts : Counts) (left : List (List ℕ)) (replies : Replies)
     → left ≡ texts → count ≡ 0 → counts ≡ record { refused = 0; faulted = 0; by_flash = false; damage = None }
     → IsKept pages_told since.flash pool catalog (none_heard catalog) 1 0 replies → ((text : ℕ) → 0 < text → is_lost replies text ≡ false)
-    → IsGoing pages_told catalog texts [] since since.sink since.flash pool pump left count counts replies
-at_first join pages_told catalog texts since pool pump count counts left replies all none is_none kept unmarked = record {
+    → IsGoing plan pages_told catalog texts [] since since.sink since.flash pool pump left count counts replies
+at_first join plan pages_told catalog texts since pool pump count counts left replies all none is_none kept unmarked = record {
   top = 0;
   telling = record {
     left_are = subst (λ (n : ℕ). AreLeft texts left n) (sym none) (record { left_are = all; within = omega arith });
@@ -65,8 +68,8 @@ at_first join pages_told catalog texts since pool pump count counts left replies
     within = omega arith;
     pages = changes_kept (kept_same since.flash) _ _;
     calls = omega arith;
-    called = λ e. absurd (none_failed (sym (ap (λ (c : Counts). c.by_flash) is_none) ∙ e));
-    damage_called = λ e. absurd (none_failed (sym (ap (λ (c : Counts). is_some c.damage) is_none) ∙ e));
+    called = said plan (λ e. absurd (none_failed (sym (ap (λ (c : Counts). c.by_flash) is_none) ∙ e)));
+    damage_called = said plan (λ e. absurd (none_failed (sym (ap (λ (c : Counts). is_some c.damage) is_none) ∙ e)));
     faults = omega arith;
     marked = record {
       called = λ text from e. absurd (none_failed (sym (unmarked text (omega (arith, from))) ∙ e));
@@ -250,19 +253,19 @@ none_broken catalog texts journal place query undone well (ByHost d refused word
 none_broken catalog texts journal place query undone well (ByLink d r stop word) = true_is_not_false (sym stop ∙ (any_stop journal ∙ well.0))
 none_broken catalog texts journal place query undone well (ByFrame d r stop broken word) = true_is_not_false (sym broken ∙ well.1)
 
-pub record IsLast (went : Journal → Type 0) (link_before link_now : ℕ) (pages_told : Bool) (catalog : Catalog) (at : List ℕ) (texts : List (List ℕ)) (since now : SessionSide) (tally : Tally) : Type 0 where
-  pub ran : HasRun went link_before link_now pages_told catalog at texts since now tally
+pub record IsLast (went : Journal → Type 0) (link_before link_now : ℕ) (plan : Plan) (pages_told : Bool) (catalog : Catalog) (at : List ℕ) (texts : List (List ℕ)) (since now : SessionSide) (tally : Tally) : Type 0 where
+  pub ran : HasRun went link_before link_now plan pages_told catalog at texts since now tally
   pub many : tally.texts ≡ length texts
   pub prints : PrintsSome since.sink now.sink
   pub pages : KeepsFiles catalog since.flash now.flash
   pub calls : min since.flash.calls last_count ≤ now.flash.calls
-  pub called : blames_flash tally.status ≡ true → Rose since.flash.calls now.flash.calls
-  pub damage_called : is_damaged tally.status ≡ true → Rose since.flash.calls now.flash.calls
+  pub called : ForScan plan (blames_flash tally.status ≡ true → Rose since.flash.calls now.flash.calls)
+  pub damage_called : ForScan plan (is_damaged tally.status ≡ true → Rose since.flash.calls now.flash.calls)
   pub faults : min since.flash.faults last_count ≤ now.flash.faults
 
 -- what the status says of the flash
-module _ {went : Journal → Type 0} {link_before link_now : ℕ} {pages_told : Bool} {catalog : Catalog} {at : List ℕ} {texts : List (List ℕ)} {since now : SessionSide} {tally : Tally}
-    (ran : HasRun went link_before link_now pages_told catalog at texts since now tally) where
+module _ {went : Journal → Type 0} {link_before link_now : ℕ} {plan : Plan} {pages_told : Bool} {catalog : Catalog} {at : List ℕ} {texts : List (List ℕ)} {since now : SessionSide} {tally : Tally}
+    (ran : HasRun went link_before link_now plan pages_told catalog at texts since now tally) where
   abbrev session : Standing
   session = standing_after catalog (asked_of catalog.schema texts) ran.journal
 
@@ -305,18 +308,18 @@ none_met Is none (reason ∷ reasons) (None ∷ damages) e each =
     rw (first, none_met Is none reasons damages later (λ place damage f. each (suc place) damage f)) refl
 none_met Is none (reason ∷ reasons) (Some damage ∷ damages) e each = absurd (none damage (each 0 damage refl))
 
-pub has_run : LaterTextsAreUnmarked → DamageIsNeverMet → (went : Journal → Type 0) (link_before link_now : ℕ) (pages_told : Bool) (catalog : Catalog) (at : List ℕ) (texts : List (List ℕ)) (since now : SessionSide) (exchange : Exchange) (journal : Journal) (top : ℕ) (pool : Pool) (left : List (List ℕ)) (count : ℕ) (counts : Counts) (replies : Replies)
+pub has_run : LaterTextsAreUnmarked → DamageIsNeverMet → (went : Journal → Type 0) (link_before link_now : ℕ) (plan : Plan) (pages_told : Bool) (catalog : Catalog) (at : List ℕ) (texts : List (List ℕ)) (since now : SessionSide) (exchange : Exchange) (journal : Journal) (top : ℕ) (pool : Pool) (left : List (List ℕ)) (count : ℕ) (counts : Counts) (replies : Replies)
     (tally : Tally)
     → IsTree catalog.schema → WentBy went link_before link_now journal → IsLive catalog at (asked_of catalog.schema texts) journal exchange → IsFinished journal
-    → IsTelling pages_told catalog texts journal top since now.sink now.flash pool left count counts replies
+    → IsTelling plan pages_told catalog texts journal top since now.sink now.flash pool left count counts replies
     → left ≡ []
     → tally.texts ≡ count → tally.refused ≡ counts.refused → tally.faulted ≡ counts.faulted
     → tally.status ≡ status_with now.sink.failed (standing_after catalog (asked_of catalog.schema texts) journal) counts.by_flash counts.damage
-    → (IsProper catalog at texts journal → IsFinished journal → AreAnswered pages_told catalog texts journal since now tally → AnswersWhereSound pages_told catalog texts journal since now tally)
-    → IsLast went link_before link_now pages_told catalog at texts since now tally
-has_run later never went link_before link_now pages_told catalog at texts since now exchange journal top pool left many_told counts replies tally tree went_by live is_finished last none many refused faulted status_is answers =
+    → (IsProper catalog at texts journal → IsFinished journal → AreAnswered plan pages_told catalog texts journal since now tally → AnswersWhereSound plan pages_told catalog texts journal since now tally)
+    → IsLast went link_before link_now plan pages_told catalog at texts since now tally
+has_run later never went link_before link_now plan pages_told catalog at texts since now exchange journal top pool left many_told counts replies tally tree went_by live is_finished last none many refused faulted status_is answers =
     let have : HaveReasons catalog texts journal (length texts)
-    (λ reasons. IsTallied pages_told since.flash.page catalog texts now.sink.failed (standing_after catalog (asked_of catalog.schema texts) journal) reasons tally) since.flash.faults now.flash.faults =
+    (λ reasons. IsTallied plan pages_told since.flash.page catalog texts now.sink.failed (standing_after catalog (asked_of catalog.schema texts) journal) reasons tally) since.flash.faults now.flash.faults =
     record {
       reasons = last.reasons.reasons;
       as_many = last.reasons.as_many ∙ count;
@@ -359,14 +362,14 @@ has_run later never went link_before link_now pages_told catalog at texts since 
       prints = last.prints;
       pages = last.pages;
       calls = last.calls;
-      called = λ e.
-          last.called
+      called = said_then plan (λ rose e.
+          rose
           (blamed_so now.sink.failed (standing_after catalog (asked_of catalog.schema texts) journal).stopped (standing_after catalog (asked_of catalog.schema texts) journal).heard.broken _ _ _ counts.by_flash counts.damage
-          (ap blames_flash (sym status_is) ∙ e));
-      damage_called = λ e.
-          last.damage_called
+          (ap blames_flash (sym status_is) ∙ e))) last.called;
+      damage_called = said_then plan (λ rose e.
+          rose
           (met_so now.sink.failed (standing_after catalog (asked_of catalog.schema texts) journal).stopped (standing_after catalog (asked_of catalog.schema texts) journal).heard.broken _ _ _ counts.by_flash counts.damage
-          (ap is_damaged (sym status_is) ∙ e));
+          (ap is_damaged (sym status_is) ∙ e))) last.damage_called;
       faults = last.faults;
     }
   where
@@ -383,13 +386,13 @@ has_run later never went link_before link_now pages_told catalog at texts since 
         ap one_if (later pages_told now.flash pool catalog (heard_in catalog texts journal) (many_told + 1) top (many_told + 2) replies last.kept (omega (arith, upto, count))) in
         omega (arith, one, two)
 
-    undamaged : (database : Database) → Knows pages_told since.flash.page catalog database → list_any is_damage last.reasons.reasons ≡ false
+    undamaged : (database : Database) → KnowsBy plan pages_told since.flash.page catalog database → list_any is_damage last.reasons.reasons ≡ false
     undamaged database knows =
         let met = last.reasons.counted.kept.met in
-        none_met (IsSlot pages_told since.flash.page catalog texts)
+        none_met (IsSlot plan pages_told since.flash.page catalog texts)
         (λ damage is.
         let of = is.1.is in
-        never pages_told since.flash.page catalog of.query of.top ((is.0 + 1) % 2) is.1.half database damage.page damage.slot damage.found tree knows of.is)
+        never plan pages_told since.flash.page catalog of.query of.top ((is.0 + 1) % 2) is.1.half database damage.page damage.slot damage.found tree knows of.is)
         last.reasons.reasons met.damages met.by_reason (λ place damage e. (place, met.each place damage e))
 
 -- a claim of whether a write failed, at the first and at last

@@ -9,6 +9,7 @@ use Rattle.ghost_model.specs.forms.Layout.{need}
 use Rattle.ghost_model.specs.laws.SchemaTrees.{IsTree}
 use Rattle.key_exec.specs.Laws.{KnowledgeIsEnough, DamageIsNeverMet}
 use Rattle.key_exec.specs.Plans.{Suffices}
+use Rattle.leakless_plan.specs.declared.plan.Plan.{Plan}
 use Rattle.key_session.specs.Kept.{lease_of}
 use Rattle.key_session.specs.Laws.{LaterTextsAreUnmarked}
 use Rattle.channel_pump.specs.declared.state.Pump.{Pump}
@@ -49,7 +50,7 @@ still_suffices catalog before now same suffices = record {
 }
 
 pub can_still : (told : Bool) (device : Device) (pool : Pool) (old new : Session) → new.cat ≡ old.cat → new.teller ≡ old.teller → lease_of new.replies ≡ lease_of old.replies
-    → Suffices old.cat.now device → CanRun told old.cat.now device pool (old.teller.count + 1) (lease_of old.replies) old.teller.running → CanStep told device pool new
+    → Suffices old.cat.now device → CanRun old.teller.plan told old.cat.now device pool (old.teller.count + 1) (lease_of old.replies) old.teller.running → CanStep told device pool new
 can_still told device pool old new cat teller lease suffices run = record {
   suffices = rw cat suffices;
   run = rw (cat, teller, lease) run;
@@ -64,18 +65,18 @@ by_rule over order decided catalog texts journal session owed settled =
     due_rule over order decided catalog texts journal session.teller.count session.pace.owed owed (is_closed (want_of session.exchange.pump)) (is_some session.teller.ahead)
     (λ opened. settled (λ shut. true_is_not_false (sym (ap is_closed shut) ∙ opened)))
 
-pub by_rule_live : OverTextsAreSettled → TextsComeInOrder → TextsAreDecided → (told : Bool) (texts : List (List ℕ)) (journal : Journal) (since now : SessionSide) (pool : Pool) (session : Session)
-    → IsLive told texts journal since now pool session → due_in session.cat.now (asked_of session.cat.now.schema texts) journal session ≡ due_by_rule session.cat.now texts journal session
-by_rule_live over order decided told texts journal since now pool session live =
+pub by_rule_live : OverTextsAreSettled → TextsComeInOrder → TextsAreDecided → (plan : Plan) (told : Bool) (texts : List (List ℕ)) (journal : Journal) (since now : SessionSide) (pool : Pool) (session : Session)
+    → IsLive plan told texts journal since now pool session → due_in session.cat.now (asked_of session.cat.now.schema texts) journal session ≡ due_by_rule session.cat.now texts journal session
+by_rule_live over order decided plan told texts journal since now pool session live =
     by_rule over order decided session.cat.now texts journal session live.owed (λ opened. live.amid.going.settled opened)
 
-pub come_on : (before_it made later : Journal → Type 0) (told : Bool) (texts : List (List ℕ)) (since before now : SessionSide) (pool more : Pool) (old new : Session)
+pub come_on : (before_it made later : Journal → Type 0) (plan : Plan) (told : Bool) (texts : List (List ℕ)) (since before now : SessionSide) (pool more : Pool) (old new : Session)
     → ((first then : Journal) → before_it first → made then → later (first ++ then))
-    → ((journal : Journal) → IsLive told texts journal since before pool old → WentOn (due_by_rule old.cat.now texts journal old) made told texts journal since before now more old new)
-    → HasCome before_it told texts since before pool old → HasCome later told texts since now more new
-come_on before_it made later told texts since before now pool more old new joins steps come = by (due_by_rule old.cat.now texts come.journal old) (steps come.journal come.live)
+    → ((journal : Journal) → IsLive plan told texts journal since before pool old → WentOn (due_by_rule old.cat.now texts journal old) made plan told texts journal since before now more old new)
+    → HasCome before_it plan told texts since before pool old → HasCome later plan told texts since now more new
+come_on before_it made later plan told texts since before now pool more old new joins steps come = by (due_by_rule old.cat.now texts come.journal old) (steps come.journal come.live)
   where
-    by : (d : Due) → WentOn d made told texts come.journal since before now more old new → HasCome later told texts since now more new
+    by : (d : Due) → WentOn d made plan told texts come.journal since before now more old new → HasCome later plan told texts since now more new
     by due.Move moved = record { journal = come.journal ++ moved.made ∷ []; went = joins come.journal (moved.made ∷ []) come.went moved.went; live = moved.live }
     by due.Slice sliced = record {
       journal = come.journal;
@@ -85,16 +86,16 @@ come_on before_it made later told texts since before now pool more old new joins
     by due.Ended none = absurd none
 
 -- the live session over the catalog and the address that it was begun with
-pub record IsLiveAt (told : Bool) (cat : Catalog) (at : List ℕ) (texts : List (List ℕ)) (journal : Journal) (since now : SessionSide) (pool : Pool) (session : Session) : Type 0 where
+pub record IsLiveAt (plan : Plan) (told : Bool) (cat : Catalog) (at : List ℕ) (texts : List (List ℕ)) (journal : Journal) (since now : SessionSide) (pool : Pool) (session : Session) : Type 0 where
   pub channel : moves.IsLive cat at (asked_of cat.schema texts) journal session.exchange
-  pub amid : IsAmid told cat texts journal since now pool session.exchange.pump session.teller session.replies
+  pub amid : IsAmid plan told cat texts journal since now pool session.exchange.pump session.teller session.replies
   pub refusal_is : session.refusal ≡ first_code (heard_in cat texts journal).ended
 
-pub live_at : (told : Bool) (cat : Catalog) (at : List ℕ) (texts : List (List ℕ)) (journal : Journal) (since now : SessionSide) (pool : Pool) (session : Session) → session.cat.now ≡ cat → session.at.now ≡ at
-    → IsLive told texts journal since now pool session → IsLiveAt told cat at texts journal since now pool session
-live_at told cat at texts journal since now pool session cat_is at_is live =
-    subst (λ (c : Catalog). IsLiveAt told c at texts journal since now pool session) cat_is
-    (subst (λ (a : List ℕ). IsLiveAt told session.cat.now a texts journal since now pool session) at_is
+pub live_at : (plan : Plan) (told : Bool) (cat : Catalog) (at : List ℕ) (texts : List (List ℕ)) (journal : Journal) (since now : SessionSide) (pool : Pool) (session : Session) → session.cat.now ≡ cat → session.at.now ≡ at
+    → IsLive plan told texts journal since now pool session → IsLiveAt plan told cat at texts journal since now pool session
+live_at plan told cat at texts journal since now pool session cat_is at_is live =
+    subst (λ (c : Catalog). IsLiveAt plan told c at texts journal since now pool session) cat_is
+    (subst (λ (a : List ℕ). IsLiveAt plan told session.cat.now a texts journal since now pool session) at_is
     (record { channel = live.channel; amid = live.amid; refusal_is = live.refusal_is }))
 
 none_running : (teller : Teller) → is_some teller.ahead ≡ false → is_some teller.running ≡ false
@@ -108,13 +109,13 @@ none_running teller none = by (is_some teller.running) refl
     by true e = absurd (true_false (sym (teller.told_now e) ∙ none))
 
 -- where no text is left all were told
-pub all_over : (told : Bool) (cat : Catalog) (texts : List (List ℕ)) (journal : Journal) (since now : SessionSide) (pool : Pool) (pump : Pump) (teller : Teller) (kept : Replies) → is_some teller.ahead ≡ false
-    → IsAmid told cat texts journal since now pool pump teller kept → IsGoing told cat texts journal since now.sink now.flash pool pump (texts_left teller) teller.count teller.counts kept
-all_over told cat texts journal since now pool pump teller kept none amid = none_taken told cat texts journal since now pool pump teller kept (none_running teller none) amid
+pub all_over : (plan : Plan) (told : Bool) (cat : Catalog) (texts : List (List ℕ)) (journal : Journal) (since now : SessionSide) (pool : Pool) (pump : Pump) (teller : Teller) (kept : Replies) → is_some teller.ahead ≡ false
+    → IsAmid plan told cat texts journal since now pool pump teller kept → IsGoing plan told cat texts journal since now.sink now.flash pool pump (texts_left teller) teller.count teller.counts kept
+all_over plan told cat texts journal since now pool pump teller kept none amid = none_taken plan told cat texts journal since now pool pump teller kept (none_running teller none) amid
 
 -- and no buffer is out but that of the replies
-pub alone_over : (told : Bool) (cat : Catalog) (device : Device) (pool : Pool) (number lease : ℕ) (teller : Teller) → is_some teller.ahead ≡ false → CanRun told cat device pool number lease teller.running → IsOutAlone [] pool lease
-alone_over told cat device pool number lease teller none run = by teller.running (none_running teller none) run.alone
+pub alone_over : (plan : Plan) (told : Bool) (cat : Catalog) (device : Device) (pool : Pool) (number lease : ℕ) (teller : Teller) → is_some teller.ahead ≡ false → CanRun plan told cat device pool number lease teller.running → IsOutAlone [] pool lease
+alone_over plan told cat device pool number lease teller none run = by teller.running (none_running teller none) run.alone
   where
     by : (running : Option Telling) → is_some running ≡ false → IsOutAlone (leases_of running) pool lease → IsOutAlone [] pool lease
     by None e alone = alone
@@ -152,20 +153,20 @@ at_still old new e = rw e refl
 
 -- the whole session, once nothing is due
 pub last_of : LaterTextsAreUnmarked → KnowledgeIsEnough → DamageIsNeverMet → HonestSessionsAreSmooth → HonestLinesArePrinted → moves.ClosedIsFinished → (cat : Catalog) → IsCatalog cat → IsTree cat.schema → (texts : List (List ℕ)) → length texts ≤ 64
-    → (went : Journal → Type 0) (link_before link_now : ℕ) (told : Bool) (at : List ℕ) (since : SessionSide) (faults : ℕ) (written : Option (List ℕ)) (device : Device) (pool : Pool) (session : Session) (tally : Tally)
+    → (went : Journal → Type 0) (link_before link_now : ℕ) (plan : Plan) (told : Bool) (at : List ℕ) (since : SessionSide) (faults : ℕ) (written : Option (List ℕ)) (device : Device) (pool : Pool) (session : Session) (tally : Tally)
     → session.cat.now ≡ cat → session.at.now ≡ at
-    → HasCome (WentBy went link_before link_now) told texts since (session_side session.teller.printer.failed faults written device) pool session
+    → HasCome (WentBy went link_before link_now) plan told texts since (session_side session.teller.printer.failed faults written device) pool session
     → want_of session.exchange.pump ≡ want_is.Closed → is_some session.teller.ahead ≡ false
     → tally.texts ≡ session.teller.count → tally.refused ≡ session.teller.counts.refused → tally.faulted ≡ session.teller.counts.faulted
     → ((catalog : Catalog) (asks : List NumberedAsk) (journal : Journal) → IsAfter catalog asks journal session.exchange.pump → session.refusal ≡ first_code (standing_after catalog asks journal).heard.ended
     → tally.status ≡ status_with session.teller.printer.failed (standing_after catalog asks journal) session.teller.counts.by_flash session.teller.counts.damage)
-    → IsLast went link_before link_now told cat at texts since (session_side session.teller.printer.failed faults written device) tally
-last_of later enough never smooth prints closed cat proper tree texts few went link_before link_now told at since faults written device pool session tally cat_is at_is come shut none many refused faulted status =
+    → IsLast went link_before link_now plan told cat at texts since (session_side session.teller.printer.failed faults written device) tally
+last_of later enough never smooth prints closed cat proper tree texts few went link_before link_now plan told at since faults written device pool session tally cat_is at_is come shut none many refused faulted status =
     let now = session_side session.teller.printer.failed faults written device in
-    let live = live_at told cat at texts come.journal since now pool session cat_is at_is come.live in
+    let live = live_at plan told cat at texts come.journal since now pool session cat_is at_is come.live in
     let finished = closed cat at (asked_of cat.schema texts) come.journal session.exchange live.channel shut in
-    let going = all_over told cat texts come.journal since now pool session.exchange.pump session.teller session.replies none live.amid in
-    has_run later never went link_before link_now told cat at texts since now session.exchange come.journal going.top pool (texts_left session.teller) session.teller.count session.teller.counts session.replies tally
+    let going = all_over plan told cat texts come.journal since now pool session.exchange.pump session.teller session.replies none live.amid in
+    has_run later never went link_before link_now plan told cat at texts since now session.exchange come.journal going.top pool (texts_left session.teller) session.teller.count session.teller.counts session.replies tally
     tree come.went live.channel finished going.telling (empty _ session.teller.ahead session.teller.texts none (session.teller.last none)) many refused faulted
     (status cat (asked_of cat.schema texts) come.journal live.channel.after live.refusal_is)
-    (λ is_proper is_finished tells. answers_all smooth prints enough told cat at texts come.journal since now tally proper tree few is_proper is_finished tells)
+    (λ is_proper is_finished tells. answers_all smooth prints enough plan told cat at texts come.journal since now tally proper tree few is_proper is_finished tells)

@@ -8,14 +8,15 @@ use Rattle.ghost_model.specs.core.Honest.{IsHonest}
 use Rattle.ghost_model.specs.core.Printed.{printed}
 use Rattle.ghost_model.specs.core.Split.{public_of}
 use Rattle.edge_traits.specs.Written.{grown}
-use Rattle.key_exec.specs.Reading.{Knows}
+use Rattle.leakless_plan.specs.declared.plan.Plan.{Plan}
+use Rattle.key_exec.specs.Reading.{KnowsBy}
 use Rattle.key_session.specs.Telling.{SessionSide}
 use Rattle.key_session.specs.declared.tally.Tally.{Tally}
 use Rattle.key_session.specs.declared.tally.SessionStatus.TheVariants as status
 
-pub record IsSound (told : Bool) (cat : Catalog) (database : Database) (journal : Journal) (since now : SessionSide) : Type 0 where
+pub record IsSound (by : Plan) (told : Bool) (cat : Catalog) (database : Database) (journal : Journal) (since now : SessionSide) : Type 0 where
   pub host : IsHonest cat (public_of cat.schema database) journal
-  pub pages : Knows told since.flash.page cat database
+  pub pages : KnowsBy by told since.flash.page cat database
   pub flash : Rose since.flash.faults now.flash.faults → ⊥
   pub sink : now.sink.failed ≡ false
 
@@ -25,7 +26,7 @@ pub record AnswersAll (cat : Catalog) (texts : List (List ℕ)) (database : Data
   pub status_is : tally.status ≡ status.Ok
 
 -- whichever database it is
-abbrev pub AnswersWhereSound : (told : Bool) → Catalog → (texts : List (List ℕ)) → Journal → (since now : SessionSide) → Tally → Type 0
-AnswersWhereSound told cat texts journal since now tally =
-    (database : Database) → IsSound told cat database journal since now
+abbrev pub AnswersWhereSound : (by : Plan) (told : Bool) → Catalog → (texts : List (List ℕ)) → Journal → (since now : SessionSide) → Tally → Type 0
+AnswersWhereSound by told cat texts journal since now tally =
+    (database : Database) → IsSound by told cat database journal since now
     → AnswersAll cat texts database since now tally

@@ -5,6 +5,7 @@ use Rattle.ghost_model.specs.core.Channel.{Catalog}
 use Rattle.ghost_model.specs.core.Lines.{Reason}
 use Rattle.visible_spool.specs.declared.half.Half.{Half}
 use Rattle.edge_traits.specs.Devices.{Device}
+use Rattle.leakless_plan.specs.declared.plan.Plan.{Plan}
 use Rattle.key_exec.specs.Texts.{IsDamagedFor, WasDamagedFor}
 use Rattle.key_exec.specs.declared.damage.Damage.{Damage}
 use Rattle.key_session.specs.Counting.{first_of, is_damage, AreCounted}
@@ -17,30 +18,31 @@ pub record IsSoOfText (texts : List (List ℕ)) (place : ℕ) (IsSo : (text : Li
   pub half : Half
   pub is : IsSo text ((place + 1) % 2) half
 
--- a damaged slot that is read for the text at a place, whatever the pages hold
-abbrev pub IsSlotOf : (pages_told : Bool) (page : ℕ → List ℕ) → Catalog → (texts : List (List ℕ)) (place : ℕ) → Damage → Type 0
-IsSlotOf pages_told page catalog texts place damage =
-    IsSoOfText texts place (λ text side half. IsDamagedFor pages_told page catalog text side half damage.page damage.slot damage.found)
+-- A damaged slot that is read for the text at a place, whatever the pages hold. By the indexes it is one of the static files, where what
+-- these are of is known.
+abbrev pub IsSlotOf : (by : Plan) (pages_told : Bool) (page : ℕ → List ℕ) → Catalog → (texts : List (List ℕ)) (place : ℕ) → Damage → Type 0
+IsSlotOf by pages_told page catalog texts place damage =
+    IsSoOfText texts place (λ text side half. IsDamagedFor by pages_told page catalog text side half damage.page damage.slot damage.found)
 
 -- for one of the texts
-abbrev pub IsSlot : (pages_told : Bool) (page : ℕ → List ℕ) → Catalog → (texts : List (List ℕ)) → Damage → Type 0
-IsSlot pages_told page catalog texts damage = (place : ℕ) × IsSlotOf pages_told page catalog texts place damage
+abbrev pub IsSlot : (by : Plan) (pages_told : Bool) (page : ℕ → List ℕ) → Catalog → (texts : List (List ℕ)) → Damage → Type 0
+IsSlot by pages_told page catalog texts damage = (place : ℕ) × IsSlotOf by pages_told page catalog texts place damage
 
--- and the session read it there for one of them, from so many calls on
-abbrev pub WasRead : (pages_told : Bool) (since : ℕ) → Device → Catalog → (texts : List (List ℕ)) → Damage → Type 0
-WasRead pages_told since device catalog texts damage =
+-- and the session read it there for one of them, from so many calls on, which is not said by the indexes
+abbrev pub WasRead : (by : Plan) (pages_told : Bool) (since : ℕ) → Device → Catalog → (texts : List (List ℕ)) → Damage → Type 0
+WasRead by pages_told since device catalog texts damage =
     (place : ℕ)
-    × IsSoOfText texts place (λ text side half. WasDamagedFor pages_told since device catalog text side half damage.page damage.slot damage.found)
+    × IsSoOfText texts place (λ text side half. WasDamagedFor by pages_told since device catalog text side half damage.page damage.slot damage.found)
 
 -- some texts have these reasons, and this is the damage that the first of them met that damage ended
-pub record MeetsFirst (pages_told : Bool) (page : ℕ → List ℕ) (catalog : Catalog) (texts : List (List ℕ)) (reasons : List Reason) (first : Option Damage) : Type 0 where
+pub record MeetsFirst (by : Plan) (pages_told : Bool) (page : ℕ → List ℕ) (catalog : Catalog) (texts : List (List ℕ)) (reasons : List Reason) (first : Option Damage) : Type 0 where
   -- of each text, in the order of the reasons
   pub damages : List (Option Damage)
   pub by_reason : map is_some damages ≡ map is_damage reasons
-  pub each : (place : ℕ) (damage : Damage) → slice_get damages place ≡ Some (Some damage) → IsSlotOf pages_told page catalog texts place damage
+  pub each : (place : ℕ) (damage : Damage) → slice_get damages place ≡ Some (Some damage) → IsSlotOf by pages_told page catalog texts place damage
   pub first_is : first ≡ first_of damages
 
 -- the texts with these reasons were counted, and the first damage was kept
-pub record AreKept (pages_told : Bool) (page : ℕ → List ℕ) (catalog : Catalog) (texts : List (List ℕ)) (reasons : List Reason) (counts : Counts) : Type 0 where
+pub record AreKept (by : Plan) (pages_told : Bool) (page : ℕ → List ℕ) (catalog : Catalog) (texts : List (List ℕ)) (reasons : List Reason) (counts : Counts) : Type 0 where
   pub counted : AreCounted reasons counts
-  pub met : MeetsFirst pages_told page catalog texts reasons counts.damage
+  pub met : MeetsFirst by pages_told page catalog texts reasons counts.damage

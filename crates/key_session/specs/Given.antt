@@ -14,6 +14,7 @@ use Rattle.visible_spool.specs.declared.half.Half.{Half}
 use Rattle.visible_spool.specs.declared.reply.Reply.{Reply}
 use Rattle.visible_spool.specs.Halves.{reply_of}
 use Rattle.visible_spool.specs.Replies.{HoldsRows, kinds_of}
+use Rattle.key_exec.specs.Reading.{AreOfRows}
 use Rattle.key_session.specs.Kept.{IsKept, half_in, is_lost}
 use Rattle.key_session.specs.declared.replies.Replies.{Replies}
 
@@ -35,3 +36,10 @@ KeptAreGiven =
     (device : Device) (pool : Pool) (catalog : Catalog) (asks : List NumberedAsk) (journal : Journal) (low top text : ℕ) (kept : Replies)
     → IsKept true device pool catalog (heard catalog asks (taken journal)) low top kept → low ≤ text → is_lost kept text ≡ false
     → HoldsAllGiven device.page catalog.schema (half_in kept text) (replies catalog asks journal text)
+
+-- and each of their rows is one of its table
+abbrev pub KeptAreOfRows : Type 0
+KeptAreOfRows =
+    (device : Device) (pool : Pool) (catalog : Catalog) (asks : List NumberedAsk) (journal : Journal) (low top text : ℕ) (kept : Replies)
+    → IsKept true device pool catalog (heard catalog asks (taken journal)) low top kept → low ≤ text → is_lost kept text ≡ false
+    → AreOfRows catalog (replies catalog asks journal text)

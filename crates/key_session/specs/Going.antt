@@ -6,7 +6,7 @@ use Rattle.ghost_model.specs.core.Channel.{Catalog, Journal, Entry}
 use Rattle.ghost_model.specs.core.Asks.{NumberedAsk, asked_of}
 use Rattle.ghost_model.specs.core.NextMove.{standing_after}
 use Rattle.ghost_model.specs.core.Replies.{replies}
-use Rattle.edge_traits.specs.Devices.{Device, KeepsPages}
+use Rattle.edge_traits.specs.Devices.{Device}
 use Rattle.page_pool.specs.Pools.{Pool, others_out}
 use Rattle.visible_spool.specs.declared.half.Half.{Half}
 use Rattle.key_lines.specs.Handing.{Handed}
@@ -23,7 +23,10 @@ use Rattle.channel_pump.specs.declared.exchange.Exchange.{Exchange}
 use Rattle.key_session.specs.Hearing.{WritesHalf, pages_on}
 use Rattle.key_session.specs.Kept.{is_lost, lease_of}
 use Rattle.key_session.specs.declared.replies.Replies.{Replies}
+use Rattle.leakless_plan.specs.declared.plan.Plan.{Plan}
 use Rattle.key_exec.specs.Plans.{Suffices}
+use Rattle.key_exec.specs.Reading.{KeepsBy}
+use Rattle.key_exec.specs.Laws.{TellingStaysAble, TellingIsSpared, most_left}
 use Rattle.key_exec.specs.Rows.{TakesTurn}
 use Rattle.key_exec.specs.Telling as lines
 use Rattle.key_exec.specs.Texts.{IsDone}
@@ -55,27 +58,33 @@ pub record IsOutAlone (leases : List ℕ) (pool : Pool) (lease : ℕ) : Type 0 w
   pub free : count_by not (others_out pool leases) + 1 ≡ length pool.pages
 
 -- the text with a number goes on
-abbrev pub CanGoOn : (pages_told : Bool) → Catalog → (number : ℕ) → Device → Pool → Option Telling → Type 0
-CanGoOn pages_told catalog number device pool None = ⊤
-CanGoOn pages_told catalog number device pool (Some telling) = CanTell pages_told catalog (number % 2) device pool telling
+abbrev pub CanGoOn : (by : Plan) (pages_told : Bool) → Catalog → (number : ℕ) → Device → Pool → Option Telling → Type 0
+CanGoOn by pages_told catalog number device pool None = ⊤
+CanGoOn by pages_told catalog number device pool (Some telling) = CanTell by pages_told catalog (number % 2) device pool telling
 
 abbrev pub leases_of : Option Telling → List ℕ
 leases_of None = []
 leases_of (Some telling) = lines.leases_of telling
 
+-- it goes on, and is told, as before where others write only the other half of the spool, and use other buffers
+abbrev pub RunIsSpared : Option Telling → Type 0
+RunIsSpared None = ⊤
+RunIsSpared (Some telling) = TellingStaysAble telling × TellingIsSpared telling
+
 -- the text that is told goes on, and no buffer is out but its own and that of the replies
-pub record CanRun (pages_told : Bool) (catalog : Catalog) (device : Device) (pool : Pool) (number lease : ℕ) (running : Option Telling) : Type 0 where
-  pub can : CanGoOn pages_told catalog number device pool running
+pub record CanRun (by : Plan) (pages_told : Bool) (catalog : Catalog) (device : Device) (pool : Pool) (number lease : ℕ) (running : Option Telling) : Type 0 where
+  pub can : CanGoOn by pages_told catalog number device pool running
   pub alone : IsOutAlone (leases_of running) pool lease
 
 pub record IsSomeRun (pages_told : Bool) (device : Device) (pool : Pool) (number : ℕ) (running : Option Telling) : Type 0 where
+  pub by : Plan
   pub catalog : Catalog
   pub lease : ℕ
-  pub run : CanRun pages_told catalog device pool number lease running
+  pub run : CanRun by pages_told catalog device pool number lease running
 
 pub record CanStep (pages_told : Bool) (device : Device) (pool : Pool) (session : Session) : Type 0 where
   pub suffices : Suffices session.cat.now device
-  pub run : CanRun pages_told session.cat.now device pool (session.teller.count + 1) (lease_of session.replies) session.teller.running
+  pub run : CanRun session.teller.plan pages_told session.cat.now device pool (session.teller.count + 1) (lease_of session.replies) session.teller.running
 
 -- ---- how much is left at most
 
@@ -87,15 +96,12 @@ steps_of (Some telling) = lines.left_of telling
 abbrev pub unbegun : Teller → ℕ
 unbegun teller = length teller.texts + (if is_some teller.ahead && not (is_some teller.running) then 1 else 0)
 
--- how many steps a text takes at most
-abbrev pub most_left : ℕ
-most_left = 28000103000002
-
 abbrev pub left_of : Teller → ℕ
 left_of teller = most_left * unbegun teller + steps_of teller.running
 
 -- the text ahead was told to its end
 pub record EndsText (result : Told) (old new : Teller) : Type 0 where
+  pub plan : new.plan ≡ old.plan
   pub texts : (written : List ℕ) × (texts_left old ≡ written ∷ texts_left new)
   pub count : new.count ≡ old.count + 1
   pub running : new.running ≡ None
@@ -106,9 +112,9 @@ pub record EndsText (result : Told) (old new : Teller) : Type 0 where
 
 -- texts were told, which are settled as long as the link is open, and those that are not settled come no earlier than the last
 -- whose reply was begun
-pub record IsGoing (pages_told : Bool) (catalog : Catalog) (texts : List (List ℕ)) (journal : Journal) (since : SessionSide) (sink : Handed) (device : Device) (pool : Pool) (pump : Pump) (left : List (List ℕ)) (count : ℕ) (counts : Counts) (replies : Replies) : Type 0 where
+pub record IsGoing (by : Plan) (pages_told : Bool) (catalog : Catalog) (texts : List (List ℕ)) (journal : Journal) (since : SessionSide) (sink : Handed) (device : Device) (pool : Pool) (pump : Pump) (left : List (List ℕ)) (count : ℕ) (counts : Counts) (replies : Replies) : Type 0 where
   pub top : ℕ
-  pub telling : IsTelling pages_told catalog texts journal top since sink device pool left count counts replies
+  pub telling : IsTelling by pages_told catalog texts journal top since sink device pool left count counts replies
   pub settled : (want_of pump ≡ want.Closed → ⊥) → (text : ℕ) → 1 ≤ text → text ≤ count → is_settled_in catalog texts journal text ≡ true
   pub onward : (text : ℕ) → is_settled_in catalog texts journal text ≡ false → top ≤ text
 
@@ -119,7 +125,7 @@ pub record IsNext (catalog : Catalog) (texts : List (List ℕ)) (journal : Journ
 
 -- The text at a place is told, by this state of its replies and what stands of them in its half of the spool, since the flash and
 -- the sink were as at the first. The files of the session were as they are.
-pub record IsTaken (pages_told : Bool) (catalog : Catalog) (texts : List (List ℕ)) (journal : Journal) (place : ℕ) (state : ReplyState) (marked : Bool) (half : Half) (since : Device) (first now : SessionSide) (pool : Pool) (telling : Telling) : Type 0 where
+pub record IsTaken (by : Plan) (pages_told : Bool) (catalog : Catalog) (texts : List (List ℕ)) (journal : Journal) (place : ℕ) (state : ReplyState) (marked : Bool) (half : Half) (since : Device) (first now : SessionSide) (pool : Pool) (telling : Telling) : Type 0 where
   pub number : telling.number ≡ place + 1
   pub written : List ℕ
   pub stands : slice_get texts place ≡ Some written
@@ -129,81 +135,83 @@ pub record IsTaken (pages_told : Bool) (catalog : Catalog) (texts : List (List �
   pub given : IsDone state marked false → pages_told ≡ true
       → AreRepliesOf first.flash.page catalog written half (replies catalog (asked_of catalog.schema texts) journal (place + 1))
   pub files : KeepsFiles catalog since first.flash
-  pub under_way : IsUnderWay pages_told catalog ((place + 1) % 2) written state marked half first.flash now.flash first.sink now.sink pool telling
+  pub under_way : IsUnderWay by pages_told catalog ((place + 1) % 2) written state marked half first.flash now.flash first.sink now.sink pool telling
 
 -- and it is answered
-pub record IsRunning (pages_told : Bool) (catalog : Catalog) (texts : List (List ℕ)) (journal : Journal) (place : ℕ) (since : Device) (sink : Handed) (now : SessionSide) (pool : Pool) (kept : Replies) (telling : Telling) : Type 0 where
+pub record IsRunning (by : Plan) (pages_told : Bool) (catalog : Catalog) (texts : List (List ℕ)) (journal : Journal) (place : ℕ) (since : Device) (sink : Handed) (now : SessionSide) (pool : Pool) (kept : Replies) (telling : Telling) : Type 0 where
   pub start : Device
   pub half : Half
-  pub taken : IsTaken pages_told catalog texts journal place state_is.Done false half since (record { sink = sink; flash = start }) now pool telling
+  pub taken : IsTaken by pages_told catalog texts journal place state_is.Done false half since (record { sink = sink; flash = start }) now pool telling
   pub query : Query
   pub accepted : reading catalog.schema taken.written ≡ Ok query
   pub unmarked : is_lost kept (place + 1) ≡ false
 
 -- between two steps a text that is answered is told, since the sink was as at the first, or none
-abbrev pub Runs : (pages_told : Bool) → Catalog → (texts : List (List ℕ)) → Journal → (place : ℕ) → (since : Device) → (sink : Handed) → (now : SessionSide) → Pool → Replies → Option Telling → Type 0
-Runs pages_told catalog texts journal place since sink now pool kept None = now.sink ≡ sink
-Runs pages_told catalog texts journal place since sink now pool kept (Some telling) =
-    IsRunning pages_told catalog texts journal place since sink now pool kept telling
+abbrev pub Runs : (by : Plan) (pages_told : Bool) → Catalog → (texts : List (List ℕ)) → Journal → (place : ℕ) → (since : Device) → (sink : Handed) → (now : SessionSide) → Pool → Replies → Option Telling → Type 0
+Runs by pages_told catalog texts journal place since sink now pool kept None = now.sink ≡ sink
+Runs by pages_told catalog texts journal place since sink now pool kept (Some telling) =
+    IsRunning by pages_told catalog texts journal place since sink now pool kept telling
 
--- the texts of a session between two steps
-pub record IsAmid (pages_told : Bool) (catalog : Catalog) (texts : List (List ℕ)) (journal : Journal) (since now : SessionSide) (pool : Pool) (pump : Pump) (teller : Teller) (kept : Replies) : Type 0 where
+-- the texts of a session between two steps, each of which is answered by the plan
+pub record IsAmid (by : Plan) (pages_told : Bool) (catalog : Catalog) (texts : List (List ℕ)) (journal : Journal) (since now : SessionSide) (pool : Pool) (pump : Pump) (teller : Teller) (kept : Replies) : Type 0 where
+  pub plan : teller.plan ≡ by
   pub sink : Handed
-  pub going : IsGoing pages_told catalog texts journal since sink now.flash pool pump (texts_left teller) teller.count teller.counts kept
-  pub running : Runs pages_told catalog texts journal teller.count since.flash sink now pool kept teller.running
+  pub going : IsGoing by pages_told catalog texts journal since sink now.flash pool pump (texts_left teller) teller.count teller.counts kept
+  pub running : Runs by pages_told catalog texts journal teller.count since.flash sink now pool kept teller.running
 
 -- and in a slice, of a text that was taken up
-pub record IsBegun (pages_told : Bool) (catalog : Catalog) (texts : List (List ℕ)) (journal : Journal) (since now : SessionSide) (pool : Pool) (pump : Pump) (teller : Teller) (kept : Replies) : Type 0 where
+pub record IsBegun (by : Plan) (pages_told : Bool) (catalog : Catalog) (texts : List (List ℕ)) (journal : Journal) (since now : SessionSide) (pool : Pool) (pump : Pump) (teller : Teller) (kept : Replies) : Type 0 where
+  pub plan : teller.plan ≡ by
   pub first : SessionSide
-  pub going : IsGoing pages_told catalog texts journal since first.sink now.flash pool pump (texts_left teller) teller.count teller.counts kept
+  pub going : IsGoing by pages_told catalog texts journal since first.sink now.flash pool pump (texts_left teller) teller.count teller.counts kept
   pub next : (want_of pump ≡ want.Closed → ⊥) → is_settled_in catalog texts journal (teller.count + 1) ≡ true
   pub state : ReplyState
   pub half : Half
   pub telling : Telling
   pub runs : teller.running ≡ Some telling
-  pub taken : IsTaken pages_told catalog texts journal teller.count state (is_lost kept (teller.count + 1)) half since.flash first now pool telling
+  pub taken : IsTaken by pages_told catalog texts journal teller.count state (is_lost kept (teller.count + 1)) half since.flash first now pool telling
 
 -- A session that went by a journal: its moves and its end of the channel; the texts that were told, with their lines, reasons
 -- and counts, the replies that are kept for the others, and the rows given and to come of the text that is told now; and the
 -- first ask that the host refused.
-pub record IsLive (pages_told : Bool) (texts : List (List ℕ)) (journal : Journal) (since now : SessionSide) (pool : Pool) (session : Session) : Type 0 where
+pub record IsLive (by : Plan) (pages_told : Bool) (texts : List (List ℕ)) (journal : Journal) (since now : SessionSide) (pool : Pool) (session : Session) : Type 0 where
   pub channel : moves.IsLive session.cat.now session.at.now (asked_of session.cat.now.schema texts) journal session.exchange
-  pub amid : IsAmid pages_told session.cat.now texts journal since now pool session.exchange.pump session.teller session.replies
+  pub amid : IsAmid by pages_told session.cat.now texts journal since now pool session.exchange.pump session.teller session.replies
   pub refusal_is : session.refusal ≡ first_code (heard_in session.cat.now texts journal).ended
   -- slices are allowed only behind rows of a reply, the end of which is awaited then
   pub owed : 0 < session.pace.owed → is_some (moves.asked_in (heard_in session.cat.now texts journal).awaits) ≡ true
 
 -- one more move was made, which led to an event: of the channel, the texts and the first refusal
-pub record MovedOn (goes : Journal → Type 0) (pages_told : Bool) (catalog : Catalog) (at : List ℕ) (texts : List (List ℕ)) (journal : Journal) (since now : SessionSide) (pool : Pool) (event : Event) (exchange : Exchange) (teller : Teller) (kept : Replies) (refusal : Option ℕ) : Type 0 where
+pub record MovedOn (goes : Journal → Type 0) (by : Plan) (pages_told : Bool) (catalog : Catalog) (at : List ℕ) (texts : List (List ℕ)) (journal : Journal) (since now : SessionSide) (pool : Pool) (event : Event) (exchange : Exchange) (teller : Teller) (kept : Replies) (refusal : Option ℕ) : Type 0 where
   pub made : Entry
   pub went : goes (made ∷ [])
   pub channel : moves.IsLive catalog at (asked_of catalog.schema texts) (journal ++ made ∷ []) exchange
   pub tells : Tells catalog exchange.page event (heard_in catalog texts journal) (heard_in catalog texts (journal ++ made ∷ []))
   pub same_ask : moves.leads_on event ≡ false → moves.asked_in (heard_in catalog texts (journal ++ made ∷ [])).awaits ≡ moves.asked_in (heard_in catalog texts journal).awaits
-  pub amid : IsAmid pages_told catalog texts (journal ++ made ∷ []) since now pool exchange.pump teller kept
+  pub amid : IsAmid by pages_told catalog texts (journal ++ made ∷ []) since now pool exchange.pump teller kept
   pub refusal_is : refusal ≡ first_code (heard_in catalog texts (journal ++ made ∷ [])).ended
 
 -- One more move was made, and the pace goes by what it led to. The flash was called twice at most for each page of the spool that
 -- this completes, and else not at all.
-pub record WasMoved (goes : Journal → Type 0) (pages_told : Bool) (texts : List (List ℕ)) (journal : Journal) (since before now : SessionSide) (pool : Pool) (old session : Session) : Type 0 where
+pub record WasMoved (goes : Journal → Type 0) (by : Plan) (pages_told : Bool) (texts : List (List ℕ)) (journal : Journal) (since before now : SessionSide) (pool : Pool) (old session : Session) : Type 0 where
   pub made : Entry
   pub went : goes (made ∷ [])
   pub event : Event
   pub tells : Tells session.cat.now session.exchange.page event (heard_in session.cat.now texts journal) (heard_in session.cat.now texts (journal ++ made ∷ []))
   pub paced : IsPaced event old.pace session.pace
   pub few : now.flash.calls ≤ before.flash.calls + 2 * pages_on event session.replies.hand old.replies.spool session.replies.spool
-  pub live : IsLive pages_told texts (journal ++ made ∷ []) since now pool session
+  pub live : IsLive by pages_told texts (journal ++ made ∷ []) since now pool session
 
 -- no move was made
-pub record WasSliced (goes : Journal → Type 0) (pages_told : Bool) (texts : List (List ℕ)) (journal : Journal) (since now : SessionSide) (pool : Pool) (session : Session) : Type 0 where
+pub record WasSliced (goes : Journal → Type 0) (by : Plan) (pages_told : Bool) (texts : List (List ℕ)) (journal : Journal) (since now : SessionSide) (pool : Pool) (session : Session) : Type 0 where
   pub went : goes []
-  pub live : IsLive pages_told texts journal since now pool session
+  pub live : IsLive by pages_told texts journal since now pool session
 
 -- a step made what was due, and the session lives on
-abbrev pub WentOn : Due → (goes : Journal → Type 0) → (pages_told : Bool) → (texts : List (List ℕ)) → Journal → (since before now : SessionSide) → Pool → (old session : Session) → Type 0
-WentOn due.Move goes pages_told texts journal since before now pool old session = WasMoved goes pages_told texts journal since before now pool old session
-WentOn due.Slice goes pages_told texts journal since before now pool old session = WasSliced goes pages_told texts journal since now pool session
-WentOn due.Ended goes pages_told texts journal since before now pool old session = ⊥
+abbrev pub WentOn : Due → (goes : Journal → Type 0) → (by : Plan) (pages_told : Bool) → (texts : List (List ℕ)) → Journal → (since before now : SessionSide) → Pool → (old session : Session) → Type 0
+WentOn due.Move goes by pages_told texts journal since before now pool old session = WasMoved goes by pages_told texts journal since before now pool old session
+WentOn due.Slice goes by pages_told texts journal since before now pool old session = WasSliced goes by pages_told texts journal since now pool session
+WentOn due.Ended goes by pages_told texts journal since before now pool old session = ⊥
 
 -- no ask of a text behind this one is at hand
 abbrev pub IsNear : Catalog → (texts : List (List ℕ)) → Journal → (most : ℕ) → Type 0
@@ -212,13 +220,14 @@ IsNear catalog texts journal most =
 
 -- a session stands before a move, with some texts and moves
 pub record IsMove (pages_told : Bool) (catalog : Catalog) (at : List ℕ) (device : Device) (pool : Pool) (exchange : Exchange) (teller : Teller) (kept : Replies) : Type 0 where
+  pub by : Plan
   pub texts : List (List ℕ)
   pub journal : Journal
   pub since : SessionSide
   pub sink : Handed
   pub near : IsNear catalog texts journal (teller.count + 2)
   pub channel : moves.IsLive catalog at (asked_of catalog.schema texts) journal exchange
-  pub amid : IsAmid pages_told catalog texts journal since (record { sink = sink; flash = device }) pool exchange.pump teller kept
+  pub amid : IsAmid by pages_told catalog texts journal since (record { sink = sink; flash = device }) pool exchange.pump teller kept
 
 pub record IsSomeMove (pages_told : Bool) (catalog : Catalog) (at : List ℕ) (device : Device) (pool : Pool) (exchange : Exchange) (kept : Replies) : Type 0 where
   pub teller : Teller
@@ -226,10 +235,11 @@ pub record IsSomeMove (pages_told : Bool) (catalog : Catalog) (at : List ℕ) (d
 
 -- some session has such moves, texts and counts
 pub record IsSomeLive (pages_told : Bool) (now : SessionSide) (pool : Pool) (session : Session) : Type 0 where
+  pub by : Plan
   pub texts : List (List ℕ)
   pub journal : Journal
   pub since : SessionSide
-  pub live : IsLive pages_told texts journal since now pool session
+  pub live : IsLive by pages_told texts journal since now pool session
 
 -- What a step does that is due, whatever the pages hold. A move gives no line, and of the pages it changes none but those of the
 -- half of the text whose ask is at hand. How often it calls the flash, `WasMoved` says: it goes by what the move led to.
@@ -239,12 +249,13 @@ pub record MakesMove (before after : SessionSide) (old new : Session) : Type 0 w
   pub teller : new.teller ≡ old.teller
   pub fewer : moves_left new.exchange.pump + 1 ≤ moves_left old.exchange.pump
 
--- A slice gives one line, or none and it calls the flash, eight times at most. The channel and all pages stay as they are.
+-- A slice gives one line, or none and it calls the flash, eight times at most. The channel stays as it is, and so do all pages, but
+-- for those behind the spool that a job by the indexes gathers its candidates in.
 pub record MakesSlice (before after : SessionSide) (old new : Session) : Type 0 where
   pub exchange : new.exchange ≡ old.exchange
   pub turn : TakesTurn before.sink after.sink before.flash.calls after.flash.calls
   pub few : after.flash.calls ≤ before.flash.calls + 8
-  pub kept : KeepsPages before.flash after.flash
+  pub kept : KeepsBy old.teller.plan old.cat.now before.flash after.flash
   pub fewer : left_of new.teller + 1 ≤ left_of old.teller
   pub sliced : IsSliced old.pace new.pace
 
@@ -285,7 +296,7 @@ abbrev pub steps_left : Session → ℕ
 steps_left session = moves_left session.exchange.pump + left_of session.teller
 
 -- a whole run so far
-pub record HasCome (goes : Journal → Type 0) (pages_told : Bool) (texts : List (List ℕ)) (since now : SessionSide) (pool : Pool) (session : Session) : Type 0 where
+pub record HasCome (goes : Journal → Type 0) (by : Plan) (pages_told : Bool) (texts : List (List ℕ)) (since now : SessionSide) (pool : Pool) (session : Session) : Type 0 where
   pub journal : Journal
   pub went : goes journal
-  pub live : IsLive pages_told texts journal since now pool session
+  pub live : IsLive by pages_told texts journal since now pool session

@@ -1,5 +1,5 @@
 -- What is heard of the reply at hand, and what that makes of the flash, the buffers and the marks.
-use Rattle.std.specs.Prelude.{◌≡◌, ◌≢◌, ℕ, ◌+◌, ◌%◌, ◌<◌, ◌≤◌, Bool, true, false, not, ◌&&◌, nat_lt, List, Some, None}
+use Rattle.std.specs.Prelude.{◌≡◌, ◌≢◌, ℕ, ◌+◌, ◌%◌, ◌≤◌, Bool, true, false, not, ◌&&◌, nat_lt, List, Some, None}
 use Rattle.ghost_model.specs.core.Causes.{Rose}
 use Rattle.ghost_model.specs.core.Channel.{Catalog}
 use Rattle.ghost_model.specs.core.Asks.{NumberedAsk}
@@ -13,7 +13,6 @@ use Rattle.channel_pump.specs.declared.state.Event.TheVariants as event_is
 use Rattle.channel_pump.specs.Sessions.{asked_in, leads_on}
 use Rattle.key_session.specs.Fits.{Fits}
 use Rattle.visible_spool.specs.Areas.{half_begin, half_end}
-use Rattle.visible_spool.specs.Sparing.{SparesHalf}
 use Rattle.visible_spool.specs.declared.spool.Spool.{Spool}
 use Rattle.visible_spool.specs.Sides.{is_marked}
 use Rattle.visible_spool.specs.Spools.{is_at, pages_written}
@@ -77,9 +76,7 @@ pages_on (event_is.Invalid _ _) hand old new = 0
 abbrev pub WritesHalf : Catalog → (text : ℕ) → (before now : Device) → Type 0
 WritesHalf catalog text before now = ChangesOnly (half_begin catalog (text % 2)) (half_end catalog (text % 2)) before now
 
--- what was heard for a text: the half of the other texts is as before, only pages of its own changed, and no text that was not
--- answered yet but this one has another mark
+-- what was heard for a text: only pages of its half changed, and no text that was not answered yet but this one has another mark
 pub record HasHeard (catalog : Catalog) (low text : ℕ) (before now : Device) (old new : Replies) : Type 0 where
-  pub spares : (side : ℕ) → side < 2 → side ≢ text % 2 → SparesHalf catalog side before now
   pub writes : WritesHalf catalog text before now
   pub marks : (other : ℕ) → low ≤ other → other ≢ text → is_lost new other ≡ is_lost old other

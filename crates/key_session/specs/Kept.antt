@@ -81,8 +81,10 @@ pub record IsAt (told : Bool) (page : ℕ → List ℕ) (pool : Pool) (schema : 
   pub ask : IsAskOf schema asked replies.hand
   pub come : HasCome told page pool heard.ended replies.hand heard.rows replies.spool
 
--- a reply lies in the area of its table, in the half of a text; where it has a row that table has a visible column
+-- a reply lies in the area of its table, in the half of a text; where it has a row that table has a visible column, and the rows are
+-- some of the table's
 pub record LiesInArea (spool : Spool) (text table : ℕ) (reply : Reply) : Type 0 where
+  pub most : 0 < reply.run.count → reply.rows ≡ (area_at spool table).rows
   pub visible : 0 < reply.run.count → 4 < (area_at spool table).width
   pub lies : LiesWithin (first_of (area_at spool table) text) (end_of (area_at spool table) text) reply
 

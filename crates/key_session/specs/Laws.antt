@@ -2,18 +2,19 @@
 use Rattle.std.specs.Prelude.{◌≡◌, ℕ, ◌+◌, ◌%◌, ◌<◌, ◌≤◌, Bool, false}
 use Rattle.ghost_model.specs.core.Channel.{Catalog}
 use Rattle.ghost_model.specs.core.NextMove.{Heard}
-use Rattle.edge_traits.specs.Devices.{Device, KeepsPages}
+use Rattle.ghost_model.specs.forms.Layout.{spool_end, need}
+use Rattle.edge_traits.specs.Devices.{Device, ChangesOnly}
 use Rattle.page_pool.specs.Pools.{Pool, IsOut}
 use Rattle.page_pool.specs.Laws.{SameBuffer}
 use Rattle.visible_spool.specs.Sparing.{IsHalf}
 use Rattle.key_session.specs.Kept.{IsKept, half_in, is_lost, lease_of}
 use Rattle.key_session.specs.declared.replies.Replies.{Replies}
 
--- others may read pages into other buffers
+-- others may read pages into other buffers, and write pages behind the spool
 abbrev pub RepliesStayKept : Type 0
 RepliesStayKept =
     (told : Bool) (before now : Device) (pool later : Pool) (catalog : Catalog) (heard : Heard) (low top : ℕ) (replies : Replies)
-    → KeepsPages before now → IsOut later (lease_of replies) → SameBuffer pool later (lease_of replies)
+    → ChangesOnly (spool_end catalog) (need catalog) before now → IsOut later (lease_of replies) → SameBuffer pool later (lease_of replies)
     → IsKept told before pool catalog heard low top replies → IsKept told now later catalog heard low top replies
 
 -- a text was answered

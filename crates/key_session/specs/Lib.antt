@@ -17,3 +17,4 @@ pub mod Going
 pub mod Answering
 pub mod Running
 pub mod Worlds
+pub mod Agreeing

@@ -47,6 +47,7 @@ pub record Ends (told : Bool) (text table : ℕ) (before now : Device) (pool : P
       → told ≡ true → HoldsRows now.page (reply_of (replies_of new.sides text) table) rows
   pub readable : is_at old text table ≡ true → is_marked new.sides text ≡ false → IsReadable now (reply_of (replies_of new.sides text) table)
   pub kinds : is_at old text table ≡ true → is_marked new.sides text ≡ false → kinds_of (reply_of (replies_of new.sides text) table) ≡ kinds_of old.hand.reply
+  pub rows : is_at old text table ≡ true → is_marked new.sides text ≡ false → (reply_of (replies_of new.sides text) table).rows ≡ old.hand.reply.rows
   pub lies : is_at old text table ≡ true → is_marked new.sides text ≡ false
       → LiesWithin (first_of (area_at old table) text) (end_of (area_at old table) text) (reply_of (replies_of new.sides text) table)
   pub marked : is_marked new.sides text ≡ true → replies_of new.sides text ≡ replies_of old.sides text

@@ -10,7 +10,8 @@ use Rattle.ghost_model.specs.core.Split.{hidden_of}
 use Rattle.ghost_model.specs.core.Lines.{Reason}
 use Rattle.channel_pump.specs.State.{counted}
 use Rattle.channel_pump.specs.Entries.{is_short_entry, FaultsTell}
-use Rattle.key_exec.specs.Reading.{Knows, KnowsBut}
+use Rattle.leakless_plan.specs.declared.plan.Plan.{Plan}
+use Rattle.key_exec.specs.Reading.{KnowsBy, KnowsButBy}
 use Rattle.key_session.specs.Answering.{AnswersWhereSound}
 use Rattle.key_session.specs.Counting.{is_refusal, is_fault, is_flash, is_damage}
 use Rattle.key_session.specs.Damages.{IsSlot, WasRead, MeetsFirst}
@@ -70,16 +71,16 @@ status_of failed session by_flash = status_with failed session by_flash None
 
 -- a tally of texts with these reasons, whatever the pages hold: a status that names damage names that of the first text
 -- that it ended
-pub record IsTallied (pages_told : Bool) (page : ℕ → List ℕ) (catalog : Catalog) (texts : List (List ℕ)) (failed : Bool) (session : Standing) (reasons : List Reason) (tally : Tally) : Type 0 where
+pub record IsTallied (by : Plan) (pages_told : Bool) (page : ℕ → List ℕ) (catalog : Catalog) (texts : List (List ℕ)) (failed : Bool) (session : Standing) (reasons : List Reason) (tally : Tally) : Type 0 where
   pub refused : tally.refused ≡ count_by is_refusal reasons
   pub faulted : tally.faulted ≡ count_by is_fault reasons
   pub damage : Option Damage
   pub found : is_some damage ≡ list_any is_damage reasons
-  pub first : MeetsFirst pages_told page catalog texts reasons damage
+  pub first : MeetsFirst by pages_told page catalog texts reasons damage
   pub status_is : tally.status ≡ status_with failed session (list_any is_flash reasons) damage
 
 -- the link counted so many failed calls before the session and after it
-pub record HasRun (goes : Journal → Type 0) (link_before link_now : ℕ) (pages_told : Bool) (catalog : Catalog) (at : List ℕ) (texts : List (List ℕ)) (since now : SessionSide) (tally : Tally) : Type 0 where
+pub record HasRun (goes : Journal → Type 0) (link_before link_now : ℕ) (by : Plan) (pages_told : Bool) (catalog : Catalog) (at : List ℕ) (texts : List (List ℕ)) (since now : SessionSide) (tally : Tally) : Type 0 where
   pub journal : Journal
   pub went : goes journal
   pub counts : FaultsTell link_before link_now journal
@@ -88,15 +89,15 @@ pub record HasRun (goes : Journal → Type 0) (link_before link_now : ℕ) (page
   pub finished : IsFinished journal
   pub refused : tally.refused ≡ count_by (is_refused_text catalog.schema) texts
   pub reasons : HaveReasons catalog texts journal (length texts)
-      (λ reasons. IsTallied pages_told since.flash.page catalog texts now.sink.failed (standing_after catalog (asked_of catalog.schema texts) journal) reasons tally) since.flash.faults now.flash.faults
+      (λ reasons. IsTallied by pages_told since.flash.page catalog texts now.sink.failed (standing_after catalog (asked_of catalog.schema texts) journal) reasons tally) since.flash.faults now.flash.faults
   -- and these lines, whatever the pages hold
   pub lines : HaveLines catalog texts journal reasons.reasons since.sink now.sink
-  -- and where the pages are those of a database, but for slots that spell no value, the rows are those of the answer over it
-  pub answers : (database : Database) → KnowsBut pages_told since.flash.page catalog database
+  -- and where the pages are those of a database, but for damaged slots, the rows are those of the answer over it
+  pub answers : (database : Database) → KnowsButBy by pages_told since.flash.page catalog database
       → HaveAnswerLines catalog (hidden_of catalog.schema database) texts journal reasons.reasons since.sink now.sink
-  pub damaged : (damage : Damage) → tally.status ≡ status.Damaged damage → IsSlot pages_told since.flash.page catalog texts damage
-  pub damage_read : (damage : Damage) → tally.status ≡ status.Damaged damage → WasRead pages_told since.flash.calls now.flash catalog texts damage
+  pub damaged : (damage : Damage) → tally.status ≡ status.Damaged damage → IsSlot by pages_told since.flash.page catalog texts damage
+  pub damage_read : (damage : Damage) → tally.status ≡ status.Damaged damage → WasRead by pages_told since.flash.calls now.flash catalog texts damage
   -- and where they are those of a database, no text met damage
-  pub undamaged : (database : Database) → Knows pages_told since.flash.page catalog database → list_any is_damage reasons.reasons ≡ false
+  pub undamaged : (database : Database) → KnowsBy by pages_told since.flash.page catalog database → list_any is_damage reasons.reasons ≡ false
   -- an honest host, pages that hold and no fault: all is printed, and the status is Ok
-  pub answered : AnswersWhereSound pages_told catalog texts journal since now tally
+  pub answered : AnswersWhereSound by pages_told catalog texts journal since now tally

@@ -17,7 +17,9 @@ use Rattle.session_laws.specs.TextCases.{Outcome}
 use Rattle.key_lines.specs.Handing.{Handed, handed}
 use Rattle.key_session.specs.Kept.{IsKept, is_lost}
 use Rattle.key_session.specs.declared.replies.Replies.{Replies}
-use Rattle.key_exec.specs.Reading.{KnowsBut}
+use Rattle.leakless_plan.specs.declared.plan.Plan.{Plan}
+use Rattle.key_exec.specs.Jobs.{ForScan}
+use Rattle.key_exec.specs.Reading.{KnowsButBy}
 use Rattle.key_exec.specs.Rows.{PrintsSome}
 use Rattle.key_session.specs.Counting.{one_if}
 use Rattle.key_session.specs.Damages.{IsSlot, WasRead, AreKept}
@@ -60,8 +62,8 @@ pub record AreMarked (catalog : Catalog) (texts : List (List ℕ)) (count : ℕ)
       → is_refused_text catalog.schema written ≡ false
 
 -- the texts with these reasons were counted, and so were the faults
-pub record AreKeptSoFar (pages_told : Bool) (page : ℕ → List ℕ) (catalog : Catalog) (texts : List (List ℕ)) (counts : Counts) (marked before now : ℕ) (reasons : List Reason) : Type 0 where
-  pub kept : AreKept pages_told page catalog texts reasons counts
+pub record AreKeptSoFar (by : Plan) (pages_told : Bool) (page : ℕ → List ℕ) (catalog : Catalog) (texts : List (List ℕ)) (counts : Counts) (marked before now : ℕ) (reasons : List Reason) : Type 0 where
+  pub kept : AreKept by pages_told page catalog texts reasons counts
   pub faults : AreBlamed marked reasons before now
 
 -- what stays below the spool and behind it
@@ -70,7 +72,7 @@ KeepsFiles catalog before now = ChangesOnly (static_end catalog) (need catalog) 
 
 -- A teller has told some texts of a session that went by a journal, the sink as it was after the last of them, and the flash as
 -- it is now. The replies for the others are kept, none of them for a text behind `top`.
-pub record IsTelling (pages_told : Bool) (catalog : Catalog) (texts : List (List ℕ)) (journal : Journal) (top : ℕ) (since : SessionSide) (sink : Handed) (device : Device) (pool : Pool) (left : List (List ℕ)) (count : ℕ) (counts : Counts) (replies : Replies) : Type 0 where
+pub record IsTelling (by : Plan) (pages_told : Bool) (catalog : Catalog) (texts : List (List ℕ)) (journal : Journal) (top : ℕ) (since : SessionSide) (sink : Handed) (device : Device) (pool : Pool) (left : List (List ℕ)) (count : ℕ) (counts : Counts) (replies : Replies) : Type 0 where
   pub left_are : AreLeft texts left count
   pub kept : IsKept pages_told device pool catalog (heard_in catalog texts journal) (count + 1) top replies
   pub near : top ≤ count + 2
@@ -78,14 +80,15 @@ pub record IsTelling (pages_told : Bool) (catalog : Catalog) (texts : List (List
   pub pages : KeepsFiles catalog since.flash device
   -- at its last value a count stays
   pub calls : min since.flash.calls last_count ≤ device.calls
-  pub called : counts.by_flash ≡ true → Rose since.flash.calls device.calls
-  pub damage_called : is_some counts.damage ≡ true → Rose since.flash.calls device.calls
+  -- where all rows are looked at
+  pub called : ForScan by (counts.by_flash ≡ true → Rose since.flash.calls device.calls)
+  pub damage_called : ForScan by (is_some counts.damage ≡ true → Rose since.flash.calls device.calls)
   pub faults : min since.flash.faults last_count ≤ device.faults
   pub marked : AreMarked catalog texts count since.flash.calls device.calls replies
   pub prints : PrintsSome since.sink sink
-  pub damaged : (damage : Damage) → counts.damage ≡ Some damage → IsSlot pages_told since.flash.page catalog texts damage
-  pub read : (damage : Damage) → counts.damage ≡ Some damage → WasRead pages_told since.flash.calls device catalog texts damage
-  pub reasons : HaveSoFar catalog texts journal count (AreKeptSoFar pages_told since.flash.page catalog texts counts (marks_behind replies count) since.flash.faults device.faults)
+  pub damaged : (damage : Damage) → counts.damage ≡ Some damage → IsSlot by pages_told since.flash.page catalog texts damage
+  pub read : (damage : Damage) → counts.damage ≡ Some damage → WasRead by pages_told since.flash.calls device catalog texts damage
+  pub reasons : HaveSoFar catalog texts journal count (AreKeptSoFar by pages_told since.flash.page catalog texts counts (marks_behind replies count) since.flash.faults device.faults)
   pub lines : HaveLines catalog texts journal reasons.reasons since.sink sink
-  pub answers : (database : Database) → KnowsBut pages_told since.flash.page catalog database
+  pub answers : (database : Database) → KnowsButBy by pages_told since.flash.page catalog database
       → HaveAnswerLines catalog (hidden_of catalog.schema database) texts journal reasons.reasons since.sink sink

@@ -4,6 +4,7 @@
 use Rattle.std.specs.Prelude.{◌≡◌, ℕ, ◌+◌, ◌<◌, Bool, List, length, take}
 use Rattle.ghost_model.specs.core.Channel.{Catalog, Journal}
 use Rattle.ghost_model.specs.core.Moves.{moves, answers}
+use Rattle.leakless_plan.specs.declared.plan.Plan.{Plan}
 use Rattle.key_session.specs.Running.{HasRun}
 use Rattle.key_session.specs.Telling.{SessionSide}
 use Rattle.key_session.specs.declared.tally.Tally.{Tally}
@@ -18,8 +19,8 @@ pub record AreAlike (one other : Journal) : Type 0 where
 -- whatever links they went by
 abbrev pub SessionsAreAlike : (goes other_goes : Journal → Type 0) → Type 0
 SessionsAreAlike goes other_goes =
-    (catalog : Catalog) (at : List ℕ) (texts : List (List ℕ)) (failed fails other_failed other_fails : ℕ) (told other_told : Bool)
+    (catalog : Catalog) (at : List ℕ) (texts : List (List ℕ)) (failed fails other_failed other_fails : ℕ) (by other_by : Plan) (told other_told : Bool)
     (since now other_since other_now : SessionSide) (tally other_tally : Tally)
-    → (one : HasRun goes failed fails told catalog at texts since now tally)
-    → (other : HasRun other_goes other_failed other_fails other_told catalog at texts other_since other_now other_tally)
+    → (one : HasRun goes failed fails by told catalog at texts since now tally)
+    → (other : HasRun other_goes other_failed other_fails other_by other_told catalog at texts other_since other_now other_tally)
     → AreAlike one.journal other.journal

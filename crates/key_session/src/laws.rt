@@ -1,11 +1,13 @@
-//! A law of sessions, which needs no code, and what holds of the replies that are kept.
+//! Laws of sessions, which need no code, and what holds of the replies that are kept.
 
 ghost use Rattle.key_session.specs.Worlds.{SessionsAreAlike};
-ghost use Rattle.key_session.specs.Given.{KeptAreGiven};
+ghost use Rattle.key_session.specs.Agreeing.{PlansAgree, HeldPlansAgree};
+ghost use Rattle.key_session.specs.Given.{KeptAreGiven, KeptAreOfRows};
 ghost use Rattle.key_session.specs.Laws.{RepliesStayKept, LowRises, KeptHalvesAreHalves, LaterTextsAreUnmarked};
 
 use edge_traits::link::Link;
 use ghost_model::channel::two_worlds;
+use key_exec::laws::knowledge_is_enough;
 
 /// Two sessions of one script with one catalog at one address never differ on the channel before their hosts do, whatever hidden
 /// columns, flash, page buffers, plan and pace they have.
@@ -15,17 +17,30 @@ pub fn sessions_are_alike<L: Link, M: Link>()
     two_worlds();
 }
 
-/// The replies to the asks of a text that were ended stand in its half, unless it is marked.
+/// Two sessions of one script with one catalog, each by a plan of its own, hand on the same bytes where they went by the same journal,
+/// whatever hosts they had and whatever flash, page buffers and pace: the pages of each are those of one database, but for damaged
+/// slots, and no text met one of these or a failure of the flash. Over pages that hold all files that a plan goes by no text does, as
+/// long as the flash does not fail.
+pub fn plans_agree<L: Link, M: Link>()
+    ensures agree { (before now : L) (other_before other_now : M) → PlansAgree (λ journal. L.went before journal now) (λ journal. M.went other_before journal other_now) }
+    ensures held { (before now : L) (other_before other_now : M) → HeldPlansAgree (λ journal. L.went before journal now) (λ journal. M.went other_before journal other_now) }
+{
+    knowledge_is_enough();
+}
+
+/// The replies to the asks of a text that were ended stand in its half, unless it is marked, and have rows of their tables alone.
 pub(crate) fn kept_are_given()
     ensures given { KeptAreGiven }
+    ensures rows { KeptAreOfRows }
 {}
 
-/// What is kept stays where others read pages into other buffers.
+/// What is kept stays where others read pages into other buffers, and write pages behind the spool.
 pub(crate) fn replies_stay_kept()
     ensures kept { RepliesStayKept }
 {
     visible_spool::laws::the_spool_is_spared();
     visible_spool::laws::replies_stay_readable();
+    visible_spool::laws::replies_are_kept();
 }
 
 /// What is kept of texts is kept of those behind the first.

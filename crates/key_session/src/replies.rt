@@ -134,7 +134,6 @@ impl Replies {
         visible_spool::laws::replies_stay_readable();
         visible_spool::laws::areas_lie_apart();
         visible_spool::laws::texts_without_rows();
-        visible_spool::laws::halves_are_spared();
         match event {
             Event::Rows(_) => self.push_rows(flash, pool, payload_of(page)),
             Event::Done => self.end_reply(flash, pool),

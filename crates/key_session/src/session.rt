@@ -8,7 +8,7 @@ ghost use Rattle.ghost_model.specs.core.Channel.{Journal};
 ghost use Rattle.ghost_model.specs.core.Moves.{taken};
 ghost use Rattle.ghost_model.specs.core.NextMove.{heard, standing_after};
 ghost use Rattle.ghost_model.specs.core.Texts.{texts_of};
-ghost use Rattle.edge_traits.specs.Devices.{Device, ChangesOnly, KeepsPages};
+ghost use Rattle.edge_traits.specs.Devices.{Device, ChangesOnly};
 ghost use Rattle.ghost_model.specs.forms.Layout as layout;
 ghost use Rattle.channel_pump.specs.Here.{moves_left};
 ghost use Rattle.channel_pump.specs.Marks.{asked_at};
@@ -24,10 +24,13 @@ ghost use Rattle.key_session.specs.Kept.{IsKept, lease_of};
 ghost use Rattle.key_session.specs.Fits.{Fits};
 ghost use Rattle.key_session.specs.Awaiting.{IsWithin, IsAwaiting};
 ghost use Rattle.key_session.specs.Refusing.{first_code};
+ghost use Rattle.leakless_plan.specs.declared.plan.Plan.{Plan};
 ghost use Rattle.key_exec.specs.Plans.{Suffices};
+ghost use Rattle.key_exec.specs.Jobs.{ForScan};
+ghost use Rattle.key_exec.specs.Reading.{KeepsBy};
 ghost use Rattle.page_pool.specs.Pools.{Pool, IsIdle, IsOut, ChangesPage, given, free_count};
 ghost use Rattle.key_exec.specs.Rows.{PrintsSome, TakesTurn};
-ghost use Rattle.key_session.specs.Going.{CanRun, CanStep, IsAmid, IsLive, IsNear, IsNext, IsMove, IsSomeLive, IsSomeMove, MovedOn, WasMoved, WentOn, MadeStep, due_by_rule, due_in, left_of, steps_left};
+ghost use Rattle.key_session.specs.Going.{CanRun, CanStep, IsAmid, IsLive, IsNear, IsNext, IsMove, IsSomeLive, IsSomeMove, MovedOn, RunIsSpared, WasMoved, WentOn, MadeStep, due_by_rule, due_in, left_of, steps_left};
 ghost use Rattle.key_session.specs.Order.{IsSliced, IsUnpaced, is_closed, is_first};
 ghost use Rattle.key_session.specs.Running.{HasRun, is_sink, status_with, blames_flash, is_damaged, spares_flash};
 ghost use Rattle.key_session.specs.Telling.{SessionSide, session_side};
@@ -48,7 +51,7 @@ use edge_traits::flash::Flash;
 use edge_traits::link::Link;
 use edge_traits::sink::Sink;
 use flash_layout::limits::a_catalog_has_a_layout;
-use key_exec::laws::{damage_is_never_met, knowledge_is_enough, tellings_are_spared};
+use key_exec::laws::{damage_is_never_met, knowledge_is_enough};
 use key_lines::printer::pieces_join;
 use page_pool::{Lease, PagePool};
 use session_laws::honest_sessions::{honest_lines_are_printed, honest_sessions_are_smooth};
@@ -84,10 +87,11 @@ impl<'a> Session<'a> {
     /// of the lease.
     pub fn begin(cat: &'a Catalog, script: &'a [u8], options: &Options<'a>, lease: Lease) -> Self
         requires few { length (texts_of script.now) ≤ 64 }
-        ensures live { (told : Bool) (now : SessionSide) (pool : Pool) → Suffices cat.now now.flash → IsOut pool lease → IsLive told (texts_of script.now) [] now now pool result }
+        ensures live { (told : Bool) (now : SessionSide) (pool : Pool) → Suffices cat.now now.flash → IsOut pool lease → IsLive options.now.plan told (texts_of script.now) [] now now pool result }
         ensures lease { lease_of result.replies ≡ lease }
         ensures cat { result.cat.now ≡ cat.now }
         ensures at { result.at.now ≡ options.now.at.now }
+        ensures plan { result.teller.plan ≡ options.now.plan }
         ensures fresh { result.teller.printer.failed ≡ false }
         ensures running { result.teller.running ≡ None }
         ensures pace { IsUnpaced options.now.pace.now result.pace }
@@ -109,7 +113,7 @@ impl<'a> Session<'a> {
     /// with the link closed nothing once no text is left.
     pub fn due(&self) -> Due
         ensures rule { (catalog : channel.Catalog) (asks : List NumberedAsk) (journal : Journal) → IsAfter catalog asks journal self.now.exchange.pump → result ≡ due_in catalog asks journal self.now }
-        ensures by_rule { (told : Bool) (texts : List (List ℕ)) (journal : Journal) (since now : SessionSide) (pool : Pool) → IsLive told texts journal since now pool self.now → result ≡ due_by_rule self.now.cat.now texts journal self.now }
+        ensures by_rule { (by : Plan) (told : Bool) (texts : List (List ℕ)) (journal : Journal) (since now : SessionSide) (pool : Pool) → IsLive by told texts journal since now pool self.now → result ≡ due_by_rule self.now.cat.now texts journal self.now }
         ensures going { result ≡ Due.Move → want_of self.now.exchange.pump ≢ Want.Closed }
         ensures left { result ≡ Due.Slice → is_some self.now.teller.ahead ≡ true }
         ensures closed { result ≡ Due.Ended → want_of self.now.exchange.pump ≡ Want.Closed }
@@ -155,11 +159,12 @@ impl<'a> Session<'a> {
         requires can { CanStep F.told (F.state flash.old) pool.old self.old }
         requires some { IsSomeLive F.told (session_side self.old.teller.printer.failed (O.faults out.old) (O.written out.old) (F.state flash.old)) pool.old self.old }
         ensures can { CanStep F.told (F.state flash.new) pool.new self.new }
-        ensures live { (texts : List (List ℕ)) (journal : Journal) (since : SessionSide) → IsLive F.told texts journal since (session_side self.old.teller.printer.failed (O.faults out.old) (O.written out.old) (F.state flash.old)) pool.old self.old
-            → WentOn (due_by_rule self.old.cat.now texts journal self.old) (WentBy (λ more. L.went link.old more link.new) (L.faults link.old) (L.faults link.new)) F.told texts journal since
+        ensures live { (by : Plan) (texts : List (List ℕ)) (journal : Journal) (since : SessionSide) → IsLive by F.told texts journal since (session_side self.old.teller.printer.failed (O.faults out.old) (O.written out.old) (F.state flash.old)) pool.old self.old
+            → WentOn (due_by_rule self.old.cat.now texts journal self.old) (WentBy (λ more. L.went link.old more link.new) (L.faults link.old) (L.faults link.new)) by F.told texts journal since
             (session_side self.old.teller.printer.failed (O.faults out.old) (O.written out.old) (F.state flash.old)) (session_side self.new.teller.printer.failed (O.faults out.new) (O.written out.new) (F.state flash.new)) pool.new self.old self.new }
         ensures made { (catalog : channel.Catalog) (asks : List NumberedAsk) (journal : Journal) → IsAfter catalog asks journal self.old.exchange.pump
             → MadeStep (due_in catalog asks journal self.old) (session_side self.old.teller.printer.failed (O.faults out.old) (O.written out.old) (F.state flash.old)) (session_side self.new.teller.printer.failed (O.faults out.new) (O.written out.new) (F.state flash.new)) self.old self.new }
+        ensures plan { self.new.teller.plan ≡ self.old.teller.plan }
         ensures fewer { steps_left self.new < steps_left self.old }
         ensures cat { self.new.cat ≡ self.old.cat }
         ensures at { self.new.at ≡ self.old.at }
@@ -185,9 +190,9 @@ impl<'a> Session<'a> {
         requires can { CanStep F.told (F.state flash.old) pool.old self.old }
         requires some { IsMove F.told self.old.cat.now self.old.at.now (F.state flash.old) pool.old self.old.exchange self.old.teller self.old.replies }
         ensures can { CanStep F.told (F.state flash.new) pool.new self.new }
-        ensures live { (texts : List (List ℕ)) (journal : Journal) (since : SessionSide) (sink : Handed)
-            → IsNear self.old.cat.now texts journal (self.old.teller.count + 2) → IsLive F.told texts journal since (record { sink = sink; flash = F.state flash.old }) pool.old self.old
-            → WasMoved (WentBy (λ more. L.went link.old more link.new) (L.faults link.old) (L.faults link.new)) F.told texts journal since (record { sink = sink; flash = F.state flash.old }) (record { sink = sink; flash = F.state flash.new }) pool.new self.old self.new }
+        ensures live { (by : Plan) (texts : List (List ℕ)) (journal : Journal) (since : SessionSide) (sink : Handed)
+            → IsNear self.old.cat.now texts journal (self.old.teller.count + 2) → IsLive by F.told texts journal since (record { sink = sink; flash = F.state flash.old }) pool.old self.old
+            → WasMoved (WentBy (λ more. L.went link.old more link.new) (L.faults link.old) (L.faults link.new)) by F.told texts journal since (record { sink = sink; flash = F.state flash.old }) (record { sink = sink; flash = F.state flash.new }) pool.new self.old self.new }
         ensures writes { WritesHalf self.old.cat.now self.new.replies.hand.text (F.state flash.old) (F.state flash.new) }
         ensures teller { self.new.teller ≡ self.old.teller }
         ensures cat { self.new.cat ≡ self.old.cat }
@@ -195,6 +200,7 @@ impl<'a> Session<'a> {
         ensures fewer { moves_left self.new.exchange.pump < moves_left self.old.exchange.pump }
         ensures faults { L.faults link.old ≤ L.faults link.new }
     {
+        self.teller.spared();
         let (refusal, event) = make_move(
             self.cat,
             self.at,
@@ -215,16 +221,17 @@ impl<'a> Session<'a> {
         requires can { CanStep F.told (F.state flash.old) pool.old self.old }
         requires some { IsSomeLive F.told (session_side self.old.teller.printer.failed (O.faults out.old) (O.written out.old) (F.state flash.old)) pool.old self.old }
         ensures can { CanStep F.told (F.state flash.new) pool.new self.new }
-        ensures live { (texts : List (List ℕ)) (journal : Journal) (since : SessionSide) → IsNext self.old.cat.now texts journal self.old.exchange.pump (self.old.teller.count + 1)
-            → IsLive F.told texts journal since (session_side self.old.teller.printer.failed (O.faults out.old) (O.written out.old) (F.state flash.old)) pool.old self.old
-            → IsLive F.told texts journal since (session_side self.new.teller.printer.failed (O.faults out.new) (O.written out.new) (F.state flash.new)) pool.new self.new }
+        ensures live { (by : Plan) (texts : List (List ℕ)) (journal : Journal) (since : SessionSide) → IsNext self.old.cat.now texts journal self.old.exchange.pump (self.old.teller.count + 1)
+            → IsLive by F.told texts journal since (session_side self.old.teller.printer.failed (O.faults out.old) (O.written out.old) (F.state flash.old)) pool.old self.old
+            → IsLive by F.told texts journal since (session_side self.new.teller.printer.failed (O.faults out.new) (O.written out.new) (F.state flash.new)) pool.new self.new }
         ensures exchange { self.new.exchange ≡ self.old.exchange }
         ensures cat { self.new.cat ≡ self.old.cat }
         ensures at { self.new.at ≡ self.old.at }
         ensures turn { TakesTurn (handed self.old.teller.printer.failed (O.faults out.old) (O.written out.old)) (handed self.new.teller.printer.failed (O.faults out.new) (O.written out.new))
             (F.state flash.old).calls (F.state flash.new).calls }
         ensures few { (F.state flash.new).calls ≤ (F.state flash.old).calls + 8 }
-        ensures kept { KeepsPages (F.state flash.old) (F.state flash.new) }
+        ensures kept { KeepsBy self.old.teller.plan self.old.cat.now (F.state flash.old) (F.state flash.new) }
+        ensures plan { self.new.teller.plan ≡ self.old.teller.plan }
         ensures fewer { left_of self.new.teller < left_of self.old.teller }
         ensures sliced { IsSliced self.old.pace self.new.pace }
     {
@@ -292,13 +299,13 @@ fn make_move<F: Flash, L: Link>(
 ) -> (Option<u8>, Event)
     requires going { want_of exchange.old.pump ≢ Want.Closed }
     requires some { IsSomeMove F.told cat.now at.now (F.state flash.old) pool.old exchange.old replies.old }
-    ensures moved { (texts : List (List ℕ)) (journal : Journal) (since : SessionSide) (sink : Handed) (teller : tellers.Teller)
-        → IsNear cat.now texts journal (teller.count + 2)
-        → moves.IsLive cat.now at.now (asked_of cat.now.schema texts) journal exchange.old → IsAmid F.told cat.now texts journal since (record { sink = sink; flash = F.state flash.old }) pool.old exchange.old.pump teller replies.old
-        → refusal ≡ first_code (heard_in cat.now texts journal).ended → CanRun F.told cat.now (F.state flash.old) pool.old (teller.count + 1) (lease_of replies.old) teller.running
-        → MovedOn (WentBy (λ more. L.went link.old more link.new) (L.faults link.old) (L.faults link.new)) F.told cat.now at.now texts journal since (record { sink = sink; flash = F.state flash.new }) pool.new result.1 exchange.new teller replies.new result.0 }
-    ensures can { (teller : tellers.Teller) → IsMove F.told cat.now at.now (F.state flash.old) pool.old exchange.old teller replies.old
-        → CanRun F.told cat.now (F.state flash.old) pool.old (teller.count + 1) (lease_of replies.old) teller.running → CanRun F.told cat.now (F.state flash.new) pool.new (teller.count + 1) (lease_of replies.old) teller.running }
+    ensures moved { (by : Plan) (texts : List (List ℕ)) (journal : Journal) (since : SessionSide) (sink : Handed) (teller : tellers.Teller)
+        → RunIsSpared teller.running → IsNear cat.now texts journal (teller.count + 2)
+        → moves.IsLive cat.now at.now (asked_of cat.now.schema texts) journal exchange.old → IsAmid by F.told cat.now texts journal since (record { sink = sink; flash = F.state flash.old }) pool.old exchange.old.pump teller replies.old
+        → refusal ≡ first_code (heard_in cat.now texts journal).ended → CanRun by F.told cat.now (F.state flash.old) pool.old (teller.count + 1) (lease_of replies.old) teller.running
+        → MovedOn (WentBy (λ more. L.went link.old more link.new) (L.faults link.old) (L.faults link.new)) by F.told cat.now at.now texts journal since (record { sink = sink; flash = F.state flash.new }) pool.new result.1 exchange.new teller replies.new result.0 }
+    ensures can { (by : Plan) (teller : tellers.Teller) → RunIsSpared teller.running → IsMove F.told cat.now at.now (F.state flash.old) pool.old exchange.old teller replies.old
+        → CanRun by F.told cat.now (F.state flash.old) pool.old (teller.count + 1) (lease_of replies.old) teller.running → CanRun by F.told cat.now (F.state flash.new) pool.new (teller.count + 1) (lease_of replies.old) teller.running }
     ensures writes { WritesHalf cat.now replies.new.hand.text (F.state flash.old) (F.state flash.new) }
     ensures few { (F.state flash.new).calls ≤ (F.state flash.old).calls + 2 * pages_on result.1 replies.new.hand replies.old.spool replies.new.spool }
     ensures buffer { ChangesPage pool.old pool.new (lease_of replies.old) }
@@ -315,7 +322,6 @@ fn make_move<F: Flash, L: Link>(
     over_texts_are_settled();
     asks_are_awaited_in_order();
     texts_come_in_order();
-    tellings_are_spared();
     let is_awaited = await_reply(cat, &exchange.pump, replies);
     let event = exchange.step(at, link);
     replies.hear(flash, pool, event, &exchange.page);
@@ -346,8 +352,9 @@ fn await_reply(cat: &Catalog, pump: &Pump, replies: &mut Replies) -> bool
 /// each text: the replies of the host and the key's own flash answer it.
 ///
 /// Every page that it reads of the flash lies in a buffer of the pool, of which none is out before it and none after it.
-/// The replies are written to the spool, behind the files of the hidden part, and to no other page. After a failed write of a
-/// line no further one is printed, but the session goes on to its end.
+/// The replies are written to the spool, behind the files of the hidden part; by the indexes the candidates of a text are gathered
+/// behind the spool. No other page is written. After a failed write of a line no further one is printed, but the session goes on to
+/// its end.
 pub fn run_session<F: Flash, L: Link, O: Sink>(
     cat: &Catalog,
     script: &[u8],
@@ -360,7 +367,7 @@ pub fn run_session<F: Flash, L: Link, O: Sink>(
     requires few { length (texts_of script.now) ≤ 64 }
     requires suffices { Suffices cat.now (F.state flash.old) }
     requires idle { IsIdle pool.old }
-    ensures ran { HasRun (λ journal. L.went link.old journal link.new) (L.faults link.old) (L.faults link.new) F.told cat.now options.now.at.now (texts_of script.now)
+    ensures ran { HasRun (λ journal. L.went link.old journal link.new) (L.faults link.old) (L.faults link.new) options.now.plan F.told cat.now options.now.at.now (texts_of script.now)
         (session_side false (O.faults out.old) (O.written out.old) (F.state flash.old)) (session_side (is_sink result.status) (O.faults out.new) (O.written out.new) (F.state flash.new)) result }
     ensures texts { result.texts ≡ length (texts_of script.now) }
     ensures prints { PrintsSome (handed false (O.faults out.old) (O.written out.old)) (handed (is_sink result.status) (O.faults out.new) (O.written out.new)) }
@@ -369,8 +376,8 @@ pub fn run_session<F: Flash, L: Link, O: Sink>(
     ensures pages { ChangesOnly (layout.static_end cat.now) (layout.need cat.now) (F.state flash.old) (F.state flash.new) }
     ensures idle { IsIdle pool.new }
     ensures flash_calls { min (F.state flash.old).calls last_count ≤ (F.state flash.new).calls }
-    ensures flash_called { blames_flash result.status ≡ true → Rose (F.state flash.old).calls (F.state flash.new).calls }
-    ensures damage_called { is_damaged result.status ≡ true → Rose (F.state flash.old).calls (F.state flash.new).calls }
+    ensures flash_called { ForScan options.now.plan (blames_flash result.status ≡ true → Rose (F.state flash.old).calls (F.state flash.new).calls) }
+    ensures damage_called { ForScan options.now.plan (is_damaged result.status ≡ true → Rose (F.state flash.old).calls (F.state flash.new).calls) }
     ensures flash_faults { min (F.state flash.old).faults last_count ≤ (F.state flash.new).faults }
     ensures flash_rose { blames_flash result.status ≡ true → Rose (F.state flash.old).faults (F.state flash.new).faults }
     ensures flash_same { spares_flash result.status ≡ true → (F.state flash.new).faults ≡ (F.state flash.old).faults }

@@ -8,16 +8,18 @@ ghost use Rattle.ghost_model.specs.core.Asks.{asked_of};
 ghost use Rattle.ghost_model.specs.core.Moves.{taken};
 ghost use Rattle.ghost_model.specs.forms.Frames.{AreBytes};
 ghost use Rattle.ghost_model.specs.laws.SchemaTrees.{IsTree};
-ghost use Rattle.edge_traits.specs.Devices.{Device, KeepsPages};
+ghost use Rattle.edge_traits.specs.Devices.{Device};
 ghost use Rattle.channel_pump.specs.State.{IsAfter};
 ghost use Rattle.key_lines.specs.Handing.{handed};
+ghost use Rattle.leakless_plan.specs.declared.plan.Plan.{Plan};
 ghost use Rattle.key_exec.specs.Plans.{Suffices};
+ghost use Rattle.key_exec.specs.Reading.{KeepsBy};
 ghost use Rattle.page_pool.specs.Pools.{Pool};
 ghost use Rattle.key_exec.specs.Rows.{TakesTurn};
 ghost use Rattle.visible_spool.specs.Sparing.{IsHalf};
 ghost use Rattle.key_session.specs.Kept.{half_in, lease_of};
 ghost use Rattle.key_session.specs.declared.replies.Replies as held;
-ghost use Rattle.key_session.specs.Going.{CanRun, IsSomeRun, IsOutAlone, IsNext, IsAmid, IsBegun, EndsText, leases_of, left_of, unbegun};
+ghost use Rattle.key_session.specs.Going.{CanRun, IsSomeRun, IsNext, IsAmid, IsBegun, EndsText, RunIsSpared, left_of, unbegun};
 ghost use Rattle.key_session.specs.Telling.{SessionSide, session_side};
 
 use crate::Replies;
@@ -43,13 +45,14 @@ impl<'a> Teller<'a> {
         requires left { is_some self.old.ahead ≡ true }
         ensures begun { is_some self.new.running ≡ true }
         ensures can { (told : Bool) (device : Device) (pool : Pool) (lease : ℕ) → Suffices cat.now device → IsHalf told cat.now ((self.old.count + 1) % 2) device (half_in replies.now (self.old.count + 1))
-            → CanRun told cat.now device pool (self.old.count + 1) lease self.old.running → CanRun told cat.now device pool (self.new.count + 1) lease self.new.running }
-        ensures told { (told : Bool) (texts : List (List ℕ)) (journal : Journal) (since now : SessionSide) (pool : Pool) → Suffices cat.now now.flash → AreBytes (taken journal)
+            → CanRun self.old.plan told cat.now device pool (self.old.count + 1) lease self.old.running → CanRun self.old.plan told cat.now device pool (self.new.count + 1) lease self.new.running }
+        ensures told { (by : Plan) (told : Bool) (texts : List (List ℕ)) (journal : Journal) (since now : SessionSide) (pool : Pool) → Suffices cat.now now.flash → AreBytes (taken journal)
+            → CanRun by told cat.now now.flash pool (self.old.count + 1) (lease_of replies.now) self.old.running
             → IsAfter cat.now (asked_of cat.now.schema texts) journal pump.now → IsNext cat.now texts journal pump.now (self.old.count + 1)
-            → IsAmid told cat.now texts journal since now pool pump.now self.old replies.now → IsBegun told cat.now texts journal since now pool pump.now self.new replies.now }
-        ensures fewer { (told : Bool) (device : Device) (pool : Pool) (lease : ℕ) → Suffices cat.now device → IsHalf told cat.now ((self.old.count + 1) % 2) device (half_in replies.now (self.old.count + 1))
-            → CanRun told cat.now device pool (self.old.count + 1) lease self.old.running → left_of self.new ≤ left_of self.old }
+            → IsAmid by told cat.now texts journal since now pool pump.now self.old replies.now → IsBegun by told cat.now texts journal since now pool pump.now self.new replies.now }
+        ensures fewer { left_of self.new ≤ left_of self.old }
         ensures count { self.new.count ≡ self.old.count }
+        ensures plan { self.new.plan ≡ self.old.plan }
         ensures printer { self.new.printer.failed ≡ self.old.printer.failed }
         ensures left { is_some self.new.ahead ≡ true }
     {
@@ -81,16 +84,18 @@ impl<'a> Teller<'a> {
     )
         requires begun { is_some self.old.running ≡ true }
         requires can { IsSomeRun F.told (F.state flash.old) pool.old (self.old.count + 1) self.old.running }
-        ensures can { (cat : channel.Catalog) (lease : ℕ) → CanRun F.told cat (F.state flash.old) pool.old (self.old.count + 1) lease self.old.running
-            → CanRun F.told cat (F.state flash.new) pool.new (self.new.count + 1) lease self.new.running }
-        ensures told { (cat : channel.Catalog) (texts : List (List ℕ)) (journal : Journal) (since : SessionSide) (pump : pumps.Pump) (replies : held.Replies)
-            → IsTree cat.schema → IsOutAlone (leases_of self.old.running) pool.old (lease_of replies)
-            → IsBegun F.told cat texts journal since (session_side self.old.printer.failed (O.faults out.old) (O.written out.old) (F.state flash.old)) pool.old pump self.old replies
-            → IsAmid F.told cat texts journal since (session_side self.new.printer.failed (O.faults out.new) (O.written out.new) (F.state flash.new)) pool.new pump self.new replies }
+        ensures can { (by : Plan) (cat : channel.Catalog) (lease : ℕ) → CanRun by F.told cat (F.state flash.old) pool.old (self.old.count + 1) lease self.old.running
+            → CanRun by F.told cat (F.state flash.new) pool.new (self.new.count + 1) lease self.new.running }
+        ensures told { (by : Plan) (cat : channel.Catalog) (texts : List (List ℕ)) (journal : Journal) (since : SessionSide) (pump : pumps.Pump) (replies : held.Replies)
+            → IsTree cat.schema → CanRun by F.told cat (F.state flash.old) pool.old (self.old.count + 1) (lease_of replies) self.old.running
+            → IsBegun by F.told cat texts journal since (session_side self.old.printer.failed (O.faults out.old) (O.written out.old) (F.state flash.old)) pool.old pump self.old replies
+            → IsAmid by F.told cat texts journal since (session_side self.new.printer.failed (O.faults out.new) (O.written out.new) (F.state flash.new)) pool.new pump self.new replies }
         ensures turn { TakesTurn (handed self.old.printer.failed (O.faults out.old) (O.written out.old)) (handed self.new.printer.failed (O.faults out.new) (O.written out.new))
             (F.state flash.old).calls (F.state flash.new).calls }
-        ensures kept { KeepsPages (F.state flash.old) (F.state flash.new) }
+        ensures kept { (by : Plan) (cat : channel.Catalog) (lease : ℕ) → CanRun by F.told cat (F.state flash.old) pool.old (self.old.count + 1) lease self.old.running
+            → KeepsBy by cat (F.state flash.old) (F.state flash.new) }
         ensures few { (F.state flash.new).calls ≤ (F.state flash.old).calls + 8 }
+        ensures plan { self.new.plan ≡ self.old.plan }
         ensures fewer { left_of self.new < left_of self.old }
     {
         pieces_join();
@@ -105,6 +110,16 @@ impl<'a> Teller<'a> {
         match telling.step(&mut self.printer, out, pool, flash) {
             None => {}
             Some(told) => self.end(told),
+        }
+    }
+
+    /// A law: the text that is told goes on, and is told, as before where others write only the other half of the spool, and use other
+    /// buffers.
+    pub(crate) fn spared(&self)
+        ensures spared { RunIsSpared self.now.running }
+    {
+        if let Some(telling) = &self.running {
+            telling.spared();
         }
     }
 

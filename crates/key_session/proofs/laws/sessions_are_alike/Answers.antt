@@ -35,7 +35,7 @@ module _ (catalog : Catalog) (at : List ℕ) (asks : List NumberedAsk) where
 
 pub returns : goal.returns
 returns g c = record {
-  alike = λ before now other_before other_now catalog at texts failed fails other_failed other_fails told other_told since after other_since other_after tally other_tally one other. record {
+  alike = λ before now other_before other_now catalog at texts failed fails other_failed other_fails by other_by told other_told since after other_since other_after tally other_tally one other. record {
     so_far = λ i within other_within same. c.two_worlds.ensures catalog at (asked_of catalog.schema texts) one.journal other.journal i one.proper other.proper within other_within same;
     whole = same_journal catalog at (asked_of catalog.schema texts) one.journal other.journal [] one.proper other.proper;
   };

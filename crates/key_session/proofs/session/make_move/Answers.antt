@@ -19,10 +19,8 @@ hear-requires g c = record {
     order = c.texts_come_in_order.ensures;
     outcomes = c.texts_have_outcomes.ensures;
     in_order = c.asks_are_awaited_in_order.ensures;
-    able = c.tellings_are_spared.ensures.able;
-    spared = c.tellings_are_spared.ensures.under_way;
   }) c.replies_fit.ensures _ c.args.cat.now c.a_catalog_is_short.ensures.catalog.meant (WentBy (λ more. g.L.Link.went c.args.link.now more c.step-event.new.link) (g.L.Link.faults c.args.link.now) (g.L.Link.faults c.step-event.new.link))
-      g.F.Flash.told c.args.at.now c.requires.some.move.texts c.requires.some.move.journal c.requires.some.move.since c.requires.some.move.sink (g.F.Flash.state c.args.flash.now) c.args.pool.now c.args.exchange.now c.step-event.new.self c.requires.some.teller c.args.replies.now c.await_reply-is_awaited.new.replies c.step-event.result
+      c.requires.some.move.by g.F.Flash.told c.args.at.now c.requires.some.move.texts c.requires.some.move.journal c.requires.some.move.since c.requires.some.move.sink (g.F.Flash.state c.args.flash.now) c.args.pool.now c.args.exchange.now c.step-event.new.self c.requires.some.teller c.args.replies.now c.await_reply-is_awaited.new.replies c.step-event.result
       c.requires.going c.requires.some.move.near c.requires.some.move.amid
       (λ fits within kept. c.await_reply-is_awaited.ensures.kept g.F.Flash.told (g.F.Flash.state c.args.flash.now) c.args.pool.now (asked_of c.args.cat.now.schema c.requires.some.move.texts) c.requires.some.move.journal (c.requires.some.teller.count + 1) c.requires.some.move.amid.going.top c.requires.some.move.channel.after fits within kept)
       (c.step-event.ensures.moved c.args.cat.now (asked_of c.args.cat.now.schema c.requires.some.move.texts) c.requires.some.move.journal c.requires.some.move.channel);
@@ -44,10 +42,8 @@ returns-clause-writes g c =
       order = c.texts_come_in_order.ensures;
       outcomes = c.texts_have_outcomes.ensures;
       in_order = c.asks_are_awaited_in_order.ensures;
-      able = c.tellings_are_spared.ensures.able;
-      spared = c.tellings_are_spared.ensures.under_way;
     }) c.replies_fit.ensures _ c.args.cat.now c.a_catalog_is_short.ensures.catalog.meant (WentBy (λ more. g.L.Link.went c.args.link.now more c.step-event.new.link) (g.L.Link.faults c.args.link.now) (g.L.Link.faults c.step-event.new.link))
-    g.F.Flash.told c.args.at.now c.requires.some.move.texts c.requires.some.move.journal c.requires.some.move.since c.requires.some.move.sink (g.F.Flash.state c.args.flash.now) c.args.pool.now c.args.exchange.now c.step-event.new.self c.requires.some.teller c.args.replies.now c.await_reply-is_awaited.new.replies c.step-event.result
+    c.requires.some.move.by g.F.Flash.told c.args.at.now c.requires.some.move.texts c.requires.some.move.journal c.requires.some.move.since c.requires.some.move.sink (g.F.Flash.state c.args.flash.now) c.args.pool.now c.args.exchange.now c.step-event.new.self c.requires.some.teller c.args.replies.now c.await_reply-is_awaited.new.replies c.step-event.result
     c.requires.going c.requires.some.move.near c.requires.some.move.amid
     (λ fits within kept. c.await_reply-is_awaited.ensures.kept g.F.Flash.told (g.F.Flash.state c.args.flash.now) c.args.pool.now (asked_of c.args.cat.now.schema c.requires.some.move.texts) c.requires.some.move.journal (c.requires.some.teller.count + 1) c.requires.some.move.amid.going.top c.requires.some.move.channel.after fits within kept)
     (c.step-event.ensures.moved c.args.cat.now (asked_of c.args.cat.now.schema c.requires.some.move.texts) c.requires.some.move.journal c.requires.some.move.channel)
@@ -57,7 +53,7 @@ returns-clause-writes g c =
     subst (λ (h : AskAtHand). WritesHalf c.args.cat.now h.text (g.F.Flash.state c.args.flash.now) (g.F.Flash.state c.hear.new.flash)) (sym c.hear.ensures.hand) written
 
 pub returns-clause-can : goal.returns-clause-can
-returns-clause-can g c = λ teller move run.
+returns-clause-can g c = λ plan teller spared move run.
     can_run (record {
       stay = c.ended_texts_stay.ensures;
       reasons = c.reasons_stay.ensures;
@@ -66,20 +62,18 @@ returns-clause-can g c = λ teller move run.
       order = c.texts_come_in_order.ensures;
       outcomes = c.texts_have_outcomes.ensures;
       in_order = c.asks_are_awaited_in_order.ensures;
-      able = c.tellings_are_spared.ensures.able;
-      spared = c.tellings_are_spared.ensures.under_way;
     }) c.replies_fit.ensures _ c.args.cat.now c.a_catalog_is_short.ensures.catalog.meant (WentBy (λ more. g.L.Link.went c.args.link.now more c.step-event.new.link) (g.L.Link.faults c.args.link.now) (g.L.Link.faults c.step-event.new.link))
-    g.F.Flash.told c.args.at.now move.texts move.journal move.since move.sink (g.F.Flash.state c.args.flash.now) c.args.pool.now c.args.exchange.now c.step-event.new.self teller c.args.replies.now c.await_reply-is_awaited.new.replies c.step-event.result
+    move.by g.F.Flash.told c.args.at.now move.texts move.journal move.since move.sink (g.F.Flash.state c.args.flash.now) c.args.pool.now c.args.exchange.now c.step-event.new.self teller c.args.replies.now c.await_reply-is_awaited.new.replies c.step-event.result
     c.requires.going move.near move.amid
     (λ fits within kept. c.await_reply-is_awaited.ensures.kept g.F.Flash.told (g.F.Flash.state c.args.flash.now) c.args.pool.now (asked_of c.args.cat.now.schema move.texts) move.journal (teller.count + 1) move.amid.going.top move.channel.after fits within kept)
     (c.step-event.ensures.moved c.args.cat.now (asked_of c.args.cat.now.schema move.texts) move.journal move.channel)
     (g.F.Flash.state c.hear.new.flash) c.hear.new.pool c.hear.new.self c.await_reply-is_awaited.ensures.spool
     (λ later low top hears. (c.hear.ensures.kept c.args.cat.now (heard_in c.args.cat.now move.texts move.journal) later low top hears, c.hear.ensures.heard c.args.cat.now (heard_in c.args.cat.now move.texts move.journal) later low top hears))
-    c.hear.ensures.marks c.hear.ensures.unopened_flash c.hear.ensures.unopened_spool
+    c.hear.ensures.marks c.hear.ensures.unopened_flash c.hear.ensures.unopened_spool plan spared
     (subst (λ (lease : _). ChangesPage c.args.pool.now c.hear.new.pool lease) (same_lease c.args.replies.now c.await_reply-is_awaited.new.replies c.await_reply-is_awaited.ensures.spool) c.hear.ensures.buffer) run
 
 pub returns-clause-moved : goal.returns-clause-moved
-returns-clause-moved g c = λ texts journal since sink teller near channel amid refusal_is run.
+returns-clause-moved g c = λ plan texts journal since sink teller spared near channel amid refusal_is run.
     let moved = c.step-event.ensures.moved c.args.cat.now (asked_of c.args.cat.now.schema texts) journal channel in
     record {
       made = moved.made;
@@ -95,16 +89,14 @@ returns-clause-moved g c = λ texts journal since sink teller near channel amid 
         order = c.texts_come_in_order.ensures;
         outcomes = c.texts_have_outcomes.ensures;
         in_order = c.asks_are_awaited_in_order.ensures;
-        able = c.tellings_are_spared.ensures.able;
-        spared = c.tellings_are_spared.ensures.under_way;
       }) c.replies_fit.ensures _ c.args.cat.now c.a_catalog_is_short.ensures.catalog.meant (WentBy (λ more. g.L.Link.went c.args.link.now more c.step-event.new.link) (g.L.Link.faults c.args.link.now) (g.L.Link.faults c.step-event.new.link))
-          g.F.Flash.told c.args.at.now texts journal since sink (g.F.Flash.state c.args.flash.now) c.args.pool.now c.args.exchange.now c.step-event.new.self teller c.args.replies.now c.await_reply-is_awaited.new.replies c.step-event.result
+          plan g.F.Flash.told c.args.at.now texts journal since sink (g.F.Flash.state c.args.flash.now) c.args.pool.now c.args.exchange.now c.step-event.new.self teller c.args.replies.now c.await_reply-is_awaited.new.replies c.step-event.result
           c.requires.going near amid
           (λ fits within kept. c.await_reply-is_awaited.ensures.kept g.F.Flash.told (g.F.Flash.state c.args.flash.now) c.args.pool.now (asked_of c.args.cat.now.schema texts) journal (teller.count + 1) amid.going.top channel.after fits within kept)
           moved
           (g.F.Flash.state c.hear.new.flash) c.hear.new.pool c.hear.new.self c.await_reply-is_awaited.ensures.spool
           (λ later low top hears. (c.hear.ensures.kept c.args.cat.now (heard_in c.args.cat.now texts journal) later low top hears, c.hear.ensures.heard c.args.cat.now (heard_in c.args.cat.now texts journal) later low top hears))
-          c.hear.ensures.marks c.hear.ensures.unopened_flash c.hear.ensures.unopened_spool
+          c.hear.ensures.marks c.hear.ensures.unopened_flash c.hear.ensures.unopened_spool spared
           (subst (λ (lease : _). ChangesPage c.args.pool.now c.hear.new.pool lease) (same_lease c.args.replies.now c.await_reply-is_awaited.new.replies c.await_reply-is_awaited.ensures.spool) c.hear.ensures.buffer) run;
       refusal_is = refusal_more c.args.cat.now c.step-event.new.self.page c.step-event.result (heard_in c.args.cat.now texts journal) _ c.args.refusal c.first_refusal.result c.await_reply-is_awaited.result moved.tells refusal_is
           (c.await_reply-is_awaited.ensures.awaited (asked_of c.args.cat.now.schema texts) journal channel.after) c.first_refusal.ensures.first;

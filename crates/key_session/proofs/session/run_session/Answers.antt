@@ -22,7 +22,7 @@ steps-init g c = (
   record {
     journal = [];
     went = record { gone = g.met.L.Link.stays _; counts = c.moves_join.ensures.joined.none _; short = refl };
-    live = subst (λ (failed : Bool). IsLive g.F.Flash.told (texts_of c.args.script.now) [] (session_side false (g.O.Sink.faults c.args.out.now) (g.O.Sink.written c.args.out.now) (g.F.Flash.state c.args.flash.now))
+    live = subst (λ (failed : Bool). IsLive c.args.options.now.plan g.F.Flash.told (texts_of c.args.script.now) [] (session_side false (g.O.Sink.faults c.args.out.now) (g.O.Sink.written c.args.out.now) (g.F.Flash.state c.args.flash.now))
         (session_side failed (g.O.Sink.faults c.args.out.now) (g.O.Sink.written c.args.out.now) (g.F.Flash.state c.args.flash.now)) c.lease.new.self c.begin-session.result) (sym c.begin-session.ensures.fresh)
         (c.begin-session.ensures.live g.F.Flash.told (session_side false (g.O.Sink.faults c.args.out.now) (g.O.Sink.written c.args.out.now) (g.F.Flash.state c.args.flash.now)) c.lease.new.self c.requires.suffices c.in-Some.ensures.is_out);
   },
@@ -38,48 +38,48 @@ steps-preserved g c =
       omega (arith, before, more),
       come_on (WentBy (λ journal. g.L.Link.went c.args.link.now journal c.steps.link) (g.L.Link.faults c.args.link.now) (g.L.Link.faults c.steps.link))
           (WentBy (λ journal. g.L.Link.went c.steps.link journal c.step.new.link) (g.L.Link.faults c.steps.link) (g.L.Link.faults c.step.new.link))
-          (WentBy (λ journal. g.L.Link.went c.args.link.now journal c.step.new.link) (g.L.Link.faults c.args.link.now) (g.L.Link.faults c.step.new.link)) g.F.Flash.told (texts_of c.args.script.now)
+          (WentBy (λ journal. g.L.Link.went c.args.link.now journal c.step.new.link) (g.L.Link.faults c.args.link.now) (g.L.Link.faults c.step.new.link)) c.args.options.now.plan g.F.Flash.told (texts_of c.args.script.now)
           (session_side false (g.O.Sink.faults c.args.out.now) (g.O.Sink.written c.args.out.now) (g.F.Flash.state c.args.flash.now)) _ _ c.steps.pool c.step.new.pool c.steps.session c.step.new.self
           (λ first made one other. record {
             gone = g.met.L.Link.joins _ _ _ first made one.gone other.gone;
             counts = c.moves_join.ensures.joined.two _ _ _ first made one.counts other.counts;
             short = c.moves_join.ensures.joined.short first made one.short other.short;
           })
-          (λ journal live. c.step.ensures.live (texts_of c.args.script.now) journal (session_side false (g.O.Sink.faults c.args.out.now) (g.O.Sink.written c.args.out.now) (g.F.Flash.state c.args.flash.now)) live)
+          (λ journal live. c.step.ensures.live c.args.options.now.plan (texts_of c.args.script.now) journal (session_side false (g.O.Sink.faults c.args.out.now) (g.O.Sink.written c.args.out.now) (g.F.Flash.state c.args.flash.now)) live)
           c.steps.invariant.4,
     )
 
 pub returns-in-Ended-clause-ran : goal.returns-in-Ended-clause-ran
 returns-in-Ended-clause-ran g c =
     let last = last_of c.later_texts_are_unmarked.ensures.unmarked c.knowledge_is_enough.ensures.enough c.damage_is_never_met.ensures.never c.honest_sessions_are_smooth.ensures c.honest_lines_are_printed.ensures c.closed_is_finished.ensures.finished c.args.cat.now c.a_catalog_is_short.ensures.catalog c.a_catalog_has_a_layout.ensures.layout.tree (texts_of c.args.script.now) c.requires.few
-    (λ journal. g.L.Link.went c.args.link.now journal c.steps.link) (g.L.Link.faults c.args.link.now) (g.L.Link.faults c.steps.link) g.F.Flash.told c.args.options.now.at.now
+    (λ journal. g.L.Link.went c.args.link.now journal c.steps.link) (g.L.Link.faults c.args.link.now) (g.L.Link.faults c.steps.link) c.args.options.now.plan g.F.Flash.told c.args.options.now.at.now
     (session_side false (g.O.Sink.faults c.args.out.now) (g.O.Sink.written c.args.out.now) (g.F.Flash.state c.args.flash.now)) (g.O.Sink.faults c.steps.out) (g.O.Sink.written c.steps.out) (g.F.Flash.state c.steps.flash) c.steps.pool c.steps.session c.end.result
     c.steps.invariant.1 c.steps.invariant.2 c.steps.invariant.4 (c.due.ensures.closed c.in-Ended.is) (c.due.ensures.none c.in-Ended.is) c.end.ensures.texts c.end.ensures.refused c.end.ensures.faulted c.end.ensures.status in
-    subst (λ (failed : Bool). HasRun (λ journal. g.L.Link.went c.args.link.now journal c.steps.link) (g.L.Link.faults c.args.link.now) (g.L.Link.faults c.steps.link) g.F.Flash.told c.args.cat.now c.args.options.now.at.now (texts_of c.args.script.now)
+    subst (λ (failed : Bool). HasRun (λ journal. g.L.Link.went c.args.link.now journal c.steps.link) (g.L.Link.faults c.args.link.now) (g.L.Link.faults c.steps.link) c.args.options.now.plan g.F.Flash.told c.args.cat.now c.args.options.now.at.now (texts_of c.args.script.now)
     (session_side false (g.O.Sink.faults c.args.out.now) (g.O.Sink.written c.args.out.now) (g.F.Flash.state c.args.flash.now)) (session_side failed (g.O.Sink.faults c.steps.out) (g.O.Sink.written c.steps.out) (g.F.Flash.state c.steps.flash)) c.end.result) (sym c.end.ensures.sink) last.ran
 
 pub returns-in-Ended-clause-prints : goal.returns-in-Ended-clause-prints
 returns-in-Ended-clause-prints g c =
     let last = last_of c.later_texts_are_unmarked.ensures.unmarked c.knowledge_is_enough.ensures.enough c.damage_is_never_met.ensures.never c.honest_sessions_are_smooth.ensures c.honest_lines_are_printed.ensures c.closed_is_finished.ensures.finished c.args.cat.now c.a_catalog_is_short.ensures.catalog c.a_catalog_has_a_layout.ensures.layout.tree (texts_of c.args.script.now) c.requires.few
-    (λ journal. g.L.Link.went c.args.link.now journal c.steps.link) (g.L.Link.faults c.args.link.now) (g.L.Link.faults c.steps.link) g.F.Flash.told c.args.options.now.at.now
+    (λ journal. g.L.Link.went c.args.link.now journal c.steps.link) (g.L.Link.faults c.args.link.now) (g.L.Link.faults c.steps.link) c.args.options.now.plan g.F.Flash.told c.args.options.now.at.now
     (session_side false (g.O.Sink.faults c.args.out.now) (g.O.Sink.written c.args.out.now) (g.F.Flash.state c.args.flash.now)) (g.O.Sink.faults c.steps.out) (g.O.Sink.written c.steps.out) (g.F.Flash.state c.steps.flash) c.steps.pool c.steps.session c.end.result
     c.steps.invariant.1 c.steps.invariant.2 c.steps.invariant.4 (c.due.ensures.closed c.in-Ended.is) (c.due.ensures.none c.in-Ended.is) c.end.ensures.texts c.end.ensures.refused c.end.ensures.faulted c.end.ensures.status in
     subst (λ (failed : Bool). PrintsSome (handed false (g.O.Sink.faults c.args.out.now) (g.O.Sink.written c.args.out.now)) (handed failed (g.O.Sink.faults c.steps.out) (g.O.Sink.written c.steps.out))) (sym c.end.ensures.sink) last.prints
 
 pub returns-in-Ended-clause-idle : goal.returns-in-Ended-clause-idle
 returns-in-Ended-clause-idle g c =
-    idle_over c.steps.pool _ c.end.new.pool (alone_over g.F.Flash.told _ (g.F.Flash.state c.steps.flash) c.steps.pool _ _ c.steps.session.teller (c.due.ensures.none c.in-Ended.is) c.steps.invariant.0.run) c.end.ensures.given c.end.ensures.counted
+    idle_over c.steps.pool _ c.end.new.pool (alone_over c.steps.session.teller.plan g.F.Flash.told _ (g.F.Flash.state c.steps.flash) c.steps.pool _ _ c.steps.session.teller (c.due.ensures.none c.in-Ended.is) c.steps.invariant.0.run) c.end.ensures.given c.end.ensures.counted
 
 pub end-requires : goal.end-requires
-end-requires g c = record { out = out_over c.steps.pool _ (alone_over g.F.Flash.told _ (g.F.Flash.state c.steps.flash) c.steps.pool _ _ c.steps.session.teller (c.due.ensures.none c.in-Ended.is) c.steps.invariant.0.run) }
+end-requires g c = record { out = out_over c.steps.pool _ (alone_over c.steps.session.teller.plan g.F.Flash.told _ (g.F.Flash.state c.steps.flash) c.steps.pool _ _ c.steps.session.teller (c.due.ensures.none c.in-Ended.is) c.steps.invariant.0.run) }
 
 pub step-requires-clause-some : goal.step-requires-clause-some
-step-requires-clause-some g c = record { texts = _; journal = c.steps.invariant.4.journal; since = _; live = c.steps.invariant.4.live }
+step-requires-clause-some g c = record { by = c.args.options.now.plan; texts = _; journal = c.steps.invariant.4.journal; since = _; live = c.steps.invariant.4.live }
 
 pub returns-in-Ended-clause-texts : goal.returns-in-Ended-clause-texts
 returns-in-Ended-clause-texts g c =
     let last = last_of c.later_texts_are_unmarked.ensures.unmarked c.knowledge_is_enough.ensures.enough c.damage_is_never_met.ensures.never c.honest_sessions_are_smooth.ensures c.honest_lines_are_printed.ensures c.closed_is_finished.ensures.finished c.args.cat.now c.a_catalog_is_short.ensures.catalog c.a_catalog_has_a_layout.ensures.layout.tree (texts_of c.args.script.now) c.requires.few
-    (λ journal. g.L.Link.went c.args.link.now journal c.steps.link) (g.L.Link.faults c.args.link.now) (g.L.Link.faults c.steps.link) g.F.Flash.told c.args.options.now.at.now
+    (λ journal. g.L.Link.went c.args.link.now journal c.steps.link) (g.L.Link.faults c.args.link.now) (g.L.Link.faults c.steps.link) c.args.options.now.plan g.F.Flash.told c.args.options.now.at.now
     (session_side false (g.O.Sink.faults c.args.out.now) (g.O.Sink.written c.args.out.now) (g.F.Flash.state c.args.flash.now)) (g.O.Sink.faults c.steps.out) (g.O.Sink.written c.steps.out) (g.F.Flash.state c.steps.flash) c.steps.pool c.steps.session c.end.result
     c.steps.invariant.1 c.steps.invariant.2 c.steps.invariant.4 (c.due.ensures.closed c.in-Ended.is) (c.due.ensures.none c.in-Ended.is) c.end.ensures.texts c.end.ensures.refused c.end.ensures.faulted c.end.ensures.status in
     last.many
@@ -87,7 +87,7 @@ returns-in-Ended-clause-texts g c =
 pub returns-in-Ended-clause-sink_same : goal.returns-in-Ended-clause-sink_same
 returns-in-Ended-clause-sink_same g c =
     let last = last_of c.later_texts_are_unmarked.ensures.unmarked c.knowledge_is_enough.ensures.enough c.damage_is_never_met.ensures.never c.honest_sessions_are_smooth.ensures c.honest_lines_are_printed.ensures c.closed_is_finished.ensures.finished c.args.cat.now c.a_catalog_is_short.ensures.catalog c.a_catalog_has_a_layout.ensures.layout.tree (texts_of c.args.script.now) c.requires.few
-    (λ journal. g.L.Link.went c.args.link.now journal c.steps.link) (g.L.Link.faults c.args.link.now) (g.L.Link.faults c.steps.link) g.F.Flash.told c.args.options.now.at.now
+    (λ journal. g.L.Link.went c.args.link.now journal c.steps.link) (g.L.Link.faults c.args.link.now) (g.L.Link.faults c.steps.link) c.args.options.now.plan g.F.Flash.told c.args.options.now.at.now
     (session_side false (g.O.Sink.faults c.args.out.now) (g.O.Sink.written c.args.out.now) (g.F.Flash.state c.args.flash.now)) (g.O.Sink.faults c.steps.out) (g.O.Sink.written c.steps.out) (g.F.Flash.state c.steps.flash) c.steps.pool c.steps.session c.end.result
     c.steps.invariant.1 c.steps.invariant.2 c.steps.invariant.4 (c.due.ensures.closed c.in-Ended.is) (c.due.ensures.none c.in-Ended.is) c.end.ensures.texts c.end.ensures.refused c.end.ensures.faulted c.end.ensures.status in
     λ e. (last.prints.handed.whole (sym c.end.ensures.sink ∙ e)).faults
@@ -95,23 +95,23 @@ returns-in-Ended-clause-sink_same g c =
 pub returns-in-Ended-clause-flash_called : goal.returns-in-Ended-clause-flash_called
 returns-in-Ended-clause-flash_called g c =
     let last = last_of c.later_texts_are_unmarked.ensures.unmarked c.knowledge_is_enough.ensures.enough c.damage_is_never_met.ensures.never c.honest_sessions_are_smooth.ensures c.honest_lines_are_printed.ensures c.closed_is_finished.ensures.finished c.args.cat.now c.a_catalog_is_short.ensures.catalog c.a_catalog_has_a_layout.ensures.layout.tree (texts_of c.args.script.now) c.requires.few
-    (λ journal. g.L.Link.went c.args.link.now journal c.steps.link) (g.L.Link.faults c.args.link.now) (g.L.Link.faults c.steps.link) g.F.Flash.told c.args.options.now.at.now
+    (λ journal. g.L.Link.went c.args.link.now journal c.steps.link) (g.L.Link.faults c.args.link.now) (g.L.Link.faults c.steps.link) c.args.options.now.plan g.F.Flash.told c.args.options.now.at.now
     (session_side false (g.O.Sink.faults c.args.out.now) (g.O.Sink.written c.args.out.now) (g.F.Flash.state c.args.flash.now)) (g.O.Sink.faults c.steps.out) (g.O.Sink.written c.steps.out) (g.F.Flash.state c.steps.flash) c.steps.pool c.steps.session c.end.result
     c.steps.invariant.1 c.steps.invariant.2 c.steps.invariant.4 (c.due.ensures.closed c.in-Ended.is) (c.due.ensures.none c.in-Ended.is) c.end.ensures.texts c.end.ensures.refused c.end.ensures.faulted c.end.ensures.status in
-    λ e. last.called e
+    last.called
 
 pub returns-in-Ended-clause-damage_called : goal.returns-in-Ended-clause-damage_called
 returns-in-Ended-clause-damage_called g c =
     let last = last_of c.later_texts_are_unmarked.ensures.unmarked c.knowledge_is_enough.ensures.enough c.damage_is_never_met.ensures.never c.honest_sessions_are_smooth.ensures c.honest_lines_are_printed.ensures c.closed_is_finished.ensures.finished c.args.cat.now c.a_catalog_is_short.ensures.catalog c.a_catalog_has_a_layout.ensures.layout.tree (texts_of c.args.script.now) c.requires.few
-    (λ journal. g.L.Link.went c.args.link.now journal c.steps.link) (g.L.Link.faults c.args.link.now) (g.L.Link.faults c.steps.link) g.F.Flash.told c.args.options.now.at.now
+    (λ journal. g.L.Link.went c.args.link.now journal c.steps.link) (g.L.Link.faults c.args.link.now) (g.L.Link.faults c.steps.link) c.args.options.now.plan g.F.Flash.told c.args.options.now.at.now
     (session_side false (g.O.Sink.faults c.args.out.now) (g.O.Sink.written c.args.out.now) (g.F.Flash.state c.args.flash.now)) (g.O.Sink.faults c.steps.out) (g.O.Sink.written c.steps.out) (g.F.Flash.state c.steps.flash) c.steps.pool c.steps.session c.end.result
     c.steps.invariant.1 c.steps.invariant.2 c.steps.invariant.4 (c.due.ensures.closed c.in-Ended.is) (c.due.ensures.none c.in-Ended.is) c.end.ensures.texts c.end.ensures.refused c.end.ensures.faulted c.end.ensures.status in
-    λ e. last.damage_called e
+    last.damage_called
 
 pub returns-in-Ended-clause-flash_rose : goal.returns-in-Ended-clause-flash_rose
 returns-in-Ended-clause-flash_rose g c =
     let last = last_of c.later_texts_are_unmarked.ensures.unmarked c.knowledge_is_enough.ensures.enough c.damage_is_never_met.ensures.never c.honest_sessions_are_smooth.ensures c.honest_lines_are_printed.ensures c.closed_is_finished.ensures.finished c.args.cat.now c.a_catalog_is_short.ensures.catalog c.a_catalog_has_a_layout.ensures.layout.tree (texts_of c.args.script.now) c.requires.few
-    (λ journal. g.L.Link.went c.args.link.now journal c.steps.link) (g.L.Link.faults c.args.link.now) (g.L.Link.faults c.steps.link) g.F.Flash.told c.args.options.now.at.now
+    (λ journal. g.L.Link.went c.args.link.now journal c.steps.link) (g.L.Link.faults c.args.link.now) (g.L.Link.faults c.steps.link) c.args.options.now.plan g.F.Flash.told c.args.options.now.at.now
     (session_side false (g.O.Sink.faults c.args.out.now) (g.O.Sink.written c.args.out.now) (g.F.Flash.state c.args.flash.now)) (g.O.Sink.faults c.steps.out) (g.O.Sink.written c.steps.out) (g.F.Flash.state c.steps.flash) c.steps.pool c.steps.session c.end.result
     c.steps.invariant.1 c.steps.invariant.2 c.steps.invariant.4 (c.due.ensures.closed c.in-Ended.is) (c.due.ensures.none c.in-Ended.is) c.end.ensures.texts c.end.ensures.refused c.end.ensures.faulted c.end.ensures.status in
     λ e. flash_rose last.ran e
@@ -119,7 +119,7 @@ returns-in-Ended-clause-flash_rose g c =
 pub returns-in-Ended-clause-flash_same : goal.returns-in-Ended-clause-flash_same
 returns-in-Ended-clause-flash_same g c =
     let last = last_of c.later_texts_are_unmarked.ensures.unmarked c.knowledge_is_enough.ensures.enough c.damage_is_never_met.ensures.never c.honest_sessions_are_smooth.ensures c.honest_lines_are_printed.ensures c.closed_is_finished.ensures.finished c.args.cat.now c.a_catalog_is_short.ensures.catalog c.a_catalog_has_a_layout.ensures.layout.tree (texts_of c.args.script.now) c.requires.few
-    (λ journal. g.L.Link.went c.args.link.now journal c.steps.link) (g.L.Link.faults c.args.link.now) (g.L.Link.faults c.steps.link) g.F.Flash.told c.args.options.now.at.now
+    (λ journal. g.L.Link.went c.args.link.now journal c.steps.link) (g.L.Link.faults c.args.link.now) (g.L.Link.faults c.steps.link) c.args.options.now.plan g.F.Flash.told c.args.options.now.at.now
     (session_side false (g.O.Sink.faults c.args.out.now) (g.O.Sink.written c.args.out.now) (g.F.Flash.state c.args.flash.now)) (g.O.Sink.faults c.steps.out) (g.O.Sink.written c.steps.out) (g.F.Flash.state c.steps.flash) c.steps.pool c.steps.session c.end.result
     c.steps.invariant.1 c.steps.invariant.2 c.steps.invariant.4 (c.due.ensures.closed c.in-Ended.is) (c.due.ensures.none c.in-Ended.is) c.end.ensures.texts c.end.ensures.refused c.end.ensures.faulted c.end.ensures.status in
     λ e. flash_same last.ran c.texts_have_outcomes.ensures e
@@ -127,7 +127,7 @@ returns-in-Ended-clause-flash_same g c =
 pub returns-in-Ended-clause-sink_rose : goal.returns-in-Ended-clause-sink_rose
 returns-in-Ended-clause-sink_rose g c =
     let last = last_of c.later_texts_are_unmarked.ensures.unmarked c.knowledge_is_enough.ensures.enough c.damage_is_never_met.ensures.never c.honest_sessions_are_smooth.ensures c.honest_lines_are_printed.ensures c.closed_is_finished.ensures.finished c.args.cat.now c.a_catalog_is_short.ensures.catalog c.a_catalog_has_a_layout.ensures.layout.tree (texts_of c.args.script.now) c.requires.few
-    (λ journal. g.L.Link.went c.args.link.now journal c.steps.link) (g.L.Link.faults c.args.link.now) (g.L.Link.faults c.steps.link) g.F.Flash.told c.args.options.now.at.now
+    (λ journal. g.L.Link.went c.args.link.now journal c.steps.link) (g.L.Link.faults c.args.link.now) (g.L.Link.faults c.steps.link) c.args.options.now.plan g.F.Flash.told c.args.options.now.at.now
     (session_side false (g.O.Sink.faults c.args.out.now) (g.O.Sink.written c.args.out.now) (g.F.Flash.state c.args.flash.now)) (g.O.Sink.faults c.steps.out) (g.O.Sink.written c.steps.out) (g.F.Flash.state c.steps.flash) c.steps.pool c.steps.session c.end.result
     c.steps.invariant.1 c.steps.invariant.2 c.steps.invariant.4 (c.due.ensures.closed c.in-Ended.is) (c.due.ensures.none c.in-Ended.is) c.end.ensures.texts c.end.ensures.refused c.end.ensures.faulted c.end.ensures.status in
     λ e. last.prints.handed.rose refl (sym c.end.ensures.sink ∙ e)
@@ -135,7 +135,7 @@ returns-in-Ended-clause-sink_rose g c =
 pub returns-in-Ended-clause-pages : goal.returns-in-Ended-clause-pages
 returns-in-Ended-clause-pages g c =
     let last = last_of c.later_texts_are_unmarked.ensures.unmarked c.knowledge_is_enough.ensures.enough c.damage_is_never_met.ensures.never c.honest_sessions_are_smooth.ensures c.honest_lines_are_printed.ensures c.closed_is_finished.ensures.finished c.args.cat.now c.a_catalog_is_short.ensures.catalog c.a_catalog_has_a_layout.ensures.layout.tree (texts_of c.args.script.now) c.requires.few
-    (λ journal. g.L.Link.went c.args.link.now journal c.steps.link) (g.L.Link.faults c.args.link.now) (g.L.Link.faults c.steps.link) g.F.Flash.told c.args.options.now.at.now
+    (λ journal. g.L.Link.went c.args.link.now journal c.steps.link) (g.L.Link.faults c.args.link.now) (g.L.Link.faults c.steps.link) c.args.options.now.plan g.F.Flash.told c.args.options.now.at.now
     (session_side false (g.O.Sink.faults c.args.out.now) (g.O.Sink.written c.args.out.now) (g.F.Flash.state c.args.flash.now)) (g.O.Sink.faults c.steps.out) (g.O.Sink.written c.steps.out) (g.F.Flash.state c.steps.flash) c.steps.pool c.steps.session c.end.result
     c.steps.invariant.1 c.steps.invariant.2 c.steps.invariant.4 (c.due.ensures.closed c.in-Ended.is) (c.due.ensures.none c.in-Ended.is) c.end.ensures.texts c.end.ensures.refused c.end.ensures.faulted c.end.ensures.status in
     last.pages
@@ -143,7 +143,7 @@ returns-in-Ended-clause-pages g c =
 pub returns-in-Ended-clause-flash_calls : goal.returns-in-Ended-clause-flash_calls
 returns-in-Ended-clause-flash_calls g c =
     let last = last_of c.later_texts_are_unmarked.ensures.unmarked c.knowledge_is_enough.ensures.enough c.damage_is_never_met.ensures.never c.honest_sessions_are_smooth.ensures c.honest_lines_are_printed.ensures c.closed_is_finished.ensures.finished c.args.cat.now c.a_catalog_is_short.ensures.catalog c.a_catalog_has_a_layout.ensures.layout.tree (texts_of c.args.script.now) c.requires.few
-    (λ journal. g.L.Link.went c.args.link.now journal c.steps.link) (g.L.Link.faults c.args.link.now) (g.L.Link.faults c.steps.link) g.F.Flash.told c.args.options.now.at.now
+    (λ journal. g.L.Link.went c.args.link.now journal c.steps.link) (g.L.Link.faults c.args.link.now) (g.L.Link.faults c.steps.link) c.args.options.now.plan g.F.Flash.told c.args.options.now.at.now
     (session_side false (g.O.Sink.faults c.args.out.now) (g.O.Sink.written c.args.out.now) (g.F.Flash.state c.args.flash.now)) (g.O.Sink.faults c.steps.out) (g.O.Sink.written c.steps.out) (g.F.Flash.state c.steps.flash) c.steps.pool c.steps.session c.end.result
     c.steps.invariant.1 c.steps.invariant.2 c.steps.invariant.4 (c.due.ensures.closed c.in-Ended.is) (c.due.ensures.none c.in-Ended.is) c.end.ensures.texts c.end.ensures.refused c.end.ensures.faulted c.end.ensures.status in
     last.calls
@@ -151,7 +151,7 @@ returns-in-Ended-clause-flash_calls g c =
 pub returns-in-Ended-clause-flash_faults : goal.returns-in-Ended-clause-flash_faults
 returns-in-Ended-clause-flash_faults g c =
     let last = last_of c.later_texts_are_unmarked.ensures.unmarked c.knowledge_is_enough.ensures.enough c.damage_is_never_met.ensures.never c.honest_sessions_are_smooth.ensures c.honest_lines_are_printed.ensures c.closed_is_finished.ensures.finished c.args.cat.now c.a_catalog_is_short.ensures.catalog c.a_catalog_has_a_layout.ensures.layout.tree (texts_of c.args.script.now) c.requires.few
-    (λ journal. g.L.Link.went c.args.link.now journal c.steps.link) (g.L.Link.faults c.args.link.now) (g.L.Link.faults c.steps.link) g.F.Flash.told c.args.options.now.at.now
+    (λ journal. g.L.Link.went c.args.link.now journal c.steps.link) (g.L.Link.faults c.args.link.now) (g.L.Link.faults c.steps.link) c.args.options.now.plan g.F.Flash.told c.args.options.now.at.now
     (session_side false (g.O.Sink.faults c.args.out.now) (g.O.Sink.written c.args.out.now) (g.F.Flash.state c.args.flash.now)) (g.O.Sink.faults c.steps.out) (g.O.Sink.written c.steps.out) (g.F.Flash.state c.steps.flash) c.steps.pool c.steps.session c.end.result
     c.steps.invariant.1 c.steps.invariant.2 c.steps.invariant.4 (c.due.ensures.closed c.in-Ended.is) (c.due.ensures.none c.in-Ended.is) c.end.ensures.texts c.end.ensures.refused c.end.ensures.faulted c.end.ensures.status in
     last.faults

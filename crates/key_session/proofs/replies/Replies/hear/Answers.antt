@@ -34,7 +34,7 @@ pub returns-in-Rows-clause-heard : goal.returns-in-Rows-clause-heard
 returns-in-Rows-clause-heard g c = λ catalog before after low top hears.
     let h = subst (λ (e : Event). Hears g.F.Flash.told (g.F.Flash.state c.args.flash.now) c.args.pool.now catalog c.args.page.now e before after low top c.args.self.now) c.in-Rows.is hears in
     let r = rows_are_here g.F.Flash.told (g.F.Flash.state c.args.flash.now) c.args.pool.now catalog c.args.page.now c.in-Rows.field-0 before after low top c.args.self.now h in
-    has_heard c.halves_are_spared.ensures.writes g.F.Flash.told (g.F.Flash.state c.args.flash.now) (g.F.Flash.state c.push_rows.new.flash) c.args.pool.now c.push_rows.new.pool catalog before low top
+    has_heard g.F.Flash.told (g.F.Flash.state c.args.flash.now) (g.F.Flash.state c.push_rows.new.flash) c.args.pool.now c.push_rows.new.pool catalog before low top
     c.args.self.now c.push_rows.new.self r.is c.push_rows.ensures.writes
     (side_is c.areas_lie_apart.ensures.apart c.replies_are_kept.ensures.kept c.replies_stay_readable.ensures.readable g.F.Flash.told (g.F.Flash.state c.args.flash.now) (g.F.Flash.state c.push_rows.new.flash)
     c.args.pool.now c.push_rows.new.pool catalog c.args.page.now c.in-Rows.field-0 before after low top c.args.self.now c.push_rows.new.self c.payload_of.result.now c.payload_of.ensures.payload h r.is
@@ -85,13 +85,13 @@ returns-in-Done-clause-heard g c = λ catalog before after low top hears.
     (elim c.args.self.now.is_open as (λ (b : Bool). c.args.self.now.is_open ≡ b → HasHeard catalog low c.args.self.now.hand.text (g.F.Flash.state c.args.flash.now) (g.F.Flash.state c.end_reply.new.flash) c.args.self.now c.end_reply.new.self) [
       | true ↦ λ is_on.
           let is = here g.F.Flash.told (g.F.Flash.state c.args.flash.now) c.args.pool.now catalog c.args.page.now event_is.Done before after low top c.args.self.now h is_on in
-          has_heard c.halves_are_spared.ensures.writes g.F.Flash.told (g.F.Flash.state c.args.flash.now) (g.F.Flash.state c.end_reply.new.flash) c.args.pool.now c.end_reply.new.pool catalog before low top
+          has_heard g.F.Flash.told (g.F.Flash.state c.args.flash.now) (g.F.Flash.state c.end_reply.new.flash) c.args.pool.now c.end_reply.new.pool catalog before low top
           c.args.self.now c.end_reply.new.self is c.end_reply.ensures.writes
           (closing.side_is c.areas_lie_apart.ensures.apart c.replies_are_kept.ensures.kept c.replies_stay_readable.ensures.readable c.texts_without_rows.ensures.none g.F.Flash.told (g.F.Flash.state c.args.flash.now)
           (g.F.Flash.state c.end_reply.new.flash) c.args.pool.now c.end_reply.new.pool catalog before after low top c.args.self.now c.end_reply.new.self is c.end_reply.ensures.spooling (c.end_reply.ensures.ends is_on)
           c.end_reply.ensures.writes c.end_reply.ensures.closed h.tells.rows (h.tells.ended ∙ ap (λ more. before.ended ++ more) (ended_awaited before.awaits is.at.asked _ is.at.awaited)))
       | false ↦ λ shut.
-          nothing_heard c.halves_are_spared.ensures.readers catalog low c.args.self.now.hand.text (g.F.Flash.state c.args.flash.now) (g.F.Flash.state c.end_reply.new.flash) c.args.self.now c.end_reply.new.self
+          nothing_heard catalog low c.args.self.now.hand.text (g.F.Flash.state c.args.flash.now) (g.F.Flash.state c.end_reply.new.flash) c.args.self.now c.end_reply.new.self
           (c.end_reply.ensures.unopened_flash shut) (c.end_reply.ensures.unopened_spool shut)
     ]) refl
 

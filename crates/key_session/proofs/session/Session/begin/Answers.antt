@@ -14,10 +14,11 @@ pub returns-clause-live : goal.returns-clause-live
 returns-clause-live c = λ told now pool suffices out. record {
   channel = c.begin-2.ensures.live c.args.cat.now c.args.options.now.at.now (asked_of c.args.cat.now.schema (texts_of c.args.script.now)) c.begin.ensures.after;
   amid = record {
+    plan = c.new.ensures.plan;
     sink = now.sink;
-    going = at_first c.pieces_join.ensures told c.args.cat.now (texts_of c.args.script.now) now pool _ c.new.result.count c.new.result.counts _ c.begin-3.result c.new.ensures.texts c.new.ensures.count c.new.ensures.counts
+    going = at_first c.pieces_join.ensures c.args.options.now.plan told c.args.cat.now (texts_of c.args.script.now) now pool _ c.new.result.count c.new.result.counts _ c.begin-3.result c.new.ensures.texts c.new.ensures.count c.new.ensures.counts
         (c.begin-3.ensures.kept told now.flash pool suffices.pages suffices.small out) c.begin-3.ensures.unmarked;
-    running = subst (λ (running : Option Telling). Runs told c.args.cat.now (texts_of c.args.script.now) [] c.new.result.count now.flash now.sink now pool c.begin-3.result running) (sym c.new.ensures.running) refl;
+    running = subst (λ (running : Option Telling). Runs c.args.options.now.plan told c.args.cat.now (texts_of c.args.script.now) [] c.new.result.count now.flash now.sink now pool c.begin-3.result running) (sym c.new.ensures.running) refl;
   };
   refusal_is = sym (ap (λ (heard : Heard). first_code heard.ended) (heard_none c.args.cat.now (texts_of c.args.script.now)));
   owed = λ some. (let none = c.new-2.ensures.unpaced.owed in absurd (omega (arith, none, some)));

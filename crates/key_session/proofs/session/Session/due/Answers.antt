@@ -7,14 +7,14 @@ pub returns-then-is_first-clause-rule : goal.returns-then-is_first-clause-rule
 returns-then-is_first-clause-rule c = search rules
 
 pub returns-then-is_first-clause-by_rule : goal.returns-then-is_first-clause-by_rule
-returns-then-is_first-clause-by_rule c = λ told texts journal since now pool live.
+returns-then-is_first-clause-by_rule c = λ plan told texts journal since now pool live.
     returns-then-is_first-clause-rule c c.args.self.now.cat.now (asked_of c.args.self.now.cat.now.schema texts) journal live.channel.after
-    ∙ by_rule_live c.over_texts_are_settled.ensures c.texts_come_in_order.ensures c.texts_are_decided.ensures told texts journal since now pool c.args.self.now live
+    ∙ by_rule_live c.over_texts_are_settled.ensures c.texts_come_in_order.ensures c.texts_are_decided.ensures plan told texts journal since now pool c.args.self.now live
 
 pub returns-else-is_left-2-clause-rule : goal.returns-else-is_left-2-clause-rule
 returns-else-is_left-2-clause-rule c = search rules
 
 pub returns-else-is_left-2-clause-by_rule : goal.returns-else-is_left-2-clause-by_rule
-returns-else-is_left-2-clause-by_rule c = λ told texts journal since now pool live.
+returns-else-is_left-2-clause-by_rule c = λ plan told texts journal since now pool live.
     returns-else-is_left-2-clause-rule c c.args.self.now.cat.now (asked_of c.args.self.now.cat.now.schema texts) journal live.channel.after
-    ∙ by_rule_live c.over_texts_are_settled.ensures c.texts_come_in_order.ensures c.texts_are_decided.ensures told texts journal since now pool c.args.self.now live
+    ∙ by_rule_live c.over_texts_are_settled.ensures c.texts_come_in_order.ensures c.texts_are_decided.ensures plan told texts journal since now pool c.args.self.now live

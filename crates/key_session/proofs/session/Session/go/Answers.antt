@@ -1,12 +1,15 @@
 use Rattle.std.proofs.Common.{◌+◌, ℕ, sym, subst}
+use Rattle.leakless_plan.specs.declared.plan.Plan.{Plan}
+use Rattle.key_session.specs.Kept.{lease_of}
 use Rattle.key_session.specs.Going.{CanRun}
 use Rattle.key_session.proofs.Attending.{owed_behind}
 use Rattle.key_session.proofs.Stepping.{still_suffices}
 use Rattle.key_session.proofs.session.Session.go.Goals as goal
 
 pub returns-clause-live : goal.returns-clause-live
-returns-clause-live g c = λ texts journal since sink near live.
-    let moved = c.make_move-refusal.ensures.moved texts journal since sink c.args.self.now.teller near live.channel live.amid live.refusal_is c.requires.can.run in
+returns-clause-live g c = λ plan texts journal since sink near live.
+    let run = subst (λ (by : Plan). CanRun by g.F.Flash.told c.args.self.now.cat.now (g.F.Flash.state c.args.flash.now) c.args.pool.now (c.args.self.now.teller.count + 1) (lease_of c.args.self.now.replies) c.args.self.now.teller.running) live.amid.plan c.requires.can.run in
+    let moved = c.make_move-refusal.ensures.moved plan texts journal since sink c.args.self.now.teller c.spared.ensures.spared near live.channel live.amid live.refusal_is run in
     record {
       made = moved.made;
       went = moved.went;
@@ -28,5 +31,5 @@ make_move-refusal-requires-clause-some g c = record { teller = c.args.self.now.t
 pub returns-clause-can : goal.returns-clause-can
 returns-clause-can g c = record {
   suffices = still_suffices c.args.self.now.cat.now (g.F.Flash.state c.args.flash.now) (g.F.Flash.state c.make_move-refusal.new.flash) c.make_move-refusal.ensures.writes.page_count c.requires.can.suffices;
-  run = subst (λ (lease : ℕ). CanRun g.F.Flash.told c.args.self.now.cat.now (g.F.Flash.state c.make_move-refusal.new.flash) c.make_move-refusal.new.pool (c.args.self.now.teller.count + 1) lease c.args.self.now.teller.running) (sym c.make_move-refusal.ensures.lease) (c.make_move-refusal.ensures.can c.args.self.now.teller c.requires.some c.requires.can.run);
+  run = subst (λ (lease : ℕ). CanRun c.args.self.now.teller.plan g.F.Flash.told c.args.self.now.cat.now (g.F.Flash.state c.make_move-refusal.new.flash) c.make_move-refusal.new.pool (c.args.self.now.teller.count + 1) lease c.args.self.now.teller.running) (sym c.make_move-refusal.ensures.lease) (c.make_move-refusal.ensures.can c.args.self.now.teller.plan c.args.self.now.teller c.spared.ensures.spared c.requires.some c.requires.can.run);
 }

@@ -18,6 +18,7 @@ go-requires-clause-some g c =
     let some = c.requires.some in
     let cat = c.args.self.now.cat.now in
     record {
+      by = some.by;
       texts = some.texts;
       journal = some.journal;
       since = some.since;
@@ -29,17 +30,17 @@ go-requires-clause-some g c =
     }
 
 pub returns-in-Move-clause-live : goal.returns-in-Move-clause-live
-returns-in-Move-clause-live g c = λ texts journal since live.
+returns-in-Move-clause-live g c = λ plan texts journal since live.
     let cat = c.args.self.now.cat.now in
     let near = near_due c.over_texts_are_settled.ensures c.texts_come_in_order.ensures c.texts_are_decided.ensures c.texts_have_outcomes.ensures cat c.args.self.now.at.now texts journal c.args.self.now.exchange.pump
     c.args.self.now.teller c.args.self.now.pace.owed live.amid.going.telling.left_are (sym c.in-Move.is ∙ c.due.ensures.rule cat (asked_of cat.schema texts) journal live.channel.after) in
     let before = session_side c.args.self.now.teller.printer.failed (g.O.Sink.faults c.args.out.now) (g.O.Sink.written c.args.out.now) (g.F.Flash.state c.args.flash.now) in
-    subst (λ (due : Due). WentOn due (WentBy (λ more. g.L.Link.went c.args.link.now more c.go.new.link) (g.L.Link.faults c.args.link.now) (g.L.Link.faults c.go.new.link)) g.F.Flash.told texts journal since before
+    subst (λ (due : Due). WentOn due (WentBy (λ more. g.L.Link.went c.args.link.now more c.go.new.link) (g.L.Link.faults c.args.link.now) (g.L.Link.faults c.go.new.link)) plan g.F.Flash.told texts journal since before
     (session_side c.go.new.self.teller.printer.failed (g.O.Sink.faults c.args.out.now) (g.O.Sink.written c.args.out.now) (g.F.Flash.state c.go.new.flash)) c.go.new.pool c.args.self.now c.go.new.self)
-    (sym c.in-Move.is ∙ c.due.ensures.by_rule g.F.Flash.told texts journal since before c.args.pool.now live)
-    (subst (λ (teller : Teller). WasMoved (WentBy (λ more. g.L.Link.went c.args.link.now more c.go.new.link) (g.L.Link.faults c.args.link.now) (g.L.Link.faults c.go.new.link)) g.F.Flash.told texts journal since before
+    (sym c.in-Move.is ∙ c.due.ensures.by_rule plan g.F.Flash.told texts journal since before c.args.pool.now live)
+    (subst (λ (teller : Teller). WasMoved (WentBy (λ more. g.L.Link.went c.args.link.now more c.go.new.link) (g.L.Link.faults c.args.link.now) (g.L.Link.faults c.go.new.link)) plan g.F.Flash.told texts journal since before
     (session_side teller.printer.failed (g.O.Sink.faults c.args.out.now) (g.O.Sink.written c.args.out.now) (g.F.Flash.state c.go.new.flash)) c.go.new.pool c.args.self.now c.go.new.self) (sym c.go.ensures.teller)
-    (c.go.ensures.live texts journal since (handed c.args.self.now.teller.printer.failed (g.O.Sink.faults c.args.out.now) (g.O.Sink.written c.args.out.now)) near live))
+    (c.go.ensures.live plan texts journal since (handed c.args.self.now.teller.printer.failed (g.O.Sink.faults c.args.out.now) (g.O.Sink.written c.args.out.now)) near live))
 
 pub returns-in-Move-clause-made : goal.returns-in-Move-clause-made
 returns-in-Move-clause-made g c = λ catalog asks journal after.
@@ -61,19 +62,19 @@ returns-in-Move-clause-fewer g c =
     omega (arith, less, same)
 
 pub returns-in-Slice-clause-live : goal.returns-in-Slice-clause-live
-returns-in-Slice-clause-live g c = λ texts journal since live.
+returns-in-Slice-clause-live g c = λ plan texts journal since live.
     let cat = c.args.self.now.cat.now in
     let next = next_due c.over_texts_are_settled.ensures c.texts_come_in_order.ensures c.texts_are_decided.ensures c.texts_have_outcomes.ensures cat c.args.self.now.at.now texts journal c.args.self.now.exchange.pump
     (is_some c.args.self.now.teller.ahead) c.args.self.now.pace.owed (c.args.self.now.teller.count + 1) live.channel.proper
     (λ closed. c.closed_is_finished.ensures.finished cat c.args.self.now.at.now (asked_of cat.schema texts) journal c.args.self.now.exchange live.channel closed)
     (sym c.in-Slice.is ∙ c.due.ensures.rule cat (asked_of cat.schema texts) journal live.channel.after) in
-    subst (λ (due : Due). WentOn due (WentBy (λ more. g.L.Link.went c.args.link.now more c.args.link.now) (g.L.Link.faults c.args.link.now) (g.L.Link.faults c.args.link.now)) g.F.Flash.told texts journal since
+    subst (λ (due : Due). WentOn due (WentBy (λ more. g.L.Link.went c.args.link.now more c.args.link.now) (g.L.Link.faults c.args.link.now) (g.L.Link.faults c.args.link.now)) plan g.F.Flash.told texts journal since
     (session_side c.args.self.now.teller.printer.failed (g.O.Sink.faults c.args.out.now) (g.O.Sink.written c.args.out.now) (g.F.Flash.state c.args.flash.now))
     (session_side c.tell.new.self.teller.printer.failed (g.O.Sink.faults c.tell.new.out) (g.O.Sink.written c.tell.new.out) (g.F.Flash.state c.tell.new.flash)) c.tell.new.pool c.args.self.now c.tell.new.self)
-    (sym c.in-Slice.is ∙ c.due.ensures.by_rule g.F.Flash.told texts journal since (session_side c.args.self.now.teller.printer.failed (g.O.Sink.faults c.args.out.now) (g.O.Sink.written c.args.out.now) (g.F.Flash.state c.args.flash.now)) c.args.pool.now live)
+    (sym c.in-Slice.is ∙ c.due.ensures.by_rule plan g.F.Flash.told texts journal since (session_side c.args.self.now.teller.printer.failed (g.O.Sink.faults c.args.out.now) (g.O.Sink.written c.args.out.now) (g.F.Flash.state c.args.flash.now)) c.args.pool.now live)
     (record {
       went = record { gone = g.met.L.Link.stays _; counts = c.moves_join.ensures.joined.none _; short = refl };
-      live = c.tell.ensures.live texts journal since next live;
+      live = c.tell.ensures.live plan texts journal since next live;
     })
 
 pub returns-in-Slice-clause-made : goal.returns-in-Slice-clause-made
@@ -91,7 +92,7 @@ returns-in-Slice-clause-fewer g c =
     omega (arith, less, same)
 
 pub returns-in-Ended-clause-live : goal.returns-in-Ended-clause-live
-returns-in-Ended-clause-live g c = λ texts journal since live. absurd (true_false (sym (c.requires.going (ap is_closed (c.due.ensures.closed c.in-Ended.is))) ∙ c.due.ensures.none c.in-Ended.is))
+returns-in-Ended-clause-live g c = λ plan texts journal since live. absurd (true_false (sym (c.requires.going (ap is_closed (c.due.ensures.closed c.in-Ended.is))) ∙ c.due.ensures.none c.in-Ended.is))
   where
     true_false : true ≡ false → ⊥
     true_false e = cc

@@ -7,6 +7,7 @@ pub returns-clause-ended : goal.returns-clause-ended
 returns-clause-ended c =
     let first = first_ahead _ c.args.self.now.ahead c.args.self.now.texts c.requires.left in record {
       texts = (first.0, first.1 ∙ ap (λ (texts : List (List ℕ)). first.0 ∷ texts) (sym c.next_text-self.ensures.taken));
+      plan = refl;
       count = refl;
       running = refl;
       counted = c.add.ensures.counted;
