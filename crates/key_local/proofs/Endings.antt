@@ -5,7 +5,7 @@ use Rattle.std.proofs.lemmas.Bool.{cases_lt}
 use Rattle.ghost_model.specs.core.Causes.{Rose, last_count}
 use Rattle.ghost_model.specs.core.Channel.{Catalog, Journal}
 use Rattle.ghost_model.specs.core.Database.{IsDatabase}
-use Rattle.ghost_model.specs.forms.Flash.{HoldsFiles, HoldsFilesSoFar, Holds}
+use Rattle.ghost_model.specs.forms.Flash.{Holds}
 use Rattle.ghost_model.specs.forms.Layout.{need, static_end}
 use Rattle.ghost_model.specs.laws.FlashLaws.{HoldingsAreKept}
 use Rattle.ghost_model.specs.laws.LayoutLaws.{LieInOrder}
@@ -34,6 +34,7 @@ use Rattle.key_local.specs.declared.ends.LocalFailure.{LocalFailure}
 use Rattle.key_local.specs.declared.ends.LocalFailure.TheVariants as failure
 use Rattle.key_local.specs.declared.opening.Opened.{Opened}
 use Rattle.key_local.proofs.Keeping.{lines_there}
+use Rattle.key_local.proofs.Scanning.{for_scan}
 
 -- what was given since the flash was made was given since before
 abbrev gives_since : (schema : Schema) (database : Database) (texts : List (List ℕ)) (failed : Bool) (before middle after : LocalSide)
@@ -63,10 +64,6 @@ still_holds laws catalog hidden tree order before after changes holds = record {
   files = laws.files before.page after.page catalog hidden tree (λ number from to. (changes.below number (omega (arith, to, order.static))).bytes) holds.files;
 }
 
--- column files and subtree key tables are among all files
-pub so_far : {page : ℕ → List ℕ} {catalog : Catalog} {hidden : Hidden} → HoldsFiles page catalog hidden → HoldsFilesSoFar page catalog hidden
-so_far holds = record { columns = holds.columns; subtrees = holds.subtrees }
-
 -- a call after those that were counted
 rose_after : (before more now later : ℕ) → Counts more before now → Rose now later → Rose (before + more) later
 rose_after before more now later counts rose = of_cases (cases_lt now last_count)
@@ -84,7 +81,7 @@ lines_since catalog texts journal failed before middle after sink written lines 
 
 -- the session ran over what was made for it
 pub ran_of : (told : Bool) (schema : Schema) (database : Database) (texts : List (List ℕ)) (words : Local) (end : LocalEnd) (catalog : Catalog) (before middle after : LocalSide)
-    → catalog ≡ catalog_for schema database → RanOver told catalog database texts words.journal end middle after
+    → catalog ≡ catalog_for schema database → RanOver words.plan told catalog database texts words.journal end middle after
     → middle.device.faults ≡ before.device.faults → middle.append_faults ≡ before.append_faults → middle.sink_faults ≡ before.sink_faults → middle.written ≡ before.written
     → HasLines middle.files words.journal []
     → middle.device.name ≡ Some words.flash → Counts (load_calls catalog (hidden_of schema database)) before.device.calls middle.device.calls
@@ -93,7 +90,7 @@ pub ran_of : (told : Bool) (schema : Schema) (database : Database) (texts : List
     → HoldingsAreKept → IsTree catalog.schema → LieInOrder catalog
     → Ran told (subject schema database texts words) end before after
 ran_of told schema database texts words end catalog before middle after same ran faults appends sink written empty named counts there pages kept laws tree order =
-    let mine : RanOver told (catalog_for schema database) database texts words.journal end middle after = subst (λ (c : Catalog). RanOver told c database texts words.journal end middle after) same ran in
+    let mine : RanOver words.plan told (catalog_for schema database) database texts words.journal end middle after = subst (λ (c : Catalog). RanOver words.plan told c database texts words.journal end middle after) same ran in
     record {
       journal = mine.journal;
       is_local = mine.is_local;
@@ -105,12 +102,12 @@ ran_of told schema database texts words end catalog before middle after same ran
       gives = λ t. gives_since schema database texts (is_sink end) before middle after faults sink written (mine.gives t);
       printed_all = λ t whole. mine.printed_all t whole ∙ ap (λ (held : Option (List ℕ)). grown held (printed schema texts database)) written;
       cut = λ t is. mine.cut t is;
-      more_calls = λ is.
+      more_calls = for_scan words.plan (λ goes is.
           let built = subst (λ (c : Catalog). Counts (load_calls c (hidden_of schema database)) before.device.calls middle.device.calls) same counts in
-          rose_after before.device.calls (load_calls (catalog_for schema database) (hidden_of schema database)) middle.device.calls after.device.calls built (mine.called is);
-      damage_called = λ is.
+          rose_after before.device.calls (load_calls (catalog_for schema database) (hidden_of schema database)) middle.device.calls after.device.calls built (goes is)) mine.called;
+      damage_called = for_scan words.plan (λ goes is.
           let built = subst (λ (c : Catalog). Counts (load_calls c (hidden_of schema database)) before.device.calls middle.device.calls) same counts in
-          rose_after before.device.calls (load_calls (catalog_for schema database) (hidden_of schema database)) middle.device.calls after.device.calls built (mine.damage_called is);
+          rose_after before.device.calls (load_calls (catalog_for schema database) (hidden_of schema database)) middle.device.calls after.device.calls built (goes is)) mine.damage_called;
       undamaged = mine.undamaged;
       damaged = mine.damaged;
       holds = λ t. subst (λ (c : Catalog). Holds after.device.page c (hidden_of schema database)) same

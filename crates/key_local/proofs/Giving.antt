@@ -17,6 +17,8 @@ use Rattle.session_laws.specs.Local.{IsLocal, IsUnbroken, LocalSessionsAreServed
 use Rattle.key_session.specs.Refusing.{first_code}
 use Rattle.key_session.specs.Running.{blames_flash, is_sink as wrote_none, is_damaged as is_damage}
 use Rattle.key_session.specs.Damages.{IsSlot}
+use Rattle.leakless_plan.specs.declared.plan.Plan.{Plan}
+use Rattle.key_exec.specs.Jobs.{ForScan}
 use Rattle.key_exec.specs.Laws.{DamageStays, KeepsStatic}
 use Rattle.key_exec.specs.declared.damage.Damage.{Damage}
 use Rattle.key_session.specs.declared.tally.SessionStatus.TheVariants as status
@@ -27,6 +29,7 @@ use Rattle.key_local.specs.Running.{RanOver, KeepsLines}
 use Rattle.key_local.specs.Sessions.{LocalSide, GivesLines, local_side, session_side_in, is_sink, is_damaged}
 use Rattle.key_local.specs.declared.ends.LocalEnd.{LocalEnd}
 use Rattle.key_local.specs.declared.ends.LocalEnd.TheVariants as ends
+use Rattle.key_local.proofs.Scanning.{for_scan}
 use Rattle.key_local.proofs.Statuses.{none_stops, no_code, whole_status, flash_status, damage_found, no_damage}
 
 not_so : (b : Bool) → (b ≡ true → ⊥) → b ≡ false
@@ -61,9 +64,9 @@ gives_as schema database texts wrote failed before after same gives = record {
 }
 
 -- a damaged slot stays damaged where the static pages do
-slot_stays : DamageStays → (told : Bool) (page now : ℕ → List ℕ) (catalog : Catalog) (texts : List (List ℕ)) (damage : Damage) → IsTree catalog.schema → KeepsStatic catalog page now
-    → IsSlot told page catalog texts damage → IsSlot told now catalog texts damage
-slot_stays stays told page now catalog texts damage tree same slot =
+slot_stays : DamageStays → (by : Plan) (told : Bool) (page now : ℕ → List ℕ) (catalog : Catalog) (texts : List (List ℕ)) (damage : Damage) → IsTree catalog.schema → KeepsStatic catalog page now
+    → IsSlot by told page catalog texts damage → IsSlot by told now catalog texts damage
+slot_stays stays by told page now catalog texts damage tree same slot =
     let of = slot.1.is in (
       slot.0,
       record {
@@ -75,31 +78,31 @@ slot_stays stays told page now catalog texts damage tree same slot =
           means = of.means;
           top = of.top;
           top_is = of.top_is;
-          is = stays told page now catalog of.query of.top ((slot.0 + 1) % 2) slot.1.half damage.page damage.slot damage.found tree same of.is;
+          is = stays by told page now catalog of.query of.top ((slot.0 + 1) % 2) slot.1.half damage.page damage.slot damage.found tree same of.is;
         };
       },
     )
 
 -- a session was held to its end
-pub ran_over : (told : Bool) (catalog : Catalog) (database : Database) (texts : List (List ℕ)) (name : Option (List ℕ)) (end : LocalEnd) (tally : Tally) (before after : LocalSide) (journal : Journal)
+pub ran_over : (by : Plan) (told : Bool) (catalog : Catalog) (database : Database) (texts : List (List ℕ)) (name : Option (List ℕ)) (end : LocalEnd) (tally : Tally) (before after : LocalSide) (journal : Journal)
     → LocalSessionsAreServed → ToldTextsAreGiven → DamageStays → IsTree catalog.schema
     → IsLocal catalog database [] texts journal → IsFinished journal
     → ((Rose before.append_faults after.append_faults → ⊥) → KeepsLines before.files after.files name journal)
     → (end ≡ ends.Ok → KeepsLines before.files after.files name journal)
-    → (told ≡ true → AreAnswered told before.device.page catalog database texts journal (wrote_none tally.status) (standing_after catalog (asked_of catalog.schema texts) journal) tally (session_side_in false before) (session_side_in (wrote_none tally.status) after))
+    → (told ≡ true → AreAnswered by told before.device.page catalog database texts journal (wrote_none tally.status) (standing_after catalog (asked_of catalog.schema texts) journal) tally (session_side_in false before) (session_side_in (wrote_none tally.status) after))
     → GivesLines catalog texts journal (handed false before.sink_faults before.written) (handed (wrote_none tally.status) after.sink_faults after.written)
-    → ((damage : Damage) → tally.status ≡ status.Damaged damage → IsSlot told before.device.page catalog texts damage) → ChangesOnly (static_end catalog) (need catalog) before.device after.device
+    → ((damage : Damage) → tally.status ≡ status.Damaged damage → IsSlot by told before.device.page catalog texts damage) → ChangesOnly (static_end catalog) (need catalog) before.device after.device
     → is_sink end ≡ wrote_none tally.status → (end ≡ ends.Ok → tally.status ≡ status.Ok) → (end ≡ ends.Flash → blames_flash tally.status ≡ true)
-    → (blames_flash tally.status ≡ true → Rose before.device.calls after.device.calls) → (is_damage tally.status ≡ true → Rose before.device.calls after.device.calls)
+    → ForScan by (blames_flash tally.status ≡ true → Rose before.device.calls after.device.calls) → ForScan by (is_damage tally.status ≡ true → Rose before.device.calls after.device.calls)
     → ((damage : Damage) → end ≡ ends.Damaged damage → tally.status ≡ status.Damaged damage)
-    → RanOver told catalog database texts name end before after
-ran_over told catalog database texts name end tally before after journal served given stays_damaged tree is_local finished kept all_kept are_told lines blamed pages sink whole flash called read damaged =
+    → RanOver by told catalog database texts name end before after
+ran_over by told catalog database texts name end tally before after journal served given stays_damaged tree is_local finished kept all_kept are_told lines blamed pages sink whole flash called read damaged =
     let unbroken = served catalog database [] texts journal is_local in
     let stays = going catalog database texts journal unbroken in
     let right = valid catalog database texts journal unbroken in
     let none = granted catalog database texts journal unbroken in
     let by_tally : told ≡ true → GivesByTally (wrote_none tally.status) (standing_after catalog (asked_of catalog.schema texts) journal) tally catalog.schema database texts (session_side_in false before) (session_side_in (wrote_none tally.status) after) =
-    (λ t. given told before.device.page catalog database texts journal (wrote_none tally.status) (standing_after catalog (asked_of catalog.schema texts) journal) tally (session_side_in false before) (session_side_in (wrote_none tally.status) after) is_local finished (are_told t)) in
+    (λ t. given by told before.device.page catalog database texts journal (wrote_none tally.status) (standing_after catalog (asked_of catalog.schema texts) journal) tally (session_side_in false before) (session_side_in (wrote_none tally.status) after) is_local finished (are_told t)) in
     record {
       journal = journal;
       is_local = is_local;
@@ -118,24 +121,24 @@ ran_over told catalog database texts name end tally before after journal served 
           let all = by_tally t in
           flash_status (wrote_none tally.status) (standing_after catalog (asked_of catalog.schema texts) journal) (list_any is_cut all.gives.given) stays right none
           (sym (ap blames_flash all.status_is) ∙ flash is);
-      called = λ is. called (flash is);
-      damage_called = λ is. read (damage_found end tally.status damaged is);
+      called = for_scan by (λ goes is. goes (flash is)) called;
+      damage_called = for_scan by (λ goes is. goes (damage_found end tally.status damaged is)) read;
       undamaged = λ t. not_so (is_damaged end) (λ found.
           let all = by_tally t in
           let none_found : is_damage tally.status ≡ false = ap is_damage all.status_is ∙ no_damage (wrote_none tally.status) (standing_after catalog (asked_of catalog.schema texts) journal) (list_any is_cut all.gives.given) stays right none in
           false_is_not (sym none_found ∙ damage_found end tally.status damaged found));
       damaged = λ damage is.
-          slot_stays stays_damaged told before.device.page after.device.page catalog texts damage tree
+          slot_stays stays_damaged by told before.device.page after.device.page catalog texts damage tree
           (λ number static. (pages.below number static).bytes) (blamed damage (damaged damage is));
     }
 
 -- and so over what the files and their counts are known to be
-pub ran_as : {D : Type 0} (contents : D → Option Files) (appends : D → ℕ) (told : Bool) (catalog : Catalog) (database : Database) (texts : List (List ℕ)) (name called : Option (List ℕ)) (end : LocalEnd)
+pub ran_as : {D : Type 0} (contents : D → Option Files) (appends : D → ℕ) (by : Plan) (told : Bool) (catalog : Catalog) (database : Database) (texts : List (List ℕ)) (name called : Option (List ℕ)) (end : LocalEnd)
     (device device_now : Device) (before earlier after later : D) (faults faults_now : ℕ) (written written_now : Option (List ℕ))
     → name ≡ called → before ≡ earlier → after ≡ later
-    → RanOver told catalog database texts name end (local_side device (contents before) (appends before) faults written) (local_side device_now (contents after) (appends after) faults_now written_now)
-    → RanOver told catalog database texts called end (local_side device (contents earlier) (appends earlier) faults written) (local_side device_now (contents later) (appends later) faults_now written_now)
-ran_as {D} contents appends told catalog database texts name called end device device_now before earlier after later faults faults_now written written_now names starts comes ran =
-    subst (λ (one : Option (List ℕ)). RanOver told catalog database texts one end (local_side device (contents earlier) (appends earlier) faults written) (local_side device_now (contents later) (appends later) faults_now written_now)) names
-    (subst (λ (d : D). RanOver told catalog database texts name end (local_side device (contents d) (appends d) faults written) (local_side device_now (contents later) (appends later) faults_now written_now)) starts
-    (subst (λ (d : D). RanOver told catalog database texts name end (local_side device (contents before) (appends before) faults written) (local_side device_now (contents d) (appends d) faults_now written_now)) comes ran))
+    → RanOver by told catalog database texts name end (local_side device (contents before) (appends before) faults written) (local_side device_now (contents after) (appends after) faults_now written_now)
+    → RanOver by told catalog database texts called end (local_side device (contents earlier) (appends earlier) faults written) (local_side device_now (contents later) (appends later) faults_now written_now)
+ran_as {D} contents appends by told catalog database texts name called end device device_now before earlier after later faults faults_now written written_now names starts comes ran =
+    subst (λ (one : Option (List ℕ)). RanOver by told catalog database texts one end (local_side device (contents earlier) (appends earlier) faults written) (local_side device_now (contents later) (appends later) faults_now written_now)) names
+    (subst (λ (d : D). RanOver by told catalog database texts name end (local_side device (contents d) (appends d) faults written) (local_side device_now (contents later) (appends later) faults_now written_now)) starts
+    (subst (λ (d : D). RanOver by told catalog database texts name end (local_side device (contents before) (appends before) faults written) (local_side device_now (contents d) (appends d) faults_now written_now)) comes ran))

@@ -21,6 +21,7 @@ use Rattle.key_session.specs.Telling.{SessionSide}
 use Rattle.key_exec.specs.declared.damage.Damage.{Damage}
 use Rattle.key_session.specs.Running.{status_of, status_with}
 use Rattle.key_session.specs.declared.tally.Tally.{Tally}
+use Rattle.leakless_plan.specs.declared.plan.Plan.{Plan}
 use Rattle.key_local.specs.Lines.{TextLines, AreAnswered, AreLinesBy, AreTextLines, GivesByTally, is_cut, bytes_given}
 use Rattle.ghost_model.specs.core.Asks.{asked_of}
 
@@ -230,10 +231,10 @@ module _ (catalog : Catalog) (database : Database) (texts : List (List ℕ)) (jo
   no_damage (Some damage) e = cc
 
   pub gives :
-      (pages_told : Bool) (page : ℕ → List ℕ) (failed : Bool) (session : Standing) (tally : Tally) (since now : SessionSide)
-      → AreAnswered pages_told page catalog database texts journal failed session tally since now
+      (by : Plan) (pages_told : Bool) (page : ℕ → List ℕ) (failed : Bool) (session : Standing) (tally : Tally) (since now : SessionSide)
+      → AreAnswered by pages_told page catalog database texts journal failed session tally since now
       → GivesByTally failed session tally catalog.schema database texts since now
-  gives pages_told page failed session tally since now are =
+  gives by pages_told page failed session tally since now are =
       let reasons = are.reasons.reasons in
       let lines = are.answers.lines in
       let many : length lines ≡ length reasons = are.answers.as_many in

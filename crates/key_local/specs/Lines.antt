@@ -14,6 +14,7 @@ use Rattle.ghost_model.specs.core.Channel.{Catalog, Journal}
 use Rattle.ghost_model.specs.core.NextMove.{Standing, IsFinished}
 use Rattle.ghost_model.specs.core.Split.{hidden_of}
 use Rattle.session_laws.specs.Local.{IsLocal}
+use Rattle.leakless_plan.specs.declared.plan.Plan.{Plan}
 use Rattle.key_lines.specs.Handing.{Hands}
 use Rattle.key_session.specs.Counting.{is_damage}
 use Rattle.key_session.specs.Reasons.{HaveReasons, HaveAnswerLines}
@@ -72,16 +73,16 @@ pub record GivesByTally (failed : Bool) (session : Standing) (tally : Tally) (sc
   pub status_is : tally.status ≡ status_of failed session (list_any is_cut gives.given)
 
 -- a session has reasons for the lines of its texts, none of them damage, and the rows are those of the database
-pub record AreAnswered (pages_told : Bool) (page : ℕ → List ℕ) (catalog : Catalog) (database : Database) (texts : List (List ℕ)) (journal : Journal) (failed : Bool) (session : Standing) (tally : Tally) (since now : SessionSide) : Type 0 where
-  pub reasons : HaveReasons catalog texts journal (length texts) (λ reasons. IsTallied pages_told page catalog texts failed session reasons tally) since.flash.faults now.flash.faults
+pub record AreAnswered (by : Plan) (pages_told : Bool) (page : ℕ → List ℕ) (catalog : Catalog) (database : Database) (texts : List (List ℕ)) (journal : Journal) (failed : Bool) (session : Standing) (tally : Tally) (since now : SessionSide) : Type 0 where
+  pub reasons : HaveReasons catalog texts journal (length texts) (λ reasons. IsTallied by pages_told page catalog texts failed session reasons tally) since.flash.faults now.flash.faults
   pub answers : HaveAnswerLines catalog (hidden_of catalog.schema database) texts journal reasons.reasons since.sink now.sink
   pub undamaged : list_any is_damage reasons.reasons ≡ false
 
 -- what a finished session told is that, where the host was in the key's own process
 abbrev pub ToldTextsAreGiven : Type 0
 ToldTextsAreGiven =
-    (pages_told : Bool) (page : ℕ → List ℕ) (catalog : Catalog) (database : Database) (texts : List (List ℕ)) (journal : Journal)
+    (by : Plan) (pages_told : Bool) (page : ℕ → List ℕ) (catalog : Catalog) (database : Database) (texts : List (List ℕ)) (journal : Journal)
     (failed : Bool) (session : Standing) (tally : Tally) (since now : SessionSide)
     → IsLocal catalog database [] texts journal → IsFinished journal
-    → AreAnswered pages_told page catalog database texts journal failed session tally since now
+    → AreAnswered by pages_told page catalog database texts journal failed session tally since now
     → GivesByTally failed session tally catalog.schema database texts since now

@@ -9,11 +9,13 @@ use Rattle.ghost_model.specs.core.Printed.{printed}
 use Rattle.ghost_model.specs.core.Honest.{IsCatalogOf}
 use Rattle.ghost_model.specs.core.Values.{Database}
 use Rattle.session_laws.specs.Local.{IsLocal, holding_of}
+use Rattle.leakless_plan.specs.declared.plan.Plan.{Plan}
 use Rattle.edge_traits.specs.Files.{Files}
 use Rattle.edge_traits.specs.Written.{grown}
 use Rattle.local_links.specs.Journaling.{told_file}
 use Rattle.local_links.specs.declared.host_link.HostLink.{HostLink}
 use Rattle.key_session.specs.Damages.{IsSlot}
+use Rattle.key_exec.specs.Jobs.{ForScan}
 use Rattle.key_exec.specs.declared.damage.Damage.{Damage}
 use Rattle.key_session.specs.declared.tally.SessionStatus.{SessionStatus}
 use Rattle.key_session.specs.declared.tally.SessionStatus.TheVariants as status
@@ -54,8 +56,8 @@ abbrev pub KeepsLines : (before after : Option Files) → (name : Option (List �
 KeepsLines before after None journal = ⊤
 KeepsLines before after (Some name) journal = told_file after name ≡ grown (told_file before name) (lines journal)
 
--- a session with a host that holds the public part of a database was held to its end
-pub record RanOver (told : Bool) (catalog : Catalog) (database : Database) (texts : List (List ℕ)) (name : Option (List ℕ)) (end : LocalEnd) (before after : LocalSide) : Type 0 where
+-- a session by a plan with a host that holds the public part of a database was held to its end
+pub record RanOver (by : Plan) (told : Bool) (catalog : Catalog) (database : Database) (texts : List (List ℕ)) (name : Option (List ℕ)) (end : LocalEnd) (before after : LocalSide) : Type 0 where
   pub journal : Journal
   pub is_local : IsLocal catalog database [] texts journal
   pub finished : IsFinished journal
@@ -65,7 +67,8 @@ pub record RanOver (told : Bool) (catalog : Catalog) (database : Database) (text
   pub gives : told ≡ true → Gives catalog.schema database texts (session_side_in false before) (session_side_in (is_sink end) after)
   pub printed_all : told ≡ true → end ≡ ends.Ok → after.written ≡ grown before.written (printed catalog.schema texts database)
   pub cut : (t : told ≡ true) → end ≡ ends.Flash → list_any is_cut (gives t).given ≡ true
-  pub called : end ≡ ends.Flash → Rose before.device.calls after.device.calls
-  pub damage_called : is_damaged end ≡ true → Rose before.device.calls after.device.calls
+  -- where all rows are looked at
+  pub called : ForScan by (end ≡ ends.Flash → Rose before.device.calls after.device.calls)
+  pub damage_called : ForScan by (is_damaged end ≡ true → Rose before.device.calls after.device.calls)
   pub undamaged : told ≡ true → is_damaged end ≡ false
-  pub damaged : (damage : Damage) → end ≡ ends.Damaged damage → IsSlot told after.device.page catalog texts damage
+  pub damaged : (damage : Damage) → end ≡ ends.Damaged damage → IsSlot by told after.device.page catalog texts damage

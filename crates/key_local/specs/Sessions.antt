@@ -19,6 +19,7 @@ use Rattle.edge_traits.specs.Devices.{Device}
 use Rattle.edge_traits.specs.Files.{Files, HasFile, SameBut}
 use Rattle.edge_traits.specs.Written.{grown}
 use Rattle.key_session.specs.Damages.{IsSlot}
+use Rattle.key_exec.specs.Jobs.{ForScan}
 use Rattle.key_exec.specs.declared.damage.Damage.{Damage}
 use Rattle.ghost_model.specs.core.Lines.{Reason}
 use Rattle.key_lines.specs.Handing.{Handed, handed}
@@ -108,13 +109,17 @@ pub record Ran (told : Bool) (one : Subject) (end : LocalEnd) (before after : Lo
   pub printed_all : told ≡ true → end ≡ ends.Ok → after.written ≡ grown before.written (printed one.schema one.texts one.database)
   -- the flash is blamed only where it failed a text
   pub cut : (t : told ≡ true) → end ≡ ends.Flash → list_any is_cut (gives t).given ≡ true
-  -- and by a call of the session, after those of the making
-  pub more_calls : end ≡ ends.Flash → Rose (before.device.calls + load_calls (catalog_in one) (hidden_of one.schema one.database)) after.device.calls
-  -- and a slot only by a call of the session, and where it is one of a hidden column and has no value of it, so where the
-  -- pages are told none is
-  pub damage_called : is_damaged end ≡ true → Rose (before.device.calls + load_calls (catalog_in one) (hidden_of one.schema one.database)) after.device.calls
+  -- and, where all rows are looked at, by a call of the session, after those of the making
+  pub more_calls : ForScan one.words.plan
+      (end ≡ ends.Flash → Rose (before.device.calls + load_calls (catalog_in one) (hidden_of one.schema one.database)) after.device.calls)
+  -- and so is a slot
+  pub damage_called : ForScan one.words.plan
+      (is_damaged end ≡ true → Rose (before.device.calls + load_calls (catalog_in one) (hidden_of one.schema one.database)) after.device.calls)
+  -- where the pages are told none is
   pub undamaged : told ≡ true → is_damaged end ≡ false
-  pub damaged : (damage : Damage) → end ≡ ends.Damaged damage → IsSlot told after.device.page (catalog_in one) one.texts damage
+  -- where all rows are looked at it is one of a hidden column and has no value of it; by the indexes, where what the pages are of is
+  -- known, it is a damaged one of some file
+  pub damaged : (damage : Damage) → end ≡ ends.Damaged damage → IsSlot one.words.plan told after.device.page (catalog_in one) one.texts damage
   -- and the flash has been made for it, under the name that the words say
   pub name : after.device.name ≡ Some one.words.flash
   pub holds : told ≡ true → Holds after.device.page (catalog_in one) (hidden_of one.schema one.database)

@@ -34,6 +34,7 @@ use edge_traits::mem_depot::MemDepot;
 use edge_traits::sink::Sink;
 use ghost_model::flash::holdings_are_kept;
 use ghost_model::layout::{catalogs_are_limited, files_lie_in_order};
+use key_exec::laws::held_pages_are_known;
 use key_words::LocalWords;
 use std::alloc::Global;
 
@@ -153,6 +154,7 @@ fn local_prepared<D: Depot, F: Flash, O: Sink>(
     files_lie_in_order();
     holdings_are_kept();
     catalogs_are_limited();
+    held_pages_are_known();
     let Prepared {
         cat,
         hidden,

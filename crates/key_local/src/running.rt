@@ -2,15 +2,14 @@
 
 ghost use Rattle.std.specs.Prelude.{◌≡◌, ◌≤◌, true, false, length};
 ghost use Rattle.ghost_model.specs.core.Causes.{Rose};
-ghost use Rattle.ghost_model.specs.forms.Flash.{HoldsFilesSoFar};
 ghost use Rattle.ghost_model.specs.core.Honest.{IsCatalogOf};
-ghost use Rattle.ghost_model.specs.core.Split.{hidden_of};
 ghost use Rattle.ghost_model.specs.core.Texts.{texts_of};
 ghost use Rattle.ghost_model.specs.core.Values.{Database};
 ghost use Rattle.session_laws.specs.Local.{holding_of};
 ghost use Rattle.ghost_model.specs.forms.Layout as layout;
 ghost use Rattle.edge_traits.specs.Devices.{ChangesOnly};
 ghost use Rattle.key_exec.specs.Plans.{Suffices};
+ghost use Rattle.key_exec.specs.Reading.{KnowsBy};
 ghost use Rattle.page_pool.specs.Pools.{IsIdle};
 ghost use Rattle.local_links.specs.Keeping.{named};
 ghost use Rattle.key_words.specs.Views.{local_view};
@@ -86,8 +85,8 @@ fn hold<D: Depot, F: Flash, O: Sink>(
     ensures same_depot { link.new.depot.ghost_name ≡ link.old.depot.ghost_name }
     ensures ran { (database : Database) → IsCatalogOf cat.now database
         → IsHosted ⟦<MemDepot as Depot>⟧.contents ⟦<MemDepot as Depot>⟧.sure (holding_of cat.now database) link.old.link.now
-        → (F.told ≡ true → HoldsFilesSoFar (F.state flash.old).page cat.now (hidden_of cat.now.schema database))
-        → RanOver F.told cat.now database (texts_of script.now) (named link.old) result
+        → (F.told ≡ true → KnowsBy words.now.plan F.told (F.state flash.old).page cat.now database)
+        → RanOver words.now.plan F.told cat.now database (texts_of script.now) (named link.old) result
         (local_side (F.state flash.old) (D.contents link.old.depot.now) (D.append_faults link.old.depot.now) (O.faults out.old) (O.written out.old))
         (local_side (F.state flash.new) (D.contents link.new.depot.now) (D.append_faults link.new.depot.now) (O.faults out.new) (O.written out.new)) }
     ensures pages { ChangesOnly (layout.static_end cat.now) (layout.need cat.now) (F.state flash.old) (F.state flash.new) }
@@ -135,8 +134,8 @@ pub(crate) fn run<D: Depot, F: Flash, O: Sink>(
     requires hosted { IsSomeHosted ⟦<MemDepot as Depot>⟧.contents ⟦<MemDepot as Depot>⟧.sure cat.now link.old }
     ensures ran { (database : Database) → IsCatalogOf cat.now database
         → IsHosted ⟦<MemDepot as Depot>⟧.contents ⟦<MemDepot as Depot>⟧.sure (holding_of cat.now database) link.old
-        → (F.told ≡ true → HoldsFilesSoFar (F.state flash.old).page cat.now (hidden_of cat.now.schema database))
-        → RanOver F.told cat.now database (texts_of script.now) (local_view words.now).journal result
+        → (F.told ≡ true → KnowsBy words.now.plan F.told (F.state flash.old).page cat.now database)
+        → RanOver words.now.plan F.told cat.now database (texts_of script.now) (local_view words.now).journal result
         (local_side (F.state flash.old) (D.contents depot.old) (D.append_faults depot.old) (O.faults out.old) (O.written out.old))
         (local_side (F.state flash.new) (D.contents depot.new) (D.append_faults depot.new) (O.faults out.new) (O.written out.new)) }
     ensures pages { ChangesOnly (layout.static_end cat.now) (layout.need cat.now) (F.state flash.old) (F.state flash.new) }

@@ -11,6 +11,7 @@ use Rattle.key_words.specs.Words.{Query}
 use Rattle.key_inputs.specs.Openings.{Spelled, Broken}
 use Rattle.key_inputs.specs.Scripts.{script_opening}
 use Rattle.key_inputs.specs.Views.{rule_of}
+use Rattle.key_exec.specs.Jobs.{ForScan}
 use Rattle.key_session.specs.Answering.{AnswersWhereSound}
 use Rattle.key_session.specs.Running.{HasRun, blames_flash, is_damaged}
 use Rattle.key_session.specs.Telling.{SessionSide}
@@ -39,14 +40,14 @@ pub record Runs (goes : Journal → Type 0) (link_before link_now : ℕ) (told :
   pub enough : need cat ≤ opened.page_count
   pub script : List ℕ
   pub is_script : IsScript contents words.script script
-  pub ran : HasRun goes link_before link_now told cat words.to (texts_of script) (record before { flash = opened }) now tally
-  pub answered : AnswersWhereSound told cat (texts_of script) ran.journal (record before { flash = opened }) now tally
+  pub ran : HasRun goes link_before link_now words.plan told cat words.to (texts_of script) (record before { flash = opened }) now tally
+  pub answered : AnswersWhereSound words.plan told cat (texts_of script) ran.journal (record before { flash = opened }) now tally
   pub texts : tally.texts ≡ length (texts_of script)
   -- only pages behind the static ones changed, to which the replies are written
   pub kept : ChangesOnly (static_end cat) (need cat) opened now.flash
-  -- the flash is blamed, or a slot of it, only for a call of the session
-  pub called : blames_flash tally.status ≡ true → Rose opened.calls now.flash.calls
-  pub damage_called : is_damaged tally.status ≡ true → Rose opened.calls now.flash.calls
+  -- where all rows are looked at the flash is blamed, or a slot of it, only for a call of the session
+  pub called : ForScan words.plan (blames_flash tally.status ≡ true → Rose opened.calls now.flash.calls)
+  pub damage_called : ForScan words.plan (is_damaged tally.status ≡ true → Rose opened.calls now.flash.calls)
 
 -- the script's file keeps every rule
 abbrev pub HasScript : Option Files → (name : List ℕ) → Type 0

@@ -5,9 +5,9 @@ use Rattle.key_local.proofs.laws.told_texts_are_given.Goals as goal
 pub returns : goal.returns
 returns c =
     record {
-      given = λ pages_told page catalog database texts journal failed session tally since now is finished told.
+      given = λ by pages_told page catalog database texts journal failed session tally since now is finished told.
           gives catalog database texts journal
           (λ place written asked. c.local_asks_are_done.ensures catalog database [] texts journal place written asked is finished)
           (λ place written asked. c.local_sessions_answer.ensures catalog database [] texts journal place written asked is finished)
-          pages_told page failed session tally since now told;
+          by pages_told page failed session tally since now told;
     }

@@ -3,7 +3,6 @@ use Rattle.std.specs.List.{list_any}
 use Rattle.ghost_model.specs.core.Asks.{asked_of}
 use Rattle.ghost_model.specs.core.NextMove.{standing_after}
 use Rattle.ghost_model.specs.core.Texts.{texts_of}
-use Rattle.key_exec.specs.Reading.{Knows}
 use Rattle.key_session.specs.Counting.{is_flash}
 use Rattle.key_session.specs.Running.{is_sink}
 use Rattle.key_local.specs.Running.{clears_journal}
@@ -30,7 +29,7 @@ end_of-requires g c =
     }
 
 pub returns-clause-ran : goal.returns-clause-ran
-returns-clause-ran g c = λ database stored hosted columns.
+returns-clause-ran g c = λ database stored hosted known.
     let cat = c.args.cat.now in
     let texts = texts_of c.args.script.now in
     let is = c.a_catalog_is_short.ensures.catalog in
@@ -38,14 +37,14 @@ returns-clause-ran g c = λ database stored hosted columns.
     let setting = setting_of cat texts is c.requires.few in
     let goes = c.sessions_are_local.ensures.is_local cat database [] texts ran.journal _ _ setting stored ran.proper ran.went.moved hosted.is_sure hosted.at_first in
     let wrote = c.proper_journals_are_written.ensures.written cat [] texts ran.journal _ _ setting ran.proper ran.went in
-    ran_over g.F.Flash.told cat database texts _ c.end_of.result c.run_session-tally.result _ _ ran.journal c.local_sessions_are_served.ensures c.told_texts_are_given.ensures.given c.knowledge_stays.ensures.damage (c.catalogs_are_limited.ensures cat is).tree
+    ran_over c.args.words.now.plan g.F.Flash.told cat database texts _ c.end_of.result c.run_session-tally.result _ _ ran.journal c.local_sessions_are_served.ensures c.told_texts_are_given.ensures.given c.knowledge_stays.ensures.damage (c.catalogs_are_limited.ensures cat is).tree
     goes.is_local ran.finished
     (λ calm. lines_kept _ ran.journal _ _ wrote c.requires.going calm)
     (λ fine. lines_written _ ran.journal _ _ wrote (sym c.failed.ensures.failed ∙ c.end_of.ensures.no_depot (ap clears_journal fine)))
-    (λ t. let knows : Knows g.F.Flash.told (g.F.Flash.state c.args.flash.now).page cat database = record { is_told = t; is = stored.is_database; counts = stored.counts_are; holds = columns t } in
+    (λ t. let knows = known t in
     record {
       reasons = ran.reasons;
-      answers = ran.answers database (c.knowledge_is_enough.ensures.enough g.F.Flash.told (g.F.Flash.state c.args.flash.now).page cat database (c.catalogs_are_limited.ensures cat is).tree knows);
+      answers = ran.answers database (c.knowledge_is_enough.ensures.enough c.args.words.now.plan g.F.Flash.told (g.F.Flash.state c.args.flash.now).page cat database (c.catalogs_are_limited.ensures cat is).tree knows);
       undamaged = ran.undamaged database knows;
     })
     (record { reasons = ran.reasons.reasons; as_many = ran.reasons.as_many; lines = ran.lines })
