@@ -24,8 +24,8 @@ const PLAIN_WORDS: PlainWords<'static> = PlainWords {
     script: "script",
 };
 
-/// The words of `local`, with a pace of one number.
-fn local_words() -> LocalWords<'static> {
+/// The words of `local`, with a plan and a pace of one number.
+fn local_words(plan: Plan) -> LocalWords<'static> {
     let mut pace = ArrayVec::new();
     pace.push(1);
     LocalWords {
@@ -34,7 +34,7 @@ fn local_words() -> LocalWords<'static> {
         flash: "flash",
         script: "script",
         journal: None,
-        plan: Plan::Scan,
+        plan,
         pace,
         buffers: 8,
     }
@@ -98,12 +98,14 @@ fn columns_and_replies_of_many_pages_are_answered_in_order(
     ] {
         depot.put(name, bytes);
     }
-    let mut flash = MemFlash::new(rt.alloc(), 60, &[])?;
-    let mut out = MemSink::new(rt.alloc(), 300_000, 300_000, &[])?;
-    let words = local_words();
-    let ended = local(rt.alloc(), &words, &mut depot, &mut flash, &mut out);
-    assert!(rt; matches!(&ended, Ok(LocalEnd::Ok)));
-    assert!(rt; out.bytes() == lines.as_bytes());
+    for plan in [Plan::Scan, Plan::Pre] {
+        let mut flash = MemFlash::new(rt.alloc(), 60, &[])?;
+        let mut out = MemSink::new(rt.alloc(), 300_000, 300_000, &[])?;
+        let words = local_words(plan);
+        let ended = local(rt.alloc(), &words, &mut depot, &mut flash, &mut out);
+        assert!(rt; matches!(&ended, Ok(LocalEnd::Ok)));
+        assert!(rt; out.bytes() == lines.as_bytes());
+    }
     let mut out = MemSink::new(rt.alloc(), 300_000, 300_000, &[])?;
     assert!(rt; plain(rt.alloc(), &PLAIN_WORDS, &mut depot, &mut out).is_ok());
     assert!(rt; out.bytes() == lines.as_bytes());

@@ -1,6 +1,7 @@
 use Rattle.std.proofs.Common.{◌≡◌, ◌+◌, ◌≤◌, ◌∙◌, not, count_by, length, ap, sym, subst, arith}
 use Rattle.page_pool.specs.Pools.{others_out}
 use Rattle.visible_spool.specs.Sparing.{IsHalf}
+use Rattle.leakless_plan.specs.declared.plan.Plan.TheVariants as plan
 use Rattle.key_exec.specs.Telling.{leases_of}
 use Rattle.session_tests.proofs.key_answers.tell.Goals as goal
 
@@ -18,7 +19,7 @@ steps-init g c =
 
 pub steps-preserved : goal.steps-preserved
 steps-preserved g c = record {
-  can = c.in-None.ensures.can c.args.cat.now 1 c.steps.invariant.can;
+  can = c.in-None.ensures.can plan.Scan c.args.cat.now 1 c.steps.invariant.can;
   free = ap (count_by not) c.step.ensures.others ∙ (c.steps.invariant.free ∙ sym c.step.ensures.kept_others.size);
 }
 
