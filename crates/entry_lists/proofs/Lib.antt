@@ -12,3 +12,4 @@ pub mod TwoReads
 pub mod ReplyGiving
 pub mod ReplyFrames
 pub mod RepliedLists
+pub mod Blamed

@@ -103,11 +103,13 @@ pub record IsListIn (directory : Directory) (level : ℕ) (list : ListRef) : Typ
   pub run_is : list.run ≡ level_run directory level
   pub inside : list.first + list.count ≤ list.run.count
 
--- a slot that is blamed: that of the next entry; what a read from that count of calls on gave there may not come
+-- a slot that is blamed: that of the next entry, on a page of the directory; what a read from that count of calls on gave there may
+-- not come
 pub record BlamesEntry (since : ℕ) (device : Device) (lists : EntryLists) (number slot found : ℕ) : Type 0 where
   pub entry : ℕ
   pub next : next_entry lists ≡ Some entry
   pub blames : BlamesSlot since device (run_of lists.directory.run) (may_come lists.directory lists.level lists.left) entry number slot found
+  pub used : is_in (run_of lists.directory.run) number ≡ true
 
 -- a slot that is damaged: that of an entry still to come, with bytes that may not stand there, whatever stands in others
 pub record DamagesEntry (page : ℕ → List ℕ) (lists : EntryLists) (number slot found : ℕ) : Type 0 where

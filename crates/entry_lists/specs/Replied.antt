@@ -72,16 +72,18 @@ pub record CanGive (told : Bool) (device : Device) (pool : Pool) (lists : ReplyL
 abbrev pub may_follow : (last rows : ℕ) → List ℕ → Bool
 may_follow last rows bytes = nat_lt last (number_in bytes 0) && nat_le (number_in bytes 0) rows
 
--- A slot that is blamed: that of the row that is looked at next, or that of the entry of an identifier at hand; what a read from
--- that count of calls on gave there may not come.
+-- A slot that is blamed: that of the row that is looked at next, on a page of the reply, or that of the entry of an identifier at
+-- hand, on a page of the directory; what a read from that count of calls on gave there may not come.
 pub record BlamesReplied (since : ℕ) (device : Device) (lists : ReplyLists) (number slot found : ℕ) : Type 0 where
   pub hand : has_hand lists ≡ true
   pub blames : BlamesSlot since device (run_of lists.directory.run) (may_come lists.directory lists.level lists.left) (entry_at_hand lists) number slot found
+  pub used : is_in (run_of lists.directory.run) number ≡ true
 
 pub record BlamesRow (since : ℕ) (device : Device) (lists : ReplyLists) (number slot found : ℕ) : Type 0 where
   pub none : has_hand lists ≡ false
   pub within : lists.given < lists.reply.run.count
   pub blames : BlamesSlot since device (run_of lists.reply.run) (may_follow lists.last lists.reply.rows) lists.given number slot found
+  pub used : is_in (run_of lists.reply.run) number ≡ true
 
 abbrev pub Blames : (since : ℕ) → Device → ReplyLists → (number slot found : ℕ) → Type 0
 Blames since device lists number slot found = BlamesReplied since device lists number slot found ⊎ BlamesRow since device lists number slot found

@@ -29,3 +29,4 @@ pub mod Calls
 pub mod SparedMerging
 pub mod SparedReducing
 pub mod ListCalls
+pub mod FewPages

@@ -109,7 +109,14 @@ lists_blamed blamed run rows since device cursors (Err Flash) over blames = tt
 lists_blamed blamed run rows since device cursors (Err (Damaged number slot found)) over blames =
     let C : Cursor → Type 0 = CursorOver run rows in
     let is : IsOver run rows blames.run = subst C blames.is (over blames.at) in
-    inr (record { at = blames.at; cursor = blames.run; is = blames.is; run_is = is.run_is; blames = blames.blames })
+    inr (record {
+      at = blames.at;
+      cursor = blames.run;
+      is = blames.is;
+      run_is = is.run_is;
+      inside = omega (arith, is.inside, ap (λ (r : Run). r.count) is.run_is);
+      blames = blames.blames;
+    })
 
 -- no slot is blamed
 pub none_blamed :

@@ -161,7 +161,7 @@ pub unread_still :
 unread_still {pool = pool} lease cursors are buffer = unread_all cursors buffer (λ i. each_another pool lease cursors i are)
 
 -- a record that fills its page makes two calls at most
-few_page_calls : (erases : Bool) → (if erases then 2 else 1) ≤ 2
+pub few_page_calls : (erases : Bool) → (if erases then 2 else 1) ≤ 2
 few_page_calls true = omega arith
 few_page_calls false = omega arith
 

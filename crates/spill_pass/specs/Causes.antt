@@ -17,10 +17,16 @@ EndsAtFault since_fault (Ok value) = ⊤
 EndsAtFault since_fault (Err Flash) = since_fault ≡ 0
 EndsAtFault since_fault (Err (Damaged page slot found)) = ⊤
 
--- what was added to a count is how many calls were made, unless the flash failed
+-- where the flash is blamed, it was called
+abbrev pub CallsAtFault : {T : Type 0} → (before now : ℕ) → Result T PageFault → Type 0
+CallsAtFault before now (Ok value) = ⊤
+CallsAtFault before now (Err Flash) = Rose before now
+CallsAtFault before now (Err (Damaged page slot found)) = ⊤
+
+-- what was added to a count is how many calls were made; where the flash is blamed, it was called
 abbrev pub CountsCalls : {T : Type 0} → (before now : ℕ) → (old new : ℕ) → Result T PageFault → Type 0
 CountsCalls before now old new (Ok value) = Counts (new - old) before now
-CountsCalls before now old new (Err Flash) = ⊤
+CountsCalls before now old new (Err Flash) = Rose before now
 CountsCalls before now old new (Err (Damaged page slot found)) = Counts (new - old) before now
 
 -- where a slot is blamed no call was made

@@ -14,3 +14,4 @@ pub mod PassContents
 pub mod ReduceContents
 pub mod Sparing
 pub mod ListCalls
+pub mod FewPages

@@ -167,6 +167,16 @@ pub record MadeAtMost (most : ℕ) (before now : Device) : Type 0 where
   pub calls : now.calls ≤ before.calls + most
   pub deep_reads : now.deep_reads ≤ before.deep_reads + most
 
+-- what was called by the pages themselves: one call a page that was read, and two a page that was written
+pub record WentByPages (before now : Device) (pool later : Pool) (old new : MergeInto) : Type 0 where
+  pub further : old.writer.filler.pages ≤ new.writer.filler.pages
+  pub calls : now.calls + unread later new.merge ≤ before.calls + unread pool old.merge + 2 * (new.writer.filler.pages - old.writer.filler.pages)
+
+-- the same where the list stands, on as many pages as its identifiers take
+pub record DoneByPages (before now : Device) (pool : Pool) (old : MergeInto) (run : Run) : Type 0 where
+  pub further : old.writer.filler.pages ≤ runs.pages_of run.count 4
+  pub calls : now.calls ≤ before.calls + unread pool old.merge + 2 * (runs.pages_of run.count 4 - old.writer.filler.pages)
+
 -- what is counted in a turn after which there is more to do
 pub record WentOn (told : Bool) (before now : Device) (pool later : Pool) (old new : MergeInto) (calls : ℕ) : Type 0 where
   pub ready : IsMerging told now later new
@@ -174,6 +184,7 @@ pub record WentOn (told : Bool) (before now : Device) (pool later : Pool) (old n
   pub few : calls ≤ 2
   pub at_most : MadeAtMost calls before now
   pub spent : now.calls + calls_left later new ≤ before.calls + calls_left pool old
+  pub by_pages : WentByPages before now pool later old new
   pub called : 0 < calls → Rose before.calls now.calls
   pub exact : Counts calls before.calls now.calls
   pub unions : new.merge.unions ≡ old.merge.unions
@@ -201,6 +212,7 @@ AdvanceTells told before now pool later old new None = CameToEnd told before now
 pub record ListDone (before now : Device) (pool : Pool) (old : MergeInto) (run : Run) (calls : ℕ) : Type 0 where
   pub placed : IsPlaced old run
   pub spent : now.calls ≤ before.calls + calls_left pool old
+  pub by_pages : DoneByPages before now pool old run
   pub few : calls ≤ 2
   pub exact : Counts calls before.calls now.calls
 
@@ -213,3 +225,9 @@ abbrev pub Spends : (before now : Device) (pool later : Pool) (old new : MergeIn
 Spends before now pool later old new (Ok None) = now.calls + calls_left later new ≤ before.calls + calls_left pool old
 Spends before now pool later old new (Ok (Some run)) = now.calls ≤ before.calls + calls_left pool old
 Spends before now pool later old new (Err fault) = now.calls ≤ before.calls + calls_left pool old + 1
+
+-- the same by the pages themselves, however many rows there are
+abbrev pub SpendsByPages : (before now : Device) (pool later : Pool) (old new : MergeInto) → Result (Option Run) PageFault → Type 0
+SpendsByPages before now pool later old new (Ok None) = WentByPages before now pool later old new
+SpendsByPages before now pool later old new (Ok (Some run)) = DoneByPages before now pool old run
+SpendsByPages before now pool later old new (Err fault) = ⊤

@@ -110,6 +110,7 @@ pub record BlamesListIn (run : Run) (since : ℕ) (device : Device) (cursors : L
   pub cursor : RunCursor
   pub is : cursor_at cursors at ≡ OfList cursor
   pub run_is : cursor.list.run ≡ run
+  pub inside : cursor.list.first + cursor.list.count ≤ cursor.list.run.count
   pub blames : BlamesSlot since device cursor cursor.at number slot found
 
 -- a slot that is blamed is one that the source blames, or one of the lists at hand, in the run of the source

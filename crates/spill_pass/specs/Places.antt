@@ -1,5 +1,5 @@
 -- The places of lists that lie one behind another in a run.
-use Rattle.std.specs.Prelude.{◌≡◌, ℕ, ◌+◌, ◌-◌, ◌^◌, ◌<◌, ◌≤◌, ◌++◌, ◌∷◌, ◌&&◌, ◌||◌, Bool, ⊤, List, [], length, get_or, nat_le, nat_lt, Option, Some, None, Result, Ok, Err, IfSome}
+use Rattle.std.specs.Prelude.{◌≡◌, ℕ, ◌+◌, ◌-◌, ◌^◌, ◌<◌, ◌≤◌, ◌++◌, ◌∷◌, ◌&&◌, ◌||◌, Bool, true, ⊤, List, [], length, get_or, nat_le, nat_lt, Option, Some, None, Result, Ok, Err, IfSome}
 use Rattle.ghost_model.specs.forms.Runs as runs
 use Rattle.ghost_base.specs.declared.runs.Run.{Run}
 use Rattle.ghost_base.specs.declared.runs.ListRef.{ListRef}
@@ -59,7 +59,11 @@ pub record SamePlaces (before now : PlaceReader) : Type 0 where
   pub lists : now.lists ≡ before.lists
   pub lease : now.lease ≡ before.lease
 
--- a place that is blamed: what a read from that count of calls on gave there may not come next
+-- a page of the areas that a run of records of that width fills
+abbrev pub is_of : Run → (width page : ℕ) → Bool
+is_of run width page = nat_le run.first page && nat_lt page (run.first + runs.pages_of run.count width)
+
+-- a place that is blamed: what a read from that count of calls on gave there may not come next. It lies on a page of the places
 pub record DamagesPlace (since : ℕ) (device : Device) (reader : PlaceReader) (number slot found : ℕ) : Type 0 where
   pub page : number ≡ runs.page_of (run_of reader.places) reader.at
   pub slot_is : slot ≡ runs.slot_of (run_of reader.places) reader.at
@@ -67,6 +71,7 @@ pub record DamagesPlace (since : ℕ) (device : Device) (reader : PlaceReader) (
   pub read : WasRead since device (run_of reader.places) reader.at bytes
   pub found_is : found ≡ runs.found_in bytes
   pub not_next : IsNextPlace reader bytes → ⊥
+  pub used : is_of reader.places 8 number ≡ true
 
 abbrev pub BlamesPlace : (since : ℕ) → Device → PlaceReader → {T : Type 0} → Result T PageFault → Type 0
 BlamesPlace since device reader (Ok answer) = ⊤
@@ -84,10 +89,6 @@ pub record CanReadPlaces (told : Bool) (device : Device) (pool : Pool) (reader :
   pub place : reader.at ≤ reader.places.count
   pub within : reader.next ≤ reader.lists.count
   pub buffer : CanRead told device pool reader.lease
-
--- a page of the areas that a run of records of that width fills
-abbrev pub is_of : Run → (width page : ℕ) → Bool
-is_of run width page = nat_le run.first page && nat_lt page (run.first + runs.pages_of run.count width)
 
 -- a reader as a source of lists
 abbrev pub source_of : PlaceReader → Source

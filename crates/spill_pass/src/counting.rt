@@ -1,11 +1,20 @@
-//! How many calls of the flash a writer makes.
+//! How many calls of the flash a writer makes, and how many pages lists take.
 
 ghost use Rattle.std.specs.Prelude.{◌≡◌, ◌<◌, ◌≤◌, ◌^◌};
 ghost use Rattle.flash_pages.specs.Writing.{page_calls};
 ghost use Rattle.flash_pages.specs.Writers.{next_page, put_calls, finish_calls};
+ghost use Rattle.spill_pass.specs.FewPages.{FreshListIsShort, FreshRecordsAreShort, WritesFewPages};
 
 use flash_pages::filler::RunFiller;
 use ghost_base::runs::per_page;
+
+/// A law: a list that was begun has no more pages to be read than its identifiers fill, and two, and no more than it has records,
+/// and two; and a list that is written has no more pages than its identifiers take.
+pub fn pages_are_few()
+    ensures list { FreshListIsShort }
+    ensures records { FreshRecordsAreShort }
+    ensures written { WritesFewPages }
+{}
 
 /// The calls that write a page: one, and one more that erases its block where it is the first of it and that is asked for.
 fn page_calls(page: u32, erase: bool) -> u32

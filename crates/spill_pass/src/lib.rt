@@ -13,7 +13,7 @@
 //! many lists there are, no more leases are out than there is room for: three, and one for each list of a group.
 #![tactic(auto)]
 
-mod counting;
+pub mod counting;
 pub mod groups;
 pub mod lists;
 pub mod merging;

@@ -1,0 +1,21 @@
+-- How many pages lists take at most, to be read and to be written.
+use Rattle.std.specs.Prelude.{◌≡◌, ◌+◌, ◌/◌, ◌<◌, ◌≤◌}
+use Rattle.ghost_model.specs.forms.Runs as runs
+use Rattle.page_pool.specs.Pools.{Pool}
+use Rattle.flash_pages.specs.declared.cursor.RunCursor.{RunCursor}
+use Rattle.flash_pages.specs.declared.filler.RunFiller.{RunFiller}
+use Rattle.id_merge.specs.Cursors.{unread_list}
+
+-- a list that was begun and not read yet has no more pages to be read than its identifiers fill, and two: it may begin and end
+-- within a page
+abbrev pub FreshListIsShort : Type 0
+FreshListIsShort = (pool : Pool) (run : RunCursor) → run.at ≡ 0 → run.list.run.width ≡ 4 → unread_list pool run ≤ run.list.count / 512 + 2
+
+-- and no more than it has records, and two, whatever their width
+abbrev pub FreshRecordsAreShort : Type 0
+FreshRecordsAreShort =
+    (pool : Pool) (run : RunCursor) → run.at ≡ 0 → 0 < run.list.run.width → run.list.run.width ≤ 2048 → unread_list pool run ≤ run.list.count + 2
+
+-- no more pages of a list are written than its identifiers so far take
+abbrev pub WritesFewPages : Type 0
+WritesFewPages = (writer : RunFiller) → writer.width ≡ 4 → writer.pages ≤ runs.pages_of writer.count 4
