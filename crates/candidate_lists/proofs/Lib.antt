@@ -1,4 +1,4 @@
-pub mod Joining
+pub mod Unions
 pub mod Lists
 pub mod Frames
 pub mod Contents
@@ -8,3 +8,7 @@ pub mod Beside
 pub mod Counting
 pub mod Damaging
 pub mod Sparing
+pub mod Ranges
+pub mod Pigeonholes
+pub mod Joins
+pub mod Costs

@@ -26,7 +26,7 @@ use Rattle.candidate_lists.specs.Scratch.{IsForCandidates, HasTwo}
 use Rattle.candidate_lists.specs.Held.{HasOf, IsRow, over}
 use Rattle.candidate_lists.specs.Reduced.{ReducedHas, ReducedIsOrdered}
 use Rattle.candidate_lists.specs.Closes.{IsListIn, IsClosed, ListsAll}
-use Rattle.candidate_lists.proofs.Joining.{sum_more}
+use Rattle.candidate_lists.proofs.Unions.{sum_more}
 use Rattle.candidate_lists.proofs.Lists.{Begins, ahead_list, begins_right, list_ahead}
 
 -- the pages of a list at the beginning of an area lie in it

@@ -7,4 +7,6 @@ pub mod Spared
 pub mod Reduces
 pub mod Damaging
 pub mod Outside
+pub mod Joins
+pub mod Few
 pub mod Staying

@@ -3,10 +3,14 @@
 //! They begin as all rows. A union of ranges, of one list, or of all lists of a source is taken in, one after another. What fits
 //! the buffers is a union of one merge that is not run yet, and each of its lists has a buffer. Where the merge in hand would leave
 //! too few buffers, the candidates are written to the flash as one list, which takes one buffer, or none until it is opened again.
+//! Candidates that hold no list, unions of ranges alone, take no buffer and need not be written: they stay in hand while lists that
+//! do not fit the buffers are merged into one.
 #![tactic(auto)]
 
 pub mod candidates;
 pub mod closing;
+pub mod few;
+pub mod joining;
 pub mod opening;
 pub mod reduced;
 pub mod reducing;
@@ -15,6 +19,7 @@ pub mod spared;
 
 pub use candidates::Candidates;
 pub use closing::{Closed, Closing};
+pub use joining::Joining;
 pub use opening::Opening;
 pub use reducing::Reducing;
 pub use scratch::Scratch;

@@ -1,7 +1,7 @@
 //! What stays where others write other areas.
 
-ghost use Rattle.candidate_lists.specs.Spared.{ClosedStays, ClosingSpares, ListsStay, ReduceKeeps, ScratchStays};
-ghost use Rattle.candidate_lists.specs.Staying.{BesideStays, ClosedIsKept, ClosingCallsStay, ClosingHasStays, ClosingIsSmall, ClosingLeftStays, ClosingStays, DamageStays, HeldStays, OpenedStays, OpeningStays, ReducedStays, ScratchIsOutside, SparesRest};
+ghost use Rattle.candidate_lists.specs.Spared.{ClosedStays, ClosingSpares, ClosingSparesRead, ListsStay, ReduceKeeps, ScratchStays};
+ghost use Rattle.candidate_lists.specs.Staying.{BesideStays, ClosedIsKept, ClosingCallsStay, ClosingCostsStay, ClosingHasStays, ClosingIsSmall, ClosingLeftStays, ClosingStays, DamageStays, HeldStays, JoinedStays, JoiningStays, OpenedStays, OpeningStays, ReducedStays, ScratchIsOutside, SparesRest};
 
 use id_merge::spared::cursors_are_spared;
 use spill_pass::spared::merging_is_spared;
@@ -14,6 +14,7 @@ pub fn spared()
     ensures lists { ListsStay }
     ensures reduce { ReduceKeeps }
     ensures closing { ClosingSpares }
+    ensures read { ClosingSparesRead }
     ensures scratch { ScratchStays }
 {}
 
@@ -30,10 +31,13 @@ pub fn candidates_are_spared()
     ensures closing_has { ClosingHasStays }
     ensures closing_left { ClosingLeftStays }
     ensures closing_calls { ClosingCallsStay }
+    ensures closing_costs { ClosingCostsStay }
     ensures closing_small { ClosingIsSmall }
     ensures closed { ClosedIsKept }
     ensures beside { BesideStays }
     ensures reduced { ReducedStays }
+    ensures joining { JoiningStays }
+    ensures joined { JoinedStays }
     ensures scratch { ScratchIsOutside }
 {
     cursors_are_spared();

@@ -1,5 +1,8 @@
+use Rattle.id_merge.specs.Cursors.{leases_of}
 use Rattle.candidate_lists.proofs.Damaging.{damage_stays}
 use Rattle.candidate_lists.proofs.Sparing.{beside_stays, closed_is_kept, closing_calls_stay, closing_has_stays, closing_is_small, closing_left_stays, closing_stays, held_stays, opened_stays, opening_stays, reduced_stays, scratch_is_outside, spares_rest}
+use Rattle.candidate_lists.proofs.Costs.{closing_costs_stay}
+use Rattle.candidate_lists.proofs.Joins.{joined_stays, joining_stays}
 use Rattle.candidate_lists.proofs.spared.candidates_are_spared.Goals as goal
 
 pub returns-clause-rest : goal.returns-clause-rest
@@ -43,3 +46,14 @@ returns-clause-reduced c = reduced_stays
 
 pub returns-clause-scratch : goal.returns-clause-scratch
 returns-clause-scratch c = scratch_is_outside
+
+pub returns-clause-joining : goal.returns-clause-joining
+returns-clause-joining c = joining_stays
+
+pub returns-clause-joined : goal.returns-clause-joined
+returns-clause-joined c = joined_stays
+
+pub returns-clause-closing_costs : goal.returns-clause-closing_costs
+returns-clause-closing_costs c = λ low high before now pool later closing most spares.
+    closing_costs_stay most closing.into closing.run c.cursors_are_spared.ensures.unread
+    (spares_rest low high before now pool later closing.into.writer.lease (leases_of closing.into.merge.cursors.items) spares)
