@@ -148,7 +148,7 @@ module _ (schema : Schema) (tree : IsTree schema) (levels : LevelsAreAncestors) 
   shown_there None e = absurd (cc (e))
   shown_there (Some held) e = (held, refl)
 
-  compared_there : (table : ℕ) (conditions : List Condition) → list_any (is_compared_of schema table) conditions ≡ true → table < length schema
+  pub compared_there : (table : ℕ) (conditions : List Condition) → list_any (is_compared_of schema table) conditions ≡ true → table < length schema
   compared_there table [] e = absurd (cc (e))
   compared_there table (Join one other ∷ conditions) e = compared_there table conditions e
   compared_there table (Compare wanted operator literal ∷ conditions) e =
@@ -175,7 +175,7 @@ module _ (schema : Schema) (tree : IsTree schema) (levels : LevelsAreAncestors) 
 
   module _ (text : List ℕ) (asked : Query) (read : IsMeant schema text asked) (one : OneReading) (accepted : AcceptedQueriesAreFollowed)
       (top_is : top_of schema asked ≡ Some top) where
-    follows : IsFollowed schema read.meant top
+    pub follows : IsFollowed schema read.meant top
     follows =
         accepted schema tree text read.meant ((one.meaning schema text read.meant).0 read.reads) top (ap (top_of schema) (sym read.once) ∙ top_is)
 

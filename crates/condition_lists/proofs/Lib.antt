@@ -7,3 +7,6 @@ pub mod MeetLemmas
 pub mod FilterLemmas
 pub mod MemberLemmas
 pub mod ListLemmas
+pub mod CountLemmas
+pub mod CostLemmas
+pub mod WorkLemmas

@@ -1,6 +1,7 @@
 -- The lists of a term have exactly the rows that meet it.
 use Rattle.std.proofs.Common.{◌≡◌, ◌∙◌, refl, ap, ap₂, sym, subst, ℕ, zero, suc, ◌+◌, ◌-◌, ◌<◌, ◌≤◌, inl, inr, Bool, true, false, List, [], ◌∷◌, length, filter, map, get_or, slice_get, slice_index, Contains, bytes_eq, Option, Some, None, option_and_then, if◌then◌else◌, arith}
-use Rattle.std.specs.Prelude.{◌↔◌, ◌||◌, ◌==◌, is_some}
+use Rattle.std.specs.Prelude.{◌↔◌, ◌||◌, ◌==◌, is_some, filter_map}
+use Rattle.std.specs.List.{cons_option}
 use Rattle.std.specs.Option.{option_map, option_map_or}
 use Rattle.std.proofs.lemmas.Bool.{eqb-true}
 use Rattle.std.proofs.lemmas.Bool.Decides.{nat_tests}
@@ -49,6 +50,7 @@ use Rattle.condition_lists.specs.declared.bounds.Bounds.{Bounds}
 use Rattle.condition_lists.specs.declared.term.Term.TheVariants.{Ranges, Entries, Identifiers, TopReply, Reply}
 use Rattle.condition_lists.specs.Bounds.{AreBoundsOf, AreOfKind, IsPairOfKind, IsSecondOfKind, lies_between, lies_in_second, lies_within}
 use Rattle.condition_lists.specs.Terms.{IsIndexAt, IsIdIndexAt, IsBehind, is_in, is_in_one}
+use Rattle.condition_lists.specs.QueryWork.{values_of}
 use Rattle.condition_lists.specs.Laws.{IsOver, BoundsAreOfValues, AreGroupsOf, IsSecondGroup, IsListed, IsListedOf, IsEntryOf, IsMet, AreReplied, replied_ids}
 use Rattle.condition_lists.proofs.GroupLemmas.{in_group, to_group, agree, none_in, within_of}
 use Rattle.condition_lists.proofs.MemberLemmas.{among_of, contains_of, kept_row, row_kept, mapped_at, mapped_get, mapped_ids, ids_many, mapped_many, indexed, indexed_above, got}
@@ -59,7 +61,7 @@ use Rattle.condition_lists.proofs.RowLemmas.{some_column, below_by, is_row, led}
 differ : (n x : ℕ) → n ≡ x → (n == x) ≡ false → ⊥
 differ n x same e = let is : (n == x) ≡ true = grind (arith, nat_tests) in let clash : true ≡ false = sym is ∙ e in cc
 
-replied_some : (x : ℕ) (rows : List RowValues) → Among x (map (λ row. row.identifier) rows) → is_some (row_replied x rows) ≡ true
+pub replied_some : (x : ℕ) (rows : List RowValues) → Among x (map (λ row. row.identifier) rows) → is_some (row_replied x rows) ≡ true
 replied_some x [] among = absurd among
 replied_some x (row ∷ rows) among =
     elim among [
@@ -121,13 +123,13 @@ module _ (cat : Catalog) (database : Database) (over : IsOver cat database) (lev
 
   module _ (index : IdIndex) (level : ℕ) (at : IsIdIndexAt cat top table index level) where
     -- the list of an identifier of the table
-    list_is : (entry : ℕ) → entry < count_of cat table
+    pub list_is : (entry : ℕ) → entry < count_of cat table
         → get_or (ids_at cat hidden table (level - 1)) entry [] ≡ filter (λ other. is_table (1 + entry) (leads_to cat.schema hidden top other table)) (ids (count_of cat top))
     list_is entry low =
         ap (λ from. get_or (id_lists cat hidden table from) entry []) (indexed_above (levels_of cat.schema table) level top at.above at.level_is)
         ∙ mapped_ids (λ identifier. filter (λ other. is_table identifier (leads_to cat.schema hidden top other table)) (ids (count_of cat top))) (count_of cat table) entry [] low
 
-    many : length (ids_at cat hidden table (level - 1)) ≡ count_of cat table
+    pub many : length (ids_at cat hidden table (level - 1)) ≡ count_of cat table
     many =
         ids_many (λ identifier. filter (λ other. is_table identifier (leads_to cat.schema hidden (slice_index (above_of cat.schema table) (level - 1)) other table)) (ids (count_of cat (slice_index (above_of cat.schema table) (level - 1)))))
         (count_of cat table)
@@ -249,6 +251,24 @@ top_reply cat database given top one are identifier = (to, from)
 
 -- ---- entries of values
 
+-- the value of a row is one of the column's
+pub in_column : (column : ℕ) (rows : List Row) (place : ℕ) (row : Row) (value : Value) → slice_get rows place ≡ Some row → slice_get row column ≡ Some value
+    → Among value (filter_map (λ r. slice_get r column) rows)
+in_column column [] place row value there e = absurd (cc (there))
+in_column column (first ∷ rows) zero row value there e = by (slice_get first column) (ap (λ r. slice_get r column) (same there) ∙ e)
+  where
+    same : Some first ≡ Some row → first ≡ row
+    same h = cc
+
+    by : (o : Option Value) → o ≡ Some value → Among value (cons_option o (filter_map (λ r. slice_get r column) rows))
+    by None is = absurd (cc (is))
+    by (Some v) is = inl (let it : v ≡ value = cc in it)
+in_column column (first ∷ rows) (suc place) row value there e = by (slice_get first column) (in_column column rows place row value there e)
+  where
+    by : (o : Option Value) → Among value (filter_map (λ r. slice_get r column) rows) → Among value (cons_option o (filter_map (λ r. slice_get r column) rows))
+    by None a = a
+    by (Some v) a = inr a
+
 -- a cell of a hidden column spells a value of the column's kind
 record IsSpelled (cat : Catalog) (database : Database) (table column place : ℕ) (row : Row) : Type 0 where
   value : Value
@@ -339,23 +359,29 @@ module _ (cat : Catalog) (database : Database) (over : IsOver cat database) (cel
           by None are none = none_in second none entry
           by (Some pair) are is = in_by pair second are is
 
-      in_one : is_in_one first second entry ≡ lies_within bounds value
+      pub in_one : is_in_one first second entry ≡ lies_within bounds value
       in_one = ap₂ (λ a b. a || b) in_first in_second
 
   -- the value of an entry
-  record IsValued (values : List (List ℕ)) (entry : ℕ) : Type 0 where
-    value : Value
-    fits : is_of_kind kind value ≡ true
-    cell : get_or values entry [] ≡ encode_cell kind value
+  pub record IsValued (values : List (List ℕ)) (entry : ℕ) : Type 0 where
+    pub value : Value
+    pub fits : is_of_kind kind value ≡ true
+    pub cell : get_or values entry [] ≡ encode_cell kind value
+    pub among : Among value (values_of database (field table column))
 
-  its_value : (values : List (List ℕ)) → AreValues cells values → (entry : ℕ) → entry < length values → IsValued values entry
+  pub its_value : (values : List (List ℕ)) → AreValues cells values → (entry : ℕ) → entry < length values → IsValued values entry
   its_value values values_are entry low =
       let held = values_are.only (get_or values entry []) (Contains-get_or values entry [] low) in
       let near = held.1 in
       let size = as_many in
       let row = get_within (rows_of database table) held.0 (omega (arith, near, size)) in
       let is = spelled held.0 row.0 row.1 in
-      record { value = is.value; fits = is.kind; cell = sym (got cells held.0 [] (get_or values entry []) near ∙ held.2) ∙ is.cell }
+      record {
+        value = is.value;
+        fits = is.kind;
+        cell = sym (got cells held.0 [] (get_or values entry []) near ∙ held.2) ∙ is.cell;
+        among = in_column column (rows_of database table) held.0 row.0 is.value row.1 is.at;
+      }
 
   -- the row of the table to which a row of the top table leads
   record HasCell (top identifier : ℕ) : Type 0 where
@@ -393,14 +419,14 @@ module _ (cat : Catalog) (database : Database) (over : IsOver cat database) (cel
 
     -- the list of an entry
     module _ (values : List (List ℕ)) where
-      value_list_is : (entry : ℕ) → entry < length values
+      pub value_list_is : (entry : ℕ) → entry < length values
           → get_or (values_at cat (hidden_of cat.schema database) table column values level) entry []
           ≡ filter (λ identifier. bytes_eq (cell_led_to cat.schema (hidden_of cat.schema database) table column top identifier) (get_or values entry [])) (ids (count_of cat top))
       value_list_is entry low =
           ap (λ from. get_or (value_lists cat (hidden_of cat.schema database) table column values from) entry []) (indexed (levels_of cat.schema table) level top at.level_is)
           ∙ mapped_get (λ value. filter (λ identifier. bytes_eq (cell_led_to cat.schema (hidden_of cat.schema database) table column top identifier) value) (ids (count_of cat top))) values entry [] [] low
 
-      value_lists_many : length (values_at cat (hidden_of cat.schema database) table column values level) ≡ length values
+      pub value_lists_many : length (values_at cat (hidden_of cat.schema database) table column values level) ≡ length values
       value_lists_many = mapped_many _ values
 
       pub entries : BoundsAreOfValues → (given : List replies.Reply) (bounds : Bounds) → AreOfKind index.directory.kind bounds

@@ -29,7 +29,7 @@ use Rattle.condition_lists.specs.Terms.{AreRangesOf, AreEntriesOf, AreIdentifier
 use Rattle.condition_lists.specs.Laws.{IsOver}
 use Rattle.condition_lists.proofs.RowLemmas.{unseen, never_hidden, below_by, is_row, led}
 
-by_value : (operator : Operator) (literal : Value) (bounds : Bounds) → AreBoundsOf operator literal bounds → (o : Option Value)
+pub by_value : (operator : Operator) (literal : Value) (bounds : Bounds) → AreBoundsOf operator literal bounds → (o : Option Value)
     → option_map_or (lies_within bounds) o false ≡ compares operator o (Some literal)
 by_value operator literal bounds are None = refl
 by_value operator literal bounds are (Some value) = are.admits value

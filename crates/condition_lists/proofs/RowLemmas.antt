@@ -51,7 +51,7 @@ pub below_by : LevelsAreAncestors → (cat : Catalog) (database : Database) → 
 below_by levels cat database over top table level there e = (level, sym (levels cat.schema over.tree table level there) ∙ e)
 
 module _ (cat : Catalog) (database : Database) (over : IsOver cat database) where
-  rows_are : (table : ℕ) → count_of cat table ≡ length (rows_of database table)
+  pub rows_are : (table : ℕ) → count_of cat table ≡ length (rows_of database table)
   rows_are table = ap (λ (ns : List ℕ). slice_index ns table) (sym over.counts) ∙ count_there database table
 
   pub row_there : (table identifier : ℕ) → IsRowOf cat table identifier → (r : Row) × (row_of database table identifier ≡ Some r)

@@ -6,7 +6,9 @@
 #![tactic(auto)]
 
 pub mod bounds;
+pub mod costs;
 pub mod laws;
+pub mod query_work;
 pub mod term;
 pub mod terms;
 
