@@ -13,3 +13,5 @@ pub mod TakingBegins
 pub mod TakingPasses
 pub mod TakingSteps
 pub mod TakingSpared
+pub mod ReadsGiven
+pub mod TakingCosted

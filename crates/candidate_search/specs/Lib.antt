@@ -5,3 +5,5 @@ pub mod Laws
 pub mod Gathered
 pub mod Taking
 pub mod Taken
+pub mod Given
+pub mod Costs

@@ -1,6 +1,7 @@
 //! Laws of the lists of terms.
 
 ghost use Rattle.candidate_search.specs.Gathered.{CandidatesAreGathered};
+ghost use Rattle.candidate_search.specs.Given.{ListsBlame, SearchesBlame};
 ghost use Rattle.candidate_search.specs.Laws.{ListsHaveTheirRows, RepliesAreLists, DamageOfListsIsOfSlots};
 
 /// Over pages that have the indexes of a database but for slots that are out of range by themselves, and the rows of a reply, the
@@ -37,3 +38,13 @@ pub fn candidates_are_gathered()
 {
     condition_lists::laws::lists_are_of_terms();
 }
+
+/// What a search blames stood in a page of the index which a read gave.
+pub fn searches_blame()
+    ensures { SearchesBlame }
+{}
+
+/// What lists blame stood in a page which a read gave, outside of regions outside of which they lie.
+pub fn lists_blame()
+    ensures { ListsBlame }
+{}
