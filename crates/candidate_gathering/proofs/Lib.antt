@@ -1,5 +1,7 @@
 mod Scratches
 mod ReadPages
+mod ReadLists
+mod GivenOn
 mod Buffers
 mod TermKinds
 mod TermSources

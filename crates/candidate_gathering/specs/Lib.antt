@@ -1,5 +1,6 @@
 pub mod Terms
 pub mod Places
+pub mod Given
 pub mod Stages
 pub mod Contents
 pub mod Turns

@@ -4,6 +4,8 @@ pub mod NumberOrders
 pub mod DirectoryOrders
 pub mod NoDamage
 pub mod Staying
+pub mod BlamedFiles
 pub mod BadSlots
+pub mod ListPages
 pub mod Candidates
 pub mod Holding

@@ -5,6 +5,7 @@ use Rattle.std.proofs.lemmas.Bool.{and_parts, lt-ltb, ltb-true}
 use Rattle.ghost_model.specs.core.Schema.{is_empty}
 use Rattle.ghost_model.specs.core.Values.{Database}
 use Rattle.ghost_model.specs.core.Channel.{Catalog}
+use Rattle.ghost_model.specs.core.Query.{Query}
 use Rattle.ghost_model.specs.core.Split.{Hidden, hidden_of}
 use Rattle.ghost_model.specs.laws.SchemaTrees.{IsTree}
 use Rattle.ghost_model.specs.laws.LayoutLaws.{AreFew, LieAsSummed, LieInOrder, LevelsAreAncestors, FilesLieAsSummed, FilesLieInOrder, LayoutIsSmall, RecordsStandWithin}
@@ -13,7 +14,7 @@ use Rattle.ghost_model.specs.laws.FlashLaws.{HoldingsAreKept}
 use Rattle.ghost_model.specs.laws.RunLaws.{NumbersAreRead}
 use Rattle.ghost_model.specs.forms.Runs.{Run, number_in, record_at, found_in}
 use Rattle.ghost_model.specs.forms.Layout.{is_hidden, width_at, count_of, levels_of, above_of, descendants_of, files_end, static_end}
-use Rattle.ghost_model.specs.forms.Slots.{File, Cells, Subtrees, IndexHeader, IndexDirectory, IndexLevel, IdDirectory, IdLevel, AreInOneList, IsBound, IsDamagedSlot, before_slot, first_listed, has_file, in_slot, list_end, may_follow, may_stand, run_of_file, slots_in}
+use Rattle.ghost_model.specs.forms.Slots.{File, Cells, Subtrees, IndexHeader, IndexDirectory, IndexLevel, IdDirectory, IdLevel, AreInOneList, IsBound, IsDamagedIn, before_slot, first_listed, has_file, in_slot, list_end, may_follow, may_stand, run_of_file, slots_in}
 use Rattle.climbing_index.specs.declared.index.ClimbingIndex.{ClimbingIndex}
 use Rattle.climbing_index.specs.Indexes.{IsIndexOf}
 use Rattle.climbing_index.specs.Searches.{header_count}
@@ -22,7 +23,7 @@ use Rattle.climbing_index.specs.Laws.{IsOf}
 use Rattle.climbing_index.proofs.WholeIndexes.{value_rows, id_rows}
 use Rattle.subtree_keys.specs.Laws.{rows_spelled}
 use Rattle.candidate_lists.specs.Held.{over}
-use Rattle.candidate_knowledge.specs.Known.{KeepsStatic, KnowsIndexes, IsBadSlot}
+use Rattle.candidate_knowledge.specs.Known.{KeepsStatic, KnowsIndexes, IsBadSlotOf}
 use Rattle.candidate_knowledge.specs.Laws.{KnowledgeStays}
 use Rattle.candidate_knowledge.proofs.FilePages.{above_some, slot_kept, slots_room}
 
@@ -118,31 +119,24 @@ module _ (cat : Catalog) (page now : ℕ → List ℕ) (kept : AreKept page now 
   before_same file has zero low = refl
   before_same file has (suc place) low = ap Some (kept file has place (omega (arith, low)))
 
-  damage_kept : (number slot found : ℕ) → IsDamagedSlot cat page number slot found → IsDamagedSlot cat now number slot found
-  damage_kept number slot found bad =
-      let file = bad.file in
-      let place = bad.place in
-      let at = bad.at in
+  damage_kept : (file : File) (place number slot found : ℕ) → IsDamagedIn cat page file place number slot found → IsDamagedIn cat now file place number slot found
+  damage_kept file place number slot found at =
       let inside : place < (run_of_file cat file).count = omega (arith, at.within, room file at.has page) in
       let same = kept file at.has place inside in
       let size = slots_same file at.has in
       record {
-        file = file;
-        place = place;
-        at = record {
-          has = at.has;
-          within = omega (arith, at.within, size);
-          page_is = at.page_is;
-          slot_is = at.slot_is;
-          damaged = elim at.damaged [
-            | inl wrong ↦ inl (ap (may_stand cat file) same ∙ wrong)
-            | inr out ↦ inr (record {
-              bound = bound_kept file at.has place out.bound;
-              broken = ap₂ (may_follow cat file) (before_same file at.has place inside) same ∙ out.broken;
-            })
-          ];
-          found_is = at.found_is ∙ ap found_in (sym same);
-        };
+        has = at.has;
+        within = omega (arith, at.within, size);
+        page_is = at.page_is;
+        slot_is = at.slot_is;
+        damaged = elim at.damaged [
+          | inl wrong ↦ inl (ap (may_stand cat file) same ∙ wrong)
+          | inr out ↦ inr (record {
+            bound = bound_kept file at.has place out.bound;
+            broken = ap₂ (may_follow cat file) (before_same file at.has place inside) same ∙ out.broken;
+          })
+        ];
+        found_is = at.found_is ∙ ap found_in (sym same);
       }
 
 -- ---- the laws
@@ -221,12 +215,16 @@ module _ (summed : FilesLieAsSummed) (orders : FilesLieInOrder) (small : LayoutI
   over_keeps page right low cat high number static =
       ap (λ t. if t then right number else page number) (lt-ltb number low (omega (arith, static, high)))
 
-  bad_kept : (page now : ℕ → List ℕ) (cat : Catalog) (database : Database) → IsTree cat.schema → KeepsStatic cat page now
-      → (number slot found : ℕ) → IsBadSlot page cat database number slot found → IsBadSlot now cat database number slot found
-  bad_kept page now cat database tree keeps number slot found bad =
+  bad_kept : (page now : ℕ → List ℕ) (cat : Catalog) (asked : Query) (top : ℕ) (database : Database) → IsTree cat.schema → KeepsStatic cat page now
+      → (number slot found : ℕ) → IsBadSlotOf page cat asked top database number slot found → IsBadSlotOf now cat asked top database number slot found
+  bad_kept page now cat asked top database tree keeps number slot found bad =
       let rounded : files_end cat ≤ static_end cat = (orders cat).static in
       record {
-        damaged = damage_kept cat page now (are_kept cat tree page now keeps) (slots_room cat tree (small.narrow cat tree) (summed cat) (orders cat)) number slot found bad.damaged;
+        file = bad.file;
+        place = bad.place;
+        read_for = bad.read_for;
+        damaged =
+            damage_kept cat page now (are_kept cat tree page now keeps) (slots_room cat tree (small.narrow cat tree) (summed cat) (orders cat)) bad.file bad.place number slot found bad.damaged;
         never = λ holds. bad.never (holdings.files now page cat (hidden_of cat.schema database) tree (λ at low high. sym (keeps at (omega (arith, high, rounded)))) holds);
       }
 
@@ -238,5 +236,5 @@ module _ (summed : FilesLieAsSummed) (orders : FilesLieInOrder) (small : LayoutI
     right = right_pages;
     over_pages = λ page right low cat database high knows. right_pages page right (over right page low) cat database (over_keeps page right low cat high) knows;
     bad = bad_kept;
-    was_bad = λ page now cat database tree keeps. bad_kept now page cat database tree (λ number low. sym (keeps number low));
+    was_bad = λ page now cat asked top database tree keeps. bad_kept now page cat asked top database tree (λ number low. sym (keeps number low));
   }

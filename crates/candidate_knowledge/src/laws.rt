@@ -1,5 +1,6 @@
 //! Laws of what is known of the pages.
 
+ghost use Rattle.candidate_knowledge.specs.Found.{ListPagesAreRead};
 ghost use Rattle.candidate_knowledge.specs.Laws.{HeldFilesAreKnown, HeldFilesHaveNoDamage, KnowledgeStays, DamageIsBad, RepliesHaveNoDamage, RowsBetweenAreNoAnswers, CandidatesAreSifted};
 
 /// Pages that hold all files of a database are right pages, and known by themselves.
@@ -46,16 +47,21 @@ pub fn knowledge_stays()
     ghost_model::runs::numbers_are_read();
 }
 
-/// What searches, lists and reads of rows can blame is bad: pages that hold all files have no such slot.
+/// What searches, lists and reads of rows can blame is bad: a slot of a file that is read for the query, and pages that hold all files
+/// have no such slot.
 pub fn damage_is_bad()
     ensures { DamageIsBad }
 {
     held_files_have_no_damage();
-    climbing_index::laws::damage_is_of_slots();
-    candidate_search::laws::damage_of_lists_is_of_slots();
+    ghost_model::layout::files_lie_as_summed();
     hidden_columns::laws::files_are_of_columns();
     subtree_keys::laws::tables_are_of_slots();
 }
+
+/// Each page that lists in hand may have is read for the query.
+pub fn list_pages_are_read()
+    ensures read { ListPagesAreRead }
+{}
 
 /// Where the pages have the rows of a reply, none of its records is without an identifier of the table's rows.
 pub fn replies_have_no_damage()
