@@ -25,6 +25,7 @@ use Rattle.candidate_rows.specs.Working.{Need, NoNeed, OfSlot, OfRow, OfRecord}
 use Rattle.candidate_rows.specs.Steps.{BlamesNeeded, FailsNeeded}
 use Rattle.flash_pages.specs.Reads.{WasRead}
 use Rattle.key_exec.specs.declared.job.Went.{Went}
+use Rattle.leakless_plan.specs.declared.plan.Plan.TheVariants as plans
 use Rattle.key_exec.specs.Blaming.{Blames, BlamesRead}
 use Rattle.key_exec.proofs.ReadForLemmas.{IsReadSlot, IsReadNeed}
 
@@ -77,7 +78,7 @@ slot_blamed told since before now cat asked top side half slot (Damaged number p
     })
 
 slot_read : (told : Bool) (since : ℕ) (now : Device) (cat : Catalog) (asked : Query) (top side : ℕ) (half : Half) (slot : Slot) (fault : PageFault) → IsReadSlot cat asked top slot
-    → columns.Blames since now slot.file slot.identifier fault → BlamesRead told since now cat asked top side half fault
+    → columns.Blames since now slot.file slot.identifier fault → BlamesRead plans.Scan told since now cat asked top side half fault
 slot_read told since now cat asked top side half slot Flash is blames = tt
 slot_read told since now cat asked top side half slot (Damaged number place found) is blames =
     let file = slot.file in
@@ -143,7 +144,7 @@ row_blamed told since before now cat asked top side half look (Damaged number pl
 row_read :
     (told : Bool) (since : ℕ) (before now : Device) (cat : Catalog) (asked : Query) (top side : ℕ) (half : Half) (look : Look) (fault : PageFault)
     → IsReadNeed cat asked top (OfRow look) → side < 2
-    → IsHalf told cat side before half → spool.Blames since now (reply_of half look.table) fault → NotWhole told fault → BlamesRead told since now cat asked top side half fault
+    → IsHalf told cat side before half → spool.Blames since now (reply_of half look.table) fault → NotWhole told fault → BlamesRead plans.Scan told since now cat asked top side half fault
 row_read told since before now cat asked top side half look Flash wanted low is blames fails = tt
 row_read told since before now cat asked top side half look (Damaged number place found) wanted low is blames fails =
     inr (record {
@@ -181,7 +182,7 @@ blames_need told since before now cat asked top side half (OfRecord file identif
 pub blames_read :
     (told : Bool) (since : ℕ) (before now : Device) (cat : Catalog) (asked : Query) (top side : ℕ) (half : Half) (need : Need) (fault : PageFault) → side < 2
     → IsHalf told cat side before half → IsReadNeed cat asked top need → BlamesNeeded since now half need fault
-    → (told ≡ true → FailsNeeded before.page half need fault) → BlamesRead told since now cat asked top side half fault
+    → (told ≡ true → FailsNeeded before.page half need fault) → BlamesRead plans.Scan told since now cat asked top side half fault
 blames_read told since before now cat asked top side half NoNeed fault low is need blames fails = absurd blames
 blames_read told since before now cat asked top side half (OfSlot slot) fault low is need blames fails = slot_read told since now cat asked top side half slot fault need blames
 blames_read told since before now cat asked top side half (OfRow look) fault low is need blames fails =
@@ -200,7 +201,7 @@ needed_blames told since before now cat asked top side half need (Err fault) low
 pub needed_read :
     (told : Bool) (since : ℕ) (before now : Device) (cat : Catalog) (asked : Query) (top side : ℕ) (half : Half) (need : Need) (result : Result Went PageFault) → side < 2
     → IsHalf told cat side before half → IsReadNeed cat asked top need → IfErr result (BlamesNeeded since now half need)
-    → (told ≡ true → IfErr result (FailsNeeded before.page half need)) → IfErr result (BlamesRead told since now cat asked top side half)
+    → (told ≡ true → IfErr result (FailsNeeded before.page half need)) → IfErr result (BlamesRead plans.Scan told since now cat asked top side half)
 needed_read told since before now cat asked top side half need (Ok went) low is wanted blames fails = tt
 needed_read told since before now cat asked top side half need (Err fault) low is wanted blames fails =
     blames_read told since before now cat asked top side half need fault low is wanted blames fails

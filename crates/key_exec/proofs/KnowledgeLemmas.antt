@@ -267,7 +267,7 @@ pub damage_kept :
 damage_kept small order stand stays plans.Scan told page now cat asked top side half number slot found tree keeps is =
     scan_damage_kept small order stand told page now cat asked top side half number slot found tree keeps is
 damage_kept small order stand stays plans.Pre told page now cat asked top side half number slot found tree keeps is = λ database knows.
-    stays.bad page now cat database tree keeps number slot found
+    stays.bad page now cat asked top database tree keeps number slot found
     (is database (columns_kept_by small order stand stays plans.Pre told now page cat database tree (λ at low. sym (keeps at low)) knows))
 
 pub files_kept :

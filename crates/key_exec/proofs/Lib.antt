@@ -2,6 +2,7 @@ pub mod AskedLemmas
 pub mod KnowledgeLemmas
 pub mod RowLemmas
 pub mod ReadForLemmas
+pub mod ChosenLemmas
 pub mod BlameLemmas
 pub mod LeaseLemmas
 pub mod StepLemmas
@@ -22,4 +23,5 @@ pub mod WalkingLemmas
 pub mod WalkLaws
 pub mod BeginLemmas
 pub mod GatherLemmas
+pub mod ReadLemmas
 pub mod ByLemmas

@@ -48,7 +48,7 @@ both true true h = (refl, refl)
 both true false h = cc
 both false b h = cc
 
-clash : {b : Bool} → b ≡ true → b ≡ false → ⊥
+pub clash : {b : Bool} → b ≡ true → b ≡ false → ⊥
 clash t f = cc
 
 itself_equal : (n : ℕ) → nat_eq n n ≡ true
@@ -67,7 +67,7 @@ any_at p [] i x e h = absurd (cc (e))
 any_at p (y ∷ xs) zero x e h = let same : y ≡ x = cc in or_first (p y) (list_any p xs) (ap p same ∙ h)
 any_at p (y ∷ xs) (suc i) x e h = or_later (p y) (list_any p xs) (any_at p xs i x e h)
 
-unmet : {X : Type 0} (p : X → Bool) (xs : List X) (i : ℕ) (x : X) → slice_get xs i ≡ Some x → p x ≡ false → list_all p xs ≡ false
+pub unmet : {X : Type 0} (p : X → Bool) (xs : List X) (i : ℕ) (x : X) → slice_get xs i ≡ Some x → p x ≡ false → list_all p xs ≡ false
 unmet p [] i x e h = absurd (cc (e))
 unmet p (y ∷ xs) zero x e h = let same : y ≡ x = cc in ap (λ b. b && list_all p xs) (ap p same ∙ h)
 unmet p (y ∷ xs) (suc i) x e h = ap (λ b. p y && b) (unmet p xs i x e h) ∙ none (p y)
@@ -76,7 +76,7 @@ unmet p (y ∷ xs) (suc i) x e h = ap (λ b. p y && b) (unmet p xs i x e h) ∙ 
     none true = refl
     none false = refl
 
-all_true : {X : Type 0} (xs : List X) → list_all (λ _. true) xs ≡ true
+pub all_true : {X : Type 0} (xs : List X) → list_all (λ _. true) xs ≡ true
 all_true [] = refl
 all_true (x ∷ xs) = all_true xs
 
@@ -151,7 +151,7 @@ right_false : (a b : Bool) → (a && b) ≡ false → a ≡ true → b ≡ false
 right_false true b h t = h
 right_false false b h t = cc
 
-known_at : (cat : Catalog) (fields : List Field) (knowns : List Known) (i : ℕ) (known : Known) → AreKnowns cat fields knowns → slice_get knowns i ≡ Some known
+pub known_at : (cat : Catalog) (fields : List Field) (knowns : List Known) (i : ℕ) (known : Known) → AreKnowns cat fields knowns → slice_get knowns i ≡ Some known
     → IsSource cat known.field.table known.field.column known.source × (list_any (is_at known.field.table known.field.column) fields ≡ true)
 known_at cat [] [] i known are e = absurd (cc (e))
 known_at cat [] (_ ∷ _) i known are e = absurd are

@@ -16,7 +16,7 @@ use Rattle.page_pool.proofs.Leases.{outs_kept}
 use Rattle.visible_spool.specs.declared.half.Half.{Half}
 use Rattle.visible_spool.specs.Halves.{reply_of}
 use Rattle.visible_spool.specs.Sparing as sparing
-use Rattle.visible_spool.specs.Sparing.{AreInHalf, SparesHalf, IsHalf, Uses, SparedRepliesStay, SparedRowsStay, SparedHalvesStay, BuffersStayFilled}
+use Rattle.visible_spool.specs.Sparing.{AreInHalf, SparesHalf, Uses, SparedRepliesStay, SparedRowsStay, SparedHalvesStay, BuffersStayFilled}
 use Rattle.candidate_rows.specs.declared.plan.RowPlan.{RowPlan}
 use Rattle.candidate_rows.specs.declared.work.RowWork.{RowWork}
 use Rattle.candidate_rows.specs.Plans.{Suffices}
@@ -27,7 +27,7 @@ use Rattle.leakless_plan.specs.declared.plan.Plan.{Plan}
 use Rattle.id_merge.specs.declared.merge.Merge.{Merge}
 use Rattle.id_merge.specs.Cursors.{AllReady, leases_of, unread_in}
 use Rattle.id_merge.specs.Spared as merged
-use Rattle.id_merge.specs.Spared.{AllOutside, MergeStaysReady, CursorsStayRight, UnreadStays}
+use Rattle.id_merge.specs.Spared.{AllOutside, MergeStaysReady, CursorsStayGiven, CursorsStayRight, UnreadStays}
 use Rattle.candidate_lists.specs.Staying.{DamageStays}
 use Rattle.candidate_knowledge.specs.Known.{KeepsStatic}
 use Rattle.candidate_knowledge.specs.Laws.{KnowledgeStays}
@@ -35,6 +35,7 @@ use Rattle.candidate_gathering.specs.declared.gathering.Gathering.{Gathering as 
 use Rattle.candidate_gathering.specs.Stages as gathered
 use Rattle.candidate_gathering.specs.Stages.{IsGathering, gathering_left}
 use Rattle.candidate_gathering.specs.Contents.{GatheringHas, Walks}
+use Rattle.candidate_gathering.specs.Given.{GatheringGiven}
 use Rattle.candidate_gathering.specs.Laws.{SparesGathering}
 use Rattle.key_exec.proofs.HalfLemmas.{others_spare}
 use Rattle.key_exec.specs.declared.job.Scan.{Scan}
@@ -44,7 +45,7 @@ use Rattle.key_exec.specs.Reading.{KnowsAll}
 use Rattle.key_exec.specs.Jobs.{work_in, leases_in}
 use Rattle.key_exec.specs.Laws.{PagesStayKnownBut}
 use Rattle.key_exec.proofs.AskedLemmas.{asked_low}
-use Rattle.key_exec.specs.Ready.{IsGatheringFor, IsWalking, IsFor, IsWorkAt, IsScanning, IsAtPhase, AreHeld, AreLent, WorkStands, PhaseStands, Spares}
+use Rattle.key_exec.specs.Ready.{IsGatheringFor, IsWalking, IsFor, IsWorkAt, IsScanning, IsAtPhase, AreHeld, AreLent, WorkStands, PhaseGiven, PhaseStands, Spares}
 
 suffices_still : {cat : Catalog} {side : ℕ} {before now : Device} → SparesHalf cat side before now → Suffices cat before → Suffices cat now
 suffices_still spares is = record { pages = omega (arith, is.pages, spares.page_count); small = omega (arith, is.small, spares.page_count) }
@@ -187,6 +188,7 @@ walking_still stay fill give merges cat asked side told before now pool later ha
   work_is = work_at_still stay cat asked side before now half plan rows scan.next (work_in scan work) (half_spared spares) is.work_is;
   merge_is = merges _ _ told before now pool later merge (spares_second leases (leases_of merge.cursors.items) spares) is.outside is.merge_is;
   outside = is.outside;
+  pages = is.pages;
   at_most = is.at_most;
   lent = lent_still fill give told cat side before now half pool later leases lies (spares_first leases (leases_of merge.cursors.items) spares) is.lent;
   out = outs_kept (leases ++ leases_of merge.cursors.items) spares.out is.out;
@@ -204,6 +206,8 @@ pub record GatheringIsSpared (gathering : GatheringModel) : Type 0 where
       → GatheringHas told now.page later cat asked database given top half gathering
   pub left : (before now : Device) (pool later : Pool) (cat : Catalog) (side : ℕ) → SparesGathering cat side before now pool later gathering
       → gathering_left later gathering ≡ gathering_left pool gathering
+  pub given : (before now : Device) (pool later : Pool) (cat : Catalog) (side since : ℕ) → SparesGathering cat side before now pool later gathering
+      → GatheringGiven since before pool gathering → GatheringGiven since now later gathering
 
 abbrev pub SparedIn : Phase → Type 0
 SparedIn Begun = ⊤
@@ -252,6 +256,21 @@ phase_still stay fill give merges unread by cat asked side told before now pool 
     )
 phase_still stay fill give merges unread by cat asked side told before now pool later half plan rows left given spent work Over law lies spares at = at
 
+-- what its buffers hold was read since
+pub phase_given_still :
+    sparing.BuffersStayGiven → CursorsStayGiven → (cat : Catalog) (side : ℕ) (before now : Device) (pool later : Pool) (since : ℕ) (phase : Phase) → SparedIn phase
+    → Spares cat side before now pool later (leases_in phase) → PhaseGiven since before pool phase → PhaseGiven since now later phase
+phase_given_still give cursors cat side before now pool later since Begun law spares given = tt
+phase_given_still give cursors cat side before now pool later since (Scanning leases scan) law spares given =
+    given_still give cat side before now pool later leases.items since spares given
+phase_given_still give cursors cat side before now pool later since (Gathering gathering) law spares given =
+    law.given before now pool later cat side since (spares_all spares) given
+phase_given_still give cursors cat side before now pool later since (Walking leases merge scan) law spares given = (
+  given_still give cat side before now pool later leases.items since (spares_first leases.items (leases_of merge.cursors.items) spares) given.0,
+  cursors _ _ since before now pool later merge.cursors.items (spares_second leases.items (leases_of merge.cursors.items) spares) given.1,
+)
+phase_given_still give cursors cat side before now pool later since Over law spares given = tt
+
 -- ---- what a job stands for
 
 work_stands_still :
@@ -280,7 +299,7 @@ walks_still right damage bad cat asked side told before now pool database given 
   terms_are = walks.terms_are;
   rows = walks.rows;
   bad = λ number slot found damaged.
-      bad.bad before.page now.page cat database tree keeps number slot found
+      bad.bad before.page now.page cat asked top database tree keeps number slot found
       (walks.bad number slot found (damage _ _ before now merge.cursors.items changes outside number slot found damaged));
 }
 

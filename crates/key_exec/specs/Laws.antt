@@ -23,7 +23,7 @@ use Rattle.leakless_plan.specs.declared.plan.Plan.{Plan}
 pub use Rattle.candidate_knowledge.specs.Known.{KeepsStatic}
 use Rattle.key_exec.specs.Reading.{KnowsBy, KnowsButBy, KnowsAll, KeepsBy, AreOfAsked, AreAllAsked}
 use Rattle.key_exec.specs.Blaming.{IsDamaged}
-use Rattle.key_exec.specs.Ready.{IsReady, Stands, Spares}
+use Rattle.key_exec.specs.Ready.{IsReady, JobGiven, Stands, Spares}
 use Rattle.key_lines.specs.Handing.{Handed}
 use Rattle.channel_pump.specs.declared.state.ReplyState.{ReplyState}
 use Rattle.key_exec.specs.Telling.{CanTell, IsUnderWay}
@@ -89,6 +89,12 @@ JobStillStands job =
     (cat : Catalog) (asked : Query) (side : ℕ) (told : Bool) (before now : Device) (pool later : Pool) (database : Database) (given : List Reply)
     → Spares cat side before now pool later (leases_of job) → IsReady cat asked side told before pool job
     → Stands cat asked database given told before.page pool job → Stands cat asked database given told now.page later job
+
+-- and what its buffers hold was read since the same count of calls
+abbrev pub JobStaysGiven : Job → Type 0
+JobStaysGiven job =
+    (cat : Catalog) (side : ℕ) (before now : Device) (pool later : Pool) (since : ℕ)
+    → Spares cat side before now pool later (leases_of job) → JobGiven since before pool job → JobGiven since now later job
 
 abbrev pub BuffersStayGiven : Type 0
 BuffersStayGiven =

@@ -26,8 +26,8 @@ use Rattle.key_exec.specs.Jobs.{ForScan, is_over, rows_left}
 use Rattle.leakless_plan.specs.declared.plan.Plan.{Plan}
 use Rattle.leakless_plan.specs.declared.plan.Plan.TheVariants as plan
 use Rattle.key_exec.specs.Reading.{KnowsButBy, AreOfAsked, AreAllAsked, AreOfRows}
-use Rattle.candidate_rows.specs.Steps.{AreBlankOrRead, WereGiven}
-use Rattle.key_exec.specs.Ready.{IsReady, Stands}
+use Rattle.candidate_rows.specs.Steps.{AreBlankOrRead}
+use Rattle.key_exec.specs.Ready.{IsReady, JobGiven, Stands}
 use Rattle.channel_pump.specs.declared.state.ReplyState.{ReplyState}
 use Rattle.channel_pump.specs.declared.state.ReplyState.TheVariants as state_is
 use Rattle.key_exec.specs.Texts.{IsAccepted, IsDone, IsToldBy, ToldCalls, ToldBlames, ToldReads, Why, broken_line}
@@ -146,9 +146,9 @@ pub record HasGiven (by : Plan) (pages_told : Bool) (cat : Catalog) (side : ℕ)
   pub by_is : job.by ≡ by
   pub half_is : job.half ≡ half
   pub ready : IsReady cat asked side pages_told device pool job
-  -- where all rows are looked at, what its buffers hold was read since
+  -- what its buffers hold was read since; where all rows are looked at, they hold nothing or the flash was called
   pub blank : by ≡ plan.Scan → AreBlankOrRead start.calls device.calls pool (jobs.leases_of job)
-  pub reads : by ≡ plan.Scan → WereGiven start.calls device pool (jobs.leases_of job)
+  pub reads : JobGiven start.calls device pool job
   pub given : List Row
   pub handed_on : Hands (concat (map row_line given)) before now
   pub counted : job.given ≡ length given

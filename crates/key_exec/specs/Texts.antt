@@ -98,7 +98,7 @@ abbrev pub StepTells : (before now : ℕ) → Option Told → Type 0
 StepTells before now None = now ≡ before
 StepTells before now (Some result) = ToldTells before now result
 
--- a flash that failed a step, or whose slot is blamed, was called, where all rows are looked at
+-- a flash that failed a step was called, and one whose slot is blamed, where all rows are looked at
 abbrev pub ToldCalls : Plan → (before now : ℕ) → Told → Type 0
 ToldCalls by before now told.Refused = ⊤
 ToldCalls by before now told.Answered = ⊤
@@ -106,7 +106,7 @@ ToldCalls by before now told.Host = ⊤
 ToldCalls by before now told.Link = ⊤
 ToldCalls by before now told.Protocol = ⊤
 ToldCalls by before now told.Marked = ⊤
-ToldCalls by before now told.Flash = ForScan by (Rose before now)
+ToldCalls by before now told.Flash = Rose before now
 ToldCalls by before now (told.Damaged damage) = ForScan by (Rose before now)
 
 -- why a text is told so, whatever the pages of the flash hold: its reading, and the state of its replies
