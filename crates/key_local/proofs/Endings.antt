@@ -81,7 +81,7 @@ lines_since catalog texts journal failed before middle after sink written lines 
 
 -- the session ran over what was made for it
 pub ran_of : (told : Bool) (schema : Schema) (database : Database) (texts : List (List ℕ)) (words : Local) (end : LocalEnd) (catalog : Catalog) (before middle after : LocalSide)
-    → catalog ≡ catalog_for schema database → RanOver words.plan told catalog database texts words.journal end middle after
+    → catalog ≡ catalog_for schema database → RanOver words.plan words.pace told catalog database texts words.journal end middle after
     → middle.device.faults ≡ before.device.faults → middle.append_faults ≡ before.append_faults → middle.sink_faults ≡ before.sink_faults → middle.written ≡ before.written
     → HasLines middle.files words.journal []
     → middle.device.name ≡ Some words.flash → Counts (load_calls catalog (hidden_of schema database)) before.device.calls middle.device.calls
@@ -90,11 +90,12 @@ pub ran_of : (told : Bool) (schema : Schema) (database : Database) (texts : List
     → HoldingsAreKept → IsTree catalog.schema → LieInOrder catalog
     → Ran told (subject schema database texts words) end before after
 ran_of told schema database texts words end catalog before middle after same ran faults appends sink written empty named counts there pages kept laws tree order =
-    let mine : RanOver words.plan told (catalog_for schema database) database texts words.journal end middle after = subst (λ (c : Catalog). RanOver words.plan told c database texts words.journal end middle after) same ran in
+    let mine : RanOver words.plan words.pace told (catalog_for schema database) database texts words.journal end middle after = subst (λ (c : Catalog). RanOver words.plan words.pace told c database texts words.journal end middle after) same ran in
     record {
       journal = mine.journal;
       is_local = mine.is_local;
       finished = mine.finished;
+      paced = (session_side_in false middle, mine.paced);
       kept = λ calm. lines_there words.journal mine.journal middle.files after.files mine.finished empty
           (mine.kept (λ rose. calm (subst (λ (count : ℕ). Rose count after.append_faults) appends rose)));
       all_kept = λ fine. lines_there words.journal mine.journal middle.files after.files mine.finished empty (mine.all_kept fine);
@@ -102,9 +103,9 @@ ran_of told schema database texts words end catalog before middle after same ran
       gives = λ t. gives_since schema database texts (is_sink end) before middle after faults sink written (mine.gives t);
       printed_all = λ t whole. mine.printed_all t whole ∙ ap (λ (held : Option (List ℕ)). grown held (printed schema texts database)) written;
       cut = λ t is. mine.cut t is;
-      more_calls = for_scan words.plan (λ goes is.
+      more_calls = λ is.
           let built = subst (λ (c : Catalog). Counts (load_calls c (hidden_of schema database)) before.device.calls middle.device.calls) same counts in
-          rose_after before.device.calls (load_calls (catalog_for schema database) (hidden_of schema database)) middle.device.calls after.device.calls built (goes is)) mine.called;
+          rose_after before.device.calls (load_calls (catalog_for schema database) (hidden_of schema database)) middle.device.calls after.device.calls built (mine.called is);
       damage_called = for_scan words.plan (λ goes is.
           let built = subst (λ (c : Catalog). Counts (load_calls c (hidden_of schema database)) before.device.calls middle.device.calls) same counts in
           rose_after before.device.calls (load_calls (catalog_for schema database) (hidden_of schema database)) middle.device.calls after.device.calls built (goes is)) mine.damage_called;

@@ -14,6 +14,7 @@ use Rattle.edge_traits.specs.Devices.{Device, ChangesOnly}
 use Rattle.edge_traits.specs.Files.{Files}
 use Rattle.edge_traits.specs.Written.{grown}
 use Rattle.session_laws.specs.Local.{IsLocal, IsUnbroken, LocalSessionsAreServed}
+use Rattle.key_session.specs.Pacing.{KeepsPace}
 use Rattle.key_session.specs.Refusing.{first_code}
 use Rattle.key_session.specs.Running.{blames_flash, is_sink as wrote_none, is_damaged as is_damage}
 use Rattle.key_session.specs.Damages.{IsSlot}
@@ -84,19 +85,20 @@ slot_stays stays by told page now catalog texts damage tree same slot =
     )
 
 -- a session was held to its end
-pub ran_over : (by : Plan) (told : Bool) (catalog : Catalog) (database : Database) (texts : List (List ℕ)) (name : Option (List ℕ)) (end : LocalEnd) (tally : Tally) (before after : LocalSide) (journal : Journal)
+pub ran_over : (by : Plan) (pace : List ℕ) (told : Bool) (catalog : Catalog) (database : Database) (texts : List (List ℕ)) (name : Option (List ℕ)) (end : LocalEnd) (tally : Tally) (before after : LocalSide) (journal : Journal)
     → LocalSessionsAreServed → ToldTextsAreGiven → DamageStays → IsTree catalog.schema
     → IsLocal catalog database [] texts journal → IsFinished journal
+    → KeepsPace by told catalog texts journal pace (session_side_in false before) (session_side_in (wrote_none tally.status) after)
     → ((Rose before.append_faults after.append_faults → ⊥) → KeepsLines before.files after.files name journal)
     → (end ≡ ends.Ok → KeepsLines before.files after.files name journal)
     → (told ≡ true → AreAnswered by told before.device.page catalog database texts journal (wrote_none tally.status) (standing_after catalog (asked_of catalog.schema texts) journal) tally (session_side_in false before) (session_side_in (wrote_none tally.status) after))
     → GivesLines catalog texts journal (handed false before.sink_faults before.written) (handed (wrote_none tally.status) after.sink_faults after.written)
     → ((damage : Damage) → tally.status ≡ status.Damaged damage → IsSlot by told before.device.page catalog texts damage) → ChangesOnly (static_end catalog) (need catalog) before.device after.device
     → is_sink end ≡ wrote_none tally.status → (end ≡ ends.Ok → tally.status ≡ status.Ok) → (end ≡ ends.Flash → blames_flash tally.status ≡ true)
-    → ForScan by (blames_flash tally.status ≡ true → Rose before.device.calls after.device.calls) → ForScan by (is_damage tally.status ≡ true → Rose before.device.calls after.device.calls)
+    → (blames_flash tally.status ≡ true → Rose before.device.calls after.device.calls) → ForScan by (is_damage tally.status ≡ true → Rose before.device.calls after.device.calls)
     → ((damage : Damage) → end ≡ ends.Damaged damage → tally.status ≡ status.Damaged damage)
-    → RanOver by told catalog database texts name end before after
-ran_over by told catalog database texts name end tally before after journal served given stays_damaged tree is_local finished kept all_kept are_told lines blamed pages sink whole flash called read damaged =
+    → RanOver by pace told catalog database texts name end before after
+ran_over by pace told catalog database texts name end tally before after journal served given stays_damaged tree is_local finished paced kept all_kept are_told lines blamed pages sink whole flash called read damaged =
     let unbroken = served catalog database [] texts journal is_local in
     let stays = going catalog database texts journal unbroken in
     let right = valid catalog database texts journal unbroken in
@@ -107,6 +109,7 @@ ran_over by told catalog database texts name end tally before after journal serv
       journal = journal;
       is_local = is_local;
       finished = finished;
+      paced = subst (λ (failed : Bool). KeepsPace by told catalog texts journal pace (session_side_in false before) (session_side_in failed after)) (sym sink) paced;
       kept = kept;
       all_kept = all_kept;
       lines = subst (λ (failed : Bool). GivesLines catalog texts journal (handed false before.sink_faults before.written) (handed failed after.sink_faults after.written)) (sym sink) lines;
@@ -121,7 +124,7 @@ ran_over by told catalog database texts name end tally before after journal serv
           let all = by_tally t in
           flash_status (wrote_none tally.status) (standing_after catalog (asked_of catalog.schema texts) journal) (list_any is_cut all.gives.given) stays right none
           (sym (ap blames_flash all.status_is) ∙ flash is);
-      called = for_scan by (λ goes is. goes (flash is)) called;
+      called = λ is. called (flash is);
       damage_called = for_scan by (λ goes is. goes (damage_found end tally.status damaged is)) read;
       undamaged = λ t. not_so (is_damaged end) (λ found.
           let all = by_tally t in
@@ -133,12 +136,12 @@ ran_over by told catalog database texts name end tally before after journal serv
     }
 
 -- and so over what the files and their counts are known to be
-pub ran_as : {D : Type 0} (contents : D → Option Files) (appends : D → ℕ) (by : Plan) (told : Bool) (catalog : Catalog) (database : Database) (texts : List (List ℕ)) (name called : Option (List ℕ)) (end : LocalEnd)
+pub ran_as : {D : Type 0} (contents : D → Option Files) (appends : D → ℕ) (by : Plan) (pace : List ℕ) (told : Bool) (catalog : Catalog) (database : Database) (texts : List (List ℕ)) (name called : Option (List ℕ)) (end : LocalEnd)
     (device device_now : Device) (before earlier after later : D) (faults faults_now : ℕ) (written written_now : Option (List ℕ))
     → name ≡ called → before ≡ earlier → after ≡ later
-    → RanOver by told catalog database texts name end (local_side device (contents before) (appends before) faults written) (local_side device_now (contents after) (appends after) faults_now written_now)
-    → RanOver by told catalog database texts called end (local_side device (contents earlier) (appends earlier) faults written) (local_side device_now (contents later) (appends later) faults_now written_now)
-ran_as {D} contents appends by told catalog database texts name called end device device_now before earlier after later faults faults_now written written_now names starts comes ran =
-    subst (λ (one : Option (List ℕ)). RanOver by told catalog database texts one end (local_side device (contents earlier) (appends earlier) faults written) (local_side device_now (contents later) (appends later) faults_now written_now)) names
-    (subst (λ (d : D). RanOver by told catalog database texts name end (local_side device (contents d) (appends d) faults written) (local_side device_now (contents later) (appends later) faults_now written_now)) starts
-    (subst (λ (d : D). RanOver by told catalog database texts name end (local_side device (contents before) (appends before) faults written) (local_side device_now (contents d) (appends d) faults_now written_now)) comes ran))
+    → RanOver by pace told catalog database texts name end (local_side device (contents before) (appends before) faults written) (local_side device_now (contents after) (appends after) faults_now written_now)
+    → RanOver by pace told catalog database texts called end (local_side device (contents earlier) (appends earlier) faults written) (local_side device_now (contents later) (appends later) faults_now written_now)
+ran_as {D} contents appends by pace told catalog database texts name called end device device_now before earlier after later faults faults_now written written_now names starts comes ran =
+    subst (λ (one : Option (List ℕ)). RanOver by pace told catalog database texts one end (local_side device (contents earlier) (appends earlier) faults written) (local_side device_now (contents later) (appends later) faults_now written_now)) names
+    (subst (λ (d : D). RanOver by pace told catalog database texts name end (local_side device (contents d) (appends d) faults written) (local_side device_now (contents later) (appends later) faults_now written_now)) starts
+    (subst (λ (d : D). RanOver by pace told catalog database texts name end (local_side device (contents before) (appends before) faults written) (local_side device_now (contents d) (appends d) faults_now written_now)) comes ran))

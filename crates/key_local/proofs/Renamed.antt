@@ -1,5 +1,6 @@
 -- How a call ended whose inputs were not read.
-use Rattle.std.proofs.Common.{inl, Bool, Err}
+use Rattle.std.proofs.Common.{inl, inr, Bool, Ok, Err}
+use Rattle.std.specs.Prelude.{Result}
 use Rattle.key_inputs.specs.Openings.{Opening}
 use Rattle.key_inputs.specs.Views.{Tells}
 use Rattle.key_inputs.specs.declared.faults.OpenFault.{OpenFault}
@@ -7,8 +8,11 @@ use Rattle.key_inputs.specs.declared.faults.OpenFault.TheVariants as open_fault
 use Rattle.key_plain.specs.Openings.{PlainInput}
 use Rattle.key_words.specs.Words.{Local}
 use Rattle.key_local.specs.Renaming.{as_failure}
-use Rattle.key_local.specs.Results.{LeavesBoth, EndsLocalCall, EndsSomeLocal}
+use Rattle.key_local.specs.Results.{LeavesBoth, EndsLocalCall, EndsReadLocal, EndsSomeLocal}
 use Rattle.key_local.specs.Sessions.{LocalSide}
+use Rattle.key_local.specs.declared.ends.LocalEnd.{LocalEnd}
+use Rattle.key_local.specs.declared.ends.LocalFailure.{LocalFailure}
+use Rattle.key_local.specs.declared.ends.LocalFailure.TheVariants as failure
 
 pub unread : (told : Bool) (opening : Opening PlainInput) (words : Local) (before after : LocalSide) (fault : OpenFault) → LeavesBoth before after
     → Tells opening fault
@@ -22,3 +26,12 @@ pub unread_some : (told : Bool) (words : Local) (before after : LocalSide) (faul
 unread_some told words before after open_fault.NoMemory leaves = inl leaves
 unread_some told words before after open_fault.Depot leaves = inl leaves
 unread_some told words before after (open_fault.Input broken) leaves = tt
+
+-- and whose inputs were read
+pub read_some : (told : Bool) (words : Local) (result : Result LocalEnd LocalFailure) (before after : LocalSide) → EndsReadLocal told words result before after
+    → EndsSomeLocal told words result before after
+read_some told words (Ok end) before after ends = ends
+read_some told words (Err failure.NoMemory) before after ends = inr ends
+read_some told words (Err failure.Depot) before after ends = inr ends
+read_some told words (Err (failure.Input broken)) before after ends = tt
+read_some told words (Err failure.Flash) before after ends = ends

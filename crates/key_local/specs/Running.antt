@@ -15,6 +15,7 @@ use Rattle.edge_traits.specs.Written.{grown}
 use Rattle.local_links.specs.Journaling.{told_file}
 use Rattle.local_links.specs.declared.host_link.HostLink.{HostLink}
 use Rattle.key_session.specs.Damages.{IsSlot}
+use Rattle.key_session.specs.Pacing.{KeepsPace}
 use Rattle.key_exec.specs.Jobs.{ForScan}
 use Rattle.key_exec.specs.declared.damage.Damage.{Damage}
 use Rattle.key_session.specs.declared.tally.SessionStatus.{SessionStatus}
@@ -56,19 +57,20 @@ abbrev pub KeepsLines : (before after : Option Files) → (name : Option (List �
 KeepsLines before after None journal = ⊤
 KeepsLines before after (Some name) journal = told_file after name ≡ grown (told_file before name) (lines journal)
 
--- a session by a plan with a host that holds the public part of a database was held to its end
-pub record RanOver (by : Plan) (told : Bool) (catalog : Catalog) (database : Database) (texts : List (List ℕ)) (name : Option (List ℕ)) (end : LocalEnd) (before after : LocalSide) : Type 0 where
+-- a session by a plan and at a pace with a host that holds the public part of a database was held to its end
+pub record RanOver (by : Plan) (pace : List ℕ) (told : Bool) (catalog : Catalog) (database : Database) (texts : List (List ℕ)) (name : Option (List ℕ)) (end : LocalEnd) (before after : LocalSide) : Type 0 where
   pub journal : Journal
   pub is_local : IsLocal catalog database [] texts journal
   pub finished : IsFinished journal
+  pub paced : KeepsPace by told catalog texts journal pace (session_side_in false before) (session_side_in (is_sink end) after)
   pub kept : (Rose before.append_faults after.append_faults → ⊥) → KeepsLines before.files after.files name journal
   pub all_kept : end ≡ ends.Ok → KeepsLines before.files after.files name journal
   pub lines : GivesLines catalog texts journal (handed false before.sink_faults before.written) (handed (is_sink end) after.sink_faults after.written)
   pub gives : told ≡ true → Gives catalog.schema database texts (session_side_in false before) (session_side_in (is_sink end) after)
   pub printed_all : told ≡ true → end ≡ ends.Ok → after.written ≡ grown before.written (printed catalog.schema texts database)
   pub cut : (t : told ≡ true) → end ≡ ends.Flash → list_any is_cut (gives t).given ≡ true
+  pub called : end ≡ ends.Flash → Rose before.device.calls after.device.calls
   -- where all rows are looked at
-  pub called : ForScan by (end ≡ ends.Flash → Rose before.device.calls after.device.calls)
   pub damage_called : ForScan by (is_damaged end ≡ true → Rose before.device.calls after.device.calls)
   pub undamaged : told ≡ true → is_damaged end ≡ false
   pub damaged : (damage : Damage) → end ≡ ends.Damaged damage → IsSlot by told after.device.page catalog texts damage

@@ -18,6 +18,7 @@ use Rattle.session_laws.specs.Local.{IsLocal}
 use Rattle.edge_traits.specs.Devices.{Device}
 use Rattle.edge_traits.specs.Files.{Files, HasFile, SameBut}
 use Rattle.edge_traits.specs.Written.{grown}
+use Rattle.key_session.specs.Pacing.{KeepsPace}
 use Rattle.key_session.specs.Damages.{IsSlot}
 use Rattle.key_exec.specs.Jobs.{ForScan}
 use Rattle.key_exec.specs.declared.damage.Damage.{Damage}
@@ -99,6 +100,8 @@ pub record Ran (told : Bool) (one : Subject) (end : LocalEnd) (before after : Lo
   pub journal : Journal
   pub is_local : IsLocal (catalog_in one) one.database [] one.texts journal
   pub finished : IsFinished journal
+  -- step by step, at the pace that the words say
+  pub paced : (since : SessionSide) × KeepsPace one.words.plan told (catalog_in one) one.texts journal one.words.pace since (session_side_in (is_sink end) after)
   -- where no append failed, the journal is kept
   pub kept : (Rose before.append_faults after.append_faults → ⊥) → HasLines after.files one.words.journal journal
   -- and so it is where all went well
@@ -109,16 +112,15 @@ pub record Ran (told : Bool) (one : Subject) (end : LocalEnd) (before after : Lo
   pub printed_all : told ≡ true → end ≡ ends.Ok → after.written ≡ grown before.written (printed one.schema one.texts one.database)
   -- the flash is blamed only where it failed a text
   pub cut : (t : told ≡ true) → end ≡ ends.Flash → list_any is_cut (gives t).given ≡ true
-  -- and, where all rows are looked at, by a call of the session, after those of the making
-  pub more_calls : ForScan one.words.plan
-      (end ≡ ends.Flash → Rose (before.device.calls + load_calls (catalog_in one) (hidden_of one.schema one.database)) after.device.calls)
-  -- and so is a slot
+  -- and by a call of the session, after those of the making
+  pub more_calls : end ≡ ends.Flash → Rose (before.device.calls + load_calls (catalog_in one) (hidden_of one.schema one.database)) after.device.calls
+  -- and so, where all rows are looked at, is a slot
   pub damage_called : ForScan one.words.plan
       (is_damaged end ≡ true → Rose (before.device.calls + load_calls (catalog_in one) (hidden_of one.schema one.database)) after.device.calls)
   -- where the pages are told none is
   pub undamaged : told ≡ true → is_damaged end ≡ false
   -- where all rows are looked at it is one of a hidden column and has no value of it; by the indexes, where what the pages are of is
-  -- known, it is a damaged one of some file
+  -- known, it is a damaged one of a file that is read for the text
   pub damaged : (damage : Damage) → end ≡ ends.Damaged damage → IsSlot one.words.plan told after.device.page (catalog_in one) one.texts damage
   -- and the flash has been made for it, under the name that the words say
   pub name : after.device.name ≡ Some one.words.flash

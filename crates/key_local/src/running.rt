@@ -86,7 +86,7 @@ fn hold<D: Depot, F: Flash, O: Sink>(
     ensures ran { (database : Database) → IsCatalogOf cat.now database
         → IsHosted ⟦<MemDepot as Depot>⟧.contents ⟦<MemDepot as Depot>⟧.sure (holding_of cat.now database) link.old.link.now
         → (F.told ≡ true → KnowsBy words.now.plan F.told (F.state flash.old).page cat.now database)
-        → RanOver words.now.plan F.told cat.now database (texts_of script.now) (named link.old) result
+        → RanOver words.now.plan words.now.pace.items F.told cat.now database (texts_of script.now) (named link.old) result
         (local_side (F.state flash.old) (D.contents link.old.depot.now) (D.append_faults link.old.depot.now) (O.faults out.old) (O.written out.old))
         (local_side (F.state flash.new) (D.contents link.new.depot.now) (D.append_faults link.new.depot.now) (O.faults out.new) (O.written out.new)) }
     ensures pages { ChangesOnly (layout.static_end cat.now) (layout.need cat.now) (F.state flash.old) (F.state flash.new) }
@@ -135,7 +135,7 @@ pub(crate) fn run<D: Depot, F: Flash, O: Sink>(
     ensures ran { (database : Database) → IsCatalogOf cat.now database
         → IsHosted ⟦<MemDepot as Depot>⟧.contents ⟦<MemDepot as Depot>⟧.sure (holding_of cat.now database) link.old
         → (F.told ≡ true → KnowsBy words.now.plan F.told (F.state flash.old).page cat.now database)
-        → RanOver words.now.plan F.told cat.now database (texts_of script.now) (local_view words.now).journal result
+        → RanOver words.now.plan words.now.pace.items F.told cat.now database (texts_of script.now) (local_view words.now).journal result
         (local_side (F.state flash.old) (D.contents depot.old) (D.append_faults depot.old) (O.faults out.old) (O.written out.old))
         (local_side (F.state flash.new) (D.contents depot.new) (D.append_faults depot.new) (O.faults out.new) (O.written out.new)) }
     ensures pages { ChangesOnly (layout.static_end cat.now) (layout.need cat.now) (F.state flash.old) (F.state flash.new) }

@@ -13,6 +13,7 @@ use Rattle.key_inputs.specs.Scripts.{script_opening}
 use Rattle.key_inputs.specs.Views.{rule_of}
 use Rattle.key_exec.specs.Jobs.{ForScan}
 use Rattle.key_session.specs.Answering.{AnswersWhereSound}
+use Rattle.key_session.specs.Pacing.{KeepsPace}
 use Rattle.key_session.specs.Running.{HasRun, blames_flash, is_damaged}
 use Rattle.key_session.specs.Telling.{SessionSide}
 use Rattle.key_session.specs.declared.tally.Tally.{Tally}
@@ -41,12 +42,14 @@ pub record Runs (goes : Journal → Type 0) (link_before link_now : ℕ) (told :
   pub script : List ℕ
   pub is_script : IsScript contents words.script script
   pub ran : HasRun goes link_before link_now words.plan told cat words.to (texts_of script) (record before { flash = opened }) now tally
+  -- step by step, at the pace that the words say
+  pub paced : KeepsPace words.plan told cat (texts_of script) ran.journal words.pace (record before { flash = opened }) now
   pub answered : AnswersWhereSound words.plan told cat (texts_of script) ran.journal (record before { flash = opened }) now tally
   pub texts : tally.texts ≡ length (texts_of script)
   -- only pages behind the static ones changed, to which the replies are written
   pub kept : ChangesOnly (static_end cat) (need cat) opened now.flash
-  -- where all rows are looked at the flash is blamed, or a slot of it, only for a call of the session
-  pub called : ForScan words.plan (blames_flash tally.status ≡ true → Rose opened.calls now.flash.calls)
+  -- the flash is blamed only for a call of the session, and so, where all rows are looked at, is a slot of it
+  pub called : blames_flash tally.status ≡ true → Rose opened.calls now.flash.calls
   pub damage_called : ForScan words.plan (is_damaged tally.status ≡ true → Rose opened.calls now.flash.calls)
 
 -- the script's file keeps every rule

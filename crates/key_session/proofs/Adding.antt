@@ -158,16 +158,16 @@ said_then Scan goes is = goes is
 said_then Pre goes is = tt
 
 -- a text that was ended by the flash was marked, or the flash was called for it
-flash_called : (since start now : ℕ) (marked : Bool) (result : Told) → min since last_count ≤ start → ToldCalls Scan start now result → TellsMark marked result → (marked ≡ true → Rose since now)
+flash_called : (plan : Plan) (since start now : ℕ) (marked : Bool) (result : Told) → min since last_count ≤ start → ToldCalls plan start now result → TellsMark marked result → (marked ≡ true → Rose since now)
     → is_flash (reason_of result) ≡ true → Rose since now
-flash_called since start now marked told.Flash stayed called mark rose e = rose_then last_count since start now stayed called
-flash_called since start now marked told.Marked stayed called mark rose e = rose mark
-flash_called since start now marked told.Refused stayed called mark rose e = cc
-flash_called since start now marked told.Answered stayed called mark rose e = cc
-flash_called since start now marked told.Host stayed called mark rose e = cc
-flash_called since start now marked told.Link stayed called mark rose e = cc
-flash_called since start now marked told.Protocol stayed called mark rose e = cc
-flash_called since start now marked (told.Damaged damage) stayed called mark rose e = cc
+flash_called plan since start now marked told.Flash stayed called mark rose e = rose_then last_count since start now stayed called
+flash_called plan since start now marked told.Marked stayed called mark rose e = rose mark
+flash_called plan since start now marked told.Refused stayed called mark rose e = cc
+flash_called plan since start now marked told.Answered stayed called mark rose e = cc
+flash_called plan since start now marked told.Host stayed called mark rose e = cc
+flash_called plan since start now marked told.Link stayed called mark rose e = cc
+flash_called plan since start now marked told.Protocol stayed called mark rose e = cc
+flash_called plan since start now marked (told.Damaged damage) stayed called mark rose e = cc
 
 damage_called : (since start now : ℕ) (result : Told) → min since last_count ≤ start → ToldCalls Scan start now result → is_damage (reason_of result) ≡ true → Rose since now
 damage_called since start now told.Flash stayed called e = cc
@@ -188,12 +188,11 @@ rose_more since now first second called calls e =
 
 -- the flash was called where one of the texts met a fault of it
 pub called_more : (plan : Plan) (since start before now : ℕ) (old new : Counts) (marked : Bool) (result : Told) → IsCounted (reason_of result) old new
-    → ForScan plan (old.by_flash ≡ true → Rose since before) → min before last_count ≤ now → min since last_count ≤ start → ToldCalls plan start now result
-    → TellsMark marked result → (marked ≡ true → Rose since before) → ForScan plan (new.by_flash ≡ true → Rose since now)
-called_more Pre since start before now old new marked result counted called stays stayed calls mark rose = tt
-called_more Scan since start before now old new marked result counted called stays stayed calls mark rose = λ e.
+    → (old.by_flash ≡ true → Rose since before) → min before last_count ≤ now → min since last_count ≤ start → ToldCalls plan start now result
+    → TellsMark marked result → (marked ≡ true → Rose since before) → new.by_flash ≡ true → Rose since now
+called_more plan since start before now old new marked result counted called stays stayed calls mark rose e =
     rose_more since now old.by_flash (is_flash (reason_of result)) (λ f. rose_before last_count since before now (called f) stays)
-    (flash_called since start now marked result stayed calls mark (λ m. rose_before last_count since before now (rose m) stays)) (sym counted.by_flash ∙ e)
+    (flash_called plan since start now marked result stayed calls mark (λ m. rose_before last_count since before now (rose m) stays)) (sym counted.by_flash ∙ e)
 
 -- and where one of them met damage
 pub damage_called_more : (plan : Plan) (since start before now : ℕ) (old new : Counts) (result : Told) → IsCounted (reason_of result) old new

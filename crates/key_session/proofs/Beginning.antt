@@ -170,7 +170,7 @@ telling_spared plan pages_told catalog texts journal top since sink before now p
       within = telling.within;
       pages = files_kept catalog since.flash before now telling.pages keeps;
       calls = still_no_fall last_count since.flash.calls before.calls now.calls telling.calls calls;
-      called = said_then plan (λ rose e. rose_before last_count since.flash.calls before.calls now.calls (rose e) calls) telling.called;
+      called = λ e. rose_before last_count since.flash.calls before.calls now.calls (telling.called e) calls;
       damage_called = said_then plan (λ rose e. rose_before last_count since.flash.calls before.calls now.calls (rose e) calls) telling.damage_called;
       faults = subst (λ (n : ℕ). min since.flash.faults last_count ≤ n) (sym faults) telling.faults;
       marked = marked_same catalog texts count since.flash.calls before.calls now.calls store store (λ text. refl) calls telling.marked;

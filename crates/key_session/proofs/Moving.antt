@@ -268,7 +268,7 @@ going_on stay reasons decided plan pages_told catalog texts journal more since s
     within = within;
     pages = files_on catalog since.flash before now going.telling.pages tells.files;
     calls = still_no_fall last_count since.flash.calls before.calls now.calls going.telling.calls calls;
-    called = said_then plan (λ rose e. rose_before last_count since.flash.calls before.calls now.calls (rose e) calls) going.telling.called;
+    called = λ e. rose_before last_count since.flash.calls before.calls now.calls (going.telling.called e) calls;
     damage_called = said_then plan (λ rose e. rose_before last_count since.flash.calls before.calls now.calls (rose e) calls) going.telling.damage_called;
     faults = still_no_fall last_count since.flash.faults before.faults now.faults going.telling.faults (no_fall last_count before.faults now.faults tells.faults);
     marked = tells.marked since.flash.calls going.telling.calls going.telling.marked;

@@ -30,7 +30,10 @@ module _ (early since : ℕ) (before now : Device) (earlier : early ≤ since) (
 
   damage_on : (plan : Plan) (pages_told : Bool) (catalog : Catalog) (asked : Query) (top side : ℕ) (half : Half) (number slot found : ℕ)
       → WasDamaged plan pages_told since before catalog asked top side half number slot found → WasDamaged plan pages_told early now catalog asked top side half number slot found
-  damage_on Pre pages_told catalog asked top side half number slot found was = tt
+  damage_on Pre pages_told catalog asked top side half number slot found was = record {
+    was = record { bytes = was.was.bytes; gave = gave_on was.was.bytes number was.was.gave; width = was.was.width; found_is = was.was.found_is };
+    page = was.page;
+  }
   damage_on Scan pages_told catalog asked top side half number slot found (inl was) = inl (record {
     table = was.table;
     column = was.column;

@@ -22,7 +22,8 @@ use Rattle.key_session.specs.Order.{is_closed}
 use Rattle.key_session.specs.Refusing.{first_code}
 use Rattle.key_session.specs.TextOrder.{TextsComeInOrder}
 use Rattle.key_session.specs.Telling.{SessionSide, texts_left}
-use Rattle.key_session.specs.Going.{CanStep, CanRun, IsOutAlone, IsAmid, IsGoing, IsLive, leases_of, WentOn, HasCome, due_in, due_by_rule}
+use Rattle.key_session.specs.Going.{CanStep, CanRun, IsOutAlone, IsAmid, IsGoing, IsLive, leases_of, WentOn, due_in, due_by_rule}
+use Rattle.key_session.specs.Pacing.{HasCome, KeepsPace}
 use Rattle.key_session.specs.declared.pace.Due.{Due}
 use Rattle.key_session.specs.declared.pace.Due.TheVariants as due
 use Rattle.key_session.specs.declared.session.Session.{Session}
@@ -70,20 +71,44 @@ pub by_rule_live : OverTextsAreSettled → TextsComeInOrder → TextsAreDecided 
 by_rule_live over order decided plan told texts journal since now pool session live =
     by_rule over order decided session.cat.now texts journal session live.owed (λ opened. live.amid.going.settled opened)
 
-pub come_on : (before_it made later : Journal → Type 0) (plan : Plan) (told : Bool) (texts : List (List ℕ)) (since before now : SessionSide) (pool more : Pool) (old new : Session)
+pub come_on : (before_it made later : Journal → Type 0) (plan : Plan) (told : Bool) (texts : List (List ℕ)) (numbers : List ℕ) (since before now : SessionSide) (pool more : Pool) (old new : Session)
     → ((first then : Journal) → before_it first → made then → later (first ++ then))
     → ((journal : Journal) → IsLive plan told texts journal since before pool old → WentOn (due_by_rule old.cat.now texts journal old) made plan told texts journal since before now more old new)
-    → HasCome before_it plan told texts since before pool old → HasCome later plan told texts since now more new
-come_on before_it made later plan told texts since before now pool more old new joins steps come = by (due_by_rule old.cat.now texts come.journal old) (steps come.journal come.live)
+    → HasCome before_it plan told texts numbers since before pool old → HasCome later plan told texts numbers since now more new
+come_on before_it made later plan told texts numbers since before now pool more old new joins steps come = by (due_by_rule old.cat.now texts come.journal old) refl (steps come.journal come.live)
   where
-    by : (d : Due) → WentOn d made plan told texts come.journal since before now more old new → HasCome later plan told texts since now more new
-    by due.Move moved = record { journal = come.journal ++ moved.made ∷ []; went = joins come.journal (moved.made ∷ []) come.went moved.went; live = moved.live }
-    by due.Slice sliced = record {
+    by : (d : Due) → due_by_rule old.cat.now texts come.journal old ≡ d → WentOn d made plan told texts come.journal since before now more old new → HasCome later plan told texts numbers since now more new
+    by due.Move e moved = record {
+      journal = come.journal ++ moved.made ∷ [];
+      went = joins come.journal (moved.made ∷ []) come.went moved.went;
+      live = moved.live;
+      earlier = record { journal = come.journal; side = before; pool = pool; session = old } ∷ come.earlier;
+      stages = (
+        record {
+          more = moved.made ∷ [];
+          journal_is = refl;
+          went = subst (λ (d : Due). WentOn d (λ (went : Journal). went ≡ moved.made ∷ []) plan told texts come.journal since before now more old new) (sym e)
+              (record { made = moved.made; went = refl; event = moved.event; tells = moved.tells; paced = moved.paced; few = moved.few; live = moved.live });
+        },
+        come.stages,
+      );
+    }
+    by due.Slice e sliced = record {
       journal = come.journal;
       went = subst later (append-nil come.journal) (joins come.journal [] come.went sliced.went);
       live = sliced.live;
+      earlier = record { journal = come.journal; side = before; pool = pool; session = old } ∷ come.earlier;
+      stages = (
+        record {
+          more = [];
+          journal_is = sym (append-nil come.journal);
+          went = subst (λ (d : Due). WentOn d (λ (went : Journal). went ≡ []) plan told texts come.journal since before now more old new) (sym e)
+              (record { went = refl; sliced = sliced.sliced; live = sliced.live });
+        },
+        come.stages,
+      );
     }
-    by due.Ended none = absurd none
+    by due.Ended e none = absurd none
 
 -- the live session over the catalog and the address that it was begun with
 pub record IsLiveAt (plan : Plan) (told : Bool) (cat : Catalog) (at : List ℕ) (texts : List (List ℕ)) (journal : Journal) (since now : SessionSide) (pool : Pool) (session : Session) : Type 0 where
@@ -153,20 +178,21 @@ at_still old new e = rw e refl
 
 -- the whole session, once nothing is due
 pub last_of : LaterTextsAreUnmarked → KnowledgeIsEnough → DamageIsNeverMet → HonestSessionsAreSmooth → HonestLinesArePrinted → moves.ClosedIsFinished → (cat : Catalog) → IsCatalog cat → IsTree cat.schema → (texts : List (List ℕ)) → length texts ≤ 64
-    → (went : Journal → Type 0) (link_before link_now : ℕ) (plan : Plan) (told : Bool) (at : List ℕ) (since : SessionSide) (faults : ℕ) (written : Option (List ℕ)) (device : Device) (pool : Pool) (session : Session) (tally : Tally)
+    → (went : Journal → Type 0) (link_before link_now : ℕ) (plan : Plan) (told : Bool) (at numbers : List ℕ) (since : SessionSide) (faults : ℕ) (written : Option (List ℕ)) (device : Device) (pool : Pool) (session : Session) (tally : Tally)
     → session.cat.now ≡ cat → session.at.now ≡ at
-    → HasCome (WentBy went link_before link_now) plan told texts since (session_side session.teller.printer.failed faults written device) pool session
+    → HasCome (WentBy went link_before link_now) plan told texts numbers since (session_side session.teller.printer.failed faults written device) pool session
     → want_of session.exchange.pump ≡ want_is.Closed → is_some session.teller.ahead ≡ false
     → tally.texts ≡ session.teller.count → tally.refused ≡ session.teller.counts.refused → tally.faulted ≡ session.teller.counts.faulted
     → ((catalog : Catalog) (asks : List NumberedAsk) (journal : Journal) → IsAfter catalog asks journal session.exchange.pump → session.refusal ≡ first_code (standing_after catalog asks journal).heard.ended
     → tally.status ≡ status_with session.teller.printer.failed (standing_after catalog asks journal) session.teller.counts.by_flash session.teller.counts.damage)
-    → IsLast went link_before link_now plan told cat at texts since (session_side session.teller.printer.failed faults written device) tally
-last_of later enough never smooth prints closed cat proper tree texts few went link_before link_now plan told at since faults written device pool session tally cat_is at_is come shut none many refused faulted status =
+    → IsLast went link_before link_now plan told cat at texts numbers since (session_side session.teller.printer.failed faults written device) tally
+last_of later enough never smooth prints closed cat proper tree texts few went link_before link_now plan told at numbers since faults written device pool session tally cat_is at_is come shut none many refused faulted status =
     let now = session_side session.teller.printer.failed faults written device in
     let live = live_at plan told cat at texts come.journal since now pool session cat_is at_is come.live in
     let finished = closed cat at (asked_of cat.schema texts) come.journal session.exchange live.channel shut in
     let going = all_over plan told cat texts come.journal since now pool session.exchange.pump session.teller session.replies none live.amid in
-    has_run later never went link_before link_now plan told cat at texts since now session.exchange come.journal going.top pool (texts_left session.teller) session.teller.count session.teller.counts session.replies tally
+    has_run later never went link_before link_now plan told cat at texts numbers since now session.exchange come.journal going.top pool (texts_left session.teller) session.teller.count session.teller.counts session.replies tally
     tree come.went live.channel finished going.telling (empty _ session.teller.ahead session.teller.texts none (session.teller.last none)) many refused faulted
     (status cat (asked_of cat.schema texts) come.journal live.channel.after live.refusal_is)
+    (record { pool = pool; session = session; catalog_is = cat_is; earlier = come.earlier; stages = come.stages; ended = rw (ap is_closed shut, none) refl })
     (λ is_proper is_finished tells. answers_all smooth prints enough plan told cat at texts come.journal since now tally proper tree few is_proper is_finished tells)

@@ -18,8 +18,8 @@ pub record IsSoOfText (texts : List (List ℕ)) (place : ℕ) (IsSo : (text : Li
   pub half : Half
   pub is : IsSo text ((place + 1) % 2) half
 
--- A damaged slot that is read for the text at a place, whatever the pages hold. By the indexes it is one of the static files, where what
--- these are of is known.
+-- A damaged slot that is read for the text at a place, whatever the pages hold. By the indexes it is one of a static file that is read
+-- for this text by these, where what the static files are of is known.
 abbrev pub IsSlotOf : (by : Plan) (pages_told : Bool) (page : ℕ → List ℕ) → Catalog → (texts : List (List ℕ)) (place : ℕ) → Damage → Type 0
 IsSlotOf by pages_told page catalog texts place damage =
     IsSoOfText texts place (λ text side half. IsDamagedFor by pages_told page catalog text side half damage.page damage.slot damage.found)
@@ -28,7 +28,7 @@ IsSlotOf by pages_told page catalog texts place damage =
 abbrev pub IsSlot : (by : Plan) (pages_told : Bool) (page : ℕ → List ℕ) → Catalog → (texts : List (List ℕ)) → Damage → Type 0
 IsSlot by pages_told page catalog texts damage = (place : ℕ) × IsSlotOf by pages_told page catalog texts place damage
 
--- and the session read it there for one of them, from so many calls on, which is not said by the indexes
+-- and the session read it there for one of them, from so many calls on
 abbrev pub WasRead : (by : Plan) (pages_told : Bool) (since : ℕ) → Device → Catalog → (texts : List (List ℕ)) → Damage → Type 0
 WasRead by pages_told since device catalog texts damage =
     (place : ℕ)

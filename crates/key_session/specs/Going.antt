@@ -202,15 +202,16 @@ pub record WasMoved (goes : Journal → Type 0) (by : Plan) (pages_told : Bool) 
   pub few : now.flash.calls ≤ before.flash.calls + 2 * pages_on event session.replies.hand old.replies.spool session.replies.spool
   pub live : IsLive by pages_told texts (journal ++ made ∷ []) since now pool session
 
--- no move was made
-pub record WasSliced (goes : Journal → Type 0) (by : Plan) (pages_told : Bool) (texts : List (List ℕ)) (journal : Journal) (since now : SessionSide) (pool : Pool) (session : Session) : Type 0 where
+-- no move was made, and the pace goes by the slice
+pub record WasSliced (goes : Journal → Type 0) (by : Plan) (pages_told : Bool) (texts : List (List ℕ)) (journal : Journal) (since now : SessionSide) (pool : Pool) (old session : Session) : Type 0 where
   pub went : goes []
+  pub sliced : IsSliced old.pace session.pace
   pub live : IsLive by pages_told texts journal since now pool session
 
 -- a step made what was due, and the session lives on
 abbrev pub WentOn : Due → (goes : Journal → Type 0) → (by : Plan) (pages_told : Bool) → (texts : List (List ℕ)) → Journal → (since before now : SessionSide) → Pool → (old session : Session) → Type 0
 WentOn due.Move goes by pages_told texts journal since before now pool old session = WasMoved goes by pages_told texts journal since before now pool old session
-WentOn due.Slice goes by pages_told texts journal since before now pool old session = WasSliced goes by pages_told texts journal since now pool session
+WentOn due.Slice goes by pages_told texts journal since before now pool old session = WasSliced goes by pages_told texts journal since now pool old session
 WentOn due.Ended goes by pages_told texts journal since before now pool old session = ⊥
 
 -- no ask of a text behind this one is at hand
@@ -294,9 +295,3 @@ due_by_rule catalog texts journal session =
 -- how many steps are left at most
 abbrev pub steps_left : Session → ℕ
 steps_left session = moves_left session.exchange.pump + left_of session.teller
-
--- a whole run so far
-pub record HasCome (goes : Journal → Type 0) (by : Plan) (pages_told : Bool) (texts : List (List ℕ)) (since now : SessionSide) (pool : Pool) (session : Session) : Type 0 where
-  pub journal : Journal
-  pub went : goes journal
-  pub live : IsLive by pages_told texts journal since now pool session

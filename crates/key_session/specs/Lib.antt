@@ -16,5 +16,6 @@ pub mod Awaiting
 pub mod Going
 pub mod Answering
 pub mod Running
+pub mod Pacing
 pub mod Worlds
 pub mod Agreeing

@@ -80,8 +80,8 @@ pub record IsTelling (by : Plan) (pages_told : Bool) (catalog : Catalog) (texts 
   pub pages : KeepsFiles catalog since.flash device
   -- at its last value a count stays
   pub calls : min since.flash.calls last_count ≤ device.calls
+  pub called : counts.by_flash ≡ true → Rose since.flash.calls device.calls
   -- where all rows are looked at
-  pub called : ForScan by (counts.by_flash ≡ true → Rose since.flash.calls device.calls)
   pub damage_called : ForScan by (is_some counts.damage ≡ true → Rose since.flash.calls device.calls)
   pub faults : min since.flash.faults last_count ≤ device.faults
   pub marked : AreMarked catalog texts count since.flash.calls device.calls replies

@@ -32,6 +32,7 @@ ghost use Rattle.page_pool.specs.Pools.{Pool, IsIdle, IsOut, ChangesPage, given,
 ghost use Rattle.key_exec.specs.Rows.{PrintsSome, TakesTurn};
 ghost use Rattle.key_session.specs.Going.{CanRun, CanStep, IsAmid, IsLive, IsNear, IsNext, IsMove, IsSomeLive, IsSomeMove, MovedOn, RunIsSpared, WasMoved, WentOn, MadeStep, due_by_rule, due_in, left_of, steps_left};
 ghost use Rattle.key_session.specs.Order.{IsSliced, IsUnpaced, is_closed, is_first};
+ghost use Rattle.key_session.specs.Pacing.{RunsAtPace};
 ghost use Rattle.key_session.specs.Running.{HasRun, is_sink, status_with, blames_flash, is_damaged, spares_flash};
 ghost use Rattle.key_session.specs.Telling.{SessionSide, session_side};
 
@@ -369,6 +370,8 @@ pub fn run_session<F: Flash, L: Link, O: Sink>(
     requires idle { IsIdle pool.old }
     ensures ran { HasRun (λ journal. L.went link.old journal link.new) (L.faults link.old) (L.faults link.new) options.now.plan F.told cat.now options.now.at.now (texts_of script.now)
         (session_side false (O.faults out.old) (O.written out.old) (F.state flash.old)) (session_side (is_sink result.status) (O.faults out.new) (O.written out.new) (F.state flash.new)) result }
+    ensures paced { RunsAtPace options.now.pace.now (λ journal. L.went link.old journal link.new) (L.faults link.old) (L.faults link.new) options.now.plan F.told cat.now options.now.at.now (texts_of script.now)
+        (session_side false (O.faults out.old) (O.written out.old) (F.state flash.old)) (session_side (is_sink result.status) (O.faults out.new) (O.written out.new) (F.state flash.new)) result }
     ensures texts { result.texts ≡ length (texts_of script.now) }
     ensures prints { PrintsSome (handed false (O.faults out.old) (O.written out.old)) (handed (is_sink result.status) (O.faults out.new) (O.written out.new)) }
     ensures sink_rose { is_sink result.status ≡ true → Rose (O.faults out.old) (O.faults out.new) }
@@ -376,7 +379,7 @@ pub fn run_session<F: Flash, L: Link, O: Sink>(
     ensures pages { ChangesOnly (layout.static_end cat.now) (layout.need cat.now) (F.state flash.old) (F.state flash.new) }
     ensures idle { IsIdle pool.new }
     ensures flash_calls { min (F.state flash.old).calls last_count ≤ (F.state flash.new).calls }
-    ensures flash_called { ForScan options.now.plan (blames_flash result.status ≡ true → Rose (F.state flash.old).calls (F.state flash.new).calls) }
+    ensures flash_called { blames_flash result.status ≡ true → Rose (F.state flash.old).calls (F.state flash.new).calls }
     ensures damage_called { ForScan options.now.plan (is_damaged result.status ≡ true → Rose (F.state flash.old).calls (F.state flash.new).calls) }
     ensures flash_faults { min (F.state flash.old).faults last_count ≤ (F.state flash.new).faults }
     ensures flash_rose { blames_flash result.status ≡ true → Rose (F.state flash.old).faults (F.state flash.new).faults }

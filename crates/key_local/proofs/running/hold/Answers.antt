@@ -1,10 +1,12 @@
-use Rattle.std.proofs.Common.{[], ap, sym, ◌∙◌}
+use Rattle.std.proofs.Common.{ℕ, false, List, [], ap, sym, ◌∙◌, subst}
 use Rattle.std.specs.List.{list_any}
 use Rattle.ghost_model.specs.core.Asks.{asked_of}
 use Rattle.ghost_model.specs.core.NextMove.{standing_after}
 use Rattle.ghost_model.specs.core.Texts.{texts_of}
 use Rattle.key_session.specs.Counting.{is_flash}
+use Rattle.key_session.specs.Pacing.{KeepsPace}
 use Rattle.key_session.specs.Running.{is_sink}
+use Rattle.key_session.specs.Telling.{session_side}
 use Rattle.key_local.specs.Running.{clears_journal}
 use Rattle.key_local.proofs.Settings.{setting_of}
 use Rattle.key_local.proofs.Statuses.{is_local_status}
@@ -33,12 +35,15 @@ returns-clause-ran g c = λ database stored hosted known.
     let cat = c.args.cat.now in
     let texts = texts_of c.args.script.now in
     let is = c.a_catalog_is_short.ensures.catalog in
-    let ran = c.run_session-tally.ensures.ran in
+    let ran = c.run_session-tally.ensures.paced.ran in
     let setting = setting_of cat texts is c.requires.few in
     let goes = c.sessions_are_local.ensures.is_local cat database [] texts ran.journal _ _ setting stored ran.proper ran.went.moved hosted.is_sure hosted.at_first in
     let wrote = c.proper_journals_are_written.ensures.written cat [] texts ran.journal _ _ setting ran.proper ran.went in
-    ran_over c.args.words.now.plan g.F.Flash.told cat database texts _ c.end_of.result c.run_session-tally.result _ _ ran.journal c.local_sessions_are_served.ensures c.told_texts_are_given.ensures.given c.knowledge_stays.ensures.damage (c.catalogs_are_limited.ensures cat is).tree
+    ran_over c.args.words.now.plan c.args.words.now.pace.items g.F.Flash.told cat database texts _ c.end_of.result c.run_session-tally.result _ _ ran.journal c.local_sessions_are_served.ensures c.told_texts_are_given.ensures.given c.knowledge_stays.ensures.damage (c.catalogs_are_limited.ensures cat is).tree
     goes.is_local ran.finished
+    (subst (λ (numbers : List ℕ). KeepsPace c.args.words.now.plan g.F.Flash.told cat texts ran.journal numbers
+    (session_side false (g.O.Sink.faults c.args.out.now) (g.O.Sink.written c.args.out.now) (g.F.Flash.state c.args.flash.now))
+    (session_side (is_sink c.run_session-tally.result.status) (g.O.Sink.faults c.run_session-tally.new.out) (g.O.Sink.written c.run_session-tally.new.out) (g.F.Flash.state c.run_session-tally.new.flash))) c.as_slice.ensures.value c.run_session-tally.ensures.paced.paced)
     (λ calm. lines_kept _ ran.journal _ _ wrote c.requires.going calm)
     (λ fine. lines_written _ ran.journal _ _ wrote (sym c.failed.ensures.failed ∙ c.end_of.ensures.no_depot (ap clears_journal fine)))
     (λ t. let knows = known t in

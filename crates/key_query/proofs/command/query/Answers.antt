@@ -1,4 +1,6 @@
 use Rattle.std.proofs.Common.{List, subst, sym, ℕ, false}
+use Rattle.ghost_model.specs.core.Texts.{texts_of}
+use Rattle.key_session.specs.Pacing.{KeepsPace}
 use Rattle.key_session.specs.Running.{is_sink}
 use Rattle.key_session.specs.Telling.{session_side}
 use Rattle.key_query.specs.Openings.{IsScript}
@@ -26,8 +28,9 @@ returns-in-Ok-clause-ran g c =
       enough = opened.suffices.pages;
       script = c.deref.result.now;
       is_script = is_script;
-      ran = c.run_session.ensures.ran;
-      answered = c.run_session.ensures.ran.answered;
+      ran = c.run_session.ensures.paced.ran;
+      paced = subst (λ (numbers : List ℕ). KeepsPace c.args.words.now.plan g.F.Flash.told c.in-Ok.opened.cat (texts_of c.deref.result.now) c.run_session.ensures.paced.ran.journal numbers since now) c.as_slice.ensures.value c.run_session.ensures.paced.paced;
+      answered = c.run_session.ensures.paced.ran.answered;
       texts = c.run_session.ensures.texts;
       kept = c.run_session.ensures.pages;
       called = c.run_session.ensures.flash_called;

@@ -1,32 +1,42 @@
-use Rattle.std.proofs.Common.{◌∙◌, sym, refl, subst, arith, Bool, false, []}
+use Rattle.std.proofs.Common.{◌∙◌, sym, refl, ap, subst, arith, Bool, false, []}
 use Rattle.ghost_model.specs.core.Texts.{texts_of}
 use Rattle.channel_pump.specs.Entries.{WentBy}
 use Rattle.key_lines.specs.Handing.{handed}
 use Rattle.key_exec.specs.Rows.{PrintsSome}
 use Rattle.key_session.specs.Telling.{session_side}
 use Rattle.key_session.specs.Going.{IsLive}
+use Rattle.key_session.specs.Pacing.{RunsAtPace}
 use Rattle.key_session.specs.Running.{HasRun}
 use Rattle.key_session.proofs.Running.{flash_rose, flash_same}
 use Rattle.key_session.proofs.Stepping.{last_of, come_on, cat_still, at_still, alone_over, leased_alone, out_over, idle_over}
 use Rattle.key_session.proofs.session.run_session.Goals as goal
 
 pub steps-init : goal.steps-init
-steps-init g c = (
-  record {
-    suffices = rw c.begin-session.ensures.cat c.requires.suffices;
-    run = rw (c.begin-session.ensures.cat, c.begin-session.ensures.lease, c.begin-session.ensures.running) (record { can = tt; alone = leased_alone c.args.pool.now c.lease.new.self _ c.requires.idle c.in-Some.ensures.leased c.in-Some.ensures.is_out c.in-Some.ensures.counted });
-  },
-  c.begin-session.ensures.cat,
-  c.begin-session.ensures.at,
-  omega arith,
-  record {
-    journal = [];
-    went = record { gone = g.met.L.Link.stays _; counts = c.moves_join.ensures.joined.none _; short = refl };
-    live = subst (λ (failed : Bool). IsLive c.args.options.now.plan g.F.Flash.told (texts_of c.args.script.now) [] (session_side false (g.O.Sink.faults c.args.out.now) (g.O.Sink.written c.args.out.now) (g.F.Flash.state c.args.flash.now))
-        (session_side failed (g.O.Sink.faults c.args.out.now) (g.O.Sink.written c.args.out.now) (g.F.Flash.state c.args.flash.now)) c.lease.new.self c.begin-session.result) (sym c.begin-session.ensures.fresh)
-        (c.begin-session.ensures.live g.F.Flash.told (session_side false (g.O.Sink.faults c.args.out.now) (g.O.Sink.written c.args.out.now) (g.F.Flash.state c.args.flash.now)) c.lease.new.self c.requires.suffices c.in-Some.ensures.is_out);
-  },
-)
+steps-init g c =
+    let live =
+    subst (λ (failed : Bool). IsLive c.args.options.now.plan g.F.Flash.told (texts_of c.args.script.now) [] (session_side false (g.O.Sink.faults c.args.out.now) (g.O.Sink.written c.args.out.now) (g.F.Flash.state c.args.flash.now))
+    (session_side failed (g.O.Sink.faults c.args.out.now) (g.O.Sink.written c.args.out.now) (g.F.Flash.state c.args.flash.now)) c.lease.new.self c.begin-session.result) (sym c.begin-session.ensures.fresh)
+    (c.begin-session.ensures.live g.F.Flash.told (session_side false (g.O.Sink.faults c.args.out.now) (g.O.Sink.written c.args.out.now) (g.F.Flash.state c.args.flash.now)) c.lease.new.self c.requires.suffices c.in-Some.ensures.is_out) in (
+      record {
+        suffices = rw c.begin-session.ensures.cat c.requires.suffices;
+        run = rw (c.begin-session.ensures.cat, c.begin-session.ensures.lease, c.begin-session.ensures.running) (record { can = tt; alone = leased_alone c.args.pool.now c.lease.new.self _ c.requires.idle c.in-Some.ensures.leased c.in-Some.ensures.is_out c.in-Some.ensures.counted });
+      },
+      c.begin-session.ensures.cat,
+      c.begin-session.ensures.at,
+      omega arith,
+      record {
+        journal = [];
+        went = record { gone = g.met.L.Link.stays _; counts = c.moves_join.ensures.joined.none _; short = refl };
+        live = live;
+        earlier = [];
+        stages = record {
+          none = refl;
+          side_is = ap (λ (failed : Bool). session_side failed (g.O.Sink.faults c.args.out.now) (g.O.Sink.written c.args.out.now) (g.F.Flash.state c.args.flash.now)) c.begin-session.ensures.fresh;
+          live = live;
+          pace = c.begin-session.ensures.pace;
+        };
+      },
+    )
 
 pub steps-preserved : goal.steps-preserved
 steps-preserved g c =
@@ -38,7 +48,7 @@ steps-preserved g c =
       omega (arith, before, more),
       come_on (WentBy (λ journal. g.L.Link.went c.args.link.now journal c.steps.link) (g.L.Link.faults c.args.link.now) (g.L.Link.faults c.steps.link))
           (WentBy (λ journal. g.L.Link.went c.steps.link journal c.step.new.link) (g.L.Link.faults c.steps.link) (g.L.Link.faults c.step.new.link))
-          (WentBy (λ journal. g.L.Link.went c.args.link.now journal c.step.new.link) (g.L.Link.faults c.args.link.now) (g.L.Link.faults c.step.new.link)) c.args.options.now.plan g.F.Flash.told (texts_of c.args.script.now)
+          (WentBy (λ journal. g.L.Link.went c.args.link.now journal c.step.new.link) (g.L.Link.faults c.args.link.now) (g.L.Link.faults c.step.new.link)) c.args.options.now.plan g.F.Flash.told (texts_of c.args.script.now) c.args.options.now.pace.now
           (session_side false (g.O.Sink.faults c.args.out.now) (g.O.Sink.written c.args.out.now) (g.F.Flash.state c.args.flash.now)) _ _ c.steps.pool c.step.new.pool c.steps.session c.step.new.self
           (λ first made one other. record {
             gone = g.met.L.Link.joins _ _ _ first made one.gone other.gone;
@@ -52,7 +62,7 @@ steps-preserved g c =
 pub returns-in-Ended-clause-ran : goal.returns-in-Ended-clause-ran
 returns-in-Ended-clause-ran g c =
     let last = last_of c.later_texts_are_unmarked.ensures.unmarked c.knowledge_is_enough.ensures.enough c.damage_is_never_met.ensures.never c.honest_sessions_are_smooth.ensures c.honest_lines_are_printed.ensures c.closed_is_finished.ensures.finished c.args.cat.now c.a_catalog_is_short.ensures.catalog c.a_catalog_has_a_layout.ensures.layout.tree (texts_of c.args.script.now) c.requires.few
-    (λ journal. g.L.Link.went c.args.link.now journal c.steps.link) (g.L.Link.faults c.args.link.now) (g.L.Link.faults c.steps.link) c.args.options.now.plan g.F.Flash.told c.args.options.now.at.now
+    (λ journal. g.L.Link.went c.args.link.now journal c.steps.link) (g.L.Link.faults c.args.link.now) (g.L.Link.faults c.steps.link) c.args.options.now.plan g.F.Flash.told c.args.options.now.at.now c.args.options.now.pace.now
     (session_side false (g.O.Sink.faults c.args.out.now) (g.O.Sink.written c.args.out.now) (g.F.Flash.state c.args.flash.now)) (g.O.Sink.faults c.steps.out) (g.O.Sink.written c.steps.out) (g.F.Flash.state c.steps.flash) c.steps.pool c.steps.session c.end.result
     c.steps.invariant.1 c.steps.invariant.2 c.steps.invariant.4 (c.due.ensures.closed c.in-Ended.is) (c.due.ensures.none c.in-Ended.is) c.end.ensures.texts c.end.ensures.refused c.end.ensures.faulted c.end.ensures.status in
     subst (λ (failed : Bool). HasRun (λ journal. g.L.Link.went c.args.link.now journal c.steps.link) (g.L.Link.faults c.args.link.now) (g.L.Link.faults c.steps.link) c.args.options.now.plan g.F.Flash.told c.args.cat.now c.args.options.now.at.now (texts_of c.args.script.now)
@@ -61,7 +71,7 @@ returns-in-Ended-clause-ran g c =
 pub returns-in-Ended-clause-prints : goal.returns-in-Ended-clause-prints
 returns-in-Ended-clause-prints g c =
     let last = last_of c.later_texts_are_unmarked.ensures.unmarked c.knowledge_is_enough.ensures.enough c.damage_is_never_met.ensures.never c.honest_sessions_are_smooth.ensures c.honest_lines_are_printed.ensures c.closed_is_finished.ensures.finished c.args.cat.now c.a_catalog_is_short.ensures.catalog c.a_catalog_has_a_layout.ensures.layout.tree (texts_of c.args.script.now) c.requires.few
-    (λ journal. g.L.Link.went c.args.link.now journal c.steps.link) (g.L.Link.faults c.args.link.now) (g.L.Link.faults c.steps.link) c.args.options.now.plan g.F.Flash.told c.args.options.now.at.now
+    (λ journal. g.L.Link.went c.args.link.now journal c.steps.link) (g.L.Link.faults c.args.link.now) (g.L.Link.faults c.steps.link) c.args.options.now.plan g.F.Flash.told c.args.options.now.at.now c.args.options.now.pace.now
     (session_side false (g.O.Sink.faults c.args.out.now) (g.O.Sink.written c.args.out.now) (g.F.Flash.state c.args.flash.now)) (g.O.Sink.faults c.steps.out) (g.O.Sink.written c.steps.out) (g.F.Flash.state c.steps.flash) c.steps.pool c.steps.session c.end.result
     c.steps.invariant.1 c.steps.invariant.2 c.steps.invariant.4 (c.due.ensures.closed c.in-Ended.is) (c.due.ensures.none c.in-Ended.is) c.end.ensures.texts c.end.ensures.refused c.end.ensures.faulted c.end.ensures.status in
     subst (λ (failed : Bool). PrintsSome (handed false (g.O.Sink.faults c.args.out.now) (g.O.Sink.written c.args.out.now)) (handed failed (g.O.Sink.faults c.steps.out) (g.O.Sink.written c.steps.out))) (sym c.end.ensures.sink) last.prints
@@ -79,7 +89,7 @@ step-requires-clause-some g c = record { by = c.args.options.now.plan; texts = _
 pub returns-in-Ended-clause-texts : goal.returns-in-Ended-clause-texts
 returns-in-Ended-clause-texts g c =
     let last = last_of c.later_texts_are_unmarked.ensures.unmarked c.knowledge_is_enough.ensures.enough c.damage_is_never_met.ensures.never c.honest_sessions_are_smooth.ensures c.honest_lines_are_printed.ensures c.closed_is_finished.ensures.finished c.args.cat.now c.a_catalog_is_short.ensures.catalog c.a_catalog_has_a_layout.ensures.layout.tree (texts_of c.args.script.now) c.requires.few
-    (λ journal. g.L.Link.went c.args.link.now journal c.steps.link) (g.L.Link.faults c.args.link.now) (g.L.Link.faults c.steps.link) c.args.options.now.plan g.F.Flash.told c.args.options.now.at.now
+    (λ journal. g.L.Link.went c.args.link.now journal c.steps.link) (g.L.Link.faults c.args.link.now) (g.L.Link.faults c.steps.link) c.args.options.now.plan g.F.Flash.told c.args.options.now.at.now c.args.options.now.pace.now
     (session_side false (g.O.Sink.faults c.args.out.now) (g.O.Sink.written c.args.out.now) (g.F.Flash.state c.args.flash.now)) (g.O.Sink.faults c.steps.out) (g.O.Sink.written c.steps.out) (g.F.Flash.state c.steps.flash) c.steps.pool c.steps.session c.end.result
     c.steps.invariant.1 c.steps.invariant.2 c.steps.invariant.4 (c.due.ensures.closed c.in-Ended.is) (c.due.ensures.none c.in-Ended.is) c.end.ensures.texts c.end.ensures.refused c.end.ensures.faulted c.end.ensures.status in
     last.many
@@ -87,7 +97,7 @@ returns-in-Ended-clause-texts g c =
 pub returns-in-Ended-clause-sink_same : goal.returns-in-Ended-clause-sink_same
 returns-in-Ended-clause-sink_same g c =
     let last = last_of c.later_texts_are_unmarked.ensures.unmarked c.knowledge_is_enough.ensures.enough c.damage_is_never_met.ensures.never c.honest_sessions_are_smooth.ensures c.honest_lines_are_printed.ensures c.closed_is_finished.ensures.finished c.args.cat.now c.a_catalog_is_short.ensures.catalog c.a_catalog_has_a_layout.ensures.layout.tree (texts_of c.args.script.now) c.requires.few
-    (λ journal. g.L.Link.went c.args.link.now journal c.steps.link) (g.L.Link.faults c.args.link.now) (g.L.Link.faults c.steps.link) c.args.options.now.plan g.F.Flash.told c.args.options.now.at.now
+    (λ journal. g.L.Link.went c.args.link.now journal c.steps.link) (g.L.Link.faults c.args.link.now) (g.L.Link.faults c.steps.link) c.args.options.now.plan g.F.Flash.told c.args.options.now.at.now c.args.options.now.pace.now
     (session_side false (g.O.Sink.faults c.args.out.now) (g.O.Sink.written c.args.out.now) (g.F.Flash.state c.args.flash.now)) (g.O.Sink.faults c.steps.out) (g.O.Sink.written c.steps.out) (g.F.Flash.state c.steps.flash) c.steps.pool c.steps.session c.end.result
     c.steps.invariant.1 c.steps.invariant.2 c.steps.invariant.4 (c.due.ensures.closed c.in-Ended.is) (c.due.ensures.none c.in-Ended.is) c.end.ensures.texts c.end.ensures.refused c.end.ensures.faulted c.end.ensures.status in
     λ e. (last.prints.handed.whole (sym c.end.ensures.sink ∙ e)).faults
@@ -95,7 +105,7 @@ returns-in-Ended-clause-sink_same g c =
 pub returns-in-Ended-clause-flash_called : goal.returns-in-Ended-clause-flash_called
 returns-in-Ended-clause-flash_called g c =
     let last = last_of c.later_texts_are_unmarked.ensures.unmarked c.knowledge_is_enough.ensures.enough c.damage_is_never_met.ensures.never c.honest_sessions_are_smooth.ensures c.honest_lines_are_printed.ensures c.closed_is_finished.ensures.finished c.args.cat.now c.a_catalog_is_short.ensures.catalog c.a_catalog_has_a_layout.ensures.layout.tree (texts_of c.args.script.now) c.requires.few
-    (λ journal. g.L.Link.went c.args.link.now journal c.steps.link) (g.L.Link.faults c.args.link.now) (g.L.Link.faults c.steps.link) c.args.options.now.plan g.F.Flash.told c.args.options.now.at.now
+    (λ journal. g.L.Link.went c.args.link.now journal c.steps.link) (g.L.Link.faults c.args.link.now) (g.L.Link.faults c.steps.link) c.args.options.now.plan g.F.Flash.told c.args.options.now.at.now c.args.options.now.pace.now
     (session_side false (g.O.Sink.faults c.args.out.now) (g.O.Sink.written c.args.out.now) (g.F.Flash.state c.args.flash.now)) (g.O.Sink.faults c.steps.out) (g.O.Sink.written c.steps.out) (g.F.Flash.state c.steps.flash) c.steps.pool c.steps.session c.end.result
     c.steps.invariant.1 c.steps.invariant.2 c.steps.invariant.4 (c.due.ensures.closed c.in-Ended.is) (c.due.ensures.none c.in-Ended.is) c.end.ensures.texts c.end.ensures.refused c.end.ensures.faulted c.end.ensures.status in
     last.called
@@ -103,7 +113,7 @@ returns-in-Ended-clause-flash_called g c =
 pub returns-in-Ended-clause-damage_called : goal.returns-in-Ended-clause-damage_called
 returns-in-Ended-clause-damage_called g c =
     let last = last_of c.later_texts_are_unmarked.ensures.unmarked c.knowledge_is_enough.ensures.enough c.damage_is_never_met.ensures.never c.honest_sessions_are_smooth.ensures c.honest_lines_are_printed.ensures c.closed_is_finished.ensures.finished c.args.cat.now c.a_catalog_is_short.ensures.catalog c.a_catalog_has_a_layout.ensures.layout.tree (texts_of c.args.script.now) c.requires.few
-    (λ journal. g.L.Link.went c.args.link.now journal c.steps.link) (g.L.Link.faults c.args.link.now) (g.L.Link.faults c.steps.link) c.args.options.now.plan g.F.Flash.told c.args.options.now.at.now
+    (λ journal. g.L.Link.went c.args.link.now journal c.steps.link) (g.L.Link.faults c.args.link.now) (g.L.Link.faults c.steps.link) c.args.options.now.plan g.F.Flash.told c.args.options.now.at.now c.args.options.now.pace.now
     (session_side false (g.O.Sink.faults c.args.out.now) (g.O.Sink.written c.args.out.now) (g.F.Flash.state c.args.flash.now)) (g.O.Sink.faults c.steps.out) (g.O.Sink.written c.steps.out) (g.F.Flash.state c.steps.flash) c.steps.pool c.steps.session c.end.result
     c.steps.invariant.1 c.steps.invariant.2 c.steps.invariant.4 (c.due.ensures.closed c.in-Ended.is) (c.due.ensures.none c.in-Ended.is) c.end.ensures.texts c.end.ensures.refused c.end.ensures.faulted c.end.ensures.status in
     last.damage_called
@@ -111,7 +121,7 @@ returns-in-Ended-clause-damage_called g c =
 pub returns-in-Ended-clause-flash_rose : goal.returns-in-Ended-clause-flash_rose
 returns-in-Ended-clause-flash_rose g c =
     let last = last_of c.later_texts_are_unmarked.ensures.unmarked c.knowledge_is_enough.ensures.enough c.damage_is_never_met.ensures.never c.honest_sessions_are_smooth.ensures c.honest_lines_are_printed.ensures c.closed_is_finished.ensures.finished c.args.cat.now c.a_catalog_is_short.ensures.catalog c.a_catalog_has_a_layout.ensures.layout.tree (texts_of c.args.script.now) c.requires.few
-    (λ journal. g.L.Link.went c.args.link.now journal c.steps.link) (g.L.Link.faults c.args.link.now) (g.L.Link.faults c.steps.link) c.args.options.now.plan g.F.Flash.told c.args.options.now.at.now
+    (λ journal. g.L.Link.went c.args.link.now journal c.steps.link) (g.L.Link.faults c.args.link.now) (g.L.Link.faults c.steps.link) c.args.options.now.plan g.F.Flash.told c.args.options.now.at.now c.args.options.now.pace.now
     (session_side false (g.O.Sink.faults c.args.out.now) (g.O.Sink.written c.args.out.now) (g.F.Flash.state c.args.flash.now)) (g.O.Sink.faults c.steps.out) (g.O.Sink.written c.steps.out) (g.F.Flash.state c.steps.flash) c.steps.pool c.steps.session c.end.result
     c.steps.invariant.1 c.steps.invariant.2 c.steps.invariant.4 (c.due.ensures.closed c.in-Ended.is) (c.due.ensures.none c.in-Ended.is) c.end.ensures.texts c.end.ensures.refused c.end.ensures.faulted c.end.ensures.status in
     λ e. flash_rose last.ran e
@@ -119,7 +129,7 @@ returns-in-Ended-clause-flash_rose g c =
 pub returns-in-Ended-clause-flash_same : goal.returns-in-Ended-clause-flash_same
 returns-in-Ended-clause-flash_same g c =
     let last = last_of c.later_texts_are_unmarked.ensures.unmarked c.knowledge_is_enough.ensures.enough c.damage_is_never_met.ensures.never c.honest_sessions_are_smooth.ensures c.honest_lines_are_printed.ensures c.closed_is_finished.ensures.finished c.args.cat.now c.a_catalog_is_short.ensures.catalog c.a_catalog_has_a_layout.ensures.layout.tree (texts_of c.args.script.now) c.requires.few
-    (λ journal. g.L.Link.went c.args.link.now journal c.steps.link) (g.L.Link.faults c.args.link.now) (g.L.Link.faults c.steps.link) c.args.options.now.plan g.F.Flash.told c.args.options.now.at.now
+    (λ journal. g.L.Link.went c.args.link.now journal c.steps.link) (g.L.Link.faults c.args.link.now) (g.L.Link.faults c.steps.link) c.args.options.now.plan g.F.Flash.told c.args.options.now.at.now c.args.options.now.pace.now
     (session_side false (g.O.Sink.faults c.args.out.now) (g.O.Sink.written c.args.out.now) (g.F.Flash.state c.args.flash.now)) (g.O.Sink.faults c.steps.out) (g.O.Sink.written c.steps.out) (g.F.Flash.state c.steps.flash) c.steps.pool c.steps.session c.end.result
     c.steps.invariant.1 c.steps.invariant.2 c.steps.invariant.4 (c.due.ensures.closed c.in-Ended.is) (c.due.ensures.none c.in-Ended.is) c.end.ensures.texts c.end.ensures.refused c.end.ensures.faulted c.end.ensures.status in
     λ e. flash_same last.ran c.texts_have_outcomes.ensures e
@@ -127,7 +137,7 @@ returns-in-Ended-clause-flash_same g c =
 pub returns-in-Ended-clause-sink_rose : goal.returns-in-Ended-clause-sink_rose
 returns-in-Ended-clause-sink_rose g c =
     let last = last_of c.later_texts_are_unmarked.ensures.unmarked c.knowledge_is_enough.ensures.enough c.damage_is_never_met.ensures.never c.honest_sessions_are_smooth.ensures c.honest_lines_are_printed.ensures c.closed_is_finished.ensures.finished c.args.cat.now c.a_catalog_is_short.ensures.catalog c.a_catalog_has_a_layout.ensures.layout.tree (texts_of c.args.script.now) c.requires.few
-    (λ journal. g.L.Link.went c.args.link.now journal c.steps.link) (g.L.Link.faults c.args.link.now) (g.L.Link.faults c.steps.link) c.args.options.now.plan g.F.Flash.told c.args.options.now.at.now
+    (λ journal. g.L.Link.went c.args.link.now journal c.steps.link) (g.L.Link.faults c.args.link.now) (g.L.Link.faults c.steps.link) c.args.options.now.plan g.F.Flash.told c.args.options.now.at.now c.args.options.now.pace.now
     (session_side false (g.O.Sink.faults c.args.out.now) (g.O.Sink.written c.args.out.now) (g.F.Flash.state c.args.flash.now)) (g.O.Sink.faults c.steps.out) (g.O.Sink.written c.steps.out) (g.F.Flash.state c.steps.flash) c.steps.pool c.steps.session c.end.result
     c.steps.invariant.1 c.steps.invariant.2 c.steps.invariant.4 (c.due.ensures.closed c.in-Ended.is) (c.due.ensures.none c.in-Ended.is) c.end.ensures.texts c.end.ensures.refused c.end.ensures.faulted c.end.ensures.status in
     λ e. last.prints.handed.rose refl (sym c.end.ensures.sink ∙ e)
@@ -135,7 +145,7 @@ returns-in-Ended-clause-sink_rose g c =
 pub returns-in-Ended-clause-pages : goal.returns-in-Ended-clause-pages
 returns-in-Ended-clause-pages g c =
     let last = last_of c.later_texts_are_unmarked.ensures.unmarked c.knowledge_is_enough.ensures.enough c.damage_is_never_met.ensures.never c.honest_sessions_are_smooth.ensures c.honest_lines_are_printed.ensures c.closed_is_finished.ensures.finished c.args.cat.now c.a_catalog_is_short.ensures.catalog c.a_catalog_has_a_layout.ensures.layout.tree (texts_of c.args.script.now) c.requires.few
-    (λ journal. g.L.Link.went c.args.link.now journal c.steps.link) (g.L.Link.faults c.args.link.now) (g.L.Link.faults c.steps.link) c.args.options.now.plan g.F.Flash.told c.args.options.now.at.now
+    (λ journal. g.L.Link.went c.args.link.now journal c.steps.link) (g.L.Link.faults c.args.link.now) (g.L.Link.faults c.steps.link) c.args.options.now.plan g.F.Flash.told c.args.options.now.at.now c.args.options.now.pace.now
     (session_side false (g.O.Sink.faults c.args.out.now) (g.O.Sink.written c.args.out.now) (g.F.Flash.state c.args.flash.now)) (g.O.Sink.faults c.steps.out) (g.O.Sink.written c.steps.out) (g.F.Flash.state c.steps.flash) c.steps.pool c.steps.session c.end.result
     c.steps.invariant.1 c.steps.invariant.2 c.steps.invariant.4 (c.due.ensures.closed c.in-Ended.is) (c.due.ensures.none c.in-Ended.is) c.end.ensures.texts c.end.ensures.refused c.end.ensures.faulted c.end.ensures.status in
     last.pages
@@ -143,7 +153,7 @@ returns-in-Ended-clause-pages g c =
 pub returns-in-Ended-clause-flash_calls : goal.returns-in-Ended-clause-flash_calls
 returns-in-Ended-clause-flash_calls g c =
     let last = last_of c.later_texts_are_unmarked.ensures.unmarked c.knowledge_is_enough.ensures.enough c.damage_is_never_met.ensures.never c.honest_sessions_are_smooth.ensures c.honest_lines_are_printed.ensures c.closed_is_finished.ensures.finished c.args.cat.now c.a_catalog_is_short.ensures.catalog c.a_catalog_has_a_layout.ensures.layout.tree (texts_of c.args.script.now) c.requires.few
-    (λ journal. g.L.Link.went c.args.link.now journal c.steps.link) (g.L.Link.faults c.args.link.now) (g.L.Link.faults c.steps.link) c.args.options.now.plan g.F.Flash.told c.args.options.now.at.now
+    (λ journal. g.L.Link.went c.args.link.now journal c.steps.link) (g.L.Link.faults c.args.link.now) (g.L.Link.faults c.steps.link) c.args.options.now.plan g.F.Flash.told c.args.options.now.at.now c.args.options.now.pace.now
     (session_side false (g.O.Sink.faults c.args.out.now) (g.O.Sink.written c.args.out.now) (g.F.Flash.state c.args.flash.now)) (g.O.Sink.faults c.steps.out) (g.O.Sink.written c.steps.out) (g.F.Flash.state c.steps.flash) c.steps.pool c.steps.session c.end.result
     c.steps.invariant.1 c.steps.invariant.2 c.steps.invariant.4 (c.due.ensures.closed c.in-Ended.is) (c.due.ensures.none c.in-Ended.is) c.end.ensures.texts c.end.ensures.refused c.end.ensures.faulted c.end.ensures.status in
     last.calls
@@ -151,7 +161,17 @@ returns-in-Ended-clause-flash_calls g c =
 pub returns-in-Ended-clause-flash_faults : goal.returns-in-Ended-clause-flash_faults
 returns-in-Ended-clause-flash_faults g c =
     let last = last_of c.later_texts_are_unmarked.ensures.unmarked c.knowledge_is_enough.ensures.enough c.damage_is_never_met.ensures.never c.honest_sessions_are_smooth.ensures c.honest_lines_are_printed.ensures c.closed_is_finished.ensures.finished c.args.cat.now c.a_catalog_is_short.ensures.catalog c.a_catalog_has_a_layout.ensures.layout.tree (texts_of c.args.script.now) c.requires.few
-    (λ journal. g.L.Link.went c.args.link.now journal c.steps.link) (g.L.Link.faults c.args.link.now) (g.L.Link.faults c.steps.link) c.args.options.now.plan g.F.Flash.told c.args.options.now.at.now
+    (λ journal. g.L.Link.went c.args.link.now journal c.steps.link) (g.L.Link.faults c.args.link.now) (g.L.Link.faults c.steps.link) c.args.options.now.plan g.F.Flash.told c.args.options.now.at.now c.args.options.now.pace.now
     (session_side false (g.O.Sink.faults c.args.out.now) (g.O.Sink.written c.args.out.now) (g.F.Flash.state c.args.flash.now)) (g.O.Sink.faults c.steps.out) (g.O.Sink.written c.steps.out) (g.F.Flash.state c.steps.flash) c.steps.pool c.steps.session c.end.result
     c.steps.invariant.1 c.steps.invariant.2 c.steps.invariant.4 (c.due.ensures.closed c.in-Ended.is) (c.due.ensures.none c.in-Ended.is) c.end.ensures.texts c.end.ensures.refused c.end.ensures.faulted c.end.ensures.status in
     last.faults
+
+pub returns-in-Ended-clause-paced : goal.returns-in-Ended-clause-paced
+returns-in-Ended-clause-paced g c =
+    let last = last_of c.later_texts_are_unmarked.ensures.unmarked c.knowledge_is_enough.ensures.enough c.damage_is_never_met.ensures.never c.honest_sessions_are_smooth.ensures c.honest_lines_are_printed.ensures c.closed_is_finished.ensures.finished c.args.cat.now c.a_catalog_is_short.ensures.catalog c.a_catalog_has_a_layout.ensures.layout.tree (texts_of c.args.script.now) c.requires.few
+    (λ journal. g.L.Link.went c.args.link.now journal c.steps.link) (g.L.Link.faults c.args.link.now) (g.L.Link.faults c.steps.link) c.args.options.now.plan g.F.Flash.told c.args.options.now.at.now c.args.options.now.pace.now
+    (session_side false (g.O.Sink.faults c.args.out.now) (g.O.Sink.written c.args.out.now) (g.F.Flash.state c.args.flash.now)) (g.O.Sink.faults c.steps.out) (g.O.Sink.written c.steps.out) (g.F.Flash.state c.steps.flash) c.steps.pool c.steps.session c.end.result
+    c.steps.invariant.1 c.steps.invariant.2 c.steps.invariant.4 (c.due.ensures.closed c.in-Ended.is) (c.due.ensures.none c.in-Ended.is) c.end.ensures.texts c.end.ensures.refused c.end.ensures.faulted c.end.ensures.status in
+    subst (λ (failed : Bool). RunsAtPace c.args.options.now.pace.now (λ journal. g.L.Link.went c.args.link.now journal c.steps.link) (g.L.Link.faults c.args.link.now) (g.L.Link.faults c.steps.link) c.args.options.now.plan g.F.Flash.told c.args.cat.now c.args.options.now.at.now (texts_of c.args.script.now)
+    (session_side false (g.O.Sink.faults c.args.out.now) (g.O.Sink.written c.args.out.now) (g.F.Flash.state c.args.flash.now)) (session_side failed (g.O.Sink.faults c.steps.out) (g.O.Sink.written c.steps.out) (g.F.Flash.state c.steps.flash)) c.end.result) (sym c.end.ensures.sink)
+    (record { ran = last.ran; paced = last.paced })

@@ -74,6 +74,7 @@ returns-in-Slice-clause-live g c = λ plan texts journal since live.
     (sym c.in-Slice.is ∙ c.due.ensures.by_rule plan g.F.Flash.told texts journal since (session_side c.args.self.now.teller.printer.failed (g.O.Sink.faults c.args.out.now) (g.O.Sink.written c.args.out.now) (g.F.Flash.state c.args.flash.now)) c.args.pool.now live)
     (record {
       went = record { gone = g.met.L.Link.stays _; counts = c.moves_join.ensures.joined.none _; short = refl };
+      sliced = c.tell.ensures.sliced;
       live = c.tell.ensures.live plan texts journal since next live;
     })
 
