@@ -1,25 +1,24 @@
 -- The levels of an index: as many rows at each as its table has, ranks among the entries, and the lists that they make.
-use Rattle.std.proofs.Common.{◌≡◌, refl, ap, sym, ◌∙◌, subst, ℕ, zero, suc, ◌+◌, ◌-◌, ◌*◌, ◌^◌, ◌<◌, ◌≤◌, true, List, [], ◌∷◌, length, map, drop, take, sum_by, get_or, Vec, arith}
+use Rattle.std.proofs.Common.{◌≡◌, refl, ap, sym, ◌∙◌, subst, ℕ, suc, ◌+◌, ◌-◌, ◌^◌, ◌<◌, ◌≤◌, List, [], ◌∷◌, length, map, drop, get_or, Vec, arith}
 use Rattle.std.specs.Global.{Global}
 use Rattle.std.specs.List.{All, AllByRecursion}
 use Rattle.std.proofs.lemmas.Option.{slice_get_within}
 use Rattle.std.proofs.lemmas.List.{length-map, get_or-map}
 use Rattle.std.proofs.lemmas.List.Elements.{All-get_or, All-from_get_or, All-from_recursion}
 use Rattle.std.proofs.lemmas.List.FromFn.{length-range_with_len, get_or-range_with_len}
-use Rattle.ghost_model.specs.core.Schema.{Schema, is_empty}
+use Rattle.ghost_model.specs.core.Schema.{Schema}
 use Rattle.ghost_model.specs.core.Channel.{Catalog}
 use Rattle.ghost_model.specs.core.Split.{Hidden}
 use Rattle.ghost_model.specs.laws.SchemaTrees.{IsTree}
-use Rattle.ghost_model.specs.forms.Runs.{Run, pages_of}
-use Rattle.ghost_model.specs.forms.Layout.{below, count_of, levels_of, above_of, is_hidden}
-use Rattle.ghost_model.specs.forms.Layout as layout
-use Rattle.ghost_model.specs.forms.Flash.{id_lists, value_lists, hidden_cells, AreValues}
+use Rattle.ghost_model.specs.forms.Runs.{Run}
+use Rattle.ghost_model.specs.forms.Layout.{below, count_of, levels_of, above_of}
+use Rattle.ghost_model.specs.forms.Flash.{id_lists}
 use Rattle.ghost_model.specs.laws.LayoutSums as sums
-use Rattle.ghost_model.specs.laws.LayoutLaws.{LevelsAreAncestors, LieAsSummed, AreFew}
+use Rattle.ghost_model.specs.laws.LayoutLaws.{LevelsAreAncestors}
 use Rattle.flash_layout.proofs.PlaceLemmas.{first_ancestor}
-use Rattle.index_lists.specs.Ranks.{AreRanks, of_referred}
+use Rattle.index_lists.specs.Ranks.{of_referred}
 use Rattle.index_lists.specs.Lists.{lists_of}
-use Rattle.index_lists.specs.Laws.{LeadAs, IdListsByRanks, ValueListsByRanks}
+use Rattle.index_lists.specs.Laws.{LeadAs, IdListsByRanks}
 use Rattle.index_files.specs.Files.{AreLevels, counts_of, level_pages, level_file}
 use Rattle.index_files.specs.Laws.{FilesOfTables}
 use Rattle.flash_build.specs.Levels.{RankedAbove, AreRankedAbove, items_of}

@@ -1,31 +1,26 @@
 -- The first level of an index: its rows in order are the lists of its ranks.
-use Rattle.std.proofs.Common.{◌≡◌, refl, ap, sym, ◌∙◌, subst, ℕ, ◌+◌, ◌-◌, ◌^◌, ◌<◌, ◌≤◌, ℤ, List, [], ◌∷◌, length, map, drop, get_or, Some, Vec, arith}
+use Rattle.std.proofs.Common.{◌≡◌, refl, ap, sym, ◌∙◌, subst, ℕ, ◌+◌, ◌-◌, ◌^◌, ◌<◌, ◌≤◌, List, [], ◌∷◌, length, map, drop, get_or, Some, Vec, arith}
 use Rattle.std.specs.Global.{Global}
-use Rattle.std.proofs.lemmas.List.{length-map}
-use Rattle.std.proofs.lemmas.Grind.{same_number_lists, get_or_after_one}
-use Rattle.ghost_model.specs.core.Schema.{Schema, parent, ancestor}
+use Rattle.std.proofs.lemmas.List.{length-map, get_or-map}
+use Rattle.std.proofs.lemmas.List.Elements.{All-get_or}
+use Rattle.std.specs.List.{All}
+use Rattle.std.proofs.lemmas.Grind.{same_number_lists}
 use Rattle.ghost_model.specs.core.Channel.{Catalog}
 use Rattle.ghost_model.specs.core.Split.{Hidden}
 use Rattle.ghost_model.specs.laws.SchemaTrees.{IsTree}
-use Rattle.ghost_model.specs.laws.MeaningLaws.{IsAtOrBelow}
 use Rattle.ghost_model.specs.laws.LayoutLaws.{LevelsAreAncestors}
 use Rattle.ghost_model.specs.forms.Layout.{below, count_of, levels_of, above_of}
 use Rattle.ghost_model.specs.forms.Flash.{IsHidden}
 use Rattle.std.proofs.lemmas.List.FromFn.{length-range_with_len}
-use Rattle.index_lists.specs.Ranks.{identifier_of, number_cells, of_referred}
-use Rattle.index_lists.specs.Lists.{AreListed}
-use Rattle.index_lists.specs.Numbering.{InOrder}
-use Rattle.index_lists.specs.Laws.{LeadAs, LevelsCompose, KeyOrdersAreLists}
-use Rattle.flash_build.specs.Levels.{AreKeys, RankedAbove, AreRankedAbove, items_of}
-use Rattle.flash_build.proofs.Leading.{key_bounds, ranks_up, ranked_itself, level_up, own_level}
-use Rattle.flash_build.proofs.Entries.{places_of}
+use Rattle.index_lists.specs.Ranks.{of_referred}
+use Rattle.index_lists.specs.Laws.{LeadAs}
+use Rattle.flash_layout.specs.Limits.{HasLayout}
+use Rattle.flash_build.specs.Levels.{RankedAbove, AreRankedAbove, items_of}
+use Rattle.flash_build.proofs.Leading.{ranked_itself, own_level}
+use Rattle.flash_build.proofs.Entries.{all_below, all_few, all_ranked}
 
 some_same : {a b : ℕ} → Some a ≡ Some b → a ≡ b
 some_same e = cc (e)
-
-at_itself : (schema : Schema) (table : ℕ) → IsAtOrBelow schema table table
-unfolding ancestor
-at_itself schema table = (0, refl)
 
 -- rows lead one way
 lead_once : (cat : Catalog) (hidden : Hidden) (from table : ℕ) (a b : List ℕ) → LeadAs cat hidden from table a → LeadAs cat hidden from table b → a ≡ b
@@ -52,48 +47,32 @@ own_ranks cat hidden are tree part table there some own long all ranked =
     (subst (λ (from : ℕ). RankedAbove cat hidden table own from own) (sym (own_level cat.schema are tree table there some))
     (ranked_itself cat hidden tree part table own long))
 
--- the table above
-pub above_is : (schema : Schema) → LevelsAreAncestors → IsTree schema → (table : ℕ) → table < length schema → 0 < length (above_of schema table)
-    → parent schema table ≡ Some (get_or (above_of schema table) 0 0)
-above_is schema are tree table there some =
-    let levels = levels_of schema table in
-    let more : 1 < length levels = many levels some in
-    ap (parent schema) (sym (own_level schema are tree table there (omega (arith, more))))
-    ∙ (level_up schema are tree table 0 there (omega (arith, more)) ∙ ap Some (sym (get_or_after_one levels 0 0)))
-  where
-    many : (xs : List ℕ) → 0 < length (drop 1 xs) → 1 < length xs
-    many [] low = absurd (omega (arith, low))
-    many (x ∷ xs) low = omega (arith, low)
+-- the ranks of the rows of the table above in a table's id index
+module _ (cat : Catalog) (hidden : Hidden) (table : ℕ) (laid : HasLayout cat) (some : 0 < length (above_of cat.schema table)) (all : List (Vec ℕ Global))
+    (ranked : AreRankedAbove cat hidden table (below (count_of cat table)) (levels_of cat.schema table) (map items_of all))
+    (ranks : Vec ℕ Global) (is : ranks ≡ get_or all 1 ranks) where
+  there : 1 < length all
+  there = let low = many (levels_of cat.schema table) some in let size = length-map all items_of in let count = ranked.count in omega (arith, low, size, count)
+    where
+      many : (xs : List ℕ) → 0 < length (drop 1 xs) → 1 < length xs
+      many [] low = absurd (omega (arith, low))
+      many (x ∷ xs) low = omega (arith, low)
 
--- rows in the order of their keys to a table are the lists of its id index at the table above
-pub keys_listed :
-    (cat : Catalog) (hidden : Hidden) → KeyOrdersAreLists → LevelsCompose → LevelsAreAncestors → IsTree cat.schema → (part : IsHidden cat hidden)
-    → (table : ℕ) → table < length cat.schema → 0 < length (above_of cat.schema table) → count_of cat table < 2 ^ 32
-    → (all : List (List ℕ)) → AreRankedAbove cat hidden table (below (count_of cat table)) (levels_of cat.schema table) all
-    → (from : ℕ) → from ≡ get_or (above_of cat.schema table) 0 0
-    → (keys : List ℤ) → AreKeys cat hidden from table keys → (rows : List ℕ) → InOrder (number_cells keys) rows
-    → AreListed (get_or all 1 []) (count_of cat table) rows
-keys_listed cat hidden law compose are tree part table there some few all ranked from is keys named rows in_order =
-    let count = count_of cat table in
-    let ks = map identifier_of keys in
-    let own = below count in
-    let levels = levels_of cat.schema table in
-    let up : parent cat.schema table ≡ Some from = above_is cat.schema are tree table there some ∙ ap Some (sym is) in
-    let level : from ≡ get_or levels 1 0 = is ∙ get_or_after_one levels 0 0 in
-    let low : 1 < length levels = many levels some in
-    let one : RankedAbove cat hidden table own from (get_or all 1 []) =
-    subst (λ (f : ℕ). RankedAbove cat hidden table own f (get_or all 1 [])) (sym level) (ranked.each 1 low) in
-    let other = ranks_up cat hidden from table keys named compose tree part up table (at_itself cat.schema table) own own
-    (ranked_itself cat hidden tree part table own (length-range_with_len 0 count)) in
-    let ranks = ranked_once cat hidden table own from (get_or all 1 []) (of_referred own ks) one other in
-    let size = length-map keys identifier_of ∙ named.long in
-    let places = places_of count ks (λ k within. let b = key_bounds cat hidden from table keys named k (omega (arith, within, size)) in
-    (let a = b.0 in omega (arith, a), b.1)) in
-    subst (λ (rs : List ℕ). AreListed rs count rows) (sym (ranks ∙ places)) (law keys count rows few named.named in_order)
-  where
-    many : (xs : List ℕ) → 0 < length (drop 1 xs) → 1 < length xs
-    many [] low = absurd (omega (arith, low))
-    many (x ∷ xs) low = omega (arith, low)
+  pub above_few : length ranks.items < 2 ^ 32
+  above_few =
+      subst (λ (v : Vec ℕ Global). length v.items < 2 ^ 32) (sym is)
+      (All-get_or (λ (v : Vec ℕ Global). length v.items < 2 ^ 32) all 1 ranks there
+      (all_few cat hidden table (below (count_of cat table)) laid.few.rows (levels_of cat.schema table) all ranked))
+
+  pub above_ranked : All (λ rank. rank < count_of cat table) ranks.items
+  above_ranked =
+      subst (λ (v : Vec ℕ Global). All (λ rank. rank < count_of cat table) v.items) (sym is)
+      (All-get_or (λ (v : Vec ℕ Global). All (λ rank. rank < count_of cat table) v.items) all 1 ranks there
+      (all_ranked cat hidden table (below (count_of cat table)) (count_of cat table) (length-range_with_len 0 (count_of cat table)) (all_below (count_of cat table))
+      (levels_of cat.schema table) all ranked))
+
+  pub above_is : get_or (map items_of all) 1 [] ≡ ranks.items
+  above_is = get_or-map items_of all 1 ranks [] there ∙ ap items_of (sym is)
 
 pub but_first_of : (vs : List (Vec ℕ Global)) → get_or (map items_of (drop 1 vs)) 0 [] ≡ get_or (map items_of vs) 1 []
 but_first_of [] = refl

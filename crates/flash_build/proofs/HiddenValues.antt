@@ -1,7 +1,7 @@
 -- The cells of a hidden column are those of its values as they lie in memory.
-use Rattle.std.proofs.Common.{◌≡◌, refl, ap, sym, ◌∙◌, subst, ℕ, zero, suc, ◌+◌, ◌<◌, ◌≤◌, ℤ, true, List, [], ◌∷◌, length, map, get_or, Option, Some, None, slice_get, arith}
+use Rattle.std.proofs.Common.{◌≡◌, refl, ap, sym, ◌∙◌, subst, ℕ, zero, suc, ◌+◌, ◌<◌, ℤ, true, List, [], ◌∷◌, length, map, get_or, Some, None, slice_get, arith}
 use Rattle.std.specs.Prelude.{IsTrue}
-use Rattle.std.specs.Option.{option_map, option_map_or}
+use Rattle.std.specs.Option.{option_map}
 use Rattle.std.proofs.lemmas.Option.{slice_get_within, slice_get-map, slice_get-get_or}
 use Rattle.std.proofs.lemmas.List.{length-map}
 use Rattle.ghost_model.specs.core.Schema.{Kind, Integer, Chars}
@@ -12,7 +12,7 @@ use Rattle.ghost_model.specs.core.Database.{rows_of, is_text, is_of_kind}
 use Rattle.ghost_model.specs.forms.Cells.{cell_width, encode_cell, padded}
 use Rattle.ghost_model.specs.core.Asks.{kind_at}
 use Rattle.ghost_model.specs.core.Split.{Hidden}
-use Rattle.ghost_model.specs.forms.Layout.{is_hidden, width_at, count_of}
+use Rattle.ghost_model.specs.forms.Layout.{is_hidden, count_of}
 use Rattle.ghost_model.specs.laws.LayoutLaws.{AreNarrow}
 use Rattle.ghost_model.specs.forms.Flash.{IsHidden, hidden_cells}
 use Rattle.ghost_model.specs.laws.FlashLaws.{hidden_before, CellsFit, HiddenValuesByPlace, HiddenValuesOfDatabases, HiddenPartsGoWithCatalogs, HiddenCellsFit}

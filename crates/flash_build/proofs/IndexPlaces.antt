@@ -1,21 +1,17 @@
 -- Where the files of indexes lie: a directory behind the header, if there is one, and the level files behind the directory's room.
-use Rattle.std.proofs.Common.{◌≡◌, refl, ap, sym, ◌∙◌, subst, ℕ, ◌+◌, ◌-◌, ◌*◌, ◌/◌, ◌<◌, ◌≤◌, true, false, cond, List, [], length, map, replicate, get_or, Vec, arith}
-use Rattle.std.specs.Global.{Global}
+use Rattle.std.proofs.Common.{◌≡◌, ap, ◌∙◌, ℕ, ◌+◌, ◌-◌, ◌*◌, ◌/◌, ◌<◌, ◌≤◌, true, false, cond, List, [], length, replicate, get_or, arith}
 use Rattle.std.proofs.Math.Nat.{div-mul-le_self}
 use Rattle.std.proofs.lemmas.Nat.{le-div}
-use Rattle.std.proofs.lemmas.List.{length-map, length-replicate, get_or-replicate}
+use Rattle.std.proofs.lemmas.List.{length-replicate, get_or-replicate}
 use Rattle.ghost_model.specs.core.Schema.{is_empty}
 use Rattle.ghost_model.specs.core.Channel.{Catalog}
-use Rattle.ghost_model.specs.core.Split.{Hidden}
-use Rattle.ghost_model.specs.forms.Runs.{Run, pages_of, per_page, run_pages, run_end}
+use Rattle.ghost_model.specs.forms.Runs.{Run, pages_of, per_page, run_pages}
 use Rattle.ghost_model.specs.forms.Layout as layout
 use Rattle.ghost_model.specs.forms.Layout.{is_hidden, count_of, levels_of, above_of}
-use Rattle.ghost_model.specs.laws.LayoutSums as sums
 use Rattle.ghost_model.specs.laws.LayoutSums.{index_begin, index_pages, directory_pages, directory_width, levels_pages, id_index_begin, id_index_pages, id_directory_pages}
 use Rattle.ghost_model.proofs.LayoutLemmas.Small.{some_in}
 use Rattle.ghost_model.proofs.LayoutLemmas.Numbers.{some_per_page}
 use Rattle.flash_layout.specs.Limits.{HasLayout}
-use Rattle.flash_build.specs.Levels.{AreRankedAbove, items_of}
 
 -- the id index of a table that has tables above it
 pub record IsIdIndex (cat : Catalog) (table : ℕ) (run first : Run) : Type 0 where

@@ -1,5 +1,5 @@
 -- The index of a hidden column whose rows are ranked: what its entries and levels are, and where they lie.
-use Rattle.std.proofs.Common.{◌≡◌, refl, ap, sym, ◌∙◌, subst, ℕ, ◌+◌, ◌-◌, ◌*◌, ◌^◌, ◌<◌, ◌≤◌, true, cond, List, [], ◌∷◌, length, map, get_or, Vec, Result, arith}
+use Rattle.std.proofs.Common.{◌≡◌, refl, ap, sym, ◌∙◌, subst, ℕ, ◌+◌, ◌*◌, ◌^◌, ◌<◌, ◌≤◌, true, cond, List, [], ◌∷◌, length, map, get_or, Vec, Result, arith}
 use Rattle.std.specs.Global.{Global}
 use Rattle.std.specs.List.{All}
 use Rattle.std.proofs.lemmas.List.{length-map, get_or-map}
@@ -7,7 +7,6 @@ use Rattle.std.proofs.lemmas.List.Elements.{All-from_get_or}
 use Rattle.ghost_model.specs.core.Channel.{Catalog}
 use Rattle.ghost_model.specs.core.Split.{Hidden}
 use Rattle.ghost_model.specs.forms.Runs.{Run, Stores, pages_of, run_pages, run_end, number_cell}
-use Rattle.ghost_model.specs.laws.RunLaws.{AgreeOn}
 use Rattle.ghost_model.specs.forms.Flash.{HoldsLists, HoldsIndex, hidden_cells, value_lists}
 use Rattle.ghost_model.specs.forms.Work.{value_count}
 use Rattle.ghost_model.specs.laws.WorkLaws.{ValuesAreCounted, index_written}

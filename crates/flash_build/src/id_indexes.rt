@@ -11,7 +11,6 @@ ghost use Rattle.flash_build.specs.Building.{HoldsIdIndex, Wrote};
 ghost use Rattle.flash_build.specs.Levels.{AreRankedAbove, items_of};
 
 use crate::faults::BuildFault;
-use crate::keys::keys_of;
 use crate::levels::{level_ranks, numbers_from};
 use crate::places::layout_laws;
 use crate::writing::write_entries;
@@ -20,8 +19,8 @@ use edge_traits::flash::Flash;
 use flash_layout::Layout;
 use index_files::NoHeads;
 use index_files::laws::level_files_of_tables;
-use index_lists::laws::{id_lists_by_ranks, key_orders_are_lists, levels_compose};
-use index_lists::{Numbers, order_rows};
+use index_lists::laws::id_lists_by_ranks;
+use index_lists::rows_by_rank;
 use std::alloc::{AllocError, Global};
 
 /// The ranks of the rows of a table and of those above it in the table's id index: at the table itself the place of each row.
@@ -40,7 +39,7 @@ fn id_ranks(
 }
 
 /// The ranks of the rows at each level of a table's id index, and the rows of the table above in the order of their foreign
-/// keys.
+/// keys, which are the ranks of these. No row is sorted.
 fn id_rows(
     alloc: Global,
     laid: &Layout<'_>,
@@ -54,12 +53,8 @@ fn id_rows(
     ensures rows { IfOk result (λ two. AreListed (get_or (map items_of two.0.items) 1 []) (layout.count_of laid.now table) two.1.items) }
 {
     layout_laws(laid);
-    ghost_model::layout::levels_are_ancestors();
-    key_orders_are_lists();
-    levels_compose();
     let all = id_ranks(alloc, laid, hidden, table)?;
-    let keys = keys_of(laid, hidden, laid.above(table)[0], table);
-    let rows = order_rows(alloc, &Numbers { numbers: keys })?;
+    let rows = rows_by_rank(alloc, &all[1], laid.rows(table))?;
     Ok((all, rows))
 }
 

@@ -71,14 +71,6 @@ pub record LevelsWritten (told : Bool) (levels : List (List ℕ)) (entries begin
       → Stores now.page (level_file begin (counts_of levels) level) (list_records (lists_of (get_or levels level []) entries))
   pub wrote : Written begin (begin + level_pages (take done (counts_of levels))) (level_pages (take done (counts_of levels))) before now
 
--- the identifiers of rows that stand behind their ranks
-pub rows_records : (rows : List (ℕ × ℕ)) (lists : List (List ℕ)) → map (λ row. row.1) rows ≡ concat lists → map (λ row. number_cell row.1) rows ≡ list_records lists
-rows_records rows lists same = sym (mapped rows) ∙ ap (map number_cell) same
-  where
-    mapped : (pairs : List (ℕ × ℕ)) → map number_cell (map (λ (row : ℕ × ℕ). row.1) pairs) ≡ map (λ row. number_cell row.1) pairs
-    mapped [] = refl
-    mapped (pair ∷ pairs) = ap (λ cells. number_cell pair.1 ∷ cells) (mapped pairs)
-
 -- the identifiers of rows that are counted from 0
 pub ordered_records : (rows : List ℕ) (lists : List (List ℕ)) → identifiers_of rows ≡ concat lists → map (λ row. number_cell (row + 1)) rows ≡ list_records lists
 ordered_records rows lists same = sym (mapped rows) ∙ ap (map number_cell) same

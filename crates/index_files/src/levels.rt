@@ -13,34 +13,11 @@ use crate::faults::IndexFault;
 use crate::records::write_records;
 use edge_traits::flash::Flash;
 use flash_pages::filling::Records;
-use ghost_base::Id;
 use index_lists::rows_by_rank;
 use std::alloc::Global;
 
 /// The identifiers that a page takes.
 const IDS_PER_PAGE: usize = 512;
-
-/// The identifiers of rows that stand behind their ranks, each a record of four bytes.
-#[derive(Drop)]
-pub(crate) struct RankedRows<'r> {
-    /// The rows.
-    pub rows: &'r [(u32, Id)],
-    ghost few: { length rows.now < 2 ^ 32 },
-}
-
-impl<'r> Records for RankedRows<'r> {
-    ghost records = { λ source. map (λ row. number_cell row.1) source.rows.now };
-
-    fn count(&self) -> u32 {
-        self.rows.len() as u32
-    }
-
-    fn record<'a>(&'a self, i: u32, room: &'a mut [u8; 256]) -> &'a [u8] {
-        let (_, id) = self.rows[i as usize];
-        room[..4].copy_from_slice(&id.to_be_bytes());
-        &room[..4]
-    }
-}
 
 /// The identifiers of rows that are counted from 0 and stand in order, each a record of four bytes.
 #[derive(Drop)]
@@ -132,7 +109,7 @@ fn write_ranked<F: Flash>(
 {
     match rows_by_rank(alloc, ranks, entries) {
         Err(_) => Err(IndexFault::NoMemory),
-        Ok(rows) => write_records(flash, buf, &RankedRows { rows: &rows }, first, 4),
+        Ok(rows) => write_ordered(flash, buf, &rows, ranks, entries, first),
     }
 }
 

@@ -59,7 +59,8 @@ fn write_directory<F: Flash, H: Records>(
 /// The directory has a record for each entry: its head, and eight bytes for each level. `levels` has, for each level, the
 /// ranks of its rows: the number of the entry in whose list the row stands; `rows` are those of the first level in order,
 /// counted from 0. `directory` has as many records as there are entries; its pages and those from `begin` on are blank. It
-/// takes four bytes for each entry a level while the directory is written, and eight for each row of one later level at a time.
+/// takes four bytes for each entry a level while the directory is written, and then, one later level at a time, four for each
+/// row of it and four for each entry.
 ///
 /// Where the flash fails, nothing more is written.
 pub fn write_lists<F: Flash, H: Records>(

@@ -9,3 +9,4 @@ pub mod Heads
 pub mod HeadedRows
 pub mod OwnOrder
 pub mod KeyOrders
+pub mod Placing

@@ -1,9 +1,9 @@
 -- Rows that foreign keys name.
-use Rattle.std.proofs.Common.{◌≡◌, refl, ℕ, ◌-◌, ◌<◌, ◌≤◌, ℤ, pos, negsuc, Bool, true, false, ◌&&◌, List, length, map, get_or, arith}
+use Rattle.std.proofs.Common.{◌≡◌, refl, sym, subst, ℕ, ◌+◌, ◌-◌, ◌<◌, ◌≤◌, ℤ, pos, negsuc, Bool, true, false, ◌&&◌, List, length, map, get_or, take, arith}
 use Rattle.std.specs.Prelude.{IsTrue, nat_le}
 use Rattle.std.specs.List.{All}
 use Rattle.std.proofs.lemmas.Bool.Decides.{nat_tests}
-use Rattle.std.proofs.lemmas.List.Elements.{All-get_or, All-map, All-weaker}
+use Rattle.std.proofs.lemmas.List.Elements.{All-get_or, All-map, All-weaker, All-more}
 use Rattle.ghost_model.specs.core.Values.{Number}
 use Rattle.ghost_model.specs.core.Database.{is_row_among}
 use Rattle.index_lists.specs.Ranks.{identifier_of, of_referred}
@@ -41,3 +41,22 @@ ranks_below ranks entries keys named below =
     (All-weaker (λ key. IsTrue (is_row_among (length ranks) (Number key))) (λ key. held (identifier_of key) < entries) (λ key h.
     let row = row_named (length ranks) key h in
     All-get_or (λ rank. rank < entries) ranks (identifier_of key - 1) 0 (omega (arith, row.real, row.within)) below) keys named))
+
+row_is : (n count : ℕ) → 0 < n → n ≤ count → IsTrue (is_row_among count (Number (pos n)))
+row_is n count real within = grind (arith, nat_tests)
+
+still_named : (count more : ℕ) (key : ℤ) → count ≤ more → IsTrue (is_row_among count (Number key)) → IsTrue (is_row_among more (Number key))
+still_named count more key up h =
+    let row = row_named count key h in
+    subst (λ k. IsTrue (is_row_among more (Number k))) (sym row.is) (row_is (identifier_of key) more row.real (omega (arith, row.within, up)))
+
+-- one key more, and a bound that is no lower
+pub named_more :
+    (keys : List ℤ) (i count more most : ℕ) → i < length keys → count ≤ more → identifier_of (get_or keys i (pos 0)) ≤ more
+    → IsTrue (is_row_among most (Number (get_or keys i (pos 0)))) → All (λ key. IsTrue (is_row_among count (Number key))) (take i keys)
+    → All (λ key. IsTrue (is_row_among more (Number key))) (take (i + 1) keys)
+named_more keys i count more most low up within is named =
+    let row = row_named most (get_or keys i (pos 0)) is in
+    let here = subst (λ k. IsTrue (is_row_among more (Number k))) (sym row.is) (row_is (identifier_of (get_or keys i (pos 0))) more row.real within) in
+    let before = All-weaker (λ key. IsTrue (is_row_among count (Number key))) (λ key. IsTrue (is_row_among more (Number key))) (λ key h. still_named count more key up h) (take i keys) named in
+    All-more (λ key. IsTrue (is_row_among more (Number key))) keys i (pos 0) low before here

@@ -1,7 +1,8 @@
 //! The ranks of a column's rows, and the lists of an index at the table itself and at the one above it.
 
 use index_lists::{
-    Numbers, list_starts, places_referred, rank_column, rank_numbers, ranks_above, rows_by_rank,
+    Numbers, list_starts, order_numbers, places_referred, rank_column, rank_numbers, ranks_above,
+    rows_by_rank,
 };
 use std::alloc::{AllocError, Global};
 
@@ -29,10 +30,9 @@ fn rows_rank_by_their_integers(rt: HostRuntime) -> Result<(), AllocError> {
 fn lists_stand_by_rank_and_ascend(rt: HostRuntime) -> Result<(), AllocError> {
     let ranks = [2, 0, 2, 1];
     let rows = rows_by_rank(rt.alloc(), &ranks, 3)?;
-    assert_eq!(rt;
-        rows.as_slice(),
-        [(0, 2), (1, 4), (2, 1), (2, 3)].as_slice()
-    );
+    assert_eq!(rt; rows.as_slice(), [1, 3, 0, 2].as_slice());
+    let keys = order_numbers(rt.alloc(), &KEYS)?;
+    assert_eq!(rt; keys.as_slice(), [1, 2, 0].as_slice());
     let starts = list_starts(rt.alloc(), &ranks, 3)?;
     assert_eq!(rt; starts.as_slice(), [0, 1, 2, 4].as_slice());
     Ok(())

@@ -1,4 +1,4 @@
-use Rattle.std.proofs.Common.{rules, ◌≡◌, ◌≤◌, ◌<◌, ◌-◌, ◌^◌, OnOk, sym, ap, subst, arith}
+use Rattle.std.proofs.Common.{rules, ◌≤◌, ◌<◌, ◌-◌, ◌^◌, OnOk, sym, ap, subst, arith}
 use Rattle.ghost_model.specs.core.Channel.{Catalog}
 use Rattle.ghost_model.specs.forms.Layout as layout
 use Rattle.ghost_model.specs.forms.Work as work

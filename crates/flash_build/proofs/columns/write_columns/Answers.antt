@@ -1,4 +1,4 @@
-use Rattle.std.proofs.Common.{◌≡◌, ap, sym, subst, refl, Err, arith, rules}
+use Rattle.std.proofs.Common.{◌≡◌, sym, subst, refl, Err, arith, rules}
 use Rattle.ghost_model.specs.forms.Layout as layout
 use Rattle.ghost_model.specs.laws.LayoutSums as sums
 use Rattle.flash_build.specs.Building.{Wrote}

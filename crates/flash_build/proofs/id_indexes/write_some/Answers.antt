@@ -1,8 +1,7 @@
-use Rattle.std.proofs.Common.{◌≡◌, ◌∙◌, ap, sym, subst, drop, map, arith}
+use Rattle.std.proofs.Common.{◌∙◌, ap, sym, drop, arith}
 use Rattle.std.proofs.lemmas.List.{length-replicate}
 use Rattle.ghost_model.proofs.LayoutLemmas.Small.{some_in}
 use Rattle.ghost_model.specs.forms.Layout as layout
-use Rattle.flash_build.specs.Levels.{AreRankedAbove, items_of}
 use Rattle.flash_build.proofs.Writes.{on_ok}
 use Rattle.flash_build.proofs.IdEntries as entries
 use Rattle.flash_build.proofs.IndexPlaces.{no_bytes}

@@ -1,9 +1,9 @@
-use Rattle.std.proofs.Common.{◌≡◌, ◌<◌, ap, sym, subst, refl, Err, arith, rules}
+use Rattle.std.proofs.Common.{◌≡◌, ◌<◌, sym, subst, refl, Err, arith, rules}
 use Rattle.ghost_model.specs.forms.Layout as layout
 use Rattle.ghost_model.specs.laws.LayoutSums as sums
 use Rattle.ghost_model.specs.laws.WorkLaws.{indexes_written}
 use Rattle.flash_build.specs.Building.{Wrote}
-use Rattle.flash_build.proofs.Writes.{written, written_more, written_as, wrote_after, wrote_as, wrote_ok, fails}
+use Rattle.flash_build.proofs.Writes.{written, written_more, written_as, wrote_after, fails}
 use Rattle.flash_build.proofs.TableFiles.{can_fill_index, index_ends, indexes_more, written_next, written_rise}
 use Rattle.flash_build.proofs.indexes.write_indexes.Goals as goal
 

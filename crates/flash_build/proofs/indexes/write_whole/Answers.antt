@@ -2,7 +2,7 @@ use Rattle.std.proofs.Common.{◌≡◌, ◌+◌, ◌∙◌, ap, sym, subst, ref
 use Rattle.ghost_model.specs.forms.Runs.{Run}
 use Rattle.ghost_model.specs.laws.LayoutSums as sums
 use Rattle.ghost_model.specs.laws.WorkLaws.{index_written}
-use Rattle.flash_build.specs.Building.{Wrote, entries_written}
+use Rattle.flash_build.specs.Building.{Wrote}
 use Rattle.flash_pages.proofs.RunFrames.{can_fill_part}
 use Rattle.flash_build.proofs.Writes.{on_ok, written, written_as, wrote_after, wrote_as, fails, can_as, can_fill_rest}
 use Rattle.flash_build.proofs.ValueEntries as entries

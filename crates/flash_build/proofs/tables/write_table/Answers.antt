@@ -2,7 +2,7 @@ use Rattle.std.proofs.Common.{◌≡◌, ◌+◌, refl, sym, subst, Err, arith, 
 use Rattle.ghost_model.specs.laws.LayoutSums as sums
 use Rattle.ghost_model.specs.laws.WorkLaws.{table_written}
 use Rattle.flash_build.specs.Building.{Wrote}
-use Rattle.flash_build.proofs.Writes.{on_ok, written, written_more, wrote_after, wrote_as, wrote_within, fails, can_fill_rest}
+use Rattle.flash_build.proofs.Writes.{on_ok, written, written_more, wrote_after, wrote_as, fails, can_fill_rest}
 use Rattle.flash_build.proofs.TableFiles.{table_holds}
 use Rattle.flash_build.proofs.tables.write_table.Goals as goal
 
