@@ -184,6 +184,7 @@ impl Cases {
             Directive::Calls => self.put_calls()?,
             Directive::Show => self.show(rest)?,
             Directive::Size => self.put_size(rest)?,
+            Directive::Same => self.compare(rest)?,
             Directive::Pages => put_pages(self.alloc, &mut self.page, &self.bench.flash)?,
             _ => match self.bench.link.journal() {
                 None => put(&mut self.page, "? moves\n")?,
@@ -231,5 +232,19 @@ impl Cases {
             }
         };
         put(&mut self.page, &line)
+    }
+
+    /// Tells whether two files are there and have the same bytes.
+    fn compare(&mut self, names: &str) -> Result<(), AllocError> {
+        let (one, other) = first_of(names);
+        let equal = match (self.bench.depot.file(one), self.bench.depot.file(other)) {
+            (Some(first), Some(second)) => first == second,
+            _ => false,
+        };
+        let word = if equal { "are the same" } else { "differ" };
+        put(
+            &mut self.page,
+            &format!(in self.alloc; "{one} and {other} {word}\n")?,
+        )
     }
 }

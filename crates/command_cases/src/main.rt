@@ -25,6 +25,7 @@
 //! | `do-brief WORDS` | the same, but leaves out the middle of each long run of rows |
 //! | `calls` | prints how many calls of each object were made, and how many reads of the flash were deep |
 //! | `show NAME`, `size NAME` | prints a file, or how many bytes it has |
+//! | `same NAME NAME` | prints whether two files are there and have the same bytes |
 //! | `pages` | prints how many pages the flash has, and those that are not blank, up to their last byte that is not 0xFF |
 //! | `moves`, `moves-count` | prints the moves of the link, or how many they are |
 //!

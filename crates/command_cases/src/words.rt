@@ -23,11 +23,12 @@ pub enum Directive {
     Calls,
     Show,
     Size,
+    Same,
     Moves,
     MovesCount,
 }
 
-const DIRECTIVES: [(&str, Directive); 22] = [
+const DIRECTIVES: [(&str, Directive); 23] = [
     ("#", Directive::Heading),
     ("case", Directive::Case),
     ("file", Directive::File),
@@ -48,6 +49,7 @@ const DIRECTIVES: [(&str, Directive); 22] = [
     ("calls", Directive::Calls),
     ("show", Directive::Show),
     ("size", Directive::Size),
+    ("same", Directive::Same),
     ("moves", Directive::Moves),
     ("moves-count", Directive::MovesCount),
 ];

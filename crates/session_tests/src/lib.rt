@@ -11,6 +11,8 @@ mod large_tables;
 #[cfg(test)]
 mod lines_told;
 #[cfg(test)]
+mod paces_kept;
+#[cfg(test)]
 mod plain_answers;
 #[cfg(test)]
 mod printed_lines;
