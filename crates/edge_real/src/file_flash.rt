@@ -2,7 +2,7 @@
 
 ghost use Rattle.std.specs.Prelude.{◌≡◌, ◌≤◌, ◌+◌, ◌*◌, IsTrue, IsOk, ◌↔◌, IfSome, None, option_map, true, false, [], vec_len};
 ghost use Rattle.ghost_model.specs.core.Causes.{HasCause};
-ghost use Rattle.edge_traits.specs.Devices.{next, since_call};
+ghost use Rattle.edge_traits.specs.Devices.{next, since_call, is_made, made_before};
 ghost use Rattle.edge_traits.specs.Marks.{is_marked};
 
 use edge_traits::flash::{AttachFault, Flash};
@@ -183,8 +183,10 @@ where
       deep_reads = flash.deep_reads;
       faults = flash.faults;
       since_fault = flash.since_fault;
-      gave = λ at page bytes. true;
+      gave = λ at page bytes. is_made flash.calls at;
     } };
+
+    ghost made = { λ flash at page bytes. made_before flash.calls at };
 
     fn make(&mut self, alloc: Global, name: &str, blocks: u32) -> Result<(), AttachFault> {
         self.close();

@@ -63,6 +63,8 @@ impl<F: Flash + Drop, E: Eprint + Drop> Flash for ToldFlash<F, E> {
 
     ghost state = { λ told. F.state told.flash };
 
+    ghost made = { λ told. F.made told.flash };
+
     fn make(&mut self, alloc: Global, name: &str, blocks: u32) -> Result<(), AttachFault> {
         tell_file(&self.to, "making", name);
         self.flash.make(alloc, name, blocks)

@@ -1,7 +1,8 @@
 -- A flash device: its pages by their numbers, which of them are blank, and what was counted of the calls on it. A block is
 -- 64 pages, a page 2,048 bytes. The bytes of pages are a function of the page's number: a clause claims something of them
 -- only where they are told.
-use Rattle.std.specs.Prelude.{◌≡◌, ℕ, ◌+◌, ◌<◌, ◌≤◌, min, Bool, true, false, if◌then◌else◌, List, replicate, Option, Result, Ok, Err}
+use Rattle.std.specs.Prelude.{◌≡◌, ℕ, ◌+◌, ◌<◌, ◌≤◌, min, Bool, true, false, nat_le, if◌then◌else◌, List, replicate, Option, Result, Ok, Err}
+use Rattle.std.proofs.lemmas.Bool.{leb-true}
 use Rattle.ghost_model.specs.core.Causes.{Rose, last_count}
 use Rattle.edge_traits.specs.declared.flash.AttachFault.{AttachFault}
 use Rattle.edge_traits.specs.declared.flash.AttachFault.TheVariants.{Failed, NoMemory}
@@ -21,12 +22,19 @@ pub record Device : Type 0 where
   pub faults : ℕ
   -- the calls since the last failed one
   pub since_fault : ℕ
-  -- after so many calls a read of that page gave these bytes
+  -- after so many calls, and before now, a read of that page gave these bytes
   pub gave : ℕ → ℕ → List ℕ → Bool
 
 -- a count one higher, which stays at its last value
 abbrev pub next : ℕ → ℕ
 next n = min (n + 1) last_count
+
+-- a call that was made after so many others is among these calls
+abbrev pub is_made : (calls at : ℕ) → Bool
+is_made calls at = nat_le (next at) calls
+
+pub made_before : (calls at : ℕ) → is_made calls at ≡ true → next at ≤ calls
+made_before calls at is = leb-true (next at) calls is
 
 -- a count that is one higher under a condition
 abbrev pub next_if : Bool → ℕ → ℕ

@@ -1,6 +1,6 @@
 -- What a device in memory tells.
-use Rattle.std.specs.Prelude.{true, if◌then◌else◌, Some, None, vec_len}
-use Rattle.edge_traits.specs.Devices.{Device}
+use Rattle.std.specs.Prelude.{if◌then◌else◌, Some, None, vec_len}
+use Rattle.edge_traits.specs.Devices.{Device, is_made}
 use Rattle.edge_traits.specs.Marks.{is_marked}
 use Rattle.edge_traits.specs.Pages.{page_at}
 use Rattle.edge_traits.specs.declared.mem_flash.MemFlash.{MemFlash}
@@ -15,5 +15,5 @@ device_of flash = record {
   deep_reads = flash.deep_reads;
   faults = flash.script.faults;
   since_fault = flash.since_fault;
-  gave = λ at page bytes. true;
+  gave = λ at page bytes. is_made flash.script.calls at;
 }

@@ -1,6 +1,6 @@
 //! A flash device of pages and blocks.
 
-ghost use Rattle.std.specs.Prelude.{◌≡◌, ◌<◌, ◌≤◌, ◌+◌, ◌*◌, ◌%◌, Bool, true, false, Some, None, IfOk, OnOk, OnErr, nat_le};
+ghost use Rattle.std.specs.Prelude.{◌≡◌, ℕ, List, ◌<◌, ◌≤◌, ◌+◌, ◌*◌, ◌%◌, Bool, true, false, Some, None, IfOk, OnOk, OnErr, nat_le};
 ghost use Rattle.ghost_model.specs.core.Causes.{HasCause};
 ghost use Rattle.edge_traits.specs.Devices.{Device, next, next_if, since_call, since_attach, AttachCause, KeepsPages, ChangesOnly, IsErased, NotBlank};
 ghost use Rattle.edge_traits.specs.declared.flash.AttachFault.TheVariants.{Failed as call_failed, NoMemory as no_memory};
@@ -123,4 +123,7 @@ pub trait Flash {
     /// How many pages the device has: none before it was made or attached.
     fn pages(&self) -> u32
         ensures { result ≡ (state self.now).page_count };
+
+    /// What a read gave it gave by a call that was counted.
+    ghost made: { (flash : Self) (at page : ℕ) (bytes : List ℕ) → (state flash).gave at page bytes ≡ true → next at ≤ (state flash).calls };
 }

@@ -162,10 +162,13 @@ fn write_half(page: &mut [u8; 2048], bytes: &[u8; 2048])
 
 impl Flash for MemFlash {
     ghost use Rattle.edge_traits.specs.MemDevices.{device_of};
+    ghost use Rattle.edge_traits.specs.Devices.{made_before};
 
     ghost told = { true };
 
     ghost state = { device_of };
+
+    ghost made = { λ flash at page bytes. made_before flash.script.calls at };
 
     fn make(&mut self, alloc: Global, name: &str, blocks: u32) -> Result<(), AttachFault> {
         self.is_open = false;

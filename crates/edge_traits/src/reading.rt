@@ -72,7 +72,7 @@ pub fn read_file<D: Depot>(
     ensures stays_sure { (other : List ℕ) → D.sure depot.old other → D.sure depot.new other }
 {
     let mut bytes = Vec::new(alloc);
-    let mut piece = [0u8; 4096];
+    let mut piece = [0u8; 65536];
     loop {
         let count = depot.read_at(name, bytes.len() as u64, &mut piece)?;
         if count == 0 {
