@@ -40,7 +40,7 @@ use Rattle.condition_lists.specs.declared.term.Term.TheVariants.{Entries, Identi
 use Rattle.condition_lists.specs.Bounds.{AreOfKind, lies_within}
 use Rattle.condition_lists.specs.Terms.{AreIdsOf, IsIndexAt, IsIdIndexAt, IsBehind, is_in, is_in_one, meets}
 use Rattle.condition_lists.specs.Laws.{IsOver, BoundsAreOfValues, AreGroupsOf, IsSecondGroup, AreReplied, ListsAreOfTerms, lists_in, replied_ids}
-use Rattle.condition_lists.specs.QueryWork.{values_of, count_values}
+use Rattle.ghost_model.specs.forms.QueryWork.{values_of, count_values}
 use Rattle.condition_lists.specs.Costs.{rows_meeting, values_within, replied_count}
 use Rattle.condition_lists.specs.CostLaws.{AreWithin, AreAscending}
 use Rattle.condition_lists.proofs.CountLemmas.{in_range, ranges_once, distinct_by_place, ascending_once, map_once, lists_within, counted}

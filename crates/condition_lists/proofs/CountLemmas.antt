@@ -10,7 +10,7 @@ use Rattle.ghost_model.specs.core.Values.{Value}
 use Rattle.ghost_model.specs.core.Database.{holds}
 use Rattle.ghost_model.specs.core.Query as query
 use Rattle.ghost_model.proofs.MeaningLemmas.OneRow.{Among, Distinct, distinct-append, from_map, value_equal, either_true}
-use Rattle.condition_lists.specs.QueryWork.{count_values}
+use Rattle.ghost_model.specs.forms.QueryWork.{count_values}
 use Rattle.condition_lists.proofs.MemberLemmas.{mapped_many}
 
 pub in_range : (x a n : ℕ) → Among x (range_with_len a n) → (a ≤ x) × (x < a + n)

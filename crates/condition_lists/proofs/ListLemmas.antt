@@ -50,7 +50,7 @@ use Rattle.condition_lists.specs.declared.bounds.Bounds.{Bounds}
 use Rattle.condition_lists.specs.declared.term.Term.TheVariants.{Ranges, Entries, Identifiers, TopReply, Reply}
 use Rattle.condition_lists.specs.Bounds.{AreBoundsOf, AreOfKind, IsPairOfKind, IsSecondOfKind, lies_between, lies_in_second, lies_within}
 use Rattle.condition_lists.specs.Terms.{IsIndexAt, IsIdIndexAt, IsBehind, is_in, is_in_one}
-use Rattle.condition_lists.specs.QueryWork.{values_of}
+use Rattle.ghost_model.specs.forms.QueryWork.{values_of}
 use Rattle.condition_lists.specs.Laws.{IsOver, BoundsAreOfValues, AreGroupsOf, IsSecondGroup, IsListed, IsListedOf, IsEntryOf, IsMet, AreReplied, replied_ids}
 use Rattle.condition_lists.proofs.GroupLemmas.{in_group, to_group, agree, none_in, within_of}
 use Rattle.condition_lists.proofs.MemberLemmas.{among_of, contains_of, kept_row, row_kept, mapped_at, mapped_get, mapped_ids, ids_many, mapped_many, indexed, indexed_above, got}

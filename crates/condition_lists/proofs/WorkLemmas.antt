@@ -37,7 +37,7 @@ use Rattle.condition_lists.specs.declared.term.Term.TheVariants.{Ranges, Entries
 use Rattle.condition_lists.specs.Bounds.{lies_within}
 use Rattle.condition_lists.specs.Terms.{AreEntriesOf, AreIdentifiersOf, IsTermOf, IsReplyTermOf, AreTermsOf, IsIdIndexAt, is_in_one, is_compared}
 use Rattle.condition_lists.specs.Laws.{IsOver}
-use Rattle.condition_lists.specs.QueryWork.{union_work, search_work, values_of, count_values, values_met, rows_met, rows_leading, values_work, condition_work, honest_rows, reply_work}
+use Rattle.ghost_model.specs.forms.QueryWork.{union_work, search_work, values_of, count_values, values_met, rows_met, rows_leading, values_work, condition_work, honest_rows, reply_work}
 use Rattle.condition_lists.specs.Costs.{rows_meeting, values_within, replied_count, term_cost}
 use Rattle.condition_lists.specs.CostLaws.{WorkGrows}
 use Rattle.condition_lists.proofs.CountLemmas.{ranges_once, among_map, counted, at_most, same_count}

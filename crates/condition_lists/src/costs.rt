@@ -6,7 +6,7 @@ ghost use Rattle.condition_lists.specs.CostLaws.{WorkGrows, UnionsPay, ListsAreW
 pub fn work_grows()
     ensures { WorkGrows }
 {
-    crate::query_work::bits_are_least();
+    ghost_model::query_work::bits_are_least();
 }
 
 /// The work of a union is enough for what is read and written of the one list beside its reduction.

@@ -8,7 +8,6 @@
 pub mod bounds;
 pub mod costs;
 pub mod laws;
-pub mod query_work;
 pub mod term;
 pub mod terms;
 

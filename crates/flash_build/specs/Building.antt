@@ -7,7 +7,7 @@ use Rattle.ghost_model.specs.core.Split.{Hidden}
 use Rattle.ghost_model.specs.forms.Runs.{Stores, pages_of}
 use Rattle.ghost_model.specs.forms.Layout.{is_hidden, count_of, levels_of, above_of, descendants_of, column_file, subtree_table, index_directory, index_level, id_directory, id_level}
 use Rattle.ghost_model.specs.laws.LayoutSums.{directory_width, levels_pages}
-use Rattle.ghost_model.specs.forms.Work.{catalog_pages, file_pages}
+use Rattle.ghost_model.specs.forms.Work.{pages_built}
 use Rattle.ghost_model.specs.forms.Flash.{HoldsLists, HoldsIndex, hidden_cells, subtree_record, ids, value_lists, id_lists}
 use Rattle.edge_traits.specs.Devices.{Device, Counts, ChangesOnly}
 use Rattle.flash_build.specs.declared.faults.BuildFault.{BuildFault}
@@ -58,4 +58,4 @@ pub record HoldsTable (page : ℕ → List ℕ) (cat : Catalog) (hidden : Hidden
 
 -- the calls of a loading: one that makes the device, and one for each page that holds a byte of the catalog or of a file
 abbrev pub load_calls : Catalog → Hidden → ℕ
-load_calls cat hidden = 1 + (catalog_pages cat + file_pages cat hidden)
+load_calls cat hidden = pages_built cat hidden

@@ -11,3 +11,4 @@ pub mod Catalogs
 pub mod Layout
 pub mod Flash
 pub mod Slots
+pub mod QueryWork

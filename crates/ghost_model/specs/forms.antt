@@ -6,3 +6,4 @@ pub mod Layout
 pub mod Slots
 pub mod Flash
 pub mod Work
+pub mod QueryWork

@@ -12,6 +12,7 @@ pub mod LayoutSums
 pub mod LayoutLaws
 pub mod FlashLaws
 pub mod WorkLaws
+pub mod QueryWorkLaws
 pub mod ListLaws
 pub mod SessionLaws
 pub mod MeaningLaws

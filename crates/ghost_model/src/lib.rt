@@ -11,6 +11,7 @@ pub mod flash;
 pub mod layout;
 pub mod meaning;
 pub mod query;
+pub mod query_work;
 pub mod runs;
 pub mod schema;
 pub mod session_laws;

@@ -17,7 +17,7 @@ use Rattle.ghost_model.specs.forms.Layout.{is_hidden, column_count, count_of, le
 use Rattle.ghost_model.specs.laws.LayoutSums as sums
 use Rattle.ghost_model.specs.laws.LayoutSums.{column_begin, column_pages_before, subtree_begin, subtree_pages, directory_width, directory_pages, level_pages, levels_pages, index_begin, index_pages, index_pages_before, indexes_pages, id_index_begin, id_index_pages, id_directory_pages, table_begin, table_pages}
 use Rattle.ghost_model.specs.laws.LayoutLaws.{AreNarrow, LieAsSummed, LieInOrder}
-use Rattle.ghost_model.specs.forms.Flash.{GoesWith, HoldsColumns, HoldsSubtrees, HoldsFilesSoFar, HoldsLists, HoldsIndex, HoldsFiles, hidden_cells, subtree_record, ids, directory_records, list_records, value_lists, id_lists}
+use Rattle.ghost_model.specs.forms.Flash.{GoesWith, HoldsColumns, HoldsSubtrees, HoldsLists, HoldsIndex, HoldsFiles, hidden_cells, subtree_record, ids, directory_records, list_records, value_lists, id_lists}
 use Rattle.ghost_model.specs.laws.FlashLaws.{HoldingsAreKept}
 use Rattle.ghost_model.proofs.RunLemmas.{run_kept}
 use Rattle.ghost_model.proofs.LayoutLemmas.Numbers.{some_per_page}
@@ -185,12 +185,8 @@ module _ (page other : ℕ → List ℕ) (cat : Catalog) (hidden : Hidden) (tree
         (λ k from to. agree k (let begin = at.0 in omega (arith, begin, from)) (let end = at.1 in omega (arith, end, to))) (holds.id_indexes table low h);
   }
 
-  files_kept_so_far : AgreeOn page other public_pages (files_end cat) → HoldsFilesSoFar page cat hidden → HoldsFilesSoFar other cat hidden
-  files_kept_so_far agree holds = record { columns = columns_kept agree holds.columns; subtrees = subtrees_kept agree holds.subtrees }
-
 pub kept : HoldingsAreKept
 kept = record {
   files = λ page other cat hidden tree agree holds. files_kept page other cat hidden tree agree holds;
-  files_so_far = λ page other cat hidden tree agree holds. files_kept_so_far page other cat hidden tree agree holds;
   catalog = λ page other cat agree holds place low. agree place (omega arith) low ∙ holds place low;
 }

@@ -4,8 +4,8 @@ use Rattle.std.specs.List.{concat}
 use Rattle.ghost_model.specs.core.Split.{Hidden, hidden_of}
 use Rattle.ghost_model.specs.forms.Runs.{Stores}
 use Rattle.ghost_model.specs.forms.Layout.{levels_of, above_of, column_file}
-use Rattle.ghost_model.specs.forms.Flash.{Holds, HoldsSoFar, catalog_page, hidden_cells, AreValues, value_lists, list_records, directory_records, subtree_record, id_lists, ids}
-use Rattle.ghost_model.specs.forms.Work.{catalog_pages, file_pages, file_pages_so_far, pages_built}
+use Rattle.ghost_model.specs.forms.Flash.{Holds, catalog_page, hidden_cells, AreValues, value_lists, list_records, directory_records, subtree_record, id_lists, ids}
+use Rattle.ghost_model.specs.forms.Work.{catalog_pages, file_pages, pages_built}
 use Rattle.ghost_model.specs.examples.Clinic.{clinic_schema, clinic_catalog, note_schema, note_catalog, clinic, notes}
 
 abbrev pub hidden_clinic : Hidden
@@ -148,12 +148,11 @@ changed at byte place = if place == at then byte ∷ drop 1 (clinic_page place) 
 
 pub record HoldingsOfTheClinic : Type 0 where
   pub whole : Holds clinic_page clinic_catalog hidden_clinic
-  pub so_far : HoldsSoFar clinic_page clinic_catalog hidden_clinic
-  pub another_catalog : HoldsSoFar (changed 0 0) clinic_catalog hidden_clinic → ⊥
-  pub another_country : HoldsSoFar (changed 64 0) clinic_catalog hidden_clinic → ⊥
+  pub another_catalog : Holds (changed 0 0) clinic_catalog hidden_clinic → ⊥
+  pub another_country : Holds (changed 64 0) clinic_catalog hidden_clinic → ⊥
   pub another_place_of_visits : Holds (changed 69 1) clinic_catalog hidden_clinic → ⊥
   pub another_visit_of_a_doctor : Holds (changed 70 1) clinic_catalog hidden_clinic → ⊥
-  pub another_doctor : HoldsSoFar (changed 81 1) clinic_catalog hidden_clinic → ⊥
+  pub another_doctor : Holds (changed 81 1) clinic_catalog hidden_clinic → ⊥
 
 -- the page of doctor.country
 abbrev pub country_page : List ℕ
@@ -175,6 +174,5 @@ pub record PagesOfTheClinic : Type 0 where
       → ⊥
   pub for_the_catalog : catalog_pages clinic_catalog ≡ 1
   pub for_the_files : file_pages clinic_catalog hidden_clinic ≡ 27
-  pub for_the_files_so_far : file_pages_so_far clinic_catalog hidden_clinic ≡ 6
-  pub built : pages_built clinic_catalog hidden_clinic ≡ 8
-  pub built_for_the_notes : pages_built note_catalog hidden_notes ≡ 3
+  pub built : pages_built clinic_catalog hidden_clinic ≡ 29
+  pub built_for_the_notes : pages_built note_catalog hidden_notes ≡ 6

@@ -176,12 +176,3 @@ pub record HoldsFiles (page : ℕ → List ℕ) (cat : Catalog) (hidden : Hidden
 pub record Holds (page : ℕ → List ℕ) (cat : Catalog) (hidden : Hidden) : Type 0 where
   pub catalog : HoldsCatalog page cat
   pub files : HoldsFiles page cat hidden
-
--- What a device that was loaded holds so far: of the static files column files and subtree key tables are written.
-pub record HoldsFilesSoFar (page : ℕ → List ℕ) (cat : Catalog) (hidden : Hidden) : Type 0 where
-  pub columns : HoldsColumns page cat hidden
-  pub subtrees : HoldsSubtrees page cat hidden
-
-pub record HoldsSoFar (page : ℕ → List ℕ) (cat : Catalog) (hidden : Hidden) : Type 0 where
-  pub catalog : HoldsCatalog page cat
-  pub files : HoldsFilesSoFar page cat hidden

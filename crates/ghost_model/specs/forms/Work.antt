@@ -1,12 +1,12 @@
--- How many calls of the flash the commands make at most. Loading a device makes it, by one call, and then writes each page
--- that holds a byte of the catalog or of a file that is written so far (column files and subtree key tables), once.
+-- How many calls of the flash a loading takes. It makes the device, by one call, and then writes each page that holds a byte of
+-- the catalog or of a static file, once.
 use Rattle.std.specs.Prelude.{ℕ, ◌+◌, ◌*◌, List, ◌∷◌, length, sum_by, bytes_eq}
 use Rattle.std.specs.Set.{distinct_count}
 use Rattle.ghost_model.specs.core.Channel.{Catalog}
 use Rattle.ghost_model.specs.forms.Catalog.{catalog_bytes}
 use Rattle.ghost_model.specs.core.Split.{Hidden}
-use Rattle.ghost_model.specs.forms.Runs.{pages_of, run_pages}
-use Rattle.ghost_model.specs.forms.Layout.{Structure, ClimbingIndex, structures, width_at, levels_of, level_files, files_of, files_pages, tables_of, columns_pages, subtree_table}
+use Rattle.ghost_model.specs.forms.Runs.{pages_of}
+use Rattle.ghost_model.specs.forms.Layout.{Structure, ClimbingIndex, structures, width_at, levels_of, level_files, files_of, files_pages}
 use Rattle.ghost_model.specs.forms.Flash.{hidden_cells}
 
 -- the pages that hold a byte of the catalog: its bytes are a run of width 1
@@ -29,11 +29,6 @@ written_of cat hidden structure = files_of cat structure
 abbrev pub file_pages : Catalog → Hidden → ℕ
 file_pages cat hidden = sum_by (λ structure. files_pages (written_of cat hidden structure)) (structures cat.schema)
 
--- those of the files that are written so far, whose length does not depend on the hidden part
-abbrev pub file_pages_so_far : Catalog → Hidden → ℕ
-file_pages_so_far cat hidden =
-    sum_by (λ table. columns_pages cat table + run_pages (subtree_table cat table)) (tables_of cat.schema)
-
--- the calls of a loading: one that makes the device, and one for each page
+-- the calls of a whole loading: one that makes the device, and one for each page
 abbrev pub pages_built : Catalog → Hidden → ℕ
-pages_built cat hidden = 1 + (catalog_pages cat + file_pages_so_far cat hidden)
+pages_built cat hidden = 1 + (catalog_pages cat + file_pages cat hidden)

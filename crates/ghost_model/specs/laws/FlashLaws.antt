@@ -15,7 +15,7 @@ use Rattle.ghost_model.specs.core.Replies.{hidden_places, hidden_value}
 use Rattle.ghost_model.specs.forms.Runs.{number_cell, record_at}
 use Rattle.ghost_model.specs.laws.RunLaws.{AgreeOn}
 use Rattle.ghost_model.specs.forms.Layout.{below, is_hidden, width_at, count_of, levels_of, above_of, public_pages, files_end, column_file, subtree_table, index_directory, id_directory}
-use Rattle.ghost_model.specs.forms.Flash.{GoesWith, HoldsCatalog, HoldsColumns, HoldsFiles, HoldsFilesSoFar, hidden_cells, leads_to, subtree_record, directory_record, value_lists, id_lists}
+use Rattle.ghost_model.specs.forms.Flash.{GoesWith, HoldsCatalog, HoldsColumns, HoldsFiles, hidden_cells, leads_to, subtree_record, directory_record, value_lists, id_lists}
 
 -- how many hidden columns a table has before a column
 abbrev pub hidden_before : Schema → (table column : ℕ) → ℕ
@@ -85,9 +85,6 @@ pub record HoldingsAreKept : Type 0 where
   pub files :
       (page other : ℕ → List ℕ) (cat : Catalog) (hidden : Hidden) → IsTree cat.schema
       → AgreeOn page other public_pages (files_end cat) → HoldsFiles page cat hidden → HoldsFiles other cat hidden
-  pub files_so_far :
-      (page other : ℕ → List ℕ) (cat : Catalog) (hidden : Hidden) → IsTree cat.schema
-      → AgreeOn page other public_pages (files_end cat) → HoldsFilesSoFar page cat hidden → HoldsFilesSoFar other cat hidden
   pub catalog :
       (page other : ℕ → List ℕ) (cat : Catalog) → AgreeOn page other 0 public_pages
       → HoldsCatalog page cat → HoldsCatalog other cat

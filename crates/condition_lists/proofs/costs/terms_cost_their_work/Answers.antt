@@ -6,7 +6,7 @@ use Rattle.ghost_model.specs.core.Asks.{asks_of, ask_for}
 use Rattle.ghost_model.specs.core.Meaning.{answer}
 use Rattle.ghost_model.proofs.MeaningLemmas.OneRow.{Among, Distinct, distinct-filter, from_filter, query_is_linked}
 use Rattle.condition_lists.specs.Terms.{is_listed, is_replied, is_compared, has_level}
-use Rattle.condition_lists.specs.QueryWork.{condition_work, reply_work, row_work, work_by_top}
+use Rattle.ghost_model.specs.forms.QueryWork.{condition_work, reply_work, row_work, work_by_top}
 use Rattle.condition_lists.specs.Costs.{term_cost}
 use Rattle.condition_lists.proofs.FilterLemmas.{compared_there}
 use Rattle.condition_lists.proofs.MemberLemmas.{contains_of}

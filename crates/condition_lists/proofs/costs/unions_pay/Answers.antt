@@ -1,7 +1,7 @@
 use Rattle.std.proofs.Common.{◌≡◌, ◌∙◌, ap, ℕ, ◌+◌, ◌*◌, ◌/◌, ◌≤◌, arith}
 use Rattle.std.proofs.Math.Nat.{div-mul-le_self, add-mul}
 use Rattle.std.proofs.lemmas.Nat.{le-div}
-use Rattle.condition_lists.specs.QueryWork.{bits}
+use Rattle.ghost_model.specs.forms.QueryWork.{bits}
 use Rattle.condition_lists.proofs.costs.unions_pay.Goals as goal
 
 pages : (n : ℕ) → n / 512 * 8 ≤ n / 64

@@ -9,7 +9,7 @@ use Rattle.ghost_model.specs.core.Meaning.{answer}
 use Rattle.ghost_model.specs.core.Asks.{asks_of}
 use Rattle.ghost_model.specs.forms.Layout.{is_hidden}
 use Rattle.spj_parse.specs.Resolved.{linked, joins_of, join_to, join_with, join_by, keys_between, is_comparison}
-use Rattle.condition_lists.specs.QueryWork.{bits, condition_work, reply_work, honest_rows, work_by_top}
+use Rattle.ghost_model.specs.forms.QueryWork.{bits, condition_work, reply_work, honest_rows, work_by_top}
 use Rattle.condition_lists.proofs.costs.work_counts_joins_once.Goals as goal
 
 module _ (schema : Schema) (database : Database) where

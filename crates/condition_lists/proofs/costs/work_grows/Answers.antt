@@ -1,8 +1,8 @@
 use Rattle.std.proofs.Common.{ℕ, ◌+◌, ◌*◌, ◌/◌, ◌≤◌, arith}
 use Rattle.std.proofs.Math.Nat.{mul-le-mul, div-mul-le_self}
 use Rattle.std.proofs.lemmas.Nat.{le-div}
-use Rattle.condition_lists.specs.QueryWork.{bits}
-use Rattle.condition_lists.specs.QueryWorkLaws.{BitsAreLeast}
+use Rattle.ghost_model.specs.forms.QueryWork.{bits}
+use Rattle.ghost_model.specs.laws.QueryWorkLaws.{BitsAreLeast}
 use Rattle.condition_lists.proofs.costs.work_grows.Goals as goal
 
 bits_grow : BitsAreLeast → (number other : ℕ) → number ≤ other → bits number ≤ bits other

@@ -189,7 +189,6 @@ pub returns : goal.returns
 unfolding places_from ancestor leads_within record_at digits first_page
 returns c = record {
   whole = record { catalog = catalog; files = record { columns = columns; subtrees = subtrees; indexes = indexes; id_indexes = id_indexes } };
-  so_far = record { catalog = catalog; files = record { columns = columns; subtrees = subtrees } };
   another_catalog = λ h. let clash : 0 ≡ 71 = ap (λ bytes. slice_index bytes 0) (h.catalog 0 (omega arith)) in absurd (omega (arith, clash));
   another_country = λ h. let clash : 0 ≡ 70 = ap (λ bytes. slice_index bytes 0) ((h.files.columns 0 2 refl).has.each 0 (omega arith)) in absurd (omega (arith, clash));
   another_place_of_visits = λ h. let clash : 1 ≡ 0 = ap (λ bytes. slice_index bytes 0) ((h.files.id_indexes 0 (omega arith) refl).places.has.each 0 (omega arith)) in absurd (omega (arith, clash));

@@ -37,7 +37,6 @@ returns c = record {
   a_byte_after_the_records = λ h. let clash : 0 ≡ 255 = ap (λ bytes. slice_index bytes 0) (h.rest 0 (omega arith)) in absurd (omega (arith, clash));
   for_the_catalog = refl;
   for_the_files = refl;
-  for_the_files_so_far = refl;
   built = refl;
   built_for_the_notes = refl;
 }

@@ -1,5 +1,5 @@
 use Rattle.std.proofs.Common.{refl}
-use Rattle.condition_lists.proofs.query_work.numbers_of_work.Goals as goal
+use Rattle.ghost_model.proofs.query_work.numbers_of_work.Goals as goal
 
 pub returns : goal.returns
 returns c = record {
@@ -11,6 +11,7 @@ returns c = record {
   bits_of_256 = refl;
   no_list = refl;
   one_list = refl;
+  one_identifier_less = refl;
   a_hundred_lists = refl;
   lists_of_few = refl;
 }

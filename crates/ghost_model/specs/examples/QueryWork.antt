@@ -1,12 +1,13 @@
--- The work of queries over the clinic.
-use Rattle.std.specs.Prelude.{◌≡◌, ℕ, List, codes, Result, Ok, Err}
+-- The work of queries over the clinic, and over notes of which many have one body.
+use Rattle.std.specs.Prelude.{◌≡◌, ℕ, List, [], ◌∷◌, ◌++◌, codes, map, Result, Ok, Err}
+use Rattle.std.specs.List.{range_with_len}
 use Rattle.ghost_model.specs.core.Schema.{Schema}
-use Rattle.ghost_model.specs.core.Values.{Database}
+use Rattle.ghost_model.specs.core.Values.{Rows, Database}
 use Rattle.ghost_model.specs.core.Query.{Query}
-use Rattle.condition_lists.specs.QueryWork.{bits, union_work, work}
+use Rattle.ghost_model.specs.forms.QueryWork.{bits, union_work, work}
 use Rattle.ghost_model.specs.refusals.QueryMeaning.{Refusal}
 use Rattle.ghost_model.specs.readings.QueryReading.{reading}
-use Rattle.ghost_model.specs.examples.Clinic.{clinic_schema, clinic}
+use Rattle.ghost_model.specs.examples.Clinic.{clinic_schema, clinic, note_schema, note_row}
 use Rattle.ghost_model.specs.examples.Meaning.{cardio_on, from_day_two, names_of_ann, visits_of_spain}
 
 -- the work of a text that was read; a refused one has none
@@ -26,6 +27,7 @@ pub record NumbersOfWork : Type 0 where
   pub bits_of_256 : bits 256 ≡ 9
   pub no_list : union_work 0 0 ≡ 32
   pub one_list : union_work 1 64 ≡ 85
+  pub one_identifier_less : union_work 1 63 ≡ 80
   pub a_hundred_lists : union_work 100 6400 ≡ 9988
   pub lists_of_few : union_work 255 1000 ≡ 24756
 
@@ -43,3 +45,21 @@ pub record WorkOnTheClinic : Type 0 where
   pub no_condition : work_on_clinic (codes "SELECT id FROM visit") ≡ 72
   pub no_value : work_on_clinic (codes "SELECT id FROM visit WHERE purpose = 'none'") ≡ 116
   pub another_value : work_on_clinic (codes "SELECT age FROM patient WHERE name <> 'Ann'") ≡ 171
+
+-- so many notes of one body, from an identifier on
+abbrev pub notes_alike : (first count : ℕ) → (body : List ℕ) → Rows
+notes_alike first count body = map (λ identifier. note_row identifier (codes "a") body) (range_with_len first count)
+
+-- 64 notes of one body, and 63 of another
+abbrev pub many_notes : Database
+many_notes = (notes_alike 1 64 (codes "x") ++ notes_alike 65 63 (codes "y")) ∷ []
+
+abbrev pub work_on_many_notes : (body : List ℕ) → ℕ
+work_on_many_notes body =
+    work_of_reading note_schema many_notes
+    (reading note_schema (codes "SELECT id FROM note WHERE body = '" ++ (body ++ codes "'")))
+
+-- 64 more for the query, a search among two values and two for each row of the answer: 20 and 128, or 20 and 126
+pub record WorkOnManyNotes : Type 0 where
+  pub sixty_four_rows : work_on_many_notes (codes "x") ≡ 297
+  pub sixty_three_rows : work_on_many_notes (codes "y") ≡ 290

@@ -4,8 +4,8 @@ use Rattle.std.specs.List.{range_with_len}
 use Rattle.std.proofs.Math.Pow.{pow_mono}
 use Rattle.std.proofs.lemmas.Bool.{leb-true, leb-false, cases_lt}
 use Rattle.std.proofs.lemmas.List.Sums.{length-filter}
-use Rattle.condition_lists.specs.QueryWork.{bits}
-use Rattle.condition_lists.proofs.query_work.bits_are_least.Goals as goal
+use Rattle.ghost_model.specs.forms.QueryWork.{bits}
+use Rattle.ghost_model.proofs.query_work.bits_are_least.Goals as goal
 
 -- of the powers from one on, so many are at most a number, and these are the first
 record IsCut (x from count cut : ℕ) : Type 0 where
