@@ -44,7 +44,7 @@ no_columns schema select table none column = by (is_visible schema table column)
     by false e = ap (λ c. c && list_any (is_field table column) select) e
     by true e = ap₂ (λ c d. c && d) e (unwanted schema select table column none e)
 
-no_tests : (schema : Schema) (conditions : List Condition) (table : ℕ) → list_any (is_compared_of schema table) conditions ≡ false
+pub no_tests : (schema : Schema) (conditions : List Condition) (table : ℕ) → list_any (is_compared_of schema table) conditions ≡ false
     → flat_map (test_of schema table) conditions ≡ []
 no_tests schema [] table none = refl
 no_tests schema (Compare field operator value ∷ conditions) table none =
@@ -66,7 +66,7 @@ unneeded schema asked table none =
     (none_of (is_wanted schema asked.select table) (places (columns_of schema table)) (no_columns schema asked.select table both.0))
     (no_tests schema asked.conditions table both.1)
 
-asked_by : (schema : Schema) (asked : Query) (ask : Ask) → Among ask (asks_of schema asked) → is_asked schema asked ask.table ≡ true
+pub asked_by : (schema : Schema) (asked : Query) (ask : Ask) → Among ask (asks_of schema asked) → is_asked schema asked ask.table ≡ true
 asked_by schema asked ask among =
     let needed = from_filter is_needed ask (map (ask_for schema asked) (filter (is_from asked) (places schema))) among in
     let made = from_map (ask_for schema asked) ask (filter (is_from asked) (places schema)) needed.0 in
@@ -77,13 +77,13 @@ asked_by schema asked ask among =
     by true e h = refl
     by false e h = absurd (clash h (unneeded schema asked ask.table e))
 
-none_about : (given : List Reply) (table : ℕ) → ((reply : Reply) → Among reply given → nat_eq reply.ask.table table ≡ false) → reply_about table given ≡ None
+pub none_about : (given : List Reply) (table : ℕ) → ((reply : Reply) → Among reply given → nat_eq reply.ask.table table ≡ false) → reply_about table given ≡ None
 none_about [] table none = refl
 none_about (reply ∷ later) table none =
     ap (λ b. if b then Some reply else reply_about table later) (none reply (inl refl))
     ∙ none_about later table (λ other among. none other (inr among))
 
-mapped : (given : List Reply) (reply : Reply) → Among reply given → Among reply.ask (map (λ (r : Reply). r.ask) given)
+pub mapped : (given : List Reply) (reply : Reply) → Among reply given → Among reply.ask (map (λ (r : Reply). r.ask) given)
 mapped [] reply among = among
 mapped (first ∷ later) reply (inl same) = inl (ap (λ (r : Reply). r.ask) same)
 mapped (first ∷ later) reply (inr among) = inr (mapped later reply among)
@@ -235,7 +235,7 @@ to_map f x [] h = absurd h
 to_map f x (y ∷ xs) (inl same) = inl (ap f same)
 to_map f x (y ∷ xs) (inr later) = inr (to_map f x xs later)
 
-ask_stands : (schema : Schema) (asked : Query) (table : ℕ) → is_from asked table ≡ true → is_asked schema asked table ≡ true
+pub ask_stands : (schema : Schema) (asked : Query) (table : ℕ) → is_from asked table ≡ true → is_asked schema asked table ≡ true
     → Among (ask_for schema asked table) (asks_of schema asked)
 ask_stands schema asked table from is =
     let needed = asked_needed schema asked table is in

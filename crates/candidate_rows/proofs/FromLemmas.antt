@@ -49,7 +49,7 @@ use Rattle.candidate_rows.proofs.ValueLemmas.{seen}
 
 -- ---- lists
 
-all_each : {X : Type 0} (p : X → Bool) (xs : List X) → ((x : X) → Among x xs → p x ≡ true) → list_all p xs ≡ true
+pub all_each : {X : Type 0} (p : X → Bool) (xs : List X) → ((x : X) → Among x xs → p x ≡ true) → list_all p xs ≡ true
 all_each p [] each = refl
 all_each p (x ∷ xs) each = ap₂ (λ a b. a && b) (each x (inl refl)) (all_each p xs (λ y a. each y (inr a)))
 
@@ -63,21 +63,9 @@ all_filtered p q (x ∷ xs) each = by (q x) refl (all_filtered p q xs (λ y a. e
 
 -- ---- FROM tables
 
-abbrev is_from : List ℕ → Condition → Bool
+abbrev pub is_from : List ℕ → Condition → Bool
 is_from from (Compare field operator literal) = is_among from field.table
 is_from from (Join one other) = true
-
-one_join : (from : List ℕ) (table holder : ℕ) (key : Option ℕ) → list_all (is_from from) (join_by table holder key) ≡ true
-one_join from table holder None = refl
-one_join from table holder (Some column) = refl
-
-joins_with : (schema : Schema) (from : List ℕ) (table : ℕ) (holder : Option ℕ) → list_all (is_from from) (join_with schema from table holder) ≡ true
-joins_with schema from table None = refl
-joins_with schema from table (Some holder) =
-    elim (is_among from holder) as (λ b. list_all (is_from from) (if b then join_by table holder (first_of (keys_between schema holder table)) else []) ≡ true) [
-      | true ↦ one_join from table holder (first_of (keys_between schema holder table))
-      | false ↦ refl
-    ]
 
 all_both : {X : Type 0} (p : X → Bool) (xs ys : List X) → list_all p xs ≡ true → list_all p ys ≡ true → list_all p (xs ++ ys) ≡ true
 all_both p [] ys a b = b
@@ -85,10 +73,23 @@ all_both p (x ∷ xs) ys a b =
     let both = both_true (p x) (list_all p xs) a in
     ap₂ (λ c d. c && d) both.0 (all_both p xs ys both.1 b)
 
-joins_from : (schema : Schema) (from tables : List ℕ) → list_all (is_from from) (flat_map (join_to schema from) tables) ≡ true
-joins_from schema from [] = refl
-joins_from schema from (table ∷ tables) =
-    all_both (is_from from) (join_to schema from table) (flat_map (join_to schema from) tables) (joins_with schema from table (parent schema table)) (joins_from schema from tables)
+module _ (p : Condition → Bool) (joined : (one other : Field) → p (Join one other) ≡ true) where
+  one_join : (table holder : ℕ) (key : Option ℕ) → list_all p (join_by table holder key) ≡ true
+  one_join table holder None = refl
+  one_join table holder (Some column) = ap (λ b. b && true) (joined _ _)
+
+  joins_with : (schema : Schema) (from : List ℕ) (table : ℕ) (holder : Option ℕ) → list_all p (join_with schema from table holder) ≡ true
+  joins_with schema from table None = refl
+  joins_with schema from table (Some holder) =
+      elim (is_among from holder) as (λ b. list_all p (if b then join_by table holder (first_of (keys_between schema holder table)) else []) ≡ true) [
+        | true ↦ one_join table holder (first_of (keys_between schema holder table))
+        | false ↦ refl
+      ]
+
+  pub joins_pass : (schema : Schema) (from tables : List ℕ) → list_all p (flat_map (join_to schema from) tables) ≡ true
+  joins_pass schema from [] = refl
+  joins_pass schema from (table ∷ tables) =
+      all_both p (join_to schema from table) (flat_map (join_to schema from) tables) (joins_with schema from table (parent schema table)) (joins_pass schema from tables)
 
 comparisons_from : (schema : Schema) (from : List ℕ) (conditions : List Condition) → list_all (is_condition_from schema from) conditions ≡ true
     → list_all (is_from from) (filter is_comparison conditions) ≡ true
@@ -98,6 +99,14 @@ comparisons_from schema from (Compare field operator literal ∷ conditions) all
     ap₂ (λ c d. c && d) (both_true (is_among from field.table) _ both.0).0 (comparisons_from schema from conditions both.1)
 comparisons_from schema from (Join one other ∷ conditions) all =
     comparisons_from schema from conditions (both_true (is_condition_from schema from (Join one other)) (list_all (is_condition_from schema from) conditions) all).1
+
+pub conditions_of : (schema : Schema) (asked : Query) (text : List ℕ) (read : IsMeant schema text asked) (top : ℕ) → IsFollowed schema read.meant top
+    → list_all (is_from asked.from) asked.conditions ≡ true
+conditions_of schema asked text read top follows =
+    ap (λ (q : Query). list_all (is_from q.from) q.conditions) read.once
+    ∙ all_both (is_from read.meant.from) (joins_of schema read.meant.from) (filter is_comparison read.meant.conditions)
+    (joins_pass (is_from read.meant.from) (λ one other. refl) schema read.meant.from read.meant.from)
+    (comparisons_from schema read.meant.from read.meant.conditions follows.conditions)
 
 -- ---- look-ups
 
@@ -147,23 +156,19 @@ unlooked_meet table (test ∷ tests) none =
 
 module _ (cat : Catalog) (asked : Query) (plan : RowPlan) (plan_is : IsPlan cat asked plan) (text : List ℕ) (read : IsMeant cat.schema text asked)
     (tree : IsTree cat.schema) (one : OneReading) (accepted : AcceptedQueriesAreFollowed) where
-  follows : IsFollowed cat.schema read.meant plan.top
+  pub follows : IsFollowed cat.schema read.meant plan.top
   follows =
       let top_is : top_of cat.schema read.meant ≡ Some plan.top = ap (top_of cat.schema) (sym read.once) ∙ plan_is.top_is text read in
       accepted cat.schema tree text read.meant ((one.meaning cat.schema text read.meant).0 read.reads) plan.top top_is
 
-  from_same : asked.from ≡ read.meant.from
+  pub from_same : asked.from ≡ read.meant.from
   from_same = ap (λ (q : Query). q.from) read.once
 
   pub below_top : (table : ℕ) → is_among asked.from table ≡ true → IsAtOrBelow cat.schema plan.top table
   below_top table among = follows.below table (ap (λ from. is_among from table) (sym from_same) ∙ among)
 
   conditions_from : list_all (is_from asked.from) asked.conditions ≡ true
-  conditions_from =
-      ap (λ (q : Query). list_all (is_from q.from) q.conditions) read.once
-      ∙ all_both (is_from read.meant.from) (joins_of cat.schema read.meant.from) (filter is_comparison read.meant.conditions)
-      (joins_from cat.schema read.meant.from read.meant.from)
-      (comparisons_from cat.schema read.meant.from read.meant.conditions follows.conditions)
+  conditions_from = conditions_of cat.schema asked text read plan.top follows
 
   tests_from : list_all (test_meets (is_among asked.from) (is_from asked.from)) plan.tests.items ≡ true
   tests_from =
@@ -299,7 +304,7 @@ filter_fails p q (x ∷ xs) e = by (q x) (filter_fails p q xs) e
     by true rest h = here (p x) (list_all p (filter q xs)) (list_all p xs) rest h
     by false rest h = later (p x) (list_all p xs) (rest h)
 
-among_fails : (p : ℕ → Bool) (tables : List ℕ) (table : ℕ) → is_among tables table ≡ true → p table ≡ false → list_all p tables ≡ false
+pub among_fails : (p : ℕ → Bool) (tables : List ℕ) (table : ℕ) → is_among tables table ≡ true → p table ≡ false → list_all p tables ≡ false
 among_fails p [] table e h = absurd (cc (e))
 among_fails p (first ∷ tables) table e h = by (nat_eq first table) refl (λ a. among_fails p tables table a h) e
   where

@@ -5,6 +5,8 @@ mod ValueLemmas
 mod WayLemmas
 mod TestLemmas
 mod StepLemmas
+mod CostLemmas
+mod HonestLemmas
 mod SparedLemmas
 mod TellLemmas
 mod FromLemmas

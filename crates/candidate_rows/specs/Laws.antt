@@ -1,20 +1,21 @@
--- Laws of the work on rows.
-use Rattle.std.specs.Prelude.{◌≡◌, ℕ, ◌≤◌, true, false, Some, List, [], ◌∷◌, filter, if◌then◌else◌, None}
-use Rattle.std.specs.List.{list_all}
-use Rattle.ghost_model.specs.core.Schema.{Schema}
+-- Laws of plans and of the work on rows.
+use Rattle.std.specs.Prelude.{◌≡◌, ℕ, ◌≤◌, ◌&&◌, ◌||◌, Bool, true, false, not, nat_eq, Some, List, [], ◌∷◌, filter, if◌then◌else◌, None}
+use Rattle.std.specs.List.{list_all, list_any}
+use Rattle.ghost_model.specs.core.Schema.{Schema, is_visible}
 use Rattle.ghost_model.specs.core.Values.{Database}
 use Rattle.ghost_model.specs.core.Channel.{Catalog}
-use Rattle.ghost_model.specs.core.Query.{Query, is_among}
+use Rattle.ghost_model.specs.core.Query.{Query, Field, Condition, Compare, Join, is_among}
 use Rattle.ghost_model.specs.core.Asks.{ask_for}
 use Rattle.ghost_model.specs.core.Replies.{Reply, reply_about}
 use Rattle.ghost_laws.specs.Scans.{known_along, holds_or_asked_along, stands_along}
 use Rattle.ghost_laws.specs.Selected.{AreWholeReplies}
 use Rattle.candidate_rows.specs.declared.plan.RowPlan.{RowPlan}
+use Rattle.candidate_rows.specs.declared.plan.SubtreeFile.{SubtreeFile}
 use Rattle.edge_traits.specs.Devices.{Device}
 use Rattle.visible_spool.specs.declared.half.Half.{Half}
 use Rattle.visible_spool.specs.Sparing.{AreInHalf, SparesHalf}
 use Rattle.candidate_rows.specs.declared.work.RowWork.{RowWork}
-use Rattle.candidate_rows.specs.Plans.{IsPlan, is_asked, is_tested}
+use Rattle.candidate_rows.specs.Plans.{IsPlan, IsPlanOfCandidates, is_asked, is_tested}
 use Rattle.candidate_rows.specs.Rows.{AreAllAsked}
 use Rattle.candidate_rows.specs.Working.{Knows, StandsFor, IsRowOf, IsWorking, IsSifted, passes, told, steps_left, most_left}
 use Rattle.candidate_rows.specs.Steps.{row_known}
@@ -59,6 +60,23 @@ abbrev pub WholeRepliesAreToAsks : Type 0
 WholeRepliesAreToAsks =
     (schema : Schema) (asked : Query) (given : List Reply) → AreWholeReplies schema asked given
     → (table : ℕ) (reply : Reply) → reply_about table given ≡ Some reply → reply.ask ≡ ask_for schema asked table
+
+-- whether a query selects a column of another table than the top one, or compares a visible one with a literal
+abbrev pub is_of_other : (top : ℕ) → Field → Bool
+is_of_other top field = not (nat_eq field.table top)
+
+abbrev pub compares_other : Schema → (top : ℕ) → Condition → Bool
+compares_other schema top (Compare field operator literal) = is_of_other top field && is_visible schema field.table field.column
+compares_other schema top (Join one other) = false
+
+abbrev pub wants_below : Schema → Query → (top : ℕ) → Bool
+wants_below schema asked top = list_any (is_of_other top) asked.select || list_any (compares_other schema top) asked.conditions
+
+-- a plan of candidates has the subtree key table of the top table only where it does
+abbrev pub RecordsAreWanted : Type 0
+RecordsAreWanted =
+    (cat : Catalog) (asked : Query) (plan : RowPlan) (file : SubtreeFile)
+    → IsPlanOfCandidates cat asked plan → plan.keys ≡ Some file → wants_below cat.schema asked plan.top ≡ true
 
 -- the work on a row goes on for so many steps at most
 abbrev pub FewStepsAreLeft : Type 0

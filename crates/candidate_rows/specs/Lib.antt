@@ -6,3 +6,5 @@ pub mod Working
 pub mod Steps
 pub mod Values
 pub mod Laws
+pub mod Costs
+pub mod CostLaws

@@ -1,6 +1,6 @@
 //! Laws of the work on rows.
 
-ghost use Rattle.candidate_rows.specs.Laws.{TestsAreThoseOfAnswers, RowsSiftedOutAreNoAnswers, RowsThatStandNotAreNoAnswers, WholeRepliesAreOfAsked, WholeRepliesAreAll, WholeRepliesAreToAsks, FewStepsAreLeft, WorkStaysReady, WorkStillStands};
+ghost use Rattle.candidate_rows.specs.Laws.{TestsAreThoseOfAnswers, RowsSiftedOutAreNoAnswers, RowsThatStandNotAreNoAnswers, WholeRepliesAreOfAsked, WholeRepliesAreAll, WholeRepliesAreToAsks, RecordsAreWanted, FewStepsAreLeft, WorkStaysReady, WorkStillStands};
 
 use visible_spool::laws::{searches_are_short, spared_halves_stay};
 
@@ -30,6 +30,12 @@ pub fn whole_replies_are_of_asked()
 pub fn whole_replies_are_all()
     ensures all { WholeRepliesAreAll }
     ensures asks { WholeRepliesAreToAsks }
+{}
+
+/// A plan of candidates has the subtree key table of the top table only where a column of another table is selected, or a visible one
+/// compared with a literal.
+pub fn records_are_wanted()
+    ensures wanted { RecordsAreWanted }
 {}
 
 /// The work on a row goes on for 28,000,100 steps at most.

@@ -8,6 +8,7 @@
 #![tactic(auto)]
 
 mod cells;
+pub mod costs;
 mod hops;
 mod keys;
 mod known;
