@@ -26,3 +26,4 @@ mod AllRows
 mod Beginnings
 mod Endings
 mod StagesStay
+mod Paying

@@ -1,12 +1,11 @@
 -- Lists in hand have only pages that are read for the query, and what they are blamed for stands in one of these.
-use Rattle.std.proofs.Common.{◌≡◌, ◌∙◌, ap, ap₂, sym, refl, subst, ℕ, ◌+◌, ◌-◌, ◌<◌, ◌≤◌, ◌⊎◌, inl, inr, Bool, true, false, not, ◌&&◌, ◌||◌, nat_eq, nat_le, nat_lt, List, [], ◌∷◌, length, slice_get, Some, arith}
+use Rattle.std.proofs.Common.{◌≡◌, ◌∙◌, ap, ap₂, sym, refl, subst, ℕ, ◌+◌, ◌-◌, ◌<◌, ◌≤◌, ◌⊎◌, inl, inr, Bool, true, false, ◌&&◌, ◌||◌, nat_eq, nat_le, nat_lt, List, [], ◌∷◌, length, slice_get, Some, arith}
 use Rattle.std.specs.List.{list_any}
 use Rattle.std.proofs.lemmas.Bool.{and_parts, eqb-true, le-leb, lt-ltb, ltb-false, ltb-true}
 use Rattle.std.proofs.lemmas.Option.{slice_get_within}
 use Rattle.ghost_model.specs.core.Channel.{Catalog}
 use Rattle.ghost_model.specs.core.Query.{Query, Condition, Compare, Join}
-use Rattle.ghost_model.specs.core.Schema.{is_empty}
-use Rattle.ghost_model.specs.forms.Layout.{above_of, below, id_directory, id_level, index_directory, index_header, index_level, is_hidden, largest_count, levels_of, need, spool_end}
+use Rattle.ghost_model.specs.forms.Layout.{above_of, below, id_directory, id_level, index_directory, index_header, index_level, is_below as lies_below, is_hidden, largest_count, levels_of, need, spool_end}
 use Rattle.ghost_model.specs.forms.Runs.{Run, run_end}
 use Rattle.ghost_model.specs.laws.LayoutLaws.{RecordsStandWithin}
 use Rattle.ghost_base.specs.Runs.{run_of}
@@ -34,9 +33,10 @@ use Rattle.candidate_search.specs.declared.term_lists.TermLists.{TermLists}
 use Rattle.candidate_search.specs.declared.term_lists.TermLists.TheVariants.{Entries, Replies}
 use Rattle.candidate_search.specs.Begun.{AreListsAt, AreRepliesAt}
 use Rattle.candidate_search.specs.TermLists.{of_entries, of_replies, source_in}
-use Rattle.candidate_search.proofs.Places.{some_above, within_above}
+use Rattle.candidate_search.proofs.Places.{within_above}
 use Rattle.candidate_knowledge.specs.Known.{compares, is_comparison_of, seeks_ids}
 use Rattle.candidate_knowledge.specs.Found.{is_column_page, is_id_level_page, is_ids_page, is_level_of, is_level_page, is_list_page}
+use Rattle.candidate_knowledge.proofs.BlamedFiles.{above_first}
 use Rattle.candidate_knowledge.proofs.ListPages.{any_of, before, behind, is_below, is_level}
 use Rattle.candidate_gathering.specs.Given.{IsInside, ListsInside, ListsRead, UsesRead}
 use Rattle.candidate_gathering.specs.Stages.{scratch_of}
@@ -189,28 +189,28 @@ module _ (cat : Catalog) (asked : Query) (top side : ℕ) where
       ]
 
   -- ---- the index of identifiers that are sought
-  ids_page : (table number : ℕ) → table < length cat.schema → seeks_ids cat.schema asked table ≡ true → is_empty (above_of cat.schema table) ≡ false
+  ids_page : (table number : ℕ) → table < length cat.schema → seeks_ids cat.schema asked table ≡ true → lies_below cat.schema top table ≡ true
       → (is_in (id_directory cat table) number || is_id_level_page cat top number table) ≡ true → is_list_page cat asked top side number ≡ true
-  ids_page table number there sought above page =
+  ids_page table number there sought lower page =
       before (statics number) _
       (behind (list_any (is_column_page cat top number) asked.conditions) _
       (any_of (is_ids_page cat asked top number) (below (length cat.schema)) table table (below_at (length cat.schema) table there)
-      (ap₂ (λ a b. a && b) (ap₂ (λ a b. a && b) sought (ap not above)) page)))
+      (ap₂ (λ a b. a && b) (ap₂ (λ a b. a && b) sought lower) page)))
 
   id_lists_page : (table : ℕ) (index : IdIndex) (level : ℕ) → IsIdIndexAt cat top table index level → seeks_ids cat.schema asked table ≡ true
       → (number : ℕ) → (is_in (run_of index.directory.run) number || is_in (run_of (level_run index.directory (level - 1))) number) ≡ true → is_list_page cat asked top side number ≡ true
   id_lists_page table index level at sought number uses =
       let levels = levels_of cat.schema table in
       let low = within_above levels level top at.above at.level_is in
-      let some = some_above levels level top at.above at.level_is in
+      let lower = above_first levels level top at.above at.level_is in
       let next : level ≡ level - 1 + 1 = let above = at.above in omega (arith, above) in
       let L : ℕ → Type 0 = λ l. slice_get levels l ≡ Some top in
       elim (either_of (is_in (run_of index.directory.run) number) (is_in (run_of (level_run index.directory (level - 1))) number) uses) [
-        | inl one ↦ ids_page table number at.there sought some (before _ _ (run_page (run_of index.directory.run) (id_directory cat table) number at.index_is.run_is one))
+        | inl one ↦ ids_page table number at.there sought lower (before _ _ (run_page (run_of index.directory.run) (id_directory cat table) number at.index_is.run_is one))
         | inr one ↦ (
             let here = run_page (run_of (level_run index.directory (level - 1))) (id_level cat table (level - 1)) number
             (file_at (id_level cat table) (length (above_of cat.schema table)) index.directory at.index_is.levels_are (level - 1) low) one in
-            ids_page table number at.there sought some
+            ids_page table number at.there sought lower
             (behind (is_in (id_directory cat table) number) _
             (any_of (λ l. is_level_of cat.schema top table (l + 1) && is_in (id_level cat table l) number) (below (length (above_of cat.schema table))) (level - 1) (level - 1)
             (below_at (length (above_of cat.schema table)) (level - 1) low)

@@ -5,3 +5,4 @@ pub mod Stages
 pub mod Contents
 pub mod Turns
 pub mod Laws
+pub mod Costs

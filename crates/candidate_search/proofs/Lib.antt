@@ -15,3 +15,4 @@ pub mod TakingSteps
 pub mod TakingSpared
 pub mod ReadsGiven
 pub mod TakingCosted
+pub mod TakingCostsStay

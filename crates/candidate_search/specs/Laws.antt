@@ -1,12 +1,13 @@
 -- Laws of the lists of terms: they have exactly the rows of the top table that meet the term, and what is damaged of them is
 -- damage.
-use Rattle.std.specs.Prelude.{◌≡◌, ◌↔◌, ℕ, ◌-◌, List, map}
+use Rattle.std.specs.Prelude.{◌≡◌, ◌↔◌, ℕ, ◌-◌, ◌≤◌, List, map}
 use Rattle.ghost_model.specs.core.Values.{Value, Database}
 use Rattle.ghost_model.specs.core.Channel.{Catalog}
 use Rattle.ghost_model.specs.core.Query.{Operator}
 use Rattle.ghost_model.specs.core.Replies as replies
 use Rattle.ghost_model.specs.core.Split.{hidden_of}
 use Rattle.ghost_model.specs.forms.Layout.{count_of}
+use Rattle.ghost_model.specs.forms.QueryWork.{union_work}
 use Rattle.ghost_model.specs.forms.Slots.{IsDamagedSlot}
 use Rattle.climbing_index.specs.declared.index.ClimbingIndex.{ClimbingIndex}
 use Rattle.climbing_index.specs.declared.index.IdIndex.{IdIndex}
@@ -16,6 +17,7 @@ use Rattle.climbing_index.specs.Laws.{IsOf}
 use Rattle.climbing_index.specs.Searches.{header_count, rows_of}
 use Rattle.visible_spool.specs.declared.reply.Reply.{Reply}
 use Rattle.visible_spool.specs.Replies.{HoldsRows, id_of_bytes}
+use Rattle.spill_pass.specs.ListCalls.{ids_of}
 use Rattle.spill_pass.specs.Lists.{InList, IsOrdered}
 use Rattle.spill_pass.specs.PassContents.{InLists}
 use Rattle.entry_lists.specs.declared.entries.EntryLists.{EntryLists}
@@ -28,14 +30,16 @@ use Rattle.condition_lists.specs.Terms.{AreEntriesOf, AreIdsOf, IsIndexAt, IsIdI
 use Rattle.candidate_search.specs.declared.term_lists.TermLists.{TermLists}
 use Rattle.candidate_search.specs.declared.term_lists.TermLists.TheVariants.{Entries, Replies}
 use Rattle.candidate_search.specs.Begun.{AreListsAt, AreRepliesAt, EndsBy, rows_list}
+use Rattle.candidate_search.specs.Costs.{union_cost}
 use Rattle.candidate_search.specs.Searching.{AreEntries}
-use Rattle.candidate_search.specs.TermLists.{damaged_in, has_in}
+use Rattle.candidate_search.specs.TermLists.{damaged_in, has_in, source_in}
 
--- the lists have together exactly the rows of the top table that meet a term
+-- the lists have together exactly the rows of the top table that meet a term, and cost no more than the term
 pub record HaveRows (page right : ℕ → List ℕ) (cat : Catalog) (database : Database) (given : List replies.Reply) (top : ℕ) (term : Term) (lists : TermLists) : Type 0 where
   pub ids : List (List ℕ)
   pub has : has_in page right (count_of cat top) lists ids
   pub all : (identifier : ℕ) → InLists ids identifier ↔ IsMet cat database given top term identifier
+  pub cost : union_work (source_in lists).lists_left (ids_of ids) ≤ union_cost cat database given top term
 
 pub record ListsHaveTheirRows : Type 0 where
   -- a comparison of a hidden column: the lists of the entries that a search finds between the bounds, at the level of the top table

@@ -5,7 +5,7 @@ ghost use Rattle.candidate_search.specs.Given.{ListsBlame, SearchesBlame};
 ghost use Rattle.candidate_search.specs.Laws.{ListsHaveTheirRows, RepliesAreLists, DamageOfListsIsOfSlots};
 
 /// Over pages that have the indexes of a database but for slots that are out of range by themselves, and the rows of a reply, the
-/// lists of a term have exactly the rows of the top table that meet it.
+/// lists of a term have exactly the rows of the top table that meet it, and cost no more than the term.
 pub fn lists_have_their_rows()
     ensures { ListsHaveTheirRows }
 {
@@ -14,6 +14,8 @@ pub fn lists_have_their_rows()
     condition_lists::laws::groups_ascend();
     condition_lists::laws::lists_are_of_terms();
     condition_lists::laws::lists_come_in_order();
+    condition_lists::costs::lists_are_within_costs();
+    condition_lists::costs::work_grows();
 }
 
 /// The rows of a reply of the top table are one list, which has exactly the rows that meet the term.
