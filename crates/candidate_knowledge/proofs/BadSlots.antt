@@ -46,8 +46,8 @@ module _ (none : HeldFilesHaveNoDamage) (summed : FilesLieAsSummed) (cells : Fil
     cell = λ page cat asked top database of table column file is selected identifier row number slot found on_page in_place fails.
         slot_is_bad page cat asked top database of number slot found
         (cell_is cells page cat asked top table column file is selected identifier row number slot found on_page in_place fails);
-    record_of = λ page cat asked top database of file is identifier row number slot found on_page in_place fails.
-        slot_is_bad page cat asked top database of number slot found (record_is records page cat asked top file is identifier row number slot found on_page in_place fails);
+    record_of = λ page cat asked top database of file is wanted identifier row number slot found on_page in_place fails.
+        slot_is_bad page cat asked top database of number slot found (record_is records page cat asked top file is wanted identifier row number slot found on_page in_place fails);
   }
 
 -- the records of a reply have identifiers of rows

@@ -1,7 +1,8 @@
 -- A slot that is blamed, with the file of the layout in which it lies.
-use Rattle.std.proofs.Common.{◌≡◌, ap, sym, ◌∙◌, refl, subst, ℕ, ◌+◌, ◌-◌, ◌<◌, ◌≤◌, Bool, true, false, not, ◌&&◌, nat_le, nat_lt, inl, inr, List, ◌++◌, length, Some, None, is_some, arith}
-use Rattle.std.specs.Prelude.{if◌then◌else◌, Contains}
-use Rattle.std.proofs.lemmas.Bool.{and_parts, leb-true, lt-ltb}
+use Rattle.std.proofs.Common.{◌≡◌, ap, sym, ◌∙◌, refl, subst, ℕ, zero, suc, ◌+◌, ◌-◌, ◌<◌, ◌≤◌, Bool, true, false, not, ◌&&◌, ◌||◌, nat_le, nat_lt, inl, inr, List, [], ◌∷◌, ◌++◌, length, drop, slice_get, Some, None, is_some, arith}
+use Rattle.std.specs.Prelude.{◌==◌, if◌then◌else◌, Contains}
+use Rattle.std.specs.List.{list_any}
+use Rattle.std.proofs.lemmas.Bool.{and_parts, eq-eqb, leb-true, lt-ltb}
 use Rattle.std.proofs.lemmas.List.FromFn.{length-range_with_len, get_or-range_with_len}
 use Rattle.std.proofs.lemmas.List.Elements.{Contains-append_cases}
 use Rattle.std.proofs.lemmas.Option.{slice_get_within}
@@ -36,6 +37,7 @@ use Rattle.entry_lists.proofs.DamagedLists.{directory_damage}
 use Rattle.entry_lists.proofs.ValueLists.{file_at}
 use Rattle.candidate_rows.specs.declared.plan.SubtreeFile.{SubtreeFile}
 use Rattle.candidate_rows.specs.Plans.{IsFile, IsSubtreeFile}
+use Rattle.candidate_rows.specs.Laws.{wants_below}
 use Rattle.candidate_rows.specs.Working.{IsRowOf}
 use Rattle.condition_lists.specs.Terms.{IsIndexAt, IsIdIndexAt}
 use Rattle.candidate_search.specs.Begun.{AreListsAt, AreRepliesAt, EndsBy}
@@ -75,6 +77,23 @@ no_row cat from id out = by_test (is_row cat from id) refl
 none_spelled : (t : Bool) (rows : List ℕ) → (if t then Some rows else None) ≡ None → t ≡ false
 none_spelled true rows e = absurd (cc e)
 none_spelled false rows e = refl
+
+-- a table of the levels but the first is one of those above
+pub above_first : (levels : List ℕ) (level top : ℕ) → 1 ≤ level → slice_get levels level ≡ Some top → list_any (λ above. above == top) (drop 1 levels) ≡ true
+above_first levels zero top low e = absurd (omega (arith, low))
+above_first [] (suc level) top low e = absurd (cc (e))
+above_first (first ∷ later) (suc level) top low e = any_at later level e
+  where
+    any_at : (tables : List ℕ) (at : ℕ) → slice_get tables at ≡ Some top → list_any (λ above. above == top) tables ≡ true
+    any_at [] at e = absurd (cc (e))
+    any_at (table ∷ tables) zero e =
+        let same : table ≡ top = cc in
+        ap (λ b. b || list_any (λ above. above == top) tables) (eq-eqb table top same)
+    any_at (table ∷ tables) (suc at) e = ap (λ b. (table == top) || b) (any_at tables at e) ∙ either (table == top)
+      where
+        either : (b : Bool) → (b || true) ≡ true
+        either true = refl
+        either false = refl
 
 module _ (summed : FilesLieAsSummed) (page : ℕ → List ℕ) (cat : Catalog) (asked : Query) (top : ℕ) where
   abbrev laid : LieAsSummed cat
@@ -177,7 +196,7 @@ module _ (summed : FilesLieAsSummed) (page : ℕ → List ℕ) (cat : Catalog) (
         record {
           file = IdDirectory table;
           place = entry;
-          read_for = sought;
+          read_for = (sought, above_first (levels_of cat.schema table) level top at.above at.level_is);
           damaged = record {
             has = ap not (some_above (levels_of cat.schema table) level top at.above at.level_is);
             within = low;
@@ -264,10 +283,10 @@ cell_is same page cat asked top table column file is selected identifier row num
       };
     }
 
-pub record_is : TablesAreOfSlots → (page : ℕ → List ℕ) (cat : Catalog) (asked : Query) (top : ℕ) (file : SubtreeFile) → IsSubtreeFile cat top file → (identifier : ℕ) → IsRowOf cat top identifier
+pub record_is : TablesAreOfSlots → (page : ℕ → List ℕ) (cat : Catalog) (asked : Query) (top : ℕ) (file : SubtreeFile) → IsSubtreeFile cat top file → wants_below cat.schema asked top ≡ true → (identifier : ℕ) → IsRowOf cat top identifier
     → (number slot found : ℕ) → number ≡ subtrees.slot_page file.table identifier → slot ≡ subtrees.slot_place file.table identifier
     → subtrees.FailsAt page file.table identifier (Damaged number slot found) → IsDamagedFor page cat asked top number slot found
-record_is same page cat asked top file is identifier row number slot found on_page in_place fails =
+record_is same page cat asked top file is wanted identifier row number slot found on_page in_place fails =
     let run = is.table_is.run_is in
     let place = identifier - 1 in
     let tables = descendants_of cat.schema top in
@@ -275,7 +294,7 @@ record_is same page cat asked top file is identifier row number slot found on_pa
     record {
       file = Subtrees top;
       place = place;
-      read_for = refl;
+      read_for = (refl, wanted);
       damaged = record {
         has = ap not is.some_below;
         within = omega (arith, row.some, row.within);

@@ -7,7 +7,7 @@ use Rattle.std.proofs.lemmas.Option.{slice_get_within}
 use Rattle.ghost_model.specs.core.Schema.{Schema, is_empty}
 use Rattle.ghost_model.specs.core.Channel.{Catalog}
 use Rattle.ghost_model.specs.core.Query.{Query, Condition, Compare, Join}
-use Rattle.ghost_model.specs.forms.Layout.{above_of, below, id_directory, id_level, index_directory, index_header, index_level, is_hidden, levels_of, need, spool_end}
+use Rattle.ghost_model.specs.forms.Layout.{above_of, below, id_directory, id_level, index_directory, index_header, index_level, is_below as lies_below, is_hidden, levels_of, need, spool_end}
 use Rattle.ghost_model.specs.forms.Slots.{IndexHeader, IndexDirectory, IndexLevel, IdDirectory, IdLevel}
 use Rattle.visible_spool.specs.Areas.{half_begin, half_end}
 use Rattle.entry_lists.specs.Entries.{is_in}
@@ -75,6 +75,11 @@ is_below from zero at low = absurd (omega (arith, low))
 is_below from (suc count) zero low = let same : from ≡ from + 0 = omega arith in ap Some same
 is_below from (suc count) (suc at) low = let same : (from + 1) + at ≡ from + suc at = omega arith in is_below (from + 1) count at (omega (arith, low)) ∙ ap Some same
 
+-- where a table lies below another one there are some above it
+some_above : (p : ℕ → Bool) (above : List ℕ) → list_any p above ≡ true → not (is_empty above) ≡ true
+some_above p [] e = absurd (cc (e))
+some_above p (_ ∷ _) e = refl
+
 module _ (cat : Catalog) (asked : Query) (top side number : ℕ) where
   column_read : (at : ℕ) (condition : Condition) → slice_get asked.conditions at ≡ Some condition → is_column_page cat top number condition ≡ true → IsPageRead cat asked top side number
   column_read at (Join one other) is page = absurd (cc page)
@@ -106,10 +111,10 @@ module _ (cat : Catalog) (asked : Query) (top side number : ℕ) where
 
   ids_read : (table : ℕ) → is_ids_page cat asked top number table ≡ true → IsPageRead cat asked top side number
   ids_read table page =
-      let parts = and_parts (seeks_ids cat.schema asked table && not (is_empty (above_of cat.schema table))) (is_in (id_directory cat table) number || is_id_level_page cat top number table) page in
-      let sought = and_parts (seeks_ids cat.schema asked table) (not (is_empty (above_of cat.schema table))) parts.0 in
+      let parts = and_parts (seeks_ids cat.schema asked table && lies_below cat.schema top table) (is_in (id_directory cat table) number || is_id_level_page cat top number table) page in
+      let sought = and_parts (seeks_ids cat.schema asked table) (lies_below cat.schema top table) parts.0 in
       elim (or_cases (is_in (id_directory cat table) number) (is_id_level_page cat top number table) parts.1) [
-        | inl directory ↦ InFile (record { file = IdDirectory table; has = sought.1; read_for = sought.0; within = directory })
+        | inl directory ↦ InFile (record { file = IdDirectory table; has = some_above _ (above_of cat.schema table) sought.1; read_for = sought; within = directory })
         | inr lists ↦ (
             let one = some_of (λ level. is_level_of cat.schema top table (level + 1) && is_in (id_level cat table level) number) (below (length (above_of cat.schema table))) lists in
             let level = one.item in

@@ -1,12 +1,12 @@
 -- Where a slot lies that is blamed, whatever the pages hold: what was found stood in a page that a read gave, and the page is one that
 -- the job of a query reads by the indexes, or one of its replies or of scratch.
-use Rattle.std.specs.Prelude.{◌≡◌, ℕ, ◌+◌, ◌<◌, ◌≤◌, ◌&&◌, ◌||◌, Bool, true, false, not, nat_eq, nat_le, nat_lt, length, slice_get}
+use Rattle.std.specs.Prelude.{◌≡◌, ℕ, ◌+◌, ◌<◌, ◌≤◌, ◌&&◌, ◌||◌, Bool, true, false, nat_eq, nat_le, nat_lt, length, slice_get}
 use Rattle.std.specs.List.{list_any}
 use Rattle.std.specs.Option.{option_map_or}
-use Rattle.ghost_model.specs.core.Schema.{Schema, is_empty}
+use Rattle.ghost_model.specs.core.Schema.{Schema}
 use Rattle.ghost_model.specs.core.Channel.{Catalog}
 use Rattle.ghost_model.specs.core.Query.{Query, Condition, Compare, Join}
-use Rattle.ghost_model.specs.forms.Layout.{above_of, below, id_directory, id_level, index_directory, index_header, index_level, is_hidden, levels_of, need, spool_end}
+use Rattle.ghost_model.specs.forms.Layout.{above_of, below, id_directory, id_level, index_directory, index_header, index_level, is_below, is_hidden, levels_of, need, spool_end}
 use Rattle.ghost_model.specs.forms.Slots.{File, has_file, run_of_file}
 use Rattle.edge_traits.specs.Devices.{Device}
 use Rattle.visible_spool.specs.Areas.{half_begin, half_end}
@@ -55,10 +55,10 @@ is_column_page cat top number (Compare field operator literal) =
     && ((is_in (index_header cat field.table field.column) number || is_in (index_directory cat field.table field.column) number)
     || is_level_page cat top number field.table field.column)
 
--- or one of the index of the identifiers of a table by which rows are found
+-- or one of the index of the identifiers of a table below the top one by which rows are found
 abbrev pub is_ids_page : Catalog → Query → (top number table : ℕ) → Bool
 is_ids_page cat asked top number table =
-    (seeks_ids cat.schema asked table && not (is_empty (above_of cat.schema table)))
+    (seeks_ids cat.schema asked table && is_below cat.schema top table)
     && (is_in (id_directory cat table) number || is_id_level_page cat top number table)
 
 -- whether a page is one that lists in hand may have
