@@ -20,6 +20,7 @@ use Rattle.candidate_rows.specs.declared.next.Slot.{Slot}
 use Rattle.candidate_rows.specs.declared.next.Next.{Next}
 use Rattle.candidate_rows.specs.declared.next.Next.TheVariants as next
 use Rattle.candidate_rows.specs.declared.work.RowWork.{RowWork}
+use Rattle.candidate_rows.specs.Laws.{RecordsAreWanted, wants_below}
 use Rattle.candidate_rows.specs.Plans.{conditions_tested, IsPlanOfCandidates, IsFile, IsSource, is_asked, test_meets, check_meets}
 use Rattle.candidate_rows.specs.Working.{IsWorking, IsRowOf, Need, NoNeed, OfSlot, OfRow, OfRecord, need_by, need_of, next_slot, next_look, next_record, record_of, spread_from, way_by, way_for, way_to, go_on, next_test, next_value, with_row, reached_at, source_slot, check_slot, check_look}
 use Rattle.candidate_knowledge.specs.Known.{selects}
@@ -34,27 +35,27 @@ pub record IsSelectedSlot (cat : Catalog) (asked : Query) (slot : Slot) : Type 0
   pub some : 1 ≤ slot.identifier
   pub within : slot.identifier ≤ count_of cat table
 
-abbrev pub IsChosen : Catalog → Query → Need → Type 0
-IsChosen cat asked NoNeed = ⊤
-IsChosen cat asked (OfSlot slot) = IsSelectedSlot cat asked slot
-IsChosen cat asked (OfRow look) = ⊤
-IsChosen cat asked (OfRecord file identifier) = ⊤
+abbrev pub IsChosen : Catalog → Query → (top : ℕ) → Need → Type 0
+IsChosen cat asked top NoNeed = ⊤
+IsChosen cat asked top (OfSlot slot) = IsSelectedSlot cat asked slot
+IsChosen cat asked top (OfRow look) = ⊤
+IsChosen cat asked top (OfRecord file identifier) = wants_below cat.schema asked top ≡ true
 
-module _ (cat : Catalog) (asked : Query) (device : Device) (half : Half) (plan : RowPlan) (work : RowWork) (plan_is : IsPlanOfCandidates cat asked plan)
+module _ (wanted : RecordsAreWanted) (cat : Catalog) (asked : Query) (device : Device) (half : Half) (plan : RowPlan) (work : RowWork) (plan_is : IsPlanOfCandidates cat asked plan)
     (w : IsWorking cat asked device half plan work) where
   abbrev IsChosenNext : Next → Type 0
-  IsChosenNext n = IsChosen cat asked (need_by (next_slot n) (next_look n) (next_record plan.keys n))
+  IsChosenNext n = IsChosen cat asked plan.top (need_by (next_slot n) (next_look n) (next_record plan.keys n))
 
   -- ---- the way to a table
 
-  any_record : (keys : Option SubtreeFile) (identifier : ℕ) → IsChosen cat asked (record_of keys identifier)
-  any_record None identifier = tt
-  any_record (Some file) identifier = tt
+  any_record : (keys : Option SubtreeFile) (identifier : ℕ) → plan.keys ≡ keys → IsChosen cat asked plan.top (record_of keys identifier)
+  any_record None identifier is = tt
+  any_record (Some file) identifier is = wanted cat asked plan file plan_is is
 
   any_spread : (is_below : Bool) (row : Option ℕ) → IsChosenNext (spread_from is_below row)
   any_spread false row = tt
   any_spread true None = tt
-  any_spread true (Some identifier) = any_record plan.keys identifier
+  any_spread true (Some identifier) = any_record plan.keys identifier refl
 
   any_way : (table : ℕ) (keys : Option SubtreeFile) → IsChosenNext (way_by plan work table keys)
   any_way table None = subst (λ (hops : List (Option Hop)). IsChosenNext (go_on (way_to hops work.reached 12 table))) (sym plan_is.no_hops) tt
@@ -81,14 +82,14 @@ module _ (cat : Catalog) (asked : Query) (device : Device) (half : Half) (plan :
   at_test test there (Some identifier) = by test.check refl
     where
       by : (check : Check) → test.check ≡ check
-          → IsChosen cat asked (need_by (check_slot check test.known.source identifier) (check_look check test.known.field.table identifier) NoNeed)
+          → IsChosen cat asked plan.top (need_by (check_slot check test.known.source identifier) (check_look check test.known.field.table identifier) NoNeed)
       by (Stands number) is = tt
       by (Holds operator literal) is = absurd (never_tested test there (ap (check_meets (λ _. true) (λ _. false) test.known.field) is))
 
   -- ---- selected columns
 
   from_source : (table column identifier : ℕ) (from : Source) → IsSource cat table column from → IsRowOf cat table identifier → selects asked table column ≡ true
-      → IsChosen cat asked (need_by (source_slot from identifier) None NoNeed)
+      → IsChosen cat asked plan.top (need_by (source_slot from identifier) None NoNeed)
   from_source table column identifier source.Absent is row selected = tt
   from_source table column identifier source.Identifier is row selected = tt
   from_source table column identifier source.Reply is row selected = tt
@@ -110,5 +111,5 @@ module _ (cat : Catalog) (asked : Query) (device : Device) (half : Half) (plan :
   any_test None is = any_value (slice_get plan.select.items work.put) refl
   any_test (Some test) is = at_test test is (reached_at work test.known.field.table)
 
-  pub need_is_chosen : IsChosen cat asked (need_of plan work)
+  pub need_is_chosen : IsChosen cat asked plan.top (need_of plan work)
   need_is_chosen = any_test (slice_get plan.tests.items work.at) refl

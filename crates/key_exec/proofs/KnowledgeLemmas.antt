@@ -39,7 +39,7 @@ held_but columns told page cat database tree knows = record {
   is = knows.is;
   counts = knows.counts;
   columns = λ table column hidden identifier some within value on.
-      let has = columns page cat database tree knows.is knows.counts knows.holds.columns table column hidden identifier some within in
+      let has = columns page cat database tree knows.is knows.counts knows.columns table column hidden identifier some within in
       has.of_hidden ∙ sym has.on_pages ∙ on;
 }
 
@@ -66,7 +66,7 @@ no_scan_damage :
 no_scan_damage columns told page cat asked top side half database number slot found tree knows (inl is) =
     let cell = is.cell in
     let at = cell.stands knows.is_told in
-    let has = columns page cat database tree knows.is knows.counts knows.holds.columns is.table is.column cell.hidden (cell.place + 1) (omega arith) (omega (arith, cell.within)) in
+    let has = columns page cat database tree knows.is knows.counts knows.columns is.table is.column cell.hidden (cell.place + 1) (omega arith) (omega (arith, cell.within)) in
     let same : cell.place + 1 - 1 ≡ cell.place = omega arith in
     no_damaged page cat is.table is.column cell.place
     (ap is_some (ap (λ place. spelled (kind_at cat.schema is.table is.column) (child_rows cat is.table is.column) (record_at page (column_file cat is.table is.column) place)) (sym same) ∙ has.on_pages))
@@ -92,7 +92,7 @@ scan_known :
     (told : Bool) (page : ℕ → List ℕ) (cat : Catalog) (database : Database) → told ≡ true → IsDatabase cat.schema database
     → row_counts database ≡ cat.counts → HoldsFiles page cat (hidden_of cat.schema database) → Knows told page cat database
 scan_known told page cat database is_told is counts files =
-    record { is_told = is_told; is = is; counts = counts; holds = record { columns = files.columns; subtrees = files.subtrees } }
+    record { is_told = is_told; is = is; counts = counts; columns = files.columns; subtrees = files.subtrees }
 
 pub held_known :
     (by : Plan) (told : Bool) (page : ℕ → List ℕ) (cat : Catalog) (database : Database) → told ≡ true → IsDatabase cat.schema database
@@ -234,20 +234,18 @@ scan_files_kept small order summed stand told page now cat database tree keeps k
   is_told = knows.is_told;
   is = knows.is;
   counts = knows.counts;
-  holds = record {
-    columns = λ table column hidden.
-        let narrow = small.narrow cat tree in
-        let most : width_at cat.schema table column ≤ 64 = narrow.most table column in
-        let inside : run_end (column_file cat table column) ≤ files_end cat = (order cat).within table column hidden in
-        let rounded : files_end cat ≤ static_end cat = (order cat).static in
-        run_static cat (column_file cat table column) _ keeps stand (narrow.least table column hidden) (omega (arith, most)) (omega (arith, inside, rounded))
-        (knows.holds.columns table column hidden);
-    subtrees = λ table low some.
-        let most : sums.subtree_width cat.schema table ≤ 48 = (small.narrow cat tree).subtree table in
-        let least : 0 < length (descendants_of cat.schema table) = some_of (descendants_of cat.schema table) some in
-        run_static cat (subtree_table cat table) _ keeps stand (omega (arith, least)) (omega (arith, most)) (subtree_inside summed order cat table low some)
-        (knows.holds.subtrees table low some);
-  };
+  columns = λ table column hidden.
+      let narrow = small.narrow cat tree in
+      let most : width_at cat.schema table column ≤ 64 = narrow.most table column in
+      let inside : run_end (column_file cat table column) ≤ files_end cat = (order cat).within table column hidden in
+      let rounded : files_end cat ≤ static_end cat = (order cat).static in
+      run_static cat (column_file cat table column) _ keeps stand (narrow.least table column hidden) (omega (arith, most)) (omega (arith, inside, rounded))
+      (knows.columns table column hidden);
+  subtrees = λ table low some.
+      let most : sums.subtree_width cat.schema table ≤ 48 = (small.narrow cat tree).subtree table in
+      let least : 0 < length (descendants_of cat.schema table) = some_of (descendants_of cat.schema table) some in
+      run_static cat (subtree_table cat table) _ keeps stand (omega (arith, least)) (omega (arith, most)) (subtree_inside summed order cat table low some)
+      (knows.subtrees table low some);
 }
 
 -- ---- what stays, by either plan

@@ -25,3 +25,5 @@ pub mod BeginLemmas
 pub mod GatherLemmas
 pub mod ReadLemmas
 pub mod ByLemmas
+pub mod CalledLemmas
+pub mod CostLemmas

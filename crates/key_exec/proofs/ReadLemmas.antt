@@ -63,7 +63,7 @@ module _ (small : LayoutIsSmall) (stand : RecordsStandWithin) (told : Bool) (sin
   some_of [] none = cc
   some_of (x ∷ xs) none = omega arith
 
-  need_was_read : (need : Need) (fault : PageFault) → IsNeed cat plan need → IsChosen cat asked need → BlamesNeeded since now half need fault
+  need_was_read : (need : Need) (fault : PageFault) → IsNeed cat plan need → IsChosen cat asked plan.top need → BlamesNeeded since now half need fault
       → BlamesRead plans.Pre told since now cat asked plan.top side half fault
   need_was_read need Flash needed chosen blames = tt
   need_was_read NoNeed (Damaged number slot found) needed chosen blames = absurd blames
@@ -100,14 +100,14 @@ module _ (small : LayoutIsSmall) (stand : RecordsStandWithin) (told : Bool) (sin
         page = InFile (record {
           file = Subtrees plan.top;
           has = ap not of.some_below;
-          read_for = refl;
+          read_for = (refl, chosen);
           within =
               in_run stand (subtree_table cat plan.top) place number (omega (arith, least)) (omega (arith, most))
               (omega (arith, needed.some, needed.within)) (blames.page_is ∙ ap (λ (r : Run). page_of r place) run);
         });
       }
 
-  pub needed_was_read : (need : Need) (result : Result Went PageFault) → IsNeed cat plan need → IsChosen cat asked need → IfErr result (BlamesNeeded since now half need)
+  pub needed_was_read : (need : Need) (result : Result Went PageFault) → IsNeed cat plan need → IsChosen cat asked plan.top need → IfErr result (BlamesNeeded since now half need)
       → IfErr result (BlamesRead plans.Pre told since now cat asked plan.top side half)
   needed_was_read need (Ok went) needed chosen blames = tt
   needed_was_read need (Err fault) needed chosen blames = need_was_read need fault needed chosen blames

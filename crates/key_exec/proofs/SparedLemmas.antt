@@ -23,6 +23,8 @@ use Rattle.candidate_rows.specs.Plans.{Suffices}
 use Rattle.candidate_rows.specs.Working.{IsWorking}
 use Rattle.candidate_rows.specs.Laws.{WorkStillStands}
 use Rattle.candidate_rows.specs.Steps.{WereGiven, AreBlankOrRead}
+use Rattle.candidate_gathering.specs.Costs.{GatheringCosts}
+use Rattle.key_exec.specs.Costs.{PhaseCosts}
 use Rattle.leakless_plan.specs.declared.plan.Plan.{Plan}
 use Rattle.id_merge.specs.declared.merge.Merge.{Merge}
 use Rattle.id_merge.specs.Cursors.{AllReady, leases_of, unread_in}
@@ -208,6 +210,10 @@ pub record GatheringIsSpared (gathering : GatheringModel) : Type 0 where
       → gathering_left later gathering ≡ gathering_left pool gathering
   pub given : (before now : Device) (pool later : Pool) (cat : Catalog) (side since : ℕ) → SparesGathering cat side before now pool later gathering
       → GatheringGiven since before pool gathering → GatheringGiven since now later gathering
+  pub costs : (told : Bool) (before now : Device) (pool later : Pool) (cat : Catalog) (asked : Query) (top side : ℕ) (half : Half)
+      → SparesGathering cat side before now pool later gathering → IsGathering told before pool cat asked top side half gathering
+      → (database : Database) (given : List Reply) (cost : ℕ) → GatheringCosts told before.page pool cat asked database given top half gathering cost
+      → GatheringCosts told now.page later cat asked database given top half gathering cost
 
 abbrev pub SparedIn : Phase → Type 0
 SparedIn Begun = ⊤
@@ -270,6 +276,25 @@ phase_given_still give cursors cat side before now pool later since (Walking lea
   cursors _ _ since before now pool later merge.cursors.items (spares_second leases.items (leases_of merge.cursors.items) spares) given.1,
 )
 phase_given_still give cursors cat side before now pool later since Over law spares given = tt
+
+-- it costs as much as before
+pub costs_still :
+    UnreadStays → (by : Plan) (cat : Catalog) (asked : Query) (side : ℕ) (told : Bool) (before now : Device) (pool later : Pool) (half : Half) (plan : RowPlan) (rows left count spent : ℕ)
+    (work : RowWork) (phase : Phase) (database : Database) (given : List Reply) (cost : ℕ) → SparedIn phase → Spares cat side before now pool later (leases_in phase)
+    → IsAtPhase by cat asked side told before pool half plan rows left count spent work phase
+    → PhaseCosts cat asked database given told before.page pool half plan rows work phase cost → PhaseCosts cat asked database given told now.page later half plan rows work phase cost
+costs_still unread by cat asked side told before now pool later half plan rows left count spent work Begun database given cost law spares at costs = costs
+costs_still unread by cat asked side told before now pool later half plan rows left count spent work (Scanning leases scan) database given cost law spares at costs = costs
+costs_still unread by cat asked side told before now pool later half plan rows left count spent work (Gathering gathering) database given cost law spares at costs = record {
+  gather = costs.gather;
+  costs = law.costs told before now pool later cat asked plan.top side half (spares_all spares) at.1.is database given costs.gather costs.costs;
+  enough = costs.enough;
+}
+costs_still unread by cat asked side told before now pool later half plan rows left count spent work (Walking leases merge scan) database given cost law spares at costs =
+    let same : unread_in later merge.cursors.items ≡ unread_in pool merge.cursors.items =
+    unread _ _ before now pool later merge.cursors.items (spares_second leases.items (leases_of merge.cursors.items) spares) in
+    omega (arith, costs, same)
+costs_still unread by cat asked side told before now pool later half plan rows left count spent work Over database given cost law spares at costs = tt
 
 -- ---- what a job stands for
 

@@ -15,7 +15,7 @@ use Rattle.key_exec.specs.Jobs as jobs
 use Rattle.key_exec.specs.Ready.{IsReady, IsAtPhase, Spares}
 use Rattle.leakless_plan.specs.declared.plan.Plan.{Plan}
 use Rattle.key_exec.specs.Reading.{KeepsBy}
-use Rattle.key_exec.specs.Laws.{JobStaysGiven, JobStaysReady, JobStillStands, BuffersStayBlankOrRead}
+use Rattle.key_exec.specs.Laws.{JobStaysGiven, JobStaysReady, JobStillStands, JobStillCosts}
 use Rattle.key_exec.specs.Telling.{CanTell, CanGoOn, NeedsIn, HasGiven, leases_of}
 use Rattle.key_exec.specs.declared.telling.Telling.{Telling}
 use Rattle.key_exec.proofs.HalfLemmas.{jobs_spare}
@@ -72,17 +72,16 @@ module _ (by : Plan) (told : Bool) (cat : Catalog) (side : ℕ) (before now : De
     going = needs.going;
   }
 
-  module _ (blank : BuffersStayBlankOrRead) (text : List ℕ) (half : Half) (start : Device) (first last : Handed) where
-    pub given_spared : (job : Job) → JobStaysReady job → JobStillStands job → JobStaysGiven job → Spares cat side before now pool later (jobs.leases_of job)
+  module _ (text : List ℕ) (half : Half) (start : Device) (first last : Handed) where
+    pub given_spared : (job : Job) → JobStaysReady job → JobStillStands job → JobStaysGiven job → JobStillCosts job → Spares cat side before now pool later (jobs.leases_of job)
         → HasGiven by told cat side text half start before first last pool job → HasGiven by told cat side text half start now first last later job
-    given_spared job ready stand reads spares has = record {
+    given_spared job ready stand reads cost spares has = record {
       asked = has.asked;
       read = has.read;
       tree = has.tree;
       by_is = has.by_is;
       half_is = has.half_is;
       ready = ready cat has.asked side told before now pool later spares has.ready;
-      blank = λ scan. blank cat side before now pool later (jobs.leases_of job) start.calls spares (has.blank scan);
       reads = reads cat side before now pool later start.calls spares has.reads;
       given = has.given;
       handed_on = has.handed_on;
@@ -92,5 +91,12 @@ module _ (by : Plan) (told : Bool) (cat : Catalog) (side : ℕ) (before now : De
           record {
             answer = were.answer;
             stands = stand cat has.asked side told before now pool later database replies spares has.ready were.stands;
+          };
+      paid = λ is database replies knows honest low.
+          let were = has.paid is database replies knows honest (omega (arith, low, spares.device.never_falls)) in
+          record {
+            still = were.still;
+            costs = cost cat has.asked side told before now pool later database replies were.still spares has.ready were.costs;
+            enough = were.enough;
           };
     }

@@ -1,5 +1,6 @@
 -- Laws of jobs, and of texts that are told.
-use Rattle.std.specs.Prelude.{◌≡◌, ℕ, ◌-◌, ◌^◌, ◌<◌, ◌≤◌, Bool, true, List}
+use Rattle.std.specs.Prelude.{◌≡◌, ℕ, ◌-◌, ◌^◌, ◌<◌, ◌≤◌, Bool, true, List, length, Some}
+use Rattle.std.specs.List.{list_all}
 use Rattle.ghost_model.specs.core.Schema.{Schema}
 use Rattle.ghost_model.specs.core.Values.{Database}
 use Rattle.ghost_model.specs.core.Channel.{Catalog}
@@ -16,9 +17,17 @@ use Rattle.page_pool.specs.Pools.{Pool}
 use Rattle.visible_spool.specs.declared.half.Half.{Half}
 use Rattle.visible_spool.specs.Sparing.{AreInHalf, SparesHalf}
 use Rattle.visible_spool.specs.Areas.{half_begin, half_end}
-use Rattle.candidate_rows.specs.Steps.{WereGiven, AreBlankOrRead}
+use Rattle.candidate_rows.specs.declared.plan.RowPlan.{RowPlan}
+use Rattle.candidate_rows.specs.Plans.{IsPlanOfCandidates}
+use Rattle.candidate_rows.specs.Working as rows
+use Rattle.candidate_rows.specs.Working.{IsRowOf}
+use Rattle.candidate_rows.specs.Steps.{WereGiven, AreBlankOrRead, row_known}
+use Rattle.condition_lists.specs.declared.term.Term.{Term}
+use Rattle.condition_lists.specs.Terms.{AreTermsBy, meets}
+use Rattle.condition_lists.specs.CostLaws.{AreHonest}
 use Rattle.key_exec.specs.declared.job.Job.{Job}
 use Rattle.key_exec.specs.Jobs.{leases_of}
+use Rattle.key_exec.specs.Costs.{JobCosts}
 use Rattle.leakless_plan.specs.declared.plan.Plan.{Plan}
 pub use Rattle.candidate_knowledge.specs.Known.{KeepsStatic}
 use Rattle.key_exec.specs.Reading.{KnowsBy, KnowsButBy, KnowsAll, KeepsBy, AreOfAsked, AreAllAsked}
@@ -90,6 +99,13 @@ JobStillStands job =
     → Spares cat side before now pool later (leases_of job) → IsReady cat asked side told before pool job
     → Stands cat asked database given told before.page pool job → Stands cat asked database given told now.page later job
 
+-- it costs as much as before
+abbrev pub JobStillCosts : Job → Type 0
+JobStillCosts job =
+    (cat : Catalog) (asked : Query) (side : ℕ) (told : Bool) (before now : Device) (pool later : Pool) (database : Database) (given : List Reply) (cost : ℕ)
+    → Spares cat side before now pool later (leases_of job) → IsReady cat asked side told before pool job
+    → JobCosts cat asked database given told before.page pool job cost → JobCosts cat asked database given told now.page later job cost
+
 -- and what its buffers hold was read since the same count of calls
 abbrev pub JobStaysGiven : Job → Type 0
 JobStaysGiven job =
@@ -143,3 +159,11 @@ abbrev pub FewStepsAreLeft : Type 0
 FewStepsAreLeft =
     (by : Plan) (told : Bool) (cat : Catalog) (side : ℕ) (device : Device) (pool : Pool) (one : Telling) → CanTell by told cat side device pool one
     → telling.left_of one ≤ most_left
+
+-- Where the replies are those of an honest host, a row that meets all terms of a query has one row in the answer.
+abbrev pub CandidatesAreAnswers : Type 0
+CandidatesAreAnswers =
+    (page : ℕ → List ℕ) (cat : Catalog) (asked : Query) (database : Database) (half : Half) (given : List Reply) (plan : RowPlan)
+    → rows.Knows page cat asked database half given → IsPlanOfCandidates cat asked plan → AreHonest cat database asked given
+    → (terms : List Term) → AreTermsBy cat asked (Some plan.top) terms → (identifier : ℕ) → IsRowOf cat plan.top identifier
+    → list_all (meets cat.schema database given plan.top identifier) terms ≡ true → length (row_known cat asked database given identifier plan) ≡ 1

@@ -8,3 +8,5 @@ pub mod Rows
 pub mod Texts
 pub mod Telling
 pub mod Laws
+pub mod Costs
+pub mod Within

@@ -1,7 +1,8 @@
 -- A text while it is told, a line or a few calls on the flash at a time. What it needs, whatever the pages hold, stands apart
 -- from what it stands for: which of its rows were given, and which are left.
-use Rattle.std.specs.Prelude.{◌≡◌, ℕ, ◌≤◌, ⊤, Bool, true, false, not, List, [], ◌∷◌, ◌++◌, ◌+◌, length, map, codes, count_by, Option, None, Some, Ok, Err}
+use Rattle.std.specs.Prelude.{◌≡◌, ℕ, ◌≤◌, ◌<◌, ⊤, Bool, true, false, not, List, [], ◌∷◌, ◌++◌, ◌+◌, length, map, codes, count_by, Option, None, Some, Ok, Err}
 use Rattle.std.specs.List.{concat}
+use Rattle.ghost_model.specs.core.Causes.{last_count}
 use Rattle.ghost_model.specs.core.Schema.{Schema}
 use Rattle.ghost_model.specs.core.Values.{Row, Database}
 use Rattle.ghost_model.specs.core.Channel.{Catalog}
@@ -10,6 +11,7 @@ use Rattle.ghost_model.specs.readings.QueryReading.{reading}
 use Rattle.ghost_model.specs.core.Split.{hidden_of}
 use Rattle.ghost_model.specs.core.Replies.{Reply, answer_from}
 use Rattle.ghost_model.specs.core.Printed.{row_line, answer_lines, word_line, refusal_line}
+use Rattle.ghost_model.specs.forms.QueryWork.{work}
 use Rattle.ghost_model.specs.refusals.QueryMeaning.{Refusal}
 use Rattle.ghost_model.specs.laws.SchemaTrees.{IsTree}
 use Rattle.edge_traits.specs.Devices.{Device, Counts}
@@ -20,13 +22,14 @@ use Rattle.visible_spool.specs.declared.half.Half.{Half}
 use Rattle.visible_spool.specs.Sparing.{SparesHalf}
 use Rattle.key_lines.specs.Handing.{Handed, Hands}
 use Rattle.candidate_rows.specs.Rows.{HoldsReplies}
+use Rattle.condition_lists.specs.CostLaws.{AreHonest}
 use Rattle.key_exec.specs.declared.job.Job.{Job}
 use Rattle.key_exec.specs.Jobs as jobs
 use Rattle.key_exec.specs.Jobs.{ForScan, is_over, rows_left}
+use Rattle.key_exec.specs.Costs.{JobCosts}
 use Rattle.leakless_plan.specs.declared.plan.Plan.{Plan}
 use Rattle.leakless_plan.specs.declared.plan.Plan.TheVariants as plan
 use Rattle.key_exec.specs.Reading.{KnowsButBy, AreOfAsked, AreAllAsked, AreOfRows}
-use Rattle.candidate_rows.specs.Steps.{AreBlankOrRead}
 use Rattle.key_exec.specs.Ready.{IsReady, JobGiven, Stands}
 use Rattle.channel_pump.specs.declared.state.ReplyState.{ReplyState}
 use Rattle.channel_pump.specs.declared.state.ReplyState.TheVariants as state_is
@@ -138,6 +141,12 @@ pub record AreLeft (cat : Catalog) (asked meant : Query) (replies : List Reply) 
   pub answer : answer_from cat.schema (hidden_of cat.schema database) meant replies ≡ given ++ rows_left cat asked database replies job
   pub stands : Stands cat asked database replies pages_told page pool job
 
+-- by the indexes, the calls that were made and those that are still made at most are the work of the query
+pub record IsPaid (cat : Catalog) (asked meant : Query) (replies : List Reply) (pages_told : Bool) (page : ℕ → List ℕ) (pool : Pool) (job : Job) (database : Database) : Type 0 where
+  pub still : ℕ
+  pub costs : JobCosts cat asked database replies pages_told page pool job still
+  pub enough : job.spent + still ≤ work cat.schema database meant
+
 -- some rows were given, whatever the pages hold; where they hold a database, from the front of the text's answer
 pub record HasGiven (by : Plan) (pages_told : Bool) (cat : Catalog) (side : ℕ) (text : List ℕ) (half : Half) (start device : Device) (before now : Handed) (pool : Pool) (job : Job) : Type 0 where
   pub asked : Query
@@ -146,14 +155,16 @@ pub record HasGiven (by : Plan) (pages_told : Bool) (cat : Catalog) (side : ℕ)
   pub by_is : job.by ≡ by
   pub half_is : job.half ≡ half
   pub ready : IsReady cat asked side pages_told device pool job
-  -- what its buffers hold was read since; where all rows are looked at, they hold nothing or the flash was called
-  pub blank : by ≡ plan.Scan → AreBlankOrRead start.calls device.calls pool (jobs.leases_of job)
+  -- what its buffers hold was read since
   pub reads : JobGiven start.calls device pool job
   pub given : List Row
   pub handed_on : Hands (concat (map row_line given)) before now
   pub counted : job.given ≡ length given
   pub left : (database : Database) (replies : List Reply) → KnowsText by pages_told start.page cat text half replies database
       → AreLeft cat asked read.meant replies pages_told device.page pool given job database
+  -- by the indexes, where the host is honest, and as long as the flash's calls are counted exactly
+  pub paid : by ≡ plan.Pre → (database : Database) (replies : List Reply) → KnowsText by pages_told start.page cat text half replies database
+      → AreHonest cat database read.meant replies → device.calls < last_count → IsPaid cat asked read.meant replies pages_told device.page pool job database
 
 abbrev pub IsAtStage : Plan → (pages_told : Bool) (cat : Catalog) (side : ℕ) (text : List ℕ) → ReplyState → (is_marked : Bool) → Half → (start device : Device) (before now : Handed) → Pool → Stage → Type 0
 IsAtStage by pages_told cat side text state is_marked half start device before now pool (Refused refusal) =
@@ -210,7 +221,7 @@ AreThere plan.Pre pages_told page cat text state is_marked half = IsDone state i
 -- The text was told to its end, since the flash and the sink were as at the first. Where the pages are those of a database, but
 -- for slots that may not stand as they do, its lines are of its answer over it.
 pub record HasTold (by : Plan) (pages_told : Bool) (cat : Catalog) (side number : ℕ) (text : List ℕ) (state : ReplyState) (is_marked : Bool) (half : Half) (start device : Device) (before now : Handed) (result : Told) : Type 0 where
-  pub called : ToldCalls by start.calls device.calls result
+  pub called : ToldCalls start.calls device.calls result
   pub blames : AreThere by pages_told start.page cat text state is_marked half → ToldBlames by pages_told start.page cat text side half result
   pub read : ToldReads by pages_told start.calls device cat text side half result
   pub told_by : IsToldBy cat.schema text state is_marked result

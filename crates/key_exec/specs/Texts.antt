@@ -14,7 +14,6 @@ use Rattle.ghost_model.specs.core.Printed.{row_line, answer_lines, word_line, re
 use Rattle.edge_traits.specs.Devices.{Device}
 use Rattle.visible_spool.specs.declared.half.Half.{Half}
 use Rattle.leakless_plan.specs.declared.plan.Plan.{Plan}
-use Rattle.key_exec.specs.Jobs.{ForScan}
 use Rattle.key_exec.specs.Blaming.{IsDamaged, WasDamaged}
 use Rattle.key_lines.specs.Handing.{Handed, Hands}
 use Rattle.channel_pump.specs.declared.state.ReplyState.{ReplyState}
@@ -98,16 +97,16 @@ abbrev pub StepTells : (before now : ℕ) → Option Told → Type 0
 StepTells before now None = now ≡ before
 StepTells before now (Some result) = ToldTells before now result
 
--- a flash that failed a step was called, and one whose slot is blamed, where all rows are looked at
-abbrev pub ToldCalls : Plan → (before now : ℕ) → Told → Type 0
-ToldCalls by before now told.Refused = ⊤
-ToldCalls by before now told.Answered = ⊤
-ToldCalls by before now told.Host = ⊤
-ToldCalls by before now told.Link = ⊤
-ToldCalls by before now told.Protocol = ⊤
-ToldCalls by before now told.Marked = ⊤
-ToldCalls by before now told.Flash = Rose before now
-ToldCalls by before now (told.Damaged damage) = ForScan by (Rose before now)
+-- a flash that failed a step was called, and one whose slot is blamed
+abbrev pub ToldCalls : (before now : ℕ) → Told → Type 0
+ToldCalls before now told.Refused = ⊤
+ToldCalls before now told.Answered = ⊤
+ToldCalls before now told.Host = ⊤
+ToldCalls before now told.Link = ⊤
+ToldCalls before now told.Protocol = ⊤
+ToldCalls before now told.Marked = ⊤
+ToldCalls before now told.Flash = Rose before now
+ToldCalls before now (told.Damaged damage) = Rose before now
 
 -- why a text is told so, whatever the pages of the flash hold: its reading, and the state of its replies
 pub record IsRefusedText (schema : Schema) (text : List ℕ) : Type 0 where
